@@ -1,0 +1,5 @@
+mod Ascii
+pub mod Leading
+pub mod Lists
+mod PointerParts
+pub mod Tables

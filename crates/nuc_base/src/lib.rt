@@ -1,0 +1,34 @@
+//! The small types that every crate of the nucleus shares: plain containers, names, labels, pointers,
+//! statuses and the words of a component's life, each seen by contracts as the value it stands for.
+#![tactic(auto)]
+
+mod artifact;
+mod bytes;
+mod copied;
+mod failing;
+mod front;
+mod kinds;
+mod list;
+mod memory;
+mod names;
+mod platform;
+mod pointer;
+mod status;
+mod text;
+
+pub use artifact::Artifact;
+pub use bytes::Bytes;
+pub use copied::Copied;
+pub use failing::Failing;
+pub use front::copy_front;
+pub use kinds::{Exit, Outcome, Policy, Step};
+pub use list::List;
+pub use memory::NoMemory;
+pub use names::{Label, Name, NameFault};
+pub use platform::Platform;
+pub use pointer::{Pointer, PointerFault};
+pub use status::Status;
+pub use text::{FileName, Text};
+
+#[cfg(test)]
+mod tests;
