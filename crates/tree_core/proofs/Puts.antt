@@ -1,0 +1,47 @@
+-- What is put in stays in order, and what is found is orderly.
+use Rattle.std.proofs.Common.{◌≡◌, ℕ, List, Option, Some, None, Ordering, Less, Equal, Greater, nat_cmp, refl, ap, ◌∙◌}
+use Rattle.std.specs.Prelude.{⊤}
+use Rattle.std.specs.Ordering.{match_ordering, ordering_reverse}
+use Rattle.std.specs.Cmp.Lexicographic.{slice_cmp, nat_list_cmp_total}
+use Rattle.serde_json.specs.Data.{Data, Members, no_members, member, put}
+use Rattle.serde_json.specs.Find.{get_member}
+use Rattle.tree_core.specs.Regular.{IsBelowAll, IsOrderly, MembersAreOrderly}
+
+below_put_at : (o : Ordering) (l k : List ℕ) (d : Data) (m : List ℕ) (e : Data) (ms : Members) → slice_cmp nat_cmp l k ≡ Less → IsBelowAll l (member m e ms) → IsBelowAll l (put k d ms)
+    → IsBelowAll l (match_ordering o (member k d (member m e ms)) (member m d ms) (member m e (put k d ms)))
+below_put_at Less l k d m e ms new old later = (new, old)
+below_put_at Equal l k d m e ms new old later = old
+below_put_at Greater l k d m e ms new old later = (old.0, later)
+
+pub below_put : (l k : List ℕ) (d : Data) (ms : Members) → slice_cmp nat_cmp l k ≡ Less → IsBelowAll l ms → IsBelowAll l (put k d ms)
+below_put l k d no_members new old = (new, tt)
+below_put l k d (member m e ms) new old = below_put_at (slice_cmp nat_cmp k m) l k d m e ms new old (below_put l k d ms new old.1)
+
+pub below_later : (k m : List ℕ) (ms : Members) → slice_cmp nat_cmp k m ≡ Less → IsBelowAll m ms → IsBelowAll k ms
+below_later k m no_members first h = tt
+below_later k m (member l d ms) first h = (nat_list_cmp_total.trans k m l first h.0, below_later k m ms first h.1)
+
+orderly_put_at : (o : Ordering) (k : List ℕ) (d : Data) (m : List ℕ) (e : Data) (ms : Members) → slice_cmp nat_cmp k m ≡ o → IsOrderly d → MembersAreOrderly (member m e ms) → MembersAreOrderly (put k d ms)
+    → MembersAreOrderly (match_ordering o (member k d (member m e ms)) (member m d ms) (member m e (put k d ms)))
+orderly_put_at Less k d m e ms is h old later = ((is, below_later k m ms is old.0), h, old)
+orderly_put_at Equal k d m e ms is h old later = (old.0, h, old.2)
+orderly_put_at Greater k d m e ms is h old later =
+    let above : slice_cmp nat_cmp m k ≡ Less = nat_list_cmp_total.antisymm m k ∙ ap ordering_reverse is in
+    (below_put m k d ms above old.0, old.1, later)
+
+pub orderly_put : (k : List ℕ) (d : Data) (ms : Members) → IsOrderly d → MembersAreOrderly ms → MembersAreOrderly (put k d ms)
+orderly_put k d no_members h old = (tt, h, tt)
+orderly_put k d (member m e ms) h old = orderly_put_at _ k d m e ms refl h old (orderly_put k d ms h old.2)
+
+abbrev pub Each : (Data → Type 0) → Option Data → Type 0
+Each P None = ⊤
+Each P (Some a) = P a
+
+found_at : (o : Ordering) (e : Data) (rest : Option Data) → IsOrderly e → Each IsOrderly rest → Each IsOrderly (match_ordering o rest (Some e) rest)
+found_at Less e rest h later = later
+found_at Equal e rest h later = h
+found_at Greater e rest h later = later
+
+pub found_orderly : (k : List ℕ) (ms : Members) → MembersAreOrderly ms → Each IsOrderly (get_member k ms)
+found_orderly k no_members h = tt
+found_orderly k (member l e ms) h = found_at (slice_cmp nat_cmp k l) e _ h.1 (found_orderly k ms h.2)
