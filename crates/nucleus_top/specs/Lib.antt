@@ -1,0 +1,4 @@
+pub mod First
+pub mod Reading
+pub mod State
+pub mod Words

@@ -1,0 +1,29 @@
+-- The text of the file `state`: what a device that deployed one document has.
+use Rattle.std.specs.Prelude.{ℕ, List, [], ◌∷◌, codes}
+use Rattle.serde_json.specs.Data.{Data, string, array, object, Items, no_items, item, no_members, member}
+use Rattle.serde_json.specs.Written.{compact_text}
+use Rattle.nucleus_top.specs.declared.document.Component.{Component}
+use Rattle.nucleus_top.specs.declared.document.Deployment.{Deployment}
+
+-- an object of two texts
+abbrev pub pair_tree : List ℕ → List ℕ → List ℕ → List ℕ → Data
+pair_tree first text second other = object (member first (string text) (member second (string other) no_members))
+
+abbrev pub closed_tree : List ℕ → Data
+closed_tree id = pair_tree (codes "id") id (codes "outcome") (codes "SUCCESSFUL")
+
+abbrev pub component_tree : Component → Data
+component_tree component = pair_tree (codes "name") component.name (codes "version") component.version
+
+abbrev pub components_tree : List Component → Items
+components_tree [] = no_items
+components_tree (component ∷ components) = item (component_tree component) (components_tree components)
+
+abbrev pub state_tree : Deployment → Data
+state_tree deployment = object (
+    member (codes "closed") (array (item (closed_tree deployment.id) no_items)) (
+    member (codes "components") (array (components_tree deployment.components)) (
+    member (codes "group") (string deployment.group) no_members)))
+
+abbrev pub state_text : Deployment → List ℕ
+state_text deployment = compact_text (state_tree deployment)

@@ -1,0 +1,73 @@
+ghost use Rattle.std.specs.Prelude.{◌≡◌, ◌++◌, ◌∷◌, [], IfOk, OnOk, map};
+ghost use Rattle.serde_json.specs.Data.{string, array, item, no_items};
+ghost use Rattle.tree_core.specs.View.{view, items_view, field_view};
+ghost use Rattle.nucleus_top.specs.State.{pair_tree, components_tree, closed_tree, state_tree, state_text};
+
+use crate::document::{Component, Deployment};
+use nuc_base::{NoMemory, Text};
+use std::alloc::Global;
+use tree_core::Tree;
+
+/// The text of the file `state` for a deployment: the compact JSON text of what closed, the components by name and
+/// the group.
+pub fn text_of(alloc: Global, deployment: &Deployment) -> Result<Text, NoMemory>
+    ensures { IfOk result (λ text. text ≡ state_text deployment.now) }
+{
+    tree_of(alloc, deployment)?.write(alloc)
+}
+
+fn tree_of(alloc: Global, deployment: &Deployment) -> Result<Tree, NoMemory>
+    ensures { IfOk result (λ tree. view tree ≡ state_tree deployment.now) }
+{
+    let mut fields = Vec::new(alloc);
+    put(alloc, &mut fields, "closed", closed_of(alloc, deployment.id.as_str())?)?;
+    let components = components_of(alloc, deployment.components.as_slice())?;
+    put(alloc, &mut fields, "components", Tree::Items(components))?;
+    put(alloc, &mut fields, "group", text_tree(alloc, deployment.group.as_str())?)?;
+    Ok(Tree::Fields(fields))
+}
+
+/// Adds a field at the end.
+fn put(alloc: Global, fields: &mut Vec<(Text, Tree)>, key: &str, value: Tree) -> Result<(), NoMemory>
+    ensures { OnOk result (map field_view fields.new.items ≡ map field_view fields.old.items ++ (key.now, view value) ∷ []) }
+{
+    let key = Text::from_str(alloc, key)?;
+    fields.push((key, value))?;
+    Ok(())
+}
+
+fn text_tree(alloc: Global, text: &str) -> Result<Tree, NoMemory>
+    ensures { IfOk result (λ tree. view tree ≡ string text.now) }
+{
+    Ok(Tree::Text(Text::from_str(alloc, text)?))
+}
+
+/// An object of two texts.
+fn pair_of(alloc: Global, first: &str, text: &str, second: &str, other: &str) -> Result<Tree, NoMemory>
+    ensures { IfOk result (λ tree. view tree ≡ pair_tree first.now text.now second.now other.now) }
+{
+    let mut fields = Vec::new(alloc);
+    put(alloc, &mut fields, first, text_tree(alloc, text)?)?;
+    put(alloc, &mut fields, second, text_tree(alloc, other)?)?;
+    Ok(Tree::Fields(fields))
+}
+
+/// The list of the one deployment that closed.
+fn closed_of(alloc: Global, id: &str) -> Result<Tree, NoMemory>
+    ensures { IfOk result (λ tree. view tree ≡ array (item (closed_tree id.now) no_items)) }
+{
+    let mut items = Vec::new(alloc);
+    items.push(pair_of(alloc, "id", id, "outcome", "SUCCESSFUL")?)?;
+    Ok(Tree::Items(items))
+}
+
+fn components_of(alloc: Global, components: &[Component]) -> Result<Vec<Tree>, NoMemory>
+    ensures { IfOk result (λ trees. items_view trees.items ≡ components_tree components.now) }
+{
+    let mut trees = Vec::with_capacity(alloc, components.len())?;
+    for component in components {
+        let name = component.name.as_str();
+        trees.push(pair_of(alloc, "name", name, "version", component.version.as_str())?)?;
+    }
+    Ok(trees)
+}
