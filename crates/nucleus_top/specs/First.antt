@@ -1,8 +1,8 @@
 -- The first form of a deployment document.
-use Rattle.std.specs.Prelude.{◌≡◌, ◌⊎◌, ℕ, ◌<◌, ◌≤◌, List, [], ◌∷◌, ◌++◌, length, Some, All, codes}
-use Rattle.std.specs.List.{AllPass, AllZip}
+use Rattle.std.specs.Prelude.{◌≡◌, ◌⊎◌, ℕ, ◌<◌, ◌≤◌, List, [], ◌∷◌, length, ◌==◌, Some, codes, ⊤}
+use Rattle.std.specs.List.{AllPass, AllZip, slice_split}
 use Rattle.std.specs.Char.{is_ascii_digit}
-use Rattle.serde_json.specs.Data.{Data, string}
+use Rattle.serde_json.specs.Data.{Data, string, object, Members, no_members, member}
 use Rattle.serde_json.specs.Find.{get}
 use Rattle.nuc_base.specs.Names.{IsName, IsLabel}
 use Rattle.tree_core.specs.Reading.{IsTreeOf}
@@ -10,9 +10,14 @@ use Rattle.tree_core.specs.Parts.{members, IsObject}
 use Rattle.nucleus_top.specs.declared.document.Component.{Component}
 use Rattle.nucleus_top.specs.declared.document.Deployment.{Deployment}
 
--- a document has these keys and no others
+-- a document may have these keys
 abbrev pub IsKey : List ℕ → Type 0
 IsKey k = (k ≡ codes "components") ⊎ (k ≡ codes "deploymentId") ⊎ (k ≡ codes "deploymentName") ⊎ (k ≡ codes "targetArn")
+
+-- and no others
+abbrev pub AreKeys : Members → Type 0
+AreKeys no_members = ⊤
+AreKeys (member k d ms) = IsKey k × AreKeys ms
 
 -- 1 to 9 decimal digits, the first of which is no 0 unless it stands alone
 pub record IsNumber (digits : List ℕ) : Type 0 where
@@ -21,15 +26,25 @@ pub record IsNumber (digits : List ℕ) : Type 0 where
   pub each : AllPass is_ascii_digit digits
   pub plain : (rest : List ℕ) → digits ≡ 48 ∷ rest → rest ≡ []
 
+-- what stands before, between and behind the dots
+abbrev pub parts_of : List ℕ → List (List ℕ)
+parts_of text = slice_split (λ b. b == 46) text
+
+-- the parts are three numbers
+abbrev pub AreThree : List (List ℕ) → Type 0
+AreThree (major ∷ minor ∷ patch ∷ []) = IsNumber major × IsNumber minor × IsNumber patch
+AreThree [] = ⊥
+AreThree (a ∷ []) = ⊥
+AreThree (a ∷ b ∷ []) = ⊥
+AreThree (a ∷ b ∷ c ∷ d ∷ more) = ⊥
+
+-- there are fewer or more parts
+abbrev pub AreNotThree : List (List ℕ) → Type 0
+AreNotThree parts = (a b c : List ℕ) → parts ≡ a ∷ b ∷ c ∷ [] → ⊥
+
 -- three numbers joined by dots
-pub record IsPlainVersion (text : List ℕ) : Type 0 where
-  pub major : List ℕ
-  pub minor : List ℕ
-  pub patch : List ℕ
-  pub is : text ≡ major ++ 46 ∷ minor ++ 46 ∷ patch
-  pub is_major : IsNumber major
-  pub is_minor : IsNumber minor
-  pub is_patch : IsNumber patch
+abbrev pub IsPlainVersion : List ℕ → Type 0
+IsPlainVersion text = AreThree (parts_of text)
 
 -- the text under a key, which has the form
 pub record IsTextAt (Form : List ℕ → Type 0) (key : List ℕ) (tree : Data) (text : List ℕ) : Type 0 where
@@ -56,7 +71,9 @@ pub record AreComponentsAt (key : List ℕ) (tree : Data) (components : List Com
   pub are : AreComponents value components
 
 pub record IsDeployment (tree : Data) (deployment : Deployment) : Type 0 where
-  pub keys : All (λ (m : List ℕ × Data). IsKey m.0) (members tree)
+  pub fields : Members
+  pub is_object : tree ≡ object fields
+  pub keys : AreKeys fields
   pub id : IsTextAt IsLabel (codes "deploymentId") tree deployment.id
   pub group : IsTextAt IsLabel (codes "targetArn") tree deployment.group
   pub components : AreComponentsAt (codes "components") tree deployment.components

@@ -1,9 +1,9 @@
-ghost use Rattle.std.specs.Prelude.{◌≡◌, ◌↔◌, ℕ, IsTrue, All, map, length, codes};
+ghost use Rattle.std.specs.Prelude.{◌≡◌, ◌↔◌, ℕ, IsTrue, MatchOption, ◌∷◌, [], List, map, length};
 ghost use Rattle.std.specs.List.{AllZip};
 ghost use Rattle.nuc_base.specs.Names.{IsLabel};
-ghost use Rattle.tree_core.specs.View.{view, field_view};
+ghost use Rattle.tree_core.specs.View.{view, field_view, fields_view};
 ghost use Rattle.tree_core.specs.Parts.{members};
-ghost use Rattle.nucleus_top.specs.First.{IsKey, IsNumber, IsPlainVersion, IsTextAt, IsComponent, AreComponents, AreComponentsAt, IsDeployment, FirstForm};
+ghost use Rattle.nucleus_top.specs.First.{IsKey, AreKeys, IsNumber, parts_of, AreNotThree, IsPlainVersion, IsTextAt, IsComponent, AreComponents, AreComponentsAt, IsDeployment, FirstForm};
 ghost use Rattle.nucleus_top.specs.Reading.{Reads};
 
 use nuc_base::{Copied, Label, List, Name, NameFault, NoMemory, Text};
@@ -86,7 +86,10 @@ impl Deployment {
 fn deployment_of(alloc: Global, tree: &Tree) -> Result<Deployment, DocumentFault>
     ensures { Reads (IsDeployment (view tree.now)) result }
 {
-    if !has_known_keys(tree) {
+    let Tree::Fields(fields) = tree else {
+        return Err(DocumentFault::NotYet);
+    };
+    if !are_known(fields) {
         return Err(DocumentFault::NotYet);
     }
     let id = label_at(alloc, tree, "deploymentId")?;
@@ -100,17 +103,8 @@ fn deployment_of(alloc: Global, tree: &Tree) -> Result<Deployment, DocumentFault
 }
 
 /// Whether no key is a foreign one.
-fn has_known_keys(tree: &Tree) -> bool
-    ensures { IsTrue result ↔ All (λ m. IsKey m.0) (members (view tree.now)) }
-{
-    match tree {
-        Tree::Fields(fields) => are_known(fields),
-        _ => true,
-    }
-}
-
 fn are_known(fields: &Vec<(Text, Tree)>) -> bool
-    ensures { IsTrue result ↔ All (λ m. IsKey m.0) (map field_view fields.now.items) }
+    ensures { IsTrue result ↔ AreKeys (fields_view fields.now.items) }
 {
     for (name, _tree) in fields {
         if !is_known(name.as_str()) {
@@ -163,7 +157,10 @@ fn components_of(alloc: Global, value: &Tree) -> Result<List<Component>, Documen
     components_among(alloc, fields)
 }
 
-fn components_among(alloc: Global, fields: &Vec<(Text, Tree)>) -> Result<List<Component>, DocumentFault>
+fn components_among(
+    alloc: Global,
+    fields: &Vec<(Text, Tree)>,
+) -> Result<List<Component>, DocumentFault>
     ensures { Reads (AllZip IsComponent (map field_view fields.now.items)) result }
 {
     let mut components = Vec::with_capacity(alloc, fields.len())?;
@@ -213,13 +210,38 @@ fn version_at(alloc: Global, tree: &Tree, key: &str) -> Result<Text, DocumentFau
 fn is_plain_version(text: &str) -> bool
     ensures { IsTrue result ↔ IsPlainVersion text.now }
 {
+    match three_parts(text) {
+        Some((major, minor, patch)) => are_numbers(major, minor, patch),
+        None => false,
+    }
+}
+
+/// The parts of a text between dots, where they are three.
+fn three_parts(text: &str) -> Option<(&str, &str, &str)>
+    ensures { MatchOption result (AreNotThree (parts_of text.now)) (λ p. parts_of text.now ≡ p.0.now ∷ p.1.now ∷ p.2.now ∷ []) }
+{
     let Some((major, rest)) = text.split_once('.') else {
-        return false;
+        return None;
     };
     let Some((minor, patch)) = rest.split_once('.') else {
-        return false;
+        return None;
     };
-    is_number(major.as_bytes()) && is_number(minor.as_bytes()) && is_number(patch.as_bytes())
+    match patch.split_once('.') {
+        Some(_) => None,
+        None => Some((major, minor, patch)),
+    }
+}
+
+fn are_numbers(major: &str, minor: &str, patch: &str) -> bool
+    ensures { IsTrue result ↔ IsNumber major.now × IsNumber minor.now × IsNumber patch.now }
+{
+    if !is_number(major.as_bytes()) {
+        return false;
+    }
+    if !is_number(minor.as_bytes()) {
+        return false;
+    }
+    is_number(patch.as_bytes())
 }
 
 fn is_number(digits: &[u8]) -> bool

@@ -1,7 +1,7 @@
 ghost use Rattle.std.specs.Prelude.{◌≡◌, ◌++◌, ◌∷◌, [], IfOk, OnOk, map};
 ghost use Rattle.serde_json.specs.Data.{string, array, item, no_items};
-ghost use Rattle.tree_core.specs.View.{view, items_view, field_view};
-ghost use Rattle.nucleus_top.specs.State.{pair_tree, components_tree, closed_tree, state_tree, state_text};
+ghost use Rattle.tree_core.specs.View.{view, field_view};
+ghost use Rattle.nucleus_top.specs.State.{pair_tree, component_tree, closed_tree, state_tree, state_text};
 
 use crate::document::{Component, Deployment};
 use nuc_base::{NoMemory, Text};
@@ -20,15 +20,30 @@ fn tree_of(alloc: Global, deployment: &Deployment) -> Result<Tree, NoMemory>
     ensures { IfOk result (λ tree. view tree ≡ state_tree deployment.now) }
 {
     let mut fields = Vec::new(alloc);
-    put(alloc, &mut fields, "closed", closed_of(alloc, deployment.id.as_str())?)?;
+    put(
+        alloc,
+        &mut fields,
+        "closed",
+        closed_of(alloc, deployment.id.as_str())?,
+    )?;
     let components = components_of(alloc, deployment.components.as_slice())?;
     put(alloc, &mut fields, "components", Tree::Items(components))?;
-    put(alloc, &mut fields, "group", text_tree(alloc, deployment.group.as_str())?)?;
+    put(
+        alloc,
+        &mut fields,
+        "group",
+        text_tree(alloc, deployment.group.as_str())?,
+    )?;
     Ok(Tree::Fields(fields))
 }
 
 /// Adds a field at the end.
-fn put(alloc: Global, fields: &mut Vec<(Text, Tree)>, key: &str, value: Tree) -> Result<(), NoMemory>
+fn put(
+    alloc: Global,
+    fields: &mut Vec<(Text, Tree)>,
+    key: &str,
+    value: Tree,
+) -> Result<(), NoMemory>
     ensures { OnOk result (map field_view fields.new.items ≡ map field_view fields.old.items ++ (key.now, view value) ∷ []) }
 {
     let key = Text::from_str(alloc, key)?;
@@ -43,7 +58,13 @@ fn text_tree(alloc: Global, text: &str) -> Result<Tree, NoMemory>
 }
 
 /// An object of two texts.
-fn pair_of(alloc: Global, first: &str, text: &str, second: &str, other: &str) -> Result<Tree, NoMemory>
+fn pair_of(
+    alloc: Global,
+    first: &str,
+    text: &str,
+    second: &str,
+    other: &str,
+) -> Result<Tree, NoMemory>
     ensures { IfOk result (λ tree. view tree ≡ pair_tree first.now text.now second.now other.now) }
 {
     let mut fields = Vec::new(alloc);
@@ -62,7 +83,7 @@ fn closed_of(alloc: Global, id: &str) -> Result<Tree, NoMemory>
 }
 
 fn components_of(alloc: Global, components: &[Component]) -> Result<Vec<Tree>, NoMemory>
-    ensures { IfOk result (λ trees. items_view trees.items ≡ components_tree components.now) }
+    ensures { IfOk result (λ trees. map view trees.items ≡ map component_tree components.now) }
 {
     let mut trees = Vec::with_capacity(alloc, components.len())?;
     for component in components {

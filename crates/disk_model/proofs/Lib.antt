@@ -1,0 +1,6 @@
+mod Calls
+mod Closed
+mod Named
+mod Picks
+mod Sorting
+mod Wider

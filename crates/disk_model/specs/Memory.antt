@@ -1,0 +1,40 @@
+-- What the calls of a disk in memory do, exactly.
+use Rattle.std.specs.Prelude.{◌≡◌, ◌↔◌, List, ℕ, length}
+use Rattle.disk_model.specs.Disk.{Image, Step, After}
+use Rattle.disk_model.specs.Files.{image_of}
+use Rattle.disk_model.specs.Record.{seen_after, left_after, left_from}
+use Rattle.disk_model.specs.declared.memory.MemoryDisk.{MemoryDisk}
+
+-- what each file reads as
+abbrev pub seen_by : MemoryDisk → Image
+seen_by d = seen_after d.calls.items (image_of d.start)
+
+-- the images that a crash now may leave
+abbrev pub left_by : MemoryDisk → Image → Type 0
+left_by d = left_after d.calls.items (image_of d.start)
+
+-- the images that a crash since a moment might have left
+abbrev pub left_since_by : MemoryDisk → ℕ → Image → Type 0
+left_since_by d = left_from d.calls.items (image_of d.start)
+
+-- the moments are counted by the calls that changed something
+abbrev pub moment_by : MemoryDisk → ℕ
+moment_by d = length d.calls.items
+
+abbrev pub faults_by : MemoryDisk → ℕ
+faults_by d = d.faults
+
+-- one file reads as changed in this way, and a crash may leave of it what this allows: no more, and no less
+pub record Changed (file : List ℕ) (reads_as may_leave : List ℕ → List ℕ → Type 0) (old new : MemoryDisk) : Type 0 where
+  pub reads : Step file reads_as (seen_by old) (seen_by new)
+  pub leaves : (c : Image) → left_by new c ↔ After (left_by old) (Step file may_leave) c
+
+-- one file is stable
+pub record Stable (file : List ℕ) (old new : MemoryDisk) : Type 0 where
+  pub reads : seen_by new ≡ seen_by old
+  pub leaves : (c : Image) → left_by new c ↔ (left_by old c × (c file ≡ seen_by old file))
+
+-- nothing changed
+pub record Unchanged (old new : MemoryDisk) : Type 0 where
+  pub reads : seen_by new ≡ seen_by old
+  pub leaves : (c : Image) → left_by new c ↔ left_by old c

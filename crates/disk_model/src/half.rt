@@ -1,0 +1,22 @@
+// A cut that goes half way.
+ghost use Rattle.std.specs.Prelude.{◌≡◌, ◌≤◌, ⊤, length, take, OnOk};
+ghost use Rattle.nuc_base.specs.Faults.{HasCause};
+ghost use Rattle.disk_model.specs.Disk.{Cut, Step, After, Leaves};
+ghost use Rattle.disk_model.specs.Fuse.{middle};
+ghost use Rattle.disk_model.specs.Memory.{seen_by, left_by, left_since_by, moment_by, faults_by, Changed};
+
+use crate::disk::{Disk, DiskFault};
+use crate::memory::MemoryDisk;
+
+/// Cuts the file to the middle between its length and the asked one, rounded up.
+pub fn cut_half(disk: &mut MemoryDisk, file: &str, len: u64) -> Result<(), DiskFault>
+    requires { len ≤ length (seen_by disk.old file.now) }
+    ensures ok { OnOk result (let reached = middle (length (seen_by disk.old file.now)) len in
+        Changed file.now (λ old new. new ≡ take reached old) (Cut reached) disk.old disk.new) }
+    ensures told { Step file.now (λ old new. ⊤) (seen_by disk.old) (seen_by disk.new) }
+    ensures moments { Leaves moment_by left_since_by disk.old disk.new (After (left_by disk.old) (Step file.now (Cut len))) }
+    ensures cause { HasCause (faults_by disk.old) (faults_by disk.new) result }
+{
+    let old = disk.file(file).len() as u64;
+    disk.cut(file, len + (old - len).div_ceil(2))
+}

@@ -1,0 +1,4 @@
+pub mod Awaits
+pub mod Laws
+pub mod Life
+pub mod Table
