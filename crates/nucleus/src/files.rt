@@ -37,8 +37,9 @@ impl<'a, R: Files + AllocGlobal> FileDisk<'a, R> {
         }
     }
 
+    /// The path of a file below the root. An empty root is the current folder.
     fn path(&self, file: &str) -> io::Result<String> {
-        let root = self.root;
+        let root = if self.root.is_empty() { "." } else { self.root };
         Ok(format!(in self.rt.alloc(); "{root}/{file}")?)
     }
 
