@@ -1,0 +1,11 @@
+pub mod Cycles
+pub mod Marked
+pub mod Filtered
+pub mod RowParts
+pub mod Ready
+pub mod Settled
+pub mod OpenNeeds
+pub mod HardRows
+pub mod Counted
+pub mod RowNodes
+pub mod Existence

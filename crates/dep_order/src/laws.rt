@@ -1,0 +1,22 @@
+//! What follows from the definition of an order alone, whatever a run of `order` answers.
+
+ghost use Rattle.std.specs.Prelude.{◌≡◌, List, ℕ, ◌↔◌};
+ghost use Rattle.dep_order.specs.Orders.{AreNodes, IsOrder, IsWholeOrder, IsAcyclic, NeedsComeFirst};
+
+use crate::Edges;
+
+/// An order of all places exists exactly where there is no cycle.
+pub fn order_exists_without_cycle(edges: &Edges)
+    requires { AreNodes edges.now }
+    ensures { ((list : List ℕ) × IsWholeOrder edges.now list) ↔ IsAcyclic edges.now }
+{}
+
+/// In an order each need stands before what needs it.
+pub fn needs_come_first(edges: &Edges)
+    ensures { (list : List ℕ) → IsOrder edges.now list → NeedsComeFirst edges.now list }
+{}
+
+/// There is one order at most.
+pub fn one_order(edges: &Edges)
+    ensures { (some other : List ℕ) → IsOrder edges.now some → IsOrder edges.now other → some ≡ other }
+{}
