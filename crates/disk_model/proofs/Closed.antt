@@ -186,18 +186,18 @@ change_says images of file u change sound complete says c = (
       (λ same. subst (λ (n : List ℕ). MayHold u (c n)) (sym same) (sound (was.0 file) (c file) ((says was.0).0 was.1 file) was.2.here))
       (λ ne. subst (λ (l : List ℕ). MayHold (of name) l) (sym (was.2.others name ne)) ((says was.0).0 was.1 name)),
   λ may.
-  let back = complete (c file) (name_here (λ (v : Unsynced). MayHold v (c file)) file u of (may file)) in
-  let before : Image = put file back.0 c in
-  let here : before file ≡ back.0 = put_here file back.0 c in (
-    before,
-    (says before).1 (λ name. put_cases file back.0 c name (λ l. MayHold (of name) l)
-        (λ same. subst (λ (n : List ℕ). MayHold (of n) back.0) (sym same) back.1)
-        (λ ne. name_there (λ (v : Unsynced). MayHold v (c name)) file u of name ne (may name))),
-    record {
-      here = subst (λ (l : List ℕ). change l (c file)) (sym here) back.2;
-      others = λ name ne. sym (put_other file back.0 c name ne);
-    },
-  ),
+      let back = complete (c file) (name_here (λ (v : Unsynced). MayHold v (c file)) file u of (may file)) in
+      let before : Image = put file back.0 c in
+      let here : before file ≡ back.0 = put_here file back.0 c in (
+        before,
+        (says before).1 (λ name. put_cases file back.0 c name (λ l. MayHold (of name) l)
+            (λ same. subst (λ (n : List ℕ). MayHold (of n) back.0) (sym same) back.1)
+            (λ ne. name_there (λ (v : Unsynced). MayHold v (c name)) file u of name ne (may name))),
+        record {
+          here = subst (λ (l : List ℕ). change l (c file)) (sym here) back.2;
+          others = λ name ne. sym (put_other file back.0 c name ne);
+        },
+      ),
 )
   where
     put_cases : (g bytes : List ℕ) (i : Image) (name : List ℕ) (P : List ℕ → Type 0) → (name ≡ g → P bytes) → (name ≢ g → P (i name)) → P (put g bytes i name)
@@ -213,10 +213,10 @@ sync_says file seen images of is says c = (
       (λ same. subst (λ (n : List ℕ). MayHold (stable (seen file)) (c n)) (sym same) (stable_sound (seen file) (c file) was.1))
       (λ ne. (says c).0 was.0 name),
   λ may.
-  let here : c file ≡ seen file = stable_complete (seen file) (c file) (name_here (λ (v : Unsynced). MayHold v (c file)) file (stable (seen file)) of (may file)) in (
-    (says c).1 (λ name. by_test name (bytes_eq name file) refl (may name) here),
-    here,
-  ),
+      let here : c file ≡ seen file = stable_complete (seen file) (c file) (name_here (λ (v : Unsynced). MayHold v (c file)) file (stable (seen file)) of (may file)) in (
+        (says c).1 (λ name. by_test name (bytes_eq name file) refl (may name) here),
+        here,
+      ),
 )
   where
     by_test : (name : List ℕ) (b : Bool) → bytes_eq name file ≡ b → MayHold (if bytes_eq name file then stable (seen file) else of name) (c name) → c file ≡ seen file → MayHold (of name) (c name)

@@ -164,4 +164,3 @@ named_by name file files some more = by_test (bytes_eq name file.name) refl
 pub named_of : (name : List ℕ) (files : List File) → contents files name ≢ [] → IsNamed name files
 named_of name [] some = absurd (some refl)
 named_of name (file ∷ files) some = named_by name file files some (named_of name files)
-

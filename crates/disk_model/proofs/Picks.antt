@@ -80,7 +80,7 @@ wide_step (Written file at bytes) seen of wide name =
     let over = overwritten at bytes (seen file) in
     let v = rewritten (length over) (min at (length (seen file))) (length bytes) u in
     elim (bytes_eq name file) as (λ b. ((if b then v else of name).least ≤ length (if b then over else seen name)) × (length (if b then over else seen name) ≤ (if b then v else of name).greatest)
-        × ((if b then v else of name).least ≤ length (if b then v else of name).held) × (length (if b then v else of name).held ≤ (if b then v else of name).greatest)) [
+    × ((if b then v else of name).least ≤ length (if b then v else of name).held) × (length (if b then v else of name).held ≤ (if b then v else of name).greatest)) [
       | true ↦ (omega arith, omega arith, omega (arith, (wide file).2), omega (arith, (wide file).3))
       | false ↦ wide name
     ]
@@ -89,7 +89,7 @@ wide_step (CutTo file n) seen of wide name =
     let over = take n (seen file) in
     let v = resized (length over) u in
     elim (bytes_eq name file) as (λ b. ((if b then v else of name).least ≤ length (if b then over else seen name)) × (length (if b then over else seen name) ≤ (if b then v else of name).greatest)
-        × ((if b then v else of name).least ≤ length (if b then v else of name).held) × (length (if b then v else of name).held ≤ (if b then v else of name).greatest)) [
+    × ((if b then v else of name).least ≤ length (if b then v else of name).held) × (length (if b then v else of name).held ≤ (if b then v else of name).greatest)) [
       | true ↦ (omega arith, omega arith, omega (arith, (wide file).2), omega (arith, (wide file).3))
       | false ↦ wide name
     ]

@@ -175,12 +175,7 @@ fn replace(files: &mut Vec<File>, place: usize, bytes: Vec<u8>)
 }
 
 /// Writes over the bytes of the file at that place.
-fn write_in(
-    files: &mut Vec<File>,
-    place: usize,
-    at: usize,
-    bytes: &[u8],
-) -> Result<(), NoMemory>
+fn write_in(files: &mut Vec<File>, place: usize, at: usize, bytes: &[u8]) -> Result<(), NoMemory>
     requires { place < length files.old.items }
     ensures ok { OnOk result (Rewritten place (λ old. overwritten at bytes.now old) files.old.items files.new.items) }
     ensures err { OnErr result (Rewritten place (λ old. old) files.old.items files.new.items) }

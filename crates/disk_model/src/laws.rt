@@ -11,5 +11,4 @@ ghost use Rattle.disk_model.specs.declared.record.Call.{Call as Recorded};
 pub fn steps_are_one_sentence()
     ensures { (calls : List Recorded) (start c : Image) →
         left_after calls start c ↔ ((name : List ℕ) → MayHold (unsynced_after calls start (all_stable start) name) (c name)) }
-{
-}
+{}

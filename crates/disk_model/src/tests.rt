@@ -73,7 +73,10 @@ fn a_crash_leaves_what_the_calls_allow(rt: HostRuntime) -> Result<(), Fail> {
         assert!(rt; disk.file(FILE) == new, "read {new:?}");
         assert!(rt; has(alloc, &disk, Pick::New, new)?, "kept {new:?}");
         assert!(rt; has(alloc, &disk, Pick::Old, old)?, "lost {new:?}");
-        assert!(rt; has(alloc, &disk, Pick::Fill(b'#'), filled)?, "filled {new:?}");
+        assert!(rt;
+            has(alloc, &disk, Pick::Fill(b'#'), filled)?,
+            "filled {new:?}"
+        );
     }
     let stops: [(&[u8], &[u8]); 9] = [
         (b"", b""),
