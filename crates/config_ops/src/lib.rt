@@ -1,0 +1,20 @@
+//! What an update makes of a component's configuration: nodes set back to the default, a value merged in, and the
+//! default's keys filled in (AWS IoT Greengrass V2 developer guide, "Update component configurations").
+#![tactic(auto)]
+
+mod computed;
+mod fields;
+mod join;
+mod laws;
+mod resetting;
+mod update;
+mod walk;
+
+pub use computed::new_config;
+pub use join::{fill, merge};
+pub use laws::{config_stays, join_laws, reset_laws};
+pub use resetting::reset;
+pub use update::Update;
+
+#[cfg(test)]
+mod tests;

@@ -1,0 +1,4 @@
+mod Gates
+pub mod Walk
+mod Whole
+mod Writes

@@ -1,0 +1,535 @@
+// Configurations that an update makes, and the nodes that pointers name.
+ghost use Rattle.std.specs.Prelude.{IfOk, IfSome};
+ghost use Rattle.tree_core.specs.Regular.{IsRegular};
+ghost use Rattle.tree_core.specs.View.{view};
+ghost use Rattle.config_ops.specs.NewConfig.{IsRegularUpdate};
+
+use config_ops::{Update, new_config};
+use nuc_base::{List, Pointer};
+use std::alloc::Global;
+use std::test::Fail;
+use tree_core::Tree;
+
+// The default, what is kept (the empty text: nothing), the resets (the empty text: no update), the value to merge
+// (the empty text: none), and the configuration. Computed by hand and by a program in another language that follows
+// the rules over maps.
+const ROWS: &[(&str, &str, &str, &str, &str)] = &[
+    // the worked rows
+    (
+        "{\"a\":1,\"b\":{\"c\":2}}",
+        "{\"a\":5,\"b\":{\"c\":9,\"d\":0},\"m~n\":8,\"x/y\":7}",
+        "[\"/a\",\"/b/d\",\"/x~1y\",\"/m~0n\",\"/b/c/0\"]",
+        "{\"l\":[3]}",
+        "{\"a\":1,\"b\":{\"c\":9},\"l\":[3]}",
+    ),
+    (
+        "{\"a\":1,\"b\":{\"c\":2}}",
+        "{\"a\":5,\"b\":{\"c\":9,\"d\":0},\"m~n\":8,\"x/y\":7}",
+        "[\"\"]",
+        "{\"b\":{\"c\":null}}",
+        "{\"a\":1,\"b\":{\"c\":null}}",
+    ),
+    (
+        "{}",
+        "{\"l\":[1,2],\"o\":{\"p\":1}}",
+        "[]",
+        "{\"l\":[3],\"o\":{\"q\":2}}",
+        "{\"l\":[3],\"o\":{\"p\":1,\"q\":2}}",
+    ),
+    // nothing kept, nothing asked
+    (
+        "{\"a\":1,\"b\":{\"c\":2}}",
+        "",
+        "",
+        "",
+        "{\"a\":1,\"b\":{\"c\":2}}",
+    ),
+    (
+        "{\"a\":1,\"b\":{\"c\":2}}",
+        "",
+        "[]",
+        "",
+        "{\"a\":1,\"b\":{\"c\":2}}",
+    ),
+    (
+        "{\"a\":1,\"b\":{\"c\":2}}",
+        "{\"a\":5,\"b\":{\"c\":9,\"d\":0},\"m~n\":8,\"x/y\":7}",
+        "",
+        "",
+        "{\"a\":5,\"b\":{\"c\":9,\"d\":0},\"m~n\":8,\"x/y\":7}",
+    ),
+    ("{}", "{}", "", "", "{}"),
+    (
+        "{\"a\":{\"b\":{\"c\":1}}}",
+        "{\"a\":{\"b\":{}}}",
+        "",
+        "",
+        "{\"a\":{\"b\":{\"c\":1}}}",
+    ),
+    // what is kept stays, whatever it is
+    (
+        "{\"a\":{\"b\":1},\"c\":[1],\"d\":\"x\"}",
+        "{\"a\":7,\"c\":{\"k\":2},\"d\":null}",
+        "",
+        "",
+        "{\"a\":7,\"c\":{\"k\":2},\"d\":null}",
+    ),
+    (
+        "{\"a\":1}",
+        "{\"a\":{\"b\":2}}",
+        "",
+        "",
+        "{\"a\":{\"b\":2}}",
+    ),
+    (
+        "{\"b\":1,\"d\":2,\"f\":3}",
+        "{\"a\":0,\"c\":0,\"e\":0,\"g\":0}",
+        "",
+        "",
+        "{\"a\":0,\"b\":1,\"c\":0,\"d\":2,\"e\":0,\"f\":3,\"g\":0}",
+    ),
+    (
+        "{\"a\":1,\"b\":2}",
+        "{\"c\":3,\"d\":4}",
+        "",
+        "",
+        "{\"a\":1,\"b\":2,\"c\":3,\"d\":4}",
+    ),
+    (
+        "{\"c\":1,\"d\":2}",
+        "{\"a\":3,\"b\":4}",
+        "",
+        "",
+        "{\"a\":3,\"b\":4,\"c\":1,\"d\":2}",
+    ),
+    (
+        "{\"\":1,\"a\":2,\"aa\":3,\"b\":4}",
+        "{\"aa\":5}",
+        "",
+        "",
+        "{\"\":1,\"a\":2,\"aa\":5,\"b\":4}",
+    ),
+    // a prefix that names a text, a number, null or a flag
+    (
+        "{\"o\":{\"p\":{\"q\":1,\"r\":2},\"s\":3},\"t\":\"text\",\"l\":[{\"k\":1}],\"n\":null,\"f\":false}",
+        "{\"t\":{\"u\":5},\"o\":\"text\"}",
+        "[\"/o/p\"]",
+        "",
+        "{\"f\":false,\"l\":[{\"k\":1}],\"n\":null,\"o\":\"text\",\"t\":{\"u\":5}}",
+    ),
+    (
+        "{\"o\":{\"p\":{\"q\":1,\"r\":2},\"s\":3},\"t\":\"text\",\"l\":[{\"k\":1}],\"n\":null,\"f\":false}",
+        "{\"o\":\"text\"}",
+        "[\"/o/p/q\"]",
+        "",
+        "{\"f\":false,\"l\":[{\"k\":1}],\"n\":null,\"o\":\"text\",\"t\":\"text\"}",
+    ),
+    (
+        "{\"o\":{\"p\":{\"q\":1,\"r\":2},\"s\":3},\"t\":\"text\",\"l\":[{\"k\":1}],\"n\":null,\"f\":false}",
+        "{\"o\":{\"p\":\"text\"}}",
+        "[\"/o/p/q\"]",
+        "",
+        "{\"f\":false,\"l\":[{\"k\":1}],\"n\":null,\"o\":{\"p\":\"text\",\"s\":3},\"t\":\"text\"}",
+    ),
+    (
+        "{\"o\":{\"p\":{\"q\":1,\"r\":2},\"s\":3},\"t\":\"text\",\"l\":[{\"k\":1}],\"n\":null,\"f\":false}",
+        "{\"o\":7}",
+        "[\"/o/s\"]",
+        "",
+        "{\"f\":false,\"l\":[{\"k\":1}],\"n\":null,\"o\":7,\"t\":\"text\"}",
+    ),
+    (
+        "{\"o\":{\"p\":{\"q\":1,\"r\":2},\"s\":3},\"t\":\"text\",\"l\":[{\"k\":1}],\"n\":null,\"f\":false}",
+        "{\"o\":null}",
+        "[\"/o/s\"]",
+        "",
+        "{\"f\":false,\"l\":[{\"k\":1}],\"n\":null,\"o\":null,\"t\":\"text\"}",
+    ),
+    (
+        "{\"o\":{\"p\":{\"q\":1,\"r\":2},\"s\":3},\"t\":\"text\",\"l\":[{\"k\":1}],\"n\":null,\"f\":false}",
+        "{\"o\":true}",
+        "[\"/o/s\"]",
+        "",
+        "{\"f\":false,\"l\":[{\"k\":1}],\"n\":null,\"o\":true,\"t\":\"text\"}",
+    ),
+    (
+        "{\"o\":{\"p\":{\"q\":1,\"r\":2},\"s\":3},\"t\":\"text\",\"l\":[{\"k\":1}],\"n\":null,\"f\":false}",
+        "{\"t\":\"kept\"}",
+        "[\"/t/u\"]",
+        "",
+        "{\"f\":false,\"l\":[{\"k\":1}],\"n\":null,\"o\":{\"p\":{\"q\":1,\"r\":2},\"s\":3},\"t\":\"kept\"}",
+    ),
+    (
+        "{\"o\":{\"p\":{\"q\":1,\"r\":2},\"s\":3},\"t\":\"text\",\"l\":[{\"k\":1}],\"n\":null,\"f\":false}",
+        "{\"t\":\"kept\"}",
+        "[\"/t\"]",
+        "",
+        "{\"f\":false,\"l\":[{\"k\":1}],\"n\":null,\"o\":{\"p\":{\"q\":1,\"r\":2},\"s\":3},\"t\":\"text\"}",
+    ),
+    // a prefix that names a list
+    (
+        "{\"o\":{\"p\":{\"q\":1,\"r\":2},\"s\":3},\"t\":\"text\",\"l\":[{\"k\":1}],\"n\":null,\"f\":false}",
+        "{\"l\":[{\"k\":2}]}",
+        "[\"/l/0/k\"]",
+        "",
+        "{\"f\":false,\"l\":[{\"k\":2}],\"n\":null,\"o\":{\"p\":{\"q\":1,\"r\":2},\"s\":3},\"t\":\"text\"}",
+    ),
+    (
+        "{\"o\":{\"p\":{\"q\":1,\"r\":2},\"s\":3},\"t\":\"text\",\"l\":[{\"k\":1}],\"n\":null,\"f\":false}",
+        "{\"l\":[{\"k\":2}]}",
+        "[\"/l/0\"]",
+        "",
+        "{\"f\":false,\"l\":[{\"k\":2}],\"n\":null,\"o\":{\"p\":{\"q\":1,\"r\":2},\"s\":3},\"t\":\"text\"}",
+    ),
+    (
+        "{\"o\":{\"p\":{\"q\":1,\"r\":2},\"s\":3},\"t\":\"text\",\"l\":[{\"k\":1}],\"n\":null,\"f\":false}",
+        "{\"l\":[{\"k\":2}]}",
+        "[\"/l\"]",
+        "",
+        "{\"f\":false,\"l\":[{\"k\":1}],\"n\":null,\"o\":{\"p\":{\"q\":1,\"r\":2},\"s\":3},\"t\":\"text\"}",
+    ),
+    (
+        "{\"o\":{\"p\":{\"q\":1,\"r\":2},\"s\":3},\"t\":\"text\",\"l\":[{\"k\":1}],\"n\":null,\"f\":false}",
+        "{\"o\":[{\"s\":9}]}",
+        "[\"/o/s\"]",
+        "",
+        "{\"f\":false,\"l\":[{\"k\":1}],\"n\":null,\"o\":[{\"s\":9}],\"t\":\"text\"}",
+    ),
+    (
+        "{\"o\":{\"p\":{\"q\":1,\"r\":2},\"s\":3},\"t\":\"text\",\"l\":[{\"k\":1}],\"n\":null,\"f\":false}",
+        "{\"o\":{\"p\":[]}}",
+        "[\"/o/p/r\"]",
+        "",
+        "{\"f\":false,\"l\":[{\"k\":1}],\"n\":null,\"o\":{\"p\":[],\"s\":3},\"t\":\"text\"}",
+    ),
+    (
+        "{}",
+        "{\"l\":[1,[2]]}",
+        "[\"/l/1/0\",\"/l/-\",\"/l/0\"]",
+        "",
+        "{\"l\":[1,[2]]}",
+    ),
+    (
+        "{\"l\":{\"0\":\"d\"}}",
+        "{\"l\":[\"kept\"]}",
+        "[\"/l/0\"]",
+        "",
+        "{\"l\":[\"kept\"]}",
+    ),
+    (
+        "{\"l\":{\"0\":\"d\"}}",
+        "{\"l\":{\"0\":\"kept\"}}",
+        "[\"/l/0\"]",
+        "",
+        "{\"l\":{\"0\":\"d\"}}",
+    ),
+    // a prefix that names nothing
+    (
+        "{\"o\":{\"p\":{\"q\":1,\"r\":2},\"s\":3},\"t\":\"text\",\"l\":[{\"k\":1}],\"n\":null,\"f\":false}",
+        "{\"o\":{\"s\":9}}",
+        "[\"/o/p/q\"]",
+        "",
+        "{\"f\":false,\"l\":[{\"k\":1}],\"n\":null,\"o\":{\"p\":{\"q\":1,\"r\":2},\"s\":9},\"t\":\"text\"}",
+    ),
+    (
+        "{\"o\":{\"p\":{\"q\":1,\"r\":2}}}",
+        "{}",
+        "[\"/x/y/z\"]",
+        "",
+        "{\"o\":{\"p\":{\"q\":1,\"r\":2}}}",
+    ),
+    (
+        "{\"o\":{\"p\":1}}",
+        "{\"o\":{\"x\":{\"y\":2}}}",
+        "[\"/o/x/z\",\"/o/x/y\"]",
+        "",
+        "{\"o\":{\"p\":1,\"x\":{}}}",
+    ),
+    (
+        "{\"o\":{\"p\":1}}",
+        "{\"o\":{\"x\":{\"y\":2}}}",
+        "[\"/o/x\"]",
+        "",
+        "{\"o\":{\"p\":1}}",
+    ),
+    (
+        "{\"o\":{\"p\":1}}",
+        "{\"x\":{\"y\":2,\"z\":3}}",
+        "[\"/x/y\"]",
+        "",
+        "{\"o\":{\"p\":1},\"x\":{\"z\":3}}",
+    ),
+    // objects made on the way, after the way was cut
+    (
+        "{\"o\":{\"p\":{\"q\":1,\"r\":2}}}",
+        "{\"o\":{\"p\":{\"q\":5,\"r\":6},\"z\":7}}",
+        "[\"/o/z\",\"/o/p/q\"]",
+        "",
+        "{\"o\":{\"p\":{\"q\":1,\"r\":6}}}",
+    ),
+    (
+        "{\"a\":{\"b\":1,\"c\":2}}",
+        "{\"a\":{\"b\":5,\"c\":6}}",
+        "[\"/a/b\",\"/a\"]",
+        "",
+        "{\"a\":{\"b\":1,\"c\":2}}",
+    ),
+    (
+        "{\"a\":{\"b\":1,\"c\":2}}",
+        "{\"a\":{\"b\":5,\"c\":6,\"d\":7}}",
+        "[\"/a\",\"/a/d\"]",
+        "",
+        "{\"a\":{\"b\":1,\"c\":2}}",
+    ),
+    // nodes of every kind are the default's
+    (
+        "{\"o\":{\"p\":{\"q\":1,\"r\":2},\"s\":3},\"t\":\"text\",\"l\":[{\"k\":1}],\"n\":null,\"f\":false}",
+        "{\"f\":1,\"l\":2,\"n\":3,\"o\":4,\"t\":5}",
+        "[\"/f\",\"/l\",\"/n\",\"/o\",\"/t\"]",
+        "",
+        "{\"f\":false,\"l\":[{\"k\":1}],\"n\":null,\"o\":{\"p\":{\"q\":1,\"r\":2},\"s\":3},\"t\":\"text\"}",
+    ),
+    (
+        "{\"o\":{\"p\":{\"q\":1,\"r\":2},\"s\":3},\"t\":\"text\",\"l\":[{\"k\":1}],\"n\":null,\"f\":false}",
+        "{\"f\":1,\"l\":2,\"n\":3,\"o\":4,\"t\":5}",
+        "[\"/n\"]",
+        "",
+        "{\"f\":1,\"l\":2,\"n\":null,\"o\":4,\"t\":5}",
+    ),
+    (
+        "{\"n\":null}",
+        "{\"n\":{\"a\":1}}",
+        "[\"/n/a\"]",
+        "",
+        "{\"n\":{}}",
+    ),
+    // the whole
+    (
+        "{\"a\":1,\"b\":{\"c\":2}}",
+        "{\"z\":[9]}",
+        "[\"\"]",
+        "",
+        "{\"a\":1,\"b\":{\"c\":2}}",
+    ),
+    (
+        "{\"a\":1,\"b\":{\"c\":2}}",
+        "{\"a\":7,\"z\":[9]}",
+        "[\"/z\",\"\"]",
+        "",
+        "{\"a\":1,\"b\":{\"c\":2}}",
+    ),
+    (
+        "{\"a\":1,\"b\":{\"c\":2}}",
+        "{\"a\":7,\"z\":[9]}",
+        "[\"\",\"/z\"]",
+        "",
+        "{\"a\":1,\"b\":{\"c\":2}}",
+    ),
+    // the merge comes after the resets, and the fill after the merge
+    (
+        "{\"a\":1}",
+        "{\"a\":5}",
+        "[\"/a\"]",
+        "{\"a\":2}",
+        "{\"a\":2}",
+    ),
+    (
+        "{\"a\":1}",
+        "{\"a\":5,\"b\":6}",
+        "[\"/b\"]",
+        "{\"b\":7}",
+        "{\"a\":5,\"b\":7}",
+    ),
+    (
+        "{\"a\":{\"x\":1,\"y\":2}}",
+        "{\"a\":{\"x\":5}}",
+        "[\"/a/x\"]",
+        "{\"a\":{\"y\":null,\"z\":[]}}",
+        "{\"a\":{\"x\":1,\"y\":null,\"z\":[]}}",
+    ),
+    (
+        "{\"a\":{\"x\":1}}",
+        "{\"a\":{\"x\":5}}",
+        "[]",
+        "{\"a\":7}",
+        "{\"a\":7}",
+    ),
+    (
+        "{\"a\":{\"x\":1}}",
+        "{\"a\":7}",
+        "[]",
+        "{\"a\":{\"y\":2}}",
+        "{\"a\":{\"x\":1,\"y\":2}}",
+    ),
+    (
+        "{\"a\":[1,2]}",
+        "{\"a\":[3]}",
+        "[]",
+        "{\"a\":[]}",
+        "{\"a\":[]}",
+    ),
+    (
+        "{\"a\":1,\"b\":{\"c\":2}}",
+        "",
+        "[]",
+        "{\"a\":null,\"b\":{\"c\":null,\"d\":{\"e\":{}}}}",
+        "{\"a\":null,\"b\":{\"c\":null,\"d\":{\"e\":{}}}}",
+    ),
+    (
+        "{\"a\":{\"b\":{\"c\":{\"d\":1}}}}",
+        "",
+        "[]",
+        "{\"a\":{\"b\":{\"c\":{\"e\":2},\"f\":3},\"g\":4},\"h\":5}",
+        "{\"a\":{\"b\":{\"c\":{\"d\":1,\"e\":2},\"f\":3},\"g\":4},\"h\":5}",
+    ),
+    (
+        "{\"b\":2,\"d\":4}",
+        "{\"c\":3}",
+        "[]",
+        "{\"a\":1,\"b\":0,\"c\":0,\"e\":5}",
+        "{\"a\":1,\"b\":0,\"c\":0,\"d\":4,\"e\":5}",
+    ),
+    // keys with escapes
+    (
+        "{\"~1\":1,\"/\":2,\"~\":3,\"a/b~c\":4}",
+        "{\"~1\":\"\",\"/\":\"\",\"~\":\"\",\"a/b~c\":\"\"}",
+        "[\"/~01\"]",
+        "",
+        "{\"/\":\"\",\"a/b~c\":\"\",\"~\":\"\",\"~1\":1}",
+    ),
+    (
+        "{\"~1\":1,\"/\":2,\"~\":3,\"a/b~c\":4}",
+        "{\"~1\":\"\",\"/\":\"\",\"~\":\"\",\"a/b~c\":\"\"}",
+        "[\"/~1\",\"/~0\"]",
+        "",
+        "{\"/\":2,\"a/b~c\":\"\",\"~\":3,\"~1\":\"\"}",
+    ),
+    (
+        "{\"~1\":1,\"/\":2,\"~\":3,\"a/b~c\":4}",
+        "{\"~1\":\"\",\"/\":\"\",\"~\":\"\",\"a/b~c\":\"\"}",
+        "[\"/a~1b~0c\"]",
+        "",
+        "{\"/\":\"\",\"a/b~c\":4,\"~\":\"\",\"~1\":\"\"}",
+    ),
+    (
+        "{\"\":{\"\":1}}",
+        "{\"\":{\"\":2,\"a\":3}}",
+        "[\"//\"]",
+        "",
+        "{\"\":{\"\":1,\"a\":3}}",
+    ),
+    (
+        "{\"\":{\"\":1}}",
+        "{\"\":{\"\":2,\"a\":3}}",
+        "[\"/\"]",
+        "",
+        "{\"\":{\"\":1}}",
+    ),
+];
+
+const DOCUMENT: &str =
+    "{\"foo\":[\"bar\",\"baz\"],\"\":0,\"a/b\":1,\"c%d\":2,\"e^f\":3,\"g|h\":4,\"i\\\\j\":5,\"k\\\"l\":6,\" \":7,\"m~n\":8}";
+
+// The examples of RFC 6901, section 5, and what the document has at each.
+const POINTERS: &[(&str, &str)] = &[
+    ("/foo", "[\"bar\",\"baz\"]"),
+    ("/foo/0", "\"bar\""),
+    ("/", "0"),
+    ("/a~1b", "1"),
+    ("/c%d", "2"),
+    ("/e^f", "3"),
+    ("/g|h", "4"),
+    ("/i\\j", "5"),
+    ("/k\"l", "6"),
+    ("/ ", "7"),
+    ("/m~0n", "8"),
+];
+
+fn read(alloc: Global, text: &str) -> Result<Tree, Fail>
+    ensures { IfOk result (λ t. IsRegular (view t)) }
+{
+    Ok(Tree::read(alloc, text.as_bytes(), 1000)?)
+}
+
+fn optional(alloc: Global, text: &str) -> Result<Option<Tree>, Fail>
+    ensures { IfOk result (λ o. IfSome o (λ t. IsRegular (view t))) }
+{
+    if text.is_empty() {
+        return Ok(None);
+    }
+    Ok(Some(read(alloc, text)?))
+}
+
+fn pointers(alloc: Global, text: &str) -> Result<List<Pointer>, Fail> {
+    let mut pointers = List::empty(alloc);
+    if let Tree::Items(items) = read(alloc, text)? {
+        for item in &items {
+            if let Some(text) = item.as_text() {
+                pointers.push(Pointer::read(alloc, text.as_str())?)?;
+            }
+        }
+    }
+    Ok(pointers)
+}
+
+fn update(alloc: Global, resets: &str, merge: &str) -> Result<Option<Update>, Fail>
+    ensures { IfOk result (λ o. IfSome o IsRegularUpdate) }
+{
+    if resets.is_empty() {
+        return Ok(None);
+    }
+    let resets = pointers(alloc, resets)?;
+    let merge = optional(alloc, merge)?;
+    Ok(Some(Update { resets, merge }))
+}
+
+fn gives(alloc: Global, row: (&str, &str, &str, &str, &str)) -> Result<bool, Fail> {
+    let (default, kept, resets, merge, wanted) = row;
+    let default = read(alloc, default)?;
+    let kept = optional(alloc, kept)?;
+    let update = update(alloc, resets, merge)?;
+    let tree = new_config(alloc, kept.as_ref(), &default, update.as_ref())?;
+    Ok(tree.write(alloc)?.as_str() == wanted)
+}
+
+fn names(alloc: Global, pointer: &str, wanted: &str) -> Result<bool, Fail> {
+    let tree = Tree::read(alloc, DOCUMENT.as_bytes(), 1000)?;
+    let wanted = read(alloc, wanted)?;
+    let at = Pointer::read(alloc, pointer)?;
+    Ok(match tree.get(&at) {
+        Some(node) => *node == wanted,
+        None => false,
+    })
+}
+
+/// The place of the first row that gives another configuration than it should.
+fn first_wrong(
+    alloc: Global,
+    rows: &[(&str, &str, &str, &str, &str)],
+) -> Result<Option<usize>, Fail> {
+    for (i, row) in rows.iter().enumerate() {
+        if !gives(alloc, *row)? {
+            return Ok(Some(i));
+        }
+    }
+    Ok(None)
+}
+
+/// The place of the first pointer that names another node than it should.
+fn first_misnamed(alloc: Global, pointers: &[(&str, &str)]) -> Result<Option<usize>, Fail> {
+    for (i, (pointer, node)) in pointers.iter().enumerate() {
+        if !names(alloc, pointer, node)? {
+            return Ok(Some(i));
+        }
+    }
+    Ok(None)
+}
+
+#[test]
+fn rows(rt: HostRuntime) -> Result<(), Fail> {
+    let alloc = rt.alloc();
+    assert!(rt; first_wrong(alloc, ROWS)? == None);
+    assert!(rt; first_misnamed(alloc, POINTERS)? == None);
+    assert!(rt; names(alloc, "", DOCUMENT)?);
+    Ok(())
+}

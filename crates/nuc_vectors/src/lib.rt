@@ -1,0 +1,5 @@
+//! Tables of inputs and answers, worked out by hand from the formats and the public standards, against the crates below.
+#![tactic(auto)]
+
+#[cfg(test)]
+mod configuration;
