@@ -1,0 +1,8 @@
+mod Ascii
+mod Faultless
+mod Holding
+mod Partials
+mod Reading
+mod Splitting
+mod VersionOrders
+mod VersionTexts
