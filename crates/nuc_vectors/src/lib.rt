@@ -3,3 +3,7 @@
 
 #[cfg(test)]
 mod configuration;
+#[cfg(test)]
+mod ranges;
+#[cfg(test)]
+mod variables;

@@ -1,0 +1,6 @@
+mod Digests
+mod Merging
+mod Nodes
+mod Rows
+mod Singles
+pub mod Soundness

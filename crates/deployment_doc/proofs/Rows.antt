@@ -1,0 +1,79 @@
+-- Where the fault of some lines is that of all lines.
+use Rattle.std.proofs.Common.{◌++◌, List, ℕ, codes}
+use Rattle.serde_json.specs.Data.{Data}
+use Rattle.nuc_base.specs.Tables.{Table, AllHold, Faults, on}
+use Rattle.nuc_base.proofs.Tables.{fault_after, fault_before, all_both}
+use Rattle.tree_core.specs.Parts.{check, IsObject}
+use Rattle.deployment_doc.specs.Lines.{at_optional, at_required, label_lines, policies_lines, components_lines, document_lines, reset_in, merge_in, reset_lines, merge_lines, update_lines, HasBoth}
+use Rattle.deployment_doc.specs.declared.fault.DocFault.{DocFault}
+use Rattle.deployment_doc.specs.declared.fault.DocFault.TheVariants.{WrongKind, DuplicateKey, NoMemory}
+use Rattle.deployment_doc.specs.declared.fault.Key.TheVariants.{Document, DeploymentId, TargetArn, DeploymentPolicies, Components, ConfigurationUpdate, Reset, Merge}
+
+module _ (d : Data) where
+  abbrev pub objects : Table DocFault
+  objects = check (IsObject d) (WrongKind Document)
+
+  abbrev pub ids : Table DocFault
+  ids = at_optional DeploymentId d (label_lines DeploymentId)
+
+  abbrev pub groups : Table DocFault
+  groups = at_required TargetArn d (label_lines TargetArn)
+
+  abbrev pub policies : Table DocFault
+  policies = at_optional DeploymentPolicies d policies_lines
+
+  abbrev pub roots : Table DocFault
+  roots = at_optional Components d components_lines
+
+  -- the lines above the components
+  abbrev pub above_roots : Table DocFault
+  above_roots = objects ++ ids ++ groups ++ policies
+
+  pub at_id : (f : DocFault) → IsObject d → Faults NoMemory ids f → Faults NoMemory (document_lines d) f
+  at_id f o h =
+      fault_before NoMemory above_roots roots f
+      (fault_before NoMemory (objects ++ ids ++ groups) policies f
+      (fault_before NoMemory (objects ++ ids) groups f
+      (fault_after NoMemory objects ids f (o, tt) h)))
+
+  pub at_group : (f : DocFault) → IsObject d → AllHold ids → Faults NoMemory groups f → Faults NoMemory (document_lines d) f
+  at_group f o i h =
+      fault_before NoMemory above_roots roots f
+      (fault_before NoMemory (objects ++ ids ++ groups) policies f
+      (fault_after NoMemory (objects ++ ids) groups f (all_both objects ids (o, tt) i) h))
+
+  pub at_policy : (f : DocFault) → IsObject d → AllHold ids → AllHold groups → Faults NoMemory policies f → Faults NoMemory (document_lines d) f
+  at_policy f o i g h =
+      fault_before NoMemory above_roots roots f
+      (fault_after NoMemory (objects ++ ids ++ groups) policies f
+      (all_both (objects ++ ids) groups (all_both objects ids (o, tt) i) g) h)
+
+  pub all_above : IsObject d → AllHold ids → AllHold groups → AllHold policies → AllHold above_roots
+  all_above o i g p = all_both (objects ++ ids ++ groups) policies (all_both (objects ++ ids) groups (all_both objects ids (o, tt) i) g) p
+
+  pub at_roots : (f : DocFault) → IsObject d → AllHold ids → AllHold groups → AllHold policies → Faults NoMemory roots f → Faults NoMemory (document_lines d) f
+  at_roots f o i g p h = fault_after NoMemory above_roots roots f (all_above o i g p) h
+
+  pub all_document : IsObject d → AllHold ids → AllHold groups → AllHold policies → AllHold roots → AllHold (document_lines d)
+  all_document o i g p r = all_both above_roots roots (all_above o i g p) r
+
+module _ (name : List ℕ) (v : Data) (f : DocFault) where
+  abbrev pub checks : Table DocFault
+  checks = check (IsObject v) (WrongKind ConfigurationUpdate)
+      ++ check (¬ HasBoth (codes "reset") (codes "RESET") v) (DuplicateKey Reset)
+      ++ check (¬ HasBoth (codes "merge") (codes "MERGE") v) (DuplicateKey Merge)
+
+  abbrev pub resets : Table DocFault
+  resets = on (reset_in v) (reset_lines name)
+
+  abbrev pub merges : Table DocFault
+  merges = on (merge_in v) (merge_lines name)
+
+  pub at_resets : AllHold checks → Faults NoMemory resets f → Faults NoMemory (update_lines name v) f
+  at_resets o h = fault_before NoMemory (checks ++ resets) merges f (fault_after NoMemory checks resets f o h)
+
+  pub at_merge : AllHold checks → AllHold resets → Faults NoMemory merges f → Faults NoMemory (update_lines name v) f
+  at_merge o r h = fault_after NoMemory (checks ++ resets) merges f (all_both checks resets o r) h
+
+  pub all_update : AllHold checks → AllHold resets → AllHold merges → AllHold (update_lines name v)
+  all_update o r m = all_both (checks ++ resets) merges (all_both checks resets o r) m

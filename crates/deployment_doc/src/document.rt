@@ -1,0 +1,24 @@
+use config_ops::Update;
+use npm_ranges::Range;
+use nuc_base::{Label, List, Name, Policy};
+
+/// A component that a deployment requires.
+#[derive(Drop)]
+pub struct Root {
+    pub name: Name,
+    pub range: Range,
+    /// What is to change in its configuration.
+    pub update: Option<Update>,
+}
+
+/// What a deployment asks of a group of devices.
+#[derive(Drop)]
+pub struct Document {
+    /// The deployment's id, or the SHA-256 of the document's bytes where it gives none.
+    pub id: Label,
+    /// The group, by the text of `targetArn`.
+    pub group: Label,
+    pub policy: Policy,
+    /// At most 128, with names that rise strictly in byte order.
+    pub roots: List<Root>,
+}

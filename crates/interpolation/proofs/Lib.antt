@@ -1,0 +1,4 @@
+pub mod Cuttings
+pub mod Pieces
+pub mod Sizes
+pub mod Words

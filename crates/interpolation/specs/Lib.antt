@@ -1,0 +1,6 @@
+pub mod Laws
+pub mod Lookups
+pub mod Scopes
+pub mod Sizes
+pub mod Values
+pub mod Variables
