@@ -4,6 +4,8 @@
 #[cfg(test)]
 mod configuration;
 #[cfg(test)]
+mod documents;
+#[cfg(test)]
 mod ranges;
 #[cfg(test)]
 mod variables;
