@@ -8,4 +8,6 @@ mod documents;
 #[cfg(test)]
 mod ranges;
 #[cfg(test)]
+mod recipes;
+#[cfg(test)]
 mod variables;

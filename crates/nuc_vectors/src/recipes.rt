@@ -1,0 +1,434 @@
+//! Recipes: which are read and which faults the others have, worked out by hand from the lines of the format, and recipes
+//! in the forms that the developer guide of AWS IoT Greengrass V2 shows.
+use nuc_base::{Label, Step, Text};
+use recipe_reader::{Platform, Recipe, RecipeFault, Skip};
+use std::alloc::Global;
+use std::test::Fail;
+use tree_core::Tree;
+
+/// Whole recipes. Each line is what is answered, `Ok` with the script of the run step, a bar and the text.
+const WHOLE: &str = r#"NotJson|{
+NotJson|
+NotWhole|{"a":1.5}
+NotWhole|{"a":-0}
+TooDeep|[[[[[[[[[[[[[[[[[[[[[[[[[[[[[[[[[[[[[[[[[[[[[[[[[[[[[[[[[[[[[[[[[]]]]]]]]]]]]]]]]]]]]]]]]]]]]]]]]]]]]]]]]]]]]]]]]]]]]]]]]]]]]]]]]]
+WrongKind recipe|[]
+WrongKind recipe|"x"
+Missing RecipeFormatVersion|{}
+Missing RecipeFormatVersion|{"ComponentName":1}
+Missing RecipeFormatVersion|{"recipeformatversion":"2020-01-25","ComponentName":"A","ComponentVersion":"1.0.0"}
+WrongKind RecipeFormatVersion|{"RecipeFormatVersion":null}
+WrongKind RecipeFormatVersion|{"RecipeFormatVersion":20200125,"ComponentVersion":1}
+FormatVersion|{"RecipeFormatVersion":"2020-01-26"}
+Missing ComponentName|{"RecipeFormatVersion":"2020-01-25"}
+WrongKind ComponentName|{"RecipeFormatVersion":"2020-01-25","ComponentName":[],"ComponentVersion":1}
+BadName ComponentName|{"RecipeFormatVersion":"2020-01-25","ComponentName":"..","ComponentVersion":"x"}
+BadName ComponentName|{"RecipeFormatVersion":"2020-01-25","ComponentName":"a b"}
+Missing ComponentVersion|{"RecipeFormatVersion":"2020-01-25","ComponentName":"A","ComponentType":1}
+WrongKind ComponentVersion|{"RecipeFormatVersion":"2020-01-25","ComponentName":"A","ComponentVersion":1}
+BadVersion|{"RecipeFormatVersion":"2020-01-25","ComponentName":"A","ComponentVersion":"1.0"}
+BadVersion|{"RecipeFormatVersion":"2020-01-25","ComponentName":"A","ComponentVersion":"01.0.0","ComponentType":"x"}
+Ok|{"RecipeFormatVersion":"2020-01-25","ComponentName":"A","ComponentVersion":"1.0.0-a.1+b"}"#;
+
+/// What stands behind the three keys that must be there. Each line is what is answered, `Ok` with the script of the run step, a bar and the text.
+const BODIES: &str = r#"WrongKind ComponentType|"ComponentType":1
+UnsupportedType|"ComponentType":"aws.greengrass.lambda","Lifecycle":1
+Ok|"ComponentType":"aws.greengrass.generic"
+Ok|"ComponentType":null
+GlobalLifecycle|"Lifecycle":{"run":"x"}
+GlobalLifecycle|"Lifecycle":[],"ComponentConfiguration":1
+Ok|"Lifecycle":{}
+Ok|"Lifecycle":null
+Ok|"lifecycle":1,"Other":[]
+WrongKind ComponentConfiguration|"ComponentConfiguration":[]
+WrongKind DefaultConfiguration|"ComponentConfiguration":{"DefaultConfiguration":1},"ComponentDependencies":1
+Ok|"ComponentConfiguration":{"DefaultConfiguration":null}
+Ok|"ComponentConfiguration":{"defaultconfiguration":1}
+WrongKind ComponentDependencies|"ComponentDependencies":[],"Manifests":1
+TooMany ComponentDependencies|"ComponentDependencies":{"a0":{},"a1":{},"a2":{},"a3":{},"a4":{},"a5":{},"a6":{},"a7":{},"a8":{},"a9":{},"a10":{},"a11":{},"a12":{},"a13":{},"a14":{},"a15":{},"a16":{},"a17":{},"a18":{},"a19":{},"a20":{},"a21":{},"a22":{},"a23":{},"a24":{},"a25":{},"a26":{},"a27":{},"a28":{},"a29":{},"a30":{},"a31":{},"a32":{},"a33":{},"a34":{},"a35":{},"a36":{},"a37":{},"a38":{},"a39":{},"a40":{},"a41":{},"a42":{},"a43":{},"a44":{},"a45":{},"a46":{},"a47":{},"a48":{},"a49":{},"a50":{},"a51":{},"a52":{},"a53":{},"a54":{},"a55":{},"a56":{},"a57":{},"a58":{},"a59":{},"a60":{},"a61":{},"a62":{},"a63":{},"a64":{}}
+BadName ComponentDependencies|"ComponentDependencies":{"..":1},"Manifests":1
+WrongKind ComponentDependencies|"ComponentDependencies":{"A":null}
+WrongKind VersionRequirement|"ComponentDependencies":{"A":{"VersionRequirement":1,"DependencyType":"X"}}
+BadRange|"ComponentDependencies":{"A":{"VersionRequirement":"1.2.3.4","DependencyType":"X"}}
+BadRange|"ComponentDependencies":{"A":{"VersionRequirement":"1 1 1 1 1 1 1 1 1 1 1 1 1 1 1 1 1 1 1 1 1 1 1 1 1 1 1 1 1 1 1 1 1"}}
+WrongKind DependencyType|"ComponentDependencies":{"A":{"DependencyType":"X"},"B":1}
+WrongKind DependencyType|"ComponentDependencies":{"A":{"DependencyType":true}},"Manifests":1
+Ok|"ComponentDependencies":{"A":{},"B":{"VersionRequirement":null,"DependencyType":"soft"},"C":{"VersionRequirement":"^1"}}
+WrongKind Manifests|"Manifests":{}
+TooMany Manifests|"Manifests":[0,0,0,0,0,0,0,0,0,0,0,0,0,0,0,0,0,0,0,0,0,0,0,0,0,0,0,0,0,0,0,0,0,0,0,0,0,0,0,0,0,0,0,0,0,0,0,0,0,0,0,0,0,0,0,0,0,0,0,0,0,0,0,0,0]
+Ok|"Manifests":[]
+Ok|"Manifests":null"#;
+
+/// Manifests. Each line is what is answered, `Ok` with the script of the run step, a bar and the text.
+const MANIFESTS: &str = r#"WrongKind Manifests|1
+WrongKind Platform|{"Platform":1,"Lifecycle":1}
+ZipArtifact|{"Artifacts":[{"Uri":"s3://b/f","Unarchive":"ZIP"}]}
+Ok|{"Artifacts":[{"Uri":"s3://b/f","Unarchive":"NONE"}]}
+Ok a|{"Platform":{"os":"linux"},"Lifecycle":{"run":"a"}},{"Platform":{"os":"windows"},"Artifacts":[{"Uri":"s3://b/f","Unarchive":"ZIP"}]}
+Ok a|{"Lifecycle":{"run":"a"}},1
+Ok b|{"Platform":{"os":"windows"},"Lifecycle":1},{"Lifecycle":{"run":"b"}},{"Lifecycle":{"run":"c"}}
+WrongKind Manifests|{"Platform":{"os":"windows"}},1
+UnsupportedPlatform|{"Platform":{"os":"!"}},{}
+NoManifest|{"Platform":{"os":"windows"}},{"Platform":{"os":"darwin"}}
+WrongKind Lifecycle|{"Lifecycle":1,"Artifacts":1}
+RunAndStartup|{"Lifecycle":{"run":"a","startup":"b"},"Artifacts":1}"#;
+
+/// The platform of a manifest whose run step is `here`. Each line is what is answered, `Ok` with the script of the run step, a bar and the text.
+const PLATFORMS: &str = r#"Ok here|null
+Ok here|{}
+Ok here|{"os":"linux"}
+Ok here|{"os":"*"}
+Ok here|{"os":"all"}
+Ok here|{"os":null,"architecture":null}
+Ok here|{"os":"linux","architecture":"amd64"}
+Ok here|{"os":"/darwin|linux/"}
+Ok here|{"os":"/linux/","architecture":"/arm|amd64/"}
+Ok here|{"os":"linux","runtime":"*"}
+Ok here|{"runtime":"all","x":null}
+NoManifest|{"os":"windows"}
+NoManifest|{"os":"Linux"}
+NoManifest|{"os":"linux","architecture":"arm"}
+NoManifest|{"os":"/darwin|windows/"}
+NoManifest|{"os":"linux","runtime":"aws_nucleus_lite"}
+NoManifest|{"os":"linux","runtime":1}
+NoManifest|{"OS":"linux"}
+WrongKind Platform|[]
+WrongKind os|{"os":1,"architecture":1}
+WrongKind architecture|{"os":"linux","architecture":[]}
+WrongKind architecture|{"os":"windows","architecture":false}
+UnsupportedPlatform|{"os":""}
+UnsupportedPlatform|{"os":"lin ux","architecture":1}
+UnsupportedPlatform|{"os":"/"}
+UnsupportedPlatform|{"os":"//"}
+UnsupportedPlatform|{"os":"/linux"}
+UnsupportedPlatform|{"os":"/a||b/"}
+UnsupportedPlatform|{"os":"(linux)"}
+UnsupportedPlatform|{"architecture":"**"}"#;
+
+/// The lifecycle of a manifest. Each line is what is answered, `Ok` with the script of the run step, a bar and the text.
+const LIFECYCLES: &str = r#"WrongKind Lifecycle|[]
+Ok|null
+Ok|{}
+Ok x|{"run":"x"}
+Ok x|{"RUN":{"SCRIPT":"x","RequiresPrivilege":1}}
+DuplicateKey run|{"run":"x","Run":"x"}
+DuplicateKey Setenv|{"run":null,"Run":null,"setenv":1,"Setenv":1}
+DuplicateKey install|{"install":null,"INSTALL":null,"Bootstrap":1,"bootstrap":2}
+Ok|{"other":1,"Other":2}
+WrongKind Setenv|{"Setenv":[],"run":1}
+WrongKind Setenv|{"Setenv":{"A":null}}
+WrongKind Setenv|{"Setenv":{"":"x"}}
+WrongKind Setenv|{"Setenv":{"A=B":"x"}}
+WrongKind Setenv|{"Setenv":{"A":[]}}
+Ok|{"Setenv":{"A":"x","B":1,"C":true}}
+Ok|{"Setenv":null}
+WrongKind install|{"install":1,"run":1}
+WrongKind run|{"run":[],"startup":[]}
+WrongKind startup|{"startup":false,"shutdown":1}
+WrongKind shutdown|{"shutdown":0,"recover":0}
+WrongKind recover|{"recover":1,"bootstrap":{}}
+WrongKind bootstrap|{"bootstrap":1}
+Missing Script|{"bootstrap":{}}
+Missing Script|{"run":{"Timeout":0}}
+WrongKind Script|{"run":{"Script":null,"Timeout":0}}
+DuplicateKey Script|{"run":{"Script":"a","script":"a","Timeout":1,"timeout":1}}
+DuplicateKey Skipif|{"run":{"Skipif":1,"SkipIf":1}}
+DuplicateKey Timeout|{"run":{"Timeout":1,"timeout":1,"setenv":1,"Setenv":1}}
+DuplicateKey Setenv|{"run":{"setenv":1,"Setenv":1}}
+BadSkipif|{"run":{"Script":"x","Skipif":1,"Timeout":"1"}}
+BadSkipif|{"run":{"Script":"x","Skipif":"onpath"}}
+BadSkipif|{"run":{"Script":"x","Skipif":"onpath  "}}
+BadSkipif|{"run":{"Script":"x","Skipif":" onpath x"}}
+BadSkipif|{"run":{"Script":"x","Skipif":"Onpath x"}}
+BadSkipif|{"run":{"Script":"x","Skipif":"exists \t "}}
+BadSkipif|{"run":{"Script":"x","Skipif":"true"}}
+Ok x|{"run":{"Script":"x","Skipif":"exists  /opt/x "}}
+Ok x|{"run":{"Script":"x","Skipif":null}}
+WrongKind Timeout|{"run":{"Script":"x","Timeout":"1","Setenv":1}}
+BadTimeout|{"run":{"Script":"x","Timeout":0,"Setenv":1}}
+BadTimeout|{"run":{"Script":"x","Timeout":1000001}}
+BadTimeout|{"run":{"Script":"x","Timeout":-1}}
+BadTimeout|{"run":{"Script":"x","Timeout":18446744073709551615}}
+Ok x|{"run":{"Script":"x","Timeout":1}}
+Ok x|{"run":{"Script":"x","Timeout":1000000}}
+Ok x|{"run":{"Script":"x","Timeout":null}}
+WrongKind Setenv|{"run":{"Script":"x","Setenv":1}}
+RunAndStartup|{"run":"x","startup":"y"}
+Ok|{"run":null,"startup":"y"}"#;
+
+/// The artifacts of a manifest. Each line is what is answered, `Ok` with the script of the run step, a bar and the text.
+const ARTIFACTS: &str = r#"WrongKind Artifacts|{}
+TooMany Artifacts|[0,0,0,0,0,0,0,0,0,0,0,0,0,0,0,0,0,0,0,0,0,0,0,0,0,0,0,0,0,0,0,0,0,0,0,0,0,0,0,0,0,0,0,0,0,0,0,0,0,0,0,0,0,0,0,0,0,0,0,0,0,0,0,0,0]
+WrongKind Artifacts|[1]
+DuplicateKey URI|[{"URI":1,"Uri":1}]
+DuplicateKey Unarchive|[{"Uri":"s3://b/f","Unarchive":null,"unarchive":null}]
+DuplicateKey Digest|[{"uri":1,"Digest":null,"digest":null}]
+DuplicateKey Algorithm|[{"Uri":"s3://b/f","Algorithm":1,"ALGORITHM":1,"Digest":1,"digest":1}]
+Missing URI|[{}]
+WrongKind URI|[{"Uri":null,"Unarchive":"ZIP"}]
+UnsupportedUri|[{"Uri":"ftp://x/y","Unarchive":"ZIP"}]
+UnsupportedUri|[{"Uri":"s3:x","Unarchive":"ZIP"}]
+UnsupportedUri|[{"Uri":"s3://b/","Unarchive":"ZIP"}]
+UnsupportedUri|[{"Uri":"s3://b/..","Unarchive":"ZIP"}]
+UnsupportedUri|[{"Uri":"s3://b/.","Unarchive":"ZIP"}]
+UnsupportedUri|[{"Uri":"s3://b/a b","Unarchive":"ZIP"}]
+UnsupportedUri|[{"Uri":"S3://b/x","Unarchive":"ZIP"}]
+UnsupportedUri|[{"Uri":"s3://b/aaaaaaaaaaaaaaaaaaaaaaaaaaaaaaaaaaaaaaaaaaaaaaaaaaaaaaaaaaaaaaaaaaaaaaaaaaaaaaaaaaaaaaaaaaaaaaaaaaaaaaaaaaaaaaaaaaaaaaaaaaaaaaaaa","Unarchive":"ZIP"}]
+Ok|[{"Uri":"s3://b/f"}]
+Ok|[{"Uri":"https://h/a/f.zip"}]
+Ok|[{"Uri":"greengrass:x/y"}]
+Ok|[{"Uri":"file:///tmp/f"}]
+Ok|[{"Uri":"s3://b/aaaaaaaaaaaaaaaaaaaaaaaaaaaaaaaaaaaaaaaaaaaaaaaaaaaaaaaaaaaaaaaaaaaaaaaaaaaaaaaaaaaaaaaaaaaaaaaaaaaaaaaaaaaaaaaaaaaaaaaaaaaaaaaa"}]
+ZipArtifact|[{"Uri":"s3://b/f","Unarchive":"ZIP","Algorithm":"x"}]
+WrongKind Unarchive|[{"Uri":"s3://b/f","Unarchive":"zip"}]
+WrongKind Unarchive|[{"Uri":"s3://b/f","Unarchive":1,"Algorithm":"x"}]
+BadDigest|[{"Uri":"s3://b/f","Algorithm":"SHA-1"}]
+BadDigest|[{"Uri":"s3://b/f","Algorithm":1,"Digest":1}]
+Ok|[{"Uri":"s3://b/f","Algorithm":"SHA-256"}]
+BadDigest|[{"Uri":"s3://b/f","Digest":"ba7816bf8f01cfea414140de5dae2223b00361a396177a9cb410ff61f20015a"}]
+BadDigest|[{"Uri":"s3://b/f","Digest":"ba7816bf8f01cfea414140de5dae2223b00361a396177a9cb410ff61f20015ad0"}]
+BadDigest|[{"Uri":"s3://b/f","Digest":"ba7816bf8f01cfea414140de5dae2223b00361a396177a9cb410ff61f20015ag"}]
+BadDigest|[{"Uri":"s3://b/f","Digest":"ungWv48Bz+pBQUDeXa4iI7ADYaOWF3qctBD/YfIAFa0"}]
+BadDigest|[{"Uri":"s3://b/f","Digest":"YWJj"}]
+BadDigest|[{"Uri":"s3://b/f","Digest":1}]
+Ok|[{"Uri":"s3://b/f","Digest":"ba7816bf8f01cfea414140de5dae2223b00361a396177a9cb410ff61f20015ad"}]
+Ok|[{"Uri":"s3://b/f","Digest":"BA7816BF8F01CFEA414140DE5DAE2223B00361A396177A9CB410FF61F20015AD"}]
+Ok|[{"Uri":"s3://b/f","Digest":"ungWv48Bz+pBQUDeXa4iI7ADYaOWF3qctBD/YfIAFa0="}]
+Ok|[{"Uri":"s3://b/f","Digest":null}]
+DuplicateArtifact|[{"Uri":"s3://b/f"},{"Uri":"https://c/f"},{"Uri":1}]
+Missing URI|[{"Uri":"s3://b/f"},{},{"Uri":"s3://c/f"}]
+Ok|[{"Uri":"s3://b/f"},{"Uri":"s3://b/g"}]"#;
+
+const HEAD: &str =
+    r#"{"RecipeFormatVersion":"2020-01-25","ComponentName":"com.x","ComponentVersion":"1.0.0","#;
+
+fn linux(alloc: Global) -> Result<Platform, Fail> {
+    Ok(Platform {
+        os: Label::read(alloc, b"linux")?,
+        architecture: Label::read(alloc, b"amd64")?,
+    })
+}
+
+fn script_of(recipe: &Recipe) -> &str {
+    match recipe.step(Step::Run) {
+        Some(step) => step.script.as_str(),
+        None => "",
+    }
+}
+
+fn is_answer(answer: &Result<Recipe, RecipeFault>, word: &str, field: &str) -> bool {
+    match answer {
+        Ok(recipe) => word == "Ok" && script_of(recipe) == field,
+        Err(fault) => fault.word() == word && fault.field().unwrap_or("") == field,
+    }
+}
+
+/// Reads a recipe of three parts.
+fn read(
+    alloc: Global,
+    platform: &Platform,
+    front: &str,
+    middle: &str,
+    back: &str,
+) -> Result<Result<Recipe, RecipeFault>, Fail> {
+    let mut text = Text::from_str(alloc, front)?;
+    text.push_str(middle)?;
+    text.push_str(back)?;
+    Ok(Recipe::read(alloc, text.as_bytes(), platform))
+}
+
+fn is_row(
+    alloc: Global,
+    platform: &Platform,
+    front: &str,
+    row: &str,
+    back: &str,
+) -> Result<bool, Fail> {
+    let Some((answer, middle)) = row.split_once('|') else {
+        return Ok(false);
+    };
+    let (word, field) = answer.split_once(' ').unwrap_or((answer, ""));
+    let result = read(alloc, platform, front, middle, back)?;
+    Ok(is_answer(&result, word, field))
+}
+
+/// With blanks at its end a recipe is read up to 65,536 bytes.
+fn is_limited(alloc: Global, platform: &Platform) -> Result<bool, Fail> {
+    let mut bytes = Vec::new(alloc);
+    bytes.extend_from_slice(HELLO.as_bytes())?;
+    for _ in HELLO.len()..65_536 {
+        bytes.push(b' ')?;
+    }
+    let read = Recipe::read(alloc, bytes.as_slice(), platform).is_ok();
+    bytes.push(b' ')?;
+    let refused = Recipe::read(alloc, bytes.as_slice(), platform);
+    Ok(read && is_answer(&refused, "TooLarge", ""))
+}
+
+#[test]
+fn recipes_are_read_or_refused(rt: HostRuntime) -> Result<(), Fail> {
+    let alloc = rt.alloc();
+    let platform = linux(alloc)?;
+    for row in WHOLE.lines() {
+        assert!(rt; is_row(alloc, &platform, "", row, "")?, "{row}");
+    }
+    let tables = [
+        (BODIES, "", "}"),
+        (MANIFESTS, r#""Manifests":["#, "]}"),
+        (
+            PLATFORMS,
+            r#""Manifests":[{"Lifecycle":{"run":"here"},"Platform":"#,
+            "}]}",
+        ),
+        (LIFECYCLES, r#""Manifests":[{"Lifecycle":"#, "}]}"),
+        (ARTIFACTS, r#""Manifests":[{"Artifacts":"#, "}]}"),
+    ];
+    for (table, opening, back) in tables {
+        let mut front = Text::from_str(alloc, HEAD)?;
+        front.push_str(opening)?;
+        for row in table.lines() {
+            assert!(rt;
+                is_row(alloc, &platform, front.as_str(), row, back)?,
+                "{row}"
+            );
+        }
+    }
+    assert!(rt; is_limited(alloc, &platform)?);
+    Ok(())
+}
+
+/// A script with an artifact.
+const HELLO: &str = r#"{
+  "RecipeFormatVersion": "2020-01-25",
+  "ComponentName": "com.example.HelloWorld",
+  "ComponentVersion": "1.0.0",
+  "ComponentDescription": "My first AWS IoT Greengrass component.",
+  "ComponentPublisher": "Amazon",
+  "ComponentConfiguration": { "DefaultConfiguration": { "Message": "world" } },
+  "Manifests": [
+    {
+      "Platform": { "os": "linux" },
+      "Lifecycle": { "run": "python3 -u {artifacts:path}/hello_world.py \"{configuration:/Message}\"" },
+      "Artifacts": [ { "URI": "s3://DOC-EXAMPLE-BUCKET/artifacts/com.example.HelloWorld/1.0.0/hello_world.py" } ]
+    }
+  ]
+}"#;
+
+/// Dependencies and a configuration.
+const NEEDS: &str = r#"{
+  "RecipeFormatVersion": "2020-01-25",
+  "ComponentName": "com.example.FooService",
+  "ComponentVersion": "1.0.0",
+  "ComponentDescription": "Complete recipe for AWS IoT Greengrass components",
+  "ComponentPublisher": "Amazon",
+  "ComponentConfiguration": { "DefaultConfiguration": { "TestParam": "TestValue" } },
+  "ComponentDependencies": {
+    "BarService": { "VersionRequirement": "^1.1", "DependencyType": "SOFT" },
+    "BazService": { "VersionRequirement": "^2.0" }
+  },
+  "Manifests": [
+    {
+      "Platform": { "os": "linux", "architecture": "amd64" },
+      "Lifecycle": {
+        "Setenv": { "environment_variable1": "variable_value1", "environment_variable2": "variable_value2" },
+        "Install": {
+          "Skipif": "onpath git",
+          "Script": "sudo apt-get install git",
+          "Setenv": { "environment_variable1": "own", "count": 3, "quiet": true }
+        }
+      },
+      "Artifacts": [ {
+        "URI": "s3://DOC-EXAMPLE-BUCKET/hello_world.zip",
+        "Unarchive": "NONE",
+        "Algorithm": "SHA-256",
+        "Digest": "ungWv48Bz+pBQUDeXa4iI7ADYaOWF3qctBD/YfIAFa0="
+      } ]
+    }
+  ]
+}"#;
+
+/// Several manifests.
+const SEVERAL: &str = r#"{
+  "RecipeFormatVersion": "2020-01-25",
+  "ComponentName": "com.example.PythonRuntime",
+  "ComponentVersion": "3.7.0",
+  "Manifests": [
+    { "Platform": { "os": "windows" }, "Lifecycle": { "install": { "script": "choco install python3" } } },
+    { "Platform": { "os": "/linux|darwin/" }, "Lifecycle": { "startup": { "script": "start", "timeout": 900 }, "shutdown": "stop" } },
+    { "Lifecycle": { "run": "other" } }
+  ]
+}"#;
+
+fn is_variable(variable: &(Text, Text), name: &str, value: &str) -> bool {
+    variable.0.as_str() == name && variable.1.as_str() == value
+}
+
+#[test]
+fn recipes_of_the_guide_are_read(rt: HostRuntime) -> Result<(), Fail> {
+    let alloc = rt.alloc();
+    let platform = linux(alloc)?;
+    let hello = Recipe::read(alloc, HELLO.as_bytes(), &platform)?;
+    assert_eq!(rt; hello.name.as_str(), "com.example.HelloWorld");
+    assert_eq!(rt; hello.version.text().as_str(), "1.0.0");
+    let message = match hello.default_config.member("Message") {
+        Some(Tree::Text(message)) => message.as_str(),
+        _ => "",
+    };
+    assert_eq!(rt; message, "world");
+    let [script] = hello.artifacts.as_slice() else {
+        return Err(Fail::new("not one artifact"));
+    };
+    assert_eq!(rt; script.file.as_str(), "hello_world.py");
+    assert!(rt; script.digest.is_none());
+    let Some(run) = hello.step(Step::Run) else {
+        return Err(Fail::new("no run step"));
+    };
+    assert_eq!(rt;
+        run.script.as_str(),
+        r#"python3 -u {artifacts:path}/hello_world.py "{configuration:/Message}""#
+    );
+    assert!(rt; run.limit_ms.is_none() && run.skip.is_none() && run.env.is_empty());
+    Ok(())
+}
+
+#[test]
+fn steps_and_dependencies_are_read(rt: HostRuntime) -> Result<(), Fail> {
+    let alloc = rt.alloc();
+    let platform = linux(alloc)?;
+    let needs = Recipe::read(alloc, NEEDS.as_bytes(), &platform)?;
+    let [bar, baz] = needs.dependencies.as_slice() else {
+        return Err(Fail::new("not two dependencies"));
+    };
+    assert!(rt;
+        bar.name.as_str() == "BarService" && bar.range.text().as_str() == "^1.1" && !bar.hard
+    );
+    assert!(rt;
+        baz.name.as_str() == "BazService" && baz.range.text().as_str() == "^2.0" && baz.hard
+    );
+    let Some(install) = needs.step(Step::Install) else {
+        return Err(Fail::new("no install step"));
+    };
+    assert!(rt; matches!(&install.skip, Some(Skip::OnPath(program)) if program.as_str() == "git"));
+    assert!(rt; install.limit_ms == Some(120_000));
+    let [count, first, second, quiet] = install.env.as_slice() else {
+        return Err(Fail::new("not four variables"));
+    };
+    assert!(rt; is_variable(count, "count", "3") && is_variable(quiet, "quiet", "true"));
+    assert!(rt; is_variable(first, "environment_variable1", "own"));
+    assert!(rt; is_variable(second, "environment_variable2", "variable_value2"));
+    let [artifact] = needs.artifacts.as_slice() else {
+        return Err(Fail::new("not one artifact"));
+    };
+    let Some(digest) = artifact.digest else {
+        return Err(Fail::new("no digest"));
+    };
+    assert!(rt; digest[0] == 0xba && digest[31] == 0xad);
+    let several = Recipe::read(alloc, SEVERAL.as_bytes(), &platform)?;
+    let Some(startup) = several.step(Step::Startup) else {
+        return Err(Fail::new("no startup step"));
+    };
+    assert!(rt; startup.script.as_str() == "start" && startup.limit_ms == Some(900_000));
+    assert!(rt; several.step(Step::Install).is_none() && several.step(Step::Run).is_none());
+    assert!(rt; several.step(Step::Shutdown).is_some() && several.artifacts.is_empty());
+    Ok(())
+}

@@ -1,0 +1,9 @@
+pub mod Chains
+pub mod Forms
+pub mod Joining
+pub mod Listing
+pub mod Making
+pub mod Regulars
+pub mod Seconds
+pub mod Trims
+pub mod Walks

@@ -1,0 +1,13 @@
+pub mod Artifacts
+pub mod Dependencies
+pub mod Environment
+pub mod Found
+pub mod Gathered
+pub mod Keys
+pub mod Lifecycles
+pub mod Made
+pub mod Platforms
+pub mod Reasons
+pub mod Recipes
+pub mod Spelled
+pub mod Steps

@@ -1,0 +1,36 @@
+-- The keys of a recipe as they are spelled.
+use Rattle.std.specs.Prelude.{ℕ, List, codes}
+use Rattle.recipe_reader.specs.declared.fault.Key.{Key}
+use Rattle.recipe_reader.specs.declared.fault.Key.TheVariants as key
+
+abbrev pub spelled : Key → List ℕ
+spelled key.Recipe = codes "recipe"
+spelled key.RecipeFormatVersion = codes "RecipeFormatVersion"
+spelled key.ComponentName = codes "ComponentName"
+spelled key.ComponentVersion = codes "ComponentVersion"
+spelled key.ComponentType = codes "ComponentType"
+spelled key.Lifecycle = codes "Lifecycle"
+spelled key.ComponentConfiguration = codes "ComponentConfiguration"
+spelled key.DefaultConfiguration = codes "DefaultConfiguration"
+spelled key.ComponentDependencies = codes "ComponentDependencies"
+spelled key.VersionRequirement = codes "VersionRequirement"
+spelled key.DependencyType = codes "DependencyType"
+spelled key.Manifests = codes "Manifests"
+spelled key.Platform = codes "Platform"
+spelled key.Os = codes "os"
+spelled key.Architecture = codes "architecture"
+spelled key.Setenv = codes "Setenv"
+spelled key.Install = codes "install"
+spelled key.Run = codes "run"
+spelled key.Startup = codes "startup"
+spelled key.Shutdown = codes "shutdown"
+spelled key.Recover = codes "recover"
+spelled key.Bootstrap = codes "bootstrap"
+spelled key.Script = codes "Script"
+spelled key.Skipif = codes "Skipif"
+spelled key.Timeout = codes "Timeout"
+spelled key.Artifacts = codes "Artifacts"
+spelled key.Uri = codes "URI"
+spelled key.Unarchive = codes "Unarchive"
+spelled key.Algorithm = codes "Algorithm"
+spelled key.Digest = codes "Digest"

@@ -1,0 +1,26 @@
+//! Recipes of components: what a recipe's text says for the platform at hand, or the first fault that it has
+//! (component recipe reference of AWS IoT Greengrass V2, format 2020-01-25).
+#![tactic(auto)]
+
+mod artifact;
+mod config;
+mod dependency;
+mod digest;
+mod environment;
+mod fault;
+mod head;
+mod keys;
+mod lifecycle;
+mod limit;
+mod manifest;
+mod parts;
+mod platform;
+mod read;
+mod reason;
+mod recipe;
+mod skip;
+mod step;
+
+pub use fault::{Key, RecipeFault};
+pub use nuc_base::{Artifact, Platform};
+pub use recipe::{Dependency, Recipe, Skip, StepDef};
