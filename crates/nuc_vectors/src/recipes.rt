@@ -1,7 +1,7 @@
 //! Recipes: which are read and which faults the others have, worked out by hand from the lines of the format, and recipes
 //! in the forms that the developer guide of AWS IoT Greengrass V2 shows.
 use nuc_base::{Label, Step, Text};
-use recipe_reader::{Platform, Recipe, RecipeFault, Skip};
+use recipe_reader::{Dependency, Platform, Recipe, RecipeFault, Skip, StepDef};
 use std::alloc::Global;
 use std::test::Fail;
 use tree_core::Tree;
@@ -265,34 +265,62 @@ fn is_limited(alloc: Global, platform: &Platform) -> Result<bool, Fail> {
     Ok(read && is_answer(&refused, "TooLarge", ""))
 }
 
+/// The number from 1 of the first row of a table that is not answered as it says, or 0.
+fn first_wrong(
+    alloc: Global,
+    platform: &Platform,
+    front: &str,
+    table: &str,
+    back: &str,
+) -> Result<usize, Fail> {
+    let mut number = 0usize;
+    for row in table.lines() {
+        number = number.saturating_add(1);
+        if !is_row(alloc, platform, front, row, back)? {
+            return Ok(number);
+        }
+    }
+    Ok(0)
+}
+
+/// The same behind the three keys that must be there.
+fn first_wrong_body(
+    alloc: Global,
+    platform: &Platform,
+    opening: &str,
+    table: &str,
+    back: &str,
+) -> Result<usize, Fail> {
+    let mut front = Text::from_str(alloc, HEAD)?;
+    front.push_str(opening)?;
+    first_wrong(alloc, platform, front.as_str(), table, back)
+}
+
 #[test]
 fn recipes_are_read_or_refused(rt: HostRuntime) -> Result<(), Fail> {
     let alloc = rt.alloc();
     let platform = linux(alloc)?;
-    for row in WHOLE.lines() {
-        assert!(rt; is_row(alloc, &platform, "", row, "")?, "{row}");
-    }
-    let tables = [
-        (BODIES, "", "}"),
-        (MANIFESTS, r#""Manifests":["#, "]}"),
-        (
-            PLATFORMS,
-            r#""Manifests":[{"Lifecycle":{"run":"here"},"Platform":"#,
-            "}]}",
-        ),
-        (LIFECYCLES, r#""Manifests":[{"Lifecycle":"#, "}]}"),
-        (ARTIFACTS, r#""Manifests":[{"Artifacts":"#, "}]}"),
-    ];
-    for (table, opening, back) in tables {
-        let mut front = Text::from_str(alloc, HEAD)?;
-        front.push_str(opening)?;
-        for row in table.lines() {
-            assert!(rt;
-                is_row(alloc, &platform, front.as_str(), row, back)?,
-                "{row}"
-            );
-        }
-    }
+    assert_eq!(rt; first_wrong(alloc, &platform, "", WHOLE, "")?, 0);
+    assert_eq!(rt; first_wrong_body(alloc, &platform, "", BODIES, "}")?, 0);
+    assert_eq!(rt;
+        first_wrong_body(alloc, &platform, r#""Manifests":["#, MANIFESTS, "]}")?,
+        0
+    );
+    let opening = r#""Manifests":[{"Lifecycle":{"run":"here"},"Platform":"#;
+    assert_eq!(rt;
+        first_wrong_body(alloc, &platform, opening, PLATFORMS, "}]}")?,
+        0
+    );
+    let opening = r#""Manifests":[{"Lifecycle":"#;
+    assert_eq!(rt;
+        first_wrong_body(alloc, &platform, opening, LIFECYCLES, "}]}")?,
+        0
+    );
+    let opening = r#""Manifests":[{"Artifacts":"#;
+    assert_eq!(rt;
+        first_wrong_body(alloc, &platform, opening, ARTIFACTS, "}]}")?,
+        0
+    );
     assert!(rt; is_limited(alloc, &platform)?);
     Ok(())
 }
@@ -363,72 +391,120 @@ fn is_variable(variable: &(Text, Text), name: &str, value: &str) -> bool {
     variable.0.as_str() == name && variable.1.as_str() == value
 }
 
+fn is_named(recipe: &Recipe, name: &str, version: &str) -> bool {
+    recipe.name.as_str() == name && recipe.version.text().as_str() == version
+}
+
+fn has_message(recipe: &Recipe, text: &str) -> bool {
+    match recipe.default_config.member("Message") {
+        Some(Tree::Text(message)) => message.as_str() == text,
+        _ => false,
+    }
+}
+
+fn has_plain_artifact(recipe: &Recipe, file: &str) -> bool {
+    match recipe.artifacts.as_slice() {
+        [artifact] => artifact.file.as_str() == file && artifact.digest.is_none(),
+        _ => false,
+    }
+}
+
+fn runs(recipe: &Recipe, script: &str) -> bool {
+    match recipe.step(Step::Run) {
+        Some(step) => {
+            step.script.as_str() == script && step.limit_ms.is_none() && step.env.is_empty()
+        }
+        None => false,
+    }
+}
+
+fn is_needed(dependency: &Dependency, name: &str, range: &str, hard: bool) -> bool {
+    dependency.name.as_str() == name
+        && dependency.range.text().as_str() == range
+        && dependency.hard == hard
+}
+
+fn needs_two(recipe: &Recipe) -> bool {
+    match recipe.dependencies.as_slice() {
+        [bar, baz] => is_needed(bar, "BarService", "^1.1", false)
+            && is_needed(baz, "BazService", "^2.0", true),
+        _ => false,
+    }
+}
+
+fn is_skipped_on_path(step: &StepDef, word: &str) -> bool {
+    match &step.skip {
+        Some(Skip::OnPath(program)) => program.as_str() == word,
+        _ => false,
+    }
+}
+
+/// The step's own variable wins, a number and a truth value are their texts, and the names rise.
+fn has_four_variables(step: &StepDef) -> bool {
+    match step.env.as_slice() {
+        [count, first, second, quiet] => {
+            is_variable(count, "count", "3")
+                && is_variable(first, "environment_variable1", "own")
+                && is_variable(second, "environment_variable2", "variable_value2")
+                && is_variable(quiet, "quiet", "true")
+        }
+        _ => false,
+    }
+}
+
+fn installs(recipe: &Recipe) -> bool {
+    match recipe.step(Step::Install) {
+        Some(step) => {
+            step.limit_ms == Some(120_000)
+                && is_skipped_on_path(step, "git")
+                && has_four_variables(step)
+        }
+        None => false,
+    }
+}
+
+/// The digest is that of the bytes `abc` (FIPS 180-4).
+fn has_digest(recipe: &Recipe) -> bool {
+    match recipe.artifacts.as_slice() {
+        [artifact] => match artifact.digest {
+            Some(digest) => digest[0] == 0xba && digest[31] == 0xad,
+            None => false,
+        },
+        _ => false,
+    }
+}
+
+fn starts_up(recipe: &Recipe) -> bool {
+    match recipe.step(Step::Startup) {
+        Some(step) => step.script.as_str() == "start" && step.limit_ms == Some(900_000),
+        None => false,
+    }
+}
+
+fn has_second_manifest(recipe: &Recipe) -> bool {
+    starts_up(recipe)
+        && recipe.step(Step::Install).is_none()
+        && recipe.step(Step::Run).is_none()
+        && recipe.step(Step::Shutdown).is_some()
+        && recipe.artifacts.is_empty()
+}
+
 #[test]
 fn recipes_of_the_guide_are_read(rt: HostRuntime) -> Result<(), Fail> {
     let alloc = rt.alloc();
     let platform = linux(alloc)?;
     let hello = Recipe::read(alloc, HELLO.as_bytes(), &platform)?;
-    assert_eq!(rt; hello.name.as_str(), "com.example.HelloWorld");
-    assert_eq!(rt; hello.version.text().as_str(), "1.0.0");
-    let message = match hello.default_config.member("Message") {
-        Some(Tree::Text(message)) => message.as_str(),
-        _ => "",
-    };
-    assert_eq!(rt; message, "world");
-    let [script] = hello.artifacts.as_slice() else {
-        return Err(Fail::new("not one artifact"));
-    };
-    assert_eq!(rt; script.file.as_str(), "hello_world.py");
-    assert!(rt; script.digest.is_none());
-    let Some(run) = hello.step(Step::Run) else {
-        return Err(Fail::new("no run step"));
-    };
-    assert_eq!(rt;
-        run.script.as_str(),
-        r#"python3 -u {artifacts:path}/hello_world.py "{configuration:/Message}""#
+    assert!(rt; is_named(&hello, "com.example.HelloWorld", "1.0.0"));
+    assert!(rt; has_message(&hello, "world") && has_plain_artifact(&hello, "hello_world.py"));
+    assert!(rt;
+        runs(
+            &hello,
+            r#"python3 -u {artifacts:path}/hello_world.py "{configuration:/Message}""#
+        )
     );
-    assert!(rt; run.limit_ms.is_none() && run.skip.is_none() && run.env.is_empty());
-    Ok(())
-}
-
-#[test]
-fn steps_and_dependencies_are_read(rt: HostRuntime) -> Result<(), Fail> {
-    let alloc = rt.alloc();
-    let platform = linux(alloc)?;
     let needs = Recipe::read(alloc, NEEDS.as_bytes(), &platform)?;
-    let [bar, baz] = needs.dependencies.as_slice() else {
-        return Err(Fail::new("not two dependencies"));
-    };
-    assert!(rt;
-        bar.name.as_str() == "BarService" && bar.range.text().as_str() == "^1.1" && !bar.hard
-    );
-    assert!(rt;
-        baz.name.as_str() == "BazService" && baz.range.text().as_str() == "^2.0" && baz.hard
-    );
-    let Some(install) = needs.step(Step::Install) else {
-        return Err(Fail::new("no install step"));
-    };
-    assert!(rt; matches!(&install.skip, Some(Skip::OnPath(program)) if program.as_str() == "git"));
-    assert!(rt; install.limit_ms == Some(120_000));
-    let [count, first, second, quiet] = install.env.as_slice() else {
-        return Err(Fail::new("not four variables"));
-    };
-    assert!(rt; is_variable(count, "count", "3") && is_variable(quiet, "quiet", "true"));
-    assert!(rt; is_variable(first, "environment_variable1", "own"));
-    assert!(rt; is_variable(second, "environment_variable2", "variable_value2"));
-    let [artifact] = needs.artifacts.as_slice() else {
-        return Err(Fail::new("not one artifact"));
-    };
-    let Some(digest) = artifact.digest else {
-        return Err(Fail::new("no digest"));
-    };
-    assert!(rt; digest[0] == 0xba && digest[31] == 0xad);
+    assert!(rt; needs_two(&needs) && installs(&needs) && has_digest(&needs));
     let several = Recipe::read(alloc, SEVERAL.as_bytes(), &platform)?;
-    let Some(startup) = several.step(Step::Startup) else {
-        return Err(Fail::new("no startup step"));
-    };
-    assert!(rt; startup.script.as_str() == "start" && startup.limit_ms == Some(900_000));
-    assert!(rt; several.step(Step::Install).is_none() && several.step(Step::Run).is_none());
-    assert!(rt; several.step(Step::Shutdown).is_some() && several.artifacts.is_empty());
+    assert!(rt; has_second_manifest(&several));
     Ok(())
 }
