@@ -342,6 +342,9 @@ const HELLO: &str = r#"{
   ]
 }"#;
 
+const HELLO_SCRIPT: &str =
+    r#"python3 -u {artifacts:path}/hello_world.py "{configuration:/Message}""#;
+
 /// Dependencies and a configuration.
 const NEEDS: &str = r#"{
   "RecipeFormatVersion": "2020-01-25",
@@ -489,22 +492,32 @@ fn has_second_manifest(recipe: &Recipe) -> bool {
         && recipe.artifacts.is_empty()
 }
 
+fn is_hello(alloc: Global, platform: &Platform) -> Result<bool, Fail> {
+    let recipe = Recipe::read(alloc, HELLO.as_bytes(), platform)?;
+    Ok(
+        is_named(&recipe, "com.example.HelloWorld", "1.0.0")
+            && has_message(&recipe, "world")
+            && has_plain_artifact(&recipe, "hello_world.py")
+            && runs(&recipe, HELLO_SCRIPT),
+    )
+}
+
+fn is_in_need(alloc: Global, platform: &Platform) -> Result<bool, Fail> {
+    let recipe = Recipe::read(alloc, NEEDS.as_bytes(), platform)?;
+    Ok(needs_two(&recipe) && installs(&recipe) && has_digest(&recipe))
+}
+
+fn is_one_of_several(alloc: Global, platform: &Platform) -> Result<bool, Fail> {
+    let recipe = Recipe::read(alloc, SEVERAL.as_bytes(), platform)?;
+    Ok(has_second_manifest(&recipe))
+}
+
 #[test]
 fn recipes_of_the_guide_are_read(rt: HostRuntime) -> Result<(), Fail> {
     let alloc = rt.alloc();
     let platform = linux(alloc)?;
-    let hello = Recipe::read(alloc, HELLO.as_bytes(), &platform)?;
-    assert!(rt; is_named(&hello, "com.example.HelloWorld", "1.0.0"));
-    assert!(rt; has_message(&hello, "world") && has_plain_artifact(&hello, "hello_world.py"));
-    assert!(rt;
-        runs(
-            &hello,
-            r#"python3 -u {artifacts:path}/hello_world.py "{configuration:/Message}""#
-        )
-    );
-    let needs = Recipe::read(alloc, NEEDS.as_bytes(), &platform)?;
-    assert!(rt; needs_two(&needs) && installs(&needs) && has_digest(&needs));
-    let several = Recipe::read(alloc, SEVERAL.as_bytes(), &platform)?;
-    assert!(rt; has_second_manifest(&several));
+    assert!(rt; is_hello(alloc, &platform)?);
+    assert!(rt; is_in_need(alloc, &platform)?);
+    assert!(rt; is_one_of_several(alloc, &platform)?);
     Ok(())
 }
