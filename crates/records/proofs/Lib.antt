@@ -1,0 +1,4 @@
+pub mod Leaves
+pub mod Loop
+pub mod Codecs
+pub mod Layouts

@@ -1,0 +1,5 @@
+pub mod Codec
+pub mod Gives
+pub mod Stored
+pub mod Utf8
+pub mod Layout

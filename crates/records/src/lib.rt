@@ -1,0 +1,20 @@
+//! Records of the journal, each with one spelling.
+//!
+//! `specs/Layout.antt` lays out each record, a line for each field, over the codecs of `specs/Codec.antt`. The trait
+//! `Coded` is the same in code: a writer and a reader for each field, and over them those of the structures. So a further
+//! field is a line in the layout, in the writer and in the reader.
+#![tactic(auto)]
+
+mod coded;
+mod fields;
+mod laws;
+mod record;
+mod records;
+mod stop;
+mod texts;
+
+pub use laws::bytes_spell_one_record;
+pub use record::{Draft, DraftItem, Held, Item, Origin, Plan, Record, Requirement};
+
+#[cfg(test)]
+mod tests;
