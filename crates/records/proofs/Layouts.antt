@@ -1,6 +1,7 @@
 -- The layout of each record: what is read is spelled so, and what is spelled so is read.
 use Rattle.std.proofs.Common.{◌≡◌, ℕ, ◌^◌, ◌<◌, ℤ, Bool, true, false, List, [], ◌∷◌, ◌++◌, Option, Some, None, refl, sym, ap, subst, ◌∙◌, arith, inl, inr}
-use Rattle.std.specs.Prelude.{◌⊎◌, ◌==◌, if◌then◌else◌, FitsSigned, IsUtf8}
+use Rattle.std.specs.Prelude.{◌⊎◌, ◌==◌, if◌then◌else◌, FitsSigned, IsUtf8, IsSomeAnd, ⊤}
+use Rattle.std.specs.Option.{option_map_or}
 use Rattle.std.specs.Str.{is_utf8}
 use Rattle.std.specs.Int.{w32, cast_signed, cast_unsigned}
 use Rattle.std.proofs.lemmas.Bool.{eqb-true}
@@ -18,7 +19,7 @@ use Rattle.npm_ranges.specs.Ranges.{IsRange}
 use Rattle.npm_ranges.specs.Versions.{IsVersion}
 use Rattle.tree_core.specs.Regular.{IsRegular}
 use Rattle.tree_core.proofs.TextUtf8.{IsUtf8-compact_text}
-use Rattle.records.specs.Codec.{Codec, ◌>>=◌, ◌&◌, only_if, number_at, nothing, whole}
+use Rattle.records.specs.Codec.{Codec, ◌>>=◌, only_if, number_at, whole}
 use Rattle.records.specs.Layout as layout
 use Rattle.records.specs.Layout.{tree_of, Any, IsShort, IsShortTree, is_label, is_name, is_version, is_range}
 use Rattle.records.proofs.Leaves.{bind_some, some_is, if_some, label_says, label_test, name_says, name_test, version_says, version_test, range_says, range_test, tree_found, tree_says}
@@ -30,8 +31,8 @@ use Rattle.nuc_base.specs.declared.kinds.Policy.{Policy}
 use Rattle.nuc_base.specs.declared.kinds.Policy.TheVariants as policies
 use Rattle.nuc_base.specs.declared.kinds.Outcome.{Outcome}
 use Rattle.nuc_base.specs.declared.kinds.Outcome.TheVariants as outcomes
-use Rattle.records.specs.Stored.{Record, Genesis, Accepted, BootBegun, BootEnded, Activating, StepFailed, Failing, Closed}
-use Rattle.records.specs.Layout.{record_of, record_spelled, RecordFits, IsWritable, Spelled}
+use Rattle.records.specs.Stored.{Record, Activating}
+use Rattle.records.specs.Layout.{Kind, kinds, record_of, record_spelled, RecordFits, IsWritable, Spelled}
 use Rattle.records.proofs.Codecs.{IsBytes, IsBytes-rest, Takes, number_is, IsCodec, fixed_is, string_is, texts_is, both, as_a_is, nothing_is, byte_is, list_is}
 
 ruled_says : (test : List ℕ → Bool) (Rule : List ℕ → Type 0) → ((t : List ℕ) → test t ≡ true → Rule t) → (t x : List ℕ) → only_if (test t) t ≡ Some x → (x ≡ t) × Rule x
@@ -251,75 +252,110 @@ whole_is None x e = absurd cc
 whole_is (Some (y, [])) x e = ap (λ z. Some (z, [])) (some_is y x e)
 whole_is (Some (y, b ∷ rest)) x e = absurd cc
 
--- a record that is one byte and a value
-as_one : {A : Type 0} (c : Codec A) → IsCodec c → (make : A → Record) (k b : ℕ) (rest : List ℕ) (r : Record) → IsBytes (b ∷ rest)
-    → ((x : A) → record_spelled (make x) ≡ k ∷ c.spell x) → ((x : A) → c.Fits x → RecordFits (make x)) → (b ≡ k) × (layout.all_as c make rest ≡ Some r) → Spelled (b ∷ rest) r
-as_one {A} c law make k b rest r fits is good h =
-    let f = bind_some (whole (c.at rest)) (λ x. Some (make x)) r h.1 in
-    let t = law.takes rest (f.0, []) (IsBytes-rest b rest fits) (whole_is (c.at rest) f.0 f.1) in
-    let one : Spelled (b ∷ rest) (make f.0) = record { fits = good f.0 t.1; same = rw (is f.0, h.0) (ap (λ (t : List ℕ). k ∷ t) (t.0.parts ∙ append-nil (c.spell f.0))) } in
-    subst (Spelled (b ∷ rest)) (some_is (make f.0) r f.2) one
+whole_again : {A : Type 0} (c : Codec A) → IsCodec c → (make : A → Record) (x : A) → c.Fits x → layout.all_as c make (c.spell x) ≡ Some (make x)
+whole_again c law make x fits = let e : c.at (c.spell x) ≡ Some (x, []) = ap c.at (sym (append-nil (c.spell x))) ∙ law.again x [] fits in rw e refl
+
+record IsKind (k : Kind) : Type 0 where
+  takes : (rest : List ℕ) (r : Record) → IsBytes rest → k.of rest ≡ Some r → Spelled (k.first ∷ rest) r
+  again : (r : Record) → k.Fits r → record_of (k.spell r) ≡ Some (k.made r)
+  asks : (r : Record) → k.Fits r → k.Asks r
+
+-- A kind is found by its first byte, and its records by their fields.
+kind_is : {A : Type 0} (first : ℕ) (c : Codec A) (make : A → Record) (value : Record → Option A) → IsCodec c
+    → ((x : A) → record_spelled (make x) ≡ first ∷ c.spell x) → ((x : A) → c.Fits x → RecordFits (make x)) → ((rest : List ℕ) → record_of (first ∷ rest) ≡ layout.all_as c make rest) → IsKind (layout.kind first c make value)
+kind_is {A} first c make value law spells good reads = record {
+  takes = λ rest r fits e.
+      let f = bind_some (whole (c.at rest)) (λ x. Some (make x)) r e in
+      let t = law.takes rest (f.0, []) fits (whole_is (c.at rest) f.0 f.1) in
+      let one : Spelled (first ∷ rest) (make f.0) = record { fits = good f.0 t.1; same = rw (spells f.0) (ap (λ (t : List ℕ). first ∷ t) (t.0.parts ∙ append-nil (c.spell f.0))) } in
+      subst (Spelled (first ∷ rest)) (some_is (make f.0) r f.2) one;
+  again = λ r fits. again_of r (value r) fits;
+  asks = λ r fits. asks_of (value r) fits;
+} where
+  again_of : (r : Record) (o : Option A) → IsSomeAnd o c.Fits → record_of (first ∷ option_map_or c.spell o []) ≡ Some (option_map_or make o r)
+  again_of r None fits = absurd fits
+  again_of r (Some x) fits = reads (c.spell x) ∙ whole_again c law make x fits
+
+  asks_of : (o : Option A) → IsSomeAnd o c.Fits → IsSomeAnd o c.Asks
+  asks_of None fits = absurd fits
+  asks_of (Some x) fits = law.asks x fits
+
+abbrev AreKinds : List Kind → Type 0
+AreKinds [] = ⊤
+AreKinds (k ∷ ks) = IsKind k × AreKinds ks
+
+kinds_are : AreKinds kinds
+unfolding record_of
+kinds_are = (
+  kind_is _ _ _ _ origin_is (λ x. refl) (λ x f. f) (λ rest. refl),
+  (
+    kind_is _ _ _ _ plan_is (λ x. refl) (λ x f. f) (λ rest. refl),
+    (
+      kind_is _ _ _ _ name_is (λ x. refl) (λ x f. f) (λ rest. refl),
+      (
+        kind_is _ _ _ _ (both _ _ name_is exit_is) (λ x. refl) (λ x f. f) (λ rest. refl),
+        (
+          kind_is _ _ _ _ nothing_is (λ x. refl) (λ x f. f) (λ rest. refl),
+          (
+            kind_is _ _ _ _ (both _ _ name_is (both _ _ step_is exit_is)) (λ x. refl) (λ x f. f) (λ rest. refl),
+            (
+              kind_is _ _ _ _ name_is (λ x. refl) (λ x f. f) (λ rest. refl),
+              (
+                kind_is _ _ _ _ outcome_is (λ x. refl) (λ x f. f) (λ rest. refl),
+                tt,
+              ),
+            ),
+          ),
+        ),
+      ),
+    ),
+  ),
+)
+
+takes_by : (ks : List Kind) → AreKinds ks → (b : ℕ) (rest : List ℕ) (r : Record) → IsBytes rest → layout.read_by ks b rest ≡ Some r → Spelled (b ∷ rest) r
+takes_by [] laws b rest r fits e = absurd cc
+takes_by (k ∷ ks) laws b rest r fits e =
+    elim (branch b k.first (k.of rest) (layout.read_by ks b rest) r e) [
+      | inl h ↦ subst (λ (n : ℕ). Spelled (n ∷ rest) r) (sym h.0) (laws.0.takes rest r fits h.1)
+      | inr e ↦ takes_by ks laws.1 b rest r fits e
+    ]
+
+abbrev made_by : List Kind → Record → Record
+made_by [] r = r
+made_by (k ∷ ks) r = if k.holds r then k.made r else made_by ks r
+
+again_by : (ks : List Kind) → AreKinds ks → (r : Record) → layout.FitsBy ks r → record_of (layout.spelled_by ks r) ≡ Some (made_by ks r)
+again_by [] laws r fits = absurd fits
+again_by (k ∷ ks) laws r fits = chosen (k.holds r) fits (again_by ks laws.1 r) where
+  chosen : (b : Bool) → layout.choose b (k.Fits r) (layout.FitsBy ks r) → (layout.FitsBy ks r → record_of (layout.spelled_by ks r) ≡ Some (made_by ks r))
+      → record_of (if b then k.spell r else layout.spelled_by ks r) ≡ Some (if b then k.made r else made_by ks r)
+  chosen true fits others = laws.0.again r fits
+  chosen false fits others = others fits
+
+asked_by : (ks : List Kind) → AreKinds ks → (r : Record) → layout.FitsBy ks r → layout.AskedBy ks r
+asked_by [] laws r fits = absurd fits
+asked_by (k ∷ ks) laws r fits = chosen (k.holds r) fits (asked_by ks laws.1 r) where
+  chosen : (b : Bool) → layout.choose b (k.Fits r) (layout.FitsBy ks r) → (layout.FitsBy ks r → layout.AskedBy ks r) → layout.choose b (k.Asks r) (layout.AskedBy ks r)
+  chosen true fits others = laws.0.asks r fits
+  chosen false fits others = others fits
+
+-- the kind that holds a record has its fields
+made : (r : Record) → made_by kinds r ≡ r
+made r = elim r as (λ r. made_by kinds r ≡ r) [ Activating ↦ refl | _ ↦ refl ]
 
 pub record_takes : (bytes : List ℕ) (r : Record) → IsBytes bytes → record_of bytes ≡ Some r → Spelled bytes r
 unfolding record_of
 record_takes [] r fits e = absurd cc
-record_takes (b ∷ rest) r fits e =
-    elim (branch b 17 (layout.all_as layout.origin Genesis rest) _ r e) [
-      | inl h ↦ as_one layout.origin origin_is Genesis 17 b rest r fits (λ x. refl) (λ x f. f) h
-      | inr e ↦
-          elim (branch b 18 (layout.all_as layout.plan Accepted rest) _ r e) [
-            | inl h ↦ as_one layout.plan plan_is Accepted 18 b rest r fits (λ x. refl) (λ x f. f) h
-            | inr e ↦
-                elim (branch b 19 (layout.all_as layout.name BootBegun rest) _ r e) [
-                  | inl h ↦ as_one layout.name name_is BootBegun 19 b rest r fits (λ x. refl) (λ x f. f) h
-                  | inr e ↦
-                      elim (branch b 20 (layout.all_as (layout.name & layout.exit) (λ p. BootEnded p.0 p.1) rest) _ r e) [
-                        | inl h ↦ as_one (layout.name & layout.exit) (both _ _ name_is exit_is) (λ p. BootEnded p.0 p.1) 20 b rest r fits (λ x. refl) (λ x f. f) h
-                        | inr e ↦
-                            elim (branch b 21 (layout.all_as nothing (λ p. Activating) rest) _ r e) [
-                              | inl h ↦ as_one nothing nothing_is (λ p. Activating) 21 b rest r fits (λ x. refl) (λ x f. f) h
-                              | inr e ↦
-                                  elim (branch b 22 (layout.all_as (layout.name & layout.step & layout.exit) (λ p. StepFailed p.0 p.1.0 p.1.1) rest) _ r e) [
-                                    | inl h ↦ as_one (layout.name & layout.step & layout.exit) (both _ _ name_is (both _ _ step_is exit_is)) (λ p. StepFailed p.0 p.1.0 p.1.1) 22 b rest r fits (λ x. refl) (λ x f. f) h
-                                    | inr e ↦
-                                        elim (branch b 23 (layout.all_as layout.name Failing rest) _ r e) [
-                                          | inl h ↦ as_one layout.name name_is Failing 23 b rest r fits (λ x. refl) (λ x f. f) h
-                                          | inr e ↦
-                                              elim (branch b 24 (layout.all_as layout.outcome Closed rest) None r e) [ inl h ↦ as_one layout.outcome outcome_is Closed 24 b rest r fits (λ x. refl) (λ x f. f) h | inr e ↦ absurd cc ]
-                                        ]
-                                  ]
-                            ]
-                      ]
-                ]
-          ]
-    ]
-
-whole_again : {A : Type 0} (c : Codec A) → IsCodec c → (make : A → Record) (x : A) → c.Fits x → layout.all_as c make (c.spell x) ≡ Some (make x)
-whole_again c law make x fits = let e : c.at (c.spell x) ≡ Some (x, []) = ap c.at (sym (append-nil (c.spell x))) ∙ law.again x [] fits in rw e refl
+record_takes (b ∷ rest) r fits e = takes_by kinds kinds_are b rest r (IsBytes-rest b rest fits) e
 
 pub record_again : (r : Record) → RecordFits r → record_of (record_spelled r) ≡ Some r
-unfolding record_of
-record_again (Genesis o) fits = whole_again layout.origin origin_is Genesis o fits
-record_again (Accepted p) fits = whole_again layout.plan plan_is Accepted p fits
-record_again (BootBegun n) fits = whole_again layout.name name_is BootBegun n fits
-record_again (BootEnded n e) fits = whole_again (layout.name & layout.exit) (both _ _ name_is exit_is) (λ p. BootEnded p.0 p.1) (n, e) fits
-record_again Activating fits = whole_again nothing nothing_is (λ p. Activating) tt fits
-record_again (StepFailed n s e) fits = whole_again (layout.name & layout.step & layout.exit) (both _ _ name_is (both _ _ step_is exit_is)) (λ p. StepFailed p.0 p.1.0 p.1.1) (n, (s, e)) fits
-record_again (Failing n) fits = whole_again layout.name name_is Failing n fits
-record_again (Closed o) fits = whole_again layout.outcome outcome_is Closed o fits
+record_again r fits = again_by kinds kinds_are r fits ∙ ap (λ r. Some r) (made r)
+
+pub record_asks : (r : Record) → RecordFits r → IsWritable r
+record_asks = asked_by kinds kinds_are
 
 -- bytes are the spelling of one record at most
 pub one_record : (bytes : List ℕ) (r s : Record) → Spelled bytes r → Spelled bytes s → r ≡ s
 one_record bytes r s p q =
     let same : record_of bytes ≡ Some r = ap record_of p.same ∙ record_again r p.fits in
     some_is r s (sym same ∙ ap record_of q.same ∙ record_again s q.fits)
-
-pub record_asks : (r : Record) → RecordFits r → IsWritable r
-record_asks (Genesis o) fits = origin_is.asks o fits
-record_asks (Accepted p) fits = plan_is.asks p fits
-record_asks (BootBegun n) fits = name_is.asks n fits
-record_asks (BootEnded n e) fits = (both layout.name layout.exit name_is exit_is).asks (n, e) fits
-record_asks Activating fits = tt
-record_asks (StepFailed n s e) fits = (both _ _ name_is (both _ _ step_is exit_is)).asks (n, (s, e)) fits
-record_asks (Failing n) fits = name_is.asks n fits
-record_asks (Closed o) fits = outcome_is.asks o fits
