@@ -280,39 +280,35 @@ kind_is {A} first c make value law spells good reads = record {
   asks_of None fits = absurd fits
   asks_of (Some x) fits = law.asks x fits
 
-abbrev AreKinds : List Kind → Type 0
-AreKinds [] = ⊤
-AreKinds (k ∷ ks) = IsKind k × AreKinds ks
+abbrev EachIsKind : List Kind → Type 0
+EachIsKind [] = ⊤
+EachIsKind (k ∷ ks) = IsKind k × EachIsKind ks
 
+record AreKinds (ks : List Kind) : Type 0 where
+  each : EachIsKind ks
+
+infixr 10 ◌⊕◌
+◌⊕◌ : {k : Kind} {ks : List Kind} → IsKind k → AreKinds ks → AreKinds (k ∷ ks)
+is ⊕ are = record { each = (is, are.each) }
+
+no_more : AreKinds []
+no_more = record { each = tt }
+
+-- a line for each kind
 kinds_are : AreKinds kinds
 unfolding record_of
-kinds_are = (
-  kind_is _ _ _ _ origin_is (λ x. refl) (λ x f. f) (λ rest. refl),
-  (
-    kind_is _ _ _ _ plan_is (λ x. refl) (λ x f. f) (λ rest. refl),
-    (
-      kind_is _ _ _ _ name_is (λ x. refl) (λ x f. f) (λ rest. refl),
-      (
-        kind_is _ _ _ _ (both _ _ name_is exit_is) (λ x. refl) (λ x f. f) (λ rest. refl),
-        (
-          kind_is _ _ _ _ nothing_is (λ x. refl) (λ x f. f) (λ rest. refl),
-          (
-            kind_is _ _ _ _ (both _ _ name_is (both _ _ step_is exit_is)) (λ x. refl) (λ x f. f) (λ rest. refl),
-            (
-              kind_is _ _ _ _ name_is (λ x. refl) (λ x f. f) (λ rest. refl),
-              (
-                kind_is _ _ _ _ outcome_is (λ x. refl) (λ x f. f) (λ rest. refl),
-                tt,
-              ),
-            ),
-          ),
-        ),
-      ),
-    ),
-  ),
-)
+kinds_are =
+    kind_is _ _ _ _ origin_is (λ x. refl) (λ x f. f) (λ rest. refl) ⊕
+    kind_is _ _ _ _ plan_is (λ x. refl) (λ x f. f) (λ rest. refl) ⊕
+    kind_is _ _ _ _ name_is (λ x. refl) (λ x f. f) (λ rest. refl) ⊕
+    kind_is _ _ _ _ (both _ _ name_is exit_is) (λ x. refl) (λ x f. f) (λ rest. refl) ⊕
+    kind_is _ _ _ _ nothing_is (λ x. refl) (λ x f. f) (λ rest. refl) ⊕
+    kind_is _ _ _ _ (both _ _ name_is (both _ _ step_is exit_is)) (λ x. refl) (λ x f. f) (λ rest. refl) ⊕
+    kind_is _ _ _ _ name_is (λ x. refl) (λ x f. f) (λ rest. refl) ⊕
+    kind_is _ _ _ _ outcome_is (λ x. refl) (λ x f. f) (λ rest. refl) ⊕
+    no_more
 
-takes_by : (ks : List Kind) → AreKinds ks → (b : ℕ) (rest : List ℕ) (r : Record) → IsBytes rest → layout.read_by ks b rest ≡ Some r → Spelled (b ∷ rest) r
+takes_by : (ks : List Kind) → EachIsKind ks → (b : ℕ) (rest : List ℕ) (r : Record) → IsBytes rest → layout.read_by ks b rest ≡ Some r → Spelled (b ∷ rest) r
 takes_by [] laws b rest r fits e = absurd cc
 takes_by (k ∷ ks) laws b rest r fits e =
     elim (branch b k.first (k.of rest) (layout.read_by ks b rest) r e) [
@@ -324,7 +320,7 @@ abbrev made_by : List Kind → Record → Record
 made_by [] r = r
 made_by (k ∷ ks) r = if k.holds r then k.made r else made_by ks r
 
-again_by : (ks : List Kind) → AreKinds ks → (r : Record) → layout.FitsBy ks r → record_of (layout.spelled_by ks r) ≡ Some (made_by ks r)
+again_by : (ks : List Kind) → EachIsKind ks → (r : Record) → layout.FitsBy ks r → record_of (layout.spelled_by ks r) ≡ Some (made_by ks r)
 again_by [] laws r fits = absurd fits
 again_by (k ∷ ks) laws r fits = chosen (k.holds r) fits (again_by ks laws.1 r) where
   chosen : (b : Bool) → layout.choose b (k.Fits r) (layout.FitsBy ks r) → (layout.FitsBy ks r → record_of (layout.spelled_by ks r) ≡ Some (made_by ks r))
@@ -332,7 +328,7 @@ again_by (k ∷ ks) laws r fits = chosen (k.holds r) fits (again_by ks laws.1 r)
   chosen true fits others = laws.0.again r fits
   chosen false fits others = others fits
 
-asked_by : (ks : List Kind) → AreKinds ks → (r : Record) → layout.FitsBy ks r → layout.AskedBy ks r
+asked_by : (ks : List Kind) → EachIsKind ks → (r : Record) → layout.FitsBy ks r → layout.AskedBy ks r
 asked_by [] laws r fits = absurd fits
 asked_by (k ∷ ks) laws r fits = chosen (k.holds r) fits (asked_by ks laws.1 r) where
   chosen : (b : Bool) → layout.choose b (k.Fits r) (layout.FitsBy ks r) → (layout.FitsBy ks r → layout.AskedBy ks r) → layout.choose b (k.Asks r) (layout.AskedBy ks r)
@@ -346,13 +342,13 @@ made r = elim r as (λ r. made_by kinds r ≡ r) [ Activating ↦ refl | _ ↦ r
 pub record_takes : (bytes : List ℕ) (r : Record) → IsBytes bytes → record_of bytes ≡ Some r → Spelled bytes r
 unfolding record_of
 record_takes [] r fits e = absurd cc
-record_takes (b ∷ rest) r fits e = takes_by kinds kinds_are b rest r (IsBytes-rest b rest fits) e
+record_takes (b ∷ rest) r fits e = takes_by kinds kinds_are.each b rest r (IsBytes-rest b rest fits) e
 
 pub record_again : (r : Record) → RecordFits r → record_of (record_spelled r) ≡ Some r
-record_again r fits = again_by kinds kinds_are r fits ∙ ap (λ r. Some r) (made r)
+record_again r fits = again_by kinds kinds_are.each r fits ∙ ap (λ r. Some r) (made r)
 
 pub record_asks : (r : Record) → RecordFits r → IsWritable r
-record_asks = asked_by kinds kinds_are
+record_asks = asked_by kinds kinds_are.each
 
 -- bytes are the spelling of one record at most
 pub one_record : (bytes : List ℕ) (r s : Record) → Spelled bytes r → Spelled bytes s → r ≡ s

@@ -1,13 +1,17 @@
 use super::*;
-use nuc_base::NoMemory;
+use nuc_base::{Copied, NoMemory};
 use std::alloc::Global;
 use std::test::Fail;
+use tree_core::Tree;
 
 const ACCEPTED: &[u8] =
     b"\x12\0\0\0\x02d1\0\0\0\x01g\x01\0\0\0\x01\0\0\0\x01a\0\0\0\x07>=1.0.0\0\0\0\x01\0\0\0\x01a\0\0\0\x051.2.0\0\0\0\x02{}\0\0\0\x07{\"k\":1}\0\0\0\x01\0\0\0\x01f0123456789abcdef0123456789abcdef\0\0\0\x01\0\0\0\x01a";
 
+const GENESIS: &[u8] =
+    b"\x11\0\0\0\x03/gg\0\0\0\x02t1\0\0\0\x062.12.0\0\0\0\x05linux\0\0\0\x05amd64";
+
 const SPELLINGS: &[&[u8]] = &[
-    b"\x11\0\0\0\x03/gg\0\0\0\x02t1\0\0\0\x062.12.0\0\0\0\x05linux\0\0\0\x05amd64",
+    GENESIS,
     ACCEPTED,
     b"\x13\0\0\0\x01a",
     b"\x14\0\0\0\x01a\0\xff\xff\xff\xfe",
@@ -99,5 +103,114 @@ fn records_have_one_spelling(rt: HostRuntime) -> Result<(), Fail> {
     assert!(rt; are_prefixes_sound(alloc, ACCEPTED)?);
     assert!(rt; are_changes_sound(alloc, ACCEPTED)?);
     bytes_spell_one_record();
+    Ok(())
+}
+
+fn is_origin(origin: &Origin) -> bool {
+    origin.root.as_str() == "/gg"
+        && origin.thing.as_str() == "t1"
+        && origin.nucleus.text().as_str() == "2.12.0"
+        && origin.platform.os.as_str() == "linux"
+        && origin.platform.architecture.as_str() == "amd64"
+}
+
+fn is_requirement(requirement: &Requirement) -> bool {
+    requirement.name.as_str() == "a" && requirement.range.text().as_str() == ">=1.0.0"
+}
+
+fn is_held(held: &Held) -> bool {
+    held.file.as_str() == "f" && held.digest == *b"0123456789abcdef0123456789abcdef"
+}
+
+fn is_item(item: &Item) -> bool {
+    item.name.as_str() == "a"
+        && item.version.text().as_str() == "1.2.0"
+        && item.recipe.as_slice() == b"{}".as_slice()
+        && matches!(item.config.member("k"), Some(Tree::Whole(1)))
+        && matches!(item.artifacts.as_slice(), [held] if is_held(held))
+}
+
+/// Whether the origin of these bytes and its copy are the one that is spelled.
+fn is_origin_copied(alloc: Global, bytes: &[u8]) -> Result<bool, NoMemory> {
+    match Record::read(alloc, bytes)? {
+        Some(Record::Genesis(origin)) => {
+            let copy = origin.copy(alloc)?;
+            Ok(is_origin(&origin) && is_origin(&copy))
+        }
+        _ => Ok(false),
+    }
+}
+
+fn are_copied(alloc: Global, requirement: &Requirement, item: &Item) -> Result<bool, NoMemory> {
+    let requirement = requirement.copy(alloc)?;
+    let copy = item.copy(alloc)?;
+    match item.artifacts.as_slice() {
+        [held] => {
+            let held = held.copy(alloc)?;
+            Ok(is_requirement(&requirement) && is_item(&copy) && is_held(&held))
+        }
+        _ => Ok(false),
+    }
+}
+
+/// Whether the copies of the plan's requirement, item and held file are those that are spelled.
+fn is_plan_copied(alloc: Global, bytes: &[u8]) -> Result<bool, NoMemory> {
+    match Record::read(alloc, bytes)? {
+        Some(Record::Accepted(plan)) => {
+            match (plan.requirements.as_slice(), plan.items.as_slice()) {
+                ([requirement], [item]) => are_copied(alloc, requirement, item),
+                _ => Ok(false),
+            }
+        }
+        _ => Ok(false),
+    }
+}
+
+#[test]
+fn copies_are_what_was_spelled(rt: HostRuntime) -> Result<(), Fail> {
+    let alloc = rt.alloc();
+    assert!(rt; is_origin_copied(alloc, GENESIS)?);
+    assert!(rt; is_plan_copied(alloc, ACCEPTED)?);
+    Ok(())
+}
+
+fn push_letters(out: &mut Vec<u8>, count: u32) -> Result<(), NoMemory> {
+    for _ in 0..count {
+        out.push(b'x')?;
+    }
+    Ok(())
+}
+
+/// The item "a" 1.2.0 without files, whose recipe has so many bytes and whose configuration is one text of so many
+/// letters.
+fn large_item(alloc: Global, recipe: u32, letters: u32) -> Result<Vec<u8>, NoMemory> {
+    let mut out = Vec::from_slice(alloc, b"\0\0\0\x01a\0\0\0\x051.2.0")?;
+    out.extend_from_slice(&recipe.to_be_bytes())?;
+    push_letters(&mut out, recipe)?;
+    out.extend_from_slice(&letters.saturating_add(2).to_be_bytes())?;
+    out.push(b'"')?;
+    push_letters(&mut out, letters)?;
+    out.extend_from_slice(b"\"\0\0\0\0")?;
+    Ok(out)
+}
+
+/// An accepted plan of so many of these items.
+fn large_accepted(alloc: Global, count: u32, item: &[u8]) -> Result<Vec<u8>, NoMemory> {
+    let mut out = Vec::from_slice(alloc, b"\x12\0\0\0\x02d1\0\0\0\x01g\x01\0\0\0\0")?;
+    out.extend_from_slice(&count.to_be_bytes())?;
+    for _ in 0..count {
+        out.extend_from_slice(item)?;
+    }
+    out.extend_from_slice(b"\0\0\0\0")?;
+    Ok(out)
+}
+
+#[test]
+fn a_record_of_32_mib_has_one_spelling(rt: HostRuntime) -> Result<(), Fail> {
+    let alloc = rt.alloc();
+    let item = large_item(alloc, 196_608, 65_534)?;
+    let bytes = large_accepted(alloc, 128, item.as_slice())?;
+    assert!(rt; bytes.len() >= 33_554_432);
+    assert!(rt; is_spelling(alloc, bytes.as_slice())?);
     Ok(())
 }
