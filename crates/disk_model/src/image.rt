@@ -24,13 +24,14 @@ pub enum Pick {
 impl MemoryDisk {
     ghost use Rattle.disk_model.specs.Disk.{Settled};
     ghost use Rattle.disk_model.specs.Images.{unsynced_of, PickedAs};
-    ghost use Rattle.disk_model.specs.Memory.{seen_by, left_by};
+    ghost use Rattle.disk_model.specs.Memory.{seen_by, left_by, faults_by};
 
     /// A disk that holds one of the images that a crash at this moment may leave, all of it stable.
     pub fn image(&self, alloc: Global, pick: Pick) -> Result<MemoryDisk, NoMemory>
         ensures left { IfOk result (λ d. left_by self.now (seen_by d)) }
         ensures picked { IfOk result (λ d. (name : List ℕ) → PickedAs pick (unsynced_of self.now name) (seen_by self.now name) (seen_by d name)) }
         ensures settled { IfOk result (λ d. (name : List ℕ) → Settled (left_by d) name (seen_by d name)) }
+        ensures faults { IfOk result (λ d. faults_by d ≡ 0) }
     {
         match pick {
             Pick::Old => self.replayed(alloc, None),

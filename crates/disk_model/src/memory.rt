@@ -28,12 +28,13 @@ pub struct MemoryDisk {
 impl MemoryDisk {
     ghost use Rattle.disk_model.specs.Disk.{Settled};
     ghost use Rattle.disk_model.specs.Images.{picked_by};
-    ghost use Rattle.disk_model.specs.Memory.{seen_by, left_by};
+    ghost use Rattle.disk_model.specs.Memory.{seen_by, left_by, faults_by};
 
     /// A disk without files.
     pub fn new(alloc: Global) -> MemoryDisk
         ensures empty { (name : List ℕ) → seen_by result name ≡ [] }
         ensures settled { (name : List ℕ) → Settled (left_by result) name [] }
+        ensures faults { faults_by result ≡ 0 }
     {
         MemoryDisk {
             alloc,
@@ -48,6 +49,7 @@ impl MemoryDisk {
     fn holding(alloc: Global, files: Files) -> Result<MemoryDisk, NoMemory>
         ensures holds { IfOk result (λ d. (name : List ℕ) → seen_by d name ≡ image_of files name) }
         ensures settled { IfOk result (λ d. (name : List ℕ) → Settled (left_by d) name (seen_by d name)) }
+        ensures faults { IfOk result (λ d. faults_by d ≡ 0) }
     {
         Ok(MemoryDisk {
             alloc,
@@ -62,6 +64,7 @@ impl MemoryDisk {
     pub(crate) fn kept(&self, alloc: Global) -> Result<MemoryDisk, NoMemory>
         ensures holds { IfOk result (λ d. (name : List ℕ) → seen_by d name ≡ seen_by self.now name) }
         ensures settled { IfOk result (λ d. (name : List ℕ) → Settled (left_by d) name (seen_by d name)) }
+        ensures faults { IfOk result (λ d. faults_by d ≡ 0) }
     {
         MemoryDisk::holding(alloc, self.files.copy(alloc)?)
     }
@@ -71,6 +74,7 @@ impl MemoryDisk {
     pub(crate) fn replayed(&self, alloc: Global, fill: Option<u8>) -> Result<MemoryDisk, NoMemory>
         ensures holds { IfOk result (λ d. (name : List ℕ) → seen_by d name ≡ picked_by fill self.now name) }
         ensures settled { IfOk result (λ d. (name : List ℕ) → Settled (left_by d) name (seen_by d name)) }
+        ensures faults { IfOk result (λ d. faults_by d ≡ 0) }
     {
         MemoryDisk::holding(alloc, replay(alloc, &self.start, &self.calls, fill)?)
     }
