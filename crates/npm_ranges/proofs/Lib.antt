@@ -5,4 +5,4 @@ mod Partials
 mod Reading
 mod Splitting
 mod VersionOrders
-mod VersionTexts
+pub mod VersionTexts

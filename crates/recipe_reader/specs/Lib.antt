@@ -1,4 +1,5 @@
 pub mod Artifacts
+pub mod Candidates
 pub mod Dependencies
 pub mod Environment
 pub mod Found
@@ -6,8 +7,13 @@ pub mod Gathered
 pub mod Keys
 pub mod Lifecycles
 pub mod Made
+pub mod Members
+pub mod OneRecipe
 pub mod Platforms
 pub mod Reasons
 pub mod Recipes
+pub mod Refused
+pub mod Searches
+pub mod Sets
 pub mod Spelled
 pub mod Steps

@@ -3,6 +3,8 @@
 #![tactic(auto)]
 
 mod artifact;
+mod candidate;
+mod candidates;
 mod config;
 mod dependency;
 mod digest;
@@ -10,9 +12,11 @@ mod environment;
 mod fault;
 mod head;
 mod keys;
+mod laws;
 mod lifecycle;
 mod limit;
 mod manifest;
+mod nucleus;
 mod parts;
 mod platform;
 mod read;
@@ -20,7 +24,12 @@ mod reason;
 mod recipe;
 mod skip;
 mod step;
+mod wanted;
 
+pub use candidate::Candidate;
+pub use candidates::{AddRefusal, Candidates};
 pub use fault::{Key, RecipeFault};
+pub use laws::recipe_laws;
 pub use nuc_base::{Artifact, Platform};
 pub use recipe::{Dependency, Recipe, Skip, StepDef};
+pub use wanted::Wanted;

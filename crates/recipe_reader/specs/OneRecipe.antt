@@ -1,0 +1,29 @@
+-- What two readings of the same bytes have in common.
+use Rattle.std.specs.Prelude.{◌≡◌, ℕ, List, is_some, Ok, Err}
+use Rattle.nuc_base.specs.declared.kinds.Step.{Step}
+use Rattle.nuc_base.specs.declared.platform.Platform.{Platform}
+use Rattle.recipe_reader.specs.Recipes.{ReadsRecipe}
+use Rattle.recipe_reader.specs.Steps.{step_of}
+use Rattle.recipe_reader.specs.declared.recipe.Recipe.{Recipe}
+use Rattle.recipe_reader.specs.declared.fault.RecipeFault.{RecipeFault}
+use Rattle.recipe_reader.specs.declared.fault.RecipeFault.TheVariants.{NoMemory}
+
+-- the bytes are a recipe, which says this for the platform
+abbrev pub Reads : List ℕ → Platform → Recipe → Type 0
+Reads bytes platform recipe = ReadsRecipe bytes platform (Ok recipe)
+
+-- the same component with the same dependencies and files, and steps for the same parts of its life
+pub record AreAlike (r s : Recipe) : Type 0 where
+  pub name : r.name ≡ s.name
+  pub version : r.version ≡ s.version
+  pub dependencies : r.dependencies ≡ s.dependencies
+  pub steps : (step : Step) → is_some (step_of r step) ≡ is_some (step_of s step)
+  pub artifacts : r.artifacts ≡ s.artifacts
+
+-- bytes are one recipe at most for a platform
+abbrev pub IsOneRecipe : Type 0
+IsOneRecipe = (bytes : List ℕ) (platform : Platform) (r s : Recipe) → Reads bytes platform r → Reads bytes platform s → AreAlike r s
+
+-- what is a recipe has no fault
+abbrev pub HasNoFault : Type 0
+HasNoFault = (bytes : List ℕ) (platform : Platform) (r : Recipe) (f : RecipeFault) → Reads bytes platform r → ReadsRecipe bytes platform (Err f) → f ≡ NoMemory

@@ -1,0 +1,9 @@
+use crate::recipe::Recipe;
+use nuc_base::Bytes;
+
+/// A recipe that may be chosen, with the bytes that it was read from.
+#[derive(Drop)]
+pub struct Candidate {
+    pub recipe: Recipe,
+    pub bytes: Bytes,
+}
