@@ -1,0 +1,131 @@
+//! The search: one decision at a time, the least required name first, its greatest version first.
+
+ghost use Rattle.std.specs.Prelude.{◌≡◌, ◌<◌, ◌^◌, ◌↔◌, ◌++◌, ◌∷◌, [], ℕ, List, Some, Err, length, IsTrue, IfOk};
+ghost use Rattle.std.specs.Bool.{MatchBool};
+ghost use Rattle.std.specs.List.{All};
+ghost use Rattle.recipe_reader.specs.Members.{members, IsRising};
+ghost use Rattle.recipe_reader.specs.Sets.{asked, name_of, IsPreferred, IsValid};
+ghost use Rattle.recipe_reader.specs.Searches.{IsConsistent, HasNone, IsBest};
+ghost use Rattle.recipe_reader.specs.Candidates.{AreCandidates};
+
+use crate::cycles::stays_acyclic;
+use crate::places::{is_same, name_at};
+use crate::required::next_name;
+use crate::suits::{suits_taken, suits_wanted};
+use nuc_base::{List, Name, NoMemory};
+use recipe_reader::{Candidate, Candidates, Wanted};
+use std::alloc::Global;
+
+/// Whether nothing stands against one place more, where nothing stands against those that are taken. Only the new place is looked at.
+fn fits(
+    alloc: Global,
+    candidates: &[Candidate],
+    wanted: &[Wanted],
+    taken: &[u32],
+    place: u32,
+) -> Result<bool, NoMemory>
+    requires count { length candidates.now < 2 ^ 32 }
+    requires taken { All (λ p. p < length candidates.now) taken.now }
+    requires place { place < length candidates.now }
+    requires consistent { IsConsistent (members candidates.now) (asked wanted.now) taken.now }
+    ensures { IfOk result (λ yes. IsTrue yes ↔ IsConsistent (members candidates.now) (asked wanted.now) (taken.now ++ place ∷ [])) }
+{
+    if !suits_wanted(candidates, wanted, place) {
+        return Ok(false);
+    }
+    if !suits_taken(candidates, taken, place) {
+        return Ok(false);
+    }
+    let acyclic = stays_acyclic(alloc, candidates, taken, place)?;
+    Ok(acyclic)
+}
+
+/// Whether the place is of the name, and fits.
+fn is_choice(
+    alloc: Global,
+    candidates: &[Candidate],
+    wanted: &[Wanted],
+    taken: &[u32],
+    name: &Name,
+    place: u32,
+) -> Result<bool, NoMemory>
+    requires count { length candidates.now < 2 ^ 32 }
+    requires taken { All (λ p. p < length candidates.now) taken.now }
+    requires place { place < length candidates.now }
+    requires consistent { IsConsistent (members candidates.now) (asked wanted.now) taken.now }
+    ensures { IfOk result (λ yes. IsTrue yes ↔ ((name_of (members candidates.now) place ≡ Some name.now)
+        × IsConsistent (members candidates.now) (asked wanted.now) (taken.now ++ place ∷ []))) }
+{
+    if !is_same(name_at(candidates, place), name) {
+        return Ok(false);
+    }
+    let fitting = fits(alloc, candidates, wanted, taken, place)?;
+    Ok(fitting)
+}
+
+/// Goes on from the decided places in `path` to the best consistent walk, if there is one; else they stay as they are.
+fn search(
+    alloc: Global,
+    candidates: &[Candidate],
+    wanted: &[Wanted],
+    path: &mut Vec<u32>,
+) -> Result<bool, NoMemory>
+    requires count { length candidates.now < 2 ^ 32 }
+    requires rising { IsRising (members candidates.now) }
+    requires places { All (λ p. p < length candidates.now) path.old.items }
+    requires consistent { IsConsistent (members candidates.now) (asked wanted.now) path.old.items }
+    ensures { IfOk result (λ found. MatchBool found
+        (IsBest (members candidates.now) (asked wanted.now) path.old.items path.new.items)
+        (HasNone (members candidates.now) (asked wanted.now) path.old.items × (path.new.items ≡ path.old.items))) }
+{
+    let Some(name) = next_name(candidates, wanted, path) else {
+        return Ok(true);
+    };
+    for place in (0..candidates.len()).rev() {
+        if is_choice(alloc, candidates, wanted, path, name, place as u32)? {
+            path.push(place as u32)?;
+            if search(alloc, candidates, wanted, path)? {
+                return Ok(true);
+            }
+            let _ = path.pop();
+        }
+    }
+    Ok(false)
+}
+
+/// Why no set was chosen.
+#[derive(Debug, Drop)]
+pub enum ResolveFault {
+    /// No set of the candidates is valid.
+    NoVersion,
+    NoMemory,
+}
+
+/// The preferred valid set of the candidates for what is wanted, as places in their list, rising. `NoVersion` comes exactly
+/// where no set is valid, and `NoMemory` where memory was refused.
+///
+/// A set has one version of a name at most, meets each wanted range and each range that a member depends on, softly or hard,
+/// has nothing that is not needed, and has no cycle of dependencies. The preferred one takes again and again the least
+/// required name, in byte order, and has its greatest version that leads to an end.
+///
+/// The memory is linear in the candidates and their dependencies. The time may grow exponentially with the names that
+/// clash far down; where nothing clashes it is that of one look at the decided places for each decision.
+pub fn resolve(
+    alloc: Global,
+    candidates: &Candidates,
+    wanted: &List<Wanted>,
+) -> Result<List<u32>, ResolveFault>
+    ensures preferred { IfOk result (λ set. IsPreferred (members candidates.now) (asked wanted.now) set) }
+    ensures none { result ≡ Err ResolveFault.NoVersion → (s : List ℕ) → IsValid (members candidates.now) (asked wanted.now) s → ⊥ }
+{
+    let list = candidates.list().as_slice();
+    let mut path = Vec::new(alloc);
+    match search(alloc, list, wanted.as_slice(), &mut path) {
+        Ok(true) => {
+            path.sort_unstable();
+            Ok(List::new(path))
+        }
+        Ok(false) => Err(ResolveFault::NoVersion),
+        Err(_) => Err(ResolveFault::NoMemory),
+    }
+}
