@@ -1,0 +1,6 @@
+pub mod Elements
+pub mod Ending
+pub mod Joining
+pub mod Owning
+pub mod Readings
+pub mod Sifting

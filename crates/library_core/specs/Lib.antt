@@ -1,0 +1,6 @@
+pub mod Faults
+pub mod Gathered
+pub mod Library
+pub mod Memory
+pub mod SoFar
+pub mod Sources
