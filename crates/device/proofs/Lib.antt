@@ -1,0 +1,14 @@
+pub mod Course
+pub mod Meeting
+pub mod Places
+pub mod Settling
+pub mod Indexing
+pub mod Joining
+pub mod Regular
+pub mod Marching
+pub mod PlanLoops
+pub mod PlanPlaces
+pub mod PlanEdges
+pub mod PlanWhole
+pub mod PlanLengths
+pub mod ScopeLoops

@@ -1,0 +1,282 @@
+-- A walk over the journal's entries.
+use Rattle.std.proofs.Common.{◌≡◌, ◌≢◌, ℕ, ◌+◌, ◌≤◌, ◌<◌, Bool, true, false, List, [], ◌∷◌, ◌++◌, length, map, drop, Option, Some, None, refl, sym, ap, subst, ◌∙◌, append_assoc, arith, is_some, inl, inr, Err}
+use Rattle.std.specs.Prelude.{if◌then◌else◌, option_map, ◌&&◌, nat_lt}
+use Rattle.std.proofs.lemmas.Bool.{ltb-true, ltb-false}
+use Rattle.std.specs.Option.{IfSome, IsSome, IsSomeAnd}
+use Rattle.std.proofs.lemmas.Option.{none-some}
+use Rattle.std.specs.List.{AllByRecursion}
+use Rattle.std.specs.Int.{w32, to_be_bytes}
+use Rattle.std.proofs.lemmas.List.{length-append, drop_at, drop-drop, append-nil}
+use Rattle.gate_log.specs.Entries.{entry, joined, AllGood, ClosedAt}
+use Rattle.gate_log.specs.Place.{EntryAt}
+use Rattle.records.specs.Stored.{Plan, Record, Genesis, Accepted, BootBegun, BootEnded, Activating, StepFailed, Failing, Closed}
+use Rattle.records.specs.Layout.{Spelled}
+use Rattle.records.proofs.Layouts.{one_record}
+use Rattle.device.specs.declared.device.Device as code
+use Rattle.device.specs.declared.staged.Pending as code_pending
+use Rattle.device.specs.declared.fault.ReplayFault.{ReplayFault}
+use Rattle.device.specs.declared.fault.ReplayFault.TheVariants as fault
+use Rattle.device.specs.Devices.{Device, Pending, no_device, device_view, pending_view}
+use Rattle.records.specs.declared.record.Origin.{Origin}
+use Rattle.device.specs.Lawful.{Allowed, applied, MayAccept, MayBegin, MayEnd, MayActivate, MayFail, MayBreak, MayClose}
+use Rattle.device.specs.Standing.{Takes, Plays, place_behind, SpellsNoPlan, IsBehindAccepted, IsBadAt, LacksRoomAt, IsDamagedAt, Room, Replayed, TookEntry, most_bytes, room_of_plan}
+
+-- the walk is at this place, d is the device there, and behind its pending plan's entry is this place
+pub record Reached (payloads : List (List ℕ)) (file : List ℕ) (end at behind : ℕ) (d : Device) : Type 0 where
+  pub done : List (List ℕ)
+  pub rest : List (ℕ × List ℕ)
+  pub tail : List ℕ
+  pub good : AllGood rest
+  pub split : payloads ≡ done ++ map (λ e. e.1) rest
+  pub left : drop at file ≡ joined rest ++ 0 ∷ tail
+  pub at_is : at ≡ place_behind done
+  pub end_is : at + length (joined rest) ≡ end
+  pub plays : Plays no_device done d
+  pub behind_is : IfSome d.pending (λ q. IsBehindAccepted done behind)
+
+pub starts : (payloads : List (List ℕ)) (file : List ℕ) (end : ℕ) → ClosedAt file end payloads → Reached payloads file end 0 0 no_device
+starts payloads file end h = record {
+  done = [];
+  rest = h.entries;
+  tail = h.tail;
+  good = h.good;
+  split = sym h.payloads_are;
+  left = h.file_is;
+  at_is = refl;
+  end_is = omega (arith, h.end_is);
+  plays = refl;
+  behind_is = tt;
+}
+
+length-entry : (e : ℕ × List ℕ) → length (entry e) ≡ 5 + length e.1
+length-entry e = omega (arith, length-append (to_be_bytes w32 (length e.1)) e.1)
+
+-- what stands at a place before the end
+pub record Next (file : List ℕ) (end at : ℕ) (payloads done : List (List ℕ)) : Type 0 where
+  pub first : ℕ × List ℕ
+  pub others : List (ℕ × List ℕ)
+  pub tail : List ℕ
+  pub good : AllGood others
+  pub place : EntryAt file at end first
+  pub here : drop at file ≡ entry first ++ (joined others ++ 0 ∷ tail)
+  pub split : payloads ≡ done ++ first.1 ∷ map (λ e. e.1) others
+  pub end_is : at + (5 + length first.1) + length (joined others) ≡ end
+
+pub next : (payloads : List (List ℕ)) (file : List ℕ) (end at behind : ℕ) (d : Device) (r : Reached payloads file end at behind d) → at < end → Next file end at payloads r.done
+next payloads file end at behind d r lt = by r.rest r.good r.split r.left r.end_is
+  where
+    by : (rest : List (ℕ × List ℕ)) → AllGood rest → payloads ≡ r.done ++ map (λ e. e.1) rest → drop at file ≡ joined rest ++ 0 ∷ r.tail → at + length (joined rest) ≡ end → Next file end at payloads r.done
+    by [] good split left end_is = absurd (omega (arith, lt, end_is))
+    by (e ∷ es) good split left end_is =
+        let here = left ∙ append_assoc (entry e) (joined es) (0 ∷ r.tail) in
+        let end : at + (5 + length e.1) + length (joined es) ≡ end = omega (arith, end_is, length-append (entry e) (joined es), length-entry e) in
+        record {
+          first = e;
+          others = es;
+          tail = r.tail;
+          good = good.1;
+          place = record { good = good.0; more = joined es ++ 0 ∷ r.tail; file_is = here; within = omega (arith, end) };
+          here = here;
+          split = split;
+          end_is = end;
+        }
+
+plays_more : (ps : List (List ℕ)) (p : List ℕ) (d c e : Device) → Plays d ps c → Takes c p e → Plays d (ps ++ p ∷ []) e
+plays_more [] p d c e h t = (e, subst (λ x. Takes x p e) h t, refl)
+plays_more (q ∷ ps) p d c e h t = (h.0, h.1, plays_more ps p h.0 c e h.2 t)
+
+place_more : (ps : List (List ℕ)) (p : List ℕ) → place_behind (ps ++ p ∷ []) ≡ place_behind ps + (5 + length p)
+place_more [] p = omega arith
+place_more (q ∷ ps) p = omega (arith, place_more ps p)
+
+drop_sum : (i j : ℕ) (xs : List ℕ) → drop (i + j) xs ≡ drop j (drop i xs)
+drop_sum i j xs = sym (drop-drop j i xs)
+
+-- ---- the place behind the pending plan's entry
+
+no_plan_more : (ps : List (List ℕ)) (p : List ℕ) → AllByRecursion SpellsNoPlan ps → SpellsNoPlan p → AllByRecursion SpellsNoPlan (ps ++ p ∷ [])
+no_plan_more [] p h n = (n, tt)
+no_plan_more (q ∷ ps) p h n = (h.0, no_plan_more ps p h.1 n)
+
+still_behind : (done : List (List ℕ)) (p : List ℕ) (behind : ℕ) → SpellsNoPlan p → IsBehindAccepted done behind → IsBehindAccepted (done ++ p ∷ []) behind
+still_behind done p behind none b = record {
+  before = b.before;
+  payload = b.payload;
+  after = b.after ++ p ∷ [];
+  split = ap (λ ps. ps ++ p ∷ []) b.split ∙ append_assoc b.before (b.payload ∷ b.after) (p ∷ []);
+  plan = b.plan;
+  spelled = b.spelled;
+  last = no_plan_more b.after p b.last none;
+  place = b.place;
+}
+
+now_behind : (done : List (List ℕ)) (p : List ℕ) (to : ℕ) (plan : Plan) → Spelled p (Accepted plan) → to ≡ place_behind (done ++ p ∷ []) → IsBehindAccepted (done ++ p ∷ []) to
+now_behind done p to plan spelled is = record { before = done; payload = p; after = []; split = refl; plan = plan; spelled = spelled; last = tt; place = is }
+
+if_some : {A P : Type 0} (o : Option A) → P → IfSome o (λ _. P)
+if_some None p = tt
+if_some (Some x) p = p
+
+abbrev is_accepted : Record → Bool
+is_accepted (Genesis o) = false
+is_accepted (Accepted p) = true
+is_accepted (BootBegun n) = false
+is_accepted (BootEnded n e) = false
+is_accepted Activating = false
+is_accepted (StepFailed n s e) = false
+is_accepted (Failing n) = false
+is_accepted (Closed o) = false
+
+spells_none : (p : List ℕ) (r : Record) → Spelled p r → is_accepted r ≡ false → SpellsNoPlan p
+spells_none p r spelled other plan s = let is = ap is_accepted (one_record p r (Accepted plan) spelled s) in cc (is, other)
+
+nothing : {A : Type 0} (P : A → Type 0) (o : Option A) → o ≡ None → IsSomeAnd o P → ⊥
+nothing P None is h = h
+nothing P (Some x) is h = absurd cc
+
+-- a record that is taken with nothing pending, and leaves a plan pending, is its Accepted
+first_behind : (done : List (List ℕ)) (p : List ℕ) (to : ℕ) (d : Device) (r : Record) → d.pending ≡ None → Spelled p r → Allowed d r → to ≡ place_behind (done ++ p ∷ [])
+    → IfSome (applied d r).pending (λ q. IsBehindAccepted (done ++ p ∷ []) to)
+first_behind done p to d (Genesis o) none spelled allowed is = subst (λ (x : Option Pending). IfSome x (λ q. IsBehindAccepted (done ++ p ∷ []) to)) (sym none) tt
+first_behind done p to d (Accepted plan) none spelled allowed is = now_behind done p to plan spelled is
+first_behind done p to d (BootBegun n) none spelled allowed is = absurd (nothing (MayBegin n) d.pending none allowed)
+first_behind done p to d (BootEnded n e) none spelled allowed is = absurd (nothing (MayEnd n) d.pending none allowed)
+first_behind done p to d Activating none spelled allowed is = absurd (nothing MayActivate d.pending none allowed)
+first_behind done p to d (StepFailed n s e) none spelled allowed is = absurd (nothing (MayFail d.set n s e) d.pending none allowed)
+first_behind done p to d (Failing n) none spelled allowed is = absurd (nothing (MayBreak n) d.pending none allowed)
+first_behind done p to d (Closed o) none spelled allowed is = absurd (nothing (λ q. MayClose q o) d.pending none allowed)
+
+may_accept_alone : (d : Device) (p : Plan) (o : Option Origin) → IsSomeAnd o (MayAccept d p) → d.pending ≡ None
+may_accept_alone d p None h = absurd h
+may_accept_alone d p (Some o) h = h.0.0
+
+-- a record that is taken with a plan pending is no Accepted
+later_behind : (done : List (List ℕ)) (p : List ℕ) (behind : ℕ) (d : Device) (r : Record) → d.pending ≢ None → Spelled p r → Allowed d r → IsBehindAccepted done behind
+    → IsBehindAccepted (done ++ p ∷ []) behind
+later_behind done p behind d (Genesis o) some spelled allowed is = still_behind done p behind (spells_none p (Genesis o) spelled refl) is
+later_behind done p behind d (Accepted plan) some spelled allowed is = absurd (some (may_accept_alone d plan d.origin allowed))
+later_behind done p behind d (BootBegun n) some spelled allowed is = still_behind done p behind (spells_none p (BootBegun n) spelled refl) is
+later_behind done p behind d (BootEnded n e) some spelled allowed is = still_behind done p behind (spells_none p (BootEnded n e) spelled refl) is
+later_behind done p behind d Activating some spelled allowed is = still_behind done p behind (spells_none p Activating spelled refl) is
+later_behind done p behind d (StepFailed n s e) some spelled allowed is = still_behind done p behind (spells_none p (StepFailed n s e) spelled refl) is
+later_behind done p behind d (Failing n) some spelled allowed is = still_behind done p behind (spells_none p (Failing n) spelled refl) is
+later_behind done p behind d (Closed o) some spelled allowed is = still_behind done p behind (spells_none p (Closed o) spelled refl) is
+
+behind_goes_on : (done : List (List ℕ)) (p : List ℕ) (behind to : ℕ) (d c : Device) → Takes d p c → to ≡ place_behind (done ++ p ∷ []) → IfSome d.pending (λ q. IsBehindAccepted done behind)
+    → IfSome c.pending (λ q. IsBehindAccepted (done ++ p ∷ []) (if is_some d.pending then behind else to))
+behind_goes_on done p behind to d c t is h =
+    subst (λ (x : Device). IfSome x.pending (λ q. IsBehindAccepted (done ++ p ∷ []) (if is_some d.pending then behind else to))) (sym t.lawful.leaves) (by d.pending refl h)
+  where
+    by : (o : Option Pending) → d.pending ≡ o → IfSome o (λ q. IsBehindAccepted done behind) → IfSome (applied d t.entry).pending (λ q. IsBehindAccepted (done ++ p ∷ []) (if is_some o then behind else to))
+    by None none h = first_behind done p to d t.entry none t.spelled t.lawful.allowed is
+    by (Some q) some h = if_some (applied d t.entry).pending (later_behind done p behind d t.entry (λ none. let both : None ≡ Some q = sym none ∙ some in none-some q both) t.spelled t.lawful.allowed h)
+
+-- ---- the walk
+
+goes_on : (payloads : List (List ℕ)) (file : List ℕ) (end at behind to : ℕ) (d c : Device) (r : Reached payloads file end at behind d) (n : Next file end at payloads r.done)
+    → to ≡ at + 5 + length n.first.1 → Takes d n.first.1 c → Reached payloads file end to (if is_some d.pending then behind else to) c
+goes_on payloads file end at behind to d c r n to_is t =
+    let place : to ≡ place_behind (r.done ++ n.first.1 ∷ []) = omega (arith, to_is, r.at_is, place_more r.done n.first.1) in
+    record {
+      done = r.done ++ n.first.1 ∷ [];
+      rest = n.others;
+      tail = n.tail;
+      good = n.good;
+      split = n.split ∙ sym (append_assoc r.done (n.first.1 ∷ []) (map (λ e. e.1) n.others));
+      left =
+          let step : to ≡ at + length (entry n.first) = omega (arith, to_is, length-entry n.first) in
+          ap (λ k. drop k file) step ∙ drop_sum at (length (entry n.first)) file ∙ ap (drop (length (entry n.first))) n.here ∙ drop_at (entry n.first) (joined n.others ++ 0 ∷ n.tail) (length (entry n.first)) refl;
+      at_is = place;
+      end_is = omega (arith, to_is, n.end_is);
+      plays = plays_more r.done n.first.1 no_device d c r.plays t;
+      behind_is = behind_goes_on r.done n.first.1 behind to d c t place r.behind_is;
+    }
+
+is_bad : (payloads : List (List ℕ)) (file : List ℕ) (end at behind : ℕ) (d : Device) (r : Reached payloads file end at behind d) (n : Next file end at payloads r.done)
+    → ((c : Device) → Takes d n.first.1 c → ⊥) → IsBadAt payloads at
+is_bad payloads file end at behind d r n refused = record {
+  before = r.done;
+  bad = n.first.1;
+  behind = map (λ e. e.1) n.others;
+  split = n.split;
+  place = r.at_is;
+  reached = d;
+  plays = r.plays;
+  refused = refused;
+}
+
+-- the walk is at the end
+record Ended (payloads : List (List ℕ)) (behind : ℕ) (d : Device) : Type 0 where
+  plays : Plays no_device payloads d
+  behind_is : IfSome d.pending (λ q. IsBehindAccepted payloads behind)
+
+ended : (payloads : List (List ℕ)) (file : List ℕ) (end at behind : ℕ) (d : Device) → Reached payloads file end at behind d → end ≤ at → Ended payloads behind d
+ended payloads file end at behind d r le = by r.rest r.split r.end_is
+  where
+    by : (rest : List (ℕ × List ℕ)) → payloads ≡ r.done ++ map (λ e. e.1) rest → at + length (joined rest) ≡ end → Ended payloads behind d
+    by [] split end_is =
+        let all = sym (split ∙ append-nil r.done) in
+        record {
+          plays = subst (λ ps. Plays no_device ps d) all r.plays;
+          behind_is = subst (λ ps. IfSome d.pending (λ q. IsBehindAccepted ps behind)) all r.behind_is;
+        }
+    by (e ∷ es) split end_is = absurd (omega (arith, le, end_is, length-append (entry e) (joined es), length-entry e))
+
+is_all : (payloads : List (List ℕ)) (file : List ℕ) (end at behind : ℕ) (d : Device) → Reached payloads file end at behind d → end ≤ at → (IsSome d.pending → behind + room_of_plan ≤ most_bytes)
+    → Plays no_device payloads d × Room payloads d
+is_all payloads file end at behind d r le room = let e = ended payloads file end at behind d r le in (e.plays, by d.pending e.behind_is room)
+  where
+    by : (o : Option Pending) → IfSome o (λ q. IsBehindAccepted payloads behind) → (IsSome o → behind + room_of_plan ≤ most_bytes) → IfSome o (λ q. (at : ℕ) × IsBehindAccepted payloads at × (at + room_of_plan ≤ most_bytes))
+    by None is room = tt
+    by (Some q) is room = (behind, is, room refl)
+
+lacks_room : (payloads : List (List ℕ)) (file : List ℕ) (end at behind : ℕ) (d : Device) → Reached payloads file end at behind d → end ≤ at → IsSome d.pending → most_bytes < behind + room_of_plan → LacksRoomAt payloads behind
+lacks_room payloads file end at behind d r le some lacks =
+    let e = ended payloads file end at behind d r le in
+    record { reached = d; plays = e.plays; pending = some; behind = by d.pending some e.behind_is; lacks = lacks }
+  where
+    by : (o : Option Pending) → IsSome o → IfSome o (λ q. IsBehindAccepted payloads behind) → IsBehindAccepted payloads behind
+    by None some is = absurd cc
+    by (Some q) some is = is
+
+-- ---- as the code has the device
+
+shown : (o : Option code_pending.Pending) → is_some (option_map pending_view o) ≡ is_some o
+shown None = refl
+shown (Some q) = refl
+
+pub first_on : (payloads : List (List ℕ)) (file : List ℕ) (end at behind to : ℕ) (device : code.Device) (c : Device) (r : Reached payloads file end at behind (device_view device)) (n : Next file end at payloads r.done)
+    → to ≡ at + 5 + length n.first.1 → Takes (device_view device) n.first.1 c → is_some device.pending ≡ false → Reached payloads file end to to c
+first_on payloads file end at behind to device c r n to_is t none =
+    subst (λ (b : Bool). Reached payloads file end to (if b then behind else to) c) (shown device.pending ∙ none) (goes_on payloads file end at behind to (device_view device) c r n to_is t)
+
+pub later_on : (payloads : List (List ℕ)) (file : List ℕ) (end at behind to : ℕ) (device : code.Device) (c : Device) (r : Reached payloads file end at behind (device_view device)) (n : Next file end at payloads r.done)
+    → to ≡ at + 5 + length n.first.1 → Takes (device_view device) n.first.1 c → is_some device.pending ≡ true → Reached payloads file end to behind c
+later_on payloads file end at behind to device c r n to_is t some =
+    subst (λ (b : Bool). Reached payloads file end to (if b then behind else to) c) (shown device.pending ∙ some) (goes_on payloads file end at behind to (device_view device) c r n to_is t)
+
+pub fault_told : (payloads : List (List ℕ)) (file : List ℕ) (end at behind : ℕ) (d e : Device) (r : Reached payloads file end at behind d) (n : Next file end at payloads r.done) (f : ReplayFault)
+    → TookEntry d at n.first.1 e (Err f) → Replayed payloads (Err f)
+fault_told payloads file end at behind d e r n fault.Disk took = tt
+fault_told payloads file end at behind d e r n (fault.Damaged place) took = inl (subst (IsBadAt payloads) (sym took.0) (is_bad payloads file end at behind d r n took.1))
+fault_told payloads file end at behind d e r n fault.NoMemory took = tt
+
+both_true : (a b : Bool) → (a && b) ≡ true → (a ≡ true) × (b ≡ true)
+both_true true b h = (refl, h)
+both_true false b h = absurd cc
+
+first_true : (a b : Bool) → (a && b) ≡ false → a ≡ true → b ≡ false
+first_true true b h is = h
+first_true false b h is = absurd cc
+
+pub room_lacks : (payloads : List (List ℕ)) (file : List ℕ) (end at behind : ℕ) (device : code.Device) → Reached payloads file end at behind (device_view device) → end ≤ at
+    → (is_some device.pending && nat_lt most_bytes (behind + room_of_plan)) ≡ true → IsDamagedAt payloads behind
+room_lacks payloads file end at behind device r le lacks =
+    let h = both_true (is_some device.pending) (nat_lt most_bytes (behind + room_of_plan)) lacks in
+    inr (lacks_room payloads file end at behind (device_view device) r le (shown device.pending ∙ h.0) (ltb-true most_bytes (behind + room_of_plan) h.1))
+
+pub has_room : (payloads : List (List ℕ)) (file : List ℕ) (end at behind : ℕ) (device : code.Device) → Reached payloads file end at behind (device_view device) → end ≤ at
+    → (is_some device.pending && nat_lt most_bytes (behind + room_of_plan)) ≡ false → Plays no_device payloads (device_view device) × Room payloads (device_view device)
+has_room payloads file end at behind device r le room =
+    is_all payloads file end at behind (device_view device) r le
+    (λ some. ltb-false most_bytes (behind + room_of_plan) (first_true (is_some device.pending) (nat_lt most_bytes (behind + room_of_plan)) room (sym (shown device.pending) ∙ some)))

@@ -1,0 +1,259 @@
+-- A plan by its parts in memory.
+use Rattle.std.proofs.Common.{◌≡◌, ℕ, ◌<◌, Bool, IsTrue, ◌↔◌, List, [], ◌∷◌, length, map, get_or, IsSome, Result, Ok, Err, IfOk, refl, sym, ap, subst, ◌∙◌, arith, inl, inr}
+use Rattle.std.specs.List.{All, AllByRecursion, AllZip, Contains}
+use Rattle.std.specs.Prelude.{Option, is_some}
+use Rattle.std.proofs.lemmas.List.{length-map}
+use Rattle.std.proofs.lemmas.List.Elements.{Contains-get_or, All-map, All-from_recursion, recursion_from_All}
+use Rattle.nuc_base.specs.Leads.{Leads}
+use Rattle.nuc_base.specs.declared.platform.Platform.{Platform}
+use Rattle.nuc_base.specs.declared.kinds.Step.TheVariants.{Bootstrap}
+use Rattle.nuc_base.proofs.Leading.{leads_more}
+use Rattle.nuc_base.proofs.Lists.{in_here, in_there, in_nil, in_cons}
+use Rattle.tree_core.specs.Regular.{IsRegular}
+use Rattle.recipe_reader.specs.OneRecipe.{Reads, AreAlike, IsOneRecipe}
+use Rattle.recipe_reader.specs.declared.recipe.Recipe.{Recipe}
+use Rattle.records.specs.Stored.{Item, item_view, plan_view}
+use Rattle.records.specs.declared.record.Item as code
+use Rattle.records.specs.declared.record.Plan as code_plan
+use Rattle.device.specs.Plans.{AreRegularItems, Rise, item_name, HasRecipe, HasConfig, IsHeldFor, IsRecipeOf, IsSupplied, NeedsByName, IsBoot, IsPlan}
+use Rattle.device.specs.PlanNeeds.{names_of, IsRegularAt, HasConfigAt, HasRecipeAt, IsRecipeAt, IsListed, StandsAt, IsMetIn, AreMet, NeedsIn, FitsTogether, IsBootIn}
+use Rattle.device.proofs.PlanPlaces.{one_place, element, Pair, pair_at, Seen, seen, shown, stands, long}
+
+-- ---- all of a list
+
+pub all_contained : {A : Type 0} (P : A → Type 0) (xs : List A) → ((x : A) → Contains xs x → P x) → AllByRecursion P xs
+all_contained P [] f = tt
+all_contained P (x ∷ xs) f = (f x (in_here x xs), all_contained P xs (λ y h. f y (in_there x xs y h)))
+
+pub each_of : {A : Type 0} (P : A → Type 0) (xs : List A) (x : A) → AllByRecursion P xs → Contains xs x → P x
+each_of P [] x a h = absurd (in_nil x h)
+each_of P (y ∷ xs) x a h = elim (in_cons y xs x h) [ inl e ↦ subst P e a.0 | inr more ↦ each_of P xs x a.1 more ]
+
+pub each_along : {A : Type 0} (P Q : A → Type 0) (xs : List A) → ((x : A) → P x → Q x) → AllByRecursion P xs → AllByRecursion Q xs
+each_along P Q [] f a = tt
+each_along P Q (x ∷ xs) f a = (f x a.0, each_along P Q xs f a.1)
+
+-- what holds of the items as they are seen, and back
+pub all_seen : {A B : Type 0} (f : A → B) (P : B → Type 0) (xs : List A) → AllByRecursion (λ x. P (f x)) xs → AllByRecursion P (map f xs)
+all_seen f P [] a = tt
+all_seen f P (x ∷ xs) a = (a.0, all_seen f P xs a.1)
+
+pub all_back : {A B : Type 0} (f : A → B) (P : B → Type 0) (xs : List A) → AllByRecursion P (map f xs) → AllByRecursion (λ x. P (f x)) xs
+all_back f P [] a = tt
+all_back f P (x ∷ xs) a = (a.0, all_back f P xs a.1)
+
+pub names_seen : (items : List code.Item) → map item_name (map item_view items) ≡ names_of items
+names_seen [] = refl
+names_seen (i ∷ items) = ap (λ ns. i.name ∷ ns) (names_seen items)
+
+has_recipes : (platform : Platform) (items : List code.Item) (recipes : List Recipe) → AllZip (IsRecipeAt platform) items recipes → AllByRecursion (HasRecipeAt platform) items
+has_recipes platform [] recipes z = tt
+has_recipes platform (i ∷ items) [] z = absurd z
+has_recipes platform (i ∷ items) (r ∷ recipes) z = ((r, z.0), has_recipes platform items recipes z.1)
+
+some_too : {A B : Type 0} (x : Option A) (y : Option B) → is_some x ≡ is_some y → IsSome x → IsSome y
+some_too x y e h = sym e ∙ h
+
+module _ (one : IsOneRecipe) (platform : Platform) (items : List code.Item) (recipes : List Recipe) (z : AllZip (IsRecipeAt platform) items recipes) where
+  abbrev pub vs : List Item
+  vs = map item_view items
+
+  -- the recipe beside an item that is seen is like any that its bytes are
+  pair : (item : Item) (s : Seen items item) → Pair (IsRecipeAt platform) items recipes s.at
+  pair item s = pair_at (IsRecipeAt platform) items recipes s.at z s.below
+
+  alike : (item : Item) (s : Seen items item) (recipe : Recipe) → Reads item.recipe platform recipe → AreAlike recipe (pair item s).other
+  alike item s recipe reads =
+      let p = pair item s in
+      let is : item_view p.one ≡ item = ap item_view (sym (p.one_is p.one)) ∙ s.is p.one in
+      one item.recipe platform recipe p.other reads (subst (λ (i : Item). Reads i.recipe platform p.other) is p.both.reads)
+
+  -- an item and its recipe, by the place
+  pub record Placed (at : ℕ) : Type 0 where
+    pub item : Item
+    pub is_one : Contains vs item
+    pub recipe : Recipe
+    pub reads : Reads item.recipe platform recipe
+    pub is : (d : Recipe) → get_or recipes at d ≡ recipe
+    pub name : (n : List ℕ) → StandsAt items n at → item.name ≡ n
+
+  placed : (at : ℕ) → at < length items → Placed at
+  placed at below =
+      let p = pair_at (IsRecipeAt platform) items recipes at z below in
+      record {
+        item = item_view p.one;
+        is_one = subst (λ (i : code.Item). Contains vs (item_view i)) (p.one_is p.one) (shown items at p.one below);
+        recipe = p.other;
+        reads = p.both.reads;
+        is = p.other_is;
+        name = λ n s. ap (λ (i : code.Item). i.name) (sym (p.one_is p.one)) ∙ s.named p.one;
+      }
+
+  -- ---- needs
+
+  by_place : (a b : List ℕ) → NeedsByName platform vs a b → NeedsIn items recipes a b
+  by_place a b n =
+      let s = seen items n.item n.is_one in
+      let like = alike n.item s n.names.recipe n.names.reads in
+      record {
+        at = s.at;
+        stands = stands items n.item a s n.from;
+        dependency = n.dependency;
+        named = λ d. subst (λ (r : Recipe). Contains r.dependencies n.dependency) (sym ((pair n.item s).other_is d)) (subst (λ ds. Contains ds n.dependency) like.dependencies n.names.named);
+        to = n.to;
+      }
+
+  by_name : (a b : List ℕ) → NeedsIn items recipes a b → NeedsByName platform vs a b
+  by_name a b n =
+      let p = placed n.at n.stands.below in
+      record {
+        item = p.item;
+        is_one = p.is_one;
+        from = p.name a n.stands;
+        dependency = n.dependency;
+        names = record { recipe = p.recipe; reads = p.reads; named = subst (λ (r : Recipe). Contains r.dependencies n.dependency) (p.is p.recipe) (n.named p.recipe) };
+        to = n.to;
+      }
+
+  -- ---- dependencies that are met
+
+  recipe_met : AllByRecursion (AreMet items) recipes → (at : ℕ) (d : Recipe) → at < length recipes → AreMet items (get_or recipes at d)
+  recipe_met met at d below = each_of (AreMet items) recipes (get_or recipes at d) met (Contains-get_or recipes at d below)
+
+  supplied_each : AllByRecursion (AreMet items) recipes → (item : Item) → Contains vs item → IsSupplied platform vs item
+  supplied_each met item h = λ d n.
+      let s = seen items item h in
+      let like = alike item s n.recipe n.reads in
+      let p = pair item s in
+      let same = long (IsRecipeAt platform) items recipes z in
+      let below = s.below in
+      let m = subst (λ (r : Recipe). AreMet items r) (p.other_is p.other) (recipe_met met s.at p.other (omega (arith, same, below))) in
+      each_of (IsMetIn items) p.other.dependencies d m (subst (λ ds. Contains ds d) like.dependencies n.named)
+
+  supplied : AllByRecursion (AreMet items) recipes → AllByRecursion (IsSupplied platform vs) vs
+  supplied met = all_contained (IsSupplied platform vs) vs (supplied_each met)
+
+  met_each : AllByRecursion (IsSupplied platform vs) vs → (recipe : Recipe) → Contains recipes recipe → AreMet items recipe
+  met_each given recipe h =
+      let same = long (IsRecipeAt platform) items recipes z in
+      let under = h.1 in
+      let p = placed h.0 (omega (arith, same, under)) in
+      let is : recipe ≡ p.recipe = sym h.2 ∙ p.is recipe in
+      let supply : IsSupplied platform vs p.item = each_of (IsSupplied platform vs) vs p.item given p.is_one in
+      subst (λ (r : Recipe). AreMet items r) (sym is)
+      (all_contained (IsMetIn items) p.recipe.dependencies (λ d c. supply d (record { recipe = p.recipe; reads = p.reads; named = c })))
+
+  met : AllByRecursion (IsSupplied platform vs) vs → AllByRecursion (AreMet items) recipes
+  met given = all_contained (AreMet items) recipes (met_each given)
+
+  -- ---- boots
+
+  boot : (n : List ℕ) → IsBootIn items recipes n → IsBoot platform vs n
+  boot n b =
+      let p = placed b.at b.stands.below in
+      record {
+        item = p.item;
+        is_one = p.is_one;
+        named = p.name n b.stands;
+        recipe = p.recipe;
+        reads = p.reads;
+        step = subst (λ (r : Recipe). IsSome r.bootstrap) (p.is p.recipe) (b.step p.recipe);
+      }
+
+  boot_in : (n : List ℕ) → IsBoot platform vs n → IsBootIn items recipes n
+  boot_in n b =
+      let s = seen items b.item b.is_one in
+      let like = alike b.item s b.recipe b.reads in
+      record {
+        at = s.at;
+        stands = stands items b.item n s b.named;
+        step = λ d. subst (λ (r : Recipe). IsSome r.bootstrap) (sym ((pair b.item s).other_is d)) (some_too b.recipe.bootstrap (pair b.item s).other.bootstrap (like.steps Bootstrap) b.step);
+      }
+
+  -- ---- the whole
+
+  pub whole : (plan : code_plan.Plan) → plan.items ≡ items → IsListed plan → AllByRecursion HasConfigAt items → AllByRecursion (IsBootIn items recipes) plan.boots
+      → FitsTogether items recipes → IsPlan platform (plan_view plan)
+  whole plan same listed configs boots fits = record {
+    few_requirements = listed.few_requirements;
+    requirements_rise = listed.requirements_rise;
+    few_items = let few = listed.few_items in let n = length-map plan.items item_view in omega (arith, few, n);
+    items_rise = subst Rise (sym (names_seen plan.items)) listed.items_rise;
+    recipes = subst (λ is. AllByRecursion (HasRecipe platform) (map item_view is)) (sym same) (all_seen item_view (HasRecipe platform) items (has_recipes platform items recipes z));
+    configs = subst (λ is. AllByRecursion HasConfig (map item_view is)) (sym same) (all_seen item_view HasConfig items configs);
+    supplied = subst (λ is. AllByRecursion (IsSupplied platform (map item_view is)) (map item_view is)) (sym same) (supplied fits.met);
+    acyclic = subst (λ is. (n : List ℕ) → Leads (NeedsByName platform (map item_view is)) n n → ⊥) (sym same) (λ n m. fits.acyclic n (leads_more {R = NeedsByName platform vs} {S = NeedsIn items recipes} by_place m));
+    few_boots = listed.few_boots;
+    boots_differ = listed.boots_differ;
+    boots = subst (λ is. AllByRecursion (IsBoot platform (map item_view is)) plan.boots) (sym same) (each_along (IsBootIn items recipes) (IsBoot platform vs) plan.boots boot boots);
+  }
+
+  pub plan_boots : (plan : code_plan.Plan) → plan.items ≡ items → IsPlan platform (plan_view plan) → AllByRecursion (IsBootIn items recipes) plan.boots
+  plan_boots plan same is =
+      each_along (IsBoot platform vs) (IsBootIn items recipes) plan.boots boot_in (subst (λ is. AllByRecursion (IsBoot platform (map item_view is)) plan.boots) same is.boots)
+
+  pub plan_fits : (plan : code_plan.Plan) → plan.items ≡ items → IsPlan platform (plan_view plan) → FitsTogether items recipes
+  plan_fits plan same is = record {
+    met = met (subst (λ is. AllByRecursion (IsSupplied platform (map item_view is)) (map item_view is)) same is.supplied);
+    acyclic = λ n m. (subst (λ is. (n : List ℕ) → Leads (NeedsByName platform (map item_view is)) n n → ⊥) same is.acyclic) n (leads_more {R = NeedsIn items recipes} {S = NeedsByName platform vs} by_name m);
+  }
+
+-- a recipe that is like the item's is the item's, and where it is not there is none
+alike_is : (platform : Platform) (item : Item) (r s : Recipe) → Reads item.recipe platform r → AreAlike s r → IsRecipeOf platform item s → IsRecipeOf platform item r
+alike_is platform item r s reads like is = record {
+  reads = reads;
+  name = sym like.name ∙ is.name;
+  version = sym like.version ∙ is.version;
+  files = subst (λ files. AllZip IsHeldFor files item.artifacts) like.artifacts is.files;
+}
+
+pub not_recipe : IsOneRecipe → (platform : Platform) (item : Item) (r : Recipe) → Reads item.recipe platform r → (IsRecipeOf platform item r → ⊥) → HasRecipe platform item → ⊥
+not_recipe one platform item r reads bad h = bad (alike_is platform item r h.0 reads (one item.recipe platform h.0 r h.1.reads reads) h.1)
+
+-- ---- what a plan asks first
+
+pub plan_listed : (platform : Platform) (plan : code_plan.Plan) → IsPlan platform (plan_view plan) → IsListed plan
+plan_listed platform plan is = record {
+  few_requirements = is.few_requirements;
+  requirements_rise = is.requirements_rise;
+  few_items = let few = is.few_items in let n = length-map plan.items item_view in omega (arith, few, n);
+  items_rise = subst Rise (names_seen plan.items) is.items_rise;
+  few_boots = is.few_boots;
+  boots_differ = is.boots_differ;
+}
+
+pub plan_configs : (platform : Platform) (plan : code_plan.Plan) (items : List code.Item) → plan.items ≡ items → IsPlan platform (plan_view plan) → AllByRecursion HasConfigAt items
+plan_configs platform plan items same is = subst (AllByRecursion HasConfigAt) same (all_back item_view HasConfig plan.items is.configs)
+
+pub plan_recipes : (platform : Platform) (plan : code_plan.Plan) (items : List code.Item) → plan.items ≡ items → IsPlan platform (plan_view plan) → AllByRecursion (HasRecipeAt platform) items
+plan_recipes platform plan items same is = subst (AllByRecursion (HasRecipeAt platform)) same (all_back item_view (HasRecipe platform) plan.items is.recipes)
+
+-- ---- an answer that speaks of another fact
+
+pub answers : {E : Type 0} (r : Result Bool E) (P Q : Type 0) → (P → Q) → (Q → P) → IfOk r (λ b. IsTrue b ↔ P) → IfOk r (λ b. IsTrue b ↔ Q)
+answers (Ok b) P Q f g h = (λ e. f (h.0 e), λ q. h.1 (g q))
+answers (Err e) P Q f g h = tt
+
+-- ---- the boot of a name
+
+pub boot_answer : (items : List code.Item) (recipes : List Recipe) (n : List ℕ) (at : ℕ) (r : Recipe) (b : Bool) → Rise (names_of items) → length recipes ≡ length items → StandsAt items n at
+    → b ≡ is_some (get_or recipes at r).bootstrap → IsTrue b ↔ IsBootIn items recipes n
+boot_answer items recipes n at r b rise same s e =
+    let below = s.below in
+    let el = element recipes at (omega (arith, same, below)) in (
+      λ yes. record { at = at; stands = s; step = λ d. subst (λ (q : Recipe). IsSome q.bootstrap) (el.1 r ∙ sym (el.1 d)) (sym e ∙ yes) },
+      λ h.
+          let one = one_place items n h.at at rise h.stands s in
+          e ∙ subst (λ k. IsSome (get_or recipes k r).bootstrap) one (h.step r),
+    )
+
+-- regular items are regular as they are seen, and back
+pub regular_seen : (items : List code.Item) → All IsRegularAt items → AreRegularItems (map item_view items)
+regular_seen items h = All-map (λ (i : Item). IsRegular i.config) item_view items h
+
+regular_by : (items : List code.Item) → AllByRecursion (λ (i : Item). IsRegular i.config) (map item_view items) → AllByRecursion IsRegularAt items
+regular_by [] h = tt
+regular_by (i ∷ items) h = (h.0, regular_by items h.1)
+
+pub regular_back : (items : List code.Item) → AreRegularItems (map item_view items) → All IsRegularAt items
+regular_back items h = All-from_recursion IsRegularAt items (regular_by items (recursion_from_All (λ (i : Item). IsRegular i.config) (map item_view items) h))

@@ -1,0 +1,15 @@
+pub mod Grouped
+pub mod Closings
+pub mod Regularity
+pub mod Plans
+pub mod PlanSizes
+pub mod Scopes
+pub mod PlanNeeds
+pub mod Devices
+pub mod Lawful
+pub mod After
+pub mod Met
+pub mod Does
+pub mod Free
+pub mod Standing
+pub mod Faults

@@ -1,0 +1,125 @@
+-- What the record of an accepted plan asks of the plan itself.
+use Rattle.std.specs.Prelude.{◌≡◌, ℕ, ◌≤◌, List, length, map, IsSome, IfSome}
+use Rattle.std.specs.List.{All, AllByRecursion, AllZip, Contains, IsDistinct}
+use Rattle.std.specs.List.Sorted.{IsStrictlySortedBy}
+use Rattle.std.specs.Ordering.{nat_cmp}
+use Rattle.std.specs.Cmp.Lexicographic.{slice_cmp}
+use Rattle.std.specs.Str.{bytes_eq}
+use Rattle.serde_json.specs.Data.{Data}
+use Rattle.serde_json.specs.Written.{compact_text}
+use Rattle.nuc_base.specs.Leads.{Leads}
+use Rattle.nuc_base.specs.declared.artifact.Artifact.{Artifact}
+use Rattle.nuc_base.specs.declared.platform.Platform.{Platform}
+use Rattle.npm_ranges.specs.Ranges.{Meets}
+use Rattle.tree_core.specs.Parts.{IsObject}
+use Rattle.tree_core.specs.Regular.{IsRegular}
+use Rattle.recipe_reader.specs.OneRecipe.{Reads}
+use Rattle.recipe_reader.specs.declared.recipe.Dependency.{Dependency}
+use Rattle.recipe_reader.specs.declared.recipe.Recipe.{Recipe}
+use Rattle.records.specs.Stored.{Item, Plan}
+use Rattle.records.specs.declared.record.Held.{Held}
+use Rattle.records.specs.declared.record.Requirement.{Requirement}
+
+-- ---- names
+
+abbrev pub item_name : Item → List ℕ
+item_name item = item.name
+
+abbrev pub requirement_name : Requirement → List ℕ
+requirement_name requirement = requirement.name
+
+-- the names rise strictly in byte order
+abbrev pub Rise : List (List ℕ) → Type 0
+Rise names = IsStrictlySortedBy (slice_cmp nat_cmp) names
+
+-- ---- an item and its recipe
+
+-- the file of the recipe, with the digest that the recipe gives where it gives one
+pub record IsHeldFor (artifact : Artifact) (held : Held) : Type 0 where
+  pub file : held.file ≡ artifact.file
+  pub digest : IfSome artifact.digest (λ d. held.digest ≡ d)
+
+-- the item's bytes are this recipe, which is one of its name, its version and its files in order
+pub record IsRecipeOf (platform : Platform) (item : Item) (recipe : Recipe) : Type 0 where
+  pub reads : Reads item.recipe platform recipe
+  pub name : recipe.name ≡ item.name
+  pub version : recipe.version ≡ item.version
+  pub files : AllZip IsHeldFor recipe.artifacts item.artifacts
+
+-- no recipe for the platform
+abbrev pub IsNoRecipe : Platform → List ℕ → Type 0
+IsNoRecipe platform bytes = (recipe : Recipe) → Reads bytes platform recipe → ⊥
+
+abbrev pub HasRecipe : Platform → Item → Type 0
+HasRecipe platform item = (recipe : Recipe) × IsRecipeOf platform item recipe
+
+-- an object whose text has at most 65,536 bytes
+pub record IsConfig (d : Data) : Type 0 where
+  pub is_object : IsObject d
+  pub short : length (compact_text d) ≤ 65536
+
+abbrev pub HasConfig : Item → Type 0
+HasConfig item = IsConfig item.config
+
+-- each configuration is a regular tree
+abbrev pub AreRegularItems : List Item → Type 0
+AreRegularItems items = All (λ item. IsRegular item.config) items
+
+-- ---- dependencies, hard and soft
+
+-- the item's recipe names the dependency
+pub record NamesDependency (platform : Platform) (item : Item) (dependency : Dependency) : Type 0 where
+  pub recipe : Recipe
+  pub reads : Reads item.recipe platform recipe
+  pub named : Contains recipe.dependencies dependency
+
+-- the item has the name, and a version in the range
+pub record IsMetBy (dependency : Dependency) (item : Item) : Type 0 where
+  pub name : item.name ≡ dependency.name
+  pub version : Meets item.version dependency.range
+
+-- one of the items meets the dependency
+pub record IsMet (items : List Item) (dependency : Dependency) : Type 0 where
+  pub item : Item
+  pub is_one : Contains items item
+  pub meets : IsMetBy dependency item
+
+-- whatever the item's recipe names as a dependency is met
+abbrev pub IsSupplied : Platform → List Item → Item → Type 0
+IsSupplied platform items item = (dependency : Dependency) → NamesDependency platform item dependency → IsMet items dependency
+
+-- an item of the first name has a dependency of the second
+pub record NeedsByName (platform : Platform) (items : List Item) (a b : List ℕ) : Type 0 where
+  pub item : Item
+  pub is_one : Contains items item
+  pub from : item.name ≡ a
+  pub dependency : Dependency
+  pub names : NamesDependency platform item dependency
+  pub to : dependency.name ≡ b
+
+-- ---- bootstraps
+
+-- the name of an item with a bootstrap step
+pub record IsBoot (platform : Platform) (items : List Item) (name : List ℕ) : Type 0 where
+  pub item : Item
+  pub is_one : Contains items item
+  pub named : item.name ≡ name
+  pub recipe : Recipe
+  pub reads : Reads item.recipe platform recipe
+  pub step : IsSome recipe.bootstrap
+
+-- ---- the whole
+
+-- That the boots are at most 128 follows from what is said of them below; it stands here for those who count them.
+pub record IsPlan (platform : Platform) (plan : Plan) : Type 0 where
+  pub few_requirements : length plan.requirements ≤ 128
+  pub requirements_rise : Rise (map requirement_name plan.requirements)
+  pub few_items : length plan.items ≤ 128
+  pub items_rise : Rise (map item_name plan.items)
+  pub recipes : AllByRecursion (HasRecipe platform) plan.items
+  pub configs : AllByRecursion HasConfig plan.items
+  pub supplied : AllByRecursion (IsSupplied platform plan.items) plan.items
+  pub acyclic : (name : List ℕ) → Leads (NeedsByName platform plan.items) name name → ⊥
+  pub few_boots : length plan.boots ≤ 128
+  pub boots_differ : IsDistinct bytes_eq plan.boots
+  pub boots : AllByRecursion (IsBoot platform plan.items) plan.boots

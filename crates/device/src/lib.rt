@@ -1,0 +1,40 @@
+//! The device: what the records of a journal leave, and what it means for a journal to stand for one.
+//!
+//! `specs/Lawful.antt` is the table: which records a device takes and what each changes, row by row. `specs/After.antt`
+//! says what remains where only accepted plans and their closings are looked at, and `specs/Standing.antt` for which
+//! device a journal stands.
+#![tactic(auto)]
+
+mod apply;
+mod closed;
+mod device;
+mod fault;
+mod group;
+mod groups;
+mod laws;
+mod plan_needs;
+mod plan_recipes;
+mod plan_sizes;
+mod plans;
+mod replaying;
+mod scopes;
+mod staged;
+mod steps;
+
+pub use closed::Closed;
+pub use device::Device;
+pub use fault::{ApplyFault, ReplayFault};
+pub use group::Group;
+pub use groups::Groups;
+pub use laws::{met_devices_stay_met, runs_give_the_plain_course};
+pub use plan_sizes::plans_are_short;
+pub use replaying::replay;
+pub use scopes::scope_of;
+pub use staged::{Pending, Stage};
+
+#[cfg(test)]
+mod plans_tests;
+#[cfg(test)]
+mod scopes_tests;
+#[cfg(test)]
+mod tests;

@@ -1,0 +1,167 @@
+//! Whether a plan is one that a device takes.
+ghost use Rattle.std.specs.Prelude.{◌≡◌, ◌↔◌, ◌≤◌, length, map, IsTrue, IfOk};
+ghost use Rattle.std.specs.List.{All, AllByRecursion, AllZip, IsDistinct, list_any};
+ghost use Rattle.std.specs.Str.{bytes_eq};
+ghost use Rattle.tree_core.specs.Regular.{IsRegular};
+ghost use Rattle.tree_core.specs.View.{view};
+ghost use Rattle.records.specs.Stored.{item_view, plan_view};
+ghost use Rattle.device.specs.Plans.{Rise, requirement_name, IsConfig, HasConfig, AreRegularItems, IsBoot, IsPlan};
+ghost use Rattle.device.specs.PlanNeeds.{names_of, HasConfigAt, IsRegularAt, IsRecipeAt, IsBootIn, IsListed, FitsTogether, FitsPlan};
+
+use crate::plan_needs::{is_acyclic, needs_of, place_of};
+use crate::plan_recipes::recipes_of;
+use dep_order::Edges;
+use nuc_base::{List, Name, NoMemory, Platform};
+use recipe_reader::{Recipe, recipe_laws};
+use records::{Item, Plan, Requirement};
+use std::alloc::Global;
+use tree_core::Tree;
+
+/// The most items, requirements and boots of a plan.
+const MOST: usize = 128;
+
+/// The most bytes of a configuration's text.
+const CONFIG_LIMIT: usize = 65_536;
+
+fn requirements_rise(requirements: &[Requirement]) -> bool
+    ensures { IsTrue result ↔ Rise (map requirement_name requirements.now) }
+{
+    requirements.is_sorted_by(|a, b| a.name < b.name)
+}
+
+fn items_rise(items: &[Item]) -> bool
+    ensures { IsTrue result ↔ Rise (names_of items.now) }
+{
+    items.is_sorted_by(|a, b| a.name < b.name)
+}
+
+fn has_name(names: &[Name], name: &Name) -> bool
+    ensures { result ≡ list_any (bytes_eq name.now) names.now }
+{
+    names.iter().any(|other| name == other)
+}
+
+/// Whether no name stands there twice.
+fn names_differ(names: &[Name]) -> bool
+    ensures { IsTrue result ↔ IsDistinct bytes_eq names.now }
+{
+    for (at, name) in names.iter().enumerate() {
+        if has_name(&names[at + 1..], name) {
+            return false;
+        }
+    }
+    true
+}
+
+/// Whether the lists of the plan are short and in order.
+fn is_listed(plan: &Plan) -> bool
+    ensures { IsTrue result ↔ IsListed plan.now }
+{
+    plan.requirements.len() <= MOST
+        && requirements_rise(plan.requirements.as_slice())
+        && plan.items.len() <= MOST
+        && items_rise(plan.items.as_slice())
+        && plan.boots.len() <= MOST
+        && names_differ(plan.boots.as_slice())
+}
+
+fn is_config(alloc: Global, config: &Tree) -> Result<bool, NoMemory>
+    requires { IsRegular (view config.now) }
+    ensures { IfOk result (λ b. IsTrue b ↔ IsConfig (view config.now)) }
+{
+    if !config.is_object() {
+        return Ok(false);
+    }
+    let text = config.write(alloc)?;
+    Ok(text.len() <= CONFIG_LIMIT)
+}
+
+/// Whether each item's configuration is an object with a short text.
+fn are_configs(alloc: Global, items: &[Item]) -> Result<bool, NoMemory>
+    requires { All IsRegularAt items.now }
+    ensures { IfOk result (λ b. IsTrue b ↔ AllByRecursion HasConfigAt items.now) }
+{
+    for item in items {
+        if !is_config(alloc, &item.config)? {
+            return Ok(false);
+        }
+    }
+    Ok(true)
+}
+
+/// Whether the name is that of an item with a bootstrap step.
+fn is_boot(items: &[Item], recipes: &[Recipe], name: &Name) -> bool
+    requires rise { Rise (names_of items.now) }
+    requires count { length recipes.now ≡ length items.now }
+    ensures { IsTrue result ↔ IsBootIn items.now recipes.now name.now }
+{
+    match place_of(items, name) {
+        Some(at) => recipes[at].bootstrap.is_some(),
+        None => false,
+    }
+}
+
+fn are_boots(items: &[Item], recipes: &[Recipe], names: &[Name]) -> bool
+    requires rise { Rise (names_of items.now) }
+    requires count { length recipes.now ≡ length items.now }
+    ensures { IsTrue result ↔ AllByRecursion (IsBootIn items.now recipes.now) names.now }
+{
+    for name in names {
+        if !is_boot(items, recipes, name) {
+            return false;
+        }
+    }
+    true
+}
+
+/// Whether the items meet the dependencies of their recipes, without a cycle.
+fn are_in_order(alloc: Global, items: &[Item], recipes: &[Recipe]) -> Result<bool, NoMemory>
+    requires rise { Rise (names_of items.now) }
+    requires few { length items.now ≤ 128 }
+    requires count { length recipes.now ≡ length items.now }
+    ensures { IfOk result (λ b. IsTrue b ↔ FitsTogether items.now recipes.now) }
+{
+    let Some(needs) = needs_of(alloc, items, recipes)? else {
+        return Ok(false);
+    };
+    let edges = Edges {
+        nodes: items.len() as u32,
+        needs: List::new(needs),
+    };
+    is_acyclic(alloc, &edges)
+}
+
+/// Whether the boots are such, and the items meet each other's needs.
+fn fits_together(alloc: Global, plan: &Plan, recipes: &[Recipe]) -> Result<bool, NoMemory>
+    requires rise { Rise (names_of plan.now.items) }
+    requires few { length plan.now.items ≤ 128 }
+    requires count { length recipes.now ≡ length plan.now.items }
+    ensures { IfOk result (λ b. IsTrue b ↔ FitsPlan plan.now recipes.now) }
+{
+    let items = plan.items.as_slice();
+    if !are_boots(items, recipes, plan.boots.as_slice()) {
+        return Ok(false);
+    }
+    are_in_order(alloc, items, recipes)
+}
+
+/// Whether a device of the platform takes the plan, as far as the plan itself tells: its names, recipes,
+/// configurations, dependencies and boots.
+pub(crate) fn is_plan(alloc: Global, platform: &Platform, plan: &Plan) -> Result<bool, NoMemory>
+    requires { AreRegularItems (plan_view plan.now).items }
+    ensures { IfOk result (λ b. IsTrue b ↔ IsPlan platform.now (plan_view plan.now)) }
+{
+    recipe_laws();
+    if !is_listed(plan) {
+        return Ok(false);
+    }
+    let items = plan.items.as_slice();
+    let are_configured = are_configs(alloc, items)?;
+    if !are_configured {
+        return Ok(false);
+    }
+    match recipes_of(alloc, platform, items)? {
+        Some(recipes) => fits_together(alloc, plan, recipes.as_slice()),
+        None => Ok(false),
+    }
+}

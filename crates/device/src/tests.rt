@@ -1,0 +1,365 @@
+use crate::{ApplyFault, Device, ReplayFault, replay};
+use disk_model::{Disk, MemoryDisk};
+use gate_log::{FindFault, Log};
+use nuc_base::Label;
+use std::alloc::Global;
+use std::test::Fail;
+
+/// Records by names for the tables below, each as the bytes that the journal holds of it.
+const RECORDS: &[(&str, &[u8])] = &[
+    (
+        "genesis",
+        b"\x11\0\0\0\x03/gg\0\0\0\x02t1\0\0\0\x062.12.0\0\0\0\x05linux\0\0\0\x05amd64",
+    ),
+    (
+        "first",
+        b"\x12\0\0\0\x02d0\0\0\0\x01g\0\0\0\0\0\0\0\0\x01\0\0\0\x01a\0\0\0\x051.0.0\0\0\0\x81{\"RecipeFormatVersion\":\"2020-01-25\",\"ComponentName\":\"a\",\"ComponentVersion\":\"1.0.0\",\"Manifests\":[{\"Lifecycle\":{\"bootstrap\":\"s\"}}]}\0\0\0\x02{}\0\0\0\0\0\0\0\0",
+    ),
+    (
+        "boots",
+        b"\x12\0\0\0\x02d1\0\0\0\x01g\0\0\0\0\x01\0\0\0\x01a\0\0\0\x01*\0\0\0\x02\0\0\0\x01a\0\0\0\x051.0.0\0\0\0\x81{\"RecipeFormatVersion\":\"2020-01-25\",\"ComponentName\":\"a\",\"ComponentVersion\":\"1.0.0\",\"Manifests\":[{\"Lifecycle\":{\"bootstrap\":\"s\"}}]}\0\0\0\x02{}\0\0\0\0\0\0\0\x01b\0\0\0\x051.0.0\0\0\0\x81{\"RecipeFormatVersion\":\"2020-01-25\",\"ComponentName\":\"b\",\"ComponentVersion\":\"1.0.0\",\"Manifests\":[{\"Lifecycle\":{\"bootstrap\":\"s\"}}]}\0\0\0\x02{}\0\0\0\0\0\0\0\x02\0\0\0\x01b\0\0\0\x01a",
+    ),
+    (
+        "boots-keep",
+        b"\x12\0\0\0\x02d1\0\0\0\x01g\x01\0\0\0\0\0\0\0\x02\0\0\0\x01a\0\0\0\x051.0.0\0\0\0\x81{\"RecipeFormatVersion\":\"2020-01-25\",\"ComponentName\":\"a\",\"ComponentVersion\":\"1.0.0\",\"Manifests\":[{\"Lifecycle\":{\"bootstrap\":\"s\"}}]}\0\0\0\x02{}\0\0\0\0\0\0\0\x01b\0\0\0\x051.0.0\0\0\0\x81{\"RecipeFormatVersion\":\"2020-01-25\",\"ComponentName\":\"b\",\"ComponentVersion\":\"1.0.0\",\"Manifests\":[{\"Lifecycle\":{\"bootstrap\":\"s\"}}]}\0\0\0\x02{}\0\0\0\0\0\0\0\x02\0\0\0\x01b\0\0\0\x01a",
+    ),
+    (
+        "bare",
+        b"\x12\0\0\0\x02d1\0\0\0\x01g\0\0\0\0\0\0\0\0\x02\0\0\0\x01a\0\0\0\x051.0.0\0\0\0\x81{\"RecipeFormatVersion\":\"2020-01-25\",\"ComponentName\":\"a\",\"ComponentVersion\":\"1.0.0\",\"Manifests\":[{\"Lifecycle\":{\"bootstrap\":\"s\"}}]}\0\0\0\x02{}\0\0\0\0\0\0\0\x01b\0\0\0\x051.0.0\0\0\0\x81{\"RecipeFormatVersion\":\"2020-01-25\",\"ComponentName\":\"b\",\"ComponentVersion\":\"1.0.0\",\"Manifests\":[{\"Lifecycle\":{\"bootstrap\":\"s\"}}]}\0\0\0\x02{}\0\0\0\0\0\0\0\0",
+    ),
+    (
+        "bare-keep",
+        b"\x12\0\0\0\x02d1\0\0\0\x01g\x01\0\0\0\0\0\0\0\x02\0\0\0\x01a\0\0\0\x051.0.0\0\0\0\x81{\"RecipeFormatVersion\":\"2020-01-25\",\"ComponentName\":\"a\",\"ComponentVersion\":\"1.0.0\",\"Manifests\":[{\"Lifecycle\":{\"bootstrap\":\"s\"}}]}\0\0\0\x02{}\0\0\0\0\0\0\0\x01b\0\0\0\x051.0.0\0\0\0\x81{\"RecipeFormatVersion\":\"2020-01-25\",\"ComponentName\":\"b\",\"ComponentVersion\":\"1.0.0\",\"Manifests\":[{\"Lifecycle\":{\"bootstrap\":\"s\"}}]}\0\0\0\x02{}\0\0\0\0\0\0\0\0",
+    ),
+    (
+        "other",
+        b"\x12\0\0\0\x02d2\0\0\0\x01h\0\0\0\0\0\0\0\0\x01\0\0\0\x01b\0\0\0\x051.0.0\0\0\0\x81{\"RecipeFormatVersion\":\"2020-01-25\",\"ComponentName\":\"b\",\"ComponentVersion\":\"1.0.0\",\"Manifests\":[{\"Lifecycle\":{\"bootstrap\":\"s\"}}]}\0\0\0\x02{}\0\0\0\0\0\0\0\0",
+    ),
+    (
+        "again",
+        b"\x12\0\0\0\x02d0\0\0\0\x01g\0\0\0\0\0\0\0\0\x01\0\0\0\x01b\0\0\0\x051.0.0\0\0\0\x81{\"RecipeFormatVersion\":\"2020-01-25\",\"ComponentName\":\"b\",\"ComponentVersion\":\"1.0.0\",\"Manifests\":[{\"Lifecycle\":{\"bootstrap\":\"s\"}}]}\0\0\0\x02{}\0\0\0\0\0\0\0\0",
+    ),
+    ("begin-a", b"\x13\0\0\0\x01a"),
+    ("begin-b", b"\x13\0\0\0\x01b"),
+    ("begin-c", b"\x13\0\0\0\x01c"),
+    ("end-a-0", b"\x14\0\0\0\x01a\0\0\0\0\0"),
+    ("end-a-100", b"\x14\0\0\0\x01a\0\0\0\0d"),
+    ("end-a-101", b"\x14\0\0\0\x01a\0\0\0\0e"),
+    ("end-a-1", b"\x14\0\0\0\x01a\0\0\0\0\x01"),
+    ("end-a-signal", b"\x14\0\0\0\x01a\x01"),
+    ("end-a-timeout", b"\x14\0\0\0\x01a\x02"),
+    ("end-a-notstarted", b"\x14\0\0\0\x01a\x03"),
+    ("end-a-lost", b"\x14\0\0\0\x01a\x04"),
+    ("end-b-0", b"\x14\0\0\0\x01b\0\0\0\0\0"),
+    ("end-b-100", b"\x14\0\0\0\x01b\0\0\0\0d"),
+    ("end-b-101", b"\x14\0\0\0\x01b\0\0\0\0e"),
+    ("end-b-1", b"\x14\0\0\0\x01b\0\0\0\0\x01"),
+    ("end-b-signal", b"\x14\0\0\0\x01b\x01"),
+    ("end-b-timeout", b"\x14\0\0\0\x01b\x02"),
+    ("end-b-notstarted", b"\x14\0\0\0\x01b\x03"),
+    ("end-b-lost", b"\x14\0\0\0\x01b\x04"),
+    ("activate", b"\x15"),
+    ("fail-a-install", b"\x16\0\0\0\x01a\x01\0\0\0\0\x01"),
+    ("fail-a-run", b"\x16\0\0\0\x01a\x02\0\0\0\0\x01"),
+    ("fail-a-startup", b"\x16\0\0\0\x01a\x03\0\0\0\0\x01"),
+    ("fail-a-shutdown", b"\x16\0\0\0\x01a\x04\0\0\0\0\x01"),
+    ("fail-a-recover", b"\x16\0\0\0\x01a\x05\0\0\0\0\x01"),
+    ("fail-a-bootstrap", b"\x16\0\0\0\x01a\x06\0\0\0\0\x01"),
+    ("fail-a", b"\x16\0\0\0\x01a\x03\x04"),
+    ("fail-b", b"\x16\0\0\0\x01b\x03\x04"),
+    ("fail-c", b"\x16\0\0\0\x01c\x03\x04"),
+    ("fail-a-code-0", b"\x16\0\0\0\x01a\x03\0\0\0\0\0"),
+    ("failing-a", b"\x17\0\0\0\x01a"),
+    ("failing-b", b"\x17\0\0\0\x01b"),
+    ("failing-c", b"\x17\0\0\0\x01c"),
+    ("close-successful", b"\x18\x01"),
+    ("close-rolled", b"\x18\x02"),
+    ("close-kept", b"\x18\x03"),
+    ("close-unable", b"\x18\x04"),
+];
+
+/// Histories, and records that are lawful after them.
+const LAWFUL: &[(&str, &str)] = &[
+    ("", "genesis"),
+    ("genesis", "first"),
+    ("genesis first activate close-successful", "boots"),
+    ("genesis first activate close-successful", "other"),
+    ("genesis boots", "begin-b"),
+    ("genesis boots begin-b end-b-0", "begin-a"),
+    ("genesis boots begin-b", "end-b-0"),
+    ("genesis boots begin-b", "end-b-100"),
+    ("genesis boots begin-b", "end-b-1"),
+    ("genesis boots begin-b end-b-101", "begin-a"),
+    ("genesis boots begin-b end-b-0 begin-a end-a-0", "activate"),
+    ("genesis bare", "activate"),
+    ("genesis bare activate", "fail-a-install"),
+    ("genesis bare activate", "fail-a-run"),
+    ("genesis bare activate fail-a fail-a", "fail-a-startup"),
+    ("genesis bare activate fail-a fail-a fail-a", "fail-b"),
+    (
+        "genesis first activate close-successful boots begin-b end-b-1 failing-b",
+        "fail-a",
+    ),
+    ("genesis boots begin-b end-b-signal", "failing-b"),
+    ("genesis bare activate fail-a fail-a fail-a", "failing-a"),
+    ("genesis bare activate fail-b fail-b fail-b", "failing-b"),
+    ("genesis bare activate", "close-successful"),
+    ("genesis bare activate fail-a fail-a", "close-successful"),
+    ("genesis boots-keep begin-b end-b-timeout", "close-kept"),
+    (
+        "genesis bare-keep activate fail-a fail-a fail-a",
+        "close-kept",
+    ),
+    (
+        "genesis boots begin-b end-b-notstarted failing-b",
+        "close-rolled",
+    ),
+    (
+        "genesis first activate close-successful boots begin-b end-b-lost failing-b fail-a fail-a fail-a",
+        "close-unable",
+    ),
+];
+
+/// Histories, and records that are not lawful after them, each for one condition of its row.
+const UNLAWFUL: &[(&str, &str)] = &[
+    // There is an origin.
+    ("genesis", "genesis"),
+    // No origin, a plan pending, an id that is closed.
+    ("", "first"),
+    ("genesis first", "other"),
+    ("genesis first activate close-successful", "again"),
+    // Nothing pending, not Booting, failed, another name, no boot left, begun.
+    ("genesis", "begin-b"),
+    ("genesis bare activate", "begin-b"),
+    ("genesis boots begin-b end-b-1", "begin-b"),
+    ("genesis boots", "begin-a"),
+    ("genesis boots begin-b end-b-0 begin-a end-a-0", "begin-a"),
+    ("genesis boots begin-b", "begin-b"),
+    // Nothing pending, not Booting, another name, not begun, failed.
+    ("genesis", "end-b-0"),
+    ("genesis bare activate", "end-b-0"),
+    ("genesis boots begin-b", "end-a-0"),
+    ("genesis boots", "end-b-0"),
+    ("genesis boots begin-b end-b-1", "end-b-0"),
+    ("genesis boots begin-b end-b-0", "end-a-0"),
+    // Nothing pending, not Booting, failed, a boot left.
+    ("genesis", "activate"),
+    ("genesis bare activate", "activate"),
+    ("genesis boots begin-b end-b-0 begin-a end-a-1", "activate"),
+    ("genesis boots begin-b end-b-0", "activate"),
+    // Nothing pending, Booting, not among the plan's items, three failures, another step, no failure.
+    ("genesis", "fail-a"),
+    ("genesis bare", "fail-a"),
+    ("genesis bare activate", "fail-c"),
+    ("genesis bare activate fail-a fail-a fail-a", "fail-a"),
+    ("genesis bare activate", "fail-a-shutdown"),
+    ("genesis bare activate", "fail-a-recover"),
+    ("genesis bare activate", "fail-a-bootstrap"),
+    ("genesis bare activate", "fail-a-code-0"),
+    // In Rolling: not in the set, though among the plan's items.
+    (
+        "genesis first activate close-successful boots begin-b end-b-1 failing-b",
+        "fail-b",
+    ),
+    // Nothing pending, another policy, Booting and not failed, another name, fewer failures, not the least, Rolling.
+    ("genesis", "failing-b"),
+    ("genesis boots-keep begin-b end-b-1", "failing-b"),
+    (
+        "genesis bare-keep activate fail-a fail-a fail-a",
+        "failing-a",
+    ),
+    ("genesis boots begin-b", "failing-b"),
+    ("genesis boots begin-b end-b-1", "failing-a"),
+    ("genesis bare activate fail-a fail-a", "failing-a"),
+    (
+        "genesis bare activate fail-b fail-b fail-b fail-a fail-a fail-a",
+        "failing-b",
+    ),
+    ("genesis boots begin-b end-b-1 failing-b", "failing-b"),
+    // Nothing pending, not Activating, a count of three.
+    ("genesis", "close-successful"),
+    ("genesis bare", "close-successful"),
+    (
+        "genesis bare activate fail-a fail-a fail-a",
+        "close-successful",
+    ),
+    // Another policy, Booting and not failed, no count of three.
+    ("genesis boots begin-b end-b-1", "close-kept"),
+    ("genesis boots-keep begin-b", "close-kept"),
+    ("genesis bare-keep activate fail-a fail-a", "close-kept"),
+    // Not Rolling, a count of three.
+    ("genesis bare activate", "close-rolled"),
+    (
+        "genesis first activate close-successful boots begin-b end-b-1 failing-b fail-a fail-a fail-a",
+        "close-rolled",
+    ),
+    // Not Rolling, no count of three.
+    ("genesis bare activate fail-a fail-a fail-a", "close-unable"),
+    ("genesis boots begin-b end-b-1 failing-b", "close-unable"),
+];
+
+/// The bytes of the record with this name, or none.
+fn record_named(name: &str) -> &'static [u8] {
+    for (other, bytes) in RECORDS {
+        if *other == name {
+            return bytes;
+        }
+    }
+    b""
+}
+
+/// Whether the record that the payload spells is lawful and is taken.
+fn is_taken(alloc: Global, device: &mut Device, payload: &[u8]) -> Result<bool, Fail> {
+    match device.take_payload(alloc, payload) {
+        Ok(()) => Ok(true),
+        Err(ApplyFault::NotLawful) => Ok(false),
+        Err(ApplyFault::NoMemory) => Err(ApplyFault::NoMemory)?,
+    }
+}
+
+/// Whether all records of the history are taken.
+fn are_taken(alloc: Global, device: &mut Device, history: &str) -> Result<bool, Fail> {
+    for name in history.split_whitespace() {
+        if !is_taken(alloc, device, record_named(name))? {
+            return Ok(false);
+        }
+    }
+    Ok(true)
+}
+
+/// How many rows of the table have a lawful history after which the record is lawful, or is not.
+fn count_rows(alloc: Global, table: &[(&str, &str)], lawful: bool) -> Result<usize, Fail> {
+    let mut count = 0usize;
+    for (history, name) in table {
+        let mut device = Device::empty(alloc);
+        if are_taken(alloc, &mut device, history)?
+            && is_taken(alloc, &mut device, record_named(name))? == lawful
+        {
+            count = count.saturating_add(1);
+        }
+    }
+    Ok(count)
+}
+
+#[test]
+fn each_row_is_lawful_where_its_conditions_hold(rt: HostRuntime) -> Result<(), Fail> {
+    let alloc = rt.alloc();
+    assert!(rt; count_rows(alloc, LAWFUL, true)? == LAWFUL.len());
+    assert!(rt; count_rows(alloc, UNLAWFUL, false)? == UNLAWFUL.len());
+    Ok(())
+}
+
+/// What is found of a journal: the first bad place, or how many deployments are closed.
+#[derive(Clone, Copy, Debug, PartialEq, Eq)]
+enum Found {
+    NotInitialised,
+    Damaged(u64),
+    Failed,
+    Device(usize),
+}
+
+/// Whether the device is of this thing, and is at rest with these many groups.
+fn is_at_rest(device: &Device, thing: &str, groups: usize) -> bool {
+    match &device.origin {
+        Some(origin) => {
+            origin.thing.as_str() == thing
+                && device.pending.is_none()
+                && device.groups.len() == groups
+        }
+        None => false,
+    }
+}
+
+/// What is found of the journal on the disk, where its device is one at rest.
+fn found_on(alloc: Global, disk: &mut MemoryDisk, groups: usize) -> Found {
+    let log = match Log::find(disk) {
+        Ok(log) => log,
+        Err(FindFault::NotInitialised) => return Found::NotInitialised,
+        Err(FindFault::Damaged(at)) => return Found::Damaged(at),
+        Err(FindFault::Disk) => return Found::Failed,
+    };
+    match replay(alloc, &log, disk) {
+        Ok(device) if is_at_rest(&device, "t1", groups) => Found::Device(device.closed.len()),
+        Ok(_) => Found::Failed,
+        Err(ReplayFault::Damaged(at)) => Found::Damaged(at),
+        Err(_) => Found::Failed,
+    }
+}
+
+/// What is found of a journal of these bytes, the first of them changed.
+fn found_in(alloc: Global, first: u8, bytes: &[u8], groups: usize) -> Result<Found, Fail> {
+    let mut disk = MemoryDisk::new(alloc);
+    disk.write_at("journal", 0, bytes)?;
+    disk.write_at("journal", 0, &[first])?;
+    Ok(found_on(alloc, &mut disk, groups))
+}
+
+/// A journal of the one record of a device's start.
+const STARTED: [u8; 48] = [
+    0x01, 0x00, 0x00, 0x00, 0x2a, 0x11, 0x00, 0x00, 0x00, 0x03, 0x2f, 0x67, 0x67, 0x00, 0x00, 0x00,
+    0x02, 0x74, 0x31, 0x00, 0x00, 0x00, 0x06, 0x32, 0x2e, 0x31, 0x32, 0x2e, 0x30, 0x00, 0x00, 0x00,
+    0x05, 0x6c, 0x69, 0x6e, 0x75, 0x78, 0x00, 0x00, 0x00, 0x05, 0x61, 0x6d, 0x64, 0x36, 0x34, 0x00,
+];
+
+#[test]
+fn a_journal_stands_for_its_device(rt: HostRuntime) -> Result<(), Fail> {
+    let alloc = rt.alloc();
+    assert!(rt; found_in(alloc, 0x07, &STARTED[..1], 0)? == Found::NotInitialised);
+    assert!(rt; found_in(alloc, 0x01, &STARTED, 0)? == Found::Device(0));
+    assert!(rt; found_in(alloc, 0xff, &STARTED, 0)? == Found::Device(0));
+    assert!(rt; found_in(alloc, 0x00, &STARTED, 0)? == Found::NotInitialised);
+    assert!(rt; found_in(alloc, 0x01, &STARTED[..47], 0)? == Found::Damaged(0));
+    Ok(())
+}
+
+/// Adds an entry of a short payload to the journal.
+fn push_entry(journal: &mut Vec<u8>, payload: &[u8]) -> Result<(), Fail> {
+    let len = payload.len().min(1_000_000) as u32;
+    journal.push(1)?;
+    journal.extend_from_slice(&len.to_be_bytes())?;
+    journal.extend_from_slice(payload)?;
+    Ok(())
+}
+
+/// Adds a deployment of nothing to the group `g`, from its acceptance to its end.
+fn push_closing(alloc: Global, journal: &mut Vec<u8>, id: &str) -> Result<(), Fail> {
+    let len = id.len().min(256) as u32;
+    let mut payload = Vec::new(alloc);
+    payload.push(0x12)?;
+    payload.extend_from_slice(&len.to_be_bytes())?;
+    payload.extend_from_slice(id.as_bytes())?;
+    payload.extend_from_slice(b"\0\0\0\x01g\0\0\0\0\0\0\0\0\0\0\0\0\0")?;
+    push_entry(journal, &payload)?;
+    push_entry(journal, b"\x15")?;
+    push_entry(journal, b"\x18\x01")
+}
+
+/// A journal of so many closed deployments, and then of one with this id again.
+fn closings(alloc: Global, count: u32, again: &str) -> Result<Vec<u8>, Fail> {
+    let mut journal = Vec::new(alloc);
+    push_entry(&mut journal, &STARTED[5..47])?;
+    for n in 0..count {
+        let id = format!(in alloc; "d{n}")?;
+        push_closing(alloc, &mut journal, id.as_str())?;
+    }
+    if !again.is_empty() {
+        push_closing(alloc, &mut journal, again)?;
+    }
+    journal.push(0)?;
+    Ok(journal)
+}
+
+#[test]
+fn many_closed_deployments_are_replayed(rt: HostRuntime) -> Result<(), Fail> {
+    let alloc = rt.alloc();
+    let few = closings(alloc, 300, "")?;
+    assert!(rt; found_in(alloc, 1, &few, 1)? == Found::Device(300));
+    // All 65,536 are taken, and behind their entries no more is accepted, whatever its id.
+    let end = closings(alloc, 65_536, "")?.len().saturating_sub(1) as u64;
+    let more = closings(alloc, 65_536, "more")?;
+    assert!(rt; found_in(alloc, 1, &more, 1)? == Found::Damaged(end));
+    // An id that is closed is not accepted again: the entry of d2 stands behind those of d0 and d1.
+    let again = closings(alloc, 2, "d1")?;
+    assert!(rt; found_in(alloc, 1, &again, 1)? == Found::Damaged(133));
+    Ok(())
+}
