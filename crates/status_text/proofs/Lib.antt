@@ -1,0 +1,2 @@
+mod StatusDepth
+mod StatusOrder

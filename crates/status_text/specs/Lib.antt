@@ -1,0 +1,4 @@
+pub mod Lists
+pub mod Regularity
+pub mod Status
+pub mod Words

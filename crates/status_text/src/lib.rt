@@ -1,0 +1,14 @@
+//! What `status` prints of a device, in lines for people and as one JSON text for programs.
+#![tactic(auto)]
+
+mod lines;
+mod places;
+mod trees;
+mod words;
+
+pub use lines::status_lines;
+pub use trees::status_json;
+pub use words::{outcome_word, stage_word};
+
+#[cfg(test)]
+mod tests;
