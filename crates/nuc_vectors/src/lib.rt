@@ -10,4 +10,6 @@ mod ranges;
 #[cfg(test)]
 mod recipes;
 #[cfg(test)]
+mod stores;
+#[cfg(test)]
 mod variables;

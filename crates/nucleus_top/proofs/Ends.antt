@@ -1,107 +1,129 @@
--- What each answer amounts to.
-use Rattle.std.proofs.Common.{◌≡◌, ◌⊎◌, inl, inr, ℕ, List, [], Some, None, IfSome, refl, sym, ◌∙◌, ap, subst}
+-- What each answer of the top call amounts to.
+use Rattle.std.proofs.Common.{◌≡◌, ◌∙◌, ◌⊎◌, inl, inr, ℕ, List, [], sym, ap}
 use Rattle.std.specs.Prelude.{codes}
 use Rattle.std.proofs.lemmas.List.{append-nil}
-use Rattle.std.specs.declared.option.Option.{Option}
-use Rattle.std.specs.Io.KnownBytes.{Appends}
 use Rattle.nuc_base.specs.declared.status.Status.{Status}
 use Rattle.nuc_base.specs.declared.status.Status.TheVariants as status
 use Rattle.nuc_base.specs.Faults.{Rose}
+use Rattle.disk_model.specs.Disk.{Image}
 use Rattle.edges.specs.Pieces.{AppendsFront}
-use Rattle.nucleus_top.specs.Words.{IsDeploy}
-use Rattle.nucleus_top.specs.First.{FirstForm, HasForm, HasNoForm}
-use Rattle.nucleus_top.specs.declared.document.Deployment.{Deployment}
-use Rattle.nucleus_top.specs.Answers.{Call, Printed, Comes, Told, HasStored, IsStored, IsUnchanged, usage_line, refused_line, stored_lines, lines_of, status_of}
-use Rattle.nucleus_top.specs.Parts.{Parts, Prints, Yields}
+use Rattle.nucleus_top.specs.Words.{IsOrder, AsksNothing}
+use Rattle.nucleus_top.specs.Answers.{Store, Input, Printed, Told, IsUnchanged, HasRisen, Prints, Yields, usage_line, lines_of, status_of}
+use Rattle.nucleus_top.specs.Leaving.{IsKept, Keeps, file_of}
+use Rattle.nucleus_top.specs.Parts.{Comes, ComesOf, Parts}
 use Rattle.nucleus_top.specs.declared.answer.Answer.{Answer}
-use Rattle.nucleus_top.specs.declared.answer.Answer.TheVariants.{Stored, WrongWords, Refused, DiskFailed, SourceFailed, NoMemory}
+use Rattle.nucleus_top.specs.declared.answer.Answer.TheVariants.{Stored, Made, Shown, WrongWords, DiskFailed, SourceFailed, NoMemory}
+use Rattle.nucleus_top.specs.declared.words.Order.{Order}
+use Rattle.nucleus_top.specs.declared.words.Order.TheVariants.{Init, Deploy, Status as Show}
+use Rattle.nucleus_top.proofs.Orders.{comes_of}
+use Rattle.nucleus_top.proofs.DeployEnds.{deploy_parts}
+use Rattle.nucleus_top.proofs.InitEnds.{init_parts}
+use Rattle.nucleus_top.proofs.Standing.{same_device}
+use Rattle.nucleus_top.proofs.StatusEnds.{status_parts}
 
--- what is said of an untold value holds of the value that is told
-known : {value : Option (List ℕ)} {document : List ℕ} (P : List ℕ → Type 0) → value ≡ Some document → IfSome value P → P document
-known P is holds = subst (λ (v : Option (List ℕ)). IfSome v P) is holds
+-- what a command's answer says of the disk
+risen : (order : Order) (store : Store) (input : Input) → ComesOf order store input DiskFailed → HasRisen store
+risen (Init origin) store input comes = comes
+risen Deploy store input comes = comes.1
+risen (Show json) store input comes = comes.1
 
--- 0 is answered only where a deployment was stored
-pub stored : (printed : Printed) (result : Status) (a : Answer) → Told printed result a → result ≡ status.Done → HasStored a
-stored printed result (Stored w) told is = tt
-stored printed result a (inl told) is = cc
-stored printed result a (inr told) is = cc
+unread : (order : Order) (store : Store) (input : Input) → ComesOf order store input SourceFailed → Rose input.faults_before input.faults_after
+unread (Init origin) store input comes = absurd comes
+unread Deploy store input comes = comes.0
+unread (Show json) store input comes = absurd comes
 
-module _ (call : Call) (printed : Printed) (result : Status) where
-  done : (a : Answer) → Comes call a → Told printed result a → result ≡ status.Done → IsDeploy call.words × ((w : Deployment) × IsStored call w × Prints printed (stored_lines w.id))
-  done (Stored w) comes (inl told) is = (comes.0, (w, comes.1, told.1))
-  done a comes (inl told) is = cc
-  done a comes (inr told) is = cc
+untouched : (order : Order) (store : Store) (input : Input) → ComesOf order store input NoMemory → IsUnchanged store
+untouched (Init origin) store input comes = comes
+untouched Deploy store input comes = comes
+untouched (Show json) store input comes = comes
 
-  which : (a : Answer) → Told printed result a → (answer : Answer) × (result ≡ status_of answer)
-  which a (inl told) = (a, told.0)
-  which a (inr told) = (SourceFailed, told.0)
+no_usage : (order : Order) (store : Store) (input : Input) → ComesOf order store input WrongWords → ⊥
+no_usage (Init origin) store input comes = comes
+no_usage Deploy store input comes = comes
+no_usage (Show json) store input comes = comes
 
-  usage : (a : Answer) → Comes call a → Told printed result a → result ≡ status.Usage → (¬ IsDeploy call.words) × IsUnchanged call × Prints printed usage_line
-  usage WrongWords comes (inl told) is = (comes.0, comes.1, told.1)
+module _ (words : List (List ℕ)) (store : Store) (input : Input) (printed : Printed) (result : Status) where
+  wrong : Comes words store input WrongWords → AsksNothing words × IsUnchanged store
+  wrong (inl comes) = absurd (no_usage comes.0 store input comes.2)
+  wrong (inr (inl comes)) = (comes.1, comes.2)
+  wrong (inr (inr comes)) = cc
+
+  usage : (a : Answer) → Comes words store input a → Told printed result a → result ≡ status.Usage → AsksNothing words × IsUnchanged store × Prints printed usage_line
+  usage WrongWords comes (inl told) is = let w = wrong comes in (w.0, w.1, told.1)
   usage a comes (inl told) is = cc
   usage a comes (inr told) is = cc
 
-  usage_comes : (a : Answer) → Comes call a → Told printed result a → (¬ IsDeploy call.words) → Yields result status.Usage
-  usage_comes WrongWords comes (inl told) not = inl told.0
-  usage_comes a comes (inl told) not = absurd (not comes.0)
-  usage_comes a comes (inr told) not = inr (inl told.0)
+  usage_comes : (a : Answer) → Comes words store input a → Told printed result a → AsksNothing words → Yields result status.Usage
+  usage_comes a comes (inr told) nothing = inr (inl told.0)
+  usage_comes a (inl comes) (inl told) nothing = absurd (nothing comes.0 comes.1)
+  usage_comes a (inr (inl comes)) (inl told) nothing = inl (told.0 ∙ ap status_of comes.0)
+  usage_comes a (inr (inr comes)) (inl told) nothing = inr (inr (told.0 ∙ ap status_of comes.0))
 
-  refused : (a : Answer) → Comes call a → Told printed result a → result ≡ status.BadInput → IsDeploy call.words × IfSome call.document HasNoForm × IsUnchanged call × Prints printed refused_line
-  refused Refused comes (inl told) is = (comes.0, comes.1, comes.2, told.1)
-  refused a comes (inl told) is = cc
-  refused a comes (inr told) is = cc
+  failed : Comes words store input DiskFailed → HasRisen store
+  failed (inl comes) = risen comes.0 store input comes.2
+  failed (inr (inl comes)) = cc
+  failed (inr (inr comes)) = cc
 
-  disk : (a : Answer) → Comes call a → Told printed result a → result ≡ status.Disk → Rose call.disk_before call.disk_after × Prints printed (codes "fault 5 disk\n")
-  disk DiskFailed comes (inl told) is = (comes.2, told.1)
+  disk : (a : Answer) → Comes words store input a → Told printed result a → result ≡ status.Disk → HasRisen store × Prints printed (codes "fault 5 disk\n")
+  disk DiskFailed comes (inl told) is = (failed comes, told.1)
   disk a comes (inl told) is = cc
   disk a comes (inr told) is = cc
 
-  edge : (a : Answer) → Comes call a → Told printed result a → result ≡ status.Edge → Rose call.source_before call.source_after ⊎ Rose printed.faults_before printed.faults_after
+  source : Comes words store input SourceFailed → Rose input.faults_before input.faults_after
+  source (inl comes) = unread comes.0 store input comes.2
+  source (inr (inl comes)) = cc
+  source (inr (inr comes)) = cc
+
+  edge : (a : Answer) → Comes words store input a → Told printed result a → result ≡ status.Edge → Rose input.faults_before input.faults_after ⊎ Rose printed.faults_before printed.faults_after
   edge a comes (inr told) is = inr told.1
-  edge SourceFailed comes (inl told) is = inl comes.1
+  edge SourceFailed comes (inl told) is = inl (source comes)
   edge a comes (inl told) is = cc
 
-  hides_nothing : (a : Answer) → Comes call a → Told printed result a → result ≡ status.Edge → (answer : Answer) × Comes call answer × AppendsFront printed.before printed.after (lines_of answer)
+  hides_nothing : (a : Answer) → Comes words store input a → Told printed result a → result ≡ status.Edge → (answer : Answer) × Comes words store input answer × AppendsFront printed.before printed.after (lines_of answer)
   hides_nothing a comes (inr told) is = (a, comes, told.2)
   hides_nothing SourceFailed comes (inl told) is = (SourceFailed, comes, (lines_of SourceFailed, [], sym (append-nil (lines_of SourceFailed)), told.1))
   hides_nothing a comes (inl told) is = cc
 
-  memory : (a : Answer) → Comes call a → Told printed result a → result ≡ status.Memory → IsUnchanged call × Prints printed (codes "")
-  memory NoMemory comes (inl told) is = (comes.1, told.1)
+  same : Comes words store input NoMemory → IsUnchanged store
+  same (inl comes) = untouched comes.0 store input comes.2
+  same (inr (inl comes)) = comes.2
+  same (inr (inr comes)) = comes.1
+
+  memory : (a : Answer) → Comes words store input a → Told printed result a → result ≡ status.Memory → IsUnchanged store × Prints printed (codes "")
+  memory NoMemory comes (inl told) is = (same comes, told.1)
   memory a comes (inl told) is = cc
   memory a comes (inr told) is = cc
 
-  refused_comes : (a : Answer) → Comes call a → Told printed result a → IsDeploy call.words → (document : List ℕ) → call.document ≡ Some document → HasNoForm document → Yields result status.BadInput
-  refused_comes a comes (inr told) words document is refuses = inr (inl told.0)
-  refused_comes (Stored w) comes (inl told) words document is refuses = absurd (refuses w (known (λ (d : List ℕ). FirstForm d w) is comes.1.0))
-  refused_comes WrongWords comes (inl told) words document is refuses = absurd (comes.0 words)
-  refused_comes Refused comes (inl told) words document is refuses = inl told.0
-  refused_comes DiskFailed comes (inl told) words document is refuses = let form : HasForm document = known HasForm is comes.1 in absurd (refuses form.0 form.1)
-  refused_comes SourceFailed comes (inl told) words document is refuses = inr (inl told.0)
-  refused_comes NoMemory comes (inl told) words document is refuses = inr (inr told.0)
-
-  works : (a : Answer) → Comes call a → Told printed result a → IsDeploy call.words → (document : List ℕ) (w : Deployment) → call.document ≡ Some document → FirstForm document w
-      → ¬ Rose call.disk_before call.disk_after → ¬ Rose call.source_before call.source_after → ¬ Rose printed.faults_before printed.faults_after
-      → (result ≡ status.Done) ⊎ (result ≡ status.Memory)
-  works a comes (inr told) words document w is form disk_stands source_stands sink_stands = absurd (sink_stands told.1)
-  works (Stored v) comes (inl told) words document w is form disk_stands source_stands sink_stands = inl told.0
-  works WrongWords comes (inl told) words document w is form disk_stands source_stands sink_stands = absurd (comes.0 words)
-  works Refused comes (inl told) words document w is form disk_stands source_stands sink_stands = absurd (known HasNoForm is comes.1 w form)
-  works DiskFailed comes (inl told) words document w is form disk_stands source_stands sink_stands = absurd (disk_stands comes.2)
-  works SourceFailed comes (inl told) words document w is form disk_stands source_stands sink_stands = absurd (source_stands comes.1)
-  works NoMemory comes (inl told) words document w is form disk_stands source_stands sink_stands = inr told.0
-
-  pub parts : (a : Answer) → Comes call a → Told printed result a → Parts call printed result
+  pub parts : (a : Answer) → Comes words store input a → Told printed result a → Parts words store input printed result
   parts a comes told = record {
-    which = which a told;
-    done = done a comes told;
     usage = usage a comes told;
     usage_comes = usage_comes a comes told;
-    refused = refused a comes told;
-    refused_comes = refused_comes a comes told;
     disk = disk a comes told;
     edge = edge a comes told;
     hides_nothing = hides_nothing a comes told;
     memory = memory a comes told;
-    works = works a comes told;
+    one_device = same_device store.before;
+    deploy = λ is. deploy_parts store input printed result a (comes_of words Deploy store input a is comes) told;
+    init = λ origin is. init_parts origin store printed result a (comes_of words (Init origin) store input a is comes) told;
+    status = λ json is. status_parts json store printed result a (comes_of words (Show json) store input a is comes) told;
   }
+
+-- 0 is answered only where the work is done, and then the command's file is kept
+kept : (order : Order) (store : Store) (input : Input) (images : Image → Type 0) (seen : Image) (printed : Printed) (result : Status) (a : Answer)
+    → ComesOf order store input a → Told printed result a → Keeps images seen a → result ≡ status.Done → IsKept images seen (file_of order)
+kept Deploy store input images seen printed result (Stored w) comes (inl told) keeps is = keeps
+kept Deploy store input images seen printed result (Made thing) comes (inl told) keeps is = absurd comes
+kept Deploy store input images seen printed result (Shown text) comes (inl told) keeps is = absurd comes
+kept (Init origin) store input images seen printed result (Stored w) comes (inl told) keeps is = absurd comes
+kept (Init origin) store input images seen printed result (Made thing) comes (inl told) keeps is = keeps
+kept (Init origin) store input images seen printed result (Shown text) comes (inl told) keeps is = absurd comes
+kept (Show json) store input images seen printed result (Stored w) comes (inl told) keeps is = absurd comes
+kept (Show json) store input images seen printed result (Made thing) comes (inl told) keeps is = absurd comes
+kept (Show json) store input images seen printed result (Shown text) comes (inl told) keeps is = keeps
+kept order store input images seen printed result a comes (inl told) keeps is = cc
+kept order store input images seen printed result a comes (inr told) keeps is = cc
+
+pub durable : (words : List (List ℕ)) (order : Order) (store : Store) (input : Input) (images : Image → Type 0) (seen : Image) (printed : Printed) (result : Status) (a : Answer)
+    → IsOrder words order → Comes words store input a → Told printed result a → Keeps images seen a → result ≡ status.Done → IsKept images seen (file_of order)
+durable words order store input images seen printed result a asks comes told keeps is =
+    kept order store input images seen printed result a (comes_of words order store input a asks comes) told keeps is

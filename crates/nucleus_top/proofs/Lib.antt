@@ -1,5 +1,13 @@
+mod Asked
+mod DeployEnds
 mod Ends
 mod Forms
+mod Images
+mod InitEnds
+mod Orders
+mod Origins
 pub mod Refusals
+mod Standing
 pub mod StateOrder
+mod StatusEnds
 pub mod Versions

@@ -1,9 +1,9 @@
 -- The parts of a text between dots.
 use Rattle.std.proofs.Common.{◌≡◌, ℕ, ◌<◌, ◌==◌, List, [], ◌∷◌, length, ap, arith, refl, Bool, ◌∙◌}
-use Rattle.std.specs.List.{slice_split, position_or_len, before_first, after_first}
+use Rattle.std.specs.List.{position_or_len, before_first, after_first}
 use Rattle.std.proofs.lemmas.List.Splits.{slice_split_first, slice_split_none, length-slice_split}
 use Rattle.std.proofs.lemmas.List.Sums.{fails_before_first}
-use Rattle.nucleus_top.specs.First.{parts_of, AreThree, AreNotThree, IsNumber}
+use Rattle.nucleus_top.specs.First.{parts_of, AreThree, AreNotThree}
 
 abbrev pub dot : ℕ → Bool
 dot = λ b. b == 46

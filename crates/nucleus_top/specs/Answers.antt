@@ -1,24 +1,26 @@
--- The answers of a call: why each comes, what it leaves in the file `state`, and what is printed.
-use Rattle.std.specs.Prelude.{◌≡◌, ◌≢◌, ◌⊎◌, ℕ, ◌≤◌, List, ◌++◌, Bool, IsTrue, IfSome, codes, ⊤}
+-- The answers of a call: what each prints, and with which status it ends.
+use Rattle.std.specs.Prelude.{◌≡◌, ◌⊎◌, ℕ, List, ◌++◌, Bool, codes}
 use Rattle.std.specs.declared.option.Option.{Option}
 use Rattle.std.specs.Io.KnownBytes.{Appends}
+use Rattle.disk_model.specs.Disk.{Image}
 use Rattle.nuc_base.specs.declared.status.Status.{Status}
 use Rattle.nuc_base.specs.declared.status.Status.TheVariants as status
 use Rattle.nuc_base.specs.Faults.{Rose}
 use Rattle.edges.specs.Pieces.{AppendsFront}
-use Rattle.nucleus_top.specs.Words.{IsDeploy}
-use Rattle.nucleus_top.specs.First.{FirstForm, HasForm, HasNoForm}
-use Rattle.nucleus_top.specs.State.{state_text}
-use Rattle.nucleus_top.specs.declared.document.Deployment.{Deployment}
 use Rattle.nucleus_top.specs.declared.answer.Answer.{Answer}
-use Rattle.nucleus_top.specs.declared.answer.Answer.TheVariants.{Stored, WrongWords, Refused, DiskFailed, SourceFailed, NoMemory}
+use Rattle.nucleus_top.specs.declared.answer.Answer.TheVariants.{Stored, Made, Shown, WrongWords, Refused, DiskFailed, SourceFailed, NotInitialised, Damaged, Initialised, NoMemory}
 
 abbrev pub status_of : Answer → Status
 status_of (Stored deployment) = status.Done
+status_of (Made thing) = status.Done
+status_of (Shown text) = status.Done
 status_of WrongWords = status.Usage
 status_of Refused = status.BadInput
 status_of DiskFailed = status.Disk
 status_of SourceFailed = status.Edge
+status_of NotInitialised = status.NotInitialised
+status_of (Damaged place) = status.Damaged
+status_of (Initialised thing) = status.Initialised
 status_of NoMemory = status.Memory
 
 abbrev pub usage_line : List ℕ
@@ -30,27 +32,51 @@ stored_lines id = codes "accepted " ++ id ++ codes "\nclosed " ++ id ++ codes " 
 abbrev pub refused_line : List ℕ
 refused_line = codes "refused 2 document NotYet\n"
 
+abbrev pub made_line : List ℕ → List ℕ
+made_line thing = codes "initialised " ++ thing ++ codes "\n"
+
+abbrev pub none_line : List ℕ
+none_line = codes "refused 8 NotInitialised\n"
+
+abbrev pub damaged_line : List ℕ → List ℕ
+damaged_line place = codes "refused 9 Damaged " ++ place ++ codes "\n"
+
+abbrev pub initialised_line : List ℕ → List ℕ
+initialised_line thing = codes "refused 16 Initialised " ++ thing ++ codes "\n"
+
 -- what an answer prints
 abbrev pub lines_of : Answer → List ℕ
 lines_of (Stored deployment) = stored_lines deployment.id
+lines_of (Made thing) = made_line thing
+lines_of (Shown text) = text
 lines_of WrongWords = usage_line
 lines_of Refused = refused_line
 lines_of DiskFailed = codes "fault 5 disk\n"
 lines_of SourceFailed = codes "fault 6 source\n"
+lines_of NotInitialised = none_line
+lines_of (Damaged place) = damaged_line place
+lines_of (Initialised thing) = initialised_line thing
 lines_of NoMemory = codes ""
 
--- A call: what it is given, and what it finds and leaves outside. An untold document is None; the disk says
--- whether it tells.
-pub record Call : Type 0 where
-  pub words : List (List ℕ)
-  pub document : Option (List ℕ)
+-- The disk of a call: whether it tells, what its files read as before and after, and its counts of faults.
+pub record Store : Type 0 where
   pub tells : Bool
-  pub file_before : List ℕ
-  pub file_after : List ℕ
-  pub disk_before : ℕ
-  pub disk_after : ℕ
-  pub source_before : ℕ
-  pub source_after : ℕ
+  pub before : Image
+  pub after : Image
+  pub faults_before : ℕ
+  pub faults_after : ℕ
+
+abbrev pub store_of : {D : Type 0} → Bool → (D → Image) → (D → ℕ) → D → D → Store
+store_of tells seen faults old new = record { tells = tells; before = seen old; after = seen new; faults_before = faults old; faults_after = faults new }
+
+-- What a call reads from. An untold document is None.
+pub record Input : Type 0 where
+  pub document : Option (List ℕ)
+  pub faults_before : ℕ
+  pub faults_after : ℕ
+
+abbrev pub input_of : {S : Type 0} → (S → Option (List ℕ)) → (S → ℕ) → S → S → Input
+input_of left faults old new = record { document = left old; faults_before = faults old; faults_after = faults new }
 
 -- What a call prints to, before and after.
 pub record Printed : Type 0 where
@@ -59,33 +85,29 @@ pub record Printed : Type 0 where
   pub faults_before : ℕ
   pub faults_after : ℕ
 
--- the document is that deployment, and the file is its text
-abbrev pub IsStored : Call → Deployment → Type 0
-IsStored call deployment = IfSome call.document (λ document. FirstForm document deployment) × (IsTrue call.tells → call.file_after ≡ state_text deployment)
+abbrev pub printed_of : {K : Type 0} → (K → Option (List ℕ)) → (K → ℕ) → K → K → Printed
+printed_of held faults old new = record { before = held old; after = held new; faults_before = faults old; faults_after = faults new }
 
-abbrev pub IsUnchanged : Call → Type 0
-IsUnchanged call = call.file_after ≡ call.file_before
+-- what every file reads as is unchanged
+abbrev pub IsUnchanged : Store → Type 0
+IsUnchanged store = store.after ≡ store.before
 
--- Why an answer comes, and what it leaves in the file.
-abbrev pub Comes : Call → Answer → Type 0
-Comes call (Stored deployment) = IsDeploy call.words × IsStored call deployment
-Comes call WrongWords = (¬ IsDeploy call.words) × IsUnchanged call
-Comes call Refused = IsDeploy call.words × IfSome call.document HasNoForm × IsUnchanged call
-Comes call DiskFailed = IsDeploy call.words × IfSome call.document HasForm × Rose call.disk_before call.disk_after
-Comes call SourceFailed = IsDeploy call.words × Rose call.source_before call.source_after × IsUnchanged call
-Comes call NoMemory = IsDeploy call.words × IsUnchanged call
+abbrev pub HasRisen : Store → Type 0
+HasRisen store = Rose store.faults_before store.faults_after
 
--- a deployment was stored
-abbrev pub HasStored : Answer → Type 0
-HasStored (Stored deployment) = ⊤
-HasStored WrongWords = ⊥
-HasStored Refused = ⊥
-HasStored DiskFailed = ⊥
-HasStored SourceFailed = ⊥
-HasStored NoMemory = ⊥
+abbrev pub Prints : Printed → List ℕ → Type 0
+Prints printed lines = Appends printed.before printed.after lines
 
 -- What the sink got: the lines of the answer, or where the sink failed a front of them.
 abbrev pub Told : Printed → Status → Answer → Type 0
 Told printed result answer =
-    ((result ≡ status_of answer) × Appends printed.before printed.after (lines_of answer))
+    ((result ≡ status_of answer) × Prints printed (lines_of answer))
     ⊎ ((result ≡ status.Edge) × Rose printed.faults_before printed.faults_after × AppendsFront printed.before printed.after (lines_of answer))
+
+-- this answer, or a fault of an edge, or want of memory
+abbrev pub Yields : Status → Status → Type 0
+Yields result expected = (result ≡ expected) ⊎ (result ≡ status.Edge) ⊎ (result ≡ status.Memory)
+
+-- this answer, or a fault of the disk, or of an edge, or want of memory
+abbrev pub Expects : Status → Status → Type 0
+Expects result expected = (result ≡ status.Disk) ⊎ Yields result expected

@@ -1,6 +1,12 @@
 pub mod Answers
+pub mod Begun
+pub mod Deploys
 pub mod First
+pub mod Inits
+pub mod Leaving
+pub mod Opening
 pub mod Parts
 pub mod Reading
+pub mod Shows
 pub mod State
 pub mod Words

@@ -1,42 +1,49 @@
 -- What the top call promises of each answer.
-use Rattle.std.specs.Prelude.{◌≡◌, ◌⊎◌, ℕ, List, IfSome, codes, Some}
-use Rattle.std.specs.Io.KnownBytes.{Appends}
+use Rattle.std.specs.Prelude.{◌≡◌, ◌⊎◌, ℕ, Bool, List, codes}
 use Rattle.nuc_base.specs.declared.status.Status.{Status}
 use Rattle.nuc_base.specs.declared.status.Status.TheVariants as status
 use Rattle.nuc_base.specs.Faults.{Rose}
 use Rattle.edges.specs.Pieces.{AppendsFront}
-use Rattle.nucleus_top.specs.Words.{IsDeploy}
-use Rattle.nucleus_top.specs.First.{FirstForm, HasNoForm}
-use Rattle.nucleus_top.specs.declared.document.Deployment.{Deployment}
-use Rattle.nucleus_top.specs.Answers.{Call, Printed, Comes, IsStored, IsUnchanged, usage_line, refused_line, stored_lines, lines_of, status_of}
+use Rattle.records.specs.declared.record.Origin.{Origin}
+use Rattle.device.specs.Devices.{Device}
+use Rattle.device.specs.Standing.{Stands}
+use Rattle.nucleus_top.specs.Words.{IsOrder, IsDeploy, AsksNothing}
+use Rattle.nucleus_top.specs.Answers.{Store, Input, Printed, IsUnchanged, HasRisen, Prints, Yields, usage_line, lines_of}
+use Rattle.nucleus_top.specs.Deploys.{Deploys, DeployParts}
+use Rattle.nucleus_top.specs.Inits.{Inits, InitParts}
+use Rattle.nucleus_top.specs.Shows.{Shows, StatusParts}
+use Rattle.nucleus_top.specs.declared.words.Order.{Order}
+use Rattle.nucleus_top.specs.declared.words.Order.TheVariants.{Init, Deploy, Status as Show}
 use Rattle.nucleus_top.specs.declared.answer.Answer.{Answer}
+use Rattle.nucleus_top.specs.declared.answer.Answer.TheVariants.{WrongWords, NoMemory}
 
-abbrev pub Prints : Printed → List ℕ → Type 0
-Prints printed lines = Appends printed.before printed.after lines
+-- why an answer of a command comes
+abbrev pub ComesOf : Order → Store → Input → Answer → Type 0
+ComesOf (Init origin) store input = Inits origin store
+ComesOf Deploy store input = Deploys store input
+ComesOf (Show json) store input = Shows json store
 
--- this answer, or a fault of an edge, or want of memory
-abbrev pub Yields : Status → Status → Type 0
-Yields result expected = (result ≡ expected) ⊎ (result ≡ status.Edge) ⊎ (result ≡ status.Memory)
+-- Why an answer comes: by the command that the words ask, since they ask nothing, or for want of memory.
+abbrev pub Comes : List (List ℕ) → Store → Input → Answer → Type 0
+Comes words store input answer =
+    ((order : Order) × IsOrder words order × ComesOf order store input answer)
+    ⊎ ((answer ≡ WrongWords) × AsksNothing words × IsUnchanged store)
+    ⊎ ((answer ≡ NoMemory) × IsUnchanged store)
 
-pub record Parts (call : Call) (printed : Printed) (result : Status) : Type 0 where
-  -- No other status is answered.
-  pub which : (answer : Answer) × (result ≡ status_of answer)
-  -- 0: the file is the text of the document, and both lines were printed.
-  pub done : result ≡ status.Done → IsDeploy call.words × ((deployment : Deployment) × IsStored call deployment × Prints printed (stored_lines deployment.id))
-  -- 1 comes exactly where the words are not these.
-  pub usage : result ≡ status.Usage → (¬ IsDeploy call.words) × IsUnchanged call × Prints printed usage_line
-  pub usage_comes : (¬ IsDeploy call.words) → Yields result status.Usage
-  -- 2 comes exactly where the document has not the first form.
-  pub refused : result ≡ status.BadInput → IsDeploy call.words × IfSome call.document HasNoForm × IsUnchanged call × Prints printed refused_line
-  pub refused_comes : IsDeploy call.words → (document : List ℕ) → call.document ≡ Some document → HasNoForm document → Yields result status.BadInput
+pub record Parts (words : List (List ℕ)) (store : Store) (input : Input) (printed : Printed) (result : Status) : Type 0 where
+  -- 1 comes exactly where the words ask nothing.
+  pub usage : result ≡ status.Usage → AsksNothing words × IsUnchanged store × Prints printed usage_line
+  pub usage_comes : AsksNothing words → Yields result status.Usage
   -- 5 and 6 come only where a count rose.
-  pub disk : result ≡ status.Disk → Rose call.disk_before call.disk_after × Prints printed (codes "fault 5 disk\n")
-  pub edge : result ≡ status.Edge → Rose call.source_before call.source_after ⊎ Rose printed.faults_before printed.faults_after
+  pub disk : result ≡ status.Disk → HasRisen store × Prints printed (codes "fault 5 disk\n")
+  pub edge : result ≡ status.Edge → Rose input.faults_before input.faults_after ⊎ Rose printed.faults_before printed.faults_after
   -- With 6 a front was printed of the lines of an answer that comes by its cause and leaves what it leaves.
-  pub hides_nothing : result ≡ status.Edge → (answer : Answer) × Comes call answer × AppendsFront printed.before printed.after (lines_of answer)
-  -- With 15 nothing was printed, and the file is unchanged.
-  pub memory : result ≡ status.Memory → IsUnchanged call × Prints printed (codes "")
-  -- Where the words and the document read and no count rises, the answer is 0 or 15.
-  pub works : IsDeploy call.words → (document : List ℕ) (deployment : Deployment) → call.document ≡ Some document → FirstForm document deployment
-      → ¬ Rose call.disk_before call.disk_after → ¬ Rose call.source_before call.source_after → ¬ Rose printed.faults_before printed.faults_after
-      → (result ≡ status.Done) ⊎ (result ≡ status.Memory)
+  pub hides_nothing : result ≡ status.Edge → (answer : Answer) × Comes words store input answer × AppendsFront printed.before printed.after (lines_of answer)
+  -- With 15 nothing was printed, and every file reads as before.
+  pub memory : result ≡ status.Memory → IsUnchanged store × Prints printed (codes "")
+  -- The journal stands for one device at most.
+  pub one_device : (d e : Device) → Stands store.before d → Stands store.before e → d ≡ e
+  -- What each command promises.
+  pub deploy : IsDeploy words → DeployParts store input printed result
+  pub init : (origin : Origin) → IsOrder words (Init origin) → InitParts origin store printed result
+  pub status : (json : Bool) → IsOrder words (Show json) → StatusParts json store printed result

@@ -1,20 +1,31 @@
 ghost use Rattle.std.specs.Prelude.{◌≡◌, ◌≤◌};
 ghost use Rattle.nuc_base.specs.Faults.{HasCause};
 ghost use Rattle.edges.specs.Pieces.{Writes};
-ghost use Rattle.nucleus_top.specs.Answers.{status_of, lines_of, Told};
+ghost use Rattle.nucleus_top.specs.Answers.{status_of, lines_of, printed_of, Told};
 
 use crate::document::Deployment;
 use edges::{EdgeFault, Sink, write_pieces};
-use nuc_base::Status;
+use nuc_base::{Label, Status, Text};
 
 /// What a call has come to, with what its lines say.
 #[derive(Drop)]
 pub enum Answer {
+    /// The deployment is stored.
     Stored(Deployment),
+    /// The store of this thing was made.
+    Made(Label),
+    /// The status is this text.
+    Shown(Text),
     WrongWords,
     Refused,
     DiskFailed,
     SourceFailed,
+    /// The journal holds no entry.
+    NotInitialised,
+    /// The journal stands for no device, by the fault at this place in decimal digits.
+    Damaged(Text),
+    /// The journal stands for a device of this thing.
+    Initialised(Label),
     NoMemory,
 }
 
@@ -25,10 +36,15 @@ impl Answer {
     {
         match self {
             Answer::Stored(_) => Status::Done,
+            Answer::Made(_) => Status::Done,
+            Answer::Shown(_) => Status::Done,
             Answer::WrongWords => Status::Usage,
             Answer::Refused => Status::BadInput,
             Answer::DiskFailed => Status::Disk,
             Answer::SourceFailed => Status::Edge,
+            Answer::NotInitialised => Status::NotInitialised,
+            Answer::Damaged(_) => Status::Damaged,
+            Answer::Initialised(_) => Status::Initialised,
             Answer::NoMemory => Status::Memory,
         }
     }
@@ -43,24 +59,28 @@ impl Answer {
                 let id = deployment.id.as_str();
                 write_pieces(sink, &["accepted ", id, "\nclosed ", id, " SUCCESSFUL\n"])
             }
+            Answer::Made(thing) => write_pieces(sink, &["initialised ", thing.as_str(), "\n"]),
+            Answer::Shown(text) => write_pieces(sink, &[text.as_str()]),
             Answer::WrongWords => {
                 write_pieces(sink, &["usage: nucleus --root DIR COMMAND [OPTIONS]\n"])
             }
             Answer::Refused => write_pieces(sink, &["refused 2 document NotYet\n"]),
             Answer::DiskFailed => write_pieces(sink, &["fault 5 disk\n"]),
             Answer::SourceFailed => write_pieces(sink, &["fault 6 source\n"]),
+            Answer::NotInitialised => write_pieces(sink, &["refused 8 NotInitialised\n"]),
+            Answer::Damaged(place) => {
+                write_pieces(sink, &["refused 9 Damaged ", place.as_str(), "\n"])
+            }
+            Answer::Initialised(thing) => {
+                write_pieces(sink, &["refused 16 Initialised ", thing.as_str(), "\n"])
+            }
             Answer::NoMemory => write_pieces(sink, &[]),
         }
     }
 
     /// Prints the lines, and answers the status: 6 where they could not be written.
     pub fn tell<K: Sink>(&self, sink: &mut K) -> Status
-        ensures told { Told (record {
-          before = K.held sink.old;
-          after = K.held sink.new;
-          faults_before = K.faults sink.old;
-          faults_after = K.faults sink.new;
-        }) result self.now }
+        ensures told { Told (printed_of K.held K.faults sink.old sink.new) result self.now }
         ensures later { K.faults sink.old ≤ K.faults sink.new }
     {
         match self.print(sink) {

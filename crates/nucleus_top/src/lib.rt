@@ -2,8 +2,12 @@
 #![tactic(auto)]
 
 mod answer;
+mod deploy;
 mod document;
+mod init;
+mod opening;
 mod state;
+mod status;
 mod store;
 mod top;
 mod words;

@@ -1,21 +1,21 @@
-ghost use Rattle.std.specs.Prelude.{◌≡◌, ◌≢◌, ◌≤◌, ℕ, List, map, string_bytes, codes, IsTrue};
-ghost use Rattle.disk_model.specs.Disk.{Settled};
+ghost use Rattle.std.specs.Prelude.{◌≡◌, ◌≢◌, ◌≤◌, ℕ, List, map, string_bytes, IsTrue};
+ghost use Rattle.disk_model.specs.Disk.{Leaves};
 ghost use Rattle.nuc_base.specs.declared.status.Status.TheVariants as status;
-ghost use Rattle.nucleus_top.specs.Answers.{Comes, HasStored};
-ghost use Rattle.nucleus_top.specs.Parts.{Parts};
+ghost use Rattle.nucleus_top.specs.Words.{IsOrder};
+ghost use Rattle.nucleus_top.specs.Answers.{store_of, input_of, printed_of};
+ghost use Rattle.nucleus_top.specs.Leaving.{IsKept, Keeps, MayLeave, file_of};
+ghost use Rattle.nucleus_top.specs.Parts.{Comes, Parts};
+ghost use Rattle.nucleus_top.specs.declared.words.Order.{Order};
 
 use crate::answer::Answer;
-use crate::document::{DOCUMENT_LIMIT, Deployment, DocumentFault};
-use crate::state::text_of;
-use crate::store::store;
-use crate::words::is_deploy;
+use crate::deploy::deploy;
+use crate::init::init;
+use crate::status::status;
+use crate::words::{Order, WordsFault, read_words};
 use disk_model::Disk;
-use edges::{ReadFault, Sink, Source, read_up_to};
+use edges::{Sink, Source};
 use nuc_base::Status;
 use std::alloc::Global;
-
-/// The file that holds what was deployed.
-const STATE: &str = "state";
 
 /// Does all but the printing.
 fn answer<D: Disk, S: Source>(
@@ -24,48 +24,30 @@ fn answer<D: Disk, S: Source>(
     disk: &mut D,
     source: &mut S,
 ) -> Answer
-    ensures comes { Comes (record {
-      words = map string_bytes words.now.items;
-      document = S.left source.old;
-      tells = D.tells;
-      file_before = D.seen disk.old (codes "state");
-      file_after = D.seen disk.new (codes "state");
-      disk_before = D.faults disk.old;
-      disk_after = D.faults disk.new;
-      source_before = S.faults source.old;
-      source_after = S.faults source.new;
-    }) result }
-    ensures durable { HasStored result → Settled (D.may_leave disk.new) (codes "state") (D.seen disk.new (codes "state")) }
-    ensures others { IsTrue D.tells → (name : List ℕ) → name ≢ codes "state" → D.seen disk.new name ≡ D.seen disk.old name }
+    ensures comes { Comes (map string_bytes words.now.items) (store_of D.tells D.seen D.faults disk.old disk.new) (input_of S.left S.faults source.old source.new) result }
+    ensures moments { Leaves D.moment D.left_since disk.old disk.new (MayLeave (map string_bytes words.now.items) (D.may_leave disk.old)) }
+    ensures keeps { Keeps (D.may_leave disk.new) (D.seen disk.new) result }
+    ensures others { (order : Order) → IsOrder (map string_bytes words.now.items) order → IsTrue D.tells →
+        (name : List ℕ) → name ≢ file_of order → D.seen disk.new name ≡ D.seen disk.old name }
     ensures disk_later { D.faults disk.old ≤ D.faults disk.new }
     ensures source_later { S.faults source.old ≤ S.faults source.new }
 {
-    if !is_deploy(words) {
-        return Answer::WrongWords;
-    }
-    let bytes = match read_up_to(alloc, source, DOCUMENT_LIMIT + 1) {
-        Ok(bytes) => bytes,
-        Err(ReadFault::Edge) => return Answer::SourceFailed,
-        Err(ReadFault::NoMemory) => return Answer::NoMemory,
-    };
-    let deployment = match Deployment::read(alloc, bytes.as_slice()) {
-        Ok(deployment) => deployment,
-        Err(DocumentFault::NotYet) => return Answer::Refused,
-        Err(DocumentFault::NoMemory) => return Answer::NoMemory,
-    };
-    let Ok(text) = text_of(alloc, &deployment) else {
-        return Answer::NoMemory;
-    };
-    match store(disk, STATE, text.as_bytes()) {
-        Ok(()) => Answer::Stored(deployment),
-        Err(_) => Answer::DiskFailed,
+    match read_words(alloc, words) {
+        Ok(Order::Init(origin)) => init(alloc, origin, disk),
+        Ok(Order::Deploy) => deploy(alloc, disk, source),
+        Ok(Order::Status(json)) => status(alloc, json, disk),
+        Err(WordsFault::Usage) => Answer::WrongWords,
+        Err(WordsFault::NoMemory) => Answer::NoMemory,
     }
 }
 
-/// Does what the words of the command line say over these devices, and answers the status that the program ends
-/// with. `nucleus --root DIR deploy` reads one document of the first form from the source, stores what it deploys in
-/// the file `state` and prints `accepted ID` and `closed ID SUCCESSFUL`. The clause `parts` says when each status
-/// comes, what it prints and what it leaves in the file.
+/// Does what the words of the command line say over these devices, and answers the status that the program ends with.
+///
+/// `nucleus --root DIR init --thing NAME --nucleus VERSION --os OS --arch ARCH` makes a store and prints
+/// `initialised NAME`. `nucleus --root DIR status`, with `--json` or without, prints the status of the device for which
+/// the journal stands. `nucleus --root DIR deploy` reads one document of the first form from the source, stores what it
+/// deploys in the file `state` and prints `accepted ID` and `closed ID SUCCESSFUL`. The clause `parts` says when each
+/// status comes, what it prints and what it leaves on the disk.
 pub fn nucleus<D: Disk, S: Source, K: Sink>(
     alloc: Global,
     words: &Vec<String>,
@@ -73,25 +55,15 @@ pub fn nucleus<D: Disk, S: Source, K: Sink>(
     source: &mut S,
     sink: &mut K,
 ) -> Status
-    ensures parts { Parts (record {
-      words = map string_bytes words.now.items;
-      document = S.left source.old;
-      tells = D.tells;
-      file_before = D.seen disk.old (codes "state");
-      file_after = D.seen disk.new (codes "state");
-      disk_before = D.faults disk.old;
-      disk_after = D.faults disk.new;
-      source_before = S.faults source.old;
-      source_after = S.faults source.new;
-    }) (record {
-      before = K.held sink.old;
-      after = K.held sink.new;
-      faults_before = K.faults sink.old;
-      faults_after = K.faults sink.new;
-    }) result }
-    // Once the lines of a stored deployment are printed, a crash leaves it.
-    ensures durable { result ≡ status.Done → Settled (D.may_leave disk.new) (codes "state") (D.seen disk.new (codes "state")) }
-    ensures others { IsTrue D.tells → (name : List ℕ) → name ≢ codes "state" → D.seen disk.new name ≡ D.seen disk.old name }
+    ensures parts { Parts (map string_bytes words.now.items) (store_of D.tells D.seen D.faults disk.old disk.new)
+        (input_of S.left S.faults source.old source.new) (printed_of K.held K.faults sink.old sink.new) result }
+    // Whenever a crash comes during the call, it leaves an image that the start allowed, or what the command may make of one.
+    ensures moments { Leaves D.moment D.left_since disk.old disk.new (MayLeave (map string_bytes words.now.items) (D.may_leave disk.old)) }
+    // Once the lines of finished work are printed, a crash leaves the command's file as it reads.
+    ensures durable { (order : Order) → IsOrder (map string_bytes words.now.items) order → result ≡ status.Done →
+        IsKept (D.may_leave disk.new) (D.seen disk.new) (file_of order) }
+    ensures others { (order : Order) → IsOrder (map string_bytes words.now.items) order → IsTrue D.tells →
+        (name : List ℕ) → name ≢ file_of order → D.seen disk.new name ≡ D.seen disk.old name }
     ensures disk_later { D.faults disk.old ≤ D.faults disk.new }
     ensures source_later { S.faults source.old ≤ S.faults source.new }
     ensures sink_later { K.faults sink.old ≤ K.faults sink.new }

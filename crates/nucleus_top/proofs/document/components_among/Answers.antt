@@ -1,4 +1,4 @@
-use Rattle.std.proofs.Common.{ℕ, sym, subst, ap, ◌∙◌, arith, ◌≡◌, ◌<◌, ◌≤◌, ◌++◌, ◌∷◌, [], ◌+◌, List, length, map, drop, get_or}
+use Rattle.std.proofs.Common.{ℕ, sym, subst, ap, arith, ◌≡◌, ◌<◌, ◌≤◌, ◌∷◌, [], ◌+◌, List, length, map, drop}
 use Rattle.std.specs.List.{AllZip}
 use Rattle.serde_json.specs.Data.{Data}
 use Rattle.nuc_base.proofs.Tables.{map_next, map_end}

@@ -6,7 +6,6 @@ use Rattle.tree_core.specs.View.{view, field_view}
 use Rattle.tree_core.specs.Parts.{members, IsObject}
 use Rattle.tree_core.proofs.Seen.{is_object, members_are}
 use Rattle.nucleus_top.specs.First.{IsComponent, AreComponents}
-use Rattle.nucleus_top.specs.Reading.{Reads}
 use Rattle.nucleus_top.specs.declared.document.Component.{Component}
 use Rattle.nucleus_top.proofs.Refusals.{reads_same}
 use Rattle.nucleus_top.proofs.document.components_of.Goals as goal

@@ -1,4 +1,3 @@
-use Rattle.std.proofs.Common.{◌≡◌}
 use Rattle.tree_core.specs.View.{view}
 use Rattle.nucleus_top.specs.First.{IsDeployment, AreComponentsAt}
 use Rattle.nucleus_top.specs.declared.document.Deployment.{Deployment}

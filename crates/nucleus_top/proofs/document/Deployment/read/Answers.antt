@@ -1,4 +1,4 @@
-use Rattle.std.proofs.Common.{◌≡◌, sym, subst}
+use Rattle.std.proofs.Common.{subst}
 use Rattle.serde_json.specs.Data.{Data}
 use Rattle.tree_core.specs.View.{view}
 use Rattle.nucleus_top.specs.First.{IsDeployment, FirstForm}

@@ -1,0 +1,343 @@
+// Stores made and looked at by the top call, over disks in memory. The journal's bytes are worked out by hand from the
+// layout of records.
+use disk_model::{Disk, FusedDisk, MemoryDisk, Pick};
+use edges::{MemorySink, MemorySource};
+use nuc_base::{Bytes, List, Status};
+use nucleus_top::nucleus;
+use std::alloc::{AllocError, Global};
+use std::test::Fail;
+
+const INIT: [&str; 12] = [
+    "nucleus",
+    "--root",
+    "/gg",
+    "init",
+    "--thing",
+    "t1",
+    "--nucleus",
+    "2.12.0",
+    "--os",
+    "linux",
+    "--arch",
+    "amd64",
+];
+
+const SHOW: [&str; 4] = ["nucleus", "--root", "/gg", "status"];
+
+const SHOW_JSON: [&str; 5] = ["nucleus", "--root", "/gg", "status", "--json"];
+
+/// The journal of a new store: one entry of 42 bytes, and a closed gate.
+const NEW: [u8; 48] = [
+    0x01, 0x00, 0x00, 0x00, 0x2a, 0x11, 0x00, 0x00, 0x00, 0x03, 0x2f, 0x67, 0x67, 0x00, 0x00, 0x00,
+    0x02, 0x74, 0x31, 0x00, 0x00, 0x00, 0x06, 0x32, 0x2e, 0x31, 0x32, 0x2e, 0x30, 0x00, 0x00, 0x00,
+    0x05, 0x6c, 0x69, 0x6e, 0x75, 0x78, 0x00, 0x00, 0x00, 0x05, 0x61, 0x6d, 0x64, 0x36, 0x34, 0x00,
+];
+
+/// A journal of the one record that all boots are ended, which begins no device.
+const NO_GENESIS: [u8; 7] = [0x01, 0x00, 0x00, 0x00, 0x01, 0x15, 0x00];
+
+const MADE: &str = "initialised t1\n";
+
+const LINES: &str = "thing t1\nnucleus 2.12.0\n";
+
+const JSON: &str =
+    "{\"closed\":[],\"components\":[],\"groups\":[],\"nucleus\":\"2.12.0\",\"pending\":null,\"thing\":\"t1\"}\n";
+
+const STANDS: &str = "refused 16 Initialised t1\n";
+
+const NONE: &str = "refused 8 NotInitialised\n";
+
+const USAGE: &str = "usage: nucleus --root DIR COMMAND [OPTIONS]\n";
+
+/// What a call answered and printed.
+#[derive(Debug, Drop, PartialEq, Eq)]
+struct Ran {
+    status: Status,
+    printed: Vec<u8>,
+}
+
+fn strings(alloc: Global, words: &[&str]) -> Result<Vec<String>, AllocError> {
+    let mut all = Vec::new(alloc);
+    for word in words {
+        all.push(String::from_str(alloc, word)?)?;
+    }
+    Ok(all)
+}
+
+/// Runs the words over a disk, without a document, to a sink that fails these calls.
+fn run<D: Disk>(alloc: Global, words: &[&str], disk: &mut D, failing: &[u64]) -> Result<Ran, Fail> {
+    let words = strings(alloc, words)?;
+    let mut source = MemorySource::new(Bytes::empty(alloc), List::empty(alloc));
+    let failing = List::new(Vec::from_slice(alloc, failing)?);
+    let mut sink = MemorySink::new(alloc, failing);
+    let status = nucleus(alloc, &words, disk, &mut source, &mut sink);
+    Ok(Ran {
+        status,
+        printed: sink.bytes().to_vec(alloc)?,
+    })
+}
+
+/// Whether the call answers and prints this.
+fn answers<D: Disk>(
+    alloc: Global,
+    words: &[&str],
+    disk: &mut D,
+    status: Status,
+    printed: &str,
+) -> Result<bool, Fail> {
+    let ran = run(alloc, words, disk, &[])?;
+    Ok(ran.status == status && ran.printed.as_slice() == printed.as_bytes())
+}
+
+/// A disk whose journal is these bytes, the first of them changed.
+fn holding(alloc: Global, bytes: &[u8], first: u8) -> Result<MemoryDisk, Fail> {
+    let mut disk = MemoryDisk::new(alloc);
+    disk.write_at("journal", 0, bytes)?;
+    if !bytes.is_empty() {
+        disk.write_at("journal", 0, &[first])?;
+    }
+    disk.sync("journal")?;
+    Ok(disk)
+}
+
+/// Whether the words over that journal answer and print this, and leave these bytes.
+fn leaves(
+    alloc: Global,
+    words: &[&str],
+    disk: &mut MemoryDisk,
+    answer: (Status, &str),
+    after: &[u8],
+) -> Result<bool, Fail> {
+    let (status, printed) = answer;
+    let right = answers(alloc, words, disk, status, printed)?;
+    Ok(right && disk.file("journal") == after)
+}
+
+/// The journal of a new store twice: its second record is none that the device takes.
+fn twice(alloc: Global) -> Result<Vec<u8>, AllocError> {
+    let mut bytes = NEW[..47].to_vec(alloc)?;
+    bytes.extend_from_slice(&NEW)?;
+    Ok(bytes)
+}
+
+#[test]
+fn a_store_is_made_once(rt: HostRuntime) -> Result<(), Fail> {
+    let alloc = rt.alloc();
+    let mut disk = MemoryDisk::new(alloc);
+    assert!(rt; leaves(alloc, &SHOW, &mut disk, (Status::NotInitialised, NONE), b"")?);
+    assert!(rt; leaves(alloc, &INIT, &mut disk, (Status::Done, MADE), &NEW)?);
+    assert!(rt; leaves(alloc, &INIT, &mut disk, (Status::Initialised, STANDS), &NEW)?);
+    assert!(rt; leaves(alloc, &SHOW, &mut disk, (Status::Done, LINES), &NEW)?);
+    assert!(rt; leaves(alloc, &SHOW_JSON, &mut disk, (Status::Done, JSON), &NEW)?);
+    Ok(())
+}
+
+#[test]
+fn each_journal_has_its_answer(rt: HostRuntime) -> Result<(), Fail> {
+    let alloc = rt.alloc();
+    let none = (Status::NotInitialised, NONE);
+    let damaged = (Status::Damaged, "refused 9 Damaged 0\n");
+    for (bytes, first, init, show) in [
+        (&NEW[..1], 0x07, (Status::Done, MADE), none),
+        (
+            &NEW[..],
+            0xff,
+            (Status::Initialised, STANDS),
+            (Status::Done, LINES),
+        ),
+        (&NEW[..], 0x00, (Status::Done, MADE), none),
+        (&NEW[..47], 0x01, damaged, damaged),
+        (&NO_GENESIS[..], 0x01, damaged, damaged),
+    ] {
+        let (status, printed) = show;
+        assert!(rt;
+            answers(
+                alloc,
+                &SHOW,
+                &mut holding(alloc, bytes, first)?,
+                status,
+                printed
+            )?
+        );
+        let (status, printed) = init;
+        assert!(rt;
+            answers(
+                alloc,
+                &INIT,
+                &mut holding(alloc, bytes, first)?,
+                status,
+                printed
+            )?
+        );
+    }
+    let bytes = twice(alloc)?;
+    let place = "refused 9 Damaged 47\n";
+    assert!(rt;
+        answers(
+            alloc,
+            &SHOW,
+            &mut holding(alloc, &bytes, 0x01)?,
+            Status::Damaged,
+            place
+        )?
+    );
+    assert!(rt;
+        answers(
+            alloc,
+            &INIT,
+            &mut holding(alloc, &bytes, 0x01)?,
+            Status::Damaged,
+            place
+        )?
+    );
+    Ok(())
+}
+
+/// `init` over a disk that stops after so many calls.
+fn stopped(alloc: Global, stop: u64) -> Result<FusedDisk, Fail> {
+    let mut disk = FusedDisk::new(MemoryDisk::new(alloc), stop, List::empty(alloc));
+    let _ran = run(alloc, &INIT, &mut disk, &[])?;
+    Ok(disk)
+}
+
+/// Whether over that image `status` finds the store or none, and `init` then refuses or makes it.
+fn goes_on(alloc: Global, disk: &FusedDisk, pick: Pick, has_store: bool) -> Result<bool, Fail> {
+    let mut image = disk.disk().image(alloc, pick)?;
+    if has_store {
+        let shown = answers(alloc, &SHOW, &mut image, Status::Done, LINES)?;
+        return Ok(shown && answers(alloc, &INIT, &mut image, Status::Initialised, STANDS)?);
+    }
+    let none = answers(alloc, &SHOW, &mut image, Status::NotInitialised, NONE)?;
+    Ok(none && leaves(alloc, &INIT, &mut image, (Status::Done, MADE), &NEW)?)
+}
+
+#[test]
+fn a_stopped_init_leaves_a_store_or_none(rt: HostRuntime) -> Result<(), Fail> {
+    let alloc = rt.alloc();
+    // Two calls open the journal, three make it and four stage the entry. The tenth opens the gate and the eleventh
+    // makes that stable.
+    for stop in 0..12u64 {
+        let disk = stopped(alloc, stop)?;
+        assert!(rt;
+            goes_on(alloc, &disk, Pick::Old, stop >= 11)?,
+            "lost after {stop}"
+        );
+        assert!(rt;
+            goes_on(alloc, &disk, Pick::New, stop >= 10)?,
+            "kept after {stop}"
+        );
+        assert!(rt;
+            goes_on(alloc, &disk, Pick::Fill(0x01), stop >= 10)?,
+            "torn after {stop}"
+        );
+    }
+    Ok(())
+}
+
+/// Whether the words are refused with the usage line, and the journal stays empty.
+fn is_usage(alloc: Global, words: &[&str]) -> Result<bool, Fail> {
+    leaves(
+        alloc,
+        words,
+        &mut MemoryDisk::new(alloc),
+        (Status::Usage, USAGE),
+        b"",
+    )
+}
+
+/// The words of `init` with one of them changed.
+fn with_word<'a>(at: usize, word: &'a str) -> [&'a str; 12] {
+    let mut words: [&'a str; 12] = INIT;
+    if at < 12 {
+        words[at] = word;
+    }
+    words
+}
+
+#[test]
+fn other_words_are_usage(rt: HostRuntime) -> Result<(), Fail> {
+    let alloc = rt.alloc();
+    for (at, word) in [
+        (1, "--rot"),
+        (2, "/g\ng"),
+        (3, "Init"),
+        (4, "--name"),
+        (5, "t 1"),
+        (5, ""),
+        (6, "--version"),
+        (7, "2.12"),
+        (7, "02.12.0"),
+        (8, "--system"),
+        (9, "linux\t"),
+        (10, "--architecture"),
+        (11, ""),
+    ] {
+        assert!(rt; is_usage(alloc, &with_word(at, word))?, "{word:?} at {at}");
+    }
+    assert!(rt; is_usage(alloc, &[])?);
+    assert!(rt; is_usage(alloc, &["nucleus", "deploy"])?);
+    assert!(rt; is_usage(alloc, &INIT[..11])?);
+    assert!(rt; is_usage(alloc, &["nucleus", "--root", "/gg", "status", "--jso"])?);
+    assert!(rt;
+        is_usage(
+            alloc,
+            &["nucleus", "--root", "/gg", "status", "--json", "--json"]
+        )?
+    );
+    assert!(rt; is_usage(alloc, &["nucleus", "--root", "/gg", "init"])?);
+    assert!(rt; is_usage(alloc, &["nucleus", "--root", "/gg", "deploy", "--json"])?);
+    assert!(rt; is_usage(alloc, &["nucleus", "--root", "/gg", "resume"])?);
+    let longest = "0123456789abcdef".repeat(alloc, 64)?;
+    let status = Status::NotInitialised;
+    let mut disk = MemoryDisk::new(alloc);
+    assert!(rt;
+        answers(
+            alloc,
+            &["nucleus", "--root", &longest, "status"],
+            &mut disk,
+            status,
+            NONE
+        )?
+    );
+    let longer = format!(in alloc; "{longest}/")?;
+    assert!(rt; is_usage(alloc, &["nucleus", "--root", &longer, "status"])?);
+    Ok(())
+}
+
+/// Whether the call answers 6 where the sink fails this call, prints this front, and leaves this journal.
+fn is_cut_off(
+    alloc: Global,
+    words: &[&str],
+    disk: &mut MemoryDisk,
+    failing: u64,
+    front: &str,
+) -> Result<bool, Fail> {
+    let ran = run(alloc, words, disk, &[failing])?;
+    let printed = ran.printed.as_slice() == front.as_bytes();
+    Ok(ran.status == Status::Edge && printed && disk.file("journal") == NEW.as_slice())
+}
+
+#[test]
+fn lines_that_cannot_be_written_are_status_6(rt: HostRuntime) -> Result<(), Fail> {
+    let alloc = rt.alloc();
+    for (failing, front) in [(0, ""), (1, "initialised "), (2, "initialised t1")] {
+        assert!(rt; is_cut_off(alloc, &INIT, &mut MemoryDisk::new(alloc), failing, front)?);
+    }
+    for (failing, front) in [
+        (0, ""),
+        (1, "refused 16 Initialised "),
+        (2, "refused 16 Initialised t1"),
+    ] {
+        assert!(rt;
+            is_cut_off(
+                alloc,
+                &INIT,
+                &mut holding(alloc, &NEW, 0x01)?,
+                failing,
+                front
+            )?
+        );
+    }
+    assert!(rt; is_cut_off(alloc, &SHOW, &mut holding(alloc, &NEW, 0x01)?, 0, "")?);
+    Ok(())
+}

@@ -1,0 +1,77 @@
+-- What a crash may leave of the steps of a command.
+use Rattle.std.proofs.Common.{◌≡◌, ◌∙◌, inl, inr, ⊎_elim, ℕ, List, [], Bool, ap, sym, refl, Err}
+use Rattle.disk_model.specs.Disk.{Image, After, Leaves, DiskLaws}
+use Rattle.disk_model.specs.Moments.{now, joined, weaker}
+use Rattle.gate_log.specs.Entries.{journal}
+use Rattle.gate_log.specs.Journal.{Within, AreSettled, BeforeOrAfter, log_files, log_none, log_entries}
+use Rattle.gate_log.specs.declared.log.AppendFault.{AppendFault}
+use Rattle.gate_log.specs.declared.log.AppendFault.TheVariants.{Disk, Full}
+use Rattle.nuc_base.specs.Faults.{Rose}
+use Rattle.std.specs.Result.{IsErrOf}
+use Rattle.records.specs.declared.record.Origin.{Origin}
+use Rattle.nucleus_top.specs.Begun.{IsFirst}
+use Rattle.nucleus_top.specs.Leaving.{IsNoneOrBegun, LeavesOf, MayLeave}
+use Rattle.nucleus_top.specs.Words.{IsOrder}
+use Rattle.nucleus_top.specs.declared.words.Order.{Order}
+use Rattle.nucleus_top.specs.declared.words.Order.TheVariants.{Init}
+use Rattle.nucleus_top.proofs.Standing.{none_of}
+use Rattle.nucleus_top.proofs.Origins.{first_stands}
+
+-- an append that is not full fails by the disk
+pub append_rose : (before now : ℕ) (fault : AppendFault) → (IsErrOf {T = Unit {0}} (Err fault) Disk → Rose before now) → ((end : ℕ) → IsErrOf {T = Unit {0}} (Err fault) (Full end) → ⊥) → Rose before now
+append_rose before now Disk cause full = cause refl
+append_rose before now (Full end) cause full = absurd (full end refl)
+
+none_or_begun : (o : Origin) (payload : List ℕ) → IsFirst payload o → (c : Image) → BeforeOrAfter log_entries [] payload c → IsNoneOrBegun o c
+none_or_begun o payload first c (inl none) = inl (none_of (c journal) none)
+none_or_begun o payload first c (inr one) = inr (first_stands c payload o first one)
+
+module _ {D : Type 0} {tells : Bool} {seen : D → Image} {may_leave : D → Image → Type 0} {moment : D → ℕ} {left_since : D → ℕ → Image → Type 0}
+    (laws : DiskLaws tells seen may_leave moment left_since) where
+  -- a journal is made
+  pub created : (o : Origin) (old new : D) → Leaves moment left_since old new (After (may_leave old) (Within log_files log_none))
+      → Leaves moment left_since old new (LeavesOf (Init o) (may_leave old))
+  created o old new leaves = weaker laws old new _ _ (λ c was. inr (was.0, was.1, record { here = inl was.2.here; others = was.2.others })) leaves
+
+  -- and then its first entry is added
+  pub appended : (o : Origin) (payload : List ℕ) → IsFirst payload o → (old mid new : D)
+      → Leaves moment left_since old mid (After (may_leave old) (Within log_files log_none))
+      → Leaves moment left_since mid new (After (may_leave mid) (Within log_files (BeforeOrAfter log_entries [] payload)))
+      → Leaves moment left_since old new (LeavesOf (Init o) (may_leave old))
+  appended o payload first old mid new made added =
+      joined laws old mid new _ _ _ made added
+      (λ c was. inr (was.0, was.1, record { here = inl was.2.here; others = was.2.others }))
+      (λ c was.
+      let before = now laws old mid _ made was.0 was.1 in
+      inr (
+        before.0,
+        before.1,
+        record { here = none_or_begun o payload first c was.2.here; others = λ name other. was.2.others name other ∙ before.2.others name other },
+      ))
+
+  -- a command that goes on after a call that changes nothing
+  pub then_order : (order : Order) (old mid new : D) → Leaves moment left_since old mid (may_leave old)
+      → Leaves moment left_since mid new (LeavesOf order (may_leave mid)) → Leaves moment left_since old new (LeavesOf order (may_leave old))
+  then_order order old mid new first second =
+      joined laws old mid new _ _ _ first second
+      (λ c left. inl left)
+      (λ c left. ⊎_elim (λ l. inl (now laws old mid _ first c l)) (λ was. inr (was.0, now laws old mid _ first was.0 was.1, was.2)) left)
+
+  -- a call that changes nothing
+  pub only_allowed : (order : Order) (old new : D) → Leaves moment left_since old new (may_leave old) → Leaves moment left_since old new (LeavesOf order (may_leave old))
+  only_allowed order old new leaves = weaker laws old new _ _ (λ c left. inl left) leaves
+
+  -- by the words that ask the command
+  pub by_words : (words : List (List ℕ)) (order : Order) (old new : D) → IsOrder words order
+      → Leaves moment left_since old new (LeavesOf order (may_leave old)) → Leaves moment left_since old new (MayLeave words (may_leave old))
+  by_words words order old new asks leaves =
+      weaker laws old new _ _ (λ c left. ⊎_elim (λ l. inl l) (λ was. inr (order, asks, was)) left) leaves
+
+  pub by_none : (words : List (List ℕ)) (old new : D) → Leaves moment left_since old new (may_leave old) → Leaves moment left_since old new (MayLeave words (may_leave old))
+  by_none words old new leaves = weaker laws old new _ _ (λ c left. inl left) leaves
+
+  -- what a crash leaves of the journal stays so
+  pub settled_on : (old new : D) → Leaves moment left_since old new (may_leave old) → seen new ≡ seen old
+      → AreSettled seen may_leave log_files old → AreSettled seen may_leave log_files new
+  settled_on old new leaves same settled = λ file is c left.
+      settled file is c (now laws old new _ leaves c left) ∙ ap (λ (s : Image). s file) (sym same)

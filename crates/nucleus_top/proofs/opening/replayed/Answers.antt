@@ -1,0 +1,26 @@
+use Rattle.std.proofs.Common.{inr, subst, Err}
+use Rattle.device.specs.Devices.{device_view}
+use Rattle.device.specs.Standing.{Replayed}
+use Rattle.device.specs.declared.fault.ReplayFault.{ReplayFault}
+use Rattle.nucleus_top.specs.Opening.{IsDamagedIn}
+use Rattle.nucleus_top.proofs.Standing.{some_payloads, damaged_none}
+use Rattle.nucleus_top.proofs.Origins.{has_origin, not_none}
+use Rattle.nucleus_top.proofs.opening.replayed.Goals as goal
+
+pub returns-then-is_none-clause-told : goal.returns-then-is_none-clause-told
+returns-then-is_none-clause-told g c = λ tells.
+    let opened = c.requires.open in
+    let image = g.D.Disk.seen c.args.disk.now in
+    let replayed = c.in-Ok.ensures.told tells opened.0 opened.1 in
+    let some = some_payloads image c.args.log.now.end opened.0 (opened.1.stands_for tells) (c.requires.some tells) in
+    let origin = has_origin opened.0 (device_view c.in-Ok.device) some replayed.0 in
+    absurd (not_none c.in-Ok.device.origin origin.0 c.if-is_none.ensures origin.1)
+
+pub returns-in-Err-Damaged-clause-told : goal.returns-in-Err-Damaged-clause-told
+returns-in-Err-Damaged-clause-told g c = λ tells.
+    let opened = c.requires.open in
+    let image = g.D.Disk.seen c.args.disk.now in
+    let at = c.in-Err-Damaged.at in
+    let damaged = subst (λ (f : ReplayFault). Replayed opened.0 (Err f)) c.in-Err-Damaged.field-0-is (c.in-Err-Damaged.ensures.told tells opened.0 opened.1) in
+    let place : IsDamagedIn image at = inr (opened.0, inr (c.args.log.now.end, opened.1.stands_for tells), damaged) in
+    record { place = place; none = damaged_none image at place }

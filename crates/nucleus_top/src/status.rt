@@ -1,0 +1,58 @@
+// The command `status`.
+ghost use Rattle.std.specs.Prelude.{◌≡◌, ◌≤◌, IfOk};
+ghost use Rattle.std.specs.Option.{IsSome};
+ghost use Rattle.disk_model.specs.Disk.{Leaves};
+ghost use Rattle.device.specs.Devices.{device_view, IsRegularDevice};
+ghost use Rattle.nucleus_top.specs.Answers.{store_of};
+ghost use Rattle.nucleus_top.specs.Shows.{Shows, ShowsDevice, shown};
+ghost use Rattle.nucleus_top.specs.Leaving.{Keeps};
+
+use crate::answer::Answer;
+use crate::opening::{Opening, damaged, open};
+use device::Device;
+use disk_model::Disk;
+use nuc_base::{NoMemory, Text};
+use status_text::{status_json, status_lines};
+use std::alloc::Global;
+
+/// The status of a device: its lines, or one line of JSON.
+fn status_of(alloc: Global, json: bool, device: &Device) -> Result<Text, NoMemory>
+    requires origin { IsSome device.now.origin }
+    requires regular { IsRegularDevice (device_view device.now) }
+    ensures { IfOk result (λ text. text ≡ shown json (device_view device.now)) }
+{
+    if !json {
+        return status_lines(alloc, device);
+    }
+    let mut text = status_json(alloc, device)?;
+    text.push_str("\n")?;
+    Ok(text)
+}
+
+fn show(alloc: Global, json: bool, device: &Device) -> Answer
+    requires origin { IsSome device.now.origin }
+    requires regular { IsRegularDevice (device_view device.now) }
+    ensures { ShowsDevice json (device_view device.now) result }
+{
+    match status_of(alloc, json, device) {
+        Ok(text) => Answer::Shown(text),
+        Err(_) => Answer::NoMemory,
+    }
+}
+
+/// Shows the device for which the journal stands. It writes nothing to the disk.
+pub fn status<D: Disk>(alloc: Global, json: bool, disk: &mut D) -> Answer
+    ensures comes { Shows json (store_of D.tells D.seen D.faults disk.old disk.new) result }
+    ensures moments { Leaves D.moment D.left_since disk.old disk.new (D.may_leave disk.old) }
+    ensures keeps { Keeps (D.may_leave disk.new) (D.seen disk.new) result }
+    ensures seen { D.seen disk.new ≡ D.seen disk.old }
+    ensures later { D.faults disk.old ≤ D.faults disk.new }
+{
+    match open(alloc, disk) {
+        Opening::Empty => Answer::NotInitialised,
+        Opening::Found(device) => show(alloc, json, &device),
+        Opening::Damaged(at) => damaged(alloc, at),
+        Opening::DiskFailed => Answer::DiskFailed,
+        Opening::NoMemory => Answer::NoMemory,
+    }
+}
