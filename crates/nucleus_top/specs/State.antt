@@ -2,19 +2,15 @@
 use Rattle.std.specs.Prelude.{ℕ, List, map, codes}
 use Rattle.serde_json.specs.Data.{Data, string, array, object, no_items, item, no_members, member}
 use Rattle.serde_json.specs.Written.{compact_text}
-use Rattle.tree_core.specs.View.{items_of}
+use Rattle.tree_core.specs.View.{items_of, pair_data}
 use Rattle.nucleus_top.specs.declared.document.Component.{Component}
 use Rattle.nucleus_top.specs.declared.document.Deployment.{Deployment}
 
--- an object of two texts
-abbrev pub pair_tree : List ℕ → List ℕ → List ℕ → List ℕ → Data
-pair_tree first text second other = object (member first (string text) (member second (string other) no_members))
-
 abbrev pub closed_tree : List ℕ → Data
-closed_tree id = pair_tree (codes "id") id (codes "outcome") (codes "SUCCESSFUL")
+closed_tree id = pair_data (codes "id") id (codes "outcome") (codes "SUCCESSFUL")
 
 abbrev pub component_tree : Component → Data
-component_tree component = pair_tree (codes "name") component.name (codes "version") component.version
+component_tree component = pair_data (codes "name") component.name (codes "version") component.version
 
 abbrev pub components_tree : List Component → Data
 components_tree components = array (items_of (map component_tree components))

@@ -1,12 +1,12 @@
-ghost use Rattle.std.specs.Prelude.{◌≡◌, ◌++◌, ◌∷◌, [], IfOk, OnOk, map};
-ghost use Rattle.serde_json.specs.Data.{string, array, item, no_items};
-ghost use Rattle.tree_core.specs.View.{view, field_view};
-ghost use Rattle.nucleus_top.specs.State.{pair_tree, component_tree, closed_tree, state_tree, state_text};
+ghost use Rattle.std.specs.Prelude.{◌≡◌, IfOk, map};
+ghost use Rattle.serde_json.specs.Data.{array, item, no_items};
+ghost use Rattle.tree_core.specs.View.{view};
+ghost use Rattle.nucleus_top.specs.State.{component_tree, closed_tree, state_tree, state_text};
 
 use crate::document::{Component, Deployment};
 use nuc_base::{NoMemory, Text};
 use std::alloc::Global;
-use tree_core::Tree;
+use tree_core::{Tree, pair_tree, put_field, text_tree};
 
 /// The text of the file `state` for a deployment: the compact JSON text of what closed, the components by name and
 /// the group.
@@ -20,15 +20,15 @@ fn tree_of(alloc: Global, deployment: &Deployment) -> Result<Tree, NoMemory>
     ensures { IfOk result (λ tree. view tree ≡ state_tree deployment.now) }
 {
     let mut fields = Vec::new(alloc);
-    put(
+    put_field(
         alloc,
         &mut fields,
         "closed",
         closed_of(alloc, deployment.id.as_str())?,
     )?;
     let components = components_of(alloc, deployment.components.as_slice())?;
-    put(alloc, &mut fields, "components", Tree::Items(components))?;
-    put(
+    put_field(alloc, &mut fields, "components", Tree::Items(components))?;
+    put_field(
         alloc,
         &mut fields,
         "group",
@@ -37,48 +37,12 @@ fn tree_of(alloc: Global, deployment: &Deployment) -> Result<Tree, NoMemory>
     Ok(Tree::Fields(fields))
 }
 
-/// Adds a field at the end.
-fn put(
-    alloc: Global,
-    fields: &mut Vec<(Text, Tree)>,
-    key: &str,
-    value: Tree,
-) -> Result<(), NoMemory>
-    ensures { OnOk result (map field_view fields.new.items ≡ map field_view fields.old.items ++ (key.now, view value) ∷ []) }
-{
-    let key = Text::from_str(alloc, key)?;
-    fields.push((key, value))?;
-    Ok(())
-}
-
-fn text_tree(alloc: Global, text: &str) -> Result<Tree, NoMemory>
-    ensures { IfOk result (λ tree. view tree ≡ string text.now) }
-{
-    Ok(Tree::Text(Text::from_str(alloc, text)?))
-}
-
-/// An object of two texts.
-fn pair_of(
-    alloc: Global,
-    first: &str,
-    text: &str,
-    second: &str,
-    other: &str,
-) -> Result<Tree, NoMemory>
-    ensures { IfOk result (λ tree. view tree ≡ pair_tree first.now text.now second.now other.now) }
-{
-    let mut fields = Vec::new(alloc);
-    put(alloc, &mut fields, first, text_tree(alloc, text)?)?;
-    put(alloc, &mut fields, second, text_tree(alloc, other)?)?;
-    Ok(Tree::Fields(fields))
-}
-
 /// The list of the one deployment that closed.
 fn closed_of(alloc: Global, id: &str) -> Result<Tree, NoMemory>
     ensures { IfOk result (λ tree. view tree ≡ array (item (closed_tree id.now) no_items)) }
 {
     let mut items = Vec::new(alloc);
-    items.push(pair_of(alloc, "id", id, "outcome", "SUCCESSFUL")?)?;
+    items.push(pair_tree(alloc, ("id", id), ("outcome", "SUCCESSFUL"))?)?;
     Ok(Tree::Items(items))
 }
 
@@ -88,7 +52,8 @@ fn components_of(alloc: Global, components: &[Component]) -> Result<Vec<Tree>, N
     let mut trees = Vec::with_capacity(alloc, components.len())?;
     for component in components {
         let name = component.name.as_str();
-        trees.push(pair_of(alloc, "name", name, "version", component.version.as_str())?)?;
+        let version = component.version.as_str();
+        trees.push(pair_tree(alloc, ("name", name), ("version", version))?)?;
     }
     Ok(trees)
 }

@@ -4,7 +4,7 @@ use Rattle.std.specs.List.{flat_map}
 use Rattle.serde_json.specs.Data.{Data, null, string, array, object, no_members, member}
 use Rattle.serde_json.specs.Written.{compact_text}
 use Rattle.nuc_base.specs.declared.kinds.Outcome.{Outcome}
-use Rattle.tree_core.specs.View.{items_of}
+use Rattle.tree_core.specs.View.{items_of, pair_data}
 use Rattle.records.specs.Stored.{Item}
 use Rattle.records.specs.declared.record.Origin.{Origin}
 use Rattle.records.specs.declared.record.Requirement.{Requirement}
@@ -51,16 +51,12 @@ status_text d =
 
 -- ---- the same as a tree, whose keys are in byte order
 
--- an object of two texts
-abbrev pub pair_tree : List ℕ → List ℕ → List ℕ → List ℕ → Data
-pair_tree first text second other = object (member first (string text) (member second (string other) no_members))
-
 -- a list of what each element is shown as
 abbrev pub list_tree : {A : Type 0} → (A → Data) → List A → Data
 list_tree tree_of xs = array (items_of (map tree_of xs))
 
 abbrev pub closed_tree : List ℕ × Outcome → Data
-closed_tree c = pair_tree (codes "id") c.0 (codes "outcome") (outcome_text c.1)
+closed_tree c = pair_data (codes "id") c.0 (codes "outcome") (outcome_text c.1)
 
 abbrev pub component_tree : Item → Data
 component_tree i = object (
@@ -69,7 +65,7 @@ component_tree i = object (
     member (codes "version") (string i.version) no_members)))
 
 abbrev pub requirement_tree : Requirement → Data
-requirement_tree r = pair_tree (codes "name") r.name (codes "range") r.range
+requirement_tree r = pair_data (codes "name") r.name (codes "range") r.range
 
 abbrev pub group_tree : Group → Data
 group_tree g = object (
@@ -82,7 +78,7 @@ nucleus_tree (Some o) = string o.nucleus
 
 abbrev pub pending_tree : Option Pending → Data
 pending_tree None = null
-pending_tree (Some p) = pair_tree (codes "id") p.plan.id (codes "stage") (stage_text p.stage)
+pending_tree (Some p) = pair_data (codes "id") p.plan.id (codes "stage") (stage_text p.stage)
 
 abbrev pub thing_tree : Option Origin → Data
 thing_tree None = null

@@ -1,11 +1,10 @@
-ghost use Rattle.std.specs.Prelude.{◌≡◌, ◌++◌, ◌∷◌, [], IfOk, OnOk, IsSome, Some, map, option_map};
-ghost use Rattle.serde_json.specs.Data.{string};
+ghost use Rattle.std.specs.Prelude.{◌≡◌, IfOk, IsSome, Some, map, option_map};
 ghost use Rattle.serde_json.specs.Read.{read};
 ghost use Rattle.serde_json.specs.Written.{compact_text};
 ghost use Rattle.records.specs.Stored.{item_view};
-ghost use Rattle.tree_core.specs.View.{view, field_view};
+ghost use Rattle.tree_core.specs.View.{view};
 ghost use Rattle.device.specs.Devices.{device_view, pending_view, IsRegularDevice};
-ghost use Rattle.status_text.specs.Status.{list_tree, pair_tree, closed_tree, component_tree, requirement_tree, group_tree, pending_tree, status_tree};
+ghost use Rattle.status_text.specs.Status.{list_tree, closed_tree, component_tree, requirement_tree, group_tree, pending_tree, status_tree};
 
 use crate::places::{group_at, group_count};
 use crate::words::{outcome_word, stage_word};
@@ -13,7 +12,7 @@ use device::{Device, Group, Groups, Pending};
 use nuc_base::{Copied, Label, NoMemory, Outcome, Text};
 use records::{Item, Requirement};
 use std::alloc::Global;
-use tree_core::Tree;
+use tree_core::{Tree, pair_tree, put_field, text_tree};
 
 /// The status of a device as one JSON text (RFC 8259) without blanks and without a line feed at its end: an object with
 /// the keys `closed`, `components`, `groups`, `nucleus`, `pending` and `thing`. A JSON reader gets that object back.
@@ -40,48 +39,12 @@ fn tree_of(alloc: Global, device: &Device) -> Result<Tree, NoMemory>
     let pending = pending_of(alloc, &device.pending)?;
     let thing = text_tree(alloc, origin.thing.as_str())?;
     let mut fields = Vec::new(alloc);
-    put(alloc, &mut fields, "closed", closed)?;
-    put(alloc, &mut fields, "components", components)?;
-    put(alloc, &mut fields, "groups", groups)?;
-    put(alloc, &mut fields, "nucleus", nucleus)?;
-    put(alloc, &mut fields, "pending", pending)?;
-    put(alloc, &mut fields, "thing", thing)?;
-    Ok(Tree::Fields(fields))
-}
-
-/// Adds a field at the end.
-fn put(
-    alloc: Global,
-    fields: &mut Vec<(Text, Tree)>,
-    key: &str,
-    value: Tree,
-) -> Result<(), NoMemory>
-    ensures { OnOk result (map field_view fields.new.items ≡ map field_view fields.old.items ++ (key.now, view value) ∷ []) }
-{
-    let key = Text::from_str(alloc, key)?;
-    fields.push((key, value))?;
-    Ok(())
-}
-
-fn text_tree(alloc: Global, text: &str) -> Result<Tree, NoMemory>
-    ensures { IfOk result (λ tree. view tree ≡ string text.now) }
-{
-    Ok(Tree::Text(Text::from_str(alloc, text)?))
-}
-
-/// An object of two texts.
-fn pair_of(
-    alloc: Global,
-    first: &str,
-    text: &str,
-    second: &str,
-    other: &str,
-) -> Result<Tree, NoMemory>
-    ensures { IfOk result (λ tree. view tree ≡ pair_tree first.now text.now second.now other.now) }
-{
-    let mut fields = Vec::new(alloc);
-    put(alloc, &mut fields, first, text_tree(alloc, text)?)?;
-    put(alloc, &mut fields, second, text_tree(alloc, other)?)?;
+    put_field(alloc, &mut fields, "closed", closed)?;
+    put_field(alloc, &mut fields, "components", components)?;
+    put_field(alloc, &mut fields, "groups", groups)?;
+    put_field(alloc, &mut fields, "nucleus", nucleus)?;
+    put_field(alloc, &mut fields, "pending", pending)?;
+    put_field(alloc, &mut fields, "thing", thing)?;
     Ok(Tree::Fields(fields))
 }
 
@@ -91,7 +54,7 @@ fn closed_of(alloc: Global, closed: &[(Label, Outcome)]) -> Result<Tree, NoMemor
     let mut trees = Vec::with_capacity(alloc, closed.len())?;
     for (id, outcome) in closed {
         let word = outcome_word(*outcome);
-        trees.push(pair_of(alloc, "id", id.as_str(), "outcome", word)?)?;
+        trees.push(pair_tree(alloc, ("id", id.as_str()), ("outcome", word))?)?;
     }
     Ok(Tree::Items(trees))
 }
@@ -110,15 +73,15 @@ fn component_of(alloc: Global, item: &Item) -> Result<Tree, NoMemory>
     ensures { IfOk result (λ tree. view tree ≡ component_tree (item_view item.now)) }
 {
     let mut fields = Vec::new(alloc);
-    put(alloc, &mut fields, "config", item.config.copy(alloc)?)?;
-    put(
+    put_field(alloc, &mut fields, "config", item.config.copy(alloc)?)?;
+    put_field(
         alloc,
         &mut fields,
         "name",
         text_tree(alloc, item.name.as_str())?,
     )?;
     let version = text_tree(alloc, item.version.text().as_str())?;
-    put(alloc, &mut fields, "version", version)?;
+    put_field(alloc, &mut fields, "version", version)?;
     Ok(Tree::Fields(fields))
 }
 
@@ -136,14 +99,14 @@ fn group_of(alloc: Global, group: &Group) -> Result<Tree, NoMemory>
     ensures { IfOk result (λ tree. view tree ≡ group_tree group.now) }
 {
     let mut fields = Vec::new(alloc);
-    put(
+    put_field(
         alloc,
         &mut fields,
         "arn",
         text_tree(alloc, group.arn.as_str())?,
     )?;
     let requirements = requirements_of(alloc, group.requirements.as_slice())?;
-    put(alloc, &mut fields, "components", requirements)?;
+    put_field(alloc, &mut fields, "components", requirements)?;
     Ok(Tree::Fields(fields))
 }
 
@@ -153,13 +116,8 @@ fn requirements_of(alloc: Global, requirements: &[Requirement]) -> Result<Tree, 
     let mut trees = Vec::with_capacity(alloc, requirements.len())?;
     for requirement in requirements {
         let range = requirement.range.text();
-        trees.push(pair_of(
-            alloc,
-            "name",
-            requirement.name.as_str(),
-            "range",
-            range.as_str(),
-        )?)?;
+        let range = range.as_str();
+        trees.push(pair_tree(alloc, ("name", requirement.name.as_str()), ("range", range))?)?;
     }
     Ok(Tree::Items(trees))
 }
@@ -170,7 +128,7 @@ fn pending_of(alloc: Global, pending: &Option<Pending>) -> Result<Tree, NoMemory
     match pending {
         Some(pending) => {
             let stage = stage_word(pending.stage);
-            pair_of(alloc, "id", pending.plan.id.as_str(), "stage", stage)
+            pair_tree(alloc, ("id", pending.plan.id.as_str()), ("stage", stage))
         }
         None => Ok(Tree::Null),
     }
