@@ -385,55 +385,65 @@ fn renewed() -> Component {
     component
 }
 
+const RUN: StepSet = StepSet {
+    run: true,
+    ..NO_STEPS
+};
+
+const STARTUP: StepSet = StepSet {
+    startup: true,
+    shutdown: true,
+    ..NO_STEPS
+};
+
+/// Steps, how a component with them moves, and whether it then awaits a stop.
+const LIVES: &[(StepSet, &[Moved], bool)] = &[
+    (NO_STEPS, &WITHOUT_STEPS, false),
+    (
+        StepSet {
+            install: true,
+            ..RUN
+        },
+        &INSTALL_AND_RUN,
+        true,
+    ),
+    (
+        StepSet {
+            install: true,
+            recover: true,
+            ..NO_STEPS
+        },
+        &INSTALL_AND_RECOVER,
+        true,
+    ),
+    (
+        StepSet {
+            recover: true,
+            ..STARTUP
+        },
+        &STARTUP_AND_SHUTDOWN,
+        false,
+    ),
+    (
+        StepSet {
+            shutdown: true,
+            ..RUN
+        },
+        &RUN_AND_SHUTDOWN,
+        false,
+    ),
+];
+
 #[test]
 fn each_row_of_the_table(rt: HostRuntime) {
-    let run = StepSet {
-        run: true,
-        ..NO_STEPS
-    };
-    let startup = StepSet {
-        startup: true,
-        shutdown: true,
-        ..NO_STEPS
-    };
-    for (steps, table, stands) in [
-        (NO_STEPS, WITHOUT_STEPS.as_slice(), false),
-        (
-            StepSet {
-                install: true,
-                ..run
-            },
-            &INSTALL_AND_RUN,
-            true,
-        ),
-        (
-            StepSet {
-                install: true,
-                recover: true,
-                ..NO_STEPS
-            },
-            &INSTALL_AND_RECOVER,
-            true,
-        ),
-        (
-            StepSet {
-                recover: true,
-                ..startup
-            },
-            &STARTUP_AND_SHUTDOWN,
-            false,
-        ),
-        (
-            StepSet {
-                shutdown: true,
-                ..run
-            },
-            &RUN_AND_SHUTDOWN,
-            false,
-        ),
-    ] {
-        assert!(rt; stands_after(steps, table) == Some(stands), "{steps:?}");
+    for (steps, table, stands) in LIVES {
+        assert!(rt; stands_after(*steps, table) == Some(*stands), "{steps:?}");
     }
+    life_laws();
+}
+
+#[test]
+fn the_next_item_is_taken_after_a_stop(rt: HostRuntime) {
     let mut component = renewed();
     assert!(rt; component.failures() == 0);
     component.set_failures(2);
@@ -444,5 +454,4 @@ fn each_row_of_the_table(rt: HostRuntime) {
     }
     let event = LifeEvent::Ended(Step::Shutdown, BAD);
     assert!(rt; moves(&mut component, &[(event, LifeAct::Kill, State::New, 0)]));
-    life_laws();
 }

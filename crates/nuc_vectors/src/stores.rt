@@ -132,64 +132,35 @@ fn a_store_is_made_once(rt: HostRuntime) -> Result<(), Fail> {
     Ok(())
 }
 
+/// Whether `status` and `init` over the journal of these bytes, the first of them changed, have these answers.
+fn have_answers(
+    alloc: Global,
+    bytes: &[u8],
+    first: u8,
+    show: (Status, &str),
+    init: (Status, &str),
+) -> Result<bool, Fail> {
+    let mut disk = holding(alloc, bytes, first)?;
+    if !answers(alloc, &SHOW, &mut disk, show.0, show.1)? {
+        return Ok(false);
+    }
+    answers(alloc, &INIT, &mut disk, init.0, init.1)
+}
+
 #[test]
 fn each_journal_has_its_answer(rt: HostRuntime) -> Result<(), Fail> {
     let alloc = rt.alloc();
     let none = (Status::NotInitialised, NONE);
+    let made = (Status::Done, MADE);
+    assert!(rt; have_answers(alloc, &NEW[..1], 0x07, none, made)?);
+    assert!(rt; have_answers(alloc, &NEW, 0x00, none, made)?);
+    let stands = (Status::Initialised, STANDS);
+    assert!(rt; have_answers(alloc, &NEW, 0xff, (Status::Done, LINES), stands)?);
     let damaged = (Status::Damaged, "refused 9 Damaged 0\n");
-    for (bytes, first, init, show) in [
-        (&NEW[..1], 0x07, (Status::Done, MADE), none),
-        (
-            &NEW[..],
-            0xff,
-            (Status::Initialised, STANDS),
-            (Status::Done, LINES),
-        ),
-        (&NEW[..], 0x00, (Status::Done, MADE), none),
-        (&NEW[..47], 0x01, damaged, damaged),
-        (&NO_GENESIS[..], 0x01, damaged, damaged),
-    ] {
-        let (status, printed) = show;
-        assert!(rt;
-            answers(
-                alloc,
-                &SHOW,
-                &mut holding(alloc, bytes, first)?,
-                status,
-                printed
-            )?
-        );
-        let (status, printed) = init;
-        assert!(rt;
-            answers(
-                alloc,
-                &INIT,
-                &mut holding(alloc, bytes, first)?,
-                status,
-                printed
-            )?
-        );
-    }
-    let bytes = twice(alloc)?;
-    let place = "refused 9 Damaged 47\n";
-    assert!(rt;
-        answers(
-            alloc,
-            &SHOW,
-            &mut holding(alloc, &bytes, 0x01)?,
-            Status::Damaged,
-            place
-        )?
-    );
-    assert!(rt;
-        answers(
-            alloc,
-            &INIT,
-            &mut holding(alloc, &bytes, 0x01)?,
-            Status::Damaged,
-            place
-        )?
-    );
+    assert!(rt; have_answers(alloc, &NEW[..47], 0x01, damaged, damaged)?);
+    assert!(rt; have_answers(alloc, &NO_GENESIS, 0x01, damaged, damaged)?);
+    let second = (Status::Damaged, "refused 9 Damaged 47\n");
+    assert!(rt; have_answers(alloc, &twice(alloc)?, 0x01, second, second)?);
     Ok(())
 }
 
@@ -254,51 +225,48 @@ fn with_word<'a>(at: usize, word: &'a str) -> [&'a str; 12] {
     words
 }
 
+/// A word of `init` in its place, changed into one that is refused.
+const WRONG_WORDS: &[(usize, &str)] = &[
+    (1, "--rot"),
+    (2, "/g\ng"),
+    (3, "Init"),
+    (4, "--name"),
+    (5, "t 1"),
+    (5, ""),
+    (6, "--version"),
+    (7, "2.12"),
+    (7, "02.12.0"),
+    (8, "--system"),
+    (9, "linux\t"),
+    (10, "--architecture"),
+    (11, ""),
+];
+
 #[test]
 fn other_words_are_usage(rt: HostRuntime) -> Result<(), Fail> {
     let alloc = rt.alloc();
-    for (at, word) in [
-        (1, "--rot"),
-        (2, "/g\ng"),
-        (3, "Init"),
-        (4, "--name"),
-        (5, "t 1"),
-        (5, ""),
-        (6, "--version"),
-        (7, "2.12"),
-        (7, "02.12.0"),
-        (8, "--system"),
-        (9, "linux\t"),
-        (10, "--architecture"),
-        (11, ""),
-    ] {
-        assert!(rt; is_usage(alloc, &with_word(at, word))?, "{word:?} at {at}");
+    for (at, word) in WRONG_WORDS {
+        assert!(rt; is_usage(alloc, &with_word(*at, word))?, "{word:?} at {at}");
     }
     assert!(rt; is_usage(alloc, &[])?);
     assert!(rt; is_usage(alloc, &["nucleus", "deploy"])?);
     assert!(rt; is_usage(alloc, &INIT[..11])?);
     assert!(rt; is_usage(alloc, &["nucleus", "--root", "/gg", "status", "--jso"])?);
-    assert!(rt;
-        is_usage(
-            alloc,
-            &["nucleus", "--root", "/gg", "status", "--json", "--json"]
-        )?
-    );
+    let twice = ["nucleus", "--root", "/gg", "status", "--json", "--json"];
+    assert!(rt; is_usage(alloc, &twice)?);
     assert!(rt; is_usage(alloc, &["nucleus", "--root", "/gg", "init"])?);
     assert!(rt; is_usage(alloc, &["nucleus", "--root", "/gg", "deploy", "--json"])?);
     assert!(rt; is_usage(alloc, &["nucleus", "--root", "/gg", "resume"])?);
+    Ok(())
+}
+
+#[test]
+fn a_root_has_1024_bytes_at_most(rt: HostRuntime) -> Result<(), Fail> {
+    let alloc = rt.alloc();
     let longest = "0123456789abcdef".repeat(alloc, 64)?;
-    let status = Status::NotInitialised;
+    let words = ["nucleus", "--root", &longest, "status"];
     let mut disk = MemoryDisk::new(alloc);
-    assert!(rt;
-        answers(
-            alloc,
-            &["nucleus", "--root", &longest, "status"],
-            &mut disk,
-            status,
-            NONE
-        )?
-    );
+    assert!(rt; answers(alloc, &words, &mut disk, Status::NotInitialised, NONE)?);
     let longer = format!(in alloc; "{longest}/")?;
     assert!(rt; is_usage(alloc, &["nucleus", "--root", &longer, "status"])?);
     Ok(())

@@ -93,203 +93,178 @@ fn padded(alloc: Global, length: usize) -> Result<String, AllocError> {
     Ok(text)
 }
 
+/// Documents, and the state that each leaves. The others are refused.
+const DOCUMENTS: &[(&str, Option<&str>)] = &[
+    (
+        "{\"deploymentId\":\"d1\",\"targetArn\":\"g\",\"components\":{\"B\":{\"componentVersion\":\"2.0.0\"},\"A\":{\"componentVersion\":\"1.0.0\"}}}",
+        Some(
+            "{\"closed\":[{\"id\":\"d1\",\"outcome\":\"SUCCESSFUL\"}],\"components\":[{\"name\":\"A\",\"version\":\"1.0.0\"},{\"name\":\"B\",\"version\":\"2.0.0\"}],\"group\":\"g\"}",
+        ),
+    ),
+    (
+        "{\"deploymentId\":\"d1\",\"targetArn\":\"g\",\"components\":{\"A\":{\"componentVersion\":\"^1.0.0\"}}}",
+        None,
+    ),
+    (SMALL, Some(SMALL_STATE)),
+    ("", None),
+    ("[]", None),
+    (
+        "{\"deploymentId\":\"d 1\",\"targetArn\":\"g\",\"components\":{}}",
+        None,
+    ),
+    ("{\"deploymentId\":\"d1\",\"targetArn\":\"g\"}", None),
+    (
+        "{\"deploymentId\":\"d1\",\"targetArn\":\"g\",\"components\":{},\"tags\":null}",
+        None,
+    ),
+    (
+        "{\"deploymentId\":\"d1\",\"targetArn\":\"g\",\"components\":{\"..\":{\"componentVersion\":\"1.0.0\"}}}",
+        None,
+    ),
+    (
+        "{\"deploymentId\":\"d1\",\"targetArn\":\"g\",\"components\":{\"A\":{\"componentVersion\":\"1.0\"}}}",
+        None,
+    ),
+    (
+        "{\"deploymentId\":\"d1\",\"targetArn\":\"g\",\"components\":{\"A\":{\"componentVersion\":\"1.0.0.0\"}}}",
+        None,
+    ),
+    (
+        "{\"deploymentId\":\"d1\",\"targetArn\":\"g\",\"components\":{\"A\":{\"componentVersion\":\"1.00.0\"}}}",
+        None,
+    ),
+    (
+        "{\"deploymentId\":\"d1\",\"targetArn\":\"g\",\"components\":{\"A\":{\"componentVersion\":\"1.0.1234567890\"}}}",
+        None,
+    ),
+    (
+        "{\"deploymentId\":\"d1\",\"targetArn\":\"g\",\"components\":{},\"deploymentName\":18446744073709551615}",
+        Some(SMALL_STATE),
+    ),
+    (
+        "{\"deploymentId\":\"d1\",\"targetArn\":\"g\",\"components\":{},\"deploymentName\":18446744073709551616}",
+        None,
+    ),
+    (
+        "{\"deploymentId\":\"d1\",\"targetArn\":\"g\",\"components\":{},\"deploymentName\":-9223372036854775808}",
+        Some(SMALL_STATE),
+    ),
+    (
+        "{\"deploymentId\":\"d1\",\"targetArn\":\"g\",\"components\":{},\"deploymentName\":-9223372036854775809}",
+        None,
+    ),
+];
+
+impl Ran {
+    fn is(&self, status: Status, printed: &str, state: &str) -> bool {
+        self.status == status
+            && self.printed.as_slice() == printed.as_bytes()
+            && self.state.as_slice() == state.as_bytes()
+    }
+}
+
+/// Whether the document is deployed and leaves that state, or is refused and leaves none.
+fn is_answered(alloc: Global, document: &str, state: Option<&str>) -> Result<bool, Fail> {
+    let ran = run(alloc, &DEPLOY, document.as_bytes(), &NONE)?;
+    Ok(match state {
+        Some(state) => ran.is(Status::Done, LINES, state),
+        None => ran.is(Status::BadInput, NOT_YET, ""),
+    })
+}
+
+/// Whether the words are refused with the usage line, and nothing is stored.
+fn is_usage(alloc: Global, words: &[&str]) -> Result<bool, Fail> {
+    Ok(run(alloc, words, SMALL.as_bytes(), &NONE)?.is(Status::Usage, USAGE, ""))
+}
+
 #[test]
 fn documents_are_stored_or_refused(rt: HostRuntime) -> Result<(), Fail> {
     let alloc = rt.alloc();
-    for (document, status, printed, state) in [
-        (
-            "{\"deploymentId\":\"d1\",\"targetArn\":\"g\",\"components\":{\"B\":{\"componentVersion\":\"2.0.0\"},\"A\":{\"componentVersion\":\"1.0.0\"}}}",
-            Status::Done,
-            LINES,
-            "{\"closed\":[{\"id\":\"d1\",\"outcome\":\"SUCCESSFUL\"}],\"components\":[{\"name\":\"A\",\"version\":\"1.0.0\"},{\"name\":\"B\",\"version\":\"2.0.0\"}],\"group\":\"g\"}",
-        ),
-        (
-            "{\"deploymentId\":\"d1\",\"targetArn\":\"g\",\"components\":{\"A\":{\"componentVersion\":\"^1.0.0\"}}}",
-            Status::BadInput,
-            NOT_YET,
-            "",
-        ),
-        (SMALL, Status::Done, LINES, SMALL_STATE),
-        ("", Status::BadInput, NOT_YET, ""),
-        ("[]", Status::BadInput, NOT_YET, ""),
-        (
-            "{\"deploymentId\":\"d 1\",\"targetArn\":\"g\",\"components\":{}}",
-            Status::BadInput,
-            NOT_YET,
-            "",
-        ),
-        (
-            "{\"deploymentId\":\"d1\",\"targetArn\":\"g\"}",
-            Status::BadInput,
-            NOT_YET,
-            "",
-        ),
-        (
-            "{\"deploymentId\":\"d1\",\"targetArn\":\"g\",\"components\":{},\"tags\":null}",
-            Status::BadInput,
-            NOT_YET,
-            "",
-        ),
-        (
-            "{\"deploymentId\":\"d1\",\"targetArn\":\"g\",\"components\":{\"..\":{\"componentVersion\":\"1.0.0\"}}}",
-            Status::BadInput,
-            NOT_YET,
-            "",
-        ),
-        (
-            "{\"deploymentId\":\"d1\",\"targetArn\":\"g\",\"components\":{\"A\":{\"componentVersion\":\"1.0\"}}}",
-            Status::BadInput,
-            NOT_YET,
-            "",
-        ),
-        (
-            "{\"deploymentId\":\"d1\",\"targetArn\":\"g\",\"components\":{\"A\":{\"componentVersion\":\"1.0.0.0\"}}}",
-            Status::BadInput,
-            NOT_YET,
-            "",
-        ),
-        (
-            "{\"deploymentId\":\"d1\",\"targetArn\":\"g\",\"components\":{\"A\":{\"componentVersion\":\"1.00.0\"}}}",
-            Status::BadInput,
-            NOT_YET,
-            "",
-        ),
-        (
-            "{\"deploymentId\":\"d1\",\"targetArn\":\"g\",\"components\":{\"A\":{\"componentVersion\":\"1.0.1234567890\"}}}",
-            Status::BadInput,
-            NOT_YET,
-            "",
-        ),
-        (
-            "{\"deploymentId\":\"d1\",\"targetArn\":\"g\",\"components\":{},\"deploymentName\":18446744073709551615}",
-            Status::Done,
-            LINES,
-            SMALL_STATE,
-        ),
-        (
-            "{\"deploymentId\":\"d1\",\"targetArn\":\"g\",\"components\":{},\"deploymentName\":18446744073709551616}",
-            Status::BadInput,
-            NOT_YET,
-            "",
-        ),
-        (
-            "{\"deploymentId\":\"d1\",\"targetArn\":\"g\",\"components\":{},\"deploymentName\":-9223372036854775808}",
-            Status::Done,
-            LINES,
-            SMALL_STATE,
-        ),
-        (
-            "{\"deploymentId\":\"d1\",\"targetArn\":\"g\",\"components\":{},\"deploymentName\":-9223372036854775809}",
-            Status::BadInput,
-            NOT_YET,
-            "",
-        ),
-    ] {
-        let ran = run(alloc, &DEPLOY, document.as_bytes(), &NONE)?;
-        assert_eq!(rt; ran.status, status, "{document}");
-        assert_eq!(rt; ran.printed.as_slice(), printed.as_bytes(), "{document}");
-        assert_eq!(rt; ran.state.as_slice(), state.as_bytes(), "{document}");
+    for (document, state) in DOCUMENTS {
+        assert!(rt; is_answered(alloc, document, *state)?, "{document}");
     }
-    for (document, status) in [
-        (nested(alloc, 63)?, Status::Done),
-        (nested(alloc, 64)?, Status::BadInput),
-        (padded(alloc, 262_144)?, Status::Done),
-        (padded(alloc, 262_145)?, Status::BadInput),
-    ] {
-        let ran = run(alloc, &DEPLOY, document.as_bytes(), &NONE)?;
-        assert_eq!(rt; ran.status, status);
-    }
-    for words in [
-        ["nucleus", "--root", "/gg", "deploys"],
-        ["nucleus", "--rot", "/gg", "deploy"],
-        ["nucleus", "--root", "/g\ng", "deploy"],
-    ] {
-        let ran = run(alloc, &words, SMALL.as_bytes(), &NONE)?;
-        assert_eq!(rt; ran.status, Status::Usage);
-        assert_eq!(rt; ran.printed.as_slice(), USAGE.as_bytes());
-        assert!(rt; ran.state.is_empty());
-    }
-    let ran = run(alloc, &["nucleus", "deploy"], SMALL.as_bytes(), &NONE)?;
-    assert_eq!(rt; ran.status, Status::Usage);
+    assert!(rt; is_answered(alloc, &nested(alloc, 63)?, Some(SMALL_STATE))?);
+    assert!(rt; is_answered(alloc, &nested(alloc, 64)?, None)?);
+    assert!(rt; is_answered(alloc, &padded(alloc, 262_144)?, Some(SMALL_STATE))?);
+    assert!(rt; is_answered(alloc, &padded(alloc, 262_145)?, None)?);
     Ok(())
+}
+
+#[test]
+fn other_words_are_usage(rt: HostRuntime) -> Result<(), Fail> {
+    let alloc = rt.alloc();
+    assert!(rt; is_usage(alloc, &["nucleus", "--root", "/gg", "deploys"])?);
+    assert!(rt; is_usage(alloc, &["nucleus", "--rot", "/gg", "deploy"])?);
+    assert!(rt; is_usage(alloc, &["nucleus", "--root", "/g\ng", "deploy"])?);
+    assert!(rt; is_usage(alloc, &["nucleus", "deploy"])?);
+    Ok(())
+}
+
+/// The calls that fail, what is printed then, and the state that is left. The status is 5 or 6 by the device.
+const DISK_FAULTS: &[(Faults, &str, &str)] = &[
+    (Faults { disk: &[0], ..NONE }, "fault 5 disk\n", ""),
+    (
+        Faults { disk: &[1], ..NONE },
+        "fault 5 disk\n",
+        "{\"closed\":[{\"id\":\"d1\",\"outcome\":\"SUCC",
+    ),
+    (Faults { disk: &[2], ..NONE }, "fault 5 disk\n", SMALL_STATE),
+];
+
+const SOURCE_FAULTS: &[(Faults, &str, &str)] = &[
+    (
+        Faults {
+            source: &[0],
+            ..NONE
+        },
+        "fault 6 source\n",
+        "",
+    ),
+    (
+        Faults {
+            source: &[1],
+            ..NONE
+        },
+        "fault 6 source\n",
+        "",
+    ),
+];
+
+const SINK_FAULTS: &[(Faults, &str, &str)] = &[
+    (Faults { sink: &[0], ..NONE }, "", SMALL_STATE),
+    (Faults { sink: &[1], ..NONE }, "accepted ", SMALL_STATE),
+    (Faults { sink: &[2], ..NONE }, "accepted d1", SMALL_STATE),
+    (
+        Faults { sink: &[3], ..NONE },
+        "accepted d1\nclosed ",
+        SMALL_STATE,
+    ),
+    (
+        Faults { sink: &[4], ..NONE },
+        "accepted d1\nclosed d1",
+        SMALL_STATE,
+    ),
+];
+
+/// Whether each of the faults has that status, its lines and its state.
+fn have_status(alloc: Global, rows: &[(Faults, &str, &str)], status: Status) -> Result<bool, Fail> {
+    for (faults, printed, state) in rows {
+        if !run(alloc, &DEPLOY, SMALL.as_bytes(), faults)?.is(status, printed, state) {
+            return Ok(false);
+        }
+    }
+    Ok(true)
 }
 
 #[test]
 fn each_fault_has_its_answer(rt: HostRuntime) -> Result<(), Fail> {
     let alloc = rt.alloc();
-    for (faults, status, printed, state) in [
-        (
-            Faults { disk: &[0], ..NONE },
-            Status::Disk,
-            "fault 5 disk\n",
-            "",
-        ),
-        (
-            Faults { disk: &[1], ..NONE },
-            Status::Disk,
-            "fault 5 disk\n",
-            "{\"closed\":[{\"id\":\"d1\",\"outcome\":\"SUCC",
-        ),
-        (
-            Faults { disk: &[2], ..NONE },
-            Status::Disk,
-            "fault 5 disk\n",
-            SMALL_STATE,
-        ),
-        (
-            Faults {
-                source: &[0],
-                ..NONE
-            },
-            Status::Edge,
-            "fault 6 source\n",
-            "",
-        ),
-        (
-            Faults {
-                source: &[1],
-                ..NONE
-            },
-            Status::Edge,
-            "fault 6 source\n",
-            "",
-        ),
-        (Faults { sink: &[0], ..NONE }, Status::Edge, "", SMALL_STATE),
-        (
-            Faults { sink: &[1], ..NONE },
-            Status::Edge,
-            "accepted ",
-            SMALL_STATE,
-        ),
-        (
-            Faults { sink: &[2], ..NONE },
-            Status::Edge,
-            "accepted d1",
-            SMALL_STATE,
-        ),
-        (
-            Faults { sink: &[3], ..NONE },
-            Status::Edge,
-            "accepted d1\nclosed ",
-            SMALL_STATE,
-        ),
-        (
-            Faults { sink: &[4], ..NONE },
-            Status::Edge,
-            "accepted d1\nclosed d1",
-            SMALL_STATE,
-        ),
-        (
-            Faults { sink: &[5], ..NONE },
-            Status::Done,
-            LINES,
-            SMALL_STATE,
-        ),
-    ] {
-        let ran = run(alloc, &DEPLOY, SMALL.as_bytes(), &faults)?;
-        assert_eq!(rt; ran.status, status);
-        assert_eq!(rt; ran.printed.as_slice(), printed.as_bytes());
-        assert_eq!(rt; ran.state.as_slice(), state.as_bytes());
-    }
+    assert!(rt; have_status(alloc, DISK_FAULTS, Status::Disk)?);
+    assert!(rt; have_status(alloc, SOURCE_FAULTS, Status::Edge)?);
+    assert!(rt; have_status(alloc, SINK_FAULTS, Status::Edge)?);
+    let beyond = Faults { sink: &[5], ..NONE };
+    assert!(rt;
+        run(alloc, &DEPLOY, SMALL.as_bytes(), &beyond)?.is(Status::Done, LINES, SMALL_STATE)
+    );
     Ok(())
 }
