@@ -3,6 +3,11 @@
 //! `specs/Lawful.antt` is the table: which records a device takes and what each changes, row by row. `specs/After.antt`
 //! says what remains where only accepted plans and their closings are looked at, and `specs/Standing.antt` for which
 //! device a journal stands.
+//!
+//! It promises that `Device::apply` takes exactly the lawful records and changes nothing after a refusal, that `replay`
+//! answers the device for which the journal stands or the place of the damage, and laws over whole runs. It stands on
+//! `records` for what is stored, on `gate_log` for the journal, on `recipe_reader` and `dep_order` for plans and on
+//! `interpolation` for scopes.
 #![tactic(auto)]
 
 mod apply;

@@ -1,4 +1,7 @@
-//! A disk of named files: what each file reads as, and what a crash may leave of it.
+//! A disk of named files: what each file reads as, and what a crash may leave of it, between calls or inside one.
+//!
+//! It promises, of the trait `Disk` and of the disks in memory that meet it, which images a crash may leave at each
+//! moment; what was synced is in all of them. It stands on `nuc_base` alone.
 #![tactic(auto)]
 
 mod disk;

@@ -1,7 +1,9 @@
 //! Recipes and artifacts that a device may take from a library, and the candidates that it has with them.
 //!
-//! `specs/Sources.antt` says where candidates come from, and `specs/Gathered.antt` what `candidates` answers: the set
-//! of them, or the first refusal.
+//! It promises that `candidates` answers exactly the set of the built-in component, the kept items and the library's
+//! recipes or the first refusal (`specs/Gathered.antt`), and that the library's fault is answered only where its count
+//! rose. It stands on `recipe_reader` for candidates and on `records` for what is kept; the library is a trait, of
+//! which `specs/Sources.antt` says what it holds.
 #![tactic(auto)]
 
 mod fault;

@@ -1,7 +1,8 @@
 //! Versions of Semantic Versioning 2.0.0 and ranges of them, in the language of npm's ranges.
 //!
-//! `specs/Grammar.antt` is the grammar, from a text to its comparators as they are written, and `specs/Ranges.antt` says
-//! which versions meet them. The readers are proved against the first and `Range::holds` against the second.
+//! It promises that versions and ranges are read exactly where the grammar allows them (`specs/Grammar.antt`, from a
+//! text to its comparators as they are written), that versions are in one total order, and that `Range::holds` is
+//! exactly the relation of `specs/Ranges.antt`. It stands on `nuc_base` and on the versions of `semver`.
 #![tactic(auto)]
 
 mod comparator;

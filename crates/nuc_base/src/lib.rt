@@ -1,5 +1,9 @@
-//! The small types that every crate of the nucleus shares: plain containers, names, labels, pointers,
-//! statuses and the words of a component's life, each seen by contracts as the value it stands for.
+//! The small types that every crate of the nucleus shares: plain containers, names, labels, pointers, statuses and the
+//! words of a component's life.
+//!
+//! It promises that contracts may see each of these as the value that it stands for, a text as a list of bytes say;
+//! that names, labels and pointers are read exactly where the bytes are such; and that copies, equality, order and
+//! hashes are those of the values. It stands on std alone.
 #![tactic(auto)]
 
 mod artifact;

@@ -1,5 +1,10 @@
-//! Recipes of components: what a recipe's text says for the platform at hand, or the first fault that it has
-//! (component recipe reference of AWS IoT Greengrass V2, format 2020-01-25).
+//! Recipes of components: what a recipe's text says for the platform at hand, or the first fault that it has (component
+//! recipe reference of AWS IoT Greengrass V2, format 2020-01-25); and the candidates that are read of them.
+//!
+//! It promises that `Recipe::read` answers the recipe that the lines of a table name or the fault of the first line
+//! that fails, and that `Candidates` rises by name and version, each recipe the reading of its bytes. Here stands too
+//! which sets of candidates are valid and which of them is preferred, apart from any search (`specs/Sets.antt`). It
+//! stands on `tree_core`, `npm_ranges` and `nuc_base`.
 #![tactic(auto)]
 
 mod artifact;
