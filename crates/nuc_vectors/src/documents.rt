@@ -336,6 +336,10 @@ const MERGES: &[(&str, &str)] = &[
         "BadMerge A",
     ),
     (
+        "{\"deploymentId\":\"d\",\"targetArn\":\"g\",\"components\":{\"A\":{\"componentVersion\":\"1.0.0\",\"configurationUpdate\":{\"merge\":\"{\\\"a\\\":[[[[[[[[[[[[[[[[[[[[[[[[[[[[[[[[[[[[[[[[[[[[[[[[[[[[[[[[[[[[[[[[]]]]]]]]]]]]]]]]]]]]]]]]]]]]]]]]]]]]]]]]]]]]]]]]]]]]]]]]]]]]]]]]}\"}}}}",
+        "BadMerge A",
+    ),
+    (
         "{\"deploymentId\":\"d\",\"targetArn\":\"g\",\"components\":{\"A\":{\"componentVersion\":\"1.0.0\",\"configurationUpdate\":{\"merge\":true}},\"B\":1}}",
         "BadMerge A",
     ),

@@ -28,8 +28,13 @@ const OTHERS: &[&[u8]] = &[
     b"\x13\x01\0\0\0a",
     b"\x14\0\0\0\x01a\x05",
     b"\x15\0",
+    b"\x16\0\0\0\x01a\x07\x02",
     b"\x18\x05",
     b"\x19",
+    // A folder that is no UTF-8.
+    b"\x11\0\0\0\x03/g\xff\0\0\0\x02t1\0\0\0\x062.12.0\0\0\0\x05linux\0\0\0\x05amd64",
+    // A range of 33 parts.
+    b"\x12\0\0\0\x02d1\0\0\0\x01g\x01\0\0\0\x01\0\0\0\x01a\0\0\0\x83>=1 >=1 >=1 >=1 >=1 >=1 >=1 >=1 >=1 >=1 >=1 >=1 >=1 >=1 >=1 >=1 >=1 >=1 >=1 >=1 >=1 >=1 >=1 >=1 >=1 >=1 >=1 >=1 >=1 >=1 >=1 >=1 >=1\0\0\0\0\0\0\0\0",
 ];
 
 // Whether the bytes are read, and give themselves when they are written again.
