@@ -38,6 +38,8 @@ pub use scopes::scope_of;
 pub use staged::{Pending, Stage};
 
 #[cfg(test)]
+mod limits_tests;
+#[cfg(test)]
 mod plans_tests;
 #[cfg(test)]
 mod scopes_tests;

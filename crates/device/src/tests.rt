@@ -209,7 +209,7 @@ fn record_named(name: &str) -> &'static [u8] {
 }
 
 /// Whether the record that the payload spells is lawful and is taken.
-fn is_taken(alloc: Global, device: &mut Device, payload: &[u8]) -> Result<bool, Fail> {
+pub(crate) fn is_taken(alloc: Global, device: &mut Device, payload: &[u8]) -> Result<bool, Fail> {
     match device.take_payload(alloc, payload) {
         Ok(()) => Ok(true),
         Err(ApplyFault::NotLawful) => Ok(false),
@@ -218,7 +218,7 @@ fn is_taken(alloc: Global, device: &mut Device, payload: &[u8]) -> Result<bool, 
 }
 
 /// Whether all records of the history are taken.
-fn are_taken(alloc: Global, device: &mut Device, history: &str) -> Result<bool, Fail> {
+pub(crate) fn are_taken(alloc: Global, device: &mut Device, history: &str) -> Result<bool, Fail> {
     for name in history.split_whitespace() {
         if !is_taken(alloc, device, record_named(name))? {
             return Ok(false);

@@ -1,0 +1,219 @@
+// Records at the limits by number of what is lawful, each spelled as the journal holds it.
+use crate::Device;
+use crate::tests::{are_taken, is_taken};
+use std::alloc::Global;
+use std::test::Fail;
+
+/// How many requirements and items a plan has, and how many bytes the configuration of each item.
+#[derive(Clone, Copy)]
+struct Sizes {
+    requirements: usize,
+    items: usize,
+    config: usize,
+}
+
+const SMALL: Sizes = Sizes {
+    requirements: 0,
+    items: 1,
+    config: 8,
+};
+
+/// Plans of the greatest sizes that are lawful, and of the next greater ones.
+const PLANS: &[(Sizes, bool)] = &[
+    (
+        Sizes {
+            requirements: 128,
+            ..SMALL
+        },
+        true,
+    ),
+    (
+        Sizes {
+            requirements: 129,
+            ..SMALL
+        },
+        false,
+    ),
+    (
+        Sizes {
+            items: 128,
+            ..SMALL
+        },
+        true,
+    ),
+    (
+        Sizes {
+            items: 129,
+            ..SMALL
+        },
+        false,
+    ),
+    (
+        Sizes {
+            config: 65_536,
+            ..SMALL
+        },
+        true,
+    ),
+    (
+        Sizes {
+            config: 65_537,
+            ..SMALL
+        },
+        false,
+    ),
+];
+
+fn push_number(payload: &mut Vec<u8>, number: usize) -> Result<(), Fail> {
+    let number = number.min(1_000_000) as u32;
+    payload.extend_from_slice(&number.to_be_bytes())?;
+    Ok(())
+}
+
+fn push_text(payload: &mut Vec<u8>, text: &[u8]) -> Result<(), Fail> {
+    push_number(payload, text.len())?;
+    payload.extend_from_slice(text)?;
+    Ok(())
+}
+
+/// Adds so many bytes of a text.
+fn push_filling(payload: &mut Vec<u8>, count: usize) -> Result<(), Fail> {
+    for _ in 0..count {
+        payload.push(b'x')?;
+    }
+    Ok(())
+}
+
+/// A device's start with a root of so many bytes.
+fn start_with(alloc: Global, root: usize) -> Result<Vec<u8>, Fail> {
+    let mut payload = Vec::new(alloc);
+    payload.push(0x11)?;
+    push_number(&mut payload, root)?;
+    push_filling(&mut payload, root)?;
+    push_text(&mut payload, b"t1")?;
+    push_text(&mut payload, b"2.12.0")?;
+    push_text(&mut payload, b"linux")?;
+    push_text(&mut payload, b"amd64")?;
+    Ok(payload)
+}
+
+/// A name for each place. They rise with the places.
+fn name_at(alloc: Global, at: usize) -> Result<String, Fail> {
+    let number = at.saturating_add(100);
+    Ok(format!(in alloc; "n{number}")?)
+}
+
+fn push_requirements(alloc: Global, payload: &mut Vec<u8>, count: usize) -> Result<(), Fail> {
+    push_number(payload, count)?;
+    for at in 0..count {
+        push_text(payload, name_at(alloc, at)?.as_bytes())?;
+        push_text(payload, b"*")?;
+    }
+    Ok(())
+}
+
+fn push_recipe(alloc: Global, payload: &mut Vec<u8>, name: &str) -> Result<(), Fail> {
+    let mut recipe = Vec::new(alloc);
+    recipe.extend_from_slice(b"{\"RecipeFormatVersion\":\"2020-01-25\",\"ComponentName\":\"")?;
+    recipe.extend_from_slice(name.as_bytes())?;
+    recipe.extend_from_slice(b"\",\"ComponentVersion\":\"1.0.0\"}")?;
+    push_text(payload, &recipe)
+}
+
+/// Adds an object of so many bytes, with one text in it.
+fn push_config(payload: &mut Vec<u8>, count: usize) -> Result<(), Fail> {
+    push_number(payload, count)?;
+    payload.extend_from_slice(b"{\"k\":\"")?;
+    push_filling(payload, count.saturating_sub(8))?;
+    payload.extend_from_slice(b"\"}")?;
+    Ok(())
+}
+
+/// Adds items without files.
+fn push_items(alloc: Global, payload: &mut Vec<u8>, sizes: &Sizes) -> Result<(), Fail> {
+    push_number(payload, sizes.items)?;
+    for at in 0..sizes.items {
+        let name = name_at(alloc, at)?;
+        push_text(payload, name.as_bytes())?;
+        push_text(payload, b"1.0.0")?;
+        push_recipe(alloc, payload, name.as_str())?;
+        push_config(payload, sizes.config)?;
+        push_number(payload, 0)?;
+    }
+    Ok(())
+}
+
+/// An accepted plan of these sizes.
+fn plan_with(alloc: Global, id: &str, group: &str, sizes: &Sizes) -> Result<Vec<u8>, Fail> {
+    let mut payload = Vec::new(alloc);
+    payload.push(0x12)?;
+    push_text(&mut payload, id.as_bytes())?;
+    push_text(&mut payload, group.as_bytes())?;
+    payload.push(0)?;
+    push_requirements(alloc, &mut payload, sizes.requirements)?;
+    push_items(alloc, &mut payload, sizes)?;
+    push_number(&mut payload, 0)?;
+    Ok(payload)
+}
+
+/// Whether a device starts with a root of so many bytes.
+fn is_root(alloc: Global, count: usize) -> Result<bool, Fail> {
+    let mut device = Device::empty(alloc);
+    is_taken(alloc, &mut device, &start_with(alloc, count)?)
+}
+
+/// Whether a device that has started takes a plan of these sizes.
+fn is_accepted(alloc: Global, sizes: &Sizes) -> Result<bool, Fail> {
+    let mut device = Device::empty(alloc);
+    let plan = plan_with(alloc, "d1", "g", sizes)?;
+    Ok(are_taken(alloc, &mut device, "genesis")? && is_taken(alloc, &mut device, &plan)?)
+}
+
+/// The place of the first plan that is answered otherwise, or their count.
+fn first_wrong(alloc: Global, plans: &[(Sizes, bool)]) -> Result<usize, Fail> {
+    for (at, (sizes, lawful)) in plans.iter().enumerate() {
+        if is_accepted(alloc, sizes)? != *lawful {
+            return Ok(at);
+        }
+    }
+    Ok(plans.len())
+}
+
+#[test]
+fn sizes_end_what_is_lawful(rt: HostRuntime) -> Result<(), Fail> {
+    let alloc = rt.alloc();
+    assert!(rt; is_root(alloc, 1_024)?);
+    assert!(rt; !is_root(alloc, 1_025)?);
+    assert_eq!(rt; first_wrong(alloc, PLANS)?, PLANS.len());
+    Ok(())
+}
+
+/// Whether a deployment to the group is taken, from its acceptance to its end.
+fn is_deployed(alloc: Global, device: &mut Device, id: &str, group: &str) -> Result<bool, Fail> {
+    let plan = plan_with(alloc, id, group, &SMALL)?;
+    Ok(is_taken(alloc, device, &plan)? && are_taken(alloc, device, "activate close-successful")?)
+}
+
+/// How many groups join, one after another, where so many want to.
+fn join(alloc: Global, device: &mut Device, count: usize) -> Result<usize, Fail> {
+    for at in 0..count {
+        let name = name_at(alloc, at)?;
+        if !is_deployed(alloc, device, name.as_str(), name.as_str())? {
+            return Ok(at);
+        }
+    }
+    Ok(count)
+}
+
+#[test]
+fn groups_are_256_at_most(rt: HostRuntime) -> Result<(), Fail> {
+    let alloc = rt.alloc();
+    let mut device = Device::empty(alloc);
+    assert!(rt; are_taken(alloc, &mut device, "genesis")?);
+    assert_eq!(rt; join(alloc, &mut device, 300)?, 256);
+    // The first group and the last take deployments yet.
+    assert!(rt; is_deployed(alloc, &mut device, "d1", "n100")?);
+    assert!(rt; is_deployed(alloc, &mut device, "d2", "n355")?);
+    assert_eq!(rt; device.groups.len(), 256);
+    Ok(())
+}
