@@ -47,6 +47,8 @@ const STANDS: &str = "refused 16 Initialised t1\n";
 
 const NONE: &str = "refused 8 NotInitialised\n";
 
+const DISK_FAILED: &str = "fault 5 disk\n";
+
 const USAGE: &str = "usage: nucleus --root DIR COMMAND [OPTIONS]\n";
 
 /// What a call answered and printed.
@@ -200,6 +202,37 @@ fn a_stopped_init_leaves_a_store_or_none(rt: HostRuntime) -> Result<(), Fail> {
         assert!(rt;
             goes_on(alloc, &disk, Pick::Fill(0x01), stop >= 10)?,
             "torn after {stop}"
+        );
+    }
+    Ok(())
+}
+
+/// Whether the words answer the fault of a disk that holds this journal and fails this call alone.
+fn is_disk_fault(alloc: Global, words: &[&str], bytes: &[u8], failing: u64) -> Result<bool, Fail> {
+    let calls = List::new(Vec::from_slice(alloc, &[failing])?);
+    let mut disk = FusedDisk::new(holding(alloc, bytes, 0x01)?, u64::MAX, calls);
+    answers(alloc, words, &mut disk, Status::Disk, DISK_FAILED)
+}
+
+#[test]
+fn a_failing_disk_is_status_5(rt: HostRuntime) -> Result<(), Fail> {
+    let alloc = rt.alloc();
+    // Two calls open the journal, two look at its gates, and two read its entry.
+    for failing in 0..6u64 {
+        assert!(rt;
+            is_disk_fault(alloc, &SHOW, &NEW, failing)?,
+            "status, call {failing}"
+        );
+        assert!(rt;
+            is_disk_fault(alloc, &INIT, &NEW, failing)?,
+            "init, call {failing}"
+        );
+    }
+    // Two calls open the journal, three make it, and six add its entry.
+    for failing in 0..11u64 {
+        assert!(rt;
+            is_disk_fault(alloc, &INIT, b"", failing)?,
+            "making, call {failing}"
         );
     }
     Ok(())
