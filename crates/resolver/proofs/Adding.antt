@@ -1,16 +1,21 @@
 -- Edges that loops over places and dependencies add.
 use Rattle.std.proofs.Common.{◌≡◌, ℕ, ◌+◌, ◌<◌, ◌≤◌, ◌⊎◌, List, [], ◌∷◌, ◌++◌, map, length, get_or, take, Some, refl, sym, ap, ◌∙◌, subst, inl, inr}
 use Rattle.std.specs.List.{All, Contains}
-use Rattle.std.proofs.lemmas.List.{take_more, take_all, map-append}
+use Rattle.std.proofs.lemmas.List.{take_more, map_more, map-append}
 use Rattle.std.proofs.lemmas.List.Elements.{Contains-append_left, Contains-push, Contains-push_cases, Contains-get_or, All-contains, All-contains_itself, All-weaker}
 use Rattle.nuc_base.specs.Leads.{Leads}
 use Rattle.nuc_base.proofs.Leading.{leads_more}
+use Rattle.nuc_base.proofs.Lists.{in_nil}
 use Rattle.dep_order.specs.declared.Need.{Need as Edge}
 use Rattle.dep_order.specs.declared.Edges.{Edges}
 use Rattle.dep_order.specs.Orders as orders
 use Rattle.recipe_reader.specs.Members.{Need, Member}
 use Rattle.recipe_reader.specs.Sets.{name_of, needs_of, Needs}
-use Rattle.resolver.specs.Edges.{Joins, Adds, NeedsBy, NeedsOf, AreEdges}
+use Rattle.resolver.specs.declared.decisions.Asked.{Asked}
+use Rattle.resolver.specs.declared.decisions.Decisions.{Decisions}
+use Rattle.resolver.specs.Decided.{Ask, ask, asked_need, HasAsked}
+use Rattle.resolver.specs.Edges.{Joins, Adds, NeedsBy, NeedsOf, NeedsAsked, AreEdges}
+use Rattle.resolver.proofs.Asking.{asks_in, asks_from}
 
 pub adds_nothing : (R : ℕ → ℕ → Type 0) (edges : List Edge) → ((a b : ℕ) → R a b → ⊥) → Adds R edges edges
 adds_nothing R edges none = record { kept = λ a b n. n; has = λ a b r. absurd (none a b r); only = λ a b n. inl n }
@@ -80,6 +85,18 @@ needs_added f ms taken from xs i d lt old mid new r s =
     (λ a b n. record { is = n.is; to = n.to; by = n.by; among = subst (λ l. Contains l n.by) (sym more) (Contains-append_left (map f (take i xs)) (f (get_or xs i d) ∷ []) n.by n.among); named = n.named })
     (λ a b n. record { is = n.is; to = n.to; by = f (get_or xs i d); among = subst (λ l. Contains l (f (get_or xs i d))) (sym more) (Contains-push (map f (take i xs)) (f (get_or xs i d))); named = n.named })
 
+pub asked_added : (ms : List Member) (taken : List ℕ) (xs : List Asked) (i : ℕ) (d : Asked) → i < length xs → (old mid new : List Edge) → Adds (NeedsAsked ms taken (map ask (take i xs))) old mid → Adds (NeedsBy ms taken (get_or xs i d).from (asked_need (get_or xs i d)).name) mid new → Adds (NeedsAsked ms taken (map ask (take (i + 1) xs))) old new
+asked_added ms taken xs i d lt old mid new r s =
+    let x = get_or xs i d in
+    let more = map_more ask xs i d lt in
+    adds_then {T = NeedsAsked ms taken (map ask (take (i + 1) xs))} old mid new r s
+    (λ a b n. elim (Contains-push_cases (map ask (take i xs)) (ask x) n.by (subst (λ l. Contains l n.by) more n.among)) [
+      | inl j ↦ inl (record { by = n.by; among = j; from = n.from; to = n.to; named = n.named })
+      | inr e ↦ inr (record { is = ap (λ (y : Ask). y.from) e ∙ n.from; to = n.to; named = n.named ∙ ap Some (ap (λ (y : Ask). y.need.name) (sym e)) })
+    ])
+    (λ a b n. record { by = n.by; among = subst (λ l. Contains l n.by) (sym more) (Contains-append_left (map ask (take i xs)) (ask x ∷ []) n.by n.among); from = n.from; to = n.to; named = n.named })
+    (λ a b n. record { by = ask x; among = subst (λ l. Contains l (ask x)) (sym more) (Contains-push (map ask (take i xs)) (ask x)); from = n.is; to = n.to; named = n.named })
+
 -- ---- from the dependencies of a place to those among the places
 
 needs_of_place : (ms : List Member) (taken : List ℕ) (from : ℕ) (a b : ℕ) → Contains taken from → NeedsOf ms taken from (needs_of ms from) a b → Needs ms taken a b
@@ -100,31 +117,37 @@ place_needs ms taken from a b e n = record {
   named = n.named;
 }
 
--- the edges are the dependencies of the places up to the one at i
-pub record AreEdgesFrom (ms : List Member) (taken : List ℕ) (i : ℕ) (edges : List Edge) : Type 0 where
-  pub has : (a b : ℕ) → Contains (take i taken) a → Needs ms taken a b → Joins edges a b
-  pub only : (a b : ℕ) → Joins edges a b → Needs ms taken a b
-
-pub edges_more : (ms : List Member) (taken : List ℕ) (i : ℕ) (ds : List Need) (old new : List Edge) → i < length taken → ds ≡ needs_of ms (get_or taken i 0) → AreEdgesFrom ms taken i old → Adds (NeedsOf ms taken (get_or taken i 0) ds) old new → AreEdgesFrom ms taken (i + 1) new
-edges_more ms taken i ds old new lt e h added =
-    let p = get_or taken i 0 in
-    let a = subst (λ l. Adds (NeedsOf ms taken p l) old new) e added in
+-- the edges by all that the decided places ask, and those by the dependencies of one place more
+pub edges_all : (ms : List Member) (decisions : Decisions) (all : List ℕ) (p : ℕ) (ds : List Need) (mid new : List Edge) → HasAsked ms decisions → all ≡ decisions.places.items ++ p ∷ [] → ds ≡ needs_of ms p →
+    Adds (NeedsAsked ms all (map ask decisions.asked.items)) [] mid → Adds (NeedsOf ms all p ds) mid new → AreEdges ms all new
+edges_all ms decisions all p ds mid new h whole e first second =
+    let taken = decisions.places.items in
+    let own = subst (λ l. Adds (NeedsOf ms all p l) mid new) e second in
     record {
-      has = λ x y j n. elim (Contains-push_cases (take i taken) p x (subst (λ l. Contains l x) (take_more taken i 0 lt) j)) [
-        | inl k ↦ a.kept x y (h.has x y k n)
-        | inr f ↦ a.has x y (place_needs ms taken p x y f n)
+      has = λ a b n. elim (Contains-push_cases taken p a (subst (λ l. Contains l a) whole n.from)) [
+        | inl i ↦ own.kept a b (first.has a b (record {
+          by = record { from = a; need = n.by };
+          among = subst (λ l. Contains l (record { from = a; need = n.by })) (sym h.stack) (asks_in ms taken a n.by i n.is);
+          from = refl;
+          to = n.to;
+          named = n.named;
+        }))
+        | inr f ↦ own.has a b (place_needs ms all p a b f n)
       ];
-      only = λ x y n. elim (a.only x y n) [
-        | inl o ↦ h.only x y o
-        | inr r ↦ needs_of_place ms taken p x y (Contains-get_or taken i 0 lt) r
+      only = λ a b n. elim (own.only a b n) [
+        | inl o ↦ elim (first.only a b o) [
+          | inl none ↦ absurd (in_nil none.by none.is)
+          | inr r ↦ (let by = asks_from ms taken r.by (subst (λ l. Contains l r.by) h.stack r.among) in record {
+            from = subst (Contains all) r.from (subst (λ l. Contains l r.by.from) (sym whole) (Contains-append_left taken (p ∷ []) r.by.from by.place));
+            to = r.to;
+            by = r.by.need;
+            is = subst (λ z. Contains (needs_of ms z) r.by.need) r.from by.is;
+            named = r.named;
+          })
+        ]
+        | inr r ↦ needs_of_place ms all p a b (subst (λ l. Contains l p) (sym whole) (Contains-push taken p)) r
       ];
     }
-
-pub edges_all : (ms : List Member) (taken : List ℕ) (i : ℕ) (edges : List Edge) → length taken ≤ i → AreEdgesFrom ms taken i edges → AreEdges ms taken edges
-edges_all ms taken i edges le h = record {
-  has = λ a b n. (let j = n.from in h.has a b (subst (λ l. Contains l a) (sym (take_all i taken le)) j) n);
-  only = h.only;
-}
 
 -- ---- as the edges of an order
 

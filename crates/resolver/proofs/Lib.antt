@@ -1,3 +1,4 @@
 mod Adding
+mod Asking
 mod Each
 mod Lookups

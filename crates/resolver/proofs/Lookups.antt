@@ -1,13 +1,14 @@
 -- What loops over dependencies and places read.
-use Rattle.std.proofs.Common.{◌≡◌, ℕ, ◌+◌, ◌<◌, List, [], ◌∷◌, ◌++◌, map, length, get_or, take, Option, Some, None, sym, ap, ◌∙◌, subst, inl, inr, append_assoc, append-nil}
-use Rattle.std.specs.Prelude.{IfSome}
+use Rattle.std.proofs.Common.{◌≡◌, ℕ, ◌+◌, ◌<◌, List, [], ◌∷◌, ◌++◌, map, length, get_or, take, Option, Some, None, option_map, Bor, sym, ap, ◌∙◌, subst, inl, inr, append_assoc}
+use Rattle.std.specs.Prelude.{IfSome, MatchOption}
 use Rattle.std.specs.List.{Contains}
 use Rattle.std.proofs.lemmas.List.{take_more, map-append}
 use Rattle.std.proofs.lemmas.Option.{same_Some}
 use Rattle.std.proofs.lemmas.List.Elements.{Contains-push_cases, Contains-get_or}
 use Rattle.npm_ranges.specs.Ranges.{Meets}
 use Rattle.recipe_reader.specs.Members.{Need, Member, need}
-use Rattle.recipe_reader.specs.Sets.{name_of, version_of, needs_of, needed_names, required_names, IsTaken, IsLeastUntaken, IsMetBy, Needs}
+use Rattle.nuc_base.specs.declared.names.Name.{Name}
+use Rattle.recipe_reader.specs.Sets.{name_of, version_of, needs_of, AreTaken, IsTaken, IsLeastUntaken, IsMetBy, Needs}
 use Rattle.recipe_reader.specs.Searches.{Suits, IsFirstUntaken}
 use Rattle.recipe_reader.specs.declared.recipe.Dependency.{Dependency}
 use Rattle.recipe_reader.proofs.Required.{in_map, from_map, first_none, first_stays, first_changes}
@@ -23,24 +24,6 @@ names_more f R xs i d lt =
     ∙ ap (λ l. R ++ map (λ (d : Need). d.name) l) (map-append f (take i xs) (get_or xs i d ∷ []))
     ∙ ap (λ l. R ++ l) (map-append (λ (d : Need). d.name) (map f (take i xs)) (f (get_or xs i d) ∷ []))
     ∙ sym (append_assoc R (map (λ (d : Need). d.name) (map f (take i xs))) ((f (get_or xs i d)).name ∷ []))
-
-needed_push : (ms : List Member) (taken : List ℕ) (p : ℕ) → needed_names ms (taken ++ p ∷ []) ≡ needed_names ms taken ++ map (λ (d : Need). d.name) (needs_of ms p)
-needed_push ms [] p = append-nil (map (λ (d : Need). d.name) (needs_of ms p))
-needed_push ms (q ∷ taken) p =
-    ap (λ l. map (λ (d : Need). d.name) (needs_of ms q) ++ l) (needed_push ms taken p)
-    ∙ sym (append_assoc (map (λ (d : Need). d.name) (needs_of ms q)) (needed_names ms taken) (map (λ (d : Need). d.name) (needs_of ms p)))
-
-required_push : (ms : List Member) (wanted : List Need) (taken : List ℕ) (p : ℕ) → required_names ms wanted (taken ++ p ∷ []) ≡ required_names ms wanted taken ++ map (λ (d : Need). d.name) (needs_of ms p)
-required_push ms wanted taken p =
-    ap (λ l. map (λ (w : Need). w.name) wanted ++ l) (needed_push ms taken p)
-    ∙ sym (append_assoc (map (λ (w : Need). w.name) wanted) (needed_names ms taken) (map (λ (d : Need). d.name) (needs_of ms p)))
-
--- after the dependencies of the place at i
-pub required_more : (ms : List Member) (wanted : List Need) (taken : List ℕ) (i : ℕ) (ds : List Need) → i < length taken → ds ≡ needs_of ms (get_or taken i 0) → required_names ms wanted (take i taken) ++ map (λ (d : Need). d.name) ds ≡ required_names ms wanted (take (i + 1) taken)
-required_more ms wanted taken i ds lt e =
-    ap (λ l. required_names ms wanted (take i taken) ++ map (λ (d : Need). d.name) l) e
-    ∙ sym (required_push ms wanted (take i taken) (get_or taken i 0))
-    ∙ ap (required_names ms wanted) (sym (take_more taken i 0 lt))
 
 -- one more untaken name, where the first of the others is known
 pub least_of : (ms : List Member) (taken : List ℕ) (names : List (List ℕ)) (first : Option (List ℕ)) (n m : List ℕ) → (IsTaken ms taken n → ⊥) → IsLeastOf first n m → IsFirstUntaken ms taken names first → IsLeastUntaken ms taken (names ++ n ∷ []) m
@@ -64,6 +47,11 @@ pub suits_to : {X : Type 0} (f : X → Need) (ms : List Member) (xs : List X) (p
 suits_to f ms xs p name version n v s = λ x i e.
     let met = s (f x) (in_map f xs x i) (n ∙ ap Some (sym e)) in
     subst (λ o. IfSome o (λ v. Meets v (f x).range)) v met.meets
+
+-- the first untaken name, behind a reference
+pub first_seen : (ms : List Member) (taken : List ℕ) (names : List (List ℕ)) (first : Option (Bor Name)) → IsFirstUntaken ms taken names (option_map (λ (n : Bor Name). n.now) first) → MatchOption first (AreTaken ms taken names) (λ (n : Bor Name). IsLeastUntaken ms taken names n.now)
+first_seen ms taken names None h = h
+first_seen ms taken names (Some n) h = h
 
 -- ---- dependencies by name
 

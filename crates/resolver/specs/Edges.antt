@@ -4,6 +4,7 @@ use Rattle.std.specs.List.{Contains}
 use Rattle.dep_order.specs.declared.Need.{Need as Edge}
 use Rattle.recipe_reader.specs.Members.{Need, Member}
 use Rattle.recipe_reader.specs.Sets.{name_of, Needs}
+use Rattle.resolver.specs.Decided.{Ask}
 
 -- one of the needs has the name
 abbrev pub IsNamed : List Need → List ℕ → Type 0
@@ -35,6 +36,14 @@ pub record NeedsOf (ms : List Member) (taken : List ℕ) (from : ℕ) (ds : List
   pub by : Need
   pub among : Contains ds by
   pub named : name_of ms b ≡ Some by.name
+
+-- from places to the taken places that they ask for
+pub record NeedsAsked (ms : List Member) (taken : List ℕ) (all : List Ask) (a b : ℕ) : Type 0 where
+  pub by : Ask
+  pub among : Contains all by
+  pub from : by.from ≡ a
+  pub to : Contains taken b
+  pub named : name_of ms b ≡ Some by.need.name
 
 -- they are the dependencies among the taken places
 pub record AreEdges (ms : List Member) (taken : List ℕ) (edges : List Edge) : Type 0 where

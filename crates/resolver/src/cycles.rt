@@ -7,8 +7,10 @@ ghost use Rattle.dep_order.specs.Orders as orders;
 ghost use Rattle.dep_order.specs.Faults.{IfCycle};
 ghost use Rattle.recipe_reader.specs.Members.{members, need};
 ghost use Rattle.recipe_reader.specs.Sets.{name_of, Needs};
-ghost use Rattle.resolver.specs.Edges.{Adds, NeedsBy, NeedsOf, IsNamed, AreEdges};
+ghost use Rattle.resolver.specs.Decided.{ask, HasAsked};
+ghost use Rattle.resolver.specs.Edges.{Adds, NeedsBy, NeedsOf, NeedsAsked, IsNamed, AreEdges};
 
+use crate::decisions::{Asked, Decisions};
 use crate::places::{is_same, name_at, needs_at};
 use dep_order::{Edges, Need, OrderFault, order};
 use nuc_base::{List, Name, NoMemory};
@@ -85,35 +87,67 @@ fn add_needs(
     Ok(())
 }
 
-/// The edges among the taken places.
-fn edges_among(
-    alloc: Global,
+/// Adds the edges to the places by all that is asked.
+fn add_asked(
     candidates: &[Candidate],
     taken: &[u32],
-) -> Result<Vec<Need>, NoMemory>
+    asked: &[Asked],
+    edges: &mut Vec<Need>,
+) -> Result<(), NoMemory>
     requires { All (λ p. p < length candidates.now) taken.now }
-    ensures { IfOk result (λ edges. AreEdges (members candidates.now) taken.now edges.items) }
+    ensures { OnOk result (Adds (NeedsAsked (members candidates.now) taken.now (map ask asked.now)) edges.old.items edges.new.items) }
 {
-    let mut edges = Vec::new(alloc);
-    for place in taken {
-        add_needs(
-            candidates,
-            taken,
-            *place,
-            needs_at(candidates, *place),
-            &mut edges,
-        )?;
+    for ask in asked {
+        add_name(candidates, taken, ask.from, &ask.need.name, edges)?;
     }
+    Ok(())
+}
+
+/// The edges among the decided places and one more. Only the new place's dependencies are read.
+fn edges_with(
+    alloc: Global,
+    candidates: &[Candidate],
+    decisions: &Decisions,
+    place: u32,
+) -> Result<Vec<Need>, NoMemory>
+    requires decided { All (λ p. p < length candidates.now) decisions.now.places.items }
+    requires place { place < length candidates.now }
+    requires asked { HasAsked (members candidates.now) decisions.now }
+    ensures { IfOk result (λ edges. AreEdges (members candidates.now) (decisions.now.places.items ++ place ∷ []) edges.items) }
+{
+    let mut all = Vec::from_slice(alloc, decisions.places.as_slice())?;
+    all.push(place)?;
+    let mut edges = Vec::new(alloc);
+    add_asked(
+        candidates,
+        all.as_slice(),
+        decisions.asked.as_slice(),
+        &mut edges,
+    )?;
+    add_needs(
+        candidates,
+        all.as_slice(),
+        place,
+        needs_at(candidates, place),
+        &mut edges,
+    )?;
     Ok(edges)
 }
 
-/// Whether dependencies among the places have no cycle.
-fn has_no_cycle(alloc: Global, candidates: &[Candidate], taken: &[u32]) -> Result<bool, NoMemory>
+/// Whether dependencies among the decided places and one more have no cycle.
+fn has_no_cycle(
+    alloc: Global,
+    candidates: &[Candidate],
+    decisions: &Decisions,
+    place: u32,
+) -> Result<bool, NoMemory>
     requires count { length candidates.now < 2 ^ 32 }
-    requires places { All (λ p. p < length candidates.now) taken.now }
-    ensures { IfOk result (λ yes. IsTrue yes ↔ ((p : ℕ) → Leads (Needs (members candidates.now) taken.now) p p → ⊥)) }
+    requires decided { All (λ p. p < length candidates.now) decisions.now.places.items }
+    requires place { place < length candidates.now }
+    requires asked { HasAsked (members candidates.now) decisions.now }
+    ensures { IfOk result (λ yes. IsTrue yes ↔ ((p : ℕ) → Leads (Needs (members candidates.now) (decisions.now.places.items ++ place ∷ [])) p p → ⊥)) }
 {
-    let needs = edges_among(alloc, candidates, taken)?;
+    let needs = edges_with(alloc, candidates, decisions, place)?;
     let edges = Edges {
         nodes: candidates.len() as u32,
         needs: List::new(needs),
@@ -125,24 +159,23 @@ fn has_no_cycle(alloc: Global, candidates: &[Candidate], taken: &[u32]) -> Resul
     }
 }
 
-/// Whether one place more closes no cycle, where those that are taken have none. The whole is looked at only where the
-/// new place depends on one of them: else it lies on no cycle.
+/// Whether one place more closes no cycle, where the decided ones have none. The whole is looked at only where the new
+/// place depends on one of them: else it lies on no cycle.
 pub(crate) fn stays_acyclic(
     alloc: Global,
     candidates: &[Candidate],
-    taken: &[u32],
+    decisions: &Decisions,
     place: u32,
 ) -> Result<bool, NoMemory>
     requires count { length candidates.now < 2 ^ 32 }
-    requires taken { All (λ p. p < length candidates.now) taken.now }
+    requires decided { All (λ p. p < length candidates.now) decisions.now.places.items }
     requires place { place < length candidates.now }
-    requires acyclic { (p : ℕ) → Leads (Needs (members candidates.now) taken.now) p p → ⊥ }
-    ensures { IfOk result (λ yes. IsTrue yes ↔ ((p : ℕ) → Leads (Needs (members candidates.now) (taken.now ++ place ∷ [])) p p → ⊥)) }
+    requires asked { HasAsked (members candidates.now) decisions.now }
+    requires acyclic { (p : ℕ) → Leads (Needs (members candidates.now) decisions.now.places.items) p p → ⊥ }
+    ensures { IfOk result (λ yes. IsTrue yes ↔ ((p : ℕ) → Leads (Needs (members candidates.now) (decisions.now.places.items ++ place ∷ [])) p p → ⊥)) }
 {
-    if !needs_taken(candidates, taken, place) {
+    if !needs_taken(candidates, decisions.places.as_slice(), place) {
         return Ok(true);
     }
-    let mut all = Vec::from_slice(alloc, taken)?;
-    all.push(place)?;
-    has_no_cycle(alloc, candidates, all.as_slice())
+    has_no_cycle(alloc, candidates, decisions, place)
 }

@@ -8,6 +8,7 @@
 #![tactic(auto)]
 
 mod cycles;
+mod decisions;
 mod places;
 mod required;
 mod search;

@@ -2,14 +2,16 @@
 
 ghost use Rattle.std.specs.Prelude.{◌≡◌, ◌<◌, ◌↔◌, ◌++◌, ◌∷◌, [], ℕ, List, length, map, option_map, IsTrue, MatchOption};
 ghost use Rattle.std.specs.List.{All};
-ghost use Rattle.recipe_reader.specs.Members.{members, need, Need};
+ghost use Rattle.recipe_reader.specs.Members.{members, Need};
 ghost use Rattle.recipe_reader.specs.Sets.{asked, IsTaken, IsNext, IsComplete};
 ghost use Rattle.recipe_reader.specs.Searches.{IsFirstUntaken};
+ghost use Rattle.resolver.specs.Decided.{HasAsked};
 ghost use Rattle.resolver.specs.Least.{IsLeastOf};
 
-use crate::places::{is_same, name_at, needs_at};
+use crate::decisions::Decisions;
+use crate::places::{is_same, name_at};
 use nuc_base::Name;
-use recipe_reader::{Candidate, Dependency, Wanted};
+use recipe_reader::{Candidate, Wanted};
 use std::cmp::Ordering;
 
 /// Whether a place of that name is taken.
@@ -55,24 +57,6 @@ fn with_name<'a>(
     Some(least(first, name))
 }
 
-/// The first untaken of some names and those of these dependencies.
-fn with_needs<'a>(
-    candidates: &[Candidate],
-    taken: &[u32],
-    first: Option<&'a Name>,
-    needs: &'a [Dependency],
-) -> Option<&'a Name>
-    requires { All (λ p. p < length candidates.now) taken.now }
-    ensures { (names : List (List ℕ)) → IsFirstUntaken (members candidates.now) taken.now names (option_map (λ n. n.now) first.entry)
-        → IsFirstUntaken (members candidates.now) taken.now (names ++ map (λ (d : Need). d.name) (map need needs.now)) (option_map (λ n. n.now) result) }
-{
-    let mut least = first;
-    for need in needs {
-        least = with_name(candidates, taken, least, &need.name);
-    }
-    least
-}
-
 /// The first untaken of the wanted names.
 fn first_wanted<'a>(
     candidates: &[Candidate],
@@ -91,18 +75,21 @@ fn first_wanted<'a>(
 
 /// The least required name that is not taken yet.
 pub(crate) fn next_name<'a>(
-    candidates: &'a [Candidate],
+    candidates: &[Candidate],
     wanted: &'a [Wanted],
-    taken: &[u32],
+    decisions: &Decisions<'a>,
 ) -> Option<&'a Name>
-    requires { All (λ p. p < length candidates.now) taken.now }
+    requires decided { All (λ p. p < length candidates.now) decisions.now.places.items }
+    requires asked { HasAsked (members candidates.now) decisions.now }
     ensures { MatchOption result
-        (IsComplete (members candidates.now) (asked wanted.now) taken.now)
-        (λ n. IsNext (members candidates.now) (asked wanted.now) taken.now n.now) }
+        (IsComplete (members candidates.now) (asked wanted.now) decisions.now.places.items)
+        (λ n. IsNext (members candidates.now) (asked wanted.now) decisions.now.places.items n.now) }
 {
+    let taken = decisions.places.as_slice();
+    let asked = decisions.asked.as_slice();
     let mut first = first_wanted(candidates, wanted, taken);
-    for place in taken {
-        first = with_needs(candidates, taken, first, needs_at(candidates, *place));
+    for ask in asked {
+        first = with_name(candidates, taken, first, &ask.need.name);
     }
     first
 }

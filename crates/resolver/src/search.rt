@@ -7,11 +7,13 @@ ghost use Rattle.recipe_reader.specs.Members.{members, IsRising};
 ghost use Rattle.recipe_reader.specs.Sets.{asked, name_of, IsPreferred, IsValid};
 ghost use Rattle.recipe_reader.specs.Searches.{IsConsistent, HasNone, IsBest};
 ghost use Rattle.recipe_reader.specs.Candidates.{AreCandidates};
+ghost use Rattle.resolver.specs.Decided.{HasAsked};
 
 use crate::cycles::stays_acyclic;
+use crate::decisions::Decisions;
 use crate::places::{is_same, name_at};
 use crate::required::next_name;
-use crate::suits::{suits_taken, suits_wanted};
+use crate::suits::{suits_decided, suits_wanted};
 use nuc_base::{List, Name, NoMemory};
 use recipe_reader::{Candidate, Candidates, Wanted};
 use std::alloc::Global;
@@ -21,22 +23,23 @@ fn fits(
     alloc: Global,
     candidates: &[Candidate],
     wanted: &[Wanted],
-    taken: &[u32],
+    decisions: &Decisions,
     place: u32,
 ) -> Result<bool, NoMemory>
     requires count { length candidates.now < 2 ^ 32 }
-    requires taken { All (λ p. p < length candidates.now) taken.now }
+    requires decided { All (λ p. p < length candidates.now) decisions.now.places.items }
     requires place { place < length candidates.now }
-    requires consistent { IsConsistent (members candidates.now) (asked wanted.now) taken.now }
-    ensures { IfOk result (λ yes. IsTrue yes ↔ IsConsistent (members candidates.now) (asked wanted.now) (taken.now ++ place ∷ [])) }
+    requires asked { HasAsked (members candidates.now) decisions.now }
+    requires consistent { IsConsistent (members candidates.now) (asked wanted.now) decisions.now.places.items }
+    ensures { IfOk result (λ yes. IsTrue yes ↔ IsConsistent (members candidates.now) (asked wanted.now) (decisions.now.places.items ++ place ∷ [])) }
 {
     if !suits_wanted(candidates, wanted, place) {
         return Ok(false);
     }
-    if !suits_taken(candidates, taken, place) {
+    if !suits_decided(candidates, decisions, place) {
         return Ok(false);
     }
-    let acyclic = stays_acyclic(alloc, candidates, taken, place)?;
+    let acyclic = stays_acyclic(alloc, candidates, decisions, place)?;
     Ok(acyclic)
 }
 
@@ -45,49 +48,53 @@ fn is_choice(
     alloc: Global,
     candidates: &[Candidate],
     wanted: &[Wanted],
-    taken: &[u32],
+    decisions: &Decisions,
     name: &Name,
     place: u32,
 ) -> Result<bool, NoMemory>
     requires count { length candidates.now < 2 ^ 32 }
-    requires taken { All (λ p. p < length candidates.now) taken.now }
+    requires decided { All (λ p. p < length candidates.now) decisions.now.places.items }
     requires place { place < length candidates.now }
-    requires consistent { IsConsistent (members candidates.now) (asked wanted.now) taken.now }
+    requires asked { HasAsked (members candidates.now) decisions.now }
+    requires consistent { IsConsistent (members candidates.now) (asked wanted.now) decisions.now.places.items }
     ensures { IfOk result (λ yes. IsTrue yes ↔ ((name_of (members candidates.now) place ≡ Some name.now)
-        × IsConsistent (members candidates.now) (asked wanted.now) (taken.now ++ place ∷ []))) }
+        × IsConsistent (members candidates.now) (asked wanted.now) (decisions.now.places.items ++ place ∷ []))) }
 {
     if !is_same(name_at(candidates, place), name) {
         return Ok(false);
     }
-    let fitting = fits(alloc, candidates, wanted, taken, place)?;
+    let fitting = fits(alloc, candidates, wanted, decisions, place)?;
     Ok(fitting)
 }
 
-/// Goes on from the decided places in `path` to the best consistent walk, if there is one; else they stay as they are.
-fn search(
+/// Goes on from the decided places to the best consistent walk, if there is one; else they stay as they are.
+fn search<'a>(
     alloc: Global,
-    candidates: &[Candidate],
-    wanted: &[Wanted],
-    path: &mut Vec<u32>,
+    candidates: &'a [Candidate],
+    wanted: &'a [Wanted],
+    decisions: &mut Decisions<'a>,
 ) -> Result<bool, NoMemory>
     requires count { length candidates.now < 2 ^ 32 }
     requires rising { IsRising (members candidates.now) }
-    requires places { All (λ p. p < length candidates.now) path.old.items }
-    requires consistent { IsConsistent (members candidates.now) (asked wanted.now) path.old.items }
+    requires decided { All (λ p. p < length candidates.now) decisions.old.places.items }
+    requires asked { HasAsked (members candidates.now) decisions.old }
+    requires consistent { IsConsistent (members candidates.now) (asked wanted.now) decisions.old.places.items }
     ensures { IfOk result (λ found. MatchBool found
-        (IsBest (members candidates.now) (asked wanted.now) path.old.items path.new.items)
-        (HasNone (members candidates.now) (asked wanted.now) path.old.items × (path.new.items ≡ path.old.items))) }
+        (IsBest (members candidates.now) (asked wanted.now) decisions.old.places.items decisions.new.places.items)
+        (HasNone (members candidates.now) (asked wanted.now) decisions.old.places.items
+        × (decisions.new.places.items ≡ decisions.old.places.items)
+        × HasAsked (members candidates.now) decisions.new)) }
 {
-    let Some(name) = next_name(candidates, wanted, path) else {
+    let Some(name) = next_name(candidates, wanted, decisions) else {
         return Ok(true);
     };
     for place in (0..candidates.len()).rev() {
-        if is_choice(alloc, candidates, wanted, path, name, place as u32)? {
-            path.push(place as u32)?;
-            if search(alloc, candidates, wanted, path)? {
+        if is_choice(alloc, candidates, wanted, decisions, name, place as u32)? {
+            decisions.decide(candidates, place as u32)?;
+            if search(alloc, candidates, wanted, decisions)? {
                 return Ok(true);
             }
-            let _ = path.pop();
+            decisions.go_back(candidates);
         }
     }
     Ok(false)
@@ -109,7 +116,10 @@ pub enum ResolveFault {
 /// required name, in byte order, and has its greatest version that leads to an end.
 ///
 /// The memory is linear in the candidates and their dependencies. The time may grow exponentially with the names that
-/// clash far down; where nothing clashes it is that of one look at the decided places for each decision.
+/// clash far down. One decision takes the least of the names that are wanted or that the decided places depend on, each
+/// looked for among the decided ones, and passes once over the candidates for those of that name. A dependency is read
+/// as its place is decided or tried, and a range is tested only where names agree. Cycles are looked for only at a
+/// version that depends on a decided place or on its own name.
 pub fn resolve(
     alloc: Global,
     candidates: &Candidates,
@@ -119,9 +129,10 @@ pub fn resolve(
     ensures none { result ≡ Err ResolveFault.NoVersion → (s : List ℕ) → IsValid (members candidates.now) (asked wanted.now) s → ⊥ }
 {
     let list = candidates.list().as_slice();
-    let mut path = Vec::new(alloc);
-    match search(alloc, list, wanted.as_slice(), &mut path) {
+    let mut decisions = Decisions::new(alloc);
+    match search(alloc, list, wanted.as_slice(), &mut decisions) {
         Ok(true) => {
+            let mut path = decisions.places;
             path.sort_unstable();
             Ok(List::new(path))
         }

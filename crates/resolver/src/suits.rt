@@ -6,7 +6,9 @@ ghost use Rattle.npm_ranges.specs.Ranges.{Meets};
 ghost use Rattle.recipe_reader.specs.Members.{members, need};
 ghost use Rattle.recipe_reader.specs.Sets.{asked, needs_of};
 ghost use Rattle.recipe_reader.specs.Searches.{Suits};
+ghost use Rattle.resolver.specs.Decided.{asked_need, HasAsked};
 
+use crate::decisions::{Asked, Decisions};
 use crate::places::{is_same, name_at, needs_at, version_at};
 use npm_ranges::{Range, Version};
 use nuc_base::Name;
@@ -52,29 +54,45 @@ fn suits(candidates: &[Candidate], needs: &[Dependency], place: u32) -> bool
     true
 }
 
-/// Whether each of two places meets what the other depends on.
-fn suit_each_other(candidates: &[Candidate], place: u32, other: u32) -> bool
-    requires place { place < length candidates.now }
-    requires other { other < length candidates.now }
-    ensures { IsTrue result ↔ (Suits (members candidates.now) (needs_of (members candidates.now) other) place
-        × Suits (members candidates.now) (needs_of (members candidates.now) place) other) }
+/// Whether the place meets what is asked of its name.
+fn suits_asked(candidates: &[Candidate], asked: &[Asked], place: u32) -> bool
+    requires { place < length candidates.now }
+    ensures { IsTrue result ↔ Suits (members candidates.now) (map asked_need asked.now) place }
 {
-    suits(candidates, needs_at(candidates, other), place)
-        && suits(candidates, needs_at(candidates, place), other)
-}
-
-/// Whether the place and each of those that are taken meet what the other depends on.
-pub(crate) fn suits_taken(candidates: &[Candidate], taken: &[u32], place: u32) -> bool
-    requires taken { All (λ p. p < length candidates.now) taken.now }
-    requires place { place < length candidates.now }
-    ensures { IsTrue result ↔ ((q : ℕ) → Contains taken.now q
-        → Suits (members candidates.now) (needs_of (members candidates.now) q) place
-        × Suits (members candidates.now) (needs_of (members candidates.now) place) q) }
-{
-    for other in taken {
-        if !suit_each_other(candidates, place, *other) {
+    let name = name_at(candidates, place);
+    let version = version_at(candidates, place);
+    for ask in asked {
+        if !agrees(&ask.need.name, &ask.need.range, name, version) {
             return false;
         }
     }
     true
+}
+
+/// Whether each of those that are taken meets what the place depends on.
+fn is_suited(candidates: &[Candidate], taken: &[u32], place: u32) -> bool
+    requires taken { All (λ p. p < length candidates.now) taken.now }
+    requires place { place < length candidates.now }
+    ensures { IsTrue result ↔ ((q : ℕ) → Contains taken.now q → Suits (members candidates.now) (needs_of (members candidates.now) place) q) }
+{
+    let needs = needs_at(candidates, place);
+    for other in taken {
+        if !suits(candidates, needs, *other) {
+            return false;
+        }
+    }
+    true
+}
+
+/// Whether the place and each of the decided ones meet what the other depends on.
+pub(crate) fn suits_decided(candidates: &[Candidate], decisions: &Decisions, place: u32) -> bool
+    requires decided { All (λ p. p < length candidates.now) decisions.now.places.items }
+    requires place { place < length candidates.now }
+    requires asked { HasAsked (members candidates.now) decisions.now }
+    ensures { IsTrue result ↔ ((q : ℕ) → Contains decisions.now.places.items q
+        → Suits (members candidates.now) (needs_of (members candidates.now) q) place
+        × Suits (members candidates.now) (needs_of (members candidates.now) place) q) }
+{
+    suits_asked(candidates, decisions.asked.as_slice(), place)
+        && is_suited(candidates, decisions.places.as_slice(), place)
 }
