@@ -89,7 +89,19 @@ go_back-requires-clause-decided t c =
     subst (All (λ p. p < length cs)) (sym (failed.1 ∙ decided)) (All-push (λ p. p < length cs) taken i c.requires.decided lt)
 
 pub loop-place-preserved : goal.loop-place-preserved
-loop-place-preserved t c = ?
+loop-place-preserved t c =
+    let ms = members c.args.candidates.now in
+    let wanted = asked c.args.wanted.now in
+    let taken = c.loop-place.decisions.places.items in
+    let i = c.loop-place.place - 1 in
+    let e : c.loop-place.place ≡ i + 1 = omega arith in
+    record {
+      same = c.loop-place.invariant.same;
+      stack = c.loop-place.invariant.stack;
+      tried = tried_here ms wanted taken c.in-Some.name.now i
+          (λ named. none_here ms wanted (taken ++ i ∷ []) (λ good. iff_false c.in_ok-is_choice.ensures c.if-branch.false (named, good)))
+          (subst (AreTried ms wanted taken c.in-Some.name.now) e c.loop-place.invariant.tried);
+    }
 
 pub returns : goal.returns
 returns t c =
