@@ -1,11 +1,11 @@
 -- What the decided places ask, place by place.
 use Rattle.std.proofs.Common.{◌≡◌, ℕ, ◌+◌, ◌-◌, ◌<◌, ◌≤◌, List, [], ◌∷◌, ◌++◌, map, length, get_or, take, refl, sym, ap, ◌∙◌, subst, inl, inr, arith, append_assoc, append-nil}
-use Rattle.std.specs.List.{All, Contains}
+use Rattle.std.specs.List.{Contains}
 use Rattle.std.proofs.lemmas.List.{take-map, take_more, take-append-le, take_all, map-append, length-append, length-map}
 use Rattle.std.proofs.lemmas.List.Elements.{Contains-append_left, Contains-append_right, Contains-append_cases}
 use Rattle.nuc_base.proofs.Lists.{in_nil, in_cons, in_here, in_there}
 use Rattle.recipe_reader.specs.Members.{Need, Member}
-use Rattle.recipe_reader.specs.Sets.{name_of, needs_of, needed_names, required_names}
+use Rattle.recipe_reader.specs.Sets.{needs_of, needed_names, required_names}
 use Rattle.recipe_reader.specs.Searches.{Suits}
 use Rattle.recipe_reader.proofs.Required.{in_map, from_map}
 use Rattle.resolver.specs.declared.decisions.Asked.{Asked}

@@ -1,9 +1,8 @@
-use Rattle.std.proofs.Common.{map, take, subst}
-use Rattle.std.proofs.lemmas.List.{take_all}
+use Rattle.std.proofs.Common.{subst}
 use Rattle.recipe_reader.specs.Members.{members}
 use Rattle.resolver.specs.declared.decisions.Asked.{Asked}
-use Rattle.resolver.specs.Decided.{ask, asked_need}
-use Rattle.resolver.specs.Edges.{Adds, NeedsBy, NeedsAsked}
+use Rattle.resolver.specs.Decided.{asked_need}
+use Rattle.resolver.specs.Edges.{Adds, NeedsBy}
 use Rattle.resolver.proofs.Adding.{asked_added}
 use Rattle.resolver.proofs.cycles.add_asked.Goals as goal
 

@@ -1,4 +1,4 @@
-use Rattle.std.proofs.Common.{map, get_or, refl, sym, subst}
+use Rattle.std.proofs.Common.{get_or, refl, sym, subst}
 use Rattle.std.proofs.lemmas.Bool.{false≢true, iff_false}
 use Rattle.std.proofs.lemmas.List.Elements.{Contains-get_or}
 use Rattle.recipe_reader.specs.Members.{members}

@@ -1,6 +1,5 @@
 use Rattle.std.proofs.Common.{map}
 use Rattle.recipe_reader.specs.Members.{members, need}
-use Rattle.resolver.specs.Decided.{HasAsked}
 use Rattle.resolver.proofs.Asking.{asked_push}
 use Rattle.resolver.proofs.decisions.Decisions.decide.Goals as goal
 

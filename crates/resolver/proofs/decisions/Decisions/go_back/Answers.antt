@@ -1,7 +1,7 @@
 use Rattle.std.proofs.Common.{◌≡◌, ◌≤◌, ◌-◌, length, map, take, sym, ap, ◌∙◌, subst}
 use Rattle.std.proofs.lemmas.List.{length-map}
 use Rattle.recipe_reader.specs.Members.{members, need}
-use Rattle.resolver.specs.Decided.{asks, ask, HasAsked}
+use Rattle.resolver.specs.Decided.{asks, ask}
 use Rattle.resolver.proofs.Asking.{asked_last, asked_pop}
 use Rattle.resolver.proofs.decisions.Decisions.go_back.Goals as goal
 
