@@ -29,7 +29,9 @@ impl<'a, R: Files + AllocGlobal> Drop for FileDisk<'a, R> {
 }
 
 impl<'a, R: Files + AllocGlobal> FileDisk<'a, R> {
-    pub fn new(rt: &'a R, root: &'a str) -> Self {
+    pub fn new(rt: &'a R, root: &'a str) -> Self
+        ensures faults { result.faults ≡ 0 }
+    {
         FileDisk {
             rt,
             root,
