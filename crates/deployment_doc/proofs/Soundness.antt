@@ -23,7 +23,7 @@ use Rattle.deployment_doc.specs.declared.document.Root.{Root}
 use Rattle.deployment_doc.specs.declared.fault.DocFault.{DocFault}
 use Rattle.deployment_doc.specs.declared.fault.DocFault.TheVariants.{NoMemory}
 use Rattle.deployment_doc.specs.declared.fault.Key.TheVariants.{Components}
-use Rattle.deployment_doc.proofs.Nodes.{Each, present_each, got}
+use Rattle.tree_core.proofs.RegularParts.{get_regular, present_regular}
 use Rattle.deployment_doc.proofs.Rows.{above_roots, roots}
 
 abbrev key_of : List ℕ × Data → List ℕ
@@ -81,7 +81,7 @@ object_sound ms rs r few h =
       merges = all_merge (pairs_of ms) rs h;
     }
 
-roots_sound : (o : Option Data) (rs : List Root) → Each o → AllHold (on o components_lines) → AllZip IsRoot (components o) rs → AreSound rs
+roots_sound : (o : Option Data) (rs : List Root) → IfSome o IsRegular → AllHold (on o components_lines) → AllZip IsRoot (components o) rs → AreSound rs
 unfolding IsStrictlySortedBy
 roots_sound None [] r h z = record { few = lit≤ tt; rising = tt; merges = All-nil UpdatesByObject }
 roots_sound None (root ∷ rs) r h z = absurd z
@@ -96,5 +96,5 @@ pub sound : (bytes : List ℕ) (d : Data) (result : Result Document DocFault) �
     → Answers NoMemory (document_lines d) (IsDocument bytes d) result → IfOk result (λ document. AreSound document.roots)
 sound bytes d (Err f) r h = tt
 sound bytes d (Ok document) r h =
-    roots_sound (present (get (spelled Components) d)) document.roots (present_each (get (spelled Components) d) (got (spelled Components) d r))
+    roots_sound (present (get (spelled Components) d)) document.roots (present_regular (get (spelled Components) d) (get_regular (spelled Components) d r))
     (hold_last (above_roots d) (roots d) h.0) h.1.roots

@@ -1,6 +1,7 @@
 -- The lines by which a document is read, in their order: what each asks of the tree, and the fault where that fails.
 -- (AWS IoT Greengrass V2 developer guide, "Create deployments"; JSON pointers: RFC 6901.)
-use Rattle.std.specs.Prelude.{◌≡◌, ◌≤◌, ◌⊎◌, ℕ, List, ◌++◌, length, codes, Option, Some, None, IsSome}
+use Rattle.std.specs.Prelude.{◌≡◌, ◌≤◌, ◌⊎◌, ℕ, List, ◌++◌, length, codes, Option, IsSome}
+use Rattle.std.specs.Option.{option_or}
 use Rattle.serde_json.specs.Data.{Data, string}
 use Rattle.serde_json.specs.Find.{get}
 use Rattle.nuc_base.specs.Names.{IsName, IsLabel}
@@ -29,14 +30,9 @@ at_optional k d lines = optional (spelled k) d lines
 abbrev pub at_required : Key → Data → (Data → Table DocFault) → Table DocFault
 at_required k d lines = required (spelled k) (fault.Missing k) d lines
 
--- the first of two, where it is there
-abbrev pub or_else : Option Data → Option Data → Option Data
-or_else None other = other
-or_else (Some v) other = Some v
-
 -- the value of a key that has two spellings, where it is not null
 abbrev pub either : List ℕ → List ℕ → Data → Option Data
-either small large d = present (or_else (get small d) (get large d))
+either small large d = present (option_or (get small d) (get large d))
 
 -- both spellings are there, whatever their values
 abbrev pub HasBoth : List ℕ → List ℕ → Data → Type 0

@@ -1,5 +1,6 @@
 -- Two lists of variables in name order, put together.
 use Rattle.std.proofs.Common.{◌≡◌, ℕ, ◌≤◌, List, [], ◌∷◌, ◌++◌, length, drop, Option, Some, None, Ordering, Less, Equal, Greater, nat_cmp, refl, sym, ap, ◌∙◌, subst}
+use Rattle.std.specs.Option.{option_or}
 use Rattle.std.proofs.lemmas.List.{drop_all, append-nil}
 use Rattle.std.specs.List.{AllZip}
 use Rattle.std.specs.Ordering.{match_ordering, ordering_reverse}
@@ -7,7 +8,7 @@ use Rattle.std.specs.Cmp.Lexicographic.{slice_cmp, nat_list_cmp_total}
 use Rattle.serde_json.specs.Data.{Members, no_members, member}
 use Rattle.tree_core.specs.Regular.{IsBelowAll, MembersAreOrderly}
 use Rattle.tree_core.specs.Parts.{pairs_of}
-use Rattle.recipe_reader.specs.Environment.{Variable, IsVariable, IsBelow, Rises, find_in, or_else, IsJoined}
+use Rattle.recipe_reader.specs.Environment.{Variable, IsVariable, IsBelow, Rises, find_in, IsJoined}
 
 abbrev pub cmp : List ℕ → List ℕ → Ordering
 cmp k l = slice_cmp nat_cmp k l
@@ -89,46 +90,46 @@ rises_merged (x ∷ xs) ys h later =
 
 -- ---- each name has the own value, or else the other
 
-own_first : (o : Ordering) (v : List ℕ) (f g k : Option (List ℕ)) → f ≡ or_else g k → match_ordering o f (Some v) f ≡ or_else (match_ordering o g (Some v) g) k
+own_first : (o : Ordering) (v : List ℕ) (f g k : Option (List ℕ)) → f ≡ option_or g k → match_ordering o f (Some v) f ≡ option_or (match_ordering o g (Some v) g) k
 own_first Less v f g k h = h
 own_first Equal v f g k h = refl
 own_first Greater v f g k h = h
 
-own_for_both : (o : Ordering) (v w : List ℕ) (f g k : Option (List ℕ)) → f ≡ or_else g k → match_ordering o f (Some v) f ≡ or_else (match_ordering o g (Some v) g) (match_ordering o k (Some w) k)
+own_for_both : (o : Ordering) (v w : List ℕ) (f g k : Option (List ℕ)) → f ≡ option_or g k → match_ordering o f (Some v) f ≡ option_or (match_ordering o g (Some v) g) (match_ordering o k (Some w) k)
 own_for_both Less v w f g k h = h
 own_for_both Equal v w f g k h = refl
 own_for_both Greater v w f g k h = h
 
-other_first : (o p : Ordering) → p ≡ o → (w : List ℕ) (f g k : Option (List ℕ)) → (p ≡ Equal → g ≡ None) → f ≡ or_else g k → match_ordering o f (Some w) f ≡ or_else g (match_ordering o k (Some w) k)
+other_first : (o p : Ordering) → p ≡ o → (w : List ℕ) (f g k : Option (List ℕ)) → (p ≡ Equal → g ≡ None) → f ≡ option_or g k → match_ordering o f (Some w) f ≡ option_or g (match_ordering o k (Some w) k)
 other_first Less p e w f g k none h = h
-other_first Equal p e w f g k none h = ap (λ z. or_else z (Some w)) (sym (none e))
+other_first Equal p e w f g k none h = ap (λ z. option_or z (Some w)) (sym (none e))
 other_first Greater p e w f g k none h = h
 
 values_at : (n : List ℕ) (x y : Variable) (xs : List Variable) (more : List Variable → List Variable) (ys : List Variable) (o : Ordering) → cmp x.0 y.0 ≡ o
-    → ((zs : List Variable) → Rises zs → find_in n (more zs) ≡ or_else (find_in n xs) (find_in n zs))
-    → Rises (x ∷ xs) → Rises (y ∷ ys) → find_in n (before_in x more ys) ≡ or_else (find_in n (x ∷ xs)) (find_in n ys)
-    → find_in n (match_ordering o (x ∷ more (y ∷ ys)) (x ∷ more ys) (y ∷ before_in x more ys)) ≡ or_else (find_in n (x ∷ xs)) (find_in n (y ∷ ys))
+    → ((zs : List Variable) → Rises zs → find_in n (more zs) ≡ option_or (find_in n xs) (find_in n zs))
+    → Rises (x ∷ xs) → Rises (y ∷ ys) → find_in n (before_in x more ys) ≡ option_or (find_in n (x ∷ xs)) (find_in n ys)
+    → find_in n (match_ordering o (x ∷ more (y ∷ ys)) (x ∷ more ys) (y ∷ before_in x more ys)) ≡ option_or (find_in n (x ∷ xs)) (find_in n (y ∷ ys))
 values_at n x y xs more ys Less is later own h rest =
     own_first (cmp n x.0) x.1 (find_in n (more (y ∷ ys))) (find_in n xs) (find_in n (y ∷ ys)) (later (y ∷ ys) h)
 values_at n x y xs more ys Equal is later own h rest =
     own_for_both (cmp n x.0) x.1 y.1 (find_in n (more ys)) (find_in n xs) (find_in n ys) (later ys h.1)
-    ∙ ap (λ o. or_else (find_in n (x ∷ xs)) (match_ordering o (find_in n ys) (Some y.1) (find_in n ys))) (same_from x.0 y.0 n is)
+    ∙ ap (λ o. option_or (find_in n (x ∷ xs)) (match_ordering o (find_in n ys) (Some y.1) (find_in n ys))) (same_from x.0 y.0 n is)
 values_at n x y xs more ys Greater is later own h rest =
     let before : cmp y.0 x.0 ≡ Less = turned x.0 y.0 is in
     other_first (cmp n y.0) (cmp n y.0) refl y.1 (find_in n (before_in x more ys)) (find_in n (x ∷ xs)) (find_in n ys)
     (λ same. absent n y.0 (x ∷ xs) same (before, below_later y.0 x.0 xs before own.0)) rest
 
-or_none : (o : Option (List ℕ)) → o ≡ or_else o None
+or_none : (o : Option (List ℕ)) → o ≡ option_or o None
 or_none None = refl
 or_none (Some v) = refl
 
 values_in : (n : List ℕ) (x : Variable) (xs : List Variable) (more : List Variable → List Variable)
-    → ((zs : List Variable) → Rises zs → find_in n (more zs) ≡ or_else (find_in n xs) (find_in n zs))
-    → Rises (x ∷ xs) → (ys : List Variable) → Rises ys → find_in n (before_in x more ys) ≡ or_else (find_in n (x ∷ xs)) (find_in n ys)
+    → ((zs : List Variable) → Rises zs → find_in n (more zs) ≡ option_or (find_in n xs) (find_in n zs))
+    → Rises (x ∷ xs) → (ys : List Variable) → Rises ys → find_in n (before_in x more ys) ≡ option_or (find_in n (x ∷ xs)) (find_in n ys)
 values_in n x xs more later own [] h = own_first (cmp n x.0) x.1 (find_in n (more [])) (find_in n xs) None (later [] tt)
 values_in n x xs more later own (y ∷ ys) h = values_at n x y xs more ys (cmp x.0 y.0) refl later own h (values_in n x xs more later own ys h.1)
 
-values_merged : (n : List ℕ) (xs ys : List Variable) → Rises xs → Rises ys → find_in n (merged xs ys) ≡ or_else (find_in n xs) (find_in n ys)
+values_merged : (n : List ℕ) (xs ys : List Variable) → Rises xs → Rises ys → find_in n (merged xs ys) ≡ option_or (find_in n xs) (find_in n ys)
 values_merged n [] ys h later = refl
 values_merged n (x ∷ xs) ys h later = values_in n x xs (merged xs) (λ zs. values_merged n xs zs h.1) h ys later
 

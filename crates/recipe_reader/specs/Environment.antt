@@ -1,5 +1,6 @@
 -- The variables of an environment.
 use Rattle.std.specs.Prelude.{◌≡◌, ◌==◌, ◌||◌, ℕ, Bool, true, false, List, [], ◌∷◌, ◌++◌, Option, Some, None, IsSome, ⊤}
+use Rattle.std.specs.Option.{option_or}
 use Rattle.std.specs.Ordering.{nat_cmp, match_ordering}
 use Rattle.std.specs.Cmp.Lexicographic.{slice_cmp}
 use Rattle.std.specs.List.{AllZip}
@@ -65,12 +66,7 @@ abbrev pub find_in : List ℕ → List Variable → Option (List ℕ)
 find_in n [] = None
 find_in n (x ∷ xs) = match_ordering (slice_cmp nat_cmp n x.0) (find_in n xs) (Some x.1) (find_in n xs)
 
--- the first of two, where it is there
-abbrev pub or_else : {A : Type 0} → Option A → Option A → Option A
-or_else None other = other
-or_else (Some x) other = Some x
-
 -- the variables of both in name order, where both name one the own one
 pub record IsJoined (own outer joined : List Variable) : Type 0 where
   pub rises : Rises joined
-  pub values : (n : List ℕ) → find_in n joined ≡ or_else (find_in n own) (find_in n outer)
+  pub values : (n : List ℕ) → find_in n joined ≡ option_or (find_in n own) (find_in n outer)

@@ -1,35 +1,34 @@
 -- A node of an orderly value is orderly, and one of a regular value regular.
-use Rattle.std.proofs.Common.{◌≡◌, ℕ, zero, suc, ◌≤◌, List, [], ◌∷◌, Option, Some, None, option_and_then, subst, arith, Ordering, Less, Equal, Greater, nat_cmp}
-use Rattle.std.specs.Ordering.{match_ordering}
+use Rattle.std.proofs.Common.{◌≡◌, ℕ, zero, suc, ◌≤◌, List, [], ◌∷◌, Option, Some, None, IfSome, option_and_then, subst, arith, nat_cmp}
 use Rattle.std.specs.Cmp.Lexicographic.{slice_cmp}
 use Rattle.serde_json.specs.Data.{Data, null, boolean, number, string, array, object, Items, no_items, item, Members, no_members, member, items_depth, members_depth}
 use Rattle.serde_json.specs.Find.{get_member, get_item}
 use Rattle.tree_core.specs.Regular.{IsOrderly, ItemsAreOrderly, MembersAreOrderly, ItemsHaveUtf8, MembersHaveUtf8, IsRegular}
 use Rattle.tree_core.specs.Nodes.{node, child, place}
-use Rattle.tree_core.proofs.Puts.{Each, found_orderly}
+use Rattle.tree_core.proofs.Puts.{found_at, found_orderly}
 
 -- ---- a walk keeps what each step keeps
 
-below : (P : Data → Type 0) (f : Data → Option Data) (o : Option Data) → Each P o → ((d : Data) → P d → Each P (f d)) → Each P (option_and_then f o)
+below : (P : Data → Type 0) (f : Data → Option Data) (o : Option Data) → IfSome o P → ((d : Data) → P d → IfSome (f d) P) → IfSome (option_and_then f o) P
 below P f None h more = tt
 below P f (Some d) h more = more d h
 
-each_node : (P : Data → Type 0) → ((token : List ℕ) (d : Data) → P d → Each P (child token d)) → (tokens : List (List ℕ)) (d : Data) → P d → Each P (node tokens d)
+each_node : (P : Data → Type 0) → ((token : List ℕ) (d : Data) → P d → IfSome (child token d) P) → (tokens : List (List ℕ)) (d : Data) → P d → IfSome (node tokens d) P
 each_node P step [] d h = h
 each_node P step (token ∷ tokens) d h = below P (node tokens) (child token d) (step token d h) (each_node P step tokens)
 
-placed : (P : Data → Type 0) (o : Option ℕ) (ds : Items) → ((i : ℕ) → Each P (get_item i ds)) → Each P (option_and_then (λ i. get_item i ds) o)
+placed : (P : Data → Type 0) (o : Option ℕ) (ds : Items) → ((i : ℕ) → IfSome (get_item i ds) P) → IfSome (option_and_then (λ i. get_item i ds) o) P
 placed P None ds h = tt
 placed P (Some i) ds h = h i
 
 -- ---- order alone
 
-item_orderly : (i : ℕ) (ds : Items) → ItemsAreOrderly ds → Each IsOrderly (get_item i ds)
+item_orderly : (i : ℕ) (ds : Items) → ItemsAreOrderly ds → IfSome (get_item i ds) IsOrderly
 item_orderly i no_items h = tt
 item_orderly zero (item d ds) h = h.0
 item_orderly (suc i) (item d ds) h = item_orderly i ds h.1
 
-child_orderly : (token : List ℕ) (d : Data) → IsOrderly d → Each IsOrderly (child token d)
+child_orderly : (token : List ℕ) (d : Data) → IsOrderly d → IfSome (child token d) IsOrderly
 child_orderly token null h = tt
 child_orderly token (boolean b) h = tt
 child_orderly token (number n) h = tt
@@ -38,26 +37,21 @@ child_orderly token (array ds) h = placed IsOrderly (place token) ds (λ i. item
 child_orderly token (object ms) h = found_orderly token ms h
 
 pub node_orderly : (tokens : List (List ℕ)) (d e : Data) → IsOrderly d → node tokens d ≡ Some e → IsOrderly e
-node_orderly tokens d e h is = subst (Each IsOrderly) is (each_node IsOrderly child_orderly tokens d h)
+node_orderly tokens d e h is = subst (λ o. IfSome o IsOrderly) is (each_node IsOrderly child_orderly tokens d h)
 
 -- ---- the whole rule
 
-item_regular : (i : ℕ) (ds : Items) → ItemsAreOrderly ds → items_depth ds ≤ 64 → ItemsHaveUtf8 ds → Each IsRegular (get_item i ds)
+item_regular : (i : ℕ) (ds : Items) → ItemsAreOrderly ds → items_depth ds ≤ 64 → ItemsHaveUtf8 ds → IfSome (get_item i ds) IsRegular
 item_regular i no_items o s u = tt
 item_regular zero (item d ds) o s u = record { orderly = o.0; shallow = omega (arith, s); utf8 = u.0 }
 item_regular (suc i) (item d ds) o s u = item_regular i ds o.1 (omega (arith, s)) u.1
 
-found_at : (P : Data → Type 0) (o : Ordering) (e : Data) (rest : Option Data) → P e → Each P rest → Each P (match_ordering o rest (Some e) rest)
-found_at P Less e rest h later = later
-found_at P Equal e rest h later = h
-found_at P Greater e rest h later = later
-
-member_regular : (k : List ℕ) (ms : Members) → MembersAreOrderly ms → members_depth ms ≤ 64 → MembersHaveUtf8 ms → Each IsRegular (get_member k ms)
+member_regular : (k : List ℕ) (ms : Members) → MembersAreOrderly ms → members_depth ms ≤ 64 → MembersHaveUtf8 ms → IfSome (get_member k ms) IsRegular
 member_regular k no_members o s u = tt
 member_regular k (member l e ms) o s u =
     found_at IsRegular (slice_cmp nat_cmp k l) e _ (record { orderly = o.1; shallow = omega (arith, s); utf8 = u.1 }) (member_regular k ms o.2 (omega (arith, s)) u.2)
 
-child_regular : (token : List ℕ) (d : Data) → IsRegular d → Each IsRegular (child token d)
+child_regular : (token : List ℕ) (d : Data) → IsRegular d → IfSome (child token d) IsRegular
 child_regular token null h = tt
 child_regular token (boolean b) h = tt
 child_regular token (number n) h = tt
@@ -66,4 +60,4 @@ child_regular token (array ds) h = placed IsRegular (place token) ds (λ i. item
 child_regular token (object ms) h = member_regular token ms h.orderly (omega (arith, h.shallow)) h.utf8
 
 pub node_regular : (tokens : List (List ℕ)) (d e : Data) → IsRegular d → node tokens d ≡ Some e → IsRegular e
-node_regular tokens d e h is = subst (Each IsRegular) is (each_node IsRegular child_regular tokens d h)
+node_regular tokens d e h is = subst (λ o. IfSome o IsRegular) is (each_node IsRegular child_regular tokens d h)

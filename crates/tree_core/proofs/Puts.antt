@@ -1,6 +1,5 @@
 -- What is put in stays in order, and what is found is orderly.
-use Rattle.std.proofs.Common.{◌≡◌, ℕ, List, Option, Some, None, Ordering, Less, Equal, Greater, nat_cmp, refl, ap, ◌∙◌}
-use Rattle.std.specs.Prelude.{⊤}
+use Rattle.std.proofs.Common.{◌≡◌, ℕ, List, Option, Some, IfSome, Ordering, Less, Equal, Greater, nat_cmp, refl, ap, ◌∙◌}
 use Rattle.std.specs.Ordering.{match_ordering, ordering_reverse}
 use Rattle.std.specs.Cmp.Lexicographic.{slice_cmp, nat_list_cmp_total}
 use Rattle.serde_json.specs.Data.{Data, Members, no_members, member, put}
@@ -33,15 +32,11 @@ pub orderly_put : (k : List ℕ) (d : Data) (ms : Members) → IsOrderly d → M
 orderly_put k d no_members h old = (tt, h, tt)
 orderly_put k d (member m e ms) h old = orderly_put_at _ k d m e ms refl h old (orderly_put k d ms h old.2)
 
-abbrev pub Each : (Data → Type 0) → Option Data → Type 0
-Each P None = ⊤
-Each P (Some a) = P a
+pub found_at : (P : Data → Type 0) (o : Ordering) (e : Data) (rest : Option Data) → P e → IfSome rest P → IfSome (match_ordering o rest (Some e) rest) P
+found_at P Less e rest h later = later
+found_at P Equal e rest h later = h
+found_at P Greater e rest h later = later
 
-found_at : (o : Ordering) (e : Data) (rest : Option Data) → IsOrderly e → Each IsOrderly rest → Each IsOrderly (match_ordering o rest (Some e) rest)
-found_at Less e rest h later = later
-found_at Equal e rest h later = h
-found_at Greater e rest h later = later
-
-pub found_orderly : (k : List ℕ) (ms : Members) → MembersAreOrderly ms → Each IsOrderly (get_member k ms)
+pub found_orderly : (k : List ℕ) (ms : Members) → MembersAreOrderly ms → IfSome (get_member k ms) IsOrderly
 found_orderly k no_members h = tt
-found_orderly k (member l e ms) h = found_at (slice_cmp nat_cmp k l) e _ h.1 (found_orderly k ms h.2)
+found_orderly k (member l e ms) h = found_at IsOrderly (slice_cmp nat_cmp k l) e _ h.1 (found_orderly k ms h.2)

@@ -1,18 +1,11 @@
--- What each kind of tree is seen as, and the fields of an object as a loop goes over them.
-use Rattle.std.proofs.Common.{◌≡◌, ℕ, ◌+◌, ◌<◌, ◌≤◌, List, [], ◌∷◌, length, map, drop, get_or, ap, sym, ◌∙◌, refl, rules, ℤ, Vec, Global}
-use Rattle.std.proofs.lemmas.List.{drop_more, drop_all}
+-- What each kind of tree is seen as.
+use Rattle.std.proofs.Common.{◌≡◌, ℕ, List, [], ◌∷◌, map, ap, ◌∙◌, refl, rules, ℤ, Vec, Global}
 use Rattle.serde_json.specs.Data.{Data, object, array, string, number}
 use Rattle.serde_json.specs.Find.{of_integer}
 use Rattle.tree_core.specs.View.{view, field_view, fields_view, members_of, items_view, items_of}
 use Rattle.tree_core.specs.declared.tree.Tree.{Tree, Fields, Items, Text, Whole, the_lemmas}
 use Rattle.tree_core.proofs.Fields.{Field}
 use Rattle.tree_core.specs.Parts.{pairs_of, members, IsObject, values, list_of, IsList}
-
-pub fields_next : (fs : List Field) (i : ℕ) (x : Field) → i < length fs → x ≡ get_or fs i x → map field_view (drop i fs) ≡ field_view x ∷ map field_view (drop (i + 1) fs)
-fields_next fs i x below is = ap (map field_view) (drop_more fs i x below) ∙ ap (λ y. field_view y ∷ map field_view (drop (i + 1) fs)) (sym is)
-
-pub fields_end : (fs : List Field) (i : ℕ) → length fs ≤ i → map field_view (drop i fs) ≡ []
-fields_end fs i past = ap (map field_view) (drop_all i fs past)
 
 pub pairs-members : (ms : List (List ℕ × Data)) → pairs_of (members_of ms) ≡ ms
 pairs-members [] = refl

@@ -8,9 +8,7 @@ use Rattle.deployment_doc.specs.Named.{IsRoot}
 use Rattle.deployment_doc.specs.declared.fault.DocFault.TheVariants.{NoMemory}
 use Rattle.deployment_doc.specs.declared.document.Root.{Root}
 use Rattle.tree_core.proofs.Fields.{Field}
-use Rattle.serde_json.specs.Data.{object}
-use Rattle.tree_core.specs.Regular.{IsRegular}
-use Rattle.deployment_doc.proofs.Nodes.{field_regular}
+use Rattle.tree_core.proofs.RegularParts.{AreRegular, members_regular, field_regular}
 use Rattle.deployment_doc.proofs.roots.roots_among.Goals as goal
 
 pub loop-name-init : goal.loop-name-init
@@ -55,4 +53,5 @@ root_of-requires c =
     let i = c.loop-name.name-index in
     let x : Field = c.loop-name-item.result in
     let below : i < length xs = omega arith in
-    field_regular xs i x (subst (λ (fs : List Field). IsRegular (object (fields_view fs))) (sym c.deref-name-items.ensures.value) c.requires) below c.loop-name-item.is
+    let regular : AreRegular (fields_view xs) = subst (λ (fs : List Field). AreRegular (fields_view fs)) (sym c.deref-name-items.ensures.value) (members_regular _ c.requires) in
+    field_regular xs i x regular below c.loop-name-item.is

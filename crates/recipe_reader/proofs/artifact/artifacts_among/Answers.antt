@@ -8,7 +8,7 @@ use Rattle.tree_core.specs.declared.tree.Tree.{Tree}
 use Rattle.recipe_reader.specs.Artifacts.{listed_lines, IsArtifact}
 use Rattle.recipe_reader.specs.declared.fault.RecipeFault.TheVariants.{NoMemory}
 use Rattle.recipe_reader.proofs.Listing.{Lists, next_lines, lists_start, lists_fault, lists_more, lists_end}
-use Rattle.recipe_reader.proofs.Regulars.{ItemsAreRegular, items_regular, item_regular}
+use Rattle.tree_core.proofs.RegularParts.{ItemsAreRegular, items_regular, item_regular}
 use Rattle.recipe_reader.proofs.artifact.artifacts_among.Goals as goal
 
 pub loop-value-init : goal.loop-value-init

@@ -6,7 +6,7 @@ use Rattle.nuc_base.specs.Tables.{Passes, AllHold, Faults, each}
 use Rattle.nuc_base.proofs.Tables.{handed_on, passes_start, goes_more, goes_fault, goes_end}
 use Rattle.recipe_reader.specs.Environment.{variable_lines, IsVariable, Variable}
 use Rattle.recipe_reader.specs.declared.fault.RecipeFault.TheVariants.{NoMemory}
-use Rattle.recipe_reader.proofs.Regulars.{AreRegular, members_regular, field_regular}
+use Rattle.tree_core.proofs.RegularParts.{AreRegular, members_regular, field_regular}
 use Rattle.recipe_reader.proofs.environment.variables_among.Goals as goal
 
 pub loop-name-init : goal.loop-name-init

@@ -11,7 +11,7 @@ use Rattle.recipe_reader.specs.declared.fault.RecipeFault.TheVariants.{NoMemory,
 use Rattle.recipe_reader.specs.declared.fault.Key.TheVariants.{Setenv}
 use Rattle.recipe_reader.proofs.Chains.{answers_also}
 use Rattle.recipe_reader.proofs.Joining.{variables_rise}
-use Rattle.recipe_reader.proofs.Regulars.{AreRegular, fields_regular}
+use Rattle.tree_core.proofs.RegularParts.{AreRegular, fields_regular}
 use Rattle.recipe_reader.proofs.environment.variables_in.Goals as goal
 
 pub returns : goal.returns

@@ -1,5 +1,6 @@
 use Rattle.tree_core.specs.View.{view}
-use Rattle.recipe_reader.proofs.Regulars.{value_regular, fields_regular}
+use Rattle.tree_core.proofs.RegularParts.{fields_regular}
+use Rattle.recipe_reader.proofs.Regulars.{value_regular}
 use Rattle.recipe_reader.proofs.keys.any_case.Goals as goal
 
 pub returns-clause-regular : goal.returns-clause-regular

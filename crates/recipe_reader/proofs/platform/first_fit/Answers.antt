@@ -7,7 +7,7 @@ use Rattle.recipe_reader.specs.Found.{Finds}
 use Rattle.recipe_reader.specs.Platforms.{walk_lines, chosen, matches}
 use Rattle.recipe_reader.specs.declared.fault.RecipeFault.TheVariants.{NoMemory}
 use Rattle.recipe_reader.proofs.Walks.{Walks, walks_next, walks_fault, walks_found}
-use Rattle.recipe_reader.proofs.Regulars.{ItemsAreRegular, items_regular, item_regular}
+use Rattle.tree_core.proofs.RegularParts.{ItemsAreRegular, items_regular, item_regular}
 use Rattle.recipe_reader.proofs.platform.first_fit.Goals as goal
 
 pub returns-in_err-manifest_fits : goal.returns-in_err-manifest_fits
