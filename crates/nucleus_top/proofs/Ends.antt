@@ -18,7 +18,7 @@ use Rattle.nucleus_top.specs.declared.words.Order.TheVariants.{Init, Deploy, Sta
 use Rattle.nucleus_top.proofs.Orders.{comes_of}
 use Rattle.nucleus_top.proofs.DeployEnds.{deploy_parts}
 use Rattle.nucleus_top.proofs.InitEnds.{init_parts}
-use Rattle.nucleus_top.proofs.Standing.{same_device}
+use Rattle.device.proofs.OneDevice.{same_device}
 use Rattle.nucleus_top.proofs.StatusEnds.{status_parts}
 
 -- what a command's answer says of the disk

@@ -14,7 +14,7 @@ use Rattle.nucleus_top.specs.Leaving.{IsNoneOrBegun, LeavesOf, MayLeave}
 use Rattle.nucleus_top.specs.Words.{IsOrder}
 use Rattle.nucleus_top.specs.declared.words.Order.{Order}
 use Rattle.nucleus_top.specs.declared.words.Order.TheVariants.{Init}
-use Rattle.nucleus_top.proofs.Standing.{none_of}
+use Rattle.gate_log.proofs.Walk.{none_of}
 use Rattle.nucleus_top.proofs.Origins.{first_stands}
 
 -- an append that is not full fails by the disk

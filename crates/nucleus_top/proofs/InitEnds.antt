@@ -13,7 +13,7 @@ use Rattle.nucleus_top.specs.Leaving.{Keeps}
 use Rattle.disk_model.specs.Disk.{Image}
 use Rattle.nucleus_top.specs.declared.answer.Answer.{Answer}
 use Rattle.nucleus_top.specs.declared.answer.Answer.TheVariants.{Stored, Made, Shown, WrongWords, Refused, DiskFailed, SourceFailed, NotInitialised, Damaged, Initialised, NoMemory}
-use Rattle.nucleus_top.proofs.Standing.{none_stands}
+use Rattle.device.proofs.OneDevice.{none_stands}
 
 module _ (origin : Origin) (store : Store) (printed : Printed) (result : Status) where
   which : (a : Answer) → Inits origin store a → Told printed result a → (result ≡ status.Edge) ⊎ ((answer : Answer) × Inits origin store answer × (result ≡ status_of answer))

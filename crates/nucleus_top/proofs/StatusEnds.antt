@@ -11,7 +11,7 @@ use Rattle.nucleus_top.specs.Inits.{IsRefusedAt}
 use Rattle.nucleus_top.specs.Shows.{IsShown, Shows, StatusParts}
 use Rattle.nucleus_top.specs.declared.answer.Answer.{Answer}
 use Rattle.nucleus_top.specs.declared.answer.Answer.TheVariants.{Stored, Made, Shown, WrongWords, Refused, DiskFailed, SourceFailed, NotInitialised, Damaged, Initialised, NoMemory}
-use Rattle.nucleus_top.proofs.Standing.{none_stands}
+use Rattle.device.proofs.OneDevice.{none_stands}
 
 module _ (json : Bool) (store : Store) (printed : Printed) (result : Status) where
   which : (a : Answer) → Shows json store a → Told printed result a → (result ≡ status.Edge) ⊎ ((answer : Answer) × Shows json store answer × (result ≡ status_of answer))

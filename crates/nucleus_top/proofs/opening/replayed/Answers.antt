@@ -4,7 +4,8 @@ use Rattle.device.specs.Standing.{Replayed}
 use Rattle.device.specs.declared.fault.ReplayFault.{ReplayFault}
 use Rattle.nucleus_top.specs.Opening.{IsDamagedIn}
 use Rattle.nucleus_top.proofs.Standing.{some_payloads, damaged_none}
-use Rattle.nucleus_top.proofs.Origins.{has_origin, not_none}
+use Rattle.device.proofs.Origins.{has_origin}
+use Rattle.nucleus_top.proofs.Origins.{not_none}
 use Rattle.nucleus_top.proofs.opening.replayed.Goals as goal
 
 pub returns-then-is_none-clause-told : goal.returns-then-is_none-clause-told

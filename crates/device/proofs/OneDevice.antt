@@ -1,0 +1,92 @@
+-- A journal stands for one device at most.
+use Rattle.std.proofs.Common.{◌≡◌, ◌∙◌, inl, inr, ℕ, ◌+◌, ◌<◌, ◌≤◌, List, [], ◌∷◌, ◌++◌, ap, sym, subst, refl, arith, Option, Some, None, IfSome}
+use Rattle.std.proofs.lemmas.Bool.{false≢true}
+use Rattle.std.specs.List.{AllByRecursion}
+use Rattle.std.specs.Option.{IsSome}
+use Rattle.disk_model.specs.Disk.{Image}
+use Rattle.gate_log.specs.Entries.{journal}
+use Rattle.gate_log.specs.Journal.{log_none}
+use Rattle.gate_log.proofs.Walk.{entries_same, no_entries}
+use Rattle.records.specs.Stored.{Plan, Accepted}
+use Rattle.records.specs.Layout.{Spelled}
+use Rattle.records.proofs.Layouts.{one_record}
+use Rattle.device.specs.Devices.{Device, Pending, no_device}
+use Rattle.device.specs.Lawful.{applied}
+use Rattle.device.specs.Standing.{Takes, Plays, place_behind, SpellsNoPlan, IsBehindAccepted, most_bytes, room_of_plan, Room, Stands, IsBadAt, LacksRoomAt, IsDamagedAt}
+
+-- a journal without an entry stands for the device before its first record
+pub none_stands : (image : Image) → log_none image → Stands image no_device
+none_stands image none = record { payloads = []; entries = no_entries (image journal) none; plays = refl; room = tt }
+
+same_takes : (d : Device) (p : List ℕ) (a b : Device) → Takes d p a → Takes d p b → a ≡ b
+same_takes d p a b x y = x.lawful.leaves ∙ ap (applied d) (one_record p x.entry y.entry x.spelled y.spelled) ∙ sym y.lawful.leaves
+
+pub same_plays : (d : Device) (ps : List (List ℕ)) (a b : Device) → Plays d ps a → Plays d ps b → a ≡ b
+same_plays d [] a b x y = x ∙ sym y
+same_plays d (p ∷ ps) a b x y = same_plays x.0 ps a b x.2 (subst (λ (c : Device). Plays c ps b) (sym (same_takes d p x.0 y.0 x.1 y.1)) y.2)
+
+pub same_device : (image : Image) (d e : Device) → Stands image d → Stands image e → d ≡ e
+same_device image d e x y =
+    let same = entries_same (image journal) x.payloads y.payloads x.entries y.entries in
+    same_plays no_device y.payloads d e (subst (λ (ps : List (List ℕ)). Plays no_device ps d) same x.plays) y.plays
+
+-- ---- payloads that are damaged stand for no device
+
+splits : (d : Device) (before : List (List ℕ)) (bad : List ℕ) (behind : List (List ℕ)) (e : Device) → Plays d (before ++ bad ∷ behind) e
+    → (c : Device) × Plays d before c × ((f : Device) × Takes c bad f)
+splits d [] bad behind e plays = (d, refl, (plays.0, plays.1))
+splits d (p ∷ ps) bad behind e plays =
+    let rest = splits plays.0 ps bad behind e plays.2 in
+    (rest.0, (plays.0, plays.1, rest.1), rest.2)
+
+bad_plays : (ps : List (List ℕ)) (at : ℕ) (d : Device) → IsBadAt ps at → Plays no_device ps d → ⊥
+bad_plays ps at d bad plays =
+    let parts = splits no_device bad.before bad.bad bad.behind d (subst (λ (l : List (List ℕ)). Plays no_device l d) bad.split plays) in
+    bad.refused parts.2.0
+    (subst (λ (c : Device). Takes c bad.bad parts.2.0) (same_plays no_device bad.before parts.0 bad.reached parts.1 bad.plays) parts.2.1)
+
+IsPlan : List ℕ → Type 0
+IsPlan p = (plan : Plan) × Spelled p (Accepted plan)
+
+not_among : (before : List (List ℕ)) (p : List ℕ) (after : List (List ℕ)) → AllByRecursion SpellsNoPlan (before ++ p ∷ after) → SpellsNoPlan p
+not_among [] p after all = all.0
+not_among (b ∷ before) p after all = not_among before p after all.1
+
+-- the last plan stands at one place
+same_last : (before other : List (List ℕ)) (p q : List ℕ) (after more : List (List ℕ)) → before ++ p ∷ after ≡ other ++ q ∷ more
+    → (plan : Plan) → Spelled p (Accepted plan) → (next : Plan) → Spelled q (Accepted next)
+    → AllByRecursion SpellsNoPlan after → AllByRecursion SpellsNoPlan more → before ++ p ∷ [] ≡ other ++ q ∷ []
+same_last [] [] p q after more is plan first next second none nothing = cc
+same_last [] (c ∷ other) p q after more is plan first next second none nothing =
+    let rest : after ≡ other ++ q ∷ more = cc in
+    absurd (not_among other q more (subst (AllByRecursion SpellsNoPlan) rest none) next second)
+same_last (b ∷ before) [] p q after more is plan first next second none nothing =
+    let rest : before ++ p ∷ after ≡ more = cc in
+    absurd (not_among before p after (subst (AllByRecursion SpellsNoPlan) (sym rest) nothing) plan first)
+same_last (b ∷ before) (c ∷ other) p q after more is plan first next second none nothing =
+    let rest : before ++ p ∷ after ≡ other ++ q ∷ more = cc in
+    let head : b ≡ c = cc in
+    let ends = same_last before other p q after more rest plan first next second none nothing in
+    ap (λ (x : List ℕ). x ∷ (before ++ p ∷ [])) head ∙ ap (λ (l : List (List ℕ)). c ∷ l) ends
+
+same_place : (ps : List (List ℕ)) (a b : ℕ) → IsBehindAccepted ps a → IsBehindAccepted ps b → a ≡ b
+same_place ps a b x y =
+    x.place
+    ∙ ap place_behind (same_last x.before y.before x.payload y.payload x.after y.after (sym x.split ∙ y.split) x.plan x.spelled y.plan y.spelled x.last y.last)
+    ∙ sym y.place
+
+has_room : (ps : List (List ℕ)) (at : ℕ) (q : Option Pending) → IsBehindAccepted ps at → most_bytes < at + room_of_plan
+    → IsSome q → IfSome q (λ p. (place : ℕ) × IsBehindAccepted ps place × (place + room_of_plan ≤ most_bytes)) → ⊥
+has_room ps at None behind lacks some room = absurd (false≢true some)
+has_room ps at (Some q) behind lacks some room =
+    let same : at ≡ room.0 = same_place ps at room.0 behind room.1 in
+    absurd (omega (arith, same, room.2, lacks))
+
+lacks_plays : (ps : List (List ℕ)) (at : ℕ) (d : Device) → LacksRoomAt ps at → Plays no_device ps d → Room ps d → ⊥
+lacks_plays ps at d lacks plays room =
+    has_room ps at lacks.reached.pending lacks.behind lacks.lacks lacks.pending
+    (subst (λ (e : Device). Room ps e) (same_plays no_device ps d lacks.reached plays lacks.plays) room)
+
+pub damaged_plays : (ps : List (List ℕ)) (at : ℕ) (d : Device) → IsDamagedAt ps at → Plays no_device ps d → Room ps d → ⊥
+damaged_plays ps at d (inl bad) plays room = bad_plays ps at d bad plays
+damaged_plays ps at d (inr lacks) plays room = lacks_plays ps at d lacks plays room
