@@ -1,13 +1,12 @@
 -- A value that was filled from a default is filled from it.
-use Rattle.std.proofs.Common.{◌≡◌, ℕ, zero, suc, List, [], ◌∷◌, Option, Some, None, refl, sym, ap, ◌∙◌, arith}
+use Rattle.std.proofs.Common.{◌≡◌, ℕ, zero, suc, List, [], ◌∷◌, Option, Some, None, IfSome, refl, sym, ap, ◌∙◌, arith}
 use Rattle.std.specs.Prelude.{⊤, IfSome}
 use Rattle.serde_json.specs.Data.{Data, null, boolean, number, string, array, object, Members, no_members, member}
 use Rattle.serde_json.specs.Find.{get_member}
-use Rattle.std.proofs.Common.{Ordering, Less, Equal, Greater, nat_cmp}
-use Rattle.std.specs.Ordering.{match_ordering}
+use Rattle.std.proofs.Common.{nat_cmp}
 use Rattle.std.specs.Cmp.Lexicographic.{slice_cmp}
 use Rattle.tree_core.specs.Regular.{IsRegular}
-use Rattle.tree_core.proofs.Puts.{Each}
+use Rattle.tree_core.proofs.Puts.{found_at}
 use Rattle.config_ops.specs.Join.{joined_members, first, filled}
 use Rattle.config_ops.specs.Laws.{each_key, IsRegularChange, ConfigStays}
 use Rattle.config_ops.specs.Reset.{reset_at}
@@ -24,20 +23,15 @@ abbrev AllSettle : Members → Type 0
 AllSettle no_members = ⊤
 AllSettle (member k d ds) = Settles d × AllSettle ds
 
-found_at : (o : Ordering) (d : Data) (rest : Option Data) → Settles d → Each Settles rest → Each Settles (match_ordering o rest (Some d) rest)
-found_at Less d rest h later = later
-found_at Equal d rest h later = h
-found_at Greater d rest h later = later
-
-found : (k : List ℕ) (ds : Members) → AllSettle ds → Each Settles (get_member k ds)
+found : (k : List ℕ) (ds : Members) → AllSettle ds → IfSome (get_member k ds) Settles
 found k no_members h = tt
-found k (member l d ds) h = found_at (slice_cmp nat_cmp k l) d (get_member k ds) h.0 (found k ds h.1)
+found k (member l d ds) h = found_at Settles (slice_cmp nat_cmp k l) d (get_member k ds) h.0 (found k ds h.1)
 
-alone_at : (n : ℕ) (o : Option Data) → Each Settles o → Each (IsSound n) o → each_key filled o o ≡ o
+alone_at : (n : ℕ) (o : Option Data) → IfSome o Settles → IfSome o (IsSound n) → each_key filled o o ≡ o
 alone_at n None s h = refl
 alone_at n (Some d) s h = ap Some (s.alone n h)
 
-again_at : (n : ℕ) (o p : Option Data) → Each Settles p → Each (IsSound n) p → Each (IsSound n) o → each_key filled (each_key filled o p) p ≡ each_key filled o p
+again_at : (n : ℕ) (o p : Option Data) → IfSome p Settles → IfSome p (IsSound n) → IfSome o (IsSound n) → each_key filled (each_key filled o p) p ≡ each_key filled o p
 again_at n None None s h old = refl
 again_at n (Some t) None s h old = refl
 again_at n None (Some d) s h old = ap Some (s.alone n h)

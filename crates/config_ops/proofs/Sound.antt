@@ -1,12 +1,12 @@
 -- What is put together of regular values is regular, and nests no deeper than they do.
-use Rattle.std.proofs.Common.{◌≡◌, ℕ, zero, suc, ◌≤◌, max, List, Option, Some, None, Ordering, Less, Equal, Greater, nat_cmp, option_map, unwrap_or, Result, Ok, Err, sym, subst, arith}
+use Rattle.std.proofs.Common.{◌≡◌, ℕ, zero, suc, ◌≤◌, max, List, Option, Some, None, IfSome, Ordering, Less, Equal, Greater, nat_cmp, option_map, unwrap_or, Result, Ok, Err, sym, subst, arith}
 use Rattle.std.specs.Prelude.{IsUtf8, IfOk}
 use Rattle.std.specs.Ordering.{match_ordering}
 use Rattle.std.specs.Cmp.Lexicographic.{slice_cmp}
 use Rattle.serde_json.specs.Data.{Data, null, boolean, number, string, array, object, Members, no_members, member, put, depth, members_depth}
 use Rattle.serde_json.specs.Find.{get_member, as_object}
 use Rattle.tree_core.specs.Regular.{IsOrderly, MembersAreOrderly, HasUtf8, MembersHaveUtf8, IsRegular}
-use Rattle.tree_core.proofs.Puts.{Each, orderly_put}
+use Rattle.tree_core.proofs.Puts.{found_at, orderly_put}
 use Rattle.tree_core.specs.View.{view}
 use Rattle.tree_core.specs.declared.tree.Tree.{Tree}
 use Rattle.config_ops.specs.Laws.{NestsNoDeeper}
@@ -67,18 +67,13 @@ put_sound n k d ms named h old = record {
   utf8 = put_utf8 k d ms named h.utf8 old.utf8;
 }
 
-found_at : (P : Data → Type 0) (o : Ordering) (e : Data) (rest : Option Data) → P e → Each P rest → Each P (match_ordering o rest (Some e) rest)
-found_at P Less e rest h later = later
-found_at P Equal e rest h later = h
-found_at P Greater e rest h later = later
-
 pub first_sound : (n : ℕ) (k : List ℕ) (d : Data) (ms : Members) → AreSound n (member k d ms) → IsSound n d
 first_sound n k d ms h = record { orderly = h.orderly.1; within = omega (arith, h.within); utf8 = h.utf8.1 }
 
 pub rest_sound : (n : ℕ) (k : List ℕ) (d : Data) (ms : Members) → AreSound n (member k d ms) → AreSound n ms
 rest_sound n k d ms h = record { orderly = h.orderly.2; within = omega (arith, h.within); utf8 = h.utf8.2 }
 
-pub get_sound : (n : ℕ) (k : List ℕ) (ms : Members) → AreSound n ms → Each (IsSound n) (get_member k ms)
+pub get_sound : (n : ℕ) (k : List ℕ) (ms : Members) → AreSound n ms → IfSome (get_member k ms) (IsSound n)
 get_sound n k no_members h = tt
 get_sound n k (member l e ms) h = found_at (IsSound n) (slice_cmp nat_cmp k l) e (get_member k ms) (first_sound n l e ms h) (get_sound n k ms (rest_sound n l e ms h))
 
@@ -98,7 +93,7 @@ by_object other n (array ds) us keeps h u more = keeps n (array ds) (object us) 
 by_object other zero (object ts) us keeps h u more = absurd (omega (arith, h.within))
 by_object other (suc n) (object ts) us keeps h u more = object_sound n _ (more n ts (members_sound n ts h) (members_sound n us u))
 
-at_sound : (n : ℕ) (f : Data → Data) (o : Option Data) (u : Data) → IsSound n u → Each (IsSound n) o → ((t : Data) → IsSound n t → IsSound n (f t)) → IsSound n (unwrap_or (option_map f o) u)
+at_sound : (n : ℕ) (f : Data → Data) (o : Option Data) (u : Data) → IsSound n u → IfSome o (IsSound n) → ((t : Data) → IsSound n t → IsSound n (f t)) → IsSound n (unwrap_or (option_map f o) u)
 at_sound n f None u h old more = h
 at_sound n f (Some t) u h old more = more t old
 

@@ -1,12 +1,11 @@
 -- A reset of a regular tree is regular, and nests no deeper than the tree and the default.
-use Rattle.std.proofs.Common.{◌≡◌, ℕ, zero, suc, max, List, [], ◌∷◌, Bool, true, false, Option, Some, None, option_and_then, Ordering, Less, Equal, Greater, nat_cmp, refl, sym, subst, arith}
+use Rattle.std.proofs.Common.{◌≡◌, ℕ, zero, suc, max, List, [], ◌∷◌, Bool, true, false, Option, Some, None, IfSome, option_and_then, Ordering, Less, Equal, Greater, nat_cmp, refl, sym, subst, arith}
 use Rattle.std.specs.Prelude.{IsUtf8, ⊤, is_some, if◌then◌else◌}
 use Rattle.std.specs.Ordering.{match_ordering}
 use Rattle.std.specs.Cmp.Lexicographic.{slice_cmp}
 use Rattle.serde_json.specs.Data.{Data, null, boolean, number, string, array, object, Members, no_members, member, depth}
 use Rattle.serde_json.specs.Find.{get_member, get}
 use Rattle.tree_core.specs.Regular.{IsBelowAll, IsRegular}
-use Rattle.tree_core.proofs.Puts.{Each}
 use Rattle.config_ops.specs.Reset.{without, set_node, key_node, members_of, is_due, reset_at}
 use Rattle.config_ops.specs.Laws.{ResetNestsNoDeeper}
 use Rattle.config_ops.proofs.Keys.{same_key}
@@ -46,17 +45,17 @@ without_sound n k (member l d ms) h = without_sound_at (slice_cmp nat_cmp k l) n
 Leads : ℕ → List ℕ → Data → Type 0
 Leads n k e = IsUtf8 k × IsSound n e
 
-leads_at : (o : Ordering) (n : ℕ) (k l : List ℕ) (e : Data) (rest : Option Data) → slice_cmp nat_cmp k l ≡ o → IsUtf8 l → IsSound n e → Each (Leads n k) rest → Each (Leads n k) (match_ordering o rest (Some e) rest)
+leads_at : (o : Ordering) (n : ℕ) (k l : List ℕ) (e : Data) (rest : Option Data) → slice_cmp nat_cmp k l ≡ o → IsUtf8 l → IsSound n e → IfSome rest (Leads n k) → IfSome (match_ordering o rest (Some e) rest) (Leads n k)
 unfolding Leads
 leads_at Less n k l e rest is u h later = later
 leads_at Equal n k l e rest is u h later = (subst IsUtf8 (sym (same_key k l is)) u, h)
 leads_at Greater n k l e rest is u h later = later
 
-member_leads : (n : ℕ) (k : List ℕ) (ms : Members) → AreSound n ms → Each (Leads n k) (get_member k ms)
+member_leads : (n : ℕ) (k : List ℕ) (ms : Members) → AreSound n ms → IfSome (get_member k ms) (Leads n k)
 member_leads n k no_members h = tt
 member_leads n k (member l e ms) h = leads_at (slice_cmp nat_cmp k l) n k l e (get_member k ms) refl h.utf8.0 (first_sound n l e ms h) (member_leads n k ms (rest_sound n l e ms h))
 
-key_leads : (n : ℕ) (k : List ℕ) (d : Data) → IsSound (suc n) d → Each (Leads n k) (get k d)
+key_leads : (n : ℕ) (k : List ℕ) (d : Data) → IsSound (suc n) d → IfSome (get k d) (Leads n k)
 key_leads n k null h = tt
 key_leads n k (boolean b) h = tt
 key_leads n k (number x) h = tt
@@ -64,7 +63,7 @@ key_leads n k (string s) h = tt
 key_leads n k (array ds) h = tt
 key_leads n k (object ms) h = member_leads n k ms (members_sound n ms h)
 
-through : (P : Data → Type 0) (f : Data → Option Data) (o : Option Data) (e : Data) → Each P o → option_and_then f o ≡ Some e → (d : Data) × P d × (f d ≡ Some e)
+through : (P : Data → Type 0) (f : Data → Option Data) (o : Option Data) (e : Data) → IfSome o P → option_and_then f o ≡ Some e → (d : Data) × P d × (f d ≡ Some e)
 through P f None e h is = absurd (cc)
 through P f (Some d) e h is = (d, h, is)
 
@@ -77,7 +76,7 @@ nests n k keys (array ds) e is h = absurd (cc)
 nests zero k keys (object ms) e is h = absurd (omega (arith, h.within))
 nests (suc n) k keys (object ms) e is h = (n, refl)
 
-pub below_sound : (n : ℕ) (o : Option Data) → Each (IsSound (suc n)) o → AreSound n (members_of o)
+pub below_sound : (n : ℕ) (o : Option Data) → IfSome o (IsSound (suc n)) → AreSound n (members_of o)
 below_sound n None h = none_sound n
 below_sound n (Some null) h = none_sound n
 below_sound n (Some (boolean b)) h = none_sound n

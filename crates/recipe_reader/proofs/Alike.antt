@@ -1,30 +1,29 @@
 -- Bytes are one recipe at most, and have no fault where they are one.
-use Rattle.std.proofs.Common.{◌≡◌, ◌⊎◌, ℕ, Bool, true, List, [], ◌∷◌, Option, Some, None, Ok, Err, is_some, inl, inr, refl, ap, sym, subst, ◌∙◌}
+use Rattle.std.proofs.Common.{◌≡◌, ◌⊎◌, ℕ, Bool, List, [], ◌∷◌, Option, Some, None, is_some, inl, inr, refl, ap, sym, subst, ◌∙◌}
 use Rattle.std.specs.Prelude.{codes}
 use Rattle.std.specs.List.{AllZip}
-use Rattle.serde_json.specs.Data.{Data, string}
+use Rattle.serde_json.specs.Data.{Data}
 use Rattle.serde_json.specs.Find.{get}
-use Rattle.nuc_base.specs.Tables.{AllHold, IsFirst}
+use Rattle.nuc_base.specs.Tables.{AllHold}
 use Rattle.nuc_base.specs.declared.artifact.Artifact.{Artifact}
 use Rattle.nuc_base.specs.declared.kinds.Step.{Step}
 use Rattle.nuc_base.specs.declared.platform.Platform.{Platform}
 use Rattle.nuc_base.proofs.Tables.{first_excludes}
 use Rattle.tree_core.specs.Laws.{IsOneTree, HasNoFault as TreeHasNoFault}
-use Rattle.tree_core.specs.Parts.{present, members, values, IsTextOf}
-use Rattle.tree_core.specs.Reading.{IsTreeOf}
+use Rattle.tree_core.specs.Parts.{present, members, values}
 use Rattle.recipe_reader.specs.Artifacts.{IsArtifact, IsDigestOf, AreArtifacts, IsDigest}
 use Rattle.recipe_reader.specs.Dependencies.{IsDependency, IsRangeOf, IsHard, AreDependencies}
 use Rattle.recipe_reader.specs.Environment.{Variable}
 use Rattle.recipe_reader.specs.Keys.{is_same}
 use Rattle.recipe_reader.specs.Lifecycles.{key_value}
 use Rattle.recipe_reader.specs.OneRecipe.{Reads, AreAlike}
-use Rattle.recipe_reader.specs.Recipes.{ReadsRecipe, IsRecipe, IsFault, recipe_lines, limit, inner, manifest_of}
+use Rattle.recipe_reader.specs.Recipes.{IsRecipe, IsFault, recipe_lines, limit, inner, manifest_of}
 use Rattle.recipe_reader.specs.Spelled.{spelled}
 use Rattle.recipe_reader.specs.Steps.{IsStep, step_of, key_of}
 use Rattle.recipe_reader.specs.declared.recipe.Dependency.{Dependency}
 use Rattle.recipe_reader.specs.declared.recipe.Recipe.{Recipe}
 use Rattle.recipe_reader.specs.declared.recipe.StepDef.{StepDef}
-use Rattle.recipe_reader.specs.declared.fault.Key.TheVariants.{VersionRequirement, DependencyType, Digest, ComponentDependencies, Lifecycle, Artifacts}
+use Rattle.recipe_reader.specs.declared.fault.Key.TheVariants.{ComponentDependencies, Lifecycle, Artifacts}
 use Rattle.recipe_reader.specs.declared.fault.RecipeFault.{RecipeFault}
 use Rattle.recipe_reader.specs.declared.fault.RecipeFault.TheVariants.{NoMemory}
 use Rattle.recipe_reader.proofs.Digests.{digest_one}

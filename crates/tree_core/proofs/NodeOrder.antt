@@ -1,11 +1,11 @@
--- A node of an orderly value is orderly, and one of a regular value regular.
+-- A node of a regular value is regular.
 use Rattle.std.proofs.Common.{◌≡◌, ℕ, zero, suc, ◌≤◌, List, [], ◌∷◌, Option, Some, None, IfSome, option_and_then, subst, arith, nat_cmp}
 use Rattle.std.specs.Cmp.Lexicographic.{slice_cmp}
 use Rattle.serde_json.specs.Data.{Data, null, boolean, number, string, array, object, Items, no_items, item, Members, no_members, member, items_depth, members_depth}
 use Rattle.serde_json.specs.Find.{get_member, get_item}
-use Rattle.tree_core.specs.Regular.{IsOrderly, ItemsAreOrderly, MembersAreOrderly, ItemsHaveUtf8, MembersHaveUtf8, IsRegular}
+use Rattle.tree_core.specs.Regular.{ItemsAreOrderly, MembersAreOrderly, ItemsHaveUtf8, MembersHaveUtf8, IsRegular}
 use Rattle.tree_core.specs.Nodes.{node, child, place}
-use Rattle.tree_core.proofs.Puts.{found_at, found_orderly}
+use Rattle.tree_core.proofs.Puts.{found_at}
 
 -- ---- a walk keeps what each step keeps
 
@@ -20,26 +20,6 @@ each_node P step (token ∷ tokens) d h = below P (node tokens) (child token d) 
 placed : (P : Data → Type 0) (o : Option ℕ) (ds : Items) → ((i : ℕ) → IfSome (get_item i ds) P) → IfSome (option_and_then (λ i. get_item i ds) o) P
 placed P None ds h = tt
 placed P (Some i) ds h = h i
-
--- ---- order alone
-
-item_orderly : (i : ℕ) (ds : Items) → ItemsAreOrderly ds → IfSome (get_item i ds) IsOrderly
-item_orderly i no_items h = tt
-item_orderly zero (item d ds) h = h.0
-item_orderly (suc i) (item d ds) h = item_orderly i ds h.1
-
-child_orderly : (token : List ℕ) (d : Data) → IsOrderly d → IfSome (child token d) IsOrderly
-child_orderly token null h = tt
-child_orderly token (boolean b) h = tt
-child_orderly token (number n) h = tt
-child_orderly token (string s) h = tt
-child_orderly token (array ds) h = placed IsOrderly (place token) ds (λ i. item_orderly i ds h)
-child_orderly token (object ms) h = found_orderly token ms h
-
-pub node_orderly : (tokens : List (List ℕ)) (d e : Data) → IsOrderly d → node tokens d ≡ Some e → IsOrderly e
-node_orderly tokens d e h is = subst (λ o. IfSome o IsOrderly) is (each_node IsOrderly child_orderly tokens d h)
-
--- ---- the whole rule
 
 item_regular : (i : ℕ) (ds : Items) → ItemsAreOrderly ds → items_depth ds ≤ 64 → ItemsHaveUtf8 ds → IfSome (get_item i ds) IsRegular
 item_regular i no_items o s u = tt

@@ -1,9 +1,8 @@
--- What is put in stays in order, and what is found is orderly.
+-- What is put in stays in order.
 use Rattle.std.proofs.Common.{◌≡◌, ℕ, List, Option, Some, IfSome, Ordering, Less, Equal, Greater, nat_cmp, refl, ap, ◌∙◌}
 use Rattle.std.specs.Ordering.{match_ordering, ordering_reverse}
 use Rattle.std.specs.Cmp.Lexicographic.{slice_cmp, nat_list_cmp_total}
 use Rattle.serde_json.specs.Data.{Data, Members, no_members, member, put}
-use Rattle.serde_json.specs.Find.{get_member}
 use Rattle.tree_core.specs.Regular.{IsBelowAll, IsOrderly, MembersAreOrderly}
 
 below_put_at : (o : Ordering) (l k : List ℕ) (d : Data) (m : List ℕ) (e : Data) (ms : Members) → slice_cmp nat_cmp l k ≡ Less → IsBelowAll l (member m e ms) → IsBelowAll l (put k d ms)
@@ -32,11 +31,8 @@ pub orderly_put : (k : List ℕ) (d : Data) (ms : Members) → IsOrderly d → M
 orderly_put k d no_members h old = (tt, h, tt)
 orderly_put k d (member m e ms) h old = orderly_put_at _ k d m e ms refl h old (orderly_put k d ms h old.2)
 
+-- what stands at a key
 pub found_at : (P : Data → Type 0) (o : Ordering) (e : Data) (rest : Option Data) → P e → IfSome rest P → IfSome (match_ordering o rest (Some e) rest) P
 found_at P Less e rest h later = later
 found_at P Equal e rest h later = h
 found_at P Greater e rest h later = later
-
-pub found_orderly : (k : List ℕ) (ms : Members) → MembersAreOrderly ms → IfSome (get_member k ms) IsOrderly
-found_orderly k no_members h = tt
-found_orderly k (member l e ms) h = found_at IsOrderly (slice_cmp nat_cmp k l) e _ h.1 (found_orderly k ms h.2)

@@ -6,10 +6,10 @@ use Rattle.tree_core.specs.Nodes.{node}
 use Rattle.tree_core.specs.Parts.{present}
 use Rattle.tree_core.specs.Regular.{IsRegular, MembersAreOrderly, MembersHaveUtf8, ItemsAreOrderly, ItemsHaveUtf8}
 use Rattle.tree_core.specs.View.{view, fields_view, items_view}
-use Rattle.tree_core.specs.declared.tree.Tree.{Tree, Fields, Items as ListOf}
+use Rattle.tree_core.specs.declared.tree.Tree.{Tree, Fields}
 use Rattle.tree_core.proofs.Fields.{Field}
 use Rattle.tree_core.proofs.NodeOrder.{node_regular}
-use Rattle.tree_core.proofs.Seen.{seen, seen_list}
+use Rattle.tree_core.proofs.Seen.{seen}
 
 pub record AreRegular (ms : Members) : Type 0 where
   pub orderly : MembersAreOrderly ms
@@ -29,9 +29,6 @@ items_regular ds h = record { orderly = h.orderly; shallow = omega (arith, h.sha
 
 pub fields_regular : (t : Tree) (v : Vec Field Global) → t ≡ Fields v → IsRegular (view t) → AreRegular (fields_view v.items)
 fields_regular t v is h = members_regular _ (subst IsRegular (ap view is ∙ seen v) h)
-
-pub list_regular : (t : Tree) (v : Vec Tree Global) → t ≡ ListOf v → IsRegular (view t) → ItemsAreRegular (items_view v.items)
-list_regular t v is h = items_regular _ (subst IsRegular (ap view is ∙ seen_list v) h)
 
 pub first_regular : (k : List ℕ) (d : Data) (ms : Members) → AreRegular (member k d ms) → IsRegular d
 first_regular k d ms h = record { orderly = h.orderly.1; shallow = omega (arith, h.shallow); utf8 = h.utf8.1 }
