@@ -1,5 +1,5 @@
 // Which calls fail.
-ghost use Rattle.std.specs.Prelude.{◌≡◌, ◌≤◌, ◌↔◌, IsTrue};
+ghost use Rattle.std.specs.Prelude.{◌≡◌, ◌≤◌, ◌↔◌, IsTrue, OnOk};
 ghost use Rattle.nuc_base.specs.Faults.{HasCause, Rose};
 
 use crate::disk::DiskFault;
@@ -43,6 +43,7 @@ impl Fuse {
     pub fn pass<T: Drop>(&mut self, answer: Result<T, DiskFault>) -> Result<T, DiskFault>
         ensures same { result ≡ answer }
         ensures cause { HasCause self.old.faults self.new.faults result }
+        ensures quiet { OnOk result (self.new.faults ≡ self.old.faults) }
         ensures fuse { HasFuse self.old self.new }
     {
         if answer.is_err() {

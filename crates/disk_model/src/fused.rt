@@ -95,6 +95,7 @@ impl Disk for FusedDisk {
         ensures told { IfOk result (λ n.
             (n ≡ min (length into.old) (length (drop at (fused_seen self.old file.now))))
             × (into.new ≡ take n (drop at (fused_seen self.old file.now)) ++ drop n into.old)) }
+        ensures untouched { OnErr result (into.new ≡ into.old) }
         ensures seen { fused_seen self.new ≡ fused_seen self.old }
         ensures moments { Leaves fused_moment fused_left_since self.old self.new (fused_left self.old) }
         ensures cause { HasCause (fused_faults self.old) (fused_faults self.new) result }

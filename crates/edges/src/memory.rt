@@ -1,4 +1,4 @@
-ghost use Rattle.std.specs.Prelude.{◌≡◌, ◌<◌, ◌≤◌, ◌+◌, ◌↔◌, [], List, ℕ, length, drop, take, min, Some, IfOk, IsErr};
+ghost use Rattle.std.specs.Prelude.{◌≡◌, ◌<◌, ◌≤◌, ◌+◌, ◌↔◌, [], List, ℕ, length, drop, take, min, Some, IfOk, OnErr, IsErr};
 ghost use Rattle.std.specs.Io.{ReadsAtMost, WritesAtMost};
 ghost use Rattle.std.specs.Io.KnownBytes.{ReadConsumes, WriteAppends};
 ghost use Rattle.nuc_base.specs.Faults.{HasCause};
@@ -48,6 +48,7 @@ impl Source for MemorySource {
         ensures bytes { ReadConsumes (Some (source_left self.old)) (Some (source_left self.new)) result into.new }
         ensures cause { HasCause (faults_of (source_failing self.old)) (faults_of (source_failing self.new)) result }
         ensures listed { IsErr result ↔ IsListed (source_failing self.old) }
+        ensures untouched { OnErr result (into.new ≡ into.old) }
         ensures counted { IsCounted (source_failing self.old) (source_failing self.new) }
     {
         if self.failing.fails() {
