@@ -5,21 +5,18 @@ use Rattle.nuc_base.specs.declared.status.Status.{Status}
 use Rattle.nuc_base.specs.declared.status.Status.TheVariants as status
 use Rattle.nuc_base.specs.Faults.{Rose}
 use Rattle.nucleus_top.specs.First.{FirstForm, HasForm, HasNoForm}
-use Rattle.nucleus_top.specs.Answers.{Store, Input, Printed, Told, IsUnchanged, HasRisen, Prints, Yields, refused_line, stored_lines, status_of}
+use Rattle.nucleus_top.specs.Answers.{Store, Input, Printed, Told, IsUnchanged, HasRisen, Prints, Yields, refused_line, stored_lines}
 use Rattle.nucleus_top.specs.Deploys.{IsStored, Deploys, DeployParts}
 use Rattle.nucleus_top.specs.declared.document.Deployment.{Deployment}
 use Rattle.nucleus_top.specs.declared.answer.Answer.{Answer}
-use Rattle.nucleus_top.specs.declared.answer.Answer.TheVariants.{Stored, Made, Shown, WrongWords, Refused, DiskFailed, SourceFailed, NotInitialised, Damaged, Initialised, NoMemory}
+use Rattle.nucleus_top.specs.declared.answer.Answer.TheVariants.{Stored, Made, Shown, Refused, DiskFailed, SourceFailed, NoMemory}
+use Rattle.nucleus_top.proofs.Told.{told_of}
 
 -- what is said of an untold value holds of the value that is told
 known : {value : Option (List ℕ)} {document : List ℕ} (P : List ℕ → Type 0) → value ≡ Some document → IfSome value P → P document
 known P is holds = subst (λ (v : Option (List ℕ)). IfSome v P) is holds
 
 module _ (store : Store) (input : Input) (printed : Printed) (result : Status) where
-  which : (a : Answer) → Deploys store input a → Told printed result a → (result ≡ status.Edge) ⊎ ((answer : Answer) × Deploys store input answer × (result ≡ status_of answer))
-  which a comes (inl told) = inr (a, comes, told.0)
-  which a comes (inr told) = inl told.0
-
   done : (a : Answer) → Deploys store input a → Told printed result a → result ≡ status.Done → (w : Deployment) × IsStored store input w × Prints printed (stored_lines w.id)
   done (Stored w) comes (inl told) is = (w, comes, told.1)
   done (Made thing) comes (inl told) is = absurd comes
@@ -39,12 +36,7 @@ module _ (store : Store) (input : Input) (printed : Printed) (result : Status) w
   refused_comes DiskFailed comes (inl told) document is refuses = let form : HasForm document = known HasForm is comes.0 in absurd (refuses form.0 form.1)
   refused_comes SourceFailed comes (inl told) document is refuses = inr (inl told.0)
   refused_comes NoMemory comes (inl told) document is refuses = inr (inr told.0)
-  refused_comes (Made thing) comes (inl told) document is refuses = absurd comes
-  refused_comes (Shown text) comes (inl told) document is refuses = absurd comes
-  refused_comes WrongWords comes (inl told) document is refuses = absurd comes
-  refused_comes NotInitialised comes (inl told) document is refuses = absurd comes
-  refused_comes (Damaged place) comes (inl told) document is refuses = absurd comes
-  refused_comes (Initialised thing) comes (inl told) document is refuses = absurd comes
+  refused_comes a comes (inl told) document is refuses = absurd comes
 
   works : (a : Answer) → Deploys store input a → Told printed result a → (document : List ℕ) (w : Deployment) → input.document ≡ Some document → FirstForm document w
       → ¬ (HasRisen store) → ¬ Rose input.faults_before input.faults_after → ¬ Rose printed.faults_before printed.faults_after
@@ -55,16 +47,11 @@ module _ (store : Store) (input : Input) (printed : Printed) (result : Status) w
   works DiskFailed comes (inl told) document w is form disk_stands source_stands sink_stands = absurd (disk_stands comes.1)
   works SourceFailed comes (inl told) document w is form disk_stands source_stands sink_stands = absurd (source_stands comes.0)
   works NoMemory comes (inl told) document w is form disk_stands source_stands sink_stands = inr told.0
-  works (Made thing) comes (inl told) document w is form disk_stands source_stands sink_stands = absurd comes
-  works (Shown text) comes (inl told) document w is form disk_stands source_stands sink_stands = absurd comes
-  works WrongWords comes (inl told) document w is form disk_stands source_stands sink_stands = absurd comes
-  works NotInitialised comes (inl told) document w is form disk_stands source_stands sink_stands = absurd comes
-  works (Damaged place) comes (inl told) document w is form disk_stands source_stands sink_stands = absurd comes
-  works (Initialised thing) comes (inl told) document w is form disk_stands source_stands sink_stands = absurd comes
+  works a comes (inl told) document w is form disk_stands source_stands sink_stands = absurd comes
 
   pub deploy_parts : (a : Answer) → Deploys store input a → Told printed result a → DeployParts store input printed result
   deploy_parts a comes told = record {
-    which = which a comes told;
+    which = told_of (Deploys store input) printed result a comes told;
     done = done a comes told;
     refused = refused a comes told;
     refused_comes = refused_comes a comes told;

@@ -1,45 +1,37 @@
 -- What each answer of `init` amounts to.
-use Rattle.std.proofs.Common.{◌≡◌, ◌⊎◌, inl, inr, ℕ, List, IsTrue, subst}
+use Rattle.std.proofs.Common.{◌≡◌, inl, inr, ℕ, List, IsTrue, subst}
 use Rattle.nuc_base.specs.declared.status.Status.{Status}
 use Rattle.nuc_base.specs.declared.status.Status.TheVariants as status
 use Rattle.gate_log.specs.Journal.{log_none}
 use Rattle.records.specs.declared.record.Origin.{Origin}
 use Rattle.device.specs.Devices.{Device, no_device}
 use Rattle.device.specs.Standing.{Stands}
-use Rattle.nucleus_top.specs.Answers.{Store, Printed, Told, IsUnchanged, Prints, Expects, made_line, damaged_line, initialised_line, status_of}
+use Rattle.nucleus_top.specs.Answers.{Store, Printed, Told, IsUnchanged, Prints, Expects, made_line, damaged_line, initialised_line}
 use Rattle.nucleus_top.specs.Opening.{HasEntry, StandsForNone, IsInitialised}
 use Rattle.nucleus_top.specs.Inits.{IsMade, IsRefusedAt, NamesThing, Inits, InitParts}
 use Rattle.nucleus_top.specs.Leaving.{Keeps}
 use Rattle.disk_model.specs.Disk.{Image}
 use Rattle.nucleus_top.specs.declared.answer.Answer.{Answer}
-use Rattle.nucleus_top.specs.declared.answer.Answer.TheVariants.{Stored, Made, Shown, WrongWords, Refused, DiskFailed, SourceFailed, NotInitialised, Damaged, Initialised, NoMemory}
+use Rattle.nucleus_top.specs.declared.answer.Answer.TheVariants.{Stored, Made, Shown, DiskFailed, Damaged, Initialised, NoMemory}
 use Rattle.device.proofs.OneDevice.{none_stands}
+use Rattle.nucleus_top.proofs.Told.{told_of}
 
 module _ (origin : Origin) (store : Store) (printed : Printed) (result : Status) where
-  which : (a : Answer) → Inits origin store a → Told printed result a → (result ≡ status.Edge) ⊎ ((answer : Answer) × Inits origin store answer × (result ≡ status_of answer))
-  which a comes (inl told) = inr (a, comes, told.0)
-  which a comes (inr told) = inl told.0
-
   done : (a : Answer) → Inits origin store a → Told printed result a → result ≡ status.Done → (IsTrue store.tells → IsMade store origin) × Prints printed (made_line origin.thing)
   done (Stored w) comes (inl told) is = absurd comes
-  done (Made thing) comes (inl told) is = (comes.1, subst (λ (t : List ℕ). Prints printed (made_line t)) comes.0 told.1)
   done (Shown text) comes (inl told) is = absurd comes
+  done (Made thing) comes (inl told) is = (comes.1, subst (λ (t : List ℕ). Prints printed (made_line t)) comes.0 told.1)
   done a comes (inl told) is = cc
   done a comes (inr told) is = cc
 
   done_comes : (a : Answer) → Inits origin store a → Told printed result a → IsTrue store.tells → log_none store.before → Expects result status.Done
   done_comes a comes (inr told) tells none = inr (inr (inl told.0))
-  done_comes (Stored w) comes (inl told) tells none = absurd comes
   done_comes (Made thing) comes (inl told) tells none = inr (inl told.0)
-  done_comes (Shown text) comes (inl told) tells none = absurd comes
-  done_comes WrongWords comes (inl told) tells none = absurd comes
-  done_comes Refused comes (inl told) tells none = absurd comes
   done_comes DiskFailed comes (inl told) tells none = inl told.0
-  done_comes SourceFailed comes (inl told) tells none = absurd comes
-  done_comes NotInitialised comes (inl told) tells none = absurd comes
   done_comes (Damaged place) comes (inl told) tells none = absurd ((comes.1.2 tells).none no_device (none_stands store.before none))
   done_comes (Initialised thing) comes (inl told) tells none = absurd ((comes.1 tells).some none)
   done_comes NoMemory comes (inl told) tells none = inr (inr (inr told.0))
+  done_comes a comes (inl told) tells none = absurd comes
 
   damaged : (a : Answer) → Inits origin store a → Told printed result a → result ≡ status.Damaged → (place : List ℕ) × IsRefusedAt store place × Prints printed (damaged_line place)
   damaged (Damaged place) comes (inl told) is = (place, comes, told.1)
@@ -48,17 +40,12 @@ module _ (origin : Origin) (store : Store) (printed : Printed) (result : Status)
 
   damaged_comes : (a : Answer) → Inits origin store a → Told printed result a → IsTrue store.tells → StandsForNone store.before → Expects result status.Damaged
   damaged_comes a comes (inr told) tells refuses = inr (inr (inl told.0))
-  damaged_comes (Stored w) comes (inl told) tells refuses = absurd comes
   damaged_comes (Made thing) comes (inl told) tells refuses = absurd (refuses no_device (none_stands store.before (comes.1 tells).none))
-  damaged_comes (Shown text) comes (inl told) tells refuses = absurd comes
-  damaged_comes WrongWords comes (inl told) tells refuses = absurd comes
-  damaged_comes Refused comes (inl told) tells refuses = absurd comes
   damaged_comes DiskFailed comes (inl told) tells refuses = inl told.0
-  damaged_comes SourceFailed comes (inl told) tells refuses = absurd comes
-  damaged_comes NotInitialised comes (inl told) tells refuses = absurd comes
   damaged_comes (Damaged place) comes (inl told) tells refuses = inr (inl told.0)
   damaged_comes (Initialised thing) comes (inl told) tells refuses = absurd (refuses (comes.1 tells).device (comes.1 tells).stands)
   damaged_comes NoMemory comes (inl told) tells refuses = inr (inr (inr told.0))
+  damaged_comes a comes (inl told) tells refuses = absurd comes
 
   initialised : (a : Answer) → Inits origin store a → Told printed result a → result ≡ status.Initialised
       → (thing : List ℕ) × IsUnchanged store × (IsTrue store.tells → IsInitialised store.before thing) × Prints printed (initialised_line thing)
@@ -68,21 +55,16 @@ module _ (origin : Origin) (store : Store) (printed : Printed) (result : Status)
 
   initialised_comes : (a : Answer) → Inits origin store a → Told printed result a → IsTrue store.tells → HasEntry store.before → (d : Device) → Stands store.before d → Expects result status.Initialised
   initialised_comes a comes (inr told) tells some d stands = inr (inr (inl told.0))
-  initialised_comes (Stored w) comes (inl told) tells some d stands = absurd comes
   initialised_comes (Made thing) comes (inl told) tells some d stands = absurd (some (comes.1 tells).none)
-  initialised_comes (Shown text) comes (inl told) tells some d stands = absurd comes
-  initialised_comes WrongWords comes (inl told) tells some d stands = absurd comes
-  initialised_comes Refused comes (inl told) tells some d stands = absurd comes
   initialised_comes DiskFailed comes (inl told) tells some d stands = inl told.0
-  initialised_comes SourceFailed comes (inl told) tells some d stands = absurd comes
-  initialised_comes NotInitialised comes (inl told) tells some d stands = absurd comes
   initialised_comes (Damaged place) comes (inl told) tells some d stands = absurd ((comes.1.2 tells).none d stands)
   initialised_comes (Initialised thing) comes (inl told) tells some d stands = inr (inl told.0)
   initialised_comes NoMemory comes (inl told) tells some d stands = inr (inr (inr told.0))
+  initialised_comes a comes (inl told) tells some d stands = absurd comes
 
   pub init_parts : (a : Answer) → Inits origin store a → Told printed result a → InitParts origin store printed result
   init_parts a comes told = record {
-    which = which a comes told;
+    which = told_of (Inits origin store) printed result a comes told;
     done = done a comes told;
     done_comes = done_comes a comes told;
     damaged = damaged a comes told;
@@ -93,27 +75,11 @@ module _ (origin : Origin) (store : Store) (printed : Printed) (result : Status)
 
 -- the refusal of a store that stands for a device
 pub names_comes : (origin : Origin) (store : Store) (d : Device) (a : Answer) → NamesThing d a → IsUnchanged store → (IsTrue store.tells → HasEntry store.before × Stands store.before d) → Inits origin store a
-names_comes origin store d (Stored w) names same found = absurd names
-names_comes origin store d (Made thing) names same found = absurd names
-names_comes origin store d (Shown text) names same found = absurd names
-names_comes origin store d WrongWords names same found = absurd names
-names_comes origin store d Refused names same found = absurd names
-names_comes origin store d DiskFailed names same found = absurd names
-names_comes origin store d SourceFailed names same found = absurd names
-names_comes origin store d NotInitialised names same found = absurd names
-names_comes origin store d (Damaged place) names same found = absurd names
 names_comes origin store d (Initialised thing) names same found = (same, λ tells. let f = found tells in record { some = f.0; device = d; stands = f.1; origin = names.0; origin_is = names.1; thing_is = names.2 })
 names_comes origin store d NoMemory names same found = same
+names_comes origin store d a names same found = absurd names
 
 pub names_keeps : (images : Image → Type 0) (seen : Image) (d : Device) (a : Answer) → NamesThing d a → Keeps images seen a
-names_keeps images seen d (Stored w) names = absurd names
-names_keeps images seen d (Made thing) names = absurd names
-names_keeps images seen d (Shown text) names = absurd names
-names_keeps images seen d WrongWords names = absurd names
-names_keeps images seen d Refused names = absurd names
-names_keeps images seen d DiskFailed names = absurd names
-names_keeps images seen d SourceFailed names = absurd names
-names_keeps images seen d NotInitialised names = absurd names
-names_keeps images seen d (Damaged place) names = absurd names
 names_keeps images seen d (Initialised thing) names = tt
 names_keeps images seen d NoMemory names = tt
+names_keeps images seen d a names = absurd names

@@ -10,4 +10,5 @@ pub mod Refusals
 mod Standing
 pub mod StateOrder
 mod StatusEnds
+mod Told
 pub mod Versions

@@ -1,35 +1,27 @@
 -- What each answer of `status` amounts to.
-use Rattle.std.proofs.Common.{◌≡◌, ◌⊎◌, inl, inr, ℕ, List, Bool, IsTrue}
+use Rattle.std.proofs.Common.{◌≡◌, inl, inr, ℕ, List, Bool, IsTrue}
 use Rattle.nuc_base.specs.declared.status.Status.{Status}
 use Rattle.nuc_base.specs.declared.status.Status.TheVariants as status
 use Rattle.gate_log.specs.Journal.{log_none}
 use Rattle.device.specs.Devices.{Device, no_device}
 use Rattle.device.specs.Standing.{Stands}
-use Rattle.nucleus_top.specs.Answers.{Store, Printed, Told, IsUnchanged, Prints, Expects, none_line, damaged_line, status_of}
+use Rattle.nucleus_top.specs.Answers.{Store, Printed, Told, IsUnchanged, Prints, Expects, none_line, damaged_line}
 use Rattle.nucleus_top.specs.Opening.{HasEntry, StandsForNone}
 use Rattle.nucleus_top.specs.Inits.{IsRefusedAt}
 use Rattle.nucleus_top.specs.Shows.{IsShown, Shows, StatusParts}
 use Rattle.nucleus_top.specs.declared.answer.Answer.{Answer}
-use Rattle.nucleus_top.specs.declared.answer.Answer.TheVariants.{Stored, Made, Shown, WrongWords, Refused, DiskFailed, SourceFailed, NotInitialised, Damaged, Initialised, NoMemory}
+use Rattle.nucleus_top.specs.declared.answer.Answer.TheVariants.{Stored, Made, Shown, DiskFailed, NotInitialised, Damaged, NoMemory}
 use Rattle.device.proofs.OneDevice.{none_stands}
+use Rattle.nucleus_top.proofs.Told.{told_of}
 
 module _ (json : Bool) (store : Store) (printed : Printed) (result : Status) where
-  which : (a : Answer) → Shows json store a → Told printed result a → (result ≡ status.Edge) ⊎ ((answer : Answer) × Shows json store answer × (result ≡ status_of answer))
-  which a comes (inl told) = inr (a, comes, told.0)
-  which a comes (inr told) = inl told.0
-
   reads_only : (a : Answer) → Shows json store a → IsUnchanged store
-  reads_only (Stored w) comes = absurd comes
-  reads_only (Made thing) comes = absurd comes
   reads_only (Shown text) comes = comes.0
-  reads_only WrongWords comes = absurd comes
-  reads_only Refused comes = absurd comes
   reads_only DiskFailed comes = comes.0
-  reads_only SourceFailed comes = absurd comes
   reads_only NotInitialised comes = comes.0
   reads_only (Damaged place) comes = comes.0
-  reads_only (Initialised thing) comes = absurd comes
   reads_only NoMemory comes = comes
+  reads_only a comes = absurd comes
 
   done : (a : Answer) → Shows json store a → Told printed result a → result ≡ status.Done → (text : List ℕ) × (IsTrue store.tells → IsShown store.before json text) × Prints printed text
   done (Stored w) comes (inl told) is = absurd comes
@@ -40,17 +32,12 @@ module _ (json : Bool) (store : Store) (printed : Printed) (result : Status) whe
 
   done_comes : (a : Answer) → Shows json store a → Told printed result a → IsTrue store.tells → HasEntry store.before → (d : Device) → Stands store.before d → Expects result status.Done
   done_comes a comes (inr told) tells some d stands = inr (inr (inl told.0))
-  done_comes (Stored w) comes (inl told) tells some d stands = absurd comes
-  done_comes (Made thing) comes (inl told) tells some d stands = absurd comes
   done_comes (Shown text) comes (inl told) tells some d stands = inr (inl told.0)
-  done_comes WrongWords comes (inl told) tells some d stands = absurd comes
-  done_comes Refused comes (inl told) tells some d stands = absurd comes
   done_comes DiskFailed comes (inl told) tells some d stands = inl told.0
-  done_comes SourceFailed comes (inl told) tells some d stands = absurd comes
   done_comes NotInitialised comes (inl told) tells some d stands = absurd (some (comes.1 tells))
   done_comes (Damaged place) comes (inl told) tells some d stands = absurd ((comes.1.2 tells).none d stands)
-  done_comes (Initialised thing) comes (inl told) tells some d stands = absurd comes
   done_comes NoMemory comes (inl told) tells some d stands = inr (inr (inr told.0))
+  done_comes a comes (inl told) tells some d stands = absurd comes
 
   none : (a : Answer) → Shows json store a → Told printed result a → result ≡ status.NotInitialised → (IsTrue store.tells → log_none store.before) × Prints printed none_line
   none NotInitialised comes (inl told) is = (comes.1, told.1)
@@ -59,17 +46,12 @@ module _ (json : Bool) (store : Store) (printed : Printed) (result : Status) whe
 
   none_comes : (a : Answer) → Shows json store a → Told printed result a → IsTrue store.tells → log_none store.before → Expects result status.NotInitialised
   none_comes a comes (inr told) tells holds_none = inr (inr (inl told.0))
-  none_comes (Stored w) comes (inl told) tells holds_none = absurd comes
-  none_comes (Made thing) comes (inl told) tells holds_none = absurd comes
   none_comes (Shown text) comes (inl told) tells holds_none = absurd ((comes.1 tells).some holds_none)
-  none_comes WrongWords comes (inl told) tells holds_none = absurd comes
-  none_comes Refused comes (inl told) tells holds_none = absurd comes
   none_comes DiskFailed comes (inl told) tells holds_none = inl told.0
-  none_comes SourceFailed comes (inl told) tells holds_none = absurd comes
   none_comes NotInitialised comes (inl told) tells holds_none = inr (inl told.0)
   none_comes (Damaged place) comes (inl told) tells holds_none = absurd ((comes.1.2 tells).none no_device (none_stands store.before holds_none))
-  none_comes (Initialised thing) comes (inl told) tells holds_none = absurd comes
   none_comes NoMemory comes (inl told) tells holds_none = inr (inr (inr told.0))
+  none_comes a comes (inl told) tells holds_none = absurd comes
 
   damaged : (a : Answer) → Shows json store a → Told printed result a → result ≡ status.Damaged → (place : List ℕ) × IsRefusedAt store place × Prints printed (damaged_line place)
   damaged (Damaged place) comes (inl told) is = (place, comes, told.1)
@@ -78,21 +60,16 @@ module _ (json : Bool) (store : Store) (printed : Printed) (result : Status) whe
 
   damaged_comes : (a : Answer) → Shows json store a → Told printed result a → IsTrue store.tells → StandsForNone store.before → Expects result status.Damaged
   damaged_comes a comes (inr told) tells refuses = inr (inr (inl told.0))
-  damaged_comes (Stored w) comes (inl told) tells refuses = absurd comes
-  damaged_comes (Made thing) comes (inl told) tells refuses = absurd comes
   damaged_comes (Shown text) comes (inl told) tells refuses = absurd (refuses (comes.1 tells).device (comes.1 tells).stands)
-  damaged_comes WrongWords comes (inl told) tells refuses = absurd comes
-  damaged_comes Refused comes (inl told) tells refuses = absurd comes
   damaged_comes DiskFailed comes (inl told) tells refuses = inl told.0
-  damaged_comes SourceFailed comes (inl told) tells refuses = absurd comes
   damaged_comes NotInitialised comes (inl told) tells refuses = absurd (refuses no_device (none_stands store.before (comes.1 tells)))
   damaged_comes (Damaged place) comes (inl told) tells refuses = inr (inl told.0)
-  damaged_comes (Initialised thing) comes (inl told) tells refuses = absurd comes
   damaged_comes NoMemory comes (inl told) tells refuses = inr (inr (inr told.0))
+  damaged_comes a comes (inl told) tells refuses = absurd comes
 
   pub status_parts : (a : Answer) → Shows json store a → Told printed result a → StatusParts json store printed result
   status_parts a comes told = record {
-    which = which a comes told;
+    which = told_of (Shows json store) printed result a comes told;
     reads_only = reads_only a comes;
     done = done a comes told;
     done_comes = done_comes a comes told;
