@@ -13,6 +13,4 @@ mod ranges;
 #[cfg(test)]
 mod recipes;
 #[cfg(test)]
-mod stores;
-#[cfg(test)]
 mod variables;
