@@ -70,86 +70,69 @@ fn push_number(payload: &mut Vec<u8>, number: usize) -> Result<(), Fail> {
     Ok(())
 }
 
-fn push_text(payload: &mut Vec<u8>, text: &[u8]) -> Result<(), Fail> {
-    push_number(payload, text.len())?;
-    payload.extend_from_slice(text)?;
-    Ok(())
-}
-
-/// Adds so many bytes of a text.
-fn push_filling(payload: &mut Vec<u8>, count: usize) -> Result<(), Fail> {
-    for _ in 0..count {
+/// Adds a text of so many bytes, which begins and ends with these.
+fn push_filled(
+    payload: &mut Vec<u8>,
+    count: usize,
+    first: &[u8],
+    last: &[u8],
+) -> Result<(), Fail> {
+    push_number(payload, count)?;
+    payload.extend_from_slice(first)?;
+    for _ in first.len()..count.saturating_sub(last.len()) {
         payload.push(b'x')?;
     }
+    payload.extend_from_slice(last)?;
     Ok(())
 }
 
 /// A device's start with a root of so many bytes.
 fn start_with(alloc: Global, root: usize) -> Result<Vec<u8>, Fail> {
-    let mut payload = Vec::new(alloc);
-    payload.push(0x11)?;
-    push_number(&mut payload, root)?;
-    push_filling(&mut payload, root)?;
-    push_text(&mut payload, b"t1")?;
-    push_text(&mut payload, b"2.12.0")?;
-    push_text(&mut payload, b"linux")?;
-    push_text(&mut payload, b"amd64")?;
+    let mut payload = Vec::from_slice(alloc, b"\x11")?;
+    push_filled(&mut payload, root, b"", b"")?;
+    payload.extend_from_slice(b"\0\0\0\x02t1\0\0\0\x062.12.0\0\0\0\x05linux\0\0\0\x05amd64")?;
     Ok(payload)
 }
 
-/// A name for each place. They rise with the places.
-fn name_at(alloc: Global, at: usize) -> Result<String, Fail> {
-    let number = at.saturating_add(100);
-    Ok(format!(in alloc; "n{number}")?)
+/// A number of three digits for each place. They rise with the places.
+fn number_at(at: usize) -> usize {
+    at.saturating_add(100)
 }
 
 fn push_requirements(alloc: Global, payload: &mut Vec<u8>, count: usize) -> Result<(), Fail> {
     push_number(payload, count)?;
     for at in 0..count {
-        push_text(payload, name_at(alloc, at)?.as_bytes())?;
-        push_text(payload, b"*")?;
+        let number = number_at(at);
+        let requirement = format!(in alloc; "\0\0\0\x04n{number}\0\0\0\x01*")?;
+        payload.extend_from_slice(requirement.as_bytes())?;
     }
     Ok(())
 }
 
-fn push_recipe(alloc: Global, payload: &mut Vec<u8>, name: &str) -> Result<(), Fail> {
-    let mut recipe = Vec::new(alloc);
-    recipe.extend_from_slice(b"{\"RecipeFormatVersion\":\"2020-01-25\",\"ComponentName\":\"")?;
-    recipe.extend_from_slice(name.as_bytes())?;
-    recipe.extend_from_slice(b"\",\"ComponentVersion\":\"1.0.0\"}")?;
-    push_text(payload, &recipe)
-}
-
-/// Adds an object of so many bytes, with one text in it.
-fn push_config(payload: &mut Vec<u8>, count: usize) -> Result<(), Fail> {
-    push_number(payload, count)?;
-    payload.extend_from_slice(b"{\"k\":\"")?;
-    push_filling(payload, count.saturating_sub(8))?;
-    payload.extend_from_slice(b"\"}")?;
-    Ok(())
+/// The name, the version and the recipe of an item.
+fn head_of(alloc: Global, at: usize) -> Result<String, Fail> {
+    let number = number_at(at);
+    Ok(format!(
+        in alloc;
+        "\0\0\0\x04n{number}\0\0\0\x051.0.0\0\0\0\x56{{\"RecipeFormatVersion\":\"2020-01-25\",\"ComponentName\":\"n{number}\",\"ComponentVersion\":\"1.0.0\"}}"
+    )?)
 }
 
 /// Adds items without files.
 fn push_items(alloc: Global, payload: &mut Vec<u8>, sizes: &Sizes) -> Result<(), Fail> {
     push_number(payload, sizes.items)?;
     for at in 0..sizes.items {
-        let name = name_at(alloc, at)?;
-        push_text(payload, name.as_bytes())?;
-        push_text(payload, b"1.0.0")?;
-        push_recipe(alloc, payload, name.as_str())?;
-        push_config(payload, sizes.config)?;
+        payload.extend_from_slice(head_of(alloc, at)?.as_bytes())?;
+        push_filled(payload, sizes.config, b"{\"k\":\"", b"\"}")?;
         push_number(payload, 0)?;
     }
     Ok(())
 }
 
-/// An accepted plan of these sizes.
+/// An accepted plan of these sizes, where the id and the group have four bytes.
 fn plan_with(alloc: Global, id: &str, group: &str, sizes: &Sizes) -> Result<Vec<u8>, Fail> {
-    let mut payload = Vec::new(alloc);
-    payload.push(0x12)?;
-    push_text(&mut payload, id.as_bytes())?;
-    push_text(&mut payload, group.as_bytes())?;
-    payload.push(0)?;
+    let head = format!(in alloc; "\x12\0\0\0\x04{id}\0\0\0\x04{group}\0")?;
+    let mut payload = Vec::from_slice(alloc, head.as_bytes())?;
     push_requirements(alloc, &mut payload, sizes.requirements)?;
     push_items(alloc, &mut payload, sizes)?;
     push_number(&mut payload, 0)?;
@@ -165,7 +148,7 @@ fn is_root(alloc: Global, count: usize) -> Result<bool, Fail> {
 /// Whether a device that has started takes a plan of these sizes.
 fn is_accepted(alloc: Global, sizes: &Sizes) -> Result<bool, Fail> {
     let mut device = Device::empty(alloc);
-    let plan = plan_with(alloc, "d1", "g", sizes)?;
+    let plan = plan_with(alloc, "d100", "n100", sizes)?;
     Ok(are_taken(alloc, &mut device, "genesis")? && is_taken(alloc, &mut device, &plan)?)
 }
 
@@ -197,7 +180,8 @@ fn is_deployed(alloc: Global, device: &mut Device, id: &str, group: &str) -> Res
 /// How many groups join, one after another, where so many want to.
 fn join(alloc: Global, device: &mut Device, count: usize) -> Result<usize, Fail> {
     for at in 0..count {
-        let name = name_at(alloc, at)?;
+        let number = number_at(at);
+        let name = format!(in alloc; "n{number}")?;
         if !is_deployed(alloc, device, name.as_str(), name.as_str())? {
             return Ok(at);
         }
@@ -212,8 +196,8 @@ fn groups_are_256_at_most(rt: HostRuntime) -> Result<(), Fail> {
     assert!(rt; are_taken(alloc, &mut device, "genesis")?);
     assert_eq!(rt; join(alloc, &mut device, 300)?, 256);
     // The first group and the last take deployments yet.
-    assert!(rt; is_deployed(alloc, &mut device, "d1", "n100")?);
-    assert!(rt; is_deployed(alloc, &mut device, "d2", "n355")?);
+    assert!(rt; is_deployed(alloc, &mut device, "d100", "n100")?);
+    assert!(rt; is_deployed(alloc, &mut device, "d355", "n355")?);
     assert_eq!(rt; device.groups.len(), 256);
     Ok(())
 }

@@ -198,9 +198,13 @@ const UNLAWFUL: &[(&str, &str)] = &[
     ("genesis boots begin-b end-b-1 failing-b", "close-unable"),
 ];
 
+fn records() -> &'static [(&'static str, &'static [u8])] {
+    RECORDS
+}
+
 /// The bytes of the record with this name, or none.
 fn record_named(name: &str) -> &'static [u8] {
-    for (other, bytes) in RECORDS {
+    for (other, bytes) in records() {
         if *other == name {
             return bytes;
         }

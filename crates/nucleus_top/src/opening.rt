@@ -31,6 +31,8 @@ fn replayed<D: Disk>(alloc: Global, log: &Log, disk: &mut D) -> Opening
     requires open { (payloads : List (List ℕ)) × StandsOn D.tells D.seen D.may_leave log_files log_stands log.now disk.old payloads }
     requires some { IsTrue D.tells → HasEntry (D.seen disk.old) }
     ensures told { IsTrue D.tells → Opens (D.seen disk.old) result }
+    // Nothing is begun over a journal in which entries were found, even where the disk tells nothing.
+    ensures found { result ≡ Opening.Empty → ⊥ }
     ensures ready { IsReady result }
     ensures settled { AreSettled D.seen D.may_leave log_files disk.new }
     ensures seen { D.seen disk.new ≡ D.seen disk.old }
