@@ -71,12 +71,7 @@ fn push_number(payload: &mut Vec<u8>, number: usize) -> Result<(), Fail> {
 }
 
 /// Adds a text of so many bytes, which begins and ends with these.
-fn push_filled(
-    payload: &mut Vec<u8>,
-    count: usize,
-    first: &[u8],
-    last: &[u8],
-) -> Result<(), Fail> {
+fn push_filled(payload: &mut Vec<u8>, count: usize, first: &[u8], last: &[u8]) -> Result<(), Fail> {
     push_number(payload, count)?;
     payload.extend_from_slice(first)?;
     for _ in first.len()..count.saturating_sub(last.len()) {
@@ -112,8 +107,7 @@ fn push_requirements(alloc: Global, payload: &mut Vec<u8>, count: usize) -> Resu
 /// The name, the version and the recipe of an item.
 fn head_of(alloc: Global, at: usize) -> Result<String, Fail> {
     let number = number_at(at);
-    Ok(format!(
-        in alloc;
+    Ok(format!(in alloc;
         "\0\0\0\x04n{number}\0\0\0\x051.0.0\0\0\0\x56{{\"RecipeFormatVersion\":\"2020-01-25\",\"ComponentName\":\"n{number}\",\"ComponentVersion\":\"1.0.0\"}}"
     )?)
 }
