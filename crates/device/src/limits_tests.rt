@@ -183,15 +183,31 @@ fn join(alloc: Global, device: &mut Device, count: usize) -> Result<usize, Fail>
     Ok(count)
 }
 
+/// How many of these deployments, each an id and its group, are taken one after another.
+fn deployed(
+    alloc: Global,
+    device: &mut Device,
+    deployments: &[(&str, &str)],
+) -> Result<usize, Fail> {
+    for (at, (id, group)) in deployments.iter().enumerate() {
+        if !is_deployed(alloc, device, id, group)? {
+            return Ok(at);
+        }
+    }
+    Ok(deployments.len())
+}
+
+/// Of 300 groups how many join, to how many of the first and the last of them one deploys then, and how many there are.
+fn joined(alloc: Global) -> Result<(usize, usize, usize), Fail> {
+    let mut device = Device::empty(alloc);
+    are_taken(alloc, &mut device, "genesis")?;
+    let count = join(alloc, &mut device, 300)?;
+    let again = deployed(alloc, &mut device, &[("d100", "n100"), ("d355", "n355")])?;
+    Ok((count, again, device.groups.len()))
+}
+
 #[test]
 fn groups_are_256_at_most(rt: HostRuntime) -> Result<(), Fail> {
-    let alloc = rt.alloc();
-    let mut device = Device::empty(alloc);
-    assert!(rt; are_taken(alloc, &mut device, "genesis")?);
-    assert_eq!(rt; join(alloc, &mut device, 300)?, 256);
-    // The first group and the last take deployments yet.
-    assert!(rt; is_deployed(alloc, &mut device, "d100", "n100")?);
-    assert!(rt; is_deployed(alloc, &mut device, "d355", "n355")?);
-    assert_eq!(rt; device.groups.len(), 256);
+    assert!(rt; joined(rt.alloc())? == (256, 2, 256));
     Ok(())
 }
