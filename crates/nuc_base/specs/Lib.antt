@@ -1,6 +1,7 @@
 pub mod Failing
 pub mod Faults
 pub mod Leads
+pub mod Limits
 pub mod Names
 pub mod Numbers
 pub mod Pointers

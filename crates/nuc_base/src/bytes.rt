@@ -3,6 +3,7 @@ ghost use Rattle.std.specs.Prelude.{◌≡◌, ◌++◌, ◌==◌, [], List, ℕ
 use crate::copied::Copied;
 use crate::memory::NoMemory;
 use std::alloc::Global;
+use std::fmt;
 use std::marker::Model;
 
 /// Bytes, seen as the list of them.
@@ -82,5 +83,11 @@ impl Copied for Bytes {
 
     fn copy(&self, alloc: Global) -> Result<Bytes, NoMemory> {
         Bytes::from_slice(alloc, self.as_slice())
+    }
+}
+
+impl fmt::Debug for Bytes {
+    fn fmt<W: fmt::Write>(&self, f: &mut fmt::Formatter<W>) -> fmt::Result {
+        write!(f, "{:?}", self.as_slice())
     }
 }

@@ -5,7 +5,7 @@ use crate::list::List;
 
 /// Which calls of an object in memory fail, by their numbers from 0, how many calls came, and how many faults
 /// were answered. Both counts stand still at the greatest 64-bit number.
-#[derive(Drop)]
+#[derive(Debug, Drop)]
 pub struct Failing {
     numbers: List<u64>,
     calls: u64,
@@ -28,11 +28,12 @@ impl Failing {
         }
     }
 
-    /// Whether this call fails. Counts the call, and where it fails the fault.
+    /// Whether this call fails. Counts the call, and where it fails the fault, once.
     pub fn fails(&mut self) -> bool
         ensures listed { IsTrue result ↔ Contains (failing_numbers self.old) (calls_of self.old) }
         ensures counted { IsCounted self.old self.new }
         ensures kept { (result ≡ false) → faults_of self.new ≡ faults_of self.old }
+        ensures once { IsTrue result → faults_of self.new ≡ min (faults_of self.old + 1) (2 ^ 64 - 1) }
         ensures rose { IsTrue result → Rose (faults_of self.old) (faults_of self.new) }
         ensures later { faults_of self.old ≤ faults_of self.new }
     {

@@ -4,6 +4,7 @@ ghost use Rattle.std.specs.List.{AllZip};
 use crate::copied::Copied;
 use crate::memory::NoMemory;
 use std::alloc::{AllocFailed, Global};
+use std::fmt;
 use std::marker::Model;
 
 /// A list, seen as its elements.
@@ -80,5 +81,11 @@ impl<T: Copied + Drop> Copied for List<T> {
             copies.push(item.copy(alloc)?)?;
         }
         Ok(List { inner: copies })
+    }
+}
+
+impl<T: fmt::Debug> fmt::Debug for List<T> {
+    fn fmt<W: fmt::Write>(&self, f: &mut fmt::Formatter<W>) -> fmt::Result {
+        write!(f, "{:?}", self.as_slice())
     }
 }

@@ -1,6 +1,7 @@
 // Names and labels, read exactly.
 ghost use Rattle.std.specs.Prelude.{◌≡◌, ◌↔◌, List, ℕ, IfOk, MatchResult, string_bytes, IsTrue, Some, refl, nat_eq};
 ghost use Rattle.std.specs.Ordering.{nat_cmp};
+ghost use Rattle.std.specs.Str.{IsAscii};
 ghost use Rattle.std.specs.Cmp.Lexicographic.{pointwise, slice_cmp, nat_list_eq_equiv, nat_list_cmp_total, texts_ties, texts_po};
 ghost use Rattle.std.specs.Cmp;
 ghost use Rattle.std.specs.Cmp.Rules.{hashing};
@@ -78,6 +79,17 @@ fn is_label(bytes: &[u8]) -> bool
         && bytes.iter().all(|b| *b >= 0x21 && *b <= 0x7e)
 }
 
+/// The text of bytes that are ASCII.
+fn ascii_text(alloc: Global, bytes: &[u8]) -> Result<String, NoMemory>
+    requires { IsAscii bytes.now }
+    ensures { IfOk result (λ text. string_bytes text ≡ bytes.now) }
+{
+    match str::from_utf8(bytes) {
+        Ok(text) => Ok(String::from_str(alloc, text)?),
+        Err(_) => unreachable!(),
+    }
+}
+
 impl Name {
     /// Reads a name. It is `Bad` exactly where the bytes are none.
     pub fn read(alloc: Global, bytes: &[u8]) -> Result<Name, NameFault>
@@ -86,12 +98,9 @@ impl Name {
         if !is_name(bytes) {
             return Err(NameFault::Bad);
         }
-        let Ok(text) = str::from_utf8(bytes) else {
-            return Err(NameFault::Bad);
-        };
-        match String::from_str(alloc, text) {
+        match ascii_text(alloc, bytes) {
             Ok(text) => Ok(Name { text }),
-            Err(_) => Err(NameFault::NoMemory),
+            Err(NoMemory) => Err(NameFault::NoMemory),
         }
     }
 
@@ -203,12 +212,9 @@ impl Label {
         if !is_label(bytes) {
             return Err(NameFault::Bad);
         }
-        let Ok(text) = str::from_utf8(bytes) else {
-            return Err(NameFault::Bad);
-        };
-        match String::from_str(alloc, text) {
+        match ascii_text(alloc, bytes) {
             Ok(text) => Ok(Label { text }),
-            Err(_) => Err(NameFault::NoMemory),
+            Err(NoMemory) => Err(NameFault::NoMemory),
         }
     }
 

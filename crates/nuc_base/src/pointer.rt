@@ -27,7 +27,7 @@ pub enum PointerFault {
 }
 
 /// A JSON pointer (RFC 6901) of at most 1,024 bytes, seen as its tokens without their escapes.
-#[derive(Drop)]
+#[derive(Debug, Drop)]
 pub struct Pointer {
     tokens: List<Text>,
 }

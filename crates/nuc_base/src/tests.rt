@@ -97,6 +97,10 @@ fn records_and_lists_are_copied(rt: HostRuntime) -> Result<(), Fail> {
     texts.push(Text::from_str(alloc, "a")?)?;
     texts.push(Text::from_str(alloc, "b")?)?;
     assert!(rt; texts.copy(alloc)?.as_slice() == texts.as_slice());
+    assert_eq!(rt;
+        format!(in alloc; "{bytes:?} {texts:?}")?.as_str(),
+        "[0, 255] [\"a\", \"b\"]"
+    );
     Ok(())
 }
 
