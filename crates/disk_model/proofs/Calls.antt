@@ -5,7 +5,7 @@ use Rattle.disk_model.specs.Files.{image_of}
 use Rattle.disk_model.specs.Memory.{seen_by, left_by, left_since_by, moment_by, Changed, Stable, Unchanged}
 use Rattle.disk_model.specs.Put.{put, overwritten}
 use Rattle.disk_model.specs.Record.{seen_step, images_step, seen_after, left_after, Recorded, Kept}
-use Rattle.disk_model.specs.Replay.{seen-push, images-push, push-images, leaves_same, leaves_push, put_here, put_other}
+use Rattle.disk_model.specs.Laws.Replay.{seen-push, images-push, push-images, leaves_same, leaves_push, put_here, put_other}
 use Rattle.disk_model.specs.declared.memory.MemoryDisk.{MemoryDisk}
 use Rattle.disk_model.specs.declared.record.Call.{Call}
 use Rattle.disk_model.specs.declared.record.Call.TheVariants.{Write as Written, Cut as CutTo, Sync as Synced}

@@ -8,7 +8,7 @@ use Rattle.disk_model.specs.Disk.{Image, Torn, Cut, Step, After}
 use Rattle.disk_model.specs.Crash.{Unsynced, stable, MayHold, resized, rewritten, unsynced_step, unsynced_after, all_stable}
 use Rattle.disk_model.specs.Put.{put, overwritten}
 use Rattle.disk_model.specs.Record.{seen_step, images_step, images_after, left_after}
-use Rattle.disk_model.specs.Replay.{put_here, put_other, reads_step}
+use Rattle.disk_model.specs.Laws.Replay.{put_here, put_other, reads_step}
 use Rattle.disk_model.specs.declared.record.Call.{Call}
 use Rattle.disk_model.specs.declared.record.Call.TheVariants.{Write as Written, Cut as CutTo, Sync as Synced}
 

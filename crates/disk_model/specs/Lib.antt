@@ -4,13 +4,12 @@ pub mod Files
 pub mod Fuse
 pub mod Fused
 pub mod Images
-pub mod Inside
+pub mod Laws
 pub mod Listing
 pub mod Memory
-pub mod MemoryLaws
 pub mod Moments
 pub mod Picked
 pub mod Places
 pub mod Put
 pub mod Record
-pub mod Replay
+pub mod Spares

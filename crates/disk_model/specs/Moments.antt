@@ -2,6 +2,7 @@
 use Rattle.std.specs.Prelude.{ℕ, Bool, IsTrue, List}
 use Rattle.std.proofs.Common.{inl, inr, ⊎_elim, refl, ◌∙◌, arith}
 use Rattle.disk_model.specs.Disk.{Image, Step, After, Leaves, DiskLaws}
+use Rattle.disk_model.specs.Spares.{Spares, IsFile}
 
 module _ {D : Type 0} {tells : Bool} {seen : D → Image} {may_leave : D → Image → Type 0} {moment : D → ℕ} {left_since : D → ℕ → Image → Type 0}
     (laws : DiskLaws tells seen may_leave moment left_since) where
@@ -110,6 +111,27 @@ module _ {D : Type 0} {tells : Bool} {seen : D → Image} {may_leave : D → Ima
       (λ c left. (c, left, record { here = none (c file); others = λ name ne. refl }))
       (λ c was. (was.0, now old mid _ first was.0 was.1, record { here = more _ _ was.2.here; others = was.2.others }))
 
+  -- two calls that leave all but these files alone
+  pub then_spares : (files : List ℕ → Type 0) (old mid new : D) → Leaves moment left_since old mid (After (may_leave old) (Spares files))
+      → Leaves moment left_since mid new (After (may_leave mid) (Spares files)) → Leaves moment left_since old new (After (may_leave old) (Spares files))
+  then_spares files old mid new first second =
+      joined old mid new _ _ _ first second (λ c p. p)
+      (λ c was.
+      let before = now old mid (After (may_leave old) (Spares files)) first was.0 was.1 in
+      (before.0, before.1, λ name spared. was.2 name spared ∙ before.2 name spared))
+
 -- a step that allows more
 pub after_more : (images : Image → Type 0) (file : List ℕ) (Q S : List ℕ → List ℕ → Type 0) → ((a b : List ℕ) → Q a b → S a b) → (c : Image) → After images (Step file Q) c → After images (Step file S) c
 after_more images file Q S more c was = (was.0, was.1, record { here = more _ _ was.2.here; others = was.2.others })
+
+-- a change of one file leaves the others alone
+pub step_spares : (images : Image → Type 0) (file : List ℕ) (change : List ℕ → List ℕ → Type 0) (c : Image) → After images (Step file change) c → After images (Spares (IsFile file)) c
+step_spares images file change c was = (was.0, was.1, λ name ne. was.2.others name ne)
+
+-- and so does no change
+pub none_spares : (images : Image → Type 0) (files : List ℕ → Type 0) (c : Image) → images c → After images (Spares files) c
+none_spares images files c left = (c, left, λ name spared. refl)
+
+-- what leaves all but these files alone leaves all but more files alone
+pub spares_more : (images : Image → Type 0) (files more : List ℕ → Type 0) → ((name : List ℕ) → files name → more name) → (c : Image) → After images (Spares files) c → After images (Spares more) c
+spares_more images files more wider c was = (was.0, was.1, λ name spared. was.2 name (λ inside. spared (wider name inside)))

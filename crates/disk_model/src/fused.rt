@@ -51,10 +51,10 @@ impl Disk for FusedDisk {
     ghost use Rattle.disk_model.specs.Disk.{Holds, Torn, Cut, Step, After, Settled, Leaves};
     ghost use Rattle.disk_model.specs.Fuse.{IsCounted, middle};
     ghost use Rattle.disk_model.specs.Fused.{inside, fuse_of, IsDue, InsideFailed, fused_seen, fused_left, fused_left_since, fused_moment, fused_faults};
-    ghost use Rattle.disk_model.specs.Inside.{laws_inside};
+    ghost use Rattle.disk_model.specs.Laws.Inside.{laws_inside};
     ghost use Rattle.disk_model.specs.Listing.{artifacts, IsListing};
     ghost use Rattle.disk_model.specs.Memory.{Changed, Stable};
-    ghost use Rattle.disk_model.specs.MemoryLaws.{memory_laws};
+    ghost use Rattle.disk_model.specs.Laws.MemoryLaws.{memory_laws};
 
     ghost tells = { true };
 
@@ -79,6 +79,7 @@ impl Disk for FusedDisk {
         ensures seen { fused_seen self.new ≡ fused_seen self.old }
         ensures moments { Leaves fused_moment fused_left_since self.old self.new (fused_left self.old) }
         ensures cause { HasCause (fused_faults self.old) (fused_faults self.new) result }
+        ensures quiet { OnOk result (fused_faults self.new ≡ fused_faults self.old) }
     {
         if self.fuse.blows() {
             return Err(self.fuse.fault());
@@ -99,6 +100,7 @@ impl Disk for FusedDisk {
         ensures seen { fused_seen self.new ≡ fused_seen self.old }
         ensures moments { Leaves fused_moment fused_left_since self.old self.new (fused_left self.old) }
         ensures cause { HasCause (fused_faults self.old) (fused_faults self.new) result }
+        ensures quiet { OnOk result (fused_faults self.new ≡ fused_faults self.old) }
     {
         if self.fuse.blows() {
             return Err(self.fuse.fault());
@@ -118,6 +120,7 @@ impl Disk for FusedDisk {
         ensures told { Step file.now (λ old new. OnOk result (Holds at bytes.now old new)) (fused_seen self.old) (fused_seen self.new) }
         ensures moments { Leaves fused_moment fused_left_since self.old self.new (After (fused_left self.old) (Step file.now (Torn at (length bytes.now)))) }
         ensures cause { HasCause (fused_faults self.old) (fused_faults self.new) result }
+        ensures quiet { OnOk result (fused_faults self.new ≡ fused_faults self.old) }
     {
         if self.fuse.blows() {
             let _half = self.disk.write_at(file, at, &bytes[..bytes.len() / 2]);
@@ -138,6 +141,7 @@ impl Disk for FusedDisk {
         ensures told { Step file.now (λ old new. OnOk result (new ≡ take len old)) (fused_seen self.old) (fused_seen self.new) }
         ensures moments { Leaves fused_moment fused_left_since self.old self.new (After (fused_left self.old) (Step file.now (Cut len))) }
         ensures cause { HasCause (fused_faults self.old) (fused_faults self.new) result }
+        ensures quiet { OnOk result (fused_faults self.new ≡ fused_faults self.old) }
     {
         if self.fuse.blows() {
             let _half = cut_half(&mut self.disk, file, len);
@@ -156,6 +160,7 @@ impl Disk for FusedDisk {
         ensures seen { fused_seen self.new ≡ fused_seen self.old }
         ensures moments { Leaves fused_moment fused_left_since self.old self.new (fused_left self.old) }
         ensures cause { HasCause (fused_faults self.old) (fused_faults self.new) result }
+        ensures quiet { OnOk result (fused_faults self.new ≡ fused_faults self.old) }
     {
         if self.fuse.blows() {
             return Err(self.fuse.fault());
@@ -174,6 +179,7 @@ impl Disk for FusedDisk {
         ensures told { Step file.now (λ _ new. OnOk result (new ≡ [])) (fused_seen self.old) (fused_seen self.new) }
         ensures moments { Leaves fused_moment fused_left_since self.old self.new (After (fused_left self.old) (Step file.now (Cut 0))) }
         ensures cause { HasCause (fused_faults self.old) (fused_faults self.new) result }
+        ensures quiet { OnOk result (fused_faults self.new ≡ fused_faults self.old) }
     {
         if self.fuse.blows() {
             let _half = cut_half(&mut self.disk, file, 0);
@@ -192,6 +198,7 @@ impl Disk for FusedDisk {
         ensures moments { Leaves fused_moment fused_left_since self.old self.new (fused_left self.old) }
         ensures cause { IsErrOf result ListFault.Disk → Rose (fused_faults self.old) (fused_faults self.new) }
         ensures later { fused_faults self.old ≤ fused_faults self.new }
+        ensures quiet { ¬ (IsErrOf result ListFault.Disk) → fused_faults self.new ≡ fused_faults self.old }
     {
         if self.fuse.blows() {
             return Err(self.fuse.fault().into());

@@ -91,7 +91,7 @@ impl Disk for MemoryDisk {
     ghost use Rattle.disk_model.specs.Disk.{Holds, Torn, Cut, Step, After, Settled, Leaves};
     ghost use Rattle.disk_model.specs.Listing.{artifacts, IsListing};
     ghost use Rattle.disk_model.specs.Memory.{seen_by, left_by, left_since_by, moment_by, faults_by, Changed, Stable, Unchanged};
-    ghost use Rattle.disk_model.specs.MemoryLaws.{memory_laws};
+    ghost use Rattle.disk_model.specs.Laws.MemoryLaws.{memory_laws};
 
     ghost tells = { true };
 
@@ -114,6 +114,7 @@ impl Disk for MemoryDisk {
         ensures seen { seen_by self.new ≡ seen_by self.old }
         ensures moments { Leaves moment_by left_since_by self.old self.new (left_by self.old) }
         ensures cause { HasCause (faults_by self.old) (faults_by self.new) result }
+        ensures quiet { OnOk result (faults_by self.new ≡ faults_by self.old) }
     {
         Ok(self.file(file).len() as u64)
     }
@@ -128,6 +129,7 @@ impl Disk for MemoryDisk {
         ensures seen { seen_by self.new ≡ seen_by self.old }
         ensures moments { Leaves moment_by left_since_by self.old self.new (left_by self.old) }
         ensures cause { HasCause (faults_by self.old) (faults_by self.new) result }
+        ensures quiet { OnOk result (faults_by self.new ≡ faults_by self.old) }
     {
         let bytes = self.file(file);
         if at >= bytes.len() as u64 {
@@ -146,6 +148,7 @@ impl Disk for MemoryDisk {
         ensures told { Step file.now (λ old new. OnOk result (Holds at bytes.now old new)) (seen_by self.old) (seen_by self.new) }
         ensures moments { Leaves moment_by left_since_by self.old self.new (After (left_by self.old) (Step file.now (Torn at (length bytes.now)))) }
         ensures cause { HasCause (faults_by self.old) (faults_by self.new) result }
+        ensures quiet { OnOk result (faults_by self.new ≡ faults_by self.old) }
     {
         let done = write(
             self.alloc,
@@ -164,6 +167,7 @@ impl Disk for MemoryDisk {
         ensures told { Step file.now (λ old new. OnOk result (new ≡ take len old)) (seen_by self.old) (seen_by self.new) }
         ensures moments { Leaves moment_by left_since_by self.old self.new (After (left_by self.old) (Step file.now (Cut len))) }
         ensures cause { HasCause (faults_by self.old) (faults_by self.new) result }
+        ensures quiet { OnOk result (faults_by self.new ≡ faults_by self.old) }
     {
         let done = cut(
             self.alloc,
@@ -182,6 +186,7 @@ impl Disk for MemoryDisk {
         ensures seen { seen_by self.new ≡ seen_by self.old }
         ensures moments { Leaves moment_by left_since_by self.old self.new (left_by self.old) }
         ensures cause { HasCause (faults_by self.old) (faults_by self.new) result }
+        ensures quiet { OnOk result (faults_by self.new ≡ faults_by self.old) }
     {
         let done = sync(self.alloc, &mut self.calls, file);
         counted(done, &mut self.faults)
@@ -193,6 +198,7 @@ impl Disk for MemoryDisk {
         ensures told { Step file.now (λ _ new. OnOk result (new ≡ [])) (seen_by self.old) (seen_by self.new) }
         ensures moments { Leaves moment_by left_since_by self.old self.new (After (left_by self.old) (Step file.now (Cut 0))) }
         ensures cause { HasCause (faults_by self.old) (faults_by self.new) result }
+        ensures quiet { OnOk result (faults_by self.new ≡ faults_by self.old) }
     {
         let done = cut(self.alloc, &mut self.files, &mut self.calls, file, 0);
         counted(done, &mut self.faults)
@@ -205,6 +211,7 @@ impl Disk for MemoryDisk {
         ensures seen { seen_by self.new ≡ seen_by self.old }
         ensures moments { Leaves moment_by left_since_by self.old self.new (left_by self.old) }
         ensures later { faults_by self.old ≤ faults_by self.new }
+        ensures quiet { ¬ (IsErrOf result ListFault.Disk) → faults_by self.new ≡ faults_by self.old }
     {
         Ok(self.files.listed(alloc, ARTIFACTS)?)
     }
@@ -265,6 +272,7 @@ fn sync(alloc: Global, calls: &mut Vec<Call>, file: &str) -> Result<(), NoMemory
 fn counted(done: Result<(), NoMemory>, faults: &mut u64) -> Result<(), DiskFault>
     ensures variant { is_ok result ≡ is_ok done }
     ensures cause { HasCause faults.old faults.new result }
+    ensures quiet { OnOk result (faults.new ≡ faults.old) }
 {
     if done.is_err() {
         *faults = faults.saturating_add(1);

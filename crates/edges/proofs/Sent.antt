@@ -1,10 +1,11 @@
 -- Known bytes that grow piece by piece.
-use Rattle.std.proofs.Common.{◌≡◌, ◌<◌, ℕ, zero, suc, get_or, ◌-◌, List, [], ◌∷◌, ◌++◌, length, take, drop, refl, sym, ◌∙◌, ap, arith, append_assoc, length-drop, take-append-drop, Some, None}
+use Rattle.std.proofs.Common.{◌≡◌, ◌<◌, ℕ, zero, suc, get_or, ◌-◌, List, [], ◌∷◌, ◌++◌, length, take, drop, refl, sym, ◌∙◌, ap, arith, append_assoc, length-drop, take-append-drop, Some, None, Result, Ok, Err}
 use Rattle.std.proofs.lemmas.List.{take_all, append-nil}
 use Rattle.std.specs.declared.option.Option.{Option}
+use Rattle.std.specs.Result.{IsErrAnd}
 use Rattle.std.specs.Io.KnownBytes.{Appends}
 use denote.Bor.{Bor}
-use Rattle.edges.specs.Pieces.{AppendsFront, joined}
+use Rattle.edges.specs.Pieces.{AppendsFront, Writes, joined}
 
 -- one piece behind another
 pub appends_more : (old mid new : Option (List ℕ)) (a b : List ℕ) → Appends old mid a → Appends mid new b → Appends old new (a ++ b)
@@ -32,6 +33,11 @@ front_more old mid new all before piece after is sent last =
   where
     regroup : (a b c d : List ℕ) → (a ++ (b ++ c)) ++ d ≡ (a ++ b) ++ (c ++ d)
     regroup a b c d = simp append_assoc
+
+-- a fault that `?` hands on
+pub handed_on : {E : Type 0} (old new : Option (List ℕ)) (bytes : List ℕ) (result : Result (Unit {0}) E) (fault : E) → IsErrAnd result (λ e. e ≡ fault) → AppendsFront old new bytes → Writes old new bytes result
+handed_on old new bytes (Ok u) fault h front = absurd h
+handed_on old new bytes (Err e) fault h front = front
 
 -- the pieces before one, itself, and the pieces after
 pub joined_at : (pieces : List (Bor (List ℕ))) (i : ℕ) (d : Bor (List ℕ)) → i < length pieces → joined pieces ≡ (joined (take i pieces) ++ (get_or pieces i d).now) ++ joined (drop (suc i) pieces)

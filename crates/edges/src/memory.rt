@@ -1,4 +1,4 @@
-ghost use Rattle.std.specs.Prelude.{◌≡◌, ◌<◌, ◌≤◌, ◌+◌, ◌↔◌, [], List, ℕ, length, drop, take, min, Some, IfOk, OnErr, IsErr};
+ghost use Rattle.std.specs.Prelude.{◌≡◌, ◌<◌, ◌≤◌, ◌+◌, ◌↔◌, [], List, ℕ, length, drop, take, min, Some, IfOk, OnOk, OnErr, IsErr};
 ghost use Rattle.std.specs.Io.{ReadsAtMost, WritesAtMost};
 ghost use Rattle.std.specs.Io.KnownBytes.{ReadConsumes, WriteAppends};
 ghost use Rattle.nuc_base.specs.Faults.{HasCause};
@@ -47,6 +47,7 @@ impl Source for MemorySource {
         ensures bound { ReadsAtMost result into.new }
         ensures bytes { ReadConsumes (Some (source_left self.old)) (Some (source_left self.new)) result into.new }
         ensures cause { HasCause (faults_of (source_failing self.old)) (faults_of (source_failing self.new)) result }
+        ensures quiet { OnOk result (faults_of (source_failing self.new) ≡ faults_of (source_failing self.old)) }
         ensures listed { IsErr result ↔ IsListed (source_failing self.old) }
         ensures untouched { OnErr result (into.new ≡ into.old) }
         ensures counted { IsCounted (source_failing self.old) (source_failing self.new) }
@@ -103,6 +104,7 @@ impl Sink for MemorySink {
         ensures some { 0 < length bytes.now → IfOk result (λ count. 0 < count) }
         ensures bytes { WriteAppends (Some (sink_held self.old)) (Some (sink_held self.new)) result bytes.now }
         ensures cause { HasCause (faults_of (sink_failing self.old)) (faults_of (sink_failing self.new)) result }
+        ensures quiet { OnOk result (faults_of (sink_failing self.new) ≡ faults_of (sink_failing self.old)) }
         ensures listed { IsListed (sink_failing self.old) → IsErr result }
         ensures counted { IsCounted (sink_failing self.old) (sink_failing self.new) }
     {

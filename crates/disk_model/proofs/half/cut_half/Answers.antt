@@ -1,5 +1,5 @@
 use Rattle.std.proofs.Common.{arith}
-use Rattle.disk_model.specs.MemoryLaws.{memory_laws}
+use Rattle.disk_model.specs.Laws.MemoryLaws.{memory_laws}
 use Rattle.disk_model.specs.Moments.{weaker, after_more}
 use Rattle.disk_model.proofs.Wider.{cut_wider}
 use Rattle.disk_model.proofs.half.cut_half.Goals as goal

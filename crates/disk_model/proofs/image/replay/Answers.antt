@@ -4,7 +4,7 @@ use Rattle.disk_model.specs.Disk.{Image}
 use Rattle.disk_model.specs.Files.{image_of}
 use Rattle.disk_model.specs.Picked.{picked_step, picked_after}
 use Rattle.disk_model.specs.Record.{seen_step, seen_after}
-use Rattle.disk_model.specs.Replay.{seen-push}
+use Rattle.disk_model.specs.Laws.Replay.{seen-push}
 use Rattle.disk_model.specs.declared.record.Call.{Call}
 use Rattle.disk_model.proofs.Picks.{picked-push}
 use Rattle.disk_model.proofs.image.replay.Goals as goal

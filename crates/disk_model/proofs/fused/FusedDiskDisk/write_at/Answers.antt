@@ -1,6 +1,6 @@
 use Rattle.std.proofs.Common.{◌/◌, length, arith, length-take}
 use Rattle.disk_model.specs.Fused.{inside}
-use Rattle.disk_model.specs.Inside.{leaves_inside}
+use Rattle.disk_model.specs.Laws.Inside.{leaves_inside}
 use Rattle.disk_model.specs.Moments.{after_more}
 use Rattle.disk_model.proofs.Wider.{torn_wider}
 use Rattle.disk_model.proofs.fused.FusedDiskDisk.write_at.Goals as goal

@@ -5,7 +5,7 @@ use Rattle.disk_model.specs.Disk.{Image}
 use Rattle.disk_model.specs.Files.{image_of}
 use Rattle.disk_model.specs.Images.{unsynced_of, PickedAs, picked_by}
 use Rattle.disk_model.specs.Memory.{seen_by, left_by}
-use Rattle.disk_model.specs.Replay.{reads}
+use Rattle.disk_model.specs.Laws.Replay.{reads}
 use Rattle.disk_model.specs.declared.image.Pick.{Pick}
 use Rattle.disk_model.specs.declared.memory.MemoryDisk.{MemoryDisk}
 use Rattle.disk_model.proofs.Picks.{old_is_held, old_is_left, fill_is_filled, fill_is_left}

@@ -2,7 +2,7 @@ use Rattle.std.proofs.Common.{◌≡◌, take, refl}
 use Rattle.std.proofs.lemmas.Result.{on_ok_weaker, on_err_weaker}
 use Rattle.disk_model.specs.Disk.{Cut}
 use Rattle.disk_model.specs.Files.{image_of}
-use Rattle.disk_model.specs.Replay.{unchanged, cut_none}
+use Rattle.disk_model.specs.Laws.Replay.{unchanged, cut_none}
 use Rattle.disk_model.specs.declared.record.Call.TheVariants.{Cut as CutTo}
 use Rattle.disk_model.proofs.Calls.{cached, moments, as_ok, as_err, was_cut, is_same}
 use Rattle.disk_model.proofs.memory.MemoryDiskDisk.cut.Goals as goal

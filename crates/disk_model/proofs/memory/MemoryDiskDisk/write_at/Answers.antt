@@ -3,7 +3,7 @@ use Rattle.std.proofs.lemmas.Result.{on_ok_weaker, on_err_weaker}
 use Rattle.disk_model.specs.Disk.{Torn, Step, After}
 use Rattle.disk_model.specs.Files.{image_of}
 use Rattle.disk_model.specs.Memory.{seen_by, left_by}
-use Rattle.disk_model.specs.Replay.{unchanged, torn_none}
+use Rattle.disk_model.specs.Laws.Replay.{unchanged, torn_none}
 use Rattle.disk_model.specs.declared.record.Call.TheVariants.{Write as Written}
 use Rattle.disk_model.proofs.Calls.{cached, moments, as_ok, as_err, wrote, is_same}
 use Rattle.disk_model.proofs.memory.MemoryDiskDisk.write_at.Goals as goal

@@ -3,7 +3,7 @@ use Rattle.std.specs.Prelude.{true, refl}
 use Rattle.disk_model.specs.Disk.{DiskLaws}
 use Rattle.disk_model.specs.Files.{image_of}
 use Rattle.disk_model.specs.Memory.{seen_by, left_by, left_since_by, moment_by}
-use Rattle.disk_model.specs.Replay.{counts_now, only_now, earlier, reads}
+use Rattle.disk_model.specs.Laws.Replay.{counts_now, only_now, earlier, reads}
 
 pub memory_laws : DiskLaws true seen_by left_by moment_by left_since_by
 memory_laws = record {
