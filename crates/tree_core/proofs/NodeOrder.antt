@@ -31,7 +31,7 @@ member_regular k no_members o s u = tt
 member_regular k (member l e ms) o s u =
     found_at IsRegular (slice_cmp nat_cmp k l) e _ (record { orderly = o.1; shallow = omega (arith, s); utf8 = u.1 }) (member_regular k ms o.2 (omega (arith, s)) u.2)
 
-child_regular : (token : List ℕ) (d : Data) → IsRegular d → IfSome (child token d) IsRegular
+pub child_regular : (token : List ℕ) (d : Data) → IsRegular d → IfSome (child token d) IsRegular
 child_regular token null h = tt
 child_regular token (boolean b) h = tt
 child_regular token (number n) h = tt

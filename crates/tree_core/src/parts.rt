@@ -1,9 +1,10 @@
 ghost use Rattle.std.specs.Prelude.{◌≡◌, ◌↔◌, option_map, IsTrue};
 ghost use Rattle.serde_json.specs.Find.{get as member_of, as_str};
+ghost use Rattle.tree_core.specs.Regular.{IsRegular};
 ghost use Rattle.tree_core.specs.View.{view};
 ghost use Rattle.tree_core.specs.Parts.{present as where_present, IsObject};
 
-use crate::get::field_named;
+use crate::get::{field_found, field_named};
 use crate::tree::Tree;
 use nuc_base::Text;
 
@@ -16,6 +17,17 @@ impl Tree {
             return None;
         };
         field_named(fields, key)
+    }
+
+    /// The same of a regular tree, whose keys rise: they are looked for by halves.
+    pub fn find(&self, key: &str) -> Option<&Tree>
+        requires { IsRegular (view self.now) }
+        ensures { option_map (λ t. view t.now) result ≡ member_of key.now (view self.now) }
+    {
+        let Tree::Fields(fields) = self else {
+            return None;
+        };
+        field_found(fields, key)
     }
 
     /// The value of a key, where it is there and not null.
