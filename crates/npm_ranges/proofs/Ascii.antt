@@ -19,7 +19,8 @@ use Rattle.semver.specs.declared.error.Error.{Error}
 use Rattle.npm_ranges.specs.declared.comparator.Sign.{Sign}
 use Rattle.npm_ranges.specs.Grammar.{Spelled, Written, bare, by_sign, comparator_of, comparators_of, each_of, free_partial, hyphen_ends, hyphen_or, is_blank, is_decimal, is_free, joined, lone_sign, number_of, or_equal, part_of, partial_from, partial_of, parts_partial, set_from, set_of, sets_of, sign_of, value_from, with_sign, words_of, written}
 use Rattle.npm_ranges.proofs.Reading.{alone_none}
-use Rattle.npm_ranges.proofs.VersionTexts.{all_weaker, ascii_from_all, both_true, byte_is_ascii, is_version_byte, read_bytes}
+use Rattle.npm_ranges.proofs.VersionTexts.{all_weaker, ascii_from_all, both_true, read_bytes}
+use Rattle.npm_ranges.specs.Versions.{is_version_byte}
 
 abbrev is_ascii : ℕ → Bool
 is_ascii b = nat_lt b 128
@@ -32,17 +33,17 @@ byte_of b n small h = rw (eqb-true b n h) (lt-ltb n 128 small)
 
 -- ---- pieces of a text
 
-onto_all : (x : ℕ) (ps : List (List ℕ)) → list_all all_ascii (onto_first x ps) ≡ true → (is_ascii x ≡ true) × (list_all all_ascii ps ≡ true)
-onto_all x [] h = (and-left (is_ascii x) true (and-left (is_ascii x && true) true h), refl)
-onto_all x (p ∷ ps) h =
-    let first = and-left (is_ascii x && all_ascii p) (list_all all_ascii ps) h in
-    (and-left (is_ascii x) (all_ascii p) first, both_true _ _ (and-right (is_ascii x) (all_ascii p) first) (and-right (is_ascii x && all_ascii p) (list_all all_ascii ps) h))
+onto_all : (f : ℕ → Bool) (x : ℕ) (ps : List (List ℕ)) → list_all (list_all f) (onto_first x ps) ≡ true → (f x ≡ true) × (list_all (list_all f) ps ≡ true)
+onto_all f x [] h = (and-left (f x) true (and-left (f x && true) true h), refl)
+onto_all f x (p ∷ ps) h =
+    let first = and-left (f x && list_all f p) (list_all (list_all f) ps) h in
+    (and-left (f x) (list_all f p) first, both_true _ _ (and-right (f x) (list_all f p) first) (and-right (f x && list_all f p) (list_all (list_all f) ps) h))
 
-split_all : (test : ℕ → Bool) → ((b : ℕ) → test b ≡ true → is_ascii b ≡ true) → (text : List ℕ) → list_all all_ascii (slice_split test text) ≡ true → all_ascii text ≡ true
-split_all test is [] h = refl
-split_all test is (b ∷ rest) h = elim (cases_Bool (test b)) [
-  | inl cut ↦ both_true _ _ (is b cut) (split_all test is rest (rw cut at h))
-  | inr other ↦ let both = onto_all b (slice_split test rest) (rw other at h) in both_true _ _ both.0 (split_all test is rest both.1)
+split_all : (f test : ℕ → Bool) → ((b : ℕ) → test b ≡ true → f b ≡ true) → (text : List ℕ) → list_all (list_all f) (slice_split test text) ≡ true → list_all f text ≡ true
+split_all f test is [] h = refl
+split_all f test is (b ∷ rest) h = elim (cases_Bool (test b)) [
+  | inl cut ↦ both_true _ _ (is b cut) (split_all f test is rest (rw cut at h))
+  | inr other ↦ let both = onto_all f b (slice_split test rest) (rw other at h) in both_true _ _ both.0 (split_all f test is rest both.1)
 ]
 
 sets_all : (text : List ℕ) → list_all all_ascii (sets_of text) ≡ true → all_ascii text ≡ true
@@ -54,7 +55,7 @@ sets_all (x ∷ y ∷ rest) h = elim (cases_Bool (x == 124 && y == 124)) [
       let first = byte_of x 124 (omega arith) (and-left (x == 124) (y == 124) bars) in
       let second = byte_of y 124 (omega arith) (and-right (x == 124) (y == 124) bars) in
       both_true _ _ first (both_true _ _ second (sets_all rest (rw bars at h)))
-  | inr other ↦ let both = onto_all x (sets_of (y ∷ rest)) (rw other at h) in both_true _ _ both.0 (sets_all (y ∷ rest) both.1)
+  | inr other ↦ let both = onto_all is_ascii x (sets_of (y ∷ rest)) (rw other at h) in both_true _ _ both.0 (sets_all (y ∷ rest) both.1)
 ]
 
 kept_all : (ps : List (List ℕ)) → list_all all_ascii (filter (λ word. nat_lt 0 (length word)) ps) ≡ true → list_all all_ascii ps ≡ true
@@ -70,7 +71,7 @@ blank_is b h = grind (arith, nat_tests)
 
 words_all : (text : List ℕ) → list_all all_ascii (words_of text) ≡ true → all_ascii text ≡ true
 unfolding words_of
-words_all text h = split_all is_blank blank_is text (kept_all (slice_split is_blank text) h)
+words_all text h = split_all is_ascii is_blank blank_is text (kept_all (slice_split is_blank text) h)
 
 -- ---- what was read of each
 
@@ -88,69 +89,83 @@ mapped : {A B : Type 0} (f : A → B) (o : Option A) (y : B) → option_map f o 
 mapped f None y h = cc h
 mapped f (Some x) y h = (x, refl)
 
-each_all : {B : Type 0} (f : List ℕ → Option B) → ((x : List ℕ) (y : B) → f x ≡ Some y → all_ascii x ≡ true) → (xs : List (List ℕ)) (ys : List B) → each_of f xs ≡ Some ys → list_all all_ascii xs ≡ true
-each_all f is [] ys h = refl
-each_all f is (x ∷ xs) ys h =
+each_all : {B : Type 0} (f : List ℕ → Option B) (g : ℕ → Bool) → ((x : List ℕ) (y : B) → f x ≡ Some y → list_all g x ≡ true) → (xs : List (List ℕ)) (ys : List B) → each_of f xs ≡ Some ys → list_all (list_all g) xs ≡ true
+each_all f g is [] ys h = refl
+each_all f g is (x ∷ xs) ys h =
     let first = joined_first (f x) (each_of f xs) ys h in
     let others = joined_others (f x) (each_of f xs) ys h in
-    both_true _ _ (is x first.0 first.1) (each_all f is xs others.0 others.1)
+    both_true _ _ (is x first.0 first.1) (each_all f g is xs others.0 others.1)
 
 -- ---- parts and partials
 
-free_is : (b : ℕ) → (b == 120 || b == 88 || b == 42) ≡ true → is_ascii b ≡ true
+-- [0-9A-Za-z-], '.', '+' and '*'
+abbrev pub is_partial_byte : ℕ → Bool
+is_partial_byte b = is_version_byte b || b == 42
+
+partial_byte : (b : ℕ) → is_version_byte b ≡ true → is_partial_byte b ≡ true
+partial_byte b h = rw h refl
+
+partial_is_ascii : (b : ℕ) → is_partial_byte b ≡ true → is_ascii b ≡ true
+partial_is_ascii b h = grind (arith, nat_tests)
+
+free_is : (b : ℕ) → (b == 120 || b == 88 || b == 42) ≡ true → is_partial_byte b ≡ true
 free_is b h = grind (arith, nat_tests)
 
-free_all : (text : List ℕ) → is_free text ≡ true → all_ascii text ≡ true
+free_all : (text : List ℕ) → is_free text ≡ true → list_all is_partial_byte text ≡ true
 free_all [] h = refl
 free_all (b ∷ rest) h =
     let none : rest ≡ [] = nil_from_length rest (eqb-true (length rest) 0 (and-right (b == 120 || b == 88 || b == 42) (length rest == 0) h)) in
-    rw none (both_true (is_ascii b) true (free_is b (and-left (b == 120 || b == 88 || b == 42) (length rest == 0) h)) refl)
+    rw none (both_true (is_partial_byte b) true (free_is b (and-left (b == 120 || b == 88 || b == 42) (length rest == 0) h)) refl)
 
-digit_is : (b : ℕ) → is_ascii_digit b ≡ true → is_ascii b ≡ true
+digit_is : (b : ℕ) → is_ascii_digit b ≡ true → is_partial_byte b ≡ true
 digit_is b h = grind (arith, nat_tests)
 
-number_all : (text : List ℕ) (n : ℕ) → number_of text ≡ Some n → all_ascii text ≡ true
+number_all : (text : List ℕ) (n : ℕ) → number_of text ≡ Some n → list_all is_partial_byte text ≡ true
 unfolding number_of
 number_all text n h = elim (cases_Bool (is_decimal text && nat_lt (value_from 0 text) (2 ^ 64))) [
   | inl both ↦
       let decimal = and-left (is_decimal text) (nat_lt (value_from 0 text) (2 ^ 64)) both in
       let digits = and-right (nat_lt 0 (length text)) (list_all is_ascii_digit text) (and-left (nat_lt 0 (length text) && list_all is_ascii_digit text) (not (has_leading_zero text)) decimal) in
-      all_weaker is_ascii_digit is_ascii digit_is text digits
+      all_weaker is_ascii_digit is_partial_byte digit_is text digits
   | inr other ↦ cc (rw other at h)
 ]
 
-part_all : (text : List ℕ) (o : Option ℕ) → part_of text ≡ Some o → all_ascii text ≡ true
+part_all : (text : List ℕ) (o : Option ℕ) → part_of text ≡ Some o → list_all is_partial_byte text ≡ true
 part_all text o h = elim (cases_Bool (is_free text)) [
   | inl free ↦ free_all text free
   | inr other ↦ let m = mapped (λ n. Some n) (number_of text) o (rw other at h) in number_all text m.0 m.1
 ]
 
-dot_is : (b : ℕ) → (b == 46) ≡ true → is_ascii b ≡ true
-dot_is b h = byte_of b 46 (omega arith) h
+one_byte : (b n : ℕ) → is_partial_byte n ≡ true → (b == n) ≡ true → is_partial_byte b ≡ true
+one_byte b n is h = rw (eqb-true b n h) is
 
-parts_all : (text : List ℕ) (p : Spelled) → parts_partial (parts text) ≡ Some p → all_ascii text ≡ true
+parts_all : (text : List ℕ) (p : Spelled) → parts_partial (parts text) ≡ Some p → list_all is_partial_byte text ≡ true
 unfolding parts_partial
 parts_all text p h = elim (cases_Bool (nat_le (length (parts text)) 3)) [
   | inl few ↦
       let m = mapped free_partial (each_of part_of (parts text)) p (rw few at h) in
-      split_all (λ b. b == 46) dot_is text (each_all part_of part_all (parts text) m.0 m.1)
+      split_all is_partial_byte (λ b. b == 46) (λ b dot. one_byte b 46 refl dot) text (each_all part_of is_partial_byte part_all (parts text) m.0 m.1)
   | inr many ↦ cc (rw many at h)
 ]
 
-by_version : (text : List ℕ) (r : Result Parts Error) (p : Spelled) → version_parts text ≡ r → partial_from r (parts_partial (parts text)) ≡ Some p → all_ascii text ≡ true
-by_version text (Ok q) p is h = all_weaker is_version_byte is_ascii byte_is_ascii text (read_bytes text q is)
+by_version : (text : List ℕ) (r : Result Parts Error) (p : Spelled) → version_parts text ≡ r → partial_from r (parts_partial (parts text)) ≡ Some p → list_all is_partial_byte text ≡ true
+by_version text (Ok q) p is h = all_weaker is_version_byte is_partial_byte partial_byte text (read_bytes text q is)
 by_version text (Err e) p is h = parts_all text p h
 
-bare_all : (word : List ℕ) → all_ascii (bare word) ≡ true → all_ascii word ≡ true
+bare_all : (word : List ℕ) → list_all is_partial_byte (bare word) ≡ true → list_all is_partial_byte word ≡ true
 bare_all [] h = refl
 bare_all (b ∷ rest) h = elim (cases_Bool (b == 118)) [
-  | inl v ↦ both_true _ _ (byte_of b 118 (omega arith) v) (rw v at h)
+  | inl v ↦ both_true _ _ (one_byte b 118 refl v) (rw v at h)
   | inr other ↦ rw other at h
 ]
 
-partial_all : (word : List ℕ) (p : Spelled) → partial_of word ≡ Some p → all_ascii word ≡ true
+-- the bytes of a partial
+pub partial_bytes : (word : List ℕ) (p : Spelled) → partial_of word ≡ Some p → list_all is_partial_byte word ≡ true
 unfolding partial_of
-partial_all word p h = bare_all word (by_version (bare word) (version_parts (bare word)) p refl h)
+partial_bytes word p h = bare_all word (by_version (bare word) (version_parts (bare word)) p refl h)
+
+partial_all : (word : List ℕ) (p : Spelled) → partial_of word ≡ Some p → all_ascii word ≡ true
+partial_all word p h = all_weaker is_partial_byte is_ascii partial_is_ascii word (partial_bytes word p h)
 
 -- ---- comparators
 
@@ -241,4 +256,4 @@ set_all text cs h = words_all text (from (words_of text) h)
 
 pub range_is_utf8 : (text : List ℕ) (sets : List (List Written)) → written text ≡ Some sets → IsUtf8 text
 unfolding written
-range_is_utf8 text sets h = IsUtf8-from_ascii text (ascii_from_all text (sets_all text (each_all set_of set_all (sets_of text) sets h)))
+range_is_utf8 text sets h = IsUtf8-from_ascii text (ascii_from_all text (sets_all text (each_all set_of is_ascii set_all (sets_of text) sets h)))

@@ -19,12 +19,12 @@ use Rattle.npm_ranges.specs.declared.comparator.Sign.TheVariants as sign
 use Rattle.npm_ranges.specs.Grammar.{Spelled, Written, any_version, bare, comparator_of, comparators_of, each_of, is_blank, joined, lone_sign, partial_of, set_from, set_of, sets_of, sign_of, words_of, written}
 use Rattle.npm_ranges.specs.Laws.{IsBetween, IsPlain}
 use Rattle.npm_ranges.specs.Ranges.{Meets, lets_pre_in, meets_comparator, meets_full, meets_open, meets_set}
-use Rattle.npm_ranges.specs.Versions.{IsVersion, parts_in, precedence}
+use Rattle.npm_ranges.specs.Versions.{IsVersion, is_version_byte, parts_in, precedence}
 use Rattle.npm_ranges.proofs.Partials.{partial_full}
 use Rattle.npm_ranges.proofs.Reading.{one_word}
 use Rattle.npm_ranges.proofs.Splitting.{not_true}
 use Rattle.npm_ranges.proofs.VersionOrders.{precedence_ties}
-use Rattle.npm_ranges.proofs.VersionTexts.{all_both, all_weaker, both_true, decimal_is, is_version_byte, version_bytes, version_reads}
+use Rattle.npm_ranges.proofs.VersionTexts.{all_both, all_weaker, both_true, decimal_is, version_bytes, version_reads}
 
 -- ---- build text has no effect
 
@@ -80,7 +80,7 @@ above_nothing p plain =
     not_less (nat_cmp p.0 0) _ (above_zero p.0) (not_less (nat_cmp p.1 0) _ (above_zero p.1) (not_less (nat_cmp p.2 0) _ (above_zero p.2)
     (subst (λ (pre : List ℕ). is_ge (pre_cmp pre []) ≡ true) (sym plain) refl)))
 
-same_value : {A : Type 0} (x y : A) → ◌≡◌ {A = Option A} (Some x) (Some y) → x ≡ y
+pub same_value : {A : Type 0} (x y : A) → ◌≡◌ {A = Option A} (Some x) (Some y) → x ≡ y
 same_value x y e = cc e
 
 -- what is left of the tests of one set
@@ -92,10 +92,10 @@ single false l e h = refl
 empty_value : (p : Parts) → list_any (meets_set p) ((any_version ∷ []) ∷ []) ≡ (is_ge (precedence p (0, 0, 0, [], [])) && (length p.3 == 0))
 empty_value p = single (is_ge (precedence p (0, 0, 0, [], []))) (length p.3 == 0) (lets_pre_in p any_version) refl
 
-no_pre : (pre : List ℕ) → (length pre == 0) ≡ true → pre ≡ []
+pub no_pre : (pre : List ℕ) → (length pre == 0) ≡ true → pre ≡ []
 no_pre pre h = nil_from_length pre (eqb-true (length pre) 0 h)
 
-is_no_pre : (pre : List ℕ) → pre ≡ [] → (length pre == 0) ≡ true
+pub is_no_pre : (pre : List ℕ) → pre ≡ [] → (length pre == 0) ≡ true
 is_no_pre pre h = rw h refl
 
 pub empty_holds : (version : List ℕ) → Meets version [] ↔ ((parts_in version).3 ≡ [])
@@ -111,25 +111,25 @@ empty_holds version =
 
 -- ---- two bounds
 
-abbrev no_blank : ℕ → Bool
+abbrev pub no_blank : ℕ → Bool
 no_blank b = not (is_blank b)
 
-abbrev no_bar : ℕ → Bool
+abbrev pub no_bar : ℕ → Bool
 no_bar b = not (b == 124)
 
-split_one : (text : List ℕ) → list_all no_blank text ≡ true → slice_split is_blank text ≡ text ∷ []
+pub split_one : (text : List ℕ) → list_all no_blank text ≡ true → slice_split is_blank text ≡ text ∷ []
 split_one [] h = refl
 split_one (b ∷ rest) h = rw (not_true (is_blank b) (and-left (no_blank b) (list_all no_blank rest) h), split_one rest (and-right (no_blank b) (list_all no_blank rest) h)) refl
 
-split_two : (x y : List ℕ) → list_all no_blank x ≡ true → slice_split is_blank (x ++ 32 ∷ y) ≡ x ∷ slice_split is_blank y
-split_two [] y h = refl
-split_two (b ∷ rest) y h = rw (not_true (is_blank b) (and-left (no_blank b) (list_all no_blank rest) h), split_two rest y (and-right (no_blank b) (list_all no_blank rest) h)) refl
+pub split_two : (x : List ℕ) (blank : ℕ) (y : List ℕ) → is_blank blank ≡ true → list_all no_blank x ≡ true → slice_split is_blank (x ++ blank ∷ y) ≡ x ∷ slice_split is_blank y
+split_two [] blank y is h = rw is refl
+split_two (b ∷ rest) blank y is h = rw (not_true (is_blank b) (and-left (no_blank b) (list_all no_blank rest) h), split_two rest blank y is (and-right (no_blank b) (list_all no_blank rest) h)) refl
 
 two_words : (x y : List ℕ) → 0 < length x → 0 < length y → list_all no_blank x ≡ true → list_all no_blank y ≡ true → words_of (x ++ 32 ∷ y) ≡ x ∷ y ∷ []
 unfolding words_of
-two_words x y long more h k = rw (split_two x y h, split_one y k, lt-ltb 0 (length x) long, lt-ltb 0 (length y) more) refl
+two_words x y long more h k = rw (split_two x 32 y refl h, split_one y k, lt-ltb 0 (length x) long, lt-ltb 0 (length y) more) refl
 
-one_set : (text : List ℕ) → list_all no_bar text ≡ true → sets_of text ≡ text ∷ []
+pub one_set : (text : List ℕ) → list_all no_bar text ≡ true → sets_of text ≡ text ∷ []
 unfolding sets_of
 one_set [] h = refl
 one_set (x ∷ []) h = refl
@@ -166,10 +166,10 @@ no_equal b h = grind (arith, nat_tests)
 bare_version : (text : List ℕ) → BeginsWithDigit text → text ≡ bare text
 bare_version text d = rw (d.is, no_v d.digit d.test) refl
 
-abbrev spelled_of : Parts → Spelled
+abbrev pub spelled_of : Parts → Spelled
 spelled_of p = record { numbers = p.0 ∷ p.1 ∷ p.2 ∷ []; pre = p.3 }
 
-version_partial : (text : List ℕ) → IsVersion text → partial_of text ≡ Some (spelled_of (parts_in text))
+pub version_partial : (text : List ℕ) → IsVersion text → partial_of text ≡ Some (spelled_of (parts_in text))
 version_partial text v = sym (partial_full text text (parts_in text) (bare_version text (begins text v)) (version_reads text v))
 
 at_least : (a : List ℕ) → sign_of (62 ∷ 61 ∷ a) ≡ (Some sign.GreaterOrEqual, a)
@@ -212,7 +212,7 @@ pair true true false e f h k = rw (h, k) refl
 pair true false l e f h k = refl
 pair false y l e f h k = refl
 
-none_let_in : (p q : Parts) (s : Sign) → q.3 ≡ [] → lets_pre_in p (record { sign = s; partial = spelled_of q }) ≡ false
+pub none_let_in : (p q : Parts) (s : Sign) → q.3 ≡ [] → lets_pre_in p (record { sign = s; partial = spelled_of q }) ≡ false
 none_let_in p q s plain = rw plain refl
 
 bounds_value : (p : Parts) (a b : List ℕ) → (parts_in a).3 ≡ [] → (parts_in b).3 ≡ []
@@ -220,12 +220,12 @@ bounds_value : (p : Parts) (a b : List ℕ) → (parts_in a).3 ≡ [] → (parts
 bounds_value p a b plain also =
     pair (is_ge (precedence p (parts_in a))) (is_lt (precedence p (parts_in b))) (length p.3 == 0) _ _ (none_let_in p (parts_in a) sign.GreaterOrEqual plain) (none_let_in p (parts_in b) sign.Less also)
 
-ge_is : (r : Ordering) → is_ge r ≡ true → r ≢ Less
+pub ge_is : (r : Ordering) → is_ge r ≡ true → r ≢ Less
 ge_is Less h = cc h
 ge_is Equal h = λ e. cc e
 ge_is Greater h = λ e. cc e
 
-is_ge_of : (r : Ordering) → r ≢ Less → is_ge r ≡ true
+pub is_ge_of : (r : Ordering) → r ≢ Less → is_ge r ≡ true
 is_ge_of Less h = absurd (h refl)
 is_ge_of Equal h = refl
 is_ge_of Greater h = refl

@@ -14,7 +14,8 @@ use Rattle.semver.specs.OrderLaws.{parts-shape}
 use Rattle.semver.specs.Parse.{Parts, version_parts}
 use Rattle.semver.specs.declared.error.Error.{Error}
 use Rattle.npm_ranges.specs.Grammar.{Spelled, bare, free_partial, part_of, partial_from, partial_of, parts_partial, value_from}
-use Rattle.npm_ranges.proofs.VersionTexts.{all_weaker, ascii_from_all, byte_is_ascii, is_version_byte, read_bytes}
+use Rattle.npm_ranges.proofs.VersionTexts.{all_weaker, ascii_from_all, byte_is_ascii, read_bytes}
+use Rattle.npm_ranges.specs.Versions.{is_version_byte}
 
 -- ---- numbers
 

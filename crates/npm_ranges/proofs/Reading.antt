@@ -34,7 +34,7 @@ fails_as given other f is h = rw is h
 
 -- ---- comparators
 
-no_partial : partial_of [] ≡ None
+pub no_partial : partial_of [] ≡ None
 unfolding partial_of parts_partial number_of
 no_partial = refl
 

@@ -13,12 +13,12 @@ use Rattle.npm_ranges.proofs.Partials.{position_none, position_some, split_none}
 
 -- ---- words
 
-words_nil : words_of [] ≡ []
+pub words_nil : words_of [] ≡ []
 unfolding words_of
 words_nil = refl
 
 -- a blank at the front
-words_blank : (b : ℕ) (rest : List ℕ) → is_blank b ≡ true → words_of (b ∷ rest) ≡ words_of rest
+pub words_blank : (b : ℕ) (rest : List ℕ) → is_blank b ≡ true → words_of (b ∷ rest) ≡ words_of rest
 unfolding words_of
 words_blank b rest blank = rw blank refl
 

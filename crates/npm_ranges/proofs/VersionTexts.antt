@@ -1,6 +1,6 @@
 -- What is read of a version's text, and its bytes.
 use Rattle.std.proofs.Common.{◌≡◌, ◌≢◌, ℕ, zero, suc, ◌+◌, ◌%◌, ◌≤◌, ◌<◌, ◌^◌, ◌⊎◌, List, [], ◌∷◌, ◌++◌, length, Ok, Err, Bool, true, false, refl, sym, ap, ◌∙◌, subst, inl, inr, arith}
-use Rattle.std.specs.Prelude.{Result, slice_index, ◌||◌, ◌&&◌, ◌==◌, nat_lt}
+use Rattle.std.specs.Prelude.{Result, slice_index, ◌&&◌, nat_lt}
 use Rattle.std.specs.Char.{is_ascii_digit}
 use Rattle.std.proofs.lemmas.Bool.{ltb-true, false≢true}
 use Rattle.std.proofs.lemmas.Bool.Decides.{nat_tests}
@@ -21,6 +21,7 @@ use Rattle.semver.specs.declared.Version.{Version}
 use Rattle.semver.specs.declared.error.Error.{Error}
 use Rattle.semver.proofs.Grammar.{version_parts-sound, version_parts-complete}
 use Rattle.npm_ranges.specs.Versions.{IsVersion, parts_in}
+pub use Rattle.npm_ranges.specs.Versions.{is_version_byte}
 use Rattle.npm_ranges.specs.Reading.{VersionFaultsAs}
 use Rattle.npm_ranges.specs.declared.fault.VersionFault.{VersionFault}
 use Rattle.npm_ranges.specs.declared.fault.VersionFault.TheVariants as version
@@ -52,10 +53,6 @@ pub version_spells : (text : List ℕ) → IsVersion text → text ≡ parts_tex
 version_spells text v = sym (version_parts-sound text (parts_in text) (version_reads text v)).0
 
 -- ---- the bytes of a version
-
--- [0-9A-Za-z-], '.' and '+'
-abbrev pub is_version_byte : ℕ → Bool
-is_version_byte b = is_identifier_byte b || b == 46 || b == 43
 
 pub both_true : (x y : Bool) → x ≡ true → y ≡ true → (x && y) ≡ true
 both_true x y h k = rw (h, k) refl

@@ -1,10 +1,10 @@
 -- Versions (Semantic Versioning 2.0.0): which texts are one, and how they are ordered.
-use Rattle.std.specs.Prelude.{◌≡◌, ℕ, ◌≤◌, List, [], length}
+use Rattle.std.specs.Prelude.{◌≡◌, ◌==◌, ◌||◌, ℕ, ◌≤◌, Bool, List, [], length}
 use Rattle.std.specs.Result.{result_unwrap_or}
 use Rattle.std.specs.Ordering.{nat_cmp, ordering_then}
 use Rattle.std.specs.Cmp.Lexicographic.{slice_cmp}
 use Rattle.std.specs.declared.cmp.Ordering.{Ordering}
-use Rattle.semver.specs.Grammar.{IsValid}
+use Rattle.semver.specs.Grammar.{IsValid, is_identifier_byte}
 use Rattle.semver.specs.Identifiers.{parts_of, parts_text}
 use Rattle.semver.specs.Order.{pre_cmp}
 use Rattle.semver.specs.Parse.{Parts, version_parts}
@@ -14,6 +14,10 @@ use Rattle.semver.specs.declared.Version.{Version}
 pub record IsVersion (text : List ℕ) : Type 0 where
   pub short : length text ≤ 128
   pub spells : (parts : Parts) × IsValid parts × (text ≡ parts_text parts)
+
+-- the bytes of a version's text: letters, digits, `-`, `.` and `+`
+abbrev pub is_version_byte : ℕ → Bool
+is_version_byte b = is_identifier_byte b || b == 46 || b == 43
 
 -- the numbers, the pre-release and the build text of a version; of any other text those of 0.0.0
 unfoldable pub parts_in : List ℕ → Parts

@@ -16,8 +16,8 @@ mod words;
 
 pub use fault::{RangeFault, VersionFault};
 pub use laws::{
-    build_text_has_no_effect, empty_range_holds_plain_versions, order_of_versions,
-    two_bounds_hold_what_lies_between,
+    build_text_has_no_effect, caret_and_tilde_hold_intervals, empty_range_holds_plain_versions,
+    order_of_versions, spelled_comparators_are_read, two_bounds_hold_what_lies_between,
 };
 pub use range::{RANGE_LIMIT, Range};
 pub use version::{VERSION_LIMIT, Version};
