@@ -1,6 +1,7 @@
 pub mod Joining
 pub mod KeyByKey
 pub mod Keys
+pub mod Objects
 pub mod ResetLaws
 pub mod Setting
 pub mod Settling

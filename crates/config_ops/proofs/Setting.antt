@@ -1,12 +1,12 @@
 -- An object with a key set, by the fields before the key, at it and behind it.
-use Rattle.std.proofs.Common.{◌≡◌, ℕ, List, [], ◌∷◌, ◌++◌, Option, Some, None, Ordering, Less, Equal, Greater, nat_cmp, option_map, refl, sym, ap, ◌∙◌, subst}
+use Rattle.std.proofs.Common.{◌≡◌, ℕ, List, [], ◌∷◌, ◌++◌, Option, Some, None, Ordering, Less, Equal, Greater, nat_cmp, IfSome, option_map, refl, sym, ap, ◌∙◌, subst}
 use Rattle.std.specs.Option.{option_to_list}
 use Rattle.std.specs.Ordering.{match_ordering}
 use Rattle.std.specs.Cmp.Lexicographic.{slice_cmp}
 use Rattle.serde_json.specs.Data.{Data, Members, no_members, member}
 use Rattle.serde_json.specs.Find.{get_member}
 use Rattle.tree_core.specs.View.{view, fields_view}
-use Rattle.tree_core.specs.Regular.{IsBelowAll, MembersAreOrderly}
+use Rattle.tree_core.specs.Regular.{IsBelowAll, IsOrderly, MembersAreOrderly}
 use Rattle.tree_core.specs.declared.tree.Tree.{Tree}
 use Rattle.tree_core.proofs.Fields.{Field}
 use Rattle.tree_core.proofs.Puts.{below_later}
@@ -14,6 +14,17 @@ use Rattle.config_ops.specs.Reset.{without, set_key, set_node, node_at}
 use Rattle.config_ops.specs.Places.{ranks, fields_before, fields_from}
 use Rattle.config_ops.proofs.Keys.{same_key}
 use Rattle.config_ops.proofs.Joining.{behind, view-append, behind-behind, put_all-before, at_key, Found, from_orderly, from_not_after, none_there, lower}
+
+-- ---- the field at the key
+
+pub value_orderly : (found : Option Field) (old : Option Tree) → option_map view old ≡ option_map (λ (f : Field). view f.1) found → IfSome found (λ f. IsOrderly (view f.1)) → IfSome old (λ t. IsOrderly (view t))
+value_orderly found None e h = tt
+value_orderly None (Some t) e h = absurd (cc)
+value_orderly (Some f) (Some t) e h = let same : view t ≡ view f.1 = cc in subst IsOrderly (sym same) h
+
+pub name_fits : (k : List ℕ) (found : Option Field) → IfSome found (λ f. (f.0 ≡ k) × IsOrderly (view f.1)) → IfSome found (λ f. f.0 ≡ k)
+name_fits k None h = tt
+name_fits k (Some f) h = h.0
 
 -- ---- get
 

@@ -6,7 +6,7 @@ use Rattle.std.specs.Cmp.Lexicographic.{slice_cmp}
 use Rattle.serde_json.specs.Data.{Data, null, boolean, number, string, array, object, Members, no_members, member, put, depth, members_depth}
 use Rattle.serde_json.specs.Find.{get_member, as_object}
 use Rattle.tree_core.specs.Regular.{IsOrderly, MembersAreOrderly, HasUtf8, MembersHaveUtf8, IsRegular}
-use Rattle.tree_core.proofs.Puts.{found_at, orderly_put}
+use Rattle.tree_core.proofs.Puts.{found_at, orderly_put, put_utf8}
 use Rattle.tree_core.specs.View.{view}
 use Rattle.tree_core.specs.declared.tree.Tree.{Tree}
 use Rattle.config_ops.specs.Laws.{NestsNoDeeper}
@@ -49,16 +49,6 @@ put_within_at Greater n k d l e ms h old later = omega (arith, old, later)
 put_within : (n : ℕ) (k : List ℕ) (d : Data) (ms : Members) → depth d ≤ n → members_depth ms ≤ n → members_depth (put k d ms) ≤ n
 put_within n k d no_members h old = omega (arith, h)
 put_within n k d (member l e ms) h old = put_within_at (slice_cmp nat_cmp k l) n k d l e ms h old (put_within n k d ms h (omega (arith, old)))
-
-put_utf8_at : (o : Ordering) (k : List ℕ) (d : Data) (l : List ℕ) (e : Data) (ms : Members) → IsUtf8 k → HasUtf8 d → MembersHaveUtf8 (member l e ms) → MembersHaveUtf8 (put k d ms)
-    → MembersHaveUtf8 (match_ordering o (member k d (member l e ms)) (member l d ms) (member l e (put k d ms)))
-put_utf8_at Less k d l e ms named h old later = (named, h, old)
-put_utf8_at Equal k d l e ms named h old later = (old.0, h, old.2)
-put_utf8_at Greater k d l e ms named h old later = (old.0, old.1, later)
-
-put_utf8 : (k : List ℕ) (d : Data) (ms : Members) → IsUtf8 k → HasUtf8 d → MembersHaveUtf8 ms → MembersHaveUtf8 (put k d ms)
-put_utf8 k d no_members named h old = (named, h, tt)
-put_utf8 k d (member l e ms) named h old = put_utf8_at (slice_cmp nat_cmp k l) k d l e ms named h old (put_utf8 k d ms named h old.2)
 
 pub put_sound : (n : ℕ) (k : List ℕ) (d : Data) (ms : Members) → IsUtf8 k → IsSound n d → AreSound n ms → AreSound n (put k d ms)
 put_sound n k d ms named h old = record {

@@ -93,3 +93,12 @@ IsRegularChange (Some c) = IfSome c.merge IsRegular
 abbrev pub ConfigStays : Type 0
 ConfigStays = (kept : Option Data) (d : Data) (update : Option Change) → IfSome kept IsRegular → IsRegular d → IsRegularChange update
     → new_config (Some (new_config kept d update)) d None ≡ new_config kept d update
+
+-- an update that merges an object, or nothing
+abbrev pub MergesObject : Option Change → Type 0
+MergesObject None = ⊤
+MergesObject (Some c) = IfSome c.merge IsObject
+
+-- a new configuration of objects is an object
+abbrev pub ConfigIsObject : Type 0
+ConfigIsObject = (kept : Option Data) (d : Data) (update : Option Change) → IfSome kept IsObject → IsObject d → MergesObject update → IsObject (new_config kept d update)

@@ -1,7 +1,7 @@
 ghost use Rattle.config_ops.specs.Join.{merged, filled};
 ghost use Rattle.config_ops.specs.Laws.{IsFiniteMap, JoinsObjects, MergeReplaces, FillKeeps, NestsNoDeeper};
 ghost use Rattle.config_ops.specs.Laws.{ResetsWhole, ResetsNode, ResetsWay, ResetRemoves, RemovalKeepsWay, ResetKeepsOthers, ResetIsBlocked, ResetHasNothing, ResetNestsNoDeeper};
-ghost use Rattle.config_ops.specs.Laws.{ConfigStays};
+ghost use Rattle.config_ops.specs.Laws.{ConfigStays, ConfigIsObject};
 
 /// What a merge and a fill give key by key, where an object is a finite map, and how deep they nest. It does nothing.
 pub fn join_laws()
@@ -30,4 +30,10 @@ pub fn reset_laws()
 /// A configuration that was computed stays as it is where no update comes. It does nothing.
 pub fn config_stays()
     ensures { ConfigStays }
+{}
+
+/// What is computed of objects is an object: of a kept configuration that is one or none, a default that is one, any
+/// resets, and a merged object or none. It does nothing.
+pub fn config_is_object()
+    ensures { ConfigIsObject }
 {}

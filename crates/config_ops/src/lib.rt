@@ -15,7 +15,7 @@ mod walk;
 
 pub use computed::new_config;
 pub use join::{fill, merge};
-pub use laws::{config_stays, join_laws, reset_laws};
+pub use laws::{config_is_object, config_stays, join_laws, reset_laws};
 pub use resetting::reset;
 pub use update::Update;
 

@@ -27,7 +27,8 @@ pub fn reset(alloc: Global, tree: Tree, default: &Tree, at: &Pointer) -> Result<
 }
 
 fn reset_keys(alloc: Global, tree: Tree, default: &Tree, keys: &[Text]) -> Result<Tree, NoMemory>
-    requires { IsOrderly (view tree) }
+    requires tree { IsRegular (view tree) }
+    requires default { IsRegular (view default.now) }
     ensures { IfOk result (λ t. view t ≡ reset_at (view tree) (view default.now) keys.now) }
 {
     let [key, below @ ..] = keys else {
@@ -44,6 +45,7 @@ fn reset_keys(alloc: Global, tree: Tree, default: &Tree, keys: &[Text]) -> Resul
 
 /// Whether the node at the keys is to be set to the default's.
 fn is_due(tree: &Tree, node: Option<&Tree>, keys: &[Text]) -> bool
+    requires { IsRegular (view tree.now) }
     ensures { result ≡ is_set keys.now (option_map (λ t. view t.now) node.entry) (view tree.now) }
 {
     match node {
@@ -77,24 +79,41 @@ fn set_node(
     let mut rest = VecDeque::from_vec(fields);
     let mut done = Vec::with_capacity(alloc, rest.len())?;
     move_before(key, &mut rest, &mut done)?;
-    let old = pop_where(Ordering::Equal, key, &mut rest);
+    let found = pop_where(Ordering::Equal, key, &mut rest);
+    let (name, old) = name_and_value(alloc, found, key)?;
     let node = node_at(below, alloc, old, new)?;
-    push_node(alloc, &mut done, key, node)?;
+    push_node(&mut done, name, node)?;
     move_all(rest, &mut done)?;
     Ok(done)
 }
 
-/// What stands at a key once a node is set at the keys below it, by the field that stood there.
+/// The key, which is not copied where a field has it, and the value of that field.
+fn name_and_value(
+    alloc: Global,
+    found: Option<(Text, Tree)>,
+    key: &Text,
+) -> Result<(Text, Option<Tree>), NoMemory>
+    requires { IfSome found (λ f. f.0 ≡ key.now) }
+    ensures { IfOk result (λ p. (p.0 ≡ key.now)
+        × (option_map view p.1 ≡ option_map (λ f. view f.1) found)) }
+{
+    match found {
+        Some((name, tree)) => Ok((name, Some(tree))),
+        None => Ok((key.copy(alloc)?, None)),
+    }
+}
+
+/// What stands at a key once a node is set at the keys below it, by the value that stood there.
 #[cycle(set)]
 fn node_at(
     below: &[Text],
     alloc: Global,
-    old: Option<(Text, Tree)>,
+    old: Option<Tree>,
     new: Option<Tree>,
 ) -> Result<Option<Tree>, NoMemory>
-    requires { IfSome old (λ f. IsOrderly (view f.1)) }
+    requires { IfSome old (λ t. IsOrderly (view t)) }
     ensures { IfOk result (λ node. option_map view node
-        ≡ node_once_set below.now (option_map view new) (option_map (λ f. view f.1) old)) }
+        ≡ node_once_set below.now (option_map view new) (option_map view old)) }
 {
     match below {
         [] => Ok(new),
@@ -105,27 +124,22 @@ fn node_at(
     }
 }
 
-fn push_node(
-    alloc: Global,
-    done: &mut Vec<(Text, Tree)>,
-    key: &Text,
-    node: Option<Tree>,
-) -> Result<(), NoMemory>
+fn push_node(done: &mut Vec<(Text, Tree)>, name: Text, node: Option<Tree>) -> Result<(), NoMemory>
     ensures { OnOk result (done.new.items
-        ≡ done.old.items ++ option_to_list (option_map (λ t. (key.now, t)) node)) }
+        ≡ done.old.items ++ option_to_list (option_map (λ t. (name, t)) node)) }
 {
     if let Some(tree) = node {
-        done.push((key.copy(alloc)?, tree))?;
+        done.push((name, tree))?;
     }
     Ok(())
 }
 
 /// The fields of the tree at a key, where it is an object.
-fn fields_at(alloc: Global, old: Option<(Text, Tree)>) -> Vec<(Text, Tree)>
-    ensures { fields_view result.items ≡ members_of (option_map (λ f. view f.1) old) }
+fn fields_at(alloc: Global, old: Option<Tree>) -> Vec<(Text, Tree)>
+    ensures { fields_view result.items ≡ members_of (option_map view old) }
 {
     match old {
-        Some((_, tree)) => fields_of(alloc, tree),
+        Some(tree) => fields_of(alloc, tree),
         None => Vec::new(alloc),
     }
 }
