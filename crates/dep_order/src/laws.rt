@@ -1,7 +1,8 @@
 //! What follows from the definition of an order alone, whatever a run of `order` answers.
 
 ghost use Rattle.std.specs.Prelude.{◌≡◌, List, ℕ, ◌↔◌};
-ghost use Rattle.dep_order.specs.Orders.{AreNodes, IsOrder, IsWholeOrder, IsAcyclic, NeedsComeFirst};
+ghost use Rattle.nuc_base.specs.Leads.{Leads};
+ghost use Rattle.dep_order.specs.Orders.{AreNodes, IsOrder, IsWholeOrder, IsAcyclic, IsCycle, Needs, NeedsComeFirst};
 
 use crate::Edges;
 
@@ -19,4 +20,9 @@ pub fn needs_come_first(edges: &Edges)
 /// There is one order at most.
 pub fn one_order(edges: &Edges)
     ensures { (some other : List ℕ) → IsOrder edges.now some → IsOrder edges.now other → some ≡ other }
+{}
+
+/// A cycle leads from a place to itself, so that where there is one the needs are not acyclic.
+pub fn cycle_leads_to_itself(edges: &Edges)
+    ensures { (list : List ℕ) → IsCycle edges.now list → (p : ℕ) × Leads (Needs edges.now) p p }
 {}

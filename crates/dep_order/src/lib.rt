@@ -16,7 +16,7 @@ mod rows;
 mod waiting;
 
 pub use dependents::hard_dependents;
-pub use laws::{needs_come_first, one_order, order_exists_without_cycle};
+pub use laws::{cycle_leads_to_itself, needs_come_first, one_order, order_exists_without_cycle};
 use nuc_base::List;
 pub use orders::{OrderFault, order};
 
@@ -30,7 +30,7 @@ pub struct Need {
 }
 
 /// The places below a count, and what they need. One need may stand there more than once.
-#[derive(Drop)]
+#[derive(Debug, Drop)]
 pub struct Edges {
     pub nodes: u32,
     pub needs: List<Need>,

@@ -15,7 +15,7 @@ use nuc_base::{List, NoMemory};
 use std::alloc::Global;
 
 /// Why there is no order.
-#[derive(Drop)]
+#[derive(Debug, Drop)]
 pub enum OrderFault {
     /// A cycle: each place needs the next, and the last needs the first. It is one of those that
     /// the needs have, not always the least.
@@ -104,8 +104,7 @@ fn part_from(alloc: Global, list: &[u32], place: u32) -> Result<Vec<u32>, NoMemo
 {
     for (i, other) in list.iter().enumerate() {
         if *other == place {
-            let part = Vec::from_slice(alloc, &list[i..])?;
-            return Ok(part);
+            return Ok(Vec::from_slice(alloc, &list[i..])?);
         }
     }
     unreachable!()
