@@ -1,3 +1,4 @@
+pub mod Alike
 pub mod Cuttings
 pub mod Pieces
 pub mod Sizes

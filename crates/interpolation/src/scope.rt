@@ -3,7 +3,7 @@ use nuc_base::{Label, List, Name, Text};
 use tree_core::Tree;
 
 /// A component of the set, with its configuration.
-#[derive(Drop)]
+#[derive(Debug, Drop)]
 pub struct Place {
     pub name: Name,
     pub version: Version,
@@ -11,7 +11,7 @@ pub struct Place {
 }
 
 /// What the variables of one component's recipe stand for.
-#[derive(Drop)]
+#[derive(Debug, Drop)]
 pub struct Scope {
     /// The folder of the nucleus.
     pub root: Text,
