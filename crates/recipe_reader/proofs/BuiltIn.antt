@@ -3,12 +3,13 @@ use Rattle.std.proofs.Common.{◌≡◌, ℕ, ◌≤◌, List, [], ◌∷◌, le
 use Rattle.std.proofs.Common.{lit≤, lit<}
 use Rattle.std.specs.List.{list_all}
 use Rattle.std.proofs.lemmas.List.Elements.{All-cons, All-nil}
+use Rattle.std.proofs.lemmas.List.Sums.{AllPass-from_list_all}
 use Rattle.std.proofs.lemmas.Bool.Decides.{nat_tests}
 use Rattle.json.specs.Print.{escape, escape_byte}
 use Rattle.json.proofs.Printed.Utf8.{IsUtf8-are_ascii}
 use Rattle.serde_json.specs.Written.{compact_text}
 use Rattle.std.proofs.lemmas.Bool.{and_parts}
-use Rattle.nuc_base.specs.Names.{IsName}
+use Rattle.nuc_base.specs.Names.{IsName, is_name_byte}
 use Rattle.nuc_base.specs.Tables.{AllHold}
 use Rattle.nuc_base.specs.declared.platform.Platform.{Platform}
 use Rattle.npm_ranges.specs.Versions.{IsVersion}
@@ -28,6 +29,15 @@ plain_byte b h = grind (arith, nat_tests)
 plain_text : (s : List ℕ) → list_all is_version_byte s ≡ true → escape s ≡ s
 plain_text [] h = refl
 plain_text (b ∷ s) h = let p = and_parts (is_version_byte b) (list_all is_version_byte s) h in rw (plain_byte b p.0, plain_text s p.1) refl
+
+pub nucleus_named : IsName nucleus_name
+nucleus_named = record {
+  not_empty = lit< tt;
+  short = lit≤ tt;
+  each = AllPass-from_list_all is_name_byte nucleus_name refl;
+  not_here = λ e. cc e;
+  not_above = λ e. cc e;
+}
 
 pub nucleus_text : (version : List ℕ) → IsVersion version → compact_text (nucleus_data version) ≡ nucleus_bytes version
 unfolding escape_byte
@@ -49,8 +59,8 @@ nucleus_tree back version is =
     let short : length (compact_text (nucleus_data version)) ≤ limit = subst (λ (s : List ℕ). length s ≤ limit) (sym same) (nucleus_length version is) in
     subst (λ (s : List ℕ). IsTreeOf s limit (nucleus_data version)) same (back (nucleus_data version) limit (nucleus_regular version is) short)
 
-pub nucleus_lines : (p : Platform) (version : List ℕ) → IsVersion version → IsName nucleus_name → AllHold (recipe_lines p (nucleus_data version))
-nucleus_lines p version is named = ((_, refl), (refl, ((_, refl), (refl, (refl, ((_, refl), ((_, refl, named), (refl, ((_, refl), ((_, refl, is), tt))))))))))
+pub nucleus_lines : (p : Platform) (version : List ℕ) → IsVersion version → AllHold (recipe_lines p (nucleus_data version))
+nucleus_lines p version is = ((_, refl), (refl, ((_, refl), (refl, (refl, ((_, refl), ((_, refl, nucleus_named), (refl, ((_, refl), ((_, refl, is), tt))))))))))
 
 -- alone it is in order
 pub alone : (version : List ℕ) (c : Candidate) → IsNucleus version c → AreCandidates (c ∷ [])

@@ -1,6 +1,9 @@
 -- Two lists of variables in name order, put together.
 use Rattle.std.proofs.Common.{◌≡◌, ℕ, ◌≤◌, List, [], ◌∷◌, ◌++◌, length, drop, Option, Some, None, Ordering, Less, Equal, Greater, nat_cmp, refl, sym, ap, ◌∙◌, subst}
 use Rattle.std.specs.Option.{option_or}
+use Rattle.std.proofs.lemmas.Cmp.{tied_itself}
+use Rattle.std.proofs.lemmas.Map.Lookups.{exact_bytes}
+use Rattle.std.proofs.lemmas.Option.{same_Some, none-some}
 use Rattle.std.proofs.lemmas.List.{drop_all, append-nil}
 use Rattle.std.specs.List.{AllZip}
 use Rattle.std.specs.Ordering.{match_ordering, ordering_reverse}
@@ -166,3 +169,44 @@ variables_rise no_members (x ∷ xs) h is = absurd is
 variables_rise (member l d ms) [] h is = tt
 variables_rise (member l d ms) (x ∷ xs) h is =
     (below_variables x.0 ms xs (subst (λ n. IsBelowAll n ms) (sym is.0.0) h.0) is.1, variables_rise ms xs h.2 is.1)
+
+-- ---- two lists that rise and have the same values are one
+
+here : (x : Variable) (xs : List Variable) → find_in x.0 (x ∷ xs) ≡ Some x.1
+here x xs = ap (λ o. match_ordering o (find_in x.0 xs) (Some x.1) (find_in x.0 xs)) (tied_itself nat_list_cmp_total x.0)
+
+absent_before : (n : List ℕ) (y : Variable) (ys : List Variable) → cmp n y.0 ≡ Less → IsBelow y.0 ys → find_in n (y ∷ ys) ≡ None
+absent_before n y ys e h = absent n n (y ∷ ys) (tied_itself nat_list_cmp_total n) (e, below_later n y.0 ys e h)
+
+no_value : (n : List ℕ) (v : List ℕ) (xs ys : List Variable) → find_in n xs ≡ Some v → find_in n ys ≡ None → find_in n xs ≡ find_in n ys → ⊥
+no_value n v xs ys a b e = none-some v (sym b ∙ sym e ∙ a)
+
+first_names : (x y : Variable) (xs ys : List Variable) (o : Ordering) → cmp x.0 y.0 ≡ o → Rises (x ∷ xs) → Rises (y ∷ ys) → ((n : List ℕ) → find_in n (x ∷ xs) ≡ find_in n (y ∷ ys)) → x.0 ≡ y.0
+first_names x y xs ys Less is h k same = absurd (no_value x.0 x.1 (x ∷ xs) (y ∷ ys) (here x xs) (absent_before x.0 y ys is k.0) (same x.0))
+first_names x y xs ys Equal is h k same = exact_bytes x.0 y.0 is
+first_names x y xs ys Greater is h k same =
+    absurd (no_value y.0 y.1 (y ∷ ys) (x ∷ xs) (here y ys) (absent_before y.0 x xs (turned x.0 y.0 is) h.0) (sym (same y.0)))
+
+abbrev named : List ℕ → List ℕ → Variable
+named n v = (n, v)
+
+later_values : (n k a b : List ℕ) (xs ys : List Variable) (o : Ordering) → cmp n k ≡ o → IsBelow k xs → IsBelow k ys
+    → match_ordering o (find_in n xs) (Some a) (find_in n xs) ≡ match_ordering o (find_in n ys) (Some b) (find_in n ys) → find_in n xs ≡ find_in n ys
+later_values n k a b xs ys Less is h j same = same
+later_values n k a b xs ys Equal is h j same = absent n k xs is h ∙ sym (absent n k ys is j)
+later_values n k a b xs ys Greater is h j same = same
+
+rising_one : (xs ys : List Variable) → Rises xs → Rises ys → ((n : List ℕ) → find_in n xs ≡ find_in n ys) → xs ≡ ys
+rising_one [] [] h k same = refl
+rising_one [] (y ∷ ys) h k same = absurd (no_value y.0 y.1 (y ∷ ys) [] (here y ys) refl (sym (same y.0)))
+rising_one (x ∷ xs) [] h k same = absurd (no_value x.0 x.1 (x ∷ xs) [] (here x xs) refl (same x.0))
+rising_one (x ∷ xs) (y ∷ ys) h k same =
+    let name = first_names x y xs ys (cmp x.0 y.0) refl h k same in
+    let moved : (n : List ℕ) → find_in n (x ∷ xs) ≡ find_in n (named x.0 y.1 ∷ ys) = λ n. same n ∙ ap (λ m. find_in n (named m y.1 ∷ ys)) (sym name) in
+    let below : IsBelow x.0 ys = subst (λ m. IsBelow m ys) (sym name) k.0 in
+    let value = same_Some x.1 y.1 (sym (here x xs) ∙ moved x.0 ∙ here (named x.0 y.1) ys) in
+    let rest = rising_one xs ys h.1 k.1 (λ n. later_values n x.0 x.1 y.1 xs ys (cmp n x.0) refl h.0 below (moved n)) in
+    ap (λ zs. x ∷ zs) rest ∙ ap (λ v. named x.0 v ∷ ys) value ∙ ap (λ n. named n y.1 ∷ ys) name
+
+pub joined_one : (own outer a b : List Variable) → IsJoined own outer a → IsJoined own outer b → a ≡ b
+joined_one own outer a b h k = rising_one a b h.rises k.rises (λ n. h.values n ∙ sym (k.values n))

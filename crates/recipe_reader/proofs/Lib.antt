@@ -8,13 +8,14 @@ pub mod Joining
 pub mod Listing
 pub mod Making
 pub mod NameOrder
+pub mod OneSet
 pub mod Orders
 pub mod Preferring
 pub mod Regulars
 pub mod Required
 pub mod Room
 pub mod Searching
-pub mod Seconds
+pub mod Soundness
 pub mod Trims
 pub mod ValidSets
 pub mod Walks

@@ -22,13 +22,13 @@ no_valid ms wanted h s v =
 
 -- rising lists
 
-rise_head : (x : ℕ) (xs : List ℕ) (y : ℕ) → IsStrictlyIncreasing (x ∷ xs) → Contains xs y → x < y
+pub rise_head : (x : ℕ) (xs : List ℕ) (y : ℕ) → IsStrictlyIncreasing (x ∷ xs) → Contains xs y → x < y
 rise_head x xs y h i =
     let lt : suc i.0 < length (x ∷ xs) = omega (arith, i.1) in
     let less : x < get_or xs i.0 y = AllPairs-from_increasing (x ∷ xs) h 0 (suc i.0) y (omega arith) lt in
     omega (arith, less, i.2)
 
-rise_tail : (x : ℕ) (xs : List ℕ) → IsStrictlyIncreasing (x ∷ xs) → IsStrictlyIncreasing xs
+pub rise_tail : (x : ℕ) (xs : List ℕ) → IsStrictlyIncreasing (x ∷ xs) → IsStrictlyIncreasing xs
 rise_tail x xs h = λ k lt.
     let e : k + 1 ≡ suc k = omega arith in
     let f : k + 1 + 1 ≡ suc (k + 1) = omega arith in
@@ -74,7 +74,7 @@ pub walk_distinct : (ms : List Member) (wanted : List Need) (walk : List ℕ) �
 walk_distinct ms wanted walk w = distinct_from ms wanted [] walk distinct_nil w
 
 -- the walk of another valid set is behind
-ahead_of : (ms : List Member) (wanted : List Need) (all s : List ℕ) → (best : IsBest ms wanted [] all) → IsStrictlyIncreasing s → AreWithin s best.walk → AreWithin best.walk s → (t : List ℕ) → IsValid ms wanted t → t ≢ s → (other : List ℕ) × IsWalkOf ms wanted t other × IsAhead ms best.walk other
+pub ahead_of : (ms : List Member) (wanted : List Need) (all s : List ℕ) → (best : IsBest ms wanted [] all) → IsStrictlyIncreasing s → AreWithin s best.walk → AreWithin best.walk s → (t : List ℕ) → IsValid ms wanted t → t ≢ s → (other : List ℕ) × IsWalkOf ms wanted t other × IsAhead ms best.walk other
 ahead_of ms wanted all s best rising a b t v differs =
     let r = walk_of ms wanted t v in
     let good = consistent_fewer ms wanted r.walk t r.within (consistent_of ms wanted t v) in

@@ -3,7 +3,7 @@ use Rattle.std.specs.Prelude.{◌≡◌, Option, Some}
 use Rattle.serde_json.specs.Data.{Data, string}
 use Rattle.serde_json.specs.Find.{get}
 use Rattle.recipe_reader.specs.Spelled.{spelled}
-use Rattle.recipe_reader.specs.Lifecycles.{AreSteps}
+use Rattle.recipe_reader.specs.Lifecycles.{AreSteps, back_of}
 use Rattle.recipe_reader.specs.Made.{made_step}
 use Rattle.recipe_reader.specs.Artifacts.{AreArtifacts}
 use Rattle.recipe_reader.specs.Recipes.{inner}
@@ -17,4 +17,5 @@ pub record IsHead (d : Data) (head : Head) : Type 0 where
 
 pub record IsChosen (manifest : Option Data) (chosen : Chosen) : Type 0 where
   pub steps : AreSteps (inner key.Lifecycle manifest) (made_step chosen.steps)
+  pub boot_back : chosen.boot_back ≡ back_of (inner key.Lifecycle manifest)
   pub artifacts : AreArtifacts (inner key.Artifacts manifest) chosen.artifacts

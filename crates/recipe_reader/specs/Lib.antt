@@ -1,4 +1,5 @@
 pub mod Artifacts
+pub mod Backs
 pub mod Candidates
 pub mod Dependencies
 pub mod Environment
@@ -14,6 +15,8 @@ pub mod Reasons
 pub mod Recipes
 pub mod Refused
 pub mod Searches
+pub mod SetLaws
 pub mod Sets
+pub mod Sound
 pub mod Spelled
 pub mod Steps

@@ -1,12 +1,12 @@
 -- The lifecycle of a manifest.
-use Rattle.std.specs.Prelude.{List, ◌++◌, Option, Some, None, IsSome}
-use Rattle.serde_json.specs.Data.{Data}
+use Rattle.std.specs.Prelude.{Bool, false, List, ◌++◌, Option, Some, None, IsSome}
+use Rattle.serde_json.specs.Data.{Data, null, boolean, number, string, array, object}
 use Rattle.nuc_base.specs.Tables.{Table, on}
 use Rattle.nuc_base.specs.declared.kinds.Step.{Step}
 use Rattle.nuc_base.specs.declared.kinds.Step.TheVariants.{Install, Run, Startup, Shutdown, Recover, Bootstrap}
 use Rattle.tree_core.specs.Parts.{IsObject, check}
 use Rattle.recipe_reader.specs.Spelled.{spelled}
-use Rattle.recipe_reader.specs.Keys.{keyed}
+use Rattle.recipe_reader.specs.Keys.{any_case, keyed}
 use Rattle.recipe_reader.specs.Environment.{Variable, environment_lines, AreVariables}
 use Rattle.recipe_reader.specs.Steps.{key_of, doubles, step_lines, IsStep}
 use Rattle.recipe_reader.specs.declared.recipe.StepDef.{StepDef}
@@ -60,3 +60,24 @@ pub record AreSteps (lifecycle : Option Data) (def_of : Step → Option StepDef)
   pub outer : List Variable
   pub are_outer : AreVariables (key_value key.Setenv lifecycle) outer
   pub steps : (step : Step) → IsStep step outer (key_value (key_of step) lifecycle) (def_of step)
+
+-- ---- whether the bootstrap runs again on the way back
+
+-- the truth value true; any other value counts as an absent one
+abbrev pub is_true : Option Data → Bool
+is_true None = false
+is_true (Some null) = false
+is_true (Some (boolean b)) = b
+is_true (Some (number n)) = false
+is_true (Some (string s)) = false
+is_true (Some (array ds)) = false
+is_true (Some (object ms)) = false
+
+-- what the object of the step says
+abbrev pub back_of_step : Option Data → Bool
+back_of_step None = false
+back_of_step (Some v) = is_true (any_case (spelled key.BootstrapOnRollback) v)
+
+-- what a lifecycle that may be absent says
+abbrev pub back_of : Option Data → Bool
+back_of lifecycle = back_of_step (key_value key.Bootstrap lifecycle)

@@ -1,12 +1,13 @@
--- How a fault is printed: its word, and where it has a field one blank and the field.
-use Rattle.std.specs.Prelude.{ℕ, List, ◌∷◌, ◌++◌, codes, Option, Some, None}
-use Rattle.tree_core.specs.Words as tree
+-- How a fault is printed: its word, and where it has a field one space and the field.
+use Rattle.std.specs.Prelude.{ℕ, List, codes, Option, Some, None}
+use Rattle.tree_core.specs.Reasons.{with_field}
+use Rattle.tree_core.specs.Words.{word_of as tree_word}
 use Rattle.recipe_reader.specs.Spelled.{spelled}
 use Rattle.recipe_reader.specs.declared.fault.RecipeFault.{RecipeFault}
 use Rattle.recipe_reader.specs.declared.fault.RecipeFault.TheVariants as fault
 
 abbrev pub word_of : RecipeFault → List ℕ
-word_of (fault.Tree t) = tree.word_of t
+word_of (fault.Tree t) = tree_word t
 word_of (fault.Missing k) = codes "Missing"
 word_of (fault.WrongKind k) = codes "WrongKind"
 word_of fault.FormatVersion = codes "FormatVersion"
@@ -51,9 +52,5 @@ field_of fault.BadDigest = None
 field_of fault.DuplicateArtifact = None
 field_of fault.NoMemory = None
 
-abbrev pub with_field : List ℕ → Option (List ℕ) → List ℕ
-with_field word None = word
-with_field word (Some field) = word ++ 32 ∷ field
-
-abbrev pub reason : RecipeFault → List ℕ
-reason f = with_field (word_of f) (field_of f)
+abbrev pub reason_of : RecipeFault → List ℕ
+reason_of f = with_field (word_of f) (field_of f)

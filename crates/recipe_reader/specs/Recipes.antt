@@ -1,5 +1,5 @@
 -- The lines of a recipe, and the recipe that they name.
-use Rattle.std.specs.Prelude.{◌≡◌, ◌⊎◌, ℕ, List, ◌++◌, codes, Option, Some, None, Result, MatchResult}
+use Rattle.std.specs.Prelude.{◌≡◌, ◌⊎◌, ℕ, Bool, List, ◌++◌, codes, Option, Some, None, Result, MatchResult}
 use Rattle.serde_json.specs.Data.{Data, string, object, no_members}
 use Rattle.serde_json.specs.Find.{get}
 use Rattle.nuc_base.specs.Names.{IsName}
@@ -16,7 +16,7 @@ use Rattle.recipe_reader.specs.Spelled.{spelled}
 use Rattle.recipe_reader.specs.Platforms.{manifests_lines, chosen_in}
 use Rattle.recipe_reader.specs.Dependencies.{dependencies_lines, AreDependencies}
 use Rattle.recipe_reader.specs.Steps.{text_lines, step_of}
-use Rattle.recipe_reader.specs.Lifecycles.{lifecycle_lines, AreSteps}
+use Rattle.recipe_reader.specs.Lifecycles.{lifecycle_lines, AreSteps, back_of}
 use Rattle.recipe_reader.specs.Artifacts.{artifacts_lines, AreArtifacts}
 use Rattle.recipe_reader.specs.declared.recipe.Recipe.{Recipe}
 use Rattle.recipe_reader.specs.declared.fault.Key.{Key}
@@ -78,6 +78,10 @@ IsDefault (Some v) d = d ≡ v
 abbrev pub manifest_of : Platform → Data → Option Data
 manifest_of platform d = chosen_in platform (present (get (spelled key.Manifests) d))
 
+-- whether the bootstrap runs again on the way back
+abbrev pub back_in : Platform → Data → Bool
+back_in platform d = back_of (inner key.Lifecycle (manifest_of platform d))
+
 abbrev pub chosen_lines : Data → Table RecipeFault
 chosen_lines m =
     optional (spelled key.Lifecycle) m lifecycle_lines
@@ -104,6 +108,7 @@ pub record IsRecipe (platform : Platform) (d : Data) (recipe : Recipe) : Type 0 
   pub regular : IsRegular (view recipe.default_config)
   pub dependencies : AreDependencies (present (get (spelled key.ComponentDependencies) d)) recipe.dependencies
   pub steps : AreSteps (inner key.Lifecycle (manifest_of platform d)) (step_of recipe)
+  pub boot_back : recipe.boot_back ≡ back_in platform d
   pub artifacts : AreArtifacts (inner key.Artifacts (manifest_of platform d)) recipe.artifacts
 
 -- the most bytes of a recipe

@@ -1,10 +1,11 @@
 -- The steps of a lifecycle.
-use Rattle.std.specs.Prelude.{◌≡◌, ◌≢◌, ℕ, ◌≤◌, ◌*◌, ◌==◌, ◌||◌, Bool, false, List, [], ◌∷◌, ◌++◌, codes, Option, Some, None, IsSome, option_and_then, if◌then◌else◌, ◌⊎◌, ⊤}
+use Rattle.std.specs.Prelude.{◌≡◌, ◌≢◌, ℕ, ◌*◌, ◌==◌, ◌||◌, Bool, false, List, [], ◌∷◌, ◌++◌, codes, Option, Some, None, IsSome, option_and_then, if◌then◌else◌, ◌⊎◌, ⊤}
 use Rattle.serde_json.specs.Data.{Data, null, boolean, number, unsigned, string, array, object}
 use Rattle.serde_json.specs.Find.{as_str}
 use Rattle.nuc_base.specs.Tables.{Table, on}
 use Rattle.nuc_base.specs.declared.kinds.Step.{Step}
 use Rattle.nuc_base.specs.declared.kinds.Step.TheVariants.{Install, Run, Startup, Shutdown, Recover, Bootstrap}
+use Rattle.tree_core.specs.Counts.{IsCount}
 use Rattle.tree_core.specs.Parts.{IsText, IsNumber, IsObject, check}
 use Rattle.recipe_reader.specs.Spelled.{spelled}
 use Rattle.recipe_reader.specs.Keys.{any_case, keyed, is_doubled}
@@ -79,11 +80,11 @@ IsSkipOf (Some v) (Some skip) = IsSkip v skip
 
 -- ---- how long a step may take
 
-abbrev pub IsSeconds : Data → Type 0
-IsSeconds v = (n : ℕ) × (v ≡ number (unsigned n)) × (1 ≤ n) × (n ≤ 1000000)
+abbrev pub most_seconds : ℕ
+most_seconds = 1000000
 
 abbrev pub timeout_lines : Data → Table RecipeFault
-timeout_lines v = check (IsNumber v) (fault.WrongKind key.Timeout) ++ check (IsSeconds v) fault.BadTimeout
+timeout_lines v = check (IsNumber v) (fault.WrongKind key.Timeout) ++ check (IsCount most_seconds v) fault.BadTimeout
 
 -- the limit in milliseconds of a step that gives none
 abbrev pub usual_limit : Step → Option ℕ

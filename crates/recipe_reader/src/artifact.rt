@@ -29,16 +29,10 @@ const MOST_NAME_BYTES: usize = 128;
 fn has_scheme(uri: &str) -> bool
     ensures { result ≡ has_a_scheme uri.now }
 {
-    if begins(uri, "s3:") {
-        return true;
-    }
-    if begins(uri, "https:") {
-        return true;
-    }
-    if begins(uri, "greengrass:") {
-        return true;
-    }
-    begins(uri, "file:")
+    begins(uri, "s3:")
+        || begins(uri, "https:")
+        || begins(uri, "greengrass:")
+        || begins(uri, "file:")
 }
 
 fn begins(text: &str, word: &str) -> bool

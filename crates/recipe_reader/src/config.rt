@@ -33,10 +33,7 @@ fn object_in(alloc: Global, value: &Tree) -> Result<Tree, RecipeFault>
     if !value.is_object() {
         return Err(RecipeFault::WrongKind(Key::DefaultConfiguration));
     }
-    match value.copy(alloc) {
-        Ok(config) => Ok(config),
-        Err(_) => Err(RecipeFault::NoMemory),
-    }
+    Ok(value.copy(alloc)?)
 }
 
 fn config_in(alloc: Global, value: &Tree) -> Result<Tree, RecipeFault>

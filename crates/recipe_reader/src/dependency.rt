@@ -15,7 +15,7 @@ use crate::fault::{Key, RecipeFault};
 use crate::keys::is_same;
 use crate::parts::optional;
 use crate::recipe::Dependency;
-use npm_ranges::{Range, RangeFault};
+use npm_ranges::{Range, RangeFault, spelled_comparators_are_read};
 use nuc_base::{List, Name, NameFault, Text};
 use std::alloc::Global;
 use tree_core::Tree;
@@ -40,9 +40,12 @@ fn range_in(alloc: Global, value: &Tree) -> Result<Range, RecipeFault>
 fn any_range(alloc: Global) -> Result<Range, RecipeFault>
     ensures { Answers OutOfMemory [] (IsRangeOf None) result }
 {
+    spelled_comparators_are_read();
     match Range::read(alloc, b"*") {
         Ok(range) => Ok(range),
-        Err(_) => Err(RecipeFault::NoMemory),
+        Err(RangeFault::NoMemory) => Err(RecipeFault::NoMemory),
+        Err(RangeFault::Bad) => unreachable!(),
+        Err(RangeFault::TooManyParts) => unreachable!(),
     }
 }
 

@@ -73,10 +73,7 @@ pub fn digest_at(alloc: Global, artifact: &Tree) -> Result<Option<[u8; 32]>, Rec
         result }
 {
     match keyed(artifact, Key::Digest) {
-        Some(value) => match digest_in(alloc, value) {
-            Ok(digest) => Ok(Some(digest)),
-            Err(fault) => Err(fault),
-        },
+        Some(value) => Ok(Some(digest_in(alloc, value)?)),
         None => Ok(None),
     }
 }

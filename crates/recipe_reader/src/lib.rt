@@ -8,6 +8,7 @@
 #![tactic(auto)]
 
 mod artifact;
+mod back;
 mod candidate;
 mod candidates;
 mod config;
@@ -34,7 +35,7 @@ mod wanted;
 pub use candidate::Candidate;
 pub use candidates::{AddRefusal, Candidates};
 pub use fault::{Key, RecipeFault};
-pub use laws::recipe_laws;
+pub use laws::{recipe_laws, set_laws};
 pub use nuc_base::{Artifact, Platform};
 pub use recipe::{Dependency, Recipe, Skip, StepDef};
 pub use wanted::Wanted;

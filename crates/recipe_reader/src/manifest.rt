@@ -8,6 +8,7 @@ ghost use Rattle.recipe_reader.specs.Gathered.{IsChosen};
 ghost use Rattle.recipe_reader.specs.declared.fault.RecipeFault.TheVariants.{NoMemory as OutOfMemory};
 
 use crate::artifact::artifacts_of;
+use crate::back::back_of;
 use crate::fault::RecipeFault;
 use crate::lifecycle::{Steps, no_steps, steps_of};
 use crate::platform::choice;
@@ -18,6 +19,7 @@ use tree_core::Tree;
 #[derive(Drop)]
 pub struct Chosen {
     pub steps: Steps,
+    pub boot_back: bool,
     pub artifacts: List<Artifact>,
 }
 
@@ -27,7 +29,11 @@ fn chosen_in(alloc: Global, manifest: &Tree) -> Result<Chosen, RecipeFault>
 {
     let steps = steps_of(alloc, manifest)?;
     let artifacts = artifacts_of(alloc, manifest)?;
-    Ok(Chosen { steps, artifacts })
+    Ok(Chosen {
+        steps,
+        boot_back: back_of(manifest),
+        artifacts,
+    })
 }
 
 /// What a recipe without manifests says.
@@ -36,6 +42,7 @@ fn nothing_chosen(alloc: Global) -> Chosen
 {
     Chosen {
         steps: no_steps(),
+        boot_back: false,
         artifacts: List::empty(alloc),
     }
 }

@@ -1,6 +1,5 @@
 // The built-in component.
 ghost use Rattle.std.specs.Prelude.{◌≡◌, IfOk};
-ghost use Rattle.nuc_base.specs.Names.{IsName};
 ghost use Rattle.nuc_base.specs.declared.platform.Platform.{Platform};
 ghost use Rattle.recipe_reader.specs.Recipes.{IsRecipe};
 ghost use Rattle.recipe_reader.specs.Candidates.{nucleus_name, nucleus_bytes, nucleus_data, IsNucleus};
@@ -8,7 +7,7 @@ ghost use Rattle.recipe_reader.specs.Candidates.{nucleus_name, nucleus_bytes, nu
 use crate::candidate::Candidate;
 use crate::recipe::Recipe;
 use npm_ranges::Version;
-use nuc_base::{Bytes, Copied, List, Name, NoMemory};
+use nuc_base::{Bytes, Copied, List, Name, NameFault, NoMemory};
 use std::alloc::Global;
 use tree_core::{Tree, tree_laws};
 
@@ -26,16 +25,23 @@ fn bytes_of(alloc: Global, version: &Version) -> Result<Bytes, NoMemory>
     Ok(bytes)
 }
 
+fn name_of(alloc: Global) -> Result<Name, NoMemory>
+    ensures { IfOk result (λ name. name ≡ nucleus_name) }
+{
+    match Name::read(alloc, b"aws.greengrass.Nucleus") {
+        Ok(name) => Ok(name),
+        Err(NameFault::NoMemory) => Err(NoMemory),
+        Err(NameFault::Bad) => unreachable!(),
+    }
+}
+
 /// What they say on each platform: a component without a configuration, dependencies, steps and artifacts.
 fn recipe_of(alloc: Global, version: &Version) -> Result<Recipe, NoMemory>
     ensures name { IfOk result (λ recipe. recipe.name ≡ nucleus_name) }
-    ensures rule { IfOk result (λ _. IsName nucleus_name) }
     ensures version { IfOk result (λ recipe. recipe.version ≡ version.now) }
     ensures recipe { IfOk result (λ recipe. (p : Platform) → IsRecipe p (nucleus_data version.now) recipe) }
 {
-    let Ok(name) = Name::read(alloc, b"aws.greengrass.Nucleus") else {
-        return Err(NoMemory);
-    };
+    let name = name_of(alloc)?;
     let version = version.copy(alloc)?;
     Ok(Recipe {
         name,
@@ -48,6 +54,7 @@ fn recipe_of(alloc: Global, version: &Version) -> Result<Recipe, NoMemory>
         shutdown: None,
         recover: None,
         bootstrap: None,
+        boot_back: false,
         artifacts: List::empty(alloc),
     })
 }

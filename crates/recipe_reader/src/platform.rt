@@ -181,14 +181,13 @@ fn platform_fits(platform: &Platform, value: &Tree) -> Result<bool, RecipeFault>
     };
     let os = key_fits(Key::Os, &platform.os, value)?;
     let architecture = key_fits(Key::Architecture, &platform.architecture, value)?;
-    let others = others_ask_nothing(fields);
-    Ok(both(both(os, architecture), others))
+    Ok(fits_all(os, architecture, fields))
 }
 
-fn both(first: bool, second: bool) -> bool
-    ensures { result ≡ (first && second) }
+fn fits_all(os: bool, architecture: bool, fields: &Vec<(Text, Tree)>) -> bool
+    ensures { result ≡ ((os && architecture) && list_all asks_for_nothing (map field_view fields.now.items)) }
 {
-    first && second
+    os && architecture && others_ask_nothing(fields)
 }
 
 /// Whether the manifest is for the platform.

@@ -1,9 +1,10 @@
 // Reading a recipe.
-ghost use Rattle.std.specs.Prelude.{◌≡◌};
+ghost use Rattle.std.specs.Prelude.{◌≡◌, IfOk};
 ghost use Rattle.nuc_base.specs.Tables.{Answers};
 ghost use Rattle.tree_core.specs.View.{view};
 ghost use Rattle.tree_core.specs.Regular.{IsRegular};
 ghost use Rattle.recipe_reader.specs.Recipes.{recipe_lines, IsRecipe, ReadsRecipe};
+ghost use Rattle.recipe_reader.specs.Sound.{IsSound};
 ghost use Rattle.recipe_reader.specs.declared.fault.RecipeFault.TheVariants.{NoMemory as OutOfMemory};
 
 use crate::config::default_of;
@@ -28,7 +29,8 @@ impl Recipe {
     /// `ComponentConfiguration` and `ComponentDependencies` in turn; the manifests up to the chosen one; then of the
     /// chosen one its lifecycle and its artifacts.
     pub fn read(alloc: Global, bytes: &[u8], platform: &Platform) -> Result<Recipe, RecipeFault>
-        ensures { ReadsRecipe bytes.now platform.now result }
+        ensures exact { ReadsRecipe bytes.now platform.now result }
+        ensures sound { IfOk result IsSound }
     {
         let tree = match Tree::read(alloc, bytes, LIMIT) {
             Ok(tree) => tree,
@@ -56,6 +58,7 @@ fn recipe_from(
       shutdown = chosen.steps.last.shutdown;
       recover = chosen.steps.last.recover;
       bootstrap = chosen.steps.last.bootstrap;
+      boot_back = chosen.boot_back;
       artifacts = chosen.artifacts;
     } }
 {
@@ -72,6 +75,7 @@ fn recipe_from(
         shutdown: last.shutdown,
         recover: last.recover,
         bootstrap: last.bootstrap,
+        boot_back: chosen.boot_back,
         artifacts: chosen.artifacts,
     }
 }

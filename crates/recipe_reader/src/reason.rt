@@ -1,11 +1,22 @@
-ghost use Rattle.std.specs.Prelude.{◌≡◌, option_map};
-ghost use Rattle.recipe_reader.specs.Reasons.{word_of, field_of};
+ghost use Rattle.std.specs.Prelude.{◌≡◌, ◌++◌, option_map};
+ghost use Rattle.recipe_reader.specs.Reasons.{word_of, field_of, reason_of};
 
 use crate::fault::RecipeFault;
+use std::fmt;
 
 impl RecipeFault {
-    /// The word for the fault in a printed reason; for bytes that are no tree the word of that fault.
-    pub fn word(&self) -> &'static str
+    /// The printed reason in three pieces that are written one after the other: the fault's word, a space where it has
+    /// a field, and the field.
+    pub fn reason(&self) -> (&'static str, &'static str, &'static str)
+        ensures { result.0.now ++ result.1.now ++ result.2.now ≡ reason_of self.now }
+    {
+        match self.field() {
+            Some(field) => (self.word(), " ", field),
+            None => (self.word(), "", ""),
+        }
+    }
+
+    fn word(&self) -> &'static str
         ensures { result.now ≡ word_of self.now }
     {
         match self {
@@ -33,8 +44,7 @@ impl RecipeFault {
         }
     }
 
-    /// The key that the fault names, where it names one. A printed reason has it behind the word and a blank.
-    pub fn field(&self) -> Option<&'static str>
+    fn field(&self) -> Option<&'static str>
         ensures { option_map (λ s. s.now) result ≡ field_of self.now }
     {
         match self {
@@ -47,3 +57,17 @@ impl RecipeFault {
         }
     }
 }
+
+impl fmt::Display for RecipeFault {
+    ghost use Rattle.std.specs.Prelude.{Some};
+    ghost use Rattle.recipe_reader.specs.Reasons.{reason_of};
+
+    ghost output = { λ fault. Some (reason_of fault) };
+
+    fn fmt<W: fmt::Write>(&self, f: &mut fmt::Formatter<W>) -> fmt::Result {
+        let (word, space, field) = self.reason();
+        write!(f, "{word}{space}{field}")
+    }
+}
+
+impl std::error::Error for RecipeFault {}

@@ -49,6 +49,9 @@ pub struct Recipe {
     pub shutdown: Option<StepDef>,
     pub recover: Option<StepDef>,
     pub bootstrap: Option<StepDef>,
+    /// Whether the bootstrap runs again where a deployment that failed goes back to a set with this component. It does
+    /// where the step's object has the key `BootstrapOnRollback` with the truth value true.
+    pub boot_back: bool,
     pub artifacts: List<Artifact>,
 }
 

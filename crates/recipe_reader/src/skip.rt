@@ -106,10 +106,7 @@ pub fn skip_at(alloc: Global, step: &Tree) -> Result<Option<Skip>, RecipeFault>
         result }
 {
     match keyed(step, Key::Skipif) {
-        Some(value) => match skip_in(alloc, value) {
-            Ok(skip) => Ok(Some(skip)),
-            Err(fault) => Err(fault),
-        },
+        Some(value) => Ok(Some(skip_in(alloc, value)?)),
         None => Ok(None),
     }
 }

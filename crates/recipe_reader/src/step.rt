@@ -60,10 +60,7 @@ fn script_of(alloc: Global, value: &Tree) -> Result<Text, RecipeFault>
     let Tree::Text(text) = value else {
         return Err(RecipeFault::WrongKind(Key::Script));
     };
-    match text.copy(alloc) {
-        Ok(script) => Ok(script),
-        Err(_) => Err(RecipeFault::NoMemory),
-    }
+    Ok(text.copy(alloc)?)
 }
 
 fn script_at(alloc: Global, step: &Tree) -> Result<Text, RecipeFault>
@@ -136,10 +133,7 @@ fn step_in(
     ensures { Answers OutOfMemory (step_lines step (view value.now)) (IsStepDef step outer.now (view value.now)) result }
 {
     match value {
-        Tree::Text(script) => match plain_step(alloc, step, script, outer) {
-            Ok(def) => Ok(def),
-            Err(_) => Err(RecipeFault::NoMemory),
-        },
+        Tree::Text(script) => Ok(plain_step(alloc, step, script, outer)?),
         Tree::Fields(_) => object_step(alloc, step, value, outer),
         _ => Err(RecipeFault::WrongKind(key_of(step))),
     }
@@ -160,10 +154,7 @@ pub fn step_at(
         result }
 {
     match keyed(lifecycle, key_of(step)) {
-        Some(value) => match step_in(alloc, step, value, outer) {
-            Ok(def) => Ok(Some(def)),
-            Err(fault) => Err(fault),
-        },
+        Some(value) => Ok(Some(step_in(alloc, step, value, outer)?)),
         None => Ok(None),
     }
 }

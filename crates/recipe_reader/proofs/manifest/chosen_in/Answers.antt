@@ -29,4 +29,4 @@ returns-in_err-artifacts c =
 pub returns : goal.returns
 returns c =
     let v = view c.args.manifest.now in
-    (all_2 (optional (spelled Lifecycle) v lifecycle_lines) (optional (spelled Artifacts) v artifacts_lines) c.in_ok-steps.ensures.0 c.in_ok-artifacts.ensures.0, record { steps = c.in_ok-steps.ensures.1; artifacts = c.in_ok-artifacts.ensures.1 })
+    (all_2 (optional (spelled Lifecycle) v lifecycle_lines) (optional (spelled Artifacts) v artifacts_lines) c.in_ok-steps.ensures.0 c.in_ok-artifacts.ensures.0, record { steps = c.in_ok-steps.ensures.1; boot_back = c.back_of.ensures; artifacts = c.in_ok-artifacts.ensures.1 })

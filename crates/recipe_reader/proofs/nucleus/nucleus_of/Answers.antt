@@ -16,7 +16,7 @@ returns c =
       read = λ p. (
         nucleus_data v,
         subst (λ (s : List ℕ). IsTreeOf s limit (nucleus_data v)) (sym c.in_ok-bytes.ensures) (nucleus_tree c.tree_laws.ensures.reads_back v is),
-        nucleus_lines p v is recipe.rule,
+        nucleus_lines p v is,
         recipe.recipe p,
       );
     }

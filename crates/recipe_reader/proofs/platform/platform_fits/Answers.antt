@@ -1,7 +1,7 @@
 use Rattle.std.proofs.Common.{◌≡◌, ◌∙◌, Bool, ap, ap₂, sym}
 use Rattle.std.specs.Prelude.{◌&&◌}
 use Rattle.tree_core.specs.View.{view}
-use Rattle.tree_core.specs.Parts.{check, optional, IsObject, members}
+use Rattle.tree_core.specs.Parts.{check, optional, IsObject}
 use Rattle.tree_core.proofs.Seen.{is_object, members_are}
 use Rattle.std.specs.List.{list_all}
 use Rattle.nuc_base.specs.Tables.{Table}
@@ -43,8 +43,8 @@ returns c =
     let oses : Table RecipeFault = optional (spelled Os) v (word_lines Os) in
     let rest : Table RecipeFault = optional (spelled Architecture) v (word_lines Architecture) in
     let object : IsObject v = is_object _ c.in-Fields.fields c.in-Fields.is in
-    let others : c.others_ask_nothing-others.result ≡ list_all asks_nothing (members v) =
-    c.others_ask_nothing-others.ensures ∙ ap (list_all asks_nothing) (sym (members_are _ c.in-Fields.fields c.in-Fields.is)) in (
+    let both = ap₂ (λ a b. a && b) c.in_ok-os.ensures.1 c.in_ok-architecture.ensures.1 in
+    let others = ap (list_all asks_nothing) (sym (members_are _ c.in-Fields.fields c.in-Fields.is)) in (
       all_3 objects oses rest (object, tt) c.in_ok-os.ensures.0 c.in_ok-architecture.ensures.0,
-      c.both-2.ensures ∙ ap₂ (λ a b. a && b) (c.both.ensures ∙ ap₂ (λ a b. a && b) c.in_ok-os.ensures.1 c.in_ok-architecture.ensures.1) others,
+      c.fits_all.ensures ∙ ap₂ (λ a b. a && b) both others,
     )

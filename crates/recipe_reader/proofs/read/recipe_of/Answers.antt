@@ -63,6 +63,7 @@ returns c =
       shutdown = c.in_ok-chosen.chosen.steps.last.shutdown;
       recover = c.in_ok-chosen.chosen.steps.last.recover;
       bootstrap = c.in_ok-chosen.chosen.steps.last.bootstrap;
+      boot_back = c.in_ok-chosen.chosen.boot_back;
       artifacts = c.in_ok-chosen.chosen.artifacts;
     } in (
       all_4 (head_lines v) (optional (spelled ComponentConfiguration) v config_lines) (optional (spelled ComponentDependencies) v dependencies_lines) (part_lines p v) c.in_ok-head.ensures.0 c.in_ok-default_config.ensures.0 c.in_ok-dependencies.ensures.0 c.in_ok-chosen.ensures.0,
@@ -73,6 +74,7 @@ returns c =
         regular = config.1;
         dependencies = c.in_ok-dependencies.ensures.1;
         steps = steps_of_recipe (inner Lifecycle (manifest_of p v)) made c.in_ok-chosen.chosen.steps refl refl refl refl refl refl chosen.steps;
+        boot_back = chosen.boot_back;
         artifacts = chosen.artifacts;
       }),
     )

@@ -1,0 +1,32 @@
+-- What every call that takes a recipe may rest on.
+use Rattle.std.specs.Prelude.{ℕ, ◌≤◌, List, map, length}
+use Rattle.std.specs.List.Sorted.{IsStrictlySortedBy}
+use Rattle.std.specs.Ordering.{nat_cmp}
+use Rattle.std.specs.Cmp.Lexicographic.{slice_cmp}
+use Rattle.nuc_base.specs.Names.{IsName}
+use Rattle.nuc_base.specs.declared.platform.Platform.{Platform}
+use Rattle.npm_ranges.specs.Versions.{IsVersion}
+use Rattle.tree_core.specs.Parts.{IsObject}
+use Rattle.tree_core.specs.Regular.{IsRegular}
+use Rattle.tree_core.specs.View.{view}
+use Rattle.recipe_reader.specs.OneRecipe.{Reads}
+use Rattle.recipe_reader.specs.declared.recipe.Dependency.{Dependency}
+use Rattle.recipe_reader.specs.declared.recipe.Recipe.{Recipe}
+
+abbrev pub dependency_name : Dependency → List ℕ
+dependency_name dependency = dependency.name
+
+-- it names a component and its version; the default configuration is a regular object; at most 64 dependencies, whose
+-- names rise strictly in byte order, and at most 64 artifacts
+pub record IsSound (recipe : Recipe) : Type 0 where
+  pub name : IsName recipe.name
+  pub version : IsVersion recipe.version
+  pub object : IsObject (view recipe.default_config)
+  pub regular : IsRegular (view recipe.default_config)
+  pub few : length recipe.dependencies ≤ 64
+  pub rising : IsStrictlySortedBy (slice_cmp nat_cmp) (map dependency_name recipe.dependencies)
+  pub few_artifacts : length recipe.artifacts ≤ 64
+
+-- what bytes say for a platform is sound
+abbrev pub ReadsSound : Type 0
+ReadsSound = (bytes : List ℕ) (platform : Platform) (r : Recipe) → Reads bytes platform r → IsSound r
