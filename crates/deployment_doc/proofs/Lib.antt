@@ -1,3 +1,4 @@
+mod Alike
 mod Digests
 mod Merging
 mod Nodes

@@ -4,10 +4,10 @@ use Rattle.serde_json.specs.Data.{Data}
 use Rattle.nuc_base.specs.Tables.{Table, AllHold, Faults, on}
 use Rattle.nuc_base.proofs.Tables.{fault_after, fault_before, all_both}
 use Rattle.tree_core.specs.Parts.{check, IsObject}
-use Rattle.deployment_doc.specs.Lines.{at_optional, at_required, label_lines, policies_lines, components_lines, document_lines, reset_in, merge_in, reset_lines, merge_lines, update_lines, HasBoth}
+use Rattle.deployment_doc.specs.Lines.{at_optional, at_required, label_lines, revision_lines, policies_lines, components_lines, document_lines, reset_in, merge_in, reset_lines, merge_lines, update_lines, HasBoth}
 use Rattle.deployment_doc.specs.declared.fault.DocFault.{DocFault}
 use Rattle.deployment_doc.specs.declared.fault.DocFault.TheVariants.{WrongKind, DuplicateKey, NoMemory}
-use Rattle.deployment_doc.specs.declared.fault.Key.TheVariants.{Document, DeploymentId, TargetArn, DeploymentPolicies, Components, ConfigurationUpdate, Reset, Merge}
+use Rattle.deployment_doc.specs.declared.fault.Key.TheVariants.{Document, DeploymentId, TargetArn, Revision, DeploymentPolicies, Components, ConfigurationUpdate, Reset, Merge}
 
 module _ (d : Data) where
   abbrev pub objects : Table DocFault
@@ -19,43 +19,57 @@ module _ (d : Data) where
   abbrev pub groups : Table DocFault
   groups = at_required TargetArn d (label_lines TargetArn)
 
+  abbrev pub revisions : Table DocFault
+  revisions = at_optional Revision d revision_lines
+
   abbrev pub policies : Table DocFault
   policies = at_optional DeploymentPolicies d policies_lines
 
   abbrev pub roots : Table DocFault
   roots = at_optional Components d components_lines
 
-  -- the lines above the components
+  -- the lines above those on the revision, and above those on the components
+  abbrev pub above_revision : Table DocFault
+  above_revision = objects ++ ids ++ groups
+
   abbrev pub above_roots : Table DocFault
-  above_roots = objects ++ ids ++ groups ++ policies
+  above_roots = above_revision ++ revisions ++ policies
+
+  pub all_above_revision : IsObject d → AllHold ids → AllHold groups → AllHold above_revision
+  all_above_revision o i g = all_both (objects ++ ids) groups (all_both objects ids (o, tt) i) g
+
+  pub all_above : AllHold above_revision → AllHold revisions → AllHold policies → AllHold above_roots
+  all_above above r p = all_both (above_revision ++ revisions) policies (all_both above_revision revisions above r) p
+
+  from_revision : (f : DocFault) → Faults NoMemory (above_revision ++ revisions) f → Faults NoMemory (document_lines d) f
+  from_revision f h = fault_before NoMemory above_roots roots f (fault_before NoMemory (above_revision ++ revisions) policies f h)
 
   pub at_id : (f : DocFault) → IsObject d → Faults NoMemory ids f → Faults NoMemory (document_lines d) f
   at_id f o h =
-      fault_before NoMemory above_roots roots f
-      (fault_before NoMemory (objects ++ ids ++ groups) policies f
+      from_revision f
+      (fault_before NoMemory above_revision revisions f
       (fault_before NoMemory (objects ++ ids) groups f
       (fault_after NoMemory objects ids f (o, tt) h)))
 
   pub at_group : (f : DocFault) → IsObject d → AllHold ids → Faults NoMemory groups f → Faults NoMemory (document_lines d) f
   at_group f o i h =
-      fault_before NoMemory above_roots roots f
-      (fault_before NoMemory (objects ++ ids ++ groups) policies f
+      from_revision f
+      (fault_before NoMemory above_revision revisions f
       (fault_after NoMemory (objects ++ ids) groups f (all_both objects ids (o, tt) i) h))
 
-  pub at_policy : (f : DocFault) → IsObject d → AllHold ids → AllHold groups → Faults NoMemory policies f → Faults NoMemory (document_lines d) f
-  at_policy f o i g h =
+  pub at_revision : (f : DocFault) → AllHold above_revision → Faults NoMemory revisions f → Faults NoMemory (document_lines d) f
+  at_revision f above h = from_revision f (fault_after NoMemory above_revision revisions f above h)
+
+  pub at_policy : (f : DocFault) → AllHold above_revision → AllHold revisions → Faults NoMemory policies f → Faults NoMemory (document_lines d) f
+  at_policy f above r h =
       fault_before NoMemory above_roots roots f
-      (fault_after NoMemory (objects ++ ids ++ groups) policies f
-      (all_both (objects ++ ids) groups (all_both objects ids (o, tt) i) g) h)
+      (fault_after NoMemory (above_revision ++ revisions) policies f (all_both above_revision revisions above r) h)
 
-  pub all_above : IsObject d → AllHold ids → AllHold groups → AllHold policies → AllHold above_roots
-  all_above o i g p = all_both (objects ++ ids ++ groups) policies (all_both (objects ++ ids) groups (all_both objects ids (o, tt) i) g) p
+  pub at_roots : (f : DocFault) → AllHold above_roots → Faults NoMemory roots f → Faults NoMemory (document_lines d) f
+  at_roots f above h = fault_after NoMemory above_roots roots f above h
 
-  pub at_roots : (f : DocFault) → IsObject d → AllHold ids → AllHold groups → AllHold policies → Faults NoMemory roots f → Faults NoMemory (document_lines d) f
-  at_roots f o i g p h = fault_after NoMemory above_roots roots f (all_above o i g p) h
-
-  pub all_document : IsObject d → AllHold ids → AllHold groups → AllHold policies → AllHold roots → AllHold (document_lines d)
-  all_document o i g p r = all_both above_roots roots (all_above o i g p) r
+  pub all_document : AllHold above_roots → AllHold roots → AllHold (document_lines d)
+  all_document above r = all_both above_roots roots above r
 
 module _ (name : List ℕ) (v : Data) (f : DocFault) where
   abbrev pub checks : Table DocFault

@@ -1,16 +1,14 @@
 -- The roots that the lines name are sound.
-use Rattle.std.proofs.Common.{◌≡◌, ◌≤◌, ℕ, List, [], ◌∷◌, ◌++◌, map, length, Option, Some, None, Result, Ok, Err, IfSome, IfOk, refl, sym, subst, arith, nat_cmp, lit≤}
-use Rattle.std.specs.List.{All, AllByRecursion, AllZip}
+use Rattle.std.proofs.Common.{◌≤◌, ℕ, List, [], ◌∷◌, length, Option, Some, None, Result, Ok, Err, IfSome, IfOk, sym, subst, arith, lit≤}
+use Rattle.std.specs.List.{All, AllZip}
 use Rattle.std.specs.List.Sorted.{IsStrictlySortedBy}
-use Rattle.std.specs.Cmp.Lexicographic.{slice_cmp}
-use Rattle.std.specs.declared.cmp.Ordering.TheVariants.{Less}
 use Rattle.std.proofs.lemmas.List.Elements.{All-cons, All-nil}
 use Rattle.std.proofs.lemmas.Slice.Zip.{AllZip-long}
-use Rattle.serde_json.specs.Data.{Data, object, Members, no_members, member}
+use Rattle.serde_json.specs.Data.{Data, object, Members}
 use Rattle.serde_json.specs.Find.{get}
-use Rattle.nuc_base.specs.Tables.{Table, AllHold, Answers, on}
+use Rattle.nuc_base.specs.Tables.{AllHold, Answers, on}
 use Rattle.tree_core.specs.Parts.{present, IsObject, members, pairs_of}
-use Rattle.tree_core.specs.Regular.{IsRegular, IsBelowAll, MembersAreOrderly}
+use Rattle.tree_core.specs.Regular.{IsRegular}
 use Rattle.tree_core.specs.View.{view}
 use Rattle.tree_core.specs.declared.tree.Tree.{Tree}
 use Rattle.config_ops.specs.declared.update.Update.{Update}
@@ -23,28 +21,10 @@ use Rattle.deployment_doc.specs.declared.document.Root.{Root}
 use Rattle.deployment_doc.specs.declared.fault.DocFault.{DocFault}
 use Rattle.deployment_doc.specs.declared.fault.DocFault.TheVariants.{NoMemory}
 use Rattle.deployment_doc.specs.declared.fault.Key.TheVariants.{Components}
+use Rattle.nuc_base.proofs.Tables.{hold_last}
 use Rattle.tree_core.proofs.RegularParts.{get_regular, present_regular}
+use Rattle.tree_core.proofs.Rising.{names_rise}
 use Rattle.deployment_doc.proofs.Rows.{above_roots, roots}
-
-abbrev key_of : List ℕ × Data → List ℕ
-key_of m = m.0
-
--- ---- names
-
-names : (ms : List (List ℕ × Data)) (rs : List Root) → AllZip IsRoot ms rs → map root_name rs ≡ map key_of ms
-names [] [] h = refl
-names [] (r ∷ rs) h = absurd h
-names (m ∷ ms) [] h = absurd h
-names (m ∷ ms) (r ∷ rs) h = rw (h.0.name, names ms rs h.1) refl
-
-below : (k : List ℕ) (ms : Members) → IsBelowAll k ms → AllByRecursion (λ y. slice_cmp nat_cmp k y ≡ Less) (map key_of (pairs_of ms))
-below k no_members h = tt
-below k (member l d ms) h = (h.0, below k ms h.1)
-
-keys_rise : (ms : Members) → MembersAreOrderly ms → IsStrictlySortedBy (slice_cmp nat_cmp) (map key_of (pairs_of ms))
-unfolding IsStrictlySortedBy
-keys_rise no_members h = tt
-keys_rise (member k d ms) h = (below k ms h.0, keys_rise ms h.2)
 
 -- ---- merges
 
@@ -77,7 +57,7 @@ object_sound ms rs r few h =
     let long = AllZip-long IsRoot (pairs_of ms) rs h in
     record {
       few = omega (arith, long, few);
-      rising = subst (IsStrictlySortedBy (slice_cmp nat_cmp)) (sym (names (pairs_of ms) rs h)) (keys_rise ms r.orderly);
+      rising = names_rise root_name IsRoot (λ m root is. is.name) ms rs r.orderly h;
       merges = all_merge (pairs_of ms) rs h;
     }
 
@@ -87,10 +67,6 @@ roots_sound None [] r h z = record { few = lit≤ tt; rising = tt; merges = All-
 roots_sound None (root ∷ rs) r h z = absurd z
 roots_sound (Some v) rs r h z =
     subst (λ (w : Data). IsRegular w → length (members w) ≤ 128 → AllZip IsRoot (members w) rs → AreSound rs) (sym h.0.1) (object_sound h.0.0 rs) r h.1.0 z
-
-hold_last : {Fault : Type 0} (above lines : Table Fault) → AllHold (above ++ lines) → AllHold lines
-hold_last [] lines h = h
-hold_last (line ∷ above) lines h = hold_last above lines h.1
 
 pub sound : (bytes : List ℕ) (d : Data) (result : Result Document DocFault) → IsRegular d
     → Answers NoMemory (document_lines d) (IsDocument bytes d) result → IfOk result (λ document. AreSound document.roots)

@@ -1,13 +1,15 @@
 -- The lines by which a document is read, in their order: what each asks of the tree, and the fault where that fails.
 -- (AWS IoT Greengrass V2 developer guide, "Create deployments"; JSON pointers: RFC 6901.)
-use Rattle.std.specs.Prelude.{◌≡◌, ◌≤◌, ◌⊎◌, ℕ, List, ◌++◌, length, codes, Option, IsSome}
+use Rattle.std.specs.Prelude.{◌≡◌, ◌≤◌, ◌-◌, ◌^◌, ◌⊎◌, ℕ, List, ◌++◌, length, codes, Option, IsSome}
 use Rattle.std.specs.Option.{option_or}
 use Rattle.serde_json.specs.Data.{Data, string}
 use Rattle.serde_json.specs.Find.{get}
+use Rattle.nuc_base.specs.Limits.{document_limit}
 use Rattle.nuc_base.specs.Names.{IsName, IsLabel}
 use Rattle.nuc_base.specs.Pointers.{IsPointer}
 use Rattle.nuc_base.specs.Tables.{Table, on, each}
-use Rattle.tree_core.specs.Parts.{present, IsText, IsTextOf, IsObject, IsList, members, values, check, optional, required}
+use Rattle.tree_core.specs.Counts.{IsCount}
+use Rattle.tree_core.specs.Parts.{present, IsText, IsTextOf, IsNumber, IsObject, IsList, members, values, check, optional, required}
 use Rattle.tree_core.specs.Reading.{IsTreeOf}
 use Rattle.npm_ranges.specs.Ranges.{IsRange}
 use Rattle.deployment_doc.specs.Spelled.{spelled}
@@ -18,7 +20,7 @@ use Rattle.deployment_doc.specs.declared.fault.DocFault.TheVariants as fault
 
 -- the most bytes of a document, and of the text of a merge
 abbrev pub text_limit : ℕ
-text_limit = 262144
+text_limit = document_limit
 
 -- ---- keys
 
@@ -38,10 +40,16 @@ either small large d = present (option_or (get small d) (get large d))
 abbrev pub HasBoth : List ℕ → List ℕ → Data → Type 0
 HasBoth small large d = IsSome (get small d) × IsSome (get large d)
 
--- ---- labels and the policy
+-- ---- labels, the revision and the policy
 
 abbrev pub label_lines : Key → Data → Table DocFault
 label_lines k v = check (IsText v) (fault.WrongKind k) ++ check (IsTextOf IsLabel v) (fault.BadName k)
+
+abbrev pub greatest_revision : ℕ
+greatest_revision = 2 ^ 63 - 1
+
+abbrev pub revision_lines : Data → Table DocFault
+revision_lines v = check (IsNumber v) (fault.WrongKind key.Revision) ++ check (IsCount greatest_revision v) fault.BadRevision
 
 abbrev pub IsPolicyWord : List ℕ → Type 0
 IsPolicyWord s = (s ≡ codes "ROLLBACK") ⊎ (s ≡ codes "DO_NOTHING")
@@ -110,5 +118,6 @@ document_lines d =
     check (IsObject d) (fault.WrongKind key.Document)
     ++ at_optional key.DeploymentId d (label_lines key.DeploymentId)
     ++ at_required key.TargetArn d (label_lines key.TargetArn)
+    ++ at_optional key.Revision d revision_lines
     ++ at_optional key.DeploymentPolicies d policies_lines
     ++ at_optional key.Components d components_lines

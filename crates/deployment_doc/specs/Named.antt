@@ -1,7 +1,7 @@
 -- The document that the lines name.
 use Rattle.std.specs.Prelude.{◌≡◌, ℕ, List, [], codes, Option, Some, None, ⊤}
 use Rattle.std.specs.List.{AllZip}
-use Rattle.serde_json.specs.Data.{Data, string}
+use Rattle.serde_json.specs.Data.{Data, number, unsigned, string}
 use Rattle.serde_json.specs.Find.{get}
 use Rattle.sha2.specs.Sha256.{sha256}
 use Rattle.hex.specs.Hex.{encode_lower}
@@ -23,6 +23,11 @@ use Rattle.deployment_doc.specs.declared.document.Root.{Root}
 abbrev pub IsId : List ℕ → Option Data → List ℕ → Type 0
 IsId bytes None id = id ≡ encode_lower (sha256 bytes)
 IsId bytes (Some v) id = v ≡ string id
+
+-- the revision, or where there is none 0
+abbrev pub IsRevision : Option Data → ℕ → Type 0
+IsRevision None revision = revision ≡ 0
+IsRevision (Some v) revision = v ≡ number (unsigned revision)
 
 abbrev pub policy_word : Policy → List ℕ
 policy_word Rollback = codes "ROLLBACK"
@@ -75,5 +80,6 @@ pub record IsRoot (m : List ℕ × Data) (root : Root) : Type 0 where
 pub record IsDocument (bytes : List ℕ) (d : Data) (document : Document) : Type 0 where
   pub id : IsId bytes (present (get (spelled key.DeploymentId) d)) document.id
   pub group : get (spelled key.TargetArn) d ≡ Some (string document.group)
+  pub revision : IsRevision (present (get (spelled key.Revision) d)) document.revision
   pub policy : IsPolicy (inner (present (get (spelled key.DeploymentPolicies) d)) (spelled key.FailureHandlingPolicy)) document.policy
   pub roots : AllZip IsRoot (components (present (get (spelled key.Components) d))) document.roots

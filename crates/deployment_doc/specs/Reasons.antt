@@ -1,5 +1,6 @@
 -- How a fault is printed: its word, and where it has a field one space and the field.
-use Rattle.std.specs.Prelude.{ℕ, List, ◌∷◌, ◌++◌, codes, Option, Some, None}
+use Rattle.std.specs.Prelude.{ℕ, List, codes, Option, Some, None}
+use Rattle.tree_core.specs.Reasons.{with_field}
 use Rattle.tree_core.specs.Words.{word_of as tree_word}
 use Rattle.deployment_doc.specs.Spelled.{spelled}
 use Rattle.deployment_doc.specs.declared.fault.DocFault.{DocFault}
@@ -12,6 +13,7 @@ word_of (fault.WrongKind k) = codes "WrongKind"
 word_of (fault.TooMany k) = codes "TooMany"
 word_of (fault.DuplicateKey k) = codes "DuplicateKey"
 word_of (fault.BadName k) = codes "BadName"
+word_of fault.BadRevision = codes "BadRevision"
 word_of fault.BadPolicy = codes "BadPolicy"
 word_of (fault.BadRange name) = codes "BadRange"
 word_of (fault.BadPointer name) = codes "BadPointer"
@@ -25,15 +27,12 @@ field_of (fault.WrongKind k) = Some (spelled k)
 field_of (fault.TooMany k) = Some (spelled k)
 field_of (fault.DuplicateKey k) = Some (spelled k)
 field_of (fault.BadName k) = Some (spelled k)
+field_of fault.BadRevision = None
 field_of fault.BadPolicy = None
 field_of (fault.BadRange name) = Some name
 field_of (fault.BadPointer name) = Some name
 field_of (fault.BadMerge name) = Some name
 field_of fault.NoMemory = None
-
-abbrev pub with_field : List ℕ → Option (List ℕ) → List ℕ
-with_field word None = word
-with_field word (Some field) = word ++ 32 ∷ field
 
 abbrev pub reason_of : DocFault → List ℕ
 reason_of f = with_field (word_of f) (field_of f)

@@ -18,6 +18,9 @@ pub struct Document {
     pub id: Label,
     /// The group, by the text of `targetArn`.
     pub group: Label,
+    /// Which list of the group this is, from 1 to 2^63 - 1 and rising from one document to the next, or 0 where the
+    /// document says nothing of it.
+    pub revision: u64,
     pub policy: Policy,
     /// At most 128, with names that rise strictly in byte order.
     pub roots: List<Root>,

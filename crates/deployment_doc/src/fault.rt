@@ -12,6 +12,7 @@ pub enum Key {
     Document,
     DeploymentId,
     TargetArn,
+    Revision,
     DeploymentPolicies,
     FailureHandlingPolicy,
     Components,
@@ -32,6 +33,7 @@ impl Key {
             Key::Document => "document",
             Key::DeploymentId => "deploymentId",
             Key::TargetArn => "targetArn",
+            Key::Revision => "revision",
             Key::DeploymentPolicies => "deploymentPolicies",
             Key::FailureHandlingPolicy => "failureHandlingPolicy",
             Key::Components => "components",
@@ -58,6 +60,8 @@ pub enum DocFault {
     DuplicateKey(Key),
     /// A text that is no label, or the key of a component that is no name.
     BadName(Key),
+    /// The revision is below 1 or above 2^63 - 1.
+    BadRevision,
     /// The policy is no known word.
     BadPolicy,
     /// The version of this component is no range.

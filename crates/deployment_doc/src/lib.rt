@@ -13,6 +13,7 @@ mod laws;
 mod policy;
 mod read;
 mod reason;
+mod revision;
 mod roots;
 mod update;
 

@@ -12,12 +12,11 @@ use crate::document::Document;
 use crate::fault::{DocFault, Key};
 use crate::labels::{group_of, id_of};
 use crate::policy::policy_of;
+use crate::revision::revision_of;
 use crate::roots::roots_of;
+use nuc_base::DOCUMENT_LIMIT;
 use std::alloc::Global;
 use tree_core::{Tree, TreeFault};
-
-/// The most bytes of a document, and of the text of a merge.
-pub(crate) const TEXT_LIMIT: usize = 262_144;
 
 impl Document {
     /// Reads a document (AWS IoT Greengrass V2 developer guide, "Create deployments"). The first fault answers: first
@@ -27,7 +26,7 @@ impl Document {
         ensures exact { ReadsDocument bytes.now result }
         ensures sound { IfOk result (λ document. AreSound document.roots) }
     {
-        let tree = match Tree::read(alloc, bytes, TEXT_LIMIT) {
+        let tree = match Tree::read(alloc, bytes, DOCUMENT_LIMIT) {
             Ok(tree) => tree,
             Err(TreeFault::NoMemory) => return Err(DocFault::NoMemory),
             Err(fault) => return Err(DocFault::Tree(fault)),
@@ -45,11 +44,13 @@ fn document_of(alloc: Global, bytes: &[u8], tree: &Tree) -> Result<Document, Doc
     };
     let id = id_of(alloc, bytes, tree)?;
     let group = group_of(alloc, tree)?;
+    let revision = revision_of(tree)?;
     let policy = policy_of(tree)?;
     let roots = roots_of(alloc, tree)?;
     Ok(Document {
         id,
         group,
+        revision,
         policy,
         roots,
     })

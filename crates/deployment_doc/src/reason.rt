@@ -26,6 +26,7 @@ impl DocFault {
             DocFault::TooMany(_) => "TooMany",
             DocFault::DuplicateKey(_) => "DuplicateKey",
             DocFault::BadName(_) => "BadName",
+            DocFault::BadRevision => "BadRevision",
             DocFault::BadPolicy => "BadPolicy",
             DocFault::BadRange(_) => "BadRange",
             DocFault::BadPointer(_) => "BadPointer",
@@ -46,7 +47,8 @@ impl DocFault {
             DocFault::BadRange(name) | DocFault::BadPointer(name) | DocFault::BadMerge(name) => {
                 Some(name.as_str())
             }
-            DocFault::Tree(_) | DocFault::BadPolicy | DocFault::NoMemory => None,
+            DocFault::Tree(_) | DocFault::BadRevision | DocFault::BadPolicy | DocFault::NoMemory =>
+                None,
         }
     }
 }

@@ -14,9 +14,8 @@ ghost use Rattle.deployment_doc.specs.declared.fault.DocFault.TheVariants.{NoMem
 ghost use Rattle.deployment_doc.specs.declared.fault.Key.TheVariants as key;
 
 use crate::fault::{DocFault, Key};
-use crate::read::TEXT_LIMIT;
 use config_ops::Update;
-use nuc_base::{Copied, List, Name, Pointer, PointerFault};
+use nuc_base::{Copied, DOCUMENT_LIMIT, List, Name, Pointer, PointerFault};
 use std::alloc::Global;
 use tree_core::{Tree, TreeFault};
 
@@ -34,10 +33,7 @@ pub(crate) fn update_of(
         result }
 {
     match component.present(Key::ConfigurationUpdate.text()) {
-        Some(update) => match read_update(alloc, update, name) {
-            Ok(update) => Ok(Some(update)),
-            Err(fault) => Err(fault),
-        },
+        Some(update) => Ok(Some(read_update(alloc, update, name)?)),
         None => Ok(None),
     }
 }
@@ -136,10 +132,7 @@ fn merge_of(alloc: Global, name: &Name, tree: &Tree) -> Result<Option<Tree>, Doc
     ensures { Answers OutOfMemory (on (merge_value (view tree.now)) (merge_lines name.now)) (IsMerge (merge_value (view tree.now))) result }
 {
     match either(tree, "merge", "MERGE") {
-        Some(value) => match merge_in(alloc, name, value) {
-            Ok(merge) => Ok(Some(merge)),
-            Err(fault) => Err(fault),
-        },
+        Some(value) => Ok(Some(merge_in(alloc, name, value)?)),
         None => Ok(None),
     }
 }
@@ -161,7 +154,7 @@ fn merge_read(alloc: Global, name: &Name, text: &[u8]) -> Result<Tree, DocFault>
         (λ t. IsTreeOf text.now text_limit (view t) × IsObject (view t) × IsRegular (view t))
         (λ f. (f ≡ OutOfMemory) ⊎ ((f ≡ BadMerge name.now) × ((d : Data) → IsTreeOf text.now text_limit d → IsObject d → ⊥))) }
 {
-    match Tree::read(alloc, text, TEXT_LIMIT) {
+    match Tree::read(alloc, text, DOCUMENT_LIMIT) {
         Ok(tree) => {
             if tree.is_object() {
                 Ok(tree)

@@ -6,7 +6,7 @@ use std::alloc::Global;
 use std::test::Fail;
 use tree_core::Tree;
 
-/// Whole recipes. Each line is what is answered, `Ok` with the script of the run step, a bar and the text.
+/// Whole recipes. Each line is what is answered, `Ok`, or `Back` where the bootstrap runs again on the way back, with the script of the run step, a bar and the text.
 const WHOLE: &str = r#"NotJson|{
 NotJson|
 NotWhole|{"a":1.5}
@@ -154,7 +154,20 @@ Ok x|{"run":{"Script":"x","Timeout":1000000}}
 Ok x|{"run":{"Script":"x","Timeout":null}}
 WrongKind Setenv|{"run":{"Script":"x","Setenv":1}}
 RunAndStartup|{"run":"x","startup":"y"}
-Ok|{"run":null,"startup":"y"}"#;
+Ok|{"run":null,"startup":"y"}
+Back|{"bootstrap":{"Script":"b","BootstrapOnRollback":true}}
+Back x|{"BOOTSTRAP":{"script":"b","bootstraponrollback":true},"run":"x"}
+Back|{"bootstrap":{"Script":"b","BootstrapOnRollback":true,"bootstraponrollback":false}}
+Ok|{"bootstrap":{"Script":"b","BootstrapOnRollback":false,"bootstraponrollback":true}}
+Ok|{"bootstrap":{"Script":"b","BootstrapOnRollback":false}}
+Ok|{"bootstrap":{"Script":"b","BootstrapOnRollback":null}}
+Ok|{"bootstrap":{"Script":"b","BootstrapOnRollback":"true"}}
+Ok|{"bootstrap":{"Script":"b","BootstrapOnRollback":1}}
+Ok|{"bootstrap":{"Script":"b","BootstrapOnRollback":[true]}}
+Ok|{"bootstrap":"b"}
+Ok|{"install":{"Script":"b","BootstrapOnRollback":true}}
+Ok|{"BootstrapOnRollback":true,"bootstrap":{"Script":"b"}}
+Missing Script|{"bootstrap":{"BootstrapOnRollback":true}}"#;
 
 /// The artifacts of a manifest. Each line is what is answered, `Ok` with the script of the run step, a bar and the text.
 const ARTIFACTS: &str = r#"WrongKind Artifacts|{}
@@ -216,10 +229,20 @@ fn script_of(recipe: &Recipe) -> &str {
     }
 }
 
-fn is_answer(answer: &Result<Recipe, RecipeFault>, word: &str, field: &str) -> bool {
+fn is_said(recipe: &Recipe, wanted: &str) -> bool {
+    let (word, script) = wanted.split_once(' ').unwrap_or((wanted, ""));
+    let said = if recipe.boot_back { "Back" } else { "Ok" };
+    word == said && script_of(recipe) == script
+}
+
+fn is_answer(
+    alloc: Global,
+    answer: &Result<Recipe, RecipeFault>,
+    wanted: &str,
+) -> Result<bool, Fail> {
     match answer {
-        Ok(recipe) => word == "Ok" && script_of(recipe) == field,
-        Err(fault) => fault.word() == word && fault.field().unwrap_or("") == field,
+        Ok(recipe) => Ok(is_said(recipe, wanted)),
+        Err(fault) => Ok(fault.to_string(alloc)?.as_str() == wanted),
     }
 }
 
@@ -247,9 +270,8 @@ fn is_row(
     let Some((answer, middle)) = row.split_once('|') else {
         return Ok(false);
     };
-    let (word, field) = answer.split_once(' ').unwrap_or((answer, ""));
     let result = read(alloc, platform, front, middle, back)?;
-    Ok(is_answer(&result, word, field))
+    is_answer(alloc, &result, answer)
 }
 
 /// With blanks at its end a recipe is read up to 65,536 bytes.
@@ -262,7 +284,7 @@ fn is_limited(alloc: Global, platform: &Platform) -> Result<bool, Fail> {
     let read = Recipe::read(alloc, bytes.as_slice(), platform).is_ok();
     bytes.push(b' ')?;
     let refused = Recipe::read(alloc, bytes.as_slice(), platform);
-    Ok(read && is_answer(&refused, "TooLarge", ""))
+    Ok(read && is_answer(alloc, &refused, "TooLarge")?)
 }
 
 /// The number from 1 of the first row of a table that is not answered as it says, or 0.

@@ -12,89 +12,72 @@ use std::test::Fail;
 use tree_core::Tree;
 
 const CONFIG: &str =
-    "{\"a\":\"x\",\"b\":{\"c\":[1,true]},\"d\":[null,-5,\"q\",{\"k\":\"v\"}],\"\":\"e\",\"once\":\"{configuration:/a}\",\"half\":\"{work\",\"n\":18446744073709551615,\"t\":false,\"s/t~u\":\"s\",\"q\\\"\":\"say \\\"hi\\\"\"}";
+    r#"{"a":"x","b":{"c":[1,true]},"d":[null,-5,"q",{"k":"v"}],"":"e","once":"{configuration:/a}","half":"{work","n":18446744073709551615,"t":false,"s/t~u":"s","q\"":"say \"hi\""}"#;
 
-const ROWS: &[(&str, &str)] = &[
-    (
-        "echo ${HOME} {configuration:/b} {configuration:/a} {nope} {C:work:path}",
-        "echo ${HOME} {\"c\":[1,true]} x {nope} /gg/work/C",
-    ),
-    // braces
-    ("", ""),
-    ("plain", "plain"),
-    ("{", "{"),
-    ("}", "}"),
-    ("{}", "{}"),
-    ("}{", "}{"),
-    ("{{}}", "{{}}"),
-    ("{configuration:/a", "{configuration:/a"),
-    ("configuration:/a}", "configuration:/a}"),
-    ("{{configuration:/a}}", "{x}"),
-    ("{{{configuration:/a}", "{{x"),
-    ("{configuration:/a}}}", "x}}"),
-    ("{configuration:/a}{configuration:/a}", "xx"),
-    ("{}{configuration:/a}{", "{}x{"),
-    ("{configuration:/{configuration:/a}}", "{configuration:/x}"),
-    ("{configuration:/{}a}", "{configuration:/{}a}"),
-    // once
-    ("{configuration:/once}", "{configuration:/a}"),
-    ("{configuration:/half}:path}", "{work:path}"),
-    // nodes of the configuration
-    ("{configuration:/b}", "{\"c\":[1,true]}"),
-    ("{configuration:/b/c}", "[1,true]"),
-    ("{configuration:/b/c/0}", "1"),
-    ("{configuration:/b/c/1}", "true"),
-    ("{configuration:/b/c/2}", "{configuration:/b/c/2}"),
-    ("{configuration:/b/c/01}", "{configuration:/b/c/01}"),
-    ("{configuration:/b/c/-}", "{configuration:/b/c/-}"),
-    ("{configuration:/d}", "[null,-5,\"q\",{\"k\":\"v\"}]"),
-    ("{configuration:/d/0}", "null"),
-    ("{configuration:/d/1}", "-5"),
-    ("{configuration:/d/2}", "q"),
-    ("{configuration:/d/3}", "{\"k\":\"v\"}"),
-    ("{configuration:/d/3/k}", "v"),
-    ("{configuration:/n}", "18446744073709551615"),
-    ("{configuration:/t}", "false"),
-    ("{configuration:/}", "e"),
-    ("{configuration:/s~1t~0u}", "s"),
-    ("{configuration:/q\"}", "say \"hi\""),
-    ("{configuration:/z}", "{configuration:/z}"),
-    ("{configuration:a}", "{configuration:a}"),
-    ("{configuration:/~}", "{configuration:/~}"),
-    ("{configuration}", "{configuration}"),
-    ("{Configuration:/a}", "{Configuration:/a}"),
-    // the component and the device
-    ("{artifacts:path}", "/gg/packages/artifacts/A/1.2.3"),
-    (
-        "{artifacts:decompressedPath}",
-        "/gg/packages/artifacts-unarchived/A/1.2.3",
-    ),
-    ("<{work:path}>", "</gg/work/A>"),
-    ("{kernel:rootPath}", "/gg"),
-    ("{iot:thingName}", "thing-1"),
-    ("{work:path }", "{work:path }"),
-    // dependencies
-    ("{C:artifacts:path}", "/gg/packages/artifacts/C/2.0.0"),
-    (
-        "{C:artifacts:decompressedPath}",
-        "/gg/packages/artifacts-unarchived/C/2.0.0",
-    ),
-    ("{C:configuration:/p}", "7"),
-    ("{C:configuration:}", "{\"p\":7}"),
-    ("{C:kernel:rootPath}", "{C:kernel:rootPath}"),
-    ("{C:iot:thingName}", "{C:iot:thingName}"),
-    ("{C:C:work:path}", "{C:C:work:path}"),
-    ("{C:}", "{C:}"),
-    ("{:work:path}", "{:work:path}"),
-    ("{A:work:path}", "{A:work:path}"),
-    ("{D:work:path}", "{D:work:path}"),
-    ("{a:b:c}", "{a:b:c}"),
-    ("{configuration:work:path}", "/gg/work/configuration"),
-    (
-        "\u{e9}{\u{e9}}{work:path}\u{e9}",
-        "\u{e9}{\u{e9}}/gg/work/A\u{e9}",
-    ),
-];
+/// A text, and what it becomes.
+const ROWS: &str =
+    r#"echo ${HOME} {configuration:/b} {configuration:/a} {nope} {C:work:path};echo ${HOME} {"c":[1,true]} x {nope} /gg/work/C
+;
+plain;plain
+{;{
+};}
+{};{}
+}{;}{
+{{}};{{}}
+{configuration:/a;{configuration:/a
+configuration:/a};configuration:/a}
+{{configuration:/a}};{x}
+{{{configuration:/a};{{x
+{configuration:/a}}};x}}
+{configuration:/a}{configuration:/a};xx
+{}{configuration:/a}{;{}x{
+{configuration:/{configuration:/a}};{configuration:/x}
+{configuration:/{}a};{configuration:/{}a}
+{configuration:/once};{configuration:/a}
+{configuration:/half}:path};{work:path}
+{configuration:/b};{"c":[1,true]}
+{configuration:/b/c};[1,true]
+{configuration:/b/c/0};1
+{configuration:/b/c/1};true
+{configuration:/b/c/2};{configuration:/b/c/2}
+{configuration:/b/c/01};{configuration:/b/c/01}
+{configuration:/b/c/-};{configuration:/b/c/-}
+{configuration:/d};[null,-5,"q",{"k":"v"}]
+{configuration:/d/0};null
+{configuration:/d/1};-5
+{configuration:/d/2};q
+{configuration:/d/3};{"k":"v"}
+{configuration:/d/3/k};v
+{configuration:/n};18446744073709551615
+{configuration:/t};false
+{configuration:/};e
+{configuration:/s~1t~0u};s
+{configuration:/q"};say "hi"
+{configuration:/z};{configuration:/z}
+{configuration:a};{configuration:a}
+{configuration:/~};{configuration:/~}
+{configuration};{configuration}
+{Configuration:/a};{Configuration:/a}
+{artifacts:path};/gg/packages/artifacts/A/1.2.3
+{artifacts:decompressedPath};/gg/packages/artifacts-unarchived/A/1.2.3
+<{work:path}>;</gg/work/A>
+{kernel:rootPath};/gg
+{iot:thingName};thing-1
+{work:path };{work:path }
+{C:artifacts:path};/gg/packages/artifacts/C/2.0.0
+{C:artifacts:decompressedPath};/gg/packages/artifacts-unarchived/C/2.0.0
+{C:configuration:/p};7
+{C:configuration:};{"p":7}
+{C:kernel:rootPath};{C:kernel:rootPath}
+{C:iot:thingName};{C:iot:thingName}
+{C:C:work:path};{C:C:work:path}
+{C:};{C:}
+{:work:path};{:work:path}
+{A:work:path};{A:work:path}
+{D:work:path};{D:work:path}
+{a:b:c};{a:b:c}
+{configuration:work:path};/gg/work/configuration
+é{é}{work:path}é;é{é}/gg/work/Aé"#;
 
 fn place(alloc: Global, name: &str, version: &str, config: &str) -> Result<Place, Fail>
     ensures { IfOk result (λ p. IsRegular (view p.config)) }
@@ -134,16 +117,25 @@ fn becomes(alloc: Global, scope: &Scope, text: &str, wanted: &str) -> Result<boo
     Ok(expand(alloc, &text, scope)?.as_str() == wanted)
 }
 
-/// The place of the first row that becomes another text than it should.
-fn first_wrong(alloc: Global, scope: &Scope, rows: &[(&str, &str)]) -> Result<Option<usize>, Fail>
+fn is_row(alloc: Global, scope: &Scope, row: &str) -> Result<bool, Fail>
     requires { HasRegularConfigs scope.now }
 {
-    for (i, (text, wanted)) in rows.iter().enumerate() {
-        if !becomes(alloc, scope, text, wanted)? {
-            return Ok(Some(i));
+    match row.split_once(';') {
+        Some((text, wanted)) => becomes(alloc, scope, text, wanted),
+        None => Ok(false),
+    }
+}
+
+/// The first row that becomes another text than it should, or the empty text.
+fn first_wrong<'t>(alloc: Global, scope: &Scope, rows: &'t str) -> Result<&'t str, Fail>
+    requires { HasRegularConfigs scope.now }
+{
+    for row in rows.lines() {
+        if !is_row(alloc, scope, row)? {
+            return Ok(row);
         }
     }
-    Ok(None)
+    Ok("")
 }
 
 /// Whether `{configuration:}` is replaced where the configuration is a text of so many bytes.
@@ -163,7 +155,7 @@ fn is_put_in(alloc: Global, bytes: usize) -> Result<bool, Fail> {
 fn variables_are_replaced(rt: HostRuntime) -> Result<(), Fail> {
     let alloc = rt.alloc();
     let scope = scope_with(alloc, CONFIG)?;
-    assert!(rt; first_wrong(alloc, &scope, ROWS)? == None);
+    assert_eq!(rt; first_wrong(alloc, &scope, ROWS)?, "");
     assert!(rt; is_put_in(alloc, 4096)? && !is_put_in(alloc, 4097)?);
     let folder = work_folder(alloc, &scope.root, &scope.own.name)?;
     assert_eq!(rt; folder.as_str(), "/gg/work/A");
