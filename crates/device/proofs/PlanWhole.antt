@@ -167,7 +167,7 @@ module _ (one : IsOneRecipe) (platform : Platform) (items : List code.Item) (rec
       record {
         at = s.at;
         stands = stands items b.item n s b.named;
-        step = λ d. subst (λ (r : Recipe). IsSome r.bootstrap) (sym ((pair b.item s).other_is d)) (some_too b.recipe.bootstrap (pair b.item s).other.bootstrap (like.steps Bootstrap) b.step);
+        step = λ d. subst (λ (r : Recipe). IsSome r.bootstrap) (sym ((pair b.item s).other_is d)) (some_too b.recipe.bootstrap (pair b.item s).other.bootstrap (ap is_some (like.steps Bootstrap)) b.step);
       }
 
   -- ---- the whole
