@@ -38,10 +38,4 @@ pub use scopes::scope_of;
 pub use staged::{Pending, Stage};
 
 #[cfg(test)]
-mod limits_tests;
-#[cfg(test)]
-mod plans_tests;
-#[cfg(test)]
-mod scopes_tests;
-#[cfg(test)]
 mod tests;
