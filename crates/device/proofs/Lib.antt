@@ -14,3 +14,9 @@ pub mod PlanEdges
 pub mod PlanWhole
 pub mod PlanLengths
 pub mod ScopeLoops
+pub mod SoundStages
+pub mod SoundLists
+pub mod Sounding
+pub mod Roomy
+pub mod Moving
+pub mod Flags

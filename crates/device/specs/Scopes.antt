@@ -19,10 +19,6 @@ pub record IsPlaceOf (item : Item) (place : Place) : Type 0 where
   pub version : place.version ≡ item.version
   pub config : view place.config ≡ item.config
 
--- the bytes are a recipe for the platform
-abbrev pub HasSomeRecipe : Platform → List ℕ → Type 0
-HasSomeRecipe platform bytes = (recipe : Recipe) × Reads bytes platform recipe
-
 -- the recipe names the item as a dependency
 abbrev pub is_needed : Recipe → Item → Bool
 is_needed recipe item = list_any (λ d. bytes_eq d.name item.name) recipe.dependencies

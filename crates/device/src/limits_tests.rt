@@ -64,7 +64,7 @@ const PLANS: &[(Sizes, bool)] = &[
     ),
 ];
 
-fn push_number(payload: &mut Vec<u8>, number: usize) -> Result<(), Fail> {
+pub(crate) fn push_number(payload: &mut Vec<u8>, number: usize) -> Result<(), Fail> {
     let number = number.min(1_000_000) as u32;
     payload.extend_from_slice(&number.to_be_bytes())?;
     Ok(())
@@ -197,17 +197,17 @@ fn deployed(
     Ok(deployments.len())
 }
 
-/// Of 300 groups how many join, to how many of the first and the last of them one deploys then, and how many there are.
+/// Of 600 groups how many join, to how many of the first and the last of them one deploys then, and how many there are.
 fn joined(alloc: Global) -> Result<(usize, usize, usize), Fail> {
     let mut device = Device::empty(alloc);
     are_taken(alloc, &mut device, "genesis")?;
-    let count = join(alloc, &mut device, 300)?;
-    let again = deployed(alloc, &mut device, &[("d100", "n100"), ("d355", "n355")])?;
+    let count = join(alloc, &mut device, 600)?;
+    let again = deployed(alloc, &mut device, &[("d100", "n100"), ("d611", "n611")])?;
     Ok((count, again, device.groups.len()))
 }
 
 #[test]
-fn groups_are_256_at_most(rt: HostRuntime) -> Result<(), Fail> {
-    assert!(rt; joined(rt.alloc())? == (256, 2, 256));
+fn groups_are_512_at_most(rt: HostRuntime) -> Result<(), Fail> {
+    assert!(rt; joined(rt.alloc())? == (512, 2, 512));
     Ok(())
 }

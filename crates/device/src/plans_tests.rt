@@ -1,19 +1,9 @@
-// Plans that a device takes and plans that it does not, and the scope of an item.
-ghost use Rattle.std.specs.Prelude.{◌≡◌, List, map, IfOk};
-ghost use Rattle.std.specs.List.{All};
-ghost use Rattle.tree_core.specs.Regular.{IsRegular};
-ghost use Rattle.tree_core.specs.View.{view};
-ghost use Rattle.records.specs.Stored.{item_view, plan_view};
-ghost use Rattle.device.specs.Plans.{AreRegularItems};
-ghost use Rattle.device.specs.PlanNeeds.{IsRegularAt};
-
-use crate::plans::is_plan;
-use npm_ranges::{Range, Version};
-use nuc_base::{Bytes, Label, List, Name, Platform, Policy};
-use records::{Held, Item, Plan, Requirement};
+// Plans that a device takes and plans that it does not, each spelled as the journal holds it.
+use crate::Device;
+use crate::limits_tests::push_number;
+use crate::tests::{are_taken, is_taken};
 use std::alloc::Global;
 use std::test::Fail;
-use tree_core::Tree;
 
 /// Needs b softly, and has a file with a digest of 32 bytes 0x11.
 const A: &str =
@@ -33,12 +23,12 @@ const CYCLIC_B: &str =
 
 /// An item: its name, version, recipe and configuration, and the byte of which the digest of its one file is made.
 #[derive(Clone, Copy)]
-pub(crate) struct Row<'a> {
-    pub(crate) name: &'a str,
-    pub(crate) version: &'a str,
-    pub(crate) recipe: &'a str,
-    pub(crate) config: &'a str,
-    pub(crate) digest: Option<u8>,
+struct Row<'a> {
+    name: &'a str,
+    version: &'a str,
+    recipe: &'a str,
+    config: &'a str,
+    digest: Option<u8>,
 }
 
 #[derive(Clone, Copy)]
@@ -234,87 +224,64 @@ const CASES: &[Case] = &[
     },
 ];
 
-fn files_of(alloc: Global, digest: Option<u8>) -> Result<List<Held>, Fail> {
-    let mut files = List::empty(alloc);
-    if let Some(byte) = digest {
-        files.push(Held {
-            file: Label::read(alloc, b"f")?,
-            digest: [byte; 32],
-        })?;
+/// Adds a text behind its length.
+fn push_text(payload: &mut Vec<u8>, text: &str) -> Result<(), Fail> {
+    push_number(payload, text.len())?;
+    payload.extend_from_slice(text.as_bytes())?;
+    Ok(())
+}
+
+fn push_item(payload: &mut Vec<u8>, row: &Row) -> Result<(), Fail> {
+    push_text(payload, row.name)?;
+    push_text(payload, row.version)?;
+    push_text(payload, row.recipe)?;
+    push_text(payload, row.config)?;
+    match row.digest {
+        Some(byte) => {
+            payload.extend_from_slice(b"\0\0\0\x01\0\0\0\x01f")?;
+            payload.extend_from_slice(&[byte; 32])?;
+        }
+        None => push_number(payload, 0)?,
     }
-    Ok(files)
+    Ok(())
 }
 
-fn item_of(alloc: Global, row: &Row) -> Result<Item, Fail>
-    ensures { IfOk result IsRegularAt }
-{
-    Ok(Item {
-        name: Name::read(alloc, row.name.as_bytes())?,
-        version: Version::read(alloc, row.version.as_bytes())?,
-        recipe: Bytes::from_slice(alloc, row.recipe.as_bytes())?,
-        config: Tree::read(alloc, row.config.as_bytes(), 5000)?,
-        artifacts: files_of(alloc, row.digest)?,
-    })
-}
-
-pub(crate) fn items_of(alloc: Global, rows: &[Row]) -> Result<List<Item>, Fail>
-    ensures { IfOk result (λ items. All IsRegularAt items) }
-{
-    let mut items = List::empty(alloc);
-    for row in rows {
-        items.push(item_of(alloc, row)?)?;
+/// Adds names, each with what is to stand behind it.
+fn push_names(payload: &mut Vec<u8>, names: &[&str], tail: &[u8]) -> Result<(), Fail> {
+    push_number(payload, names.len())?;
+    for name in names {
+        push_text(payload, name)?;
+        payload.extend_from_slice(tail)?;
     }
-    Ok(items)
+    Ok(())
 }
 
-fn names_of(alloc: Global, texts: &[&str]) -> Result<List<Name>, Fail> {
-    let mut names = List::empty(alloc);
-    for text in texts {
-        names.push(Name::read(alloc, text.as_bytes())?)?;
+/// The plan as the journal holds it.
+fn payload_of(alloc: Global, case: &Case) -> Result<Vec<u8>, Fail> {
+    let mut payload = Vec::from_slice(alloc, b"\x12\0\0\0\x02d1\0\0\0\x02g1\0")?;
+    push_names(&mut payload, case.requirements, b"\0\0\0\x01*")?;
+    push_number(&mut payload, case.items.len())?;
+    for row in case.items {
+        push_item(&mut payload, row)?;
     }
-    Ok(names)
+    push_names(&mut payload, case.boots, b"")?;
+    Ok(payload)
 }
 
-fn requirements_of(alloc: Global, texts: &[&str]) -> Result<List<Requirement>, Fail> {
-    let mut requirements = List::empty(alloc);
-    for text in texts {
-        requirements.push(Requirement {
-            name: Name::read(alloc, text.as_bytes())?,
-            range: Range::read(alloc, b"*")?,
-        })?;
-    }
-    Ok(requirements)
-}
-
-fn plan_of(alloc: Global, case: &Case) -> Result<Plan, Fail>
-    ensures { IfOk result (λ plan. All IsRegularAt plan.items) }
-{
-    Ok(Plan {
-        id: Label::read(alloc, b"d1")?,
-        group: Label::read(alloc, b"g1")?,
-        policy: Policy::Rollback,
-        requirements: requirements_of(alloc, case.requirements)?,
-        items: items_of(alloc, case.items)?,
-        boots: names_of(alloc, case.boots)?,
-    })
-}
-
-pub(crate) fn linux(alloc: Global) -> Result<Platform, Fail> {
-    Ok(Platform {
-        os: Label::read(alloc, b"linux")?,
-        architecture: Label::read(alloc, b"amd64")?,
-    })
-}
-
-fn is_as_told(alloc: Global, platform: &Platform, case: &Case) -> Result<bool, Fail> {
-    let plan = plan_of(alloc, case)?;
-    Ok(is_plan(alloc, platform, &plan)? == case.is_plan)
+/// Whether a device that has started takes the plan or not, as it should.
+fn is_as_told(alloc: Global, case: &Case) -> Result<bool, Fail> {
+    let mut device = Device::empty(alloc);
+    let payload = payload_of(alloc, case)?;
+    Ok(
+        are_taken(alloc, &mut device, "genesis")?
+            && is_taken(alloc, &mut device, &payload)? == case.is_plan,
+    )
 }
 
 /// The place of the first case that is answered otherwise, or their count.
-fn first_wrong(alloc: Global, platform: &Platform, cases: &[Case]) -> Result<usize, Fail> {
+fn first_wrong(alloc: Global, cases: &[Case]) -> Result<usize, Fail> {
     for (at, case) in cases.iter().enumerate() {
-        if !is_as_told(alloc, platform, case)? {
+        if !is_as_told(alloc, case)? {
             return Ok(at);
         }
     }
@@ -323,9 +290,6 @@ fn first_wrong(alloc: Global, platform: &Platform, cases: &[Case]) -> Result<usi
 
 #[test]
 fn plans_are_taken_or_not(rt: HostRuntime) -> Result<(), Fail> {
-    let alloc = rt.alloc();
-    let platform = linux(alloc)?;
-    let wrong = first_wrong(alloc, &platform, CASES)?;
-    assert_eq!(rt; wrong, CASES.len());
+    assert_eq!(rt; first_wrong(rt.alloc(), CASES)?, CASES.len());
     Ok(())
 }

@@ -4,49 +4,26 @@ ghost use Rattle.std.specs.List.{All};
 ghost use Rattle.interpolation.specs.Scopes.{HasRegularConfigs};
 ghost use Rattle.device.specs.PlanNeeds.{IsRegularAt};
 
-use crate::plans_tests::{Row, items_of, linux};
 use crate::scope_of;
 use interpolation::{Scope, expand};
 use npm_ranges::Version;
-use nuc_base::{Label, List, Text};
+use nuc_base::{Bytes, Label, List, Name, Platform, Text};
 use recipe_reader::Recipe;
 use records::{Item, Origin};
 use std::alloc::Global;
 use std::test::Fail;
+use tree_core::Tree;
 
 /// Needs b and, softly, d.
 const A: &str =
     "{\"RecipeFormatVersion\":\"2020-01-25\",\"ComponentName\":\"a\",\"ComponentVersion\":\"1.0.0\",\"ComponentDependencies\":{\"d\":{\"DependencyType\":\"SOFT\"},\"b\":{\"VersionRequirement\":\"^1.0.0\"}}}";
 
-const ITEMS: &[Row] = &[
-    Row {
-        name: "a",
-        version: "1.0.0",
-        recipe: A,
-        config: "{\"x\":\"y\"}",
-        digest: None,
-    },
-    Row {
-        name: "b",
-        version: "1.1.0",
-        recipe: "",
-        config: "{\"n\":7}",
-        digest: None,
-    },
-    Row {
-        name: "c",
-        version: "1.0.0",
-        recipe: "",
-        config: "{}",
-        digest: None,
-    },
-    Row {
-        name: "d",
-        version: "3.0.0",
-        recipe: "",
-        config: "{\"l\":[true]}",
-        digest: None,
-    },
+/// Names, versions, recipes and configurations.
+const ITEMS: &[(&str, &str, &str, &str)] = &[
+    ("a", "1.0.0", A, "{\"x\":\"y\"}"),
+    ("b", "1.1.0", "", "{\"n\":7}"),
+    ("c", "1.0.0", "", "{}"),
+    ("d", "3.0.0", "", "{\"l\":[true]}"),
 ];
 
 const TEXTS: &[(&str, &str)] = &[
@@ -61,12 +38,37 @@ const TEXTS: &[(&str, &str)] = &[
     ("{a:work:path} {c:work:path}", "{a:work:path} {c:work:path}"),
 ];
 
+fn item_of(alloc: Global, row: (&str, &str, &str, &str)) -> Result<Item, Fail>
+    ensures { IfOk result IsRegularAt }
+{
+    Ok(Item {
+        name: Name::read(alloc, row.0.as_bytes())?,
+        version: Version::read(alloc, row.1.as_bytes())?,
+        recipe: Bytes::from_slice(alloc, row.2.as_bytes())?,
+        config: Tree::read(alloc, row.3.as_bytes(), 5000)?,
+        artifacts: List::empty(alloc),
+    })
+}
+
+fn items_of(alloc: Global, rows: &[(&str, &str, &str, &str)]) -> Result<List<Item>, Fail>
+    ensures { IfOk result (λ items. All IsRegularAt items) }
+{
+    let mut items = List::empty(alloc);
+    for row in rows {
+        items.push(item_of(alloc, *row)?)?;
+    }
+    Ok(items)
+}
+
 fn origin(alloc: Global) -> Result<Origin, Fail> {
     Ok(Origin {
         root: Text::from_str(alloc, "/gg")?,
         thing: Label::read(alloc, b"t1")?,
         nucleus: Version::read(alloc, b"2.12.0")?,
-        platform: linux(alloc)?,
+        platform: Platform {
+            os: Label::read(alloc, b"linux")?,
+            architecture: Label::read(alloc, b"amd64")?,
+        },
     })
 }
 

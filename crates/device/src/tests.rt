@@ -1,7 +1,6 @@
 use crate::{ApplyFault, Device, ReplayFault, replay};
 use disk_model::{Disk, MemoryDisk};
-use gate_log::{FindFault, Log};
-use nuc_base::Label;
+use gate_log::{FindFault, Journal, Log};
 use std::alloc::Global;
 use std::test::Fail;
 
@@ -39,6 +38,26 @@ const RECORDS: &[(&str, &[u8])] = &[
         "again",
         b"\x12\0\0\0\x02d0\0\0\0\x01g\0\0\0\0\0\0\0\0\x01\0\0\0\x01b\0\0\0\x051.0.0\0\0\0\x81{\"RecipeFormatVersion\":\"2020-01-25\",\"ComponentName\":\"b\",\"ComponentVersion\":\"1.0.0\",\"Manifests\":[{\"Lifecycle\":{\"bootstrap\":\"s\"}}]}\0\0\0\x02{}\0\0\0\0\0\0\0\0",
     ),
+    (
+        "back",
+        b"\x12\0\0\0\x02d0\0\0\0\x01g\0\0\0\0\0\0\0\0\x01\0\0\0\x01a\0\0\0\x051.0.0\0\0\0\xa7{\"RecipeFormatVersion\":\"2020-01-25\",\"ComponentName\":\"a\",\"ComponentVersion\":\"1.0.0\",\"Manifests\":[{\"Lifecycle\":{\"bootstrap\":{\"Script\":\"s\",\"BootstrapOnRollback\":true}}}]}\0\0\0\x02{}\0\0\0\0\0\0\0\0",
+    ),
+    (
+        "r5",
+        b"\x1d\0\0\0\x02d5\0\0\0\x01g\0\0\0\0\0\0\0\x05\0\0\0\0\0\0\0\0\0\0\0\0\0",
+    ),
+    (
+        "r4",
+        b"\x1d\0\0\0\x02d4\0\0\0\x01g\0\0\0\0\0\0\0\x04\0\0\0\0\0\0\0\0\0\0\0\0\0",
+    ),
+    (
+        "r0",
+        b"\x12\0\0\0\x02d9\0\0\0\x01g\0\0\0\0\0\0\0\0\0\0\0\0\0",
+    ),
+    ("failing-back-a", b"\x1f\0\0\0\x01a"),
+    ("failing-back-b", b"\x1f\0\0\0\x01b"),
+    ("grouped", b"\x1a\0\0\0\x01g\0\0\0\0"),
+    ("ended", b"\x1c\0\0\0\x01x\x01"),
     ("begin-a", b"\x13\0\0\0\x01a"),
     ("begin-b", b"\x13\0\0\0\x01b"),
     ("begin-c", b"\x13\0\0\0\x01c"),
@@ -116,6 +135,42 @@ const LAWFUL: &[(&str, &str)] = &[
     ),
     (
         "genesis first activate close-successful boots begin-b end-b-lost failing-b fail-a fail-a fail-a",
+        "close-unable",
+    ),
+    // A revision that does not fall, and none.
+    ("genesis r4 activate close-successful", "r5"),
+    ("genesis r5 activate close-successful", "r0"),
+    // The way back: of the bootstraps that had begun, that of a runs again. A journal that goes back without it stands.
+    (
+        "genesis back activate close-successful boots begin-b end-b-0 begin-a end-a-1",
+        "failing-back-a",
+    ),
+    (
+        "genesis back activate close-successful boots begin-b end-b-0 begin-a end-a-1",
+        "failing-a",
+    ),
+    (
+        "genesis back activate close-successful boots begin-b end-b-0 begin-a end-a-1 failing-a",
+        "close-rolled",
+    ),
+    (
+        "genesis back activate close-successful boots begin-b end-b-0 begin-a end-a-1 failing-back-a",
+        "begin-a",
+    ),
+    (
+        "genesis back activate close-successful boots begin-b end-b-0 begin-a end-a-1 failing-back-a begin-a",
+        "end-a-100",
+    ),
+    (
+        "genesis back activate close-successful boots begin-b end-b-0 begin-a end-a-1 failing-back-a begin-a end-a-100",
+        "fail-a",
+    ),
+    (
+        "genesis back activate close-successful boots begin-b end-b-0 begin-a end-a-1 failing-back-a begin-a end-a-0",
+        "close-rolled",
+    ),
+    (
+        "genesis back activate close-successful boots begin-b end-b-0 begin-a end-a-1 failing-back-a begin-a end-a-1",
         "close-unable",
     ),
 ];
@@ -196,6 +251,45 @@ const UNLAWFUL: &[(&str, &str)] = &[
     // Not Rolling, no count of three.
     ("genesis bare activate fail-a fail-a fail-a", "close-unable"),
     ("genesis boots begin-b end-b-1 failing-b", "close-unable"),
+    // A revision that falls, also behind a deployment without one.
+    ("genesis r5 activate close-successful", "r4"),
+    (
+        "genesis r5 activate close-successful r0 activate close-successful",
+        "r4",
+    ),
+    // No back: the bootstrap of a had not begun, or its recipe does not ask for it; another name.
+    (
+        "genesis back activate close-successful boots begin-b end-b-1",
+        "failing-back-b",
+    ),
+    (
+        "genesis first activate close-successful boots begin-b end-b-0 begin-a end-a-1",
+        "failing-back-a",
+    ),
+    (
+        "genesis back activate close-successful boots begin-b end-b-0 begin-a end-a-1",
+        "failing-back-b",
+    ),
+    // Backing: a failure of a step, another failure, an end before one of a bootstrap, and one that did not fail.
+    (
+        "genesis back activate close-successful boots begin-b end-b-0 begin-a end-a-1 failing-back-a",
+        "fail-a",
+    ),
+    (
+        "genesis back activate close-successful boots begin-b end-b-0 begin-a end-a-1 failing-back-a begin-a end-a-1",
+        "failing-a",
+    ),
+    (
+        "genesis back activate close-successful boots begin-b end-b-0 begin-a end-a-1 failing-back-a",
+        "close-rolled",
+    ),
+    (
+        "genesis back activate close-successful boots begin-b end-b-0 begin-a end-a-1 failing-back-a begin-a",
+        "close-unable",
+    ),
+    // The records of a front.
+    ("genesis", "grouped"),
+    ("genesis", "ended"),
 ];
 
 fn records() -> &'static [(&'static str, &'static [u8])] {
@@ -358,9 +452,9 @@ fn many_closed_deployments_are_replayed(rt: HostRuntime) -> Result<(), Fail> {
     let alloc = rt.alloc();
     let few = closings(alloc, 300, "")?;
     assert!(rt; found_in(alloc, 1, &few, 1)? == Found::Device(300));
-    // All 65,536 are taken, and behind their entries no more is accepted, whatever its id.
-    let end = closings(alloc, 65_536, "")?.len().saturating_sub(1) as u64;
-    let more = closings(alloc, 65_536, "more")?;
+    // All 131,072 are taken, and behind their entries no more is accepted, whatever its id.
+    let end = closings(alloc, 131_072, "")?.len().saturating_sub(1) as u64;
+    let more = closings(alloc, 131_072, "more")?;
     assert!(rt; found_in(alloc, 1, &more, 1)? == Found::Damaged(end));
     // An id that is closed is not accepted again: the entry of d2 stands behind those of d0 and d1.
     let again = closings(alloc, 2, "d1")?;
