@@ -1,4 +1,5 @@
 ghost use Rattle.std.specs.Prelude.{◌≤◌, length, All, IfOk};
+ghost use Rattle.records.specs.Stored.{item_view};
 ghost use Rattle.recipe_reader.specs.Candidates.{IsRead, IsReadFor};
 ghost use Rattle.library_core.specs.Sources.{IsKept};
 
@@ -347,7 +348,7 @@ fn is_wanted(given: &Result<Candidates, CandidatesFault>, want: Want) -> bool {
 }
 
 fn item(alloc: Global, platform: &Platform, text: &str) -> Result<Item, NoMemory>
-    ensures { IfOk result (IsKept platform.now) }
+    ensures { IfOk result (λ item. IsKept platform.now (item_view item)) }
 {
     let Candidate { recipe, bytes } = candidate(alloc, platform, text)?;
     Ok(Item {
@@ -362,7 +363,7 @@ fn item(alloc: Global, platform: &Platform, text: &str) -> Result<Item, NoMemory
 /// The items of the first two recipes.
 fn items(alloc: Global, platform: &Platform, texts: &[&str]) -> Result<List<Item>, NoMemory>
     ensures few { IfOk result (λ kept. length kept ≤ 128) }
-    ensures read { IfOk result (All (IsKept platform.now)) }
+    ensures read { IfOk result (All (λ item. IsKept platform.now (item_view item))) }
 {
     match texts {
         [] => Ok(List::empty(alloc)),
