@@ -1,4 +1,4 @@
-ghost use Rattle.std.specs.Prelude.{◌≡◌, ◌≤◌, ℕ, [], false, length, IfOk, OnOk};
+ghost use Rattle.std.specs.Prelude.{◌≡◌, ◌≤◌, ℕ, [], false, length, IfOk};
 ghost use Rattle.nuc_base.specs.Faults.{HasCause};
 ghost use Rattle.nucleus.specs.Untold.{untold_laws, no_image};
 
@@ -49,7 +49,6 @@ impl<'a, R: Files + AllocGlobal> FileDisk<'a, R> {
     fn counted<T: Drop>(&mut self, answer: io::Result<T>) -> Result<T, DiskFault>
         ensures value { IfOk result (λ value. answer ≡ Ok value) }
         ensures cause { HasCause self.old.faults self.new.faults result }
-        ensures quiet { OnOk result (self.new.faults ≡ self.old.faults) }
     {
         match answer {
             Ok(value) => Ok(value),

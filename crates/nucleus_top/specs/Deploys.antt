@@ -8,7 +8,7 @@ use Rattle.nucleus_top.specs.State.{state_text}
 use Rattle.nucleus_top.specs.Answers.{Store, Input, Printed, IsUnchanged, HasRisen, Prints, Yields, stored_lines, refused_line, status_of}
 use Rattle.nucleus_top.specs.declared.document.Deployment.{Deployment}
 use Rattle.nucleus_top.specs.declared.answer.Answer.{Answer}
-use Rattle.nucleus_top.specs.declared.answer.Answer.TheVariants.{Stored, Made, Shown, WrongWords, Refused, DiskFailed, SourceFailed, NotInitialised, Damaged, Initialised, NoMemory}
+use Rattle.nucleus_top.specs.declared.answer.Answer.TheVariants.{Stored, Refused, DiskFailed, SourceFailed, NoMemory}
 
 -- the document is that deployment, and the file `state` is its text
 abbrev pub IsStored : Store → Input → Deployment → Type 0
@@ -17,16 +17,11 @@ IsStored store input deployment = IfSome input.document (λ document. FirstForm 
 -- Why an answer comes, and what it leaves on the disk.
 abbrev pub Deploys : Store → Input → Answer → Type 0
 Deploys store input (Stored deployment) = IsStored store input deployment
-Deploys store input (Made thing) = ⊥
-Deploys store input (Shown text) = ⊥
-Deploys store input WrongWords = ⊥
 Deploys store input Refused = IfSome input.document HasNoForm × IsUnchanged store
 Deploys store input DiskFailed = IfSome input.document HasForm × HasRisen store
 Deploys store input SourceFailed = Rose input.faults_before input.faults_after × IsUnchanged store
-Deploys store input NotInitialised = ⊥
-Deploys store input (Damaged place) = ⊥
-Deploys store input (Initialised thing) = ⊥
 Deploys store input NoMemory = IsUnchanged store
+Deploys store input _ = ⊥
 
 pub record DeployParts (store : Store) (input : Input) (printed : Printed) (result : Status) : Type 0 where
   -- The status is that of an answer that comes by its cause, or 6.
