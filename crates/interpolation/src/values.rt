@@ -1,4 +1,5 @@
 ghost use Rattle.std.specs.Prelude.{◌≡◌, IfOk, IfErr, Some, option_map};
+ghost use Rattle.serde_json.specs.Written.{compact_text};
 ghost use Rattle.tree_core.specs.Regular.{IsRegular};
 ghost use Rattle.tree_core.specs.View.{view};
 ghost use Rattle.interpolation.specs.Values.{shown, configured, folder_of_version, folder_of_work, of_component, of_dependency, value, short};
@@ -142,17 +143,27 @@ fn config_value(alloc: Global, at: &str, config: &Tree) -> Result<Option<Text>, 
     }
 }
 
-/// A text as it is, any other node as compact JSON. A text that is surely too long is not made.
+/// A text as it is, any other node as compact JSON. One that is too long is not made.
 fn node_text(alloc: Global, node: &Tree) -> Result<Text, ValueFault>
     requires { IsRegular (view node.now) }
     ensures ok { IfOk result (λ t. t ≡ shown (view node.now)) }
     ensures err { IfErr result (IsFaultOf (Some (shown (view node.now)))) }
 {
-    let Some(_room) = room_left(node, VALUE_LIMIT) else {
-        return Err(ValueFault::TooLong);
-    };
     match node {
+        Tree::Text(text) if text.len() > VALUE_LIMIT => Err(ValueFault::TooLong),
         Tree::Text(text) => Ok(text.copy(alloc)?),
-        _ => Ok(node.write(alloc)?),
+        _ => compact(alloc, node),
+    }
+}
+
+/// The compact text, which is measured before it is written.
+fn compact(alloc: Global, node: &Tree) -> Result<Text, ValueFault>
+    requires { IsRegular (view node.now) }
+    ensures ok { IfOk result (λ t. t ≡ compact_text (view node.now)) }
+    ensures err { IfErr result (IsFaultOf (Some (compact_text (view node.now)))) }
+{
+    match room_left(node, VALUE_LIMIT) {
+        Some(_) => Ok(node.write(alloc)?),
+        None => Err(ValueFault::TooLong),
     }
 }
