@@ -1,18 +1,25 @@
 -- One lawful record, as the plain course sees it.
-use Rattle.std.proofs.Common.{◌≡◌, ℕ, Bool, true, false, List, [], ◌∷◌, Option, Some, None, refl, ap, ◌∙◌, ◌+◌}
+use Rattle.std.proofs.Common.{◌≡◌, ℕ, Bool, true, false, List, [], ◌∷◌, Option, Some, None, refl, ap, ◌∙◌}
 use Rattle.std.specs.Prelude.{option_map, if◌then◌else◌}
 use Rattle.nuc_base.specs.declared.kinds.Exit.{Exit}
 use Rattle.nuc_base.specs.declared.kinds.Outcome.{Outcome}
-use Rattle.records.specs.Stored.{Item, Plan, Record, Genesis, Accepted, BootBegun, BootEnded, Activating, StepFailed, Failing, Closed}
+use Rattle.records.specs.Stored.{Item, Plan, Record, BootBegun, BootEnded, Activating, StepFailed, Failing, FailingBack, Closed}
 use Rattle.device.specs.After.{course, closing, course_after, After}
 use Rattle.device.specs.Devices.{Device, Pending}
-use Rattle.device.specs.Lawful.{applied, on_pending, close_pending, boot_ended, goes_on, count_failure, failing_place, begun, activated, rolled, counted, Run}
+use Rattle.device.specs.Lawful.{applied, on_pending, close_pending, boot_ended, moved_on, has_gone_back, one_ended, goes_on, count_failure, failing_place, begun, activated, rolled, turned_back, counted, Run}
+
+moved_plan : (q : Pending) → (moved_on q).plan ≡ q.plan
+moved_plan q = by (has_gone_back (one_ended q))
+  where
+    by : (b : Bool) → (if b then rolled (one_ended q) else one_ended q).plan ≡ q.plan
+    by true = refl
+    by false = refl
 
 pub ended_plan : (e : Exit) (q : Pending) → (boot_ended e q).plan ≡ q.plan
 ended_plan e q = by (goes_on e)
   where
-    by : (b : Bool) → (if b then record q { ended = q.ended + 1; begun = false } else record q { boot_failed = true }).plan ≡ q.plan
-    by true = refl
+    by : (b : Bool) → (if b then moved_on q else record q { boot_failed = true }).plan ≡ q.plan
+    by true = moved_plan q
     by false = refl
 
 pub counted_plan : (set : List Item) (n : List ℕ) (q : Pending) → (count_failure set n q).plan ≡ q.plan
@@ -35,14 +42,14 @@ closes d o None is = refl
 closes d o (Some q) is = refl
 
 step : (d : Device) (r : Record) → course (applied d r) ≡ course_after (course d) r
-step d (Genesis o) = refl
-step d (Accepted p) = refl
 step d (BootBegun n) = kept begun d (λ q. refl)
 step d (BootEnded n e) = kept (boot_ended e) d (ended_plan e)
 step d Activating = kept activated d (λ q. refl)
 step d (StepFailed n s e) = kept (count_failure d.set n) d (counted_plan d.set n)
 step d (Failing n) = kept rolled d (λ q. refl)
+step d (FailingBack n) = kept (turned_back d.origin d.set) d (λ q. refl)
 step d (Closed o) = closes d o d.pending refl
+step d _ = refl
 
 pub run : (records : List Record) (d e : Device) → Run d records e → course e ≡ After (course d) records
 run [] d e h = ap course h

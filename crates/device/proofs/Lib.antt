@@ -14,3 +14,13 @@ pub mod PlanEdges
 pub mod PlanWhole
 pub mod PlanLengths
 pub mod ScopeLoops
+pub mod SoundStages
+pub mod SoundLists
+pub mod Sounding
+pub mod Roomy
+pub mod Moving
+pub mod Flags
+pub mod Ending
+pub mod FirstPlaces
+pub mod Marked
+pub mod Sparing

@@ -1,15 +1,14 @@
 -- A walk over the journal's entries.
-use Rattle.std.proofs.Common.{◌≡◌, ◌≢◌, ℕ, ◌+◌, ◌≤◌, ◌<◌, Bool, true, false, List, [], ◌∷◌, ◌++◌, length, map, drop, Option, Some, None, refl, sym, ap, subst, ◌∙◌, append_assoc, arith, is_some, inl, inr, Err}
+use Rattle.std.proofs.Common.{◌≡◌, ◌≢◌, ℕ, ◌+◌, ◌≤◌, ◌<◌, Bool, true, false, List, [], ◌∷◌, ◌++◌, length, Option, Some, None, refl, sym, ap, subst, ◌∙◌, append_assoc, arith, is_some, inl, inr, Err}
 use Rattle.std.specs.Prelude.{if◌then◌else◌, option_map, ◌&&◌, nat_lt}
 use Rattle.std.proofs.lemmas.Bool.{ltb-true, ltb-false}
 use Rattle.std.specs.Option.{IfSome, IsSome, IsSomeAnd}
 use Rattle.std.proofs.lemmas.Option.{none-some}
 use Rattle.std.specs.List.{AllByRecursion}
-use Rattle.std.specs.Int.{w32, to_be_bytes}
-use Rattle.std.proofs.lemmas.List.{length-append, drop_at, drop-drop, append-nil}
-use Rattle.gate_log.specs.Entries.{entry, joined, AllGood, ClosedAt}
-use Rattle.gate_log.specs.Place.{EntryAt}
-use Rattle.records.specs.Stored.{Plan, Record, Genesis, Accepted, BootBegun, BootEnded, Activating, StepFailed, Failing, Closed}
+use Rattle.std.proofs.lemmas.List.{append-nil}
+use Rattle.gate_log.specs.Entries.{most_file}
+use Rattle.gate_log.specs.Place.{place_behind, IsEntryAt}
+use Rattle.records.specs.Stored.{Plan, Record, Genesis, Accepted, BootBegun, BootEnded, Activating, StepFailed, Failing, FailingBack, Closed}
 use Rattle.records.specs.Layout.{Spelled}
 use Rattle.records.proofs.Layouts.{one_record}
 use Rattle.device.specs.declared.device.Device as code
@@ -18,68 +17,44 @@ use Rattle.device.specs.declared.fault.ReplayFault.{ReplayFault}
 use Rattle.device.specs.declared.fault.ReplayFault.TheVariants as fault
 use Rattle.device.specs.Devices.{Device, Pending, no_device, device_view, pending_view}
 use Rattle.records.specs.declared.record.Origin.{Origin}
-use Rattle.device.specs.Lawful.{Allowed, applied, MayAccept, MayBegin, MayEnd, MayActivate, MayFail, MayBreak, MayClose}
-use Rattle.device.specs.Standing.{Takes, Plays, place_behind, SpellsNoPlan, IsBehindAccepted, IsBadAt, LacksRoomAt, IsDamagedAt, Room, Replayed, TookEntry, most_bytes, room_of_plan}
+use Rattle.device.specs.Lawful.{Allowed, applied, MayAccept, MayBegin, MayEnd, MayActivate, MayFail, MayBreak, MayGoBack, MayClose}
+use Rattle.device.specs.Standing.{Takes, Plays, Means, SpellsNoPlan, IsBehindAccepted, IsBadAt, LacksRoomAt, IsDamagedAt, Room, Replayed, TookEntry}
+use Rattle.device.specs.Limits.{room_of_plan}
 
 -- the walk is at this place, d is the device there, and behind its pending plan's entry is this place
-pub record Reached (payloads : List (List ℕ)) (file : List ℕ) (end at behind : ℕ) (d : Device) : Type 0 where
+pub record Reached (payloads : List (List ℕ)) (end at behind : ℕ) (d : Device) : Type 0 where
   pub done : List (List ℕ)
-  pub rest : List (ℕ × List ℕ)
-  pub tail : List ℕ
-  pub good : AllGood rest
-  pub split : payloads ≡ done ++ map (λ e. e.1) rest
-  pub left : drop at file ≡ joined rest ++ 0 ∷ tail
+  pub rest : List (List ℕ)
+  pub split : payloads ≡ done ++ rest
   pub at_is : at ≡ place_behind done
-  pub end_is : at + length (joined rest) ≡ end
+  pub end_is : end ≡ place_behind payloads
   pub plays : Plays no_device done d
   pub behind_is : IfSome d.pending (λ q. IsBehindAccepted done behind)
 
-pub starts : (payloads : List (List ℕ)) (file : List ℕ) (end : ℕ) → ClosedAt file end payloads → Reached payloads file end 0 0 no_device
-starts payloads file end h = record {
-  done = [];
-  rest = h.entries;
-  tail = h.tail;
-  good = h.good;
-  split = sym h.payloads_are;
-  left = h.file_is;
-  at_is = refl;
-  end_is = omega (arith, h.end_is);
-  plays = refl;
-  behind_is = tt;
-}
+pub starts : (payloads : List (List ℕ)) (end : ℕ) → end ≡ place_behind payloads → Reached payloads end 0 0 no_device
+starts payloads end is = record { done = []; rest = payloads; split = refl; at_is = refl; end_is = is; plays = refl; behind_is = tt }
 
-length-entry : (e : ℕ × List ℕ) → length (entry e) ≡ 5 + length e.1
-length-entry e = omega (arith, length-append (to_be_bytes w32 (length e.1)) e.1)
+place_on : (a b : List (List ℕ)) → place_behind (a ++ b) ≡ place_behind a + place_behind b
+place_on [] b = omega arith
+place_on (p ∷ a) b = omega (arith, place_on a b)
 
 -- what stands at a place before the end
-pub record Next (file : List ℕ) (end at : ℕ) (payloads done : List (List ℕ)) : Type 0 where
-  pub first : ℕ × List ℕ
-  pub others : List (ℕ × List ℕ)
-  pub tail : List ℕ
-  pub good : AllGood others
-  pub place : EntryAt file at end first
-  pub here : drop at file ≡ entry first ++ (joined others ++ 0 ∷ tail)
-  pub split : payloads ≡ done ++ first.1 ∷ map (λ e. e.1) others
-  pub end_is : at + (5 + length first.1) + length (joined others) ≡ end
+pub record Next (payloads done : List (List ℕ)) : Type 0 where
+  pub first : List ℕ
+  pub others : List (List ℕ)
+  pub split : payloads ≡ done ++ first ∷ others
 
-pub next : (payloads : List (List ℕ)) (file : List ℕ) (end at behind : ℕ) (d : Device) (r : Reached payloads file end at behind d) → at < end → Next file end at payloads r.done
-next payloads file end at behind d r lt = by r.rest r.good r.split r.left r.end_is
+pub next : (payloads : List (List ℕ)) (end at behind : ℕ) (d : Device) (r : Reached payloads end at behind d) → at < end → Next payloads r.done
+next payloads end at behind d r lt = by r.rest r.split
   where
-    by : (rest : List (ℕ × List ℕ)) → AllGood rest → payloads ≡ r.done ++ map (λ e. e.1) rest → drop at file ≡ joined rest ++ 0 ∷ r.tail → at + length (joined rest) ≡ end → Next file end at payloads r.done
-    by [] good split left end_is = absurd (omega (arith, lt, end_is))
-    by (e ∷ es) good split left end_is =
-        let here = left ∙ append_assoc (entry e) (joined es) (0 ∷ r.tail) in
-        let end : at + (5 + length e.1) + length (joined es) ≡ end = omega (arith, end_is, length-append (entry e) (joined es), length-entry e) in
-        record {
-          first = e;
-          others = es;
-          tail = r.tail;
-          good = good.1;
-          place = record { good = good.0; more = joined es ++ 0 ∷ r.tail; file_is = here; within = omega (arith, end) };
-          here = here;
-          split = split;
-          end_is = end;
-        }
+    by : (rest : List (List ℕ)) → payloads ≡ r.done ++ rest → Next payloads r.done
+    by [] split = let same = ap place_behind (split ∙ append-nil r.done) in absurd (omega (arith, lt, r.at_is, r.end_is, same))
+    by (p ∷ ps) split = record { first = p; others = ps; split = split }
+
+-- it is an entry of any journal that stands behind these payloads
+pub entry_at : {J Image : Type 0} (stands : J → Image → List (List ℕ) → Type 0) (log : J) (image : Image) (payloads : List (List ℕ)) (end at behind : ℕ) (d : Device) (r : Reached payloads end at behind d) (n : Next payloads r.done)
+    → stands log image payloads → IsEntryAt stands log image at n.first
+entry_at stands log image payloads end at behind d r n on = record { before = r.done; after = n.others; on = subst (stands log image) n.split on; at_is = r.at_is }
 
 plays_more : (ps : List (List ℕ)) (p : List ℕ) (d c e : Device) → Plays d ps c → Takes c p e → Plays d (ps ++ p ∷ []) e
 plays_more [] p d c e h t = (e, subst (λ x. Takes x p e) h t, refl)
@@ -88,9 +63,6 @@ plays_more (q ∷ ps) p d c e h t = (h.0, h.1, plays_more ps p h.0 c e h.2 t)
 place_more : (ps : List (List ℕ)) (p : List ℕ) → place_behind (ps ++ p ∷ []) ≡ place_behind ps + (5 + length p)
 place_more [] p = omega arith
 place_more (q ∷ ps) p = omega (arith, place_more ps p)
-
-drop_sum : (i j : ℕ) (xs : List ℕ) → drop (i + j) xs ≡ drop j (drop i xs)
-drop_sum i j xs = sym (drop-drop j i xs)
 
 -- ---- the place behind the pending plan's entry
 
@@ -118,14 +90,8 @@ if_some None p = tt
 if_some (Some x) p = p
 
 abbrev is_accepted : Record → Bool
-is_accepted (Genesis o) = false
 is_accepted (Accepted p) = true
-is_accepted (BootBegun n) = false
-is_accepted (BootEnded n e) = false
-is_accepted Activating = false
-is_accepted (StepFailed n s e) = false
-is_accepted (Failing n) = false
-is_accepted (Closed o) = false
+is_accepted _ = false
 
 spells_none : (p : List ℕ) (r : Record) → Spelled p r → is_accepted r ≡ false → SpellsNoPlan p
 spells_none p r spelled other plan s = let is = ap is_accepted (one_record p r (Accepted plan) spelled s) in cc (is, other)
@@ -144,7 +110,9 @@ first_behind done p to d (BootEnded n e) none spelled allowed is = absurd (nothi
 first_behind done p to d Activating none spelled allowed is = absurd (nothing MayActivate d.pending none allowed)
 first_behind done p to d (StepFailed n s e) none spelled allowed is = absurd (nothing (MayFail d.set n s e) d.pending none allowed)
 first_behind done p to d (Failing n) none spelled allowed is = absurd (nothing (MayBreak n) d.pending none allowed)
+first_behind done p to d (FailingBack n) none spelled allowed is = absurd (nothing (MayGoBack d.origin d.set n) d.pending none allowed)
 first_behind done p to d (Closed o) none spelled allowed is = absurd (nothing (λ q. MayClose q o) d.pending none allowed)
+first_behind done p to d _ none spelled allowed is = absurd allowed
 
 may_accept_alone : (d : Device) (p : Plan) (o : Option Origin) → IsSomeAnd o (MayAccept d p) → d.pending ≡ None
 may_accept_alone d p None h = absurd h
@@ -153,14 +121,8 @@ may_accept_alone d p (Some o) h = h.0.0
 -- a record that is taken with a plan pending is no Accepted
 later_behind : (done : List (List ℕ)) (p : List ℕ) (behind : ℕ) (d : Device) (r : Record) → d.pending ≢ None → Spelled p r → Allowed d r → IsBehindAccepted done behind
     → IsBehindAccepted (done ++ p ∷ []) behind
-later_behind done p behind d (Genesis o) some spelled allowed is = still_behind done p behind (spells_none p (Genesis o) spelled refl) is
 later_behind done p behind d (Accepted plan) some spelled allowed is = absurd (some (may_accept_alone d plan d.origin allowed))
-later_behind done p behind d (BootBegun n) some spelled allowed is = still_behind done p behind (spells_none p (BootBegun n) spelled refl) is
-later_behind done p behind d (BootEnded n e) some spelled allowed is = still_behind done p behind (spells_none p (BootEnded n e) spelled refl) is
-later_behind done p behind d Activating some spelled allowed is = still_behind done p behind (spells_none p Activating spelled refl) is
-later_behind done p behind d (StepFailed n s e) some spelled allowed is = still_behind done p behind (spells_none p (StepFailed n s e) spelled refl) is
-later_behind done p behind d (Failing n) some spelled allowed is = still_behind done p behind (spells_none p (Failing n) spelled refl) is
-later_behind done p behind d (Closed o) some spelled allowed is = still_behind done p behind (spells_none p (Closed o) spelled refl) is
+later_behind done p behind d r some spelled allowed is = still_behind done p behind (spells_none p r spelled refl) is
 
 behind_goes_on : (done : List (List ℕ)) (p : List ℕ) (behind to : ℕ) (d c : Device) → Takes d p c → to ≡ place_behind (done ++ p ∷ []) → IfSome d.pending (λ q. IsBehindAccepted done behind)
     → IfSome c.pending (λ q. IsBehindAccepted (done ++ p ∷ []) (if is_some d.pending then behind else to))
@@ -173,35 +135,30 @@ behind_goes_on done p behind to d c t is h =
 
 -- ---- the walk
 
-goes_on : (payloads : List (List ℕ)) (file : List ℕ) (end at behind to : ℕ) (d c : Device) (r : Reached payloads file end at behind d) (n : Next file end at payloads r.done)
-    → to ≡ at + 5 + length n.first.1 → Takes d n.first.1 c → Reached payloads file end to (if is_some d.pending then behind else to) c
-goes_on payloads file end at behind to d c r n to_is t =
-    let place : to ≡ place_behind (r.done ++ n.first.1 ∷ []) = omega (arith, to_is, r.at_is, place_more r.done n.first.1) in
+goes_on : (payloads : List (List ℕ)) (end at behind to : ℕ) (d c : Device) (r : Reached payloads end at behind d) (n : Next payloads r.done)
+    → to ≡ at + 5 + length n.first → Takes d n.first c → Reached payloads end to (if is_some d.pending then behind else to) c
+goes_on payloads end at behind to d c r n to_is t =
+    let place : to ≡ place_behind (r.done ++ n.first ∷ []) = omega (arith, to_is, r.at_is, place_more r.done n.first) in
     record {
-      done = r.done ++ n.first.1 ∷ [];
+      done = r.done ++ n.first ∷ [];
       rest = n.others;
-      tail = n.tail;
-      good = n.good;
-      split = n.split ∙ sym (append_assoc r.done (n.first.1 ∷ []) (map (λ e. e.1) n.others));
-      left =
-          let step : to ≡ at + length (entry n.first) = omega (arith, to_is, length-entry n.first) in
-          ap (λ k. drop k file) step ∙ drop_sum at (length (entry n.first)) file ∙ ap (drop (length (entry n.first))) n.here ∙ drop_at (entry n.first) (joined n.others ++ 0 ∷ n.tail) (length (entry n.first)) refl;
+      split = n.split ∙ sym (append_assoc r.done (n.first ∷ []) n.others);
       at_is = place;
-      end_is = omega (arith, to_is, n.end_is);
-      plays = plays_more r.done n.first.1 no_device d c r.plays t;
-      behind_is = behind_goes_on r.done n.first.1 behind to d c t place r.behind_is;
+      end_is = r.end_is;
+      plays = plays_more r.done n.first no_device d c r.plays t;
+      behind_is = behind_goes_on r.done n.first behind to d c t place r.behind_is;
     }
 
-is_bad : (payloads : List (List ℕ)) (file : List ℕ) (end at behind : ℕ) (d : Device) (r : Reached payloads file end at behind d) (n : Next file end at payloads r.done)
-    → ((c : Device) → Takes d n.first.1 c → ⊥) → IsBadAt payloads at
-is_bad payloads file end at behind d r n refused = record {
+is_bad : (payloads : List (List ℕ)) (end at behind : ℕ) (d : Device) (r : Reached payloads end at behind d) (n : Next payloads r.done)
+    → ((c : Device) → Takes d n.first c → ⊥) → IsBadAt payloads at
+is_bad payloads end at behind d r n refused = record {
   before = r.done;
-  bad = n.first.1;
-  behind = map (λ e. e.1) n.others;
+  bad = n.first;
+  behind = n.others;
   split = n.split;
   place = r.at_is;
   reached = d;
-  plays = r.plays;
+  means = r.plays;
   refused = refused;
 }
 
@@ -210,30 +167,30 @@ record Ended (payloads : List (List ℕ)) (behind : ℕ) (d : Device) : Type 0 w
   plays : Plays no_device payloads d
   behind_is : IfSome d.pending (λ q. IsBehindAccepted payloads behind)
 
-ended : (payloads : List (List ℕ)) (file : List ℕ) (end at behind : ℕ) (d : Device) → Reached payloads file end at behind d → end ≤ at → Ended payloads behind d
-ended payloads file end at behind d r le = by r.rest r.split r.end_is
+ended : (payloads : List (List ℕ)) (end at behind : ℕ) (d : Device) → Reached payloads end at behind d → end ≤ at → Ended payloads behind d
+ended payloads end at behind d r le = by r.rest r.split
   where
-    by : (rest : List (ℕ × List ℕ)) → payloads ≡ r.done ++ map (λ e. e.1) rest → at + length (joined rest) ≡ end → Ended payloads behind d
-    by [] split end_is =
+    by : (rest : List (List ℕ)) → payloads ≡ r.done ++ rest → Ended payloads behind d
+    by [] split =
         let all = sym (split ∙ append-nil r.done) in
         record {
           plays = subst (λ ps. Plays no_device ps d) all r.plays;
           behind_is = subst (λ ps. IfSome d.pending (λ q. IsBehindAccepted ps behind)) all r.behind_is;
         }
-    by (e ∷ es) split end_is = absurd (omega (arith, le, end_is, length-append (entry e) (joined es), length-entry e))
+    by (p ∷ ps) split = let same = ap place_behind split in absurd (omega (arith, le, r.at_is, r.end_is, same, place_on r.done (p ∷ ps)))
 
-is_all : (payloads : List (List ℕ)) (file : List ℕ) (end at behind : ℕ) (d : Device) → Reached payloads file end at behind d → end ≤ at → (IsSome d.pending → behind + room_of_plan ≤ most_bytes)
-    → Plays no_device payloads d × Room payloads d
-is_all payloads file end at behind d r le room = let e = ended payloads file end at behind d r le in (e.plays, by d.pending e.behind_is room)
+is_all : (payloads : List (List ℕ)) (end at behind : ℕ) (d : Device) → Reached payloads end at behind d → end ≤ at → (IsSome d.pending → behind + room_of_plan ≤ most_file)
+    → Means payloads d × Room payloads d
+is_all payloads end at behind d r le room = let e = ended payloads end at behind d r le in (e.plays, by d.pending e.behind_is room)
   where
-    by : (o : Option Pending) → IfSome o (λ q. IsBehindAccepted payloads behind) → (IsSome o → behind + room_of_plan ≤ most_bytes) → IfSome o (λ q. (at : ℕ) × IsBehindAccepted payloads at × (at + room_of_plan ≤ most_bytes))
+    by : (o : Option Pending) → IfSome o (λ q. IsBehindAccepted payloads behind) → (IsSome o → behind + room_of_plan ≤ most_file) → IfSome o (λ q. (at : ℕ) × IsBehindAccepted payloads at × (at + room_of_plan ≤ most_file))
     by None is room = tt
     by (Some q) is room = (behind, is, room refl)
 
-lacks_room : (payloads : List (List ℕ)) (file : List ℕ) (end at behind : ℕ) (d : Device) → Reached payloads file end at behind d → end ≤ at → IsSome d.pending → most_bytes < behind + room_of_plan → LacksRoomAt payloads behind
-lacks_room payloads file end at behind d r le some lacks =
-    let e = ended payloads file end at behind d r le in
-    record { reached = d; plays = e.plays; pending = some; behind = by d.pending some e.behind_is; lacks = lacks }
+lacks_room : (payloads : List (List ℕ)) (end at behind : ℕ) (d : Device) → Reached payloads end at behind d → end ≤ at → IsSome d.pending → most_file < behind + room_of_plan → LacksRoomAt payloads behind
+lacks_room payloads end at behind d r le some lacks =
+    let e = ended payloads end at behind d r le in
+    record { reached = d; means = e.plays; pending = some; behind = by d.pending some e.behind_is; lacks = lacks }
   where
     by : (o : Option Pending) → IsSome o → IfSome o (λ q. IsBehindAccepted payloads behind) → IsBehindAccepted payloads behind
     by None some is = absurd cc
@@ -245,21 +202,21 @@ shown : (o : Option code_pending.Pending) → is_some (option_map pending_view o
 shown None = refl
 shown (Some q) = refl
 
-pub first_on : (payloads : List (List ℕ)) (file : List ℕ) (end at behind to : ℕ) (device : code.Device) (c : Device) (r : Reached payloads file end at behind (device_view device)) (n : Next file end at payloads r.done)
-    → to ≡ at + 5 + length n.first.1 → Takes (device_view device) n.first.1 c → is_some device.pending ≡ false → Reached payloads file end to to c
-first_on payloads file end at behind to device c r n to_is t none =
-    subst (λ (b : Bool). Reached payloads file end to (if b then behind else to) c) (shown device.pending ∙ none) (goes_on payloads file end at behind to (device_view device) c r n to_is t)
+pub first_on : (payloads : List (List ℕ)) (end at behind to : ℕ) (device : code.Device) (c : Device) (r : Reached payloads end at behind (device_view device)) (n : Next payloads r.done)
+    → to ≡ at + 5 + length n.first → Takes (device_view device) n.first c → is_some device.pending ≡ false → Reached payloads end to to c
+first_on payloads end at behind to device c r n to_is t none =
+    subst (λ (b : Bool). Reached payloads end to (if b then behind else to) c) (shown device.pending ∙ none) (goes_on payloads end at behind to (device_view device) c r n to_is t)
 
-pub later_on : (payloads : List (List ℕ)) (file : List ℕ) (end at behind to : ℕ) (device : code.Device) (c : Device) (r : Reached payloads file end at behind (device_view device)) (n : Next file end at payloads r.done)
-    → to ≡ at + 5 + length n.first.1 → Takes (device_view device) n.first.1 c → is_some device.pending ≡ true → Reached payloads file end to behind c
-later_on payloads file end at behind to device c r n to_is t some =
-    subst (λ (b : Bool). Reached payloads file end to (if b then behind else to) c) (shown device.pending ∙ some) (goes_on payloads file end at behind to (device_view device) c r n to_is t)
+pub later_on : (payloads : List (List ℕ)) (end at behind to : ℕ) (device : code.Device) (c : Device) (r : Reached payloads end at behind (device_view device)) (n : Next payloads r.done)
+    → to ≡ at + 5 + length n.first → Takes (device_view device) n.first c → is_some device.pending ≡ true → Reached payloads end to behind c
+later_on payloads end at behind to device c r n to_is t some =
+    subst (λ (b : Bool). Reached payloads end to (if b then behind else to) c) (shown device.pending ∙ some) (goes_on payloads end at behind to (device_view device) c r n to_is t)
 
-pub fault_told : (payloads : List (List ℕ)) (file : List ℕ) (end at behind : ℕ) (d e : Device) (r : Reached payloads file end at behind d) (n : Next file end at payloads r.done) (f : ReplayFault)
-    → TookEntry d at n.first.1 e (Err f) → Replayed payloads (Err f)
-fault_told payloads file end at behind d e r n fault.Disk took = tt
-fault_told payloads file end at behind d e r n (fault.Damaged place) took = inl (subst (IsBadAt payloads) (sym took.0) (is_bad payloads file end at behind d r n took.1))
-fault_told payloads file end at behind d e r n fault.NoMemory took = tt
+pub fault_told : (payloads : List (List ℕ)) (end at behind : ℕ) (d e : Device) (r : Reached payloads end at behind d) (n : Next payloads r.done) (f : ReplayFault)
+    → TookEntry d at n.first e (Err f) → Replayed payloads (Err f)
+fault_told payloads end at behind d e r n fault.Disk took = tt
+fault_told payloads end at behind d e r n (fault.Damaged place) took = inl (subst (IsBadAt payloads) (sym took.0) (is_bad payloads end at behind d r n took.1))
+fault_told payloads end at behind d e r n fault.NoMemory took = tt
 
 both_true : (a b : Bool) → (a && b) ≡ true → (a ≡ true) × (b ≡ true)
 both_true true b h = (refl, h)
@@ -269,14 +226,14 @@ first_true : (a b : Bool) → (a && b) ≡ false → a ≡ true → b ≡ false
 first_true true b h is = h
 first_true false b h is = absurd cc
 
-pub room_lacks : (payloads : List (List ℕ)) (file : List ℕ) (end at behind : ℕ) (device : code.Device) → Reached payloads file end at behind (device_view device) → end ≤ at
-    → (is_some device.pending && nat_lt most_bytes (behind + room_of_plan)) ≡ true → IsDamagedAt payloads behind
-room_lacks payloads file end at behind device r le lacks =
-    let h = both_true (is_some device.pending) (nat_lt most_bytes (behind + room_of_plan)) lacks in
-    inr (lacks_room payloads file end at behind (device_view device) r le (shown device.pending ∙ h.0) (ltb-true most_bytes (behind + room_of_plan) h.1))
+pub room_lacks : (payloads : List (List ℕ)) (end at behind : ℕ) (device : code.Device) → Reached payloads end at behind (device_view device) → end ≤ at
+    → (is_some device.pending && nat_lt most_file (behind + room_of_plan)) ≡ true → IsDamagedAt payloads behind
+room_lacks payloads end at behind device r le lacks =
+    let h = both_true (is_some device.pending) (nat_lt most_file (behind + room_of_plan)) lacks in
+    inr (lacks_room payloads end at behind (device_view device) r le (shown device.pending ∙ h.0) (ltb-true most_file (behind + room_of_plan) h.1))
 
-pub has_room : (payloads : List (List ℕ)) (file : List ℕ) (end at behind : ℕ) (device : code.Device) → Reached payloads file end at behind (device_view device) → end ≤ at
-    → (is_some device.pending && nat_lt most_bytes (behind + room_of_plan)) ≡ false → Plays no_device payloads (device_view device) × Room payloads (device_view device)
-has_room payloads file end at behind device r le room =
-    is_all payloads file end at behind (device_view device) r le
-    (λ some. ltb-false most_bytes (behind + room_of_plan) (first_true (is_some device.pending) (nat_lt most_bytes (behind + room_of_plan)) room (sym (shown device.pending) ∙ some)))
+pub has_room : (payloads : List (List ℕ)) (end at behind : ℕ) (device : code.Device) → Reached payloads end at behind (device_view device) → end ≤ at
+    → (is_some device.pending && nat_lt most_file (behind + room_of_plan)) ≡ false → Means payloads (device_view device) × Room payloads (device_view device)
+has_room payloads end at behind device r le room =
+    is_all payloads end at behind (device_view device) r le
+    (λ some. ltb-false most_file (behind + room_of_plan) (first_true (is_some device.pending) (nat_lt most_file (behind + room_of_plan)) room (sym (shown device.pending) ∙ some)))

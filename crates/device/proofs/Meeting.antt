@@ -4,12 +4,12 @@ use Rattle.std.specs.Prelude.{option_map, if◌then◌else◌, ◌↔◌}
 use Rattle.std.specs.Option.{IfSome, IsSomeAnd}
 use Rattle.nuc_base.specs.declared.kinds.Outcome.{Outcome}
 use Rattle.records.specs.declared.record.Origin.{Origin}
-use Rattle.records.specs.Stored.{Item, Plan, Record, Genesis, Accepted, BootBegun, BootEnded, Activating, StepFailed, Failing, Closed}
+use Rattle.records.specs.Stored.{Item, Plan, Record, Genesis, Accepted, BootBegun, BootEnded, Activating, StepFailed, Failing, FailingBack, Closed}
 use Rattle.device.specs.Devices.{Device, Pending, Group}
 use Rattle.device.specs.Grouped.{with_group}
 use Rattle.device.specs.Plans.{IsSupplied}
 use Rattle.std.specs.List.{AllByRecursion}
-use Rattle.device.specs.Lawful.{Allowed, MayAccept, applied, Lawful, Run, on_pending, close_pending, takes_plan, boot_ended, count_failure, begun, activated, rolled}
+use Rattle.device.specs.Lawful.{Allowed, MayAccept, applied, Lawful, Run, on_pending, close_pending, takes_plan, boot_ended, count_failure, begun, activated, rolled, turned_back}
 use Rattle.device.specs.Met.{Met, GroupsAreMet, ItemsAreMet, IsPlanMet, BringsMet, BringMet}
 use Rattle.device.proofs.Course.{ended_plan, counted_plan}
 
@@ -21,7 +21,7 @@ with_origin (Some p) o items is met = absurd cc
 -- the same groups and the same origin, or one where there was none
 plan_kept : (d e : Device) (p : Plan) → e.groups ≡ d.groups → (ItemsAreMet d.origin p.items → ItemsAreMet e.origin p.items) → IsPlanMet d p → IsPlanMet e p
 plan_kept d e p same items met = record {
-  groups = subst (λ (gs : List Group). GroupsAreMet (with_group gs p.group p.requirements) p.items) (sym same) met.groups;
+  groups = subst (λ (gs : List Group). GroupsAreMet (with_group gs p) p.items) (sym same) met.groups;
   items = items met.items;
 }
 
@@ -53,7 +53,7 @@ closed d o (Some q) is met = by (takes_plan o)
 
     by : (b : Bool) → Met (record {
       origin = d.origin;
-      groups = if b then with_group d.groups q.plan.group q.plan.requirements else d.groups;
+      groups = if b then with_group d.groups q.plan else d.groups;
       set = if b then q.plan.items else d.set;
       closed = d.closed ++ (q.plan.id, o) ∷ [];
       pending = None;
@@ -64,7 +64,7 @@ closed d o (Some q) is met = by (takes_plan o)
 -- the items of a plan that is taken meet what they ask of one another
 supplied : (d : Device) (p : Plan) (o : Option Origin) → IsSomeAnd o (MayAccept d p) → ItemsAreMet o p.items
 supplied d p None h = absurd h
-supplied d p (Some o) h = h.1.supplied
+supplied d p (Some o) h = h.2.items.supplied
 
 both : {A : Type 0} → A → A ↔ Unit {0}
 both a = (λ _. tt, λ _. a)
@@ -80,7 +80,9 @@ step d (BootEnded n e) met allowed = both (staged (boot_ended e) d (ended_plan e
 step d Activating met allowed = both (staged activated d (λ q. refl) met)
 step d (StepFailed n s e) met allowed = both (staged (count_failure d.set n) d (counted_plan d.set n) met)
 step d (Failing n) met allowed = both (staged rolled d (λ q. refl) met)
+step d (FailingBack n) met allowed = both (staged (turned_back d.origin d.set) d (λ q. refl) met)
 step d (Closed o) met allowed = both (closed d o d.pending refl met)
+step d _ met allowed = absurd allowed
 
 pub after_record : (d e : Device) (r : Record) → Met d → Lawful d r e → Met e ↔ BringsMet d r
 after_record d e r met lawful = subst (λ (x : Device). Met x ↔ BringsMet d r) (sym lawful.leaves) (step d r met lawful.allowed)

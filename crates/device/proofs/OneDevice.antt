@@ -4,19 +4,26 @@ use Rattle.std.proofs.lemmas.Bool.{false≢true}
 use Rattle.std.specs.List.{AllByRecursion}
 use Rattle.std.specs.Option.{IsSome}
 use Rattle.disk_model.specs.Disk.{Image}
-use Rattle.gate_log.specs.Entries.{journal}
-use Rattle.gate_log.specs.Journal.{log_none}
-use Rattle.gate_log.proofs.Walk.{entries_same, no_entries}
+use Rattle.gate_log.specs.Entries.{most_file}
+use Rattle.gate_log.specs.Journal.{JournalLaws, log_none}
+use Rattle.gate_log.specs.Laws.{log_laws}
+use Rattle.gate_log.specs.Place.{place_behind}
 use Rattle.records.specs.Stored.{Plan, Accepted}
 use Rattle.records.specs.Layout.{Spelled}
 use Rattle.records.proofs.Layouts.{one_record}
 use Rattle.device.specs.Devices.{Device, Pending, no_device}
+use Rattle.device.specs.Damage.{StandsForNone, IsDamagedIn, IsDamage}
 use Rattle.device.specs.Lawful.{applied}
-use Rattle.device.specs.Standing.{Takes, Plays, place_behind, SpellsNoPlan, IsBehindAccepted, most_bytes, room_of_plan, Room, Stands, IsBadAt, LacksRoomAt, IsDamagedAt}
+use Rattle.device.specs.Standing.{Takes, Plays, Means, SpellsNoPlan, IsBehindAccepted, Room, StandsFor, Stands, IsBadAt, LacksRoomAt, IsDamagedAt}
+use Rattle.device.specs.Limits.{room_of_plan}
 
 -- a journal without an entry stands for the device before its first record
+pub none_stands_for : {J : Type 0} {files : List ℕ → Type 0} {entries : Image → List (List ℕ) → Type 0} {holds_none : Image → Type 0} {is_damaged : Image → ℕ → Type 0} {stands : J → Image → List (List ℕ) → Type 0} {end : J → ℕ}
+    → JournalLaws files entries holds_none is_damaged stands end → (image : Image) → holds_none image → StandsFor entries image no_device
+none_stands_for laws image none = record { payloads = []; live = laws.none_held image none; means = refl; room = tt }
+
 pub none_stands : (image : Image) → log_none image → Stands image no_device
-none_stands image none = record { payloads = []; entries = no_entries (image journal) none; plays = refl; room = tt }
+none_stands image none = none_stands_for log_laws image none
 
 same_takes : (d : Device) (p : List ℕ) (a b : Device) → Takes d p a → Takes d p b → a ≡ b
 same_takes d p a b x y = x.lawful.leaves ∙ ap (applied d) (one_record p x.entry y.entry x.spelled y.spelled) ∙ sym y.lawful.leaves
@@ -25,10 +32,19 @@ pub same_plays : (d : Device) (ps : List (List ℕ)) (a b : Device) → Plays d 
 same_plays d [] a b x y = x ∙ sym y
 same_plays d (p ∷ ps) a b x y = same_plays x.0 ps a b x.2 (subst (λ (c : Device). Plays c ps b) (sym (same_takes d p x.0 y.0 x.1 y.1)) y.2)
 
+-- payloads mean one device
+pub same_meaning : (ps : List (List ℕ)) (a b : Device) → Means ps a → Means ps b → a ≡ b
+same_meaning ps a b x y = same_plays no_device ps a b x y
+
+-- an image of any journal stands for one device
+pub same_device_for : {J : Type 0} {files : List ℕ → Type 0} {entries : Image → List (List ℕ) → Type 0} {holds_none : Image → Type 0} {is_damaged : Image → ℕ → Type 0} {stands : J → Image → List (List ℕ) → Type 0} {end : J → ℕ}
+    → JournalLaws files entries holds_none is_damaged stands end → (image : Image) (d e : Device) → StandsFor entries image d → StandsFor entries image e → d ≡ e
+same_device_for laws image d e x y =
+    let same = laws.one image x.payloads y.payloads x.live y.live in
+    same_meaning y.payloads d e (subst (λ (ps : List (List ℕ)). Means ps d) same x.means) y.means
+
 pub same_device : (image : Image) (d e : Device) → Stands image d → Stands image e → d ≡ e
-same_device image d e x y =
-    let same = entries_same (image journal) x.payloads y.payloads x.entries y.entries in
-    same_plays no_device y.payloads d e (subst (λ (ps : List (List ℕ)). Plays no_device ps d) same x.plays) y.plays
+same_device image d e x y = same_device_for log_laws image d e x y
 
 -- ---- payloads that are damaged stand for no device
 
@@ -43,7 +59,7 @@ bad_plays : (ps : List (List ℕ)) (at : ℕ) (d : Device) → IsBadAt ps at →
 bad_plays ps at d bad plays =
     let parts = splits no_device bad.before bad.bad bad.behind d (subst (λ (l : List (List ℕ)). Plays no_device l d) bad.split plays) in
     bad.refused parts.2.0
-    (subst (λ (c : Device). Takes c bad.bad parts.2.0) (same_plays no_device bad.before parts.0 bad.reached parts.1 bad.plays) parts.2.1)
+    (subst (λ (c : Device). Takes c bad.bad parts.2.0) (same_plays no_device bad.before parts.0 bad.reached parts.1 bad.means) parts.2.1)
 
 IsPlan : List ℕ → Type 0
 IsPlan p = (plan : Plan) × Spelled p (Accepted plan)
@@ -75,8 +91,8 @@ same_place ps a b x y =
     ∙ ap place_behind (same_last x.before y.before x.payload y.payload x.after y.after (sym x.split ∙ y.split) x.plan x.spelled y.plan y.spelled x.last y.last)
     ∙ sym y.place
 
-has_room : (ps : List (List ℕ)) (at : ℕ) (q : Option Pending) → IsBehindAccepted ps at → most_bytes < at + room_of_plan
-    → IsSome q → IfSome q (λ p. (place : ℕ) × IsBehindAccepted ps place × (place + room_of_plan ≤ most_bytes)) → ⊥
+has_room : (ps : List (List ℕ)) (at : ℕ) (q : Option Pending) → IsBehindAccepted ps at → most_file < at + room_of_plan
+    → IsSome q → IfSome q (λ p. (place : ℕ) × IsBehindAccepted ps place × (place + room_of_plan ≤ most_file)) → ⊥
 has_room ps at None behind lacks some room = absurd (false≢true some)
 has_room ps at (Some q) behind lacks some room =
     let same : at ≡ room.0 = same_place ps at room.0 behind room.1 in
@@ -85,8 +101,21 @@ has_room ps at (Some q) behind lacks some room =
 lacks_plays : (ps : List (List ℕ)) (at : ℕ) (d : Device) → LacksRoomAt ps at → Plays no_device ps d → Room ps d → ⊥
 lacks_plays ps at d lacks plays room =
     has_room ps at lacks.reached.pending lacks.behind lacks.lacks lacks.pending
-    (subst (λ (e : Device). Room ps e) (same_plays no_device ps d lacks.reached plays lacks.plays) room)
+    (subst (λ (e : Device). Room ps e) (same_plays no_device ps d lacks.reached plays lacks.means) room)
 
 pub damaged_plays : (ps : List (List ℕ)) (at : ℕ) (d : Device) → IsDamagedAt ps at → Plays no_device ps d → Room ps d → ⊥
 damaged_plays ps at d (inl bad) plays room = bad_plays ps at d bad plays
 damaged_plays ps at d (inr lacks) plays room = lacks_plays ps at d lacks plays room
+
+-- a damaged image stands for no device
+pub damage : {J : Type 0} {files : List ℕ → Type 0} {entries : Image → List (List ℕ) → Type 0} {holds_none : Image → Type 0} {is_damaged : Image → ℕ → Type 0} {stands : J → Image → List (List ℕ) → Type 0} {end : J → ℕ}
+    → JournalLaws files entries holds_none is_damaged stands end → (image : Image) (at : ℕ) → IsDamagedIn entries is_damaged image at → IsDamage entries is_damaged image at
+damage {entries = entries} {is_damaged = is_damaged} laws image at place = record { place = place; none = none place }
+  where
+    none : IsDamagedIn entries is_damaged image at → StandsForNone entries image
+    none (inl damaged) d stands = laws.not_damaged image at stands.payloads damaged stands.live
+    none (inr damaged) d stands =
+        let same = laws.one image stands.payloads damaged.0 stands.live damaged.1 in
+        damaged_plays damaged.0 at d damaged.2
+        (subst (λ (ps : List (List ℕ)). Means ps d) same stands.means)
+        (subst (λ (ps : List (List ℕ)). Room ps d) same stands.room)

@@ -2,7 +2,7 @@
 use Rattle.std.proofs.Common.{◌≡◌, ◌∙◌, ℕ, List, [], ◌∷◌, ap, refl, Option, Some, None}
 use Rattle.nuc_base.specs.declared.kinds.Outcome.{Outcome}
 use Rattle.records.specs.declared.record.Origin.{Origin}
-use Rattle.records.specs.Stored.{Record, Genesis, Accepted, BootBegun, BootEnded, Activating, StepFailed, Failing, Closed}
+use Rattle.records.specs.Stored.{Record, Genesis, Closed}
 use Rattle.device.specs.Devices.{Device, Pending, no_device}
 use Rattle.device.specs.Lawful.{Allowed, applied, close_pending}
 use Rattle.device.specs.Standing.{Plays}
@@ -13,13 +13,8 @@ close_origin o d (Some q) = refl
 
 keeps_origin : (d : Device) (r : Record) (o : Origin) → d.origin ≡ Some o → Allowed d r → (applied d r).origin ≡ Some o
 keeps_origin d (Genesis g) o is allowed = let none : d.origin ≡ None = allowed.0 in cc
-keeps_origin d (Accepted p) o is allowed = is
-keeps_origin d (BootBegun n) o is allowed = is
-keeps_origin d (BootEnded n e) o is allowed = is
-keeps_origin d Activating o is allowed = is
-keeps_origin d (StepFailed n s e) o is allowed = is
-keeps_origin d (Failing n) o is allowed = is
 keeps_origin d (Closed c) o is allowed = close_origin c d d.pending ∙ is
+keeps_origin d _ o is allowed = is
 
 plays_on : (d : Device) (ps : List (List ℕ)) (e : Device) (o : Origin) → d.origin ≡ Some o → Plays d ps e → e.origin ≡ Some o
 plays_on d [] e o is plays = ap (λ (x : Device). x.origin) plays ∙ is
@@ -29,13 +24,7 @@ plays_on d (p ∷ ps) e o is plays =
 
 first_origin : (r : Record) → Allowed no_device r → (o : Origin) × ((applied no_device r).origin ≡ Some o)
 first_origin (Genesis o) allowed = (o, refl)
-first_origin (Accepted p) allowed = absurd allowed
-first_origin (BootBegun n) allowed = absurd allowed
-first_origin (BootEnded n e) allowed = absurd allowed
-first_origin Activating allowed = absurd allowed
-first_origin (StepFailed n s e) allowed = absurd allowed
-first_origin (Failing n) allowed = absurd allowed
-first_origin (Closed c) allowed = absurd allowed
+first_origin _ allowed = absurd allowed
 
 -- where there is an entry
 pub has_origin : (ps : List (List ℕ)) (d : Device) → (ps ≡ [] → ⊥) → Plays no_device ps d → (o : Origin) × (d.origin ≡ Some o)

@@ -1,5 +1,7 @@
 -- The record of a plan is short.
-use Rattle.std.proofs.Common.{◌≡◌, ℕ, ◌+◌, ◌*◌, ◌≤◌, List, [], ◌∷◌, ◌++◌, length, Option, Some, None, refl, ap, arith, length-append}
+use Rattle.std.proofs.Common.{◌≡◌, ℕ, ◌+◌, ◌*◌, ◌≤◌, ◌==◌, Bool, true, false, List, [], ◌∷◌, ◌++◌, length, Option, Some, None, is_some, refl, ap, arith, length-append}
+use Rattle.std.specs.Prelude.{if◌then◌else◌}
+use Rattle.std.specs.Option.{IsSomeAnd, option_map_or}
 use Rattle.std.specs.Int.{w32, to_be_bytes}
 use Rattle.std.specs.List.{AllByRecursion, AllZip, flat_map}
 use Rattle.std.proofs.Math.Nat.{mul-le-mul_left}
@@ -19,9 +21,9 @@ use Rattle.recipe_reader.specs.Recipes.{head_lines, config_lines, chosen_lines, 
 use Rattle.recipe_reader.specs.Spelled.{spelled}
 use Rattle.recipe_reader.specs.declared.fault.Key.TheVariants.{ComponentConfiguration, ComponentDependencies, Manifests, Lifecycle, Artifacts}
 use Rattle.recipe_reader.specs.declared.recipe.Recipe.{Recipe}
-use Rattle.records.specs.Codec.{string, list_of}
+use Rattle.records.specs.Codec.{Codec, ◌&◌, only_if, string, list_of}
 use Rattle.records.specs.Layout as layout
-use Rattle.records.specs.Layout.{Spelled}
+use Rattle.records.specs.Layout.{Spelled, Wanted, wanted, wanted_of}
 use Rattle.records.specs.Stored.{Item, Plan, Accepted}
 use Rattle.records.specs.declared.record.Held.{Held}
 use Rattle.records.specs.declared.record.Requirement.{Requirement}
@@ -125,22 +127,59 @@ after_requirements plan = (list_of layout.item).spell plan.items ++ after_items 
 abbrev after_policy : Plan → List ℕ
 after_policy plan = (list_of layout.requirement).spell plan.requirements ++ after_requirements plan
 
-abbrev after_group : Plan → List ℕ
-after_group plan = layout.policy.spell plan.policy ++ after_policy plan
+-- the most bytes of what stands behind the revision
+abbrev wanted_most : ℕ
+wanted_most = 1 + ((4 + 4232 * 128) + ((4 + 150036 * 128) + (4 + 132 * 128)))
 
-plan_short : (platform : Platform) (plan : Plan) → IsPlan platform plan → layout.plan.Fits plan → length (layout.plan.spell plan) ≤ 260 + (260 + (1 + ((4 + 4232 * 128) + ((4 + 150036 * 128) + (4 + 132 * 128)))))
-plan_short platform plan is fits =
-    both_short (layout.label.spell plan.id) (layout.label.spell plan.group ++ after_group plan) 260 _ (text_short plan.id 256 fits.0.0.short)
-    (both_short (layout.label.spell plan.group) (after_group plan) 260 _ (text_short plan.group 256 fits.1.0.0.short)
-    (both_short (layout.policy.spell plan.policy) (after_policy plan) 1 _ (omega arith)
+wanted_short : (platform : Platform) (plan : Plan) → IsPlan platform plan → wanted.Fits (wanted_of plan) → length (wanted.spell (wanted_of plan)) ≤ wanted_most
+wanted_short platform plan is fits =
+    both_short (layout.policy.spell plan.policy) (after_policy plan) 1 _ (omega arith)
     (both_short ((list_of layout.requirement).spell plan.requirements) (after_requirements plan) (4 + 4232 * 128) _
-    (list_short layout.requirement.spell 4232 128 plan.requirements (requirements_short plan.requirements fits.1.1.1.0.1) is.few_requirements)
+    (list_short layout.requirement.spell 4232 128 plan.requirements (requirements_short plan.requirements fits.1.0.1) is.requirements.few)
     (both_short ((list_of layout.item).spell plan.items) (after_items plan) (4 + 150036 * 128) (4 + 132 * 128)
-    (list_short layout.item.spell 150036 128 plan.items (items_short platform plan.items fits.1.1.1.1.0.1 is.recipes is.configs) is.few_items)
-    (list_short layout.name.spell 132 128 plan.boots (boots_short plan.boots fits.1.1.1.1.1.1) is.few_boots)))))
+    (list_short layout.item.spell 150036 128 plan.items (items_short platform plan.items fits.1.1.0.1 is.items.recipes is.items.configs) is.items.few)
+    (list_short layout.name.spell 132 128 plan.boots (boots_short plan.boots fits.1.1.1.1) is.boots.few)))
+
+abbrev Plain : Type 0
+Plain = List ℕ × (List ℕ × Wanted)
+
+abbrev plain_plan : Plan → Plain
+plain_plan p = (p.id, (p.group, wanted_of p))
+
+abbrev plain : Codec Plain
+plain = layout.label & layout.label & wanted
+
+abbrev Revised : Type 0
+Revised = List ℕ × (List ℕ × (ℕ × Wanted))
+
+abbrev revised_plan : Plan → Revised
+revised_plan p = (p.id, (p.group, (p.revision, wanted_of p)))
+
+abbrev revised : Codec Revised
+revised = layout.label & layout.label & layout.revision & wanted
+
+eight : (n : ℕ) → length (layout.revision.spell n) ≡ 8
+eight n = refl
+
+-- the two spellings, by whether the revision is 0
+by_revision : (platform : Platform) (plan : Plan) (b : Bool) → IsPlan platform plan
+    → layout.choose (is_some (only_if b (plain_plan plan))) (IsSomeAnd (only_if b (plain_plan plan)) plain.Fits) (revised.Fits (revised_plan plan))
+    → length (if is_some (only_if b (plain_plan plan)) then 18 ∷ option_map_or plain.spell (only_if b (plain_plan plan)) [] else 29 ∷ revised.spell (revised_plan plan)) ≤ 1 + (260 + (260 + (8 + wanted_most)))
+by_revision platform plan true is fits =
+    let rest =
+    both_short (layout.label.spell plan.id) (layout.label.spell plan.group ++ wanted.spell (wanted_of plan)) 260 _ (text_short plan.id 256 fits.0.0.short)
+    (both_short (layout.label.spell plan.group) (wanted.spell (wanted_of plan)) 260 wanted_most (text_short plan.group 256 fits.1.0.0.short) (wanted_short platform plan is fits.1.1)) in
+    omega (arith, rest)
+by_revision platform plan false is fits =
+    let number = eight plan.revision in
+    let rest =
+    both_short (layout.label.spell plan.id) (layout.label.spell plan.group ++ (layout.revision.spell plan.revision ++ wanted.spell (wanted_of plan))) 260 _ (text_short plan.id 256 fits.0.0.short)
+    (both_short (layout.label.spell plan.group) (layout.revision.spell plan.revision ++ wanted.spell (wanted_of plan)) 260 _ (text_short plan.group 256 fits.1.0.0.short)
+    (both_short (layout.revision.spell plan.revision) (wanted.spell (wanted_of plan)) 8 wanted_most (omega (arith, number)) (wanted_short platform plan is fits.1.1.1))) in
+    omega (arith, rest)
 
 pub short : (platform : Platform) (plan : Plan) (bytes : List ℕ) → IsPlan platform plan → Spelled bytes (Accepted plan) → length bytes ≤ 33554432
 short platform plan bytes is spelled =
-    let most = plan_short platform plan is spelled.fits in
+    let most = by_revision platform plan (plan.revision == 0) is spelled.fits in
     let same = ap length spelled.same in
     omega (arith, most, same)

@@ -4,7 +4,6 @@ use Rattle.std.specs.List.{All, AllByRecursion, AllZip, Contains}
 use Rattle.std.specs.Prelude.{Option, is_some}
 use Rattle.std.proofs.lemmas.List.{length-map}
 use Rattle.std.proofs.lemmas.List.Elements.{Contains-get_or, All-map, All-from_recursion, recursion_from_All}
-use Rattle.nuc_base.specs.Leads.{Leads}
 use Rattle.nuc_base.specs.declared.platform.Platform.{Platform}
 use Rattle.nuc_base.specs.declared.kinds.Step.TheVariants.{Bootstrap}
 use Rattle.nuc_base.proofs.Leading.{leads_more}
@@ -15,8 +14,8 @@ use Rattle.recipe_reader.specs.declared.recipe.Recipe.{Recipe}
 use Rattle.records.specs.Stored.{Item, item_view, plan_view}
 use Rattle.records.specs.declared.record.Item as code
 use Rattle.records.specs.declared.record.Plan as code_plan
-use Rattle.device.specs.Plans.{AreRegularItems, Rise, item_name, HasRecipe, HasConfig, IsHeldFor, IsRecipeOf, IsSupplied, NeedsByName, IsBoot, IsPlan}
-use Rattle.device.specs.PlanNeeds.{names_of, IsRegularAt, HasConfigAt, HasRecipeAt, IsRecipeAt, IsListed, StandsAt, IsMetIn, AreMet, NeedsIn, FitsTogether, IsBootIn}
+use Rattle.device.specs.Plans.{AreRegularItems, Rise, item_name, HasRecipe, HasConfig, IsHeldFor, IsRecipeOf, IsSupplied, NeedsByName, IsBoot, AreRequirements, AreItems, AreBoots, IsPlan}
+use Rattle.device.specs.PlanNeeds.{names_of, IsRegularAt, HasConfigAt, HasRecipeAt, IsRecipeAt, AreListed, AreBootsIn, AreItemsWith, StandsAt, IsMetIn, AreMet, NeedsIn, FitsTogether, IsBootIn}
 use Rattle.device.proofs.PlanPlaces.{one_place, element, Pair, pair_at, Seen, seen, shown, stands, long}
 
 -- ---- all of a list
@@ -172,30 +171,26 @@ module _ (one : IsOneRecipe) (platform : Platform) (items : List code.Item) (rec
 
   -- ---- the whole
 
-  pub whole : (plan : code_plan.Plan) → plan.items ≡ items → IsListed plan → AllByRecursion HasConfigAt items → AllByRecursion (IsBootIn items recipes) plan.boots
-      → FitsTogether items recipes → IsPlan platform (plan_view plan)
-  whole plan same listed configs boots fits = record {
-    few_requirements = listed.few_requirements;
-    requirements_rise = listed.requirements_rise;
-    few_items = let few = listed.few_items in let n = length-map plan.items item_view in omega (arith, few, n);
-    items_rise = subst Rise (sym (names_seen plan.items)) listed.items_rise;
-    recipes = subst (λ is. AllByRecursion (HasRecipe platform) (map item_view is)) (sym same) (all_seen item_view (HasRecipe platform) items (has_recipes platform items recipes z));
-    configs = subst (λ is. AllByRecursion HasConfig (map item_view is)) (sym same) (all_seen item_view HasConfig items configs);
-    supplied = subst (λ is. AllByRecursion (IsSupplied platform (map item_view is)) (map item_view is)) (sym same) (supplied fits.met);
-    acyclic = subst (λ is. (n : List ℕ) → Leads (NeedsByName platform (map item_view is)) n n → ⊥) (sym same) (λ n m. fits.acyclic n (leads_more {R = NeedsByName platform vs} {S = NeedsIn items recipes} by_place m));
-    few_boots = listed.few_boots;
-    boots_differ = listed.boots_differ;
-    boots = subst (λ is. AllByRecursion (IsBoot platform (map item_view is)) plan.boots) (sym same) (each_along (IsBootIn items recipes) (IsBoot platform vs) plan.boots boot boots);
+  pub boots_whole : (boots : List (List ℕ)) → AreBootsIn items recipes boots → AreBoots platform vs boots
+  boots_whole boots are = record { few = are.few; differ = are.differ; each = each_along (IsBootIn items recipes) (IsBoot platform vs) boots boot are.each }
+
+  pub boots_in : (boots : List (List ℕ)) → AreBoots platform vs boots → AreBootsIn items recipes boots
+  boots_in boots are = record { few = are.few; differ = are.differ; each = each_along (IsBoot platform vs) (IsBootIn items recipes) boots boot_in are.each }
+
+  pub items_whole : AreListed items → AllByRecursion HasConfigAt items → FitsTogether items recipes → AreItems platform vs
+  items_whole listed configs fits = record {
+    few = let few = listed.few in let n = length-map items item_view in omega (arith, few, n);
+    rise = subst Rise (sym (names_seen items)) listed.rise;
+    recipes = all_seen item_view (HasRecipe platform) items (has_recipes platform items recipes z);
+    configs = all_seen item_view HasConfig items configs;
+    supplied = supplied fits.met;
+    acyclic = λ n m. fits.acyclic n (leads_more {R = NeedsByName platform vs} {S = NeedsIn items recipes} by_place m);
   }
 
-  pub plan_boots : (plan : code_plan.Plan) → plan.items ≡ items → IsPlan platform (plan_view plan) → AllByRecursion (IsBootIn items recipes) plan.boots
-  plan_boots plan same is =
-      each_along (IsBoot platform vs) (IsBootIn items recipes) plan.boots boot_in (subst (λ is. AllByRecursion (IsBoot platform (map item_view is)) plan.boots) same is.boots)
-
-  pub plan_fits : (plan : code_plan.Plan) → plan.items ≡ items → IsPlan platform (plan_view plan) → FitsTogether items recipes
-  plan_fits plan same is = record {
-    met = met (subst (λ is. AllByRecursion (IsSupplied platform (map item_view is)) (map item_view is)) same is.supplied);
-    acyclic = λ n m. (subst (λ is. (n : List ℕ) → Leads (NeedsByName platform (map item_view is)) n n → ⊥) same is.acyclic) n (leads_more {R = NeedsIn items recipes} {S = NeedsByName platform vs} by_name m);
+  pub items_fit : AreItems platform vs → FitsTogether items recipes
+  items_fit are = record {
+    met = met are.supplied;
+    acyclic = λ n m. are.acyclic n (leads_more {R = NeedsIn items recipes} {S = NeedsByName platform vs} by_name m);
   }
 
 -- a recipe that is like the item's is the item's, and where it is not there is none
@@ -210,23 +205,10 @@ alike_is platform item r s reads like is = record {
 pub not_recipe : IsOneRecipe → (platform : Platform) (item : Item) (r : Recipe) → Reads item.recipe platform r → (IsRecipeOf platform item r → ⊥) → HasRecipe platform item → ⊥
 not_recipe one platform item r reads bad h = bad (alike_is platform item r h.0 reads (one item.recipe platform h.0 r h.1.reads reads) h.1)
 
--- ---- what a plan asks first
+-- ---- what is asked of items first
 
-pub plan_listed : (platform : Platform) (plan : code_plan.Plan) → IsPlan platform (plan_view plan) → IsListed plan
-plan_listed platform plan is = record {
-  few_requirements = is.few_requirements;
-  requirements_rise = is.requirements_rise;
-  few_items = let few = is.few_items in let n = length-map plan.items item_view in omega (arith, few, n);
-  items_rise = subst Rise (names_seen plan.items) is.items_rise;
-  few_boots = is.few_boots;
-  boots_differ = is.boots_differ;
-}
-
-pub plan_configs : (platform : Platform) (plan : code_plan.Plan) (items : List code.Item) → plan.items ≡ items → IsPlan platform (plan_view plan) → AllByRecursion HasConfigAt items
-plan_configs platform plan items same is = subst (AllByRecursion HasConfigAt) same (all_back item_view HasConfig plan.items is.configs)
-
-pub plan_recipes : (platform : Platform) (plan : code_plan.Plan) (items : List code.Item) → plan.items ≡ items → IsPlan platform (plan_view plan) → AllByRecursion (HasRecipeAt platform) items
-plan_recipes platform plan items same is = subst (AllByRecursion (HasRecipeAt platform)) same (all_back item_view (HasRecipe platform) plan.items is.recipes)
+pub items_listed : (platform : Platform) (items : List code.Item) → AreItems platform (map item_view items) → AreListed items
+items_listed platform items are = record { few = let few = are.few in let n = length-map items item_view in omega (arith, few, n); rise = subst Rise (names_seen items) are.rise }
 
 -- ---- an answer that speaks of another fact
 
@@ -246,6 +228,24 @@ boot_answer items recipes n at r b rise same s e =
           let one = one_place items n h.at at rise h.stands s in
           e ∙ subst (λ k. IsSome (get_or recipes k r).bootstrap) one (h.step r),
     )
+
+-- ---- a plan
+
+boots_along : (items : List code.Item) (rs recipes : List Recipe) (bs boots : List (List ℕ)) → rs ≡ recipes → bs ≡ boots → AreBootsIn items rs bs → AreBootsIn items recipes boots
+boots_along items rs recipes bs boots r b are = subst (λ (x : List Recipe). AreBootsIn items x boots) r (subst (AreBootsIn items rs) b are)
+
+pub plan_answer : IsOneRecipe → (platform : Platform) (plan : code_plan.Plan) (items : List code.Item) (recipes rs : List Recipe) (bs : List (List ℕ)) (b : Bool) → plan.items ≡ items → rs ≡ recipes → bs ≡ plan.boots
+    → AreRequirements plan.requirements → AreItemsWith platform items recipes → IsTrue b ↔ AreBootsIn items rs bs → IsTrue b ↔ IsPlan platform (plan_view plan)
+plan_answer one platform plan items recipes rs bs b same r boots requirements w told = (
+  λ yes. record {
+    requirements = requirements;
+    items = subst (λ (is : List code.Item). AreItems platform (map item_view is)) (sym same) w.are_items;
+    boots = subst (λ (is : List code.Item). AreBoots platform (map item_view is) plan.boots) (sym same) (boots_whole one platform items recipes w.each plan.boots (boots_along items rs recipes bs plan.boots r boots (told.0 yes)));
+  },
+  λ is. told.1
+      (boots_along items recipes rs plan.boots bs (sym r) (sym boots)
+      (boots_in one platform items recipes w.each plan.boots (subst (λ (is : List code.Item). AreBoots platform (map item_view is) plan.boots) same is.boots))),
+)
 
 -- regular items are regular as they are seen, and back
 pub regular_seen : (items : List code.Item) → All IsRegularAt items → AreRegularItems (map item_view items)

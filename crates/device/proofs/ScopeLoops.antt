@@ -13,8 +13,8 @@ use Rattle.interpolation.specs.declared.scope.Scope.{Scope}
 use Rattle.records.specs.Stored.{Item, item_view}
 use Rattle.records.specs.declared.record.Item as code
 use Rattle.records.specs.declared.record.Origin.{Origin}
-use Rattle.device.specs.Plans.{AreRegularItems}
-use Rattle.device.specs.Scopes.{IsPlaceOf, IsScopeOf, HasScope, HasSomeRecipe, is_needed, is_needed_at, ArePlacesAt, AddsPlace, AddsNeeded, IsScopeBy}
+use Rattle.device.specs.Plans.{AreRegularItems, HasSomeRecipe}
+use Rattle.device.specs.Scopes.{IsPlaceOf, IsScopeOf, HasScope, is_needed, is_needed_at, ArePlacesAt, AddsPlace, AddsNeeded, IsScopeBy}
 use Rattle.device.proofs.PlanLoops.{next}
 
 -- the places so far are those of the items before that the recipe names

@@ -1,7 +1,7 @@
 -- What the accepted plans and their closings give, where stages, counts and bootstraps are left out.
 use Rattle.std.specs.Prelude.{ℕ, List, [], ◌∷◌, ◌++◌, Option, Some, None, option_map, if◌then◌else◌}
 use Rattle.nuc_base.specs.declared.kinds.Outcome.{Outcome}
-use Rattle.records.specs.Stored.{Item, Plan, Record, Genesis, Accepted, BootBegun, BootEnded, Activating, StepFailed, Failing, Closed}
+use Rattle.records.specs.Stored.{Item, Plan, Record, Accepted, Closed}
 use Rattle.device.specs.Grouped.{with_group}
 use Rattle.device.specs.Devices.{Device, Group}
 use Rattle.device.specs.Lawful.{takes_plan}
@@ -19,7 +19,7 @@ course d = record { groups = d.groups; set = d.set; closed = d.closed; plan = op
 abbrev pub closing : Outcome → Course → Option Plan → Course
 closing o c None = c
 closing o c (Some p) = record {
-  groups = if takes_plan o then with_group c.groups p.group p.requirements else c.groups;
+  groups = if takes_plan o then with_group c.groups p else c.groups;
   set = if takes_plan o then p.items else c.set;
   closed = c.closed ++ (p.id, o) ∷ [];
   plan = None;
@@ -27,14 +27,9 @@ closing o c (Some p) = record {
 
 -- only `Accepted` and `Closed` are looked at, and a `Closed` belongs to the last `Accepted`
 abbrev pub course_after : Course → Record → Course
-course_after c (Genesis o) = c
 course_after c (Accepted p) = record c { plan = Some p }
-course_after c (BootBegun n) = c
-course_after c (BootEnded n e) = c
-course_after c Activating = c
-course_after c (StepFailed n s e) = c
-course_after c (Failing n) = c
 course_after c (Closed o) = closing o c c.plan
+course_after c _ = c
 
 abbrev pub After : Course → List Record → Course
 After c [] = c

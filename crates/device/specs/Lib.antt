@@ -1,3 +1,4 @@
+pub mod Limits
 pub mod Grouped
 pub mod Closings
 pub mod Regularity
@@ -8,8 +9,15 @@ pub mod PlanNeeds
 pub mod Devices
 pub mod Lawful
 pub mod After
+pub mod Backing
+pub mod Sound
+pub mod Rooms
 pub mod Met
 pub mod Does
 pub mod Free
 pub mod Standing
+pub mod Damage
 pub mod Faults
+pub mod Endings
+pub mod Marks
+pub mod Spares

@@ -2,7 +2,7 @@
 use Rattle.std.specs.Prelude.{◌≡◌, List, [], ◌∷◌, Option, Some, None, ⊤}
 use Rattle.std.specs.List.{AllByRecursion, Contains}
 use Rattle.std.specs.Option.{IfSome}
-use Rattle.records.specs.Stored.{Item, Plan, Record, Genesis, Accepted, BootBegun, BootEnded, Activating, StepFailed, Failing, Closed}
+use Rattle.records.specs.Stored.{Item, Plan, Record, Accepted}
 use Rattle.npm_ranges.specs.Ranges.{Meets}
 use Rattle.records.specs.declared.record.Origin.{Origin}
 use Rattle.records.specs.declared.record.Requirement.{Requirement}
@@ -29,7 +29,7 @@ ItemsAreMet (Some o) items = AllByRecursion (IsSupplied o.platform items) items
 
 -- the same with the plan's items in place of the set, and its requirements in place of its group's
 pub record IsPlanMet (d : Device) (p : Plan) : Type 0 where
-  pub groups : GroupsAreMet (with_group d.groups p.group p.requirements) p.items
+  pub groups : GroupsAreMet (with_group d.groups p) p.items
   pub items : ItemsAreMet d.origin p.items
 
 pub record Met (d : Device) : Type 0 where
@@ -40,14 +40,8 @@ pub record Met (d : Device) : Type 0 where
 -- a plan that the record brings meets what all groups then ask; that its items meet what they ask of one another is
 -- part of its being lawful
 abbrev pub BringsMet : Device → Record → Type 0
-BringsMet d (Genesis o) = ⊤
-BringsMet d (Accepted p) = GroupsAreMet (with_group d.groups p.group p.requirements) p.items
-BringsMet d (BootBegun n) = ⊤
-BringsMet d (BootEnded n e) = ⊤
-BringsMet d Activating = ⊤
-BringsMet d (StepFailed n s e) = ⊤
-BringsMet d (Failing n) = ⊤
-BringsMet d (Closed o) = ⊤
+BringsMet d (Accepted p) = GroupsAreMet (with_group d.groups p) p.items
+BringsMet d _ = ⊤
 
 -- each plan that the records bring does, where they begin with this device
 abbrev pub BringMet : Device → List Record → Type 0

@@ -12,8 +12,8 @@ use Rattle.recipe_reader.specs.declared.recipe.Dependency.{Dependency}
 use Rattle.recipe_reader.specs.declared.recipe.Recipe.{Recipe}
 use Rattle.records.specs.Stored.{item_view}
 use Rattle.records.specs.declared.record.Item as code
-use Rattle.records.specs.declared.record.Plan as code_plan
-use Rattle.device.specs.Plans.{Rise, requirement_name, HasConfig, HasRecipe, IsRecipeOf, IsMetBy, IsMet}
+use Rattle.device.specs.Limits.{most_elements}
+use Rattle.device.specs.Plans.{Rise, HasConfig, HasRecipe, IsRecipeOf, IsMetBy, IsMet, AreItems}
 use Rattle.device.specs.Scopes.{IsPlaceOf}
 
 -- ---- one item
@@ -33,20 +33,16 @@ IsRecipeAt platform item recipe = IsRecipeOf platform (item_view item) recipe
 abbrev pub IsPlaceAt : code.Item → Place → Type 0
 IsPlaceAt item place = IsPlaceOf (item_view item) place
 
--- ---- the lists of a plan
+-- ---- the names of items
 
 -- the names of items as they lie in memory
 abbrev pub names_of : List code.Item → List (List ℕ)
 names_of items = map (λ (item : code.Item). item.name) items
 
--- few of each, in order, and no boot twice
-pub record IsListed (plan : code_plan.Plan) : Type 0 where
-  pub few_requirements : length plan.requirements ≤ 128
-  pub requirements_rise : Rise (map requirement_name plan.requirements)
-  pub few_items : length plan.items ≤ 128
-  pub items_rise : Rise (names_of plan.items)
-  pub few_boots : length plan.boots ≤ 128
-  pub boots_differ : IsDistinct bytes_eq plan.boots
+-- few, their names rising
+pub record AreListed (items : List code.Item) : Type 0 where
+  pub few : length items ≤ most_elements
+  pub rise : Rise (names_of items)
 
 -- ---- items by their places
 
@@ -106,7 +102,13 @@ pub record IsBootIn (items : List code.Item) (recipes : List Recipe) (name : Lis
   pub stands : StandsAt items name at
   pub step : HoldsAt (λ (recipe : Recipe). IsSome recipe.bootstrap) recipes at
 
--- the plan's boots are such, and its items fit together
-pub record FitsPlan (plan : code_plan.Plan) (recipes : List Recipe) : Type 0 where
-  pub boots : AllByRecursion (IsBootIn plan.items recipes) plan.boots
-  pub items : FitsTogether plan.items recipes
+-- the names are those of different such items
+pub record AreBootsIn (items : List code.Item) (recipes : List Recipe) (boots : List (List ℕ)) : Type 0 where
+  pub few : length boots ≤ most_elements
+  pub differ : IsDistinct bytes_eq boots
+  pub each : AllByRecursion (IsBootIn items recipes) boots
+
+-- a device runs these items, and these are their recipes
+pub record AreItemsWith (platform : Platform) (items : List code.Item) (recipes : List Recipe) : Type 0 where
+  pub are_items : AreItems platform (map item_view items)
+  pub each : AllZip (IsRecipeAt platform) items recipes

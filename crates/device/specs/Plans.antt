@@ -19,6 +19,7 @@ use Rattle.recipe_reader.specs.declared.recipe.Recipe.{Recipe}
 use Rattle.records.specs.Stored.{Item, Plan}
 use Rattle.records.specs.declared.record.Held.{Held}
 use Rattle.records.specs.declared.record.Requirement.{Requirement}
+use Rattle.device.specs.Limits.{most_elements, most_config}
 
 -- ---- names
 
@@ -46,6 +47,10 @@ pub record IsRecipeOf (platform : Platform) (item : Item) (recipe : Recipe) : Ty
   pub version : recipe.version ≡ item.version
   pub files : AllZip IsHeldFor recipe.artifacts item.artifacts
 
+-- the bytes are a recipe for the platform
+abbrev pub HasSomeRecipe : Platform → List ℕ → Type 0
+HasSomeRecipe platform bytes = (recipe : Recipe) × Reads bytes platform recipe
+
 -- no recipe for the platform
 abbrev pub IsNoRecipe : Platform → List ℕ → Type 0
 IsNoRecipe platform bytes = (recipe : Recipe) → Reads bytes platform recipe → ⊥
@@ -56,7 +61,7 @@ HasRecipe platform item = (recipe : Recipe) × IsRecipeOf platform item recipe
 -- an object whose text has at most 65,536 bytes
 pub record IsConfig (d : Data) : Type 0 where
   pub is_object : IsObject d
-  pub short : length (compact_text d) ≤ 65536
+  pub short : length (compact_text d) ≤ most_config
 
 abbrev pub HasConfig : Item → Type 0
 HasConfig item = IsConfig item.config
@@ -110,16 +115,27 @@ pub record IsBoot (platform : Platform) (items : List Item) (name : List ℕ) : 
 
 -- ---- the whole
 
--- That the boots are at most 128 follows from what is said of them below; it stands here for those who count them.
+-- each group's requirements, and a plan's: few, their names rising
+pub record AreRequirements (requirements : List Requirement) : Type 0 where
+  pub few : length requirements ≤ most_elements
+  pub rise : Rise (map requirement_name requirements)
+
+-- what a device runs: few items, their names rising, each with its recipe and its configuration, and all that they name as dependencies is met without a cycle
+pub record AreItems (platform : Platform) (items : List Item) : Type 0 where
+  pub few : length items ≤ most_elements
+  pub rise : Rise (map item_name items)
+  pub recipes : AllByRecursion (HasRecipe platform) items
+  pub configs : AllByRecursion HasConfig items
+  pub supplied : AllByRecursion (IsSupplied platform items) items
+  pub acyclic : (name : List ℕ) → Leads (NeedsByName platform items) name name → ⊥
+
+-- the names of different items with a bootstrap step. That they are few follows; it stands here for those who count them.
+pub record AreBoots (platform : Platform) (items : List Item) (boots : List (List ℕ)) : Type 0 where
+  pub few : length boots ≤ most_elements
+  pub differ : IsDistinct bytes_eq boots
+  pub each : AllByRecursion (IsBoot platform items) boots
+
 pub record IsPlan (platform : Platform) (plan : Plan) : Type 0 where
-  pub few_requirements : length plan.requirements ≤ 128
-  pub requirements_rise : Rise (map requirement_name plan.requirements)
-  pub few_items : length plan.items ≤ 128
-  pub items_rise : Rise (map item_name plan.items)
-  pub recipes : AllByRecursion (HasRecipe platform) plan.items
-  pub configs : AllByRecursion HasConfig plan.items
-  pub supplied : AllByRecursion (IsSupplied platform plan.items) plan.items
-  pub acyclic : (name : List ℕ) → Leads (NeedsByName platform plan.items) name name → ⊥
-  pub few_boots : length plan.boots ≤ 128
-  pub boots_differ : IsDistinct bytes_eq plan.boots
-  pub boots : AllByRecursion (IsBoot platform plan.items) plan.boots
+  pub requirements : AreRequirements plan.requirements
+  pub items : AreItems platform plan.items
+  pub boots : AreBoots platform plan.items plan.boots

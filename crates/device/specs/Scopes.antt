@@ -2,7 +2,6 @@
 use Rattle.std.specs.Prelude.{◌≡◌, ℕ, Bool, List, [], ◌∷◌, ◌++◌, filter, Some, slice_get, MatchBool}
 use Rattle.std.specs.List.{AllZip, list_any}
 use Rattle.std.specs.Str.{bytes_eq}
-use Rattle.nuc_base.specs.declared.platform.Platform.{Platform}
 use Rattle.tree_core.specs.View.{view}
 use Rattle.recipe_reader.specs.OneRecipe.{Reads}
 use Rattle.recipe_reader.specs.declared.recipe.Recipe.{Recipe}
@@ -18,10 +17,6 @@ pub record IsPlaceOf (item : Item) (place : Place) : Type 0 where
   pub name : place.name ≡ item.name
   pub version : place.version ≡ item.version
   pub config : view place.config ≡ item.config
-
--- the bytes are a recipe for the platform
-abbrev pub HasSomeRecipe : Platform → List ℕ → Type 0
-HasSomeRecipe platform bytes = (recipe : Recipe) × Reads bytes platform recipe
 
 -- the recipe names the item as a dependency
 abbrev pub is_needed : Recipe → Item → Bool

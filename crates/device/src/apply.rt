@@ -4,32 +4,24 @@ ghost use Rattle.std.specs.Option.{IsSomeAnd};
 ghost use Rattle.records.specs.Stored.{item_view, plan_view, record_view};
 ghost use Rattle.records.specs.Stored as stored;
 ghost use Rattle.device.specs.Devices.{Device as Shown, device_view, no_device, IsRegularDevice};
-ghost use Rattle.device.specs.Does.{Does};
-ghost use Rattle.device.specs.Grouped.{with_group};
-ghost use Rattle.device.specs.Lawful.{Allowed, HasRoomFor, MayAccept, applied, takes_plan};
+ghost use Rattle.device.specs.Does.{DoesRecord};
+ghost use Rattle.device.specs.Grouped.{with_group, revision_after};
+ghost use Rattle.device.specs.Lawful.{Allowed, HasRoomFor, IsNotOlder, MayAccept, applied, takes_plan};
 ghost use Rattle.device.specs.Plans.{AreRegularItems};
 ghost use Rattle.device.specs.Regularity.{IsRegularRecord};
+ghost use Rattle.device.specs.Sound.{IsSound};
 
 use crate::closed::Closed;
 use crate::device::Device;
 use crate::fault::ApplyFault;
-use crate::group::Group;
 use crate::groups::Groups;
+use crate::limits::{MOST_CLOSED, MOST_GROUPS, MOST_ROOT};
 use crate::plans::is_plan;
 use crate::staged::{Pending, Stage};
-use crate::steps::{activate, begin, break_off, end, fail, may_close, takes_plan};
+use crate::steps::{activate, begin, break_off, end, fail, go_back, may_close, takes_plan};
 use nuc_base::{Copied, Exit, Label, List, Name, NoMemory, Outcome, Step};
-use records::{Origin, Plan, Record};
+use records::{Group, Origin, Plan, Record};
 use std::alloc::Global;
-
-/// The most bytes of the path of a device's folder.
-const MOST_ROOT: usize = 1024;
-
-/// The most closed deployments that a device with another one pending has.
-const MOST_CLOSED: usize = 65_536;
-
-/// The most groups of a device.
-const MOST_GROUPS: usize = 256;
 
 impl Device {
     /// A device before its first record.
@@ -46,7 +38,7 @@ impl Device {
     }
 
     fn set_origin(&mut self, origin: Origin) -> Result<(), ApplyFault>
-        ensures { Does (Allowed (device_view self.old) (stored.Genesis origin)) (applied (device_view self.old) (stored.Genesis origin)) (device_view self.old) (device_view self.new) result }
+        ensures { DoesRecord (stored.Genesis origin) (device_view self.old) (device_view self.new) result }
     {
         if self.origin.is_some() || origin.root.len() > MOST_ROOT {
             return Err(ApplyFault::NotLawful);
@@ -56,7 +48,7 @@ impl Device {
     }
 
     fn begin_boot(&mut self, name: &Name) -> Result<(), ApplyFault>
-        ensures { Does (Allowed (device_view self.old) (stored.BootBegun name.now)) (applied (device_view self.old) (stored.BootBegun name.now)) (device_view self.old) (device_view self.new) result }
+        ensures { DoesRecord (stored.BootBegun name.now) (device_view self.old) (device_view self.new) result }
     {
         match &mut self.pending {
             Some(pending) => begin(pending, name),
@@ -65,7 +57,7 @@ impl Device {
     }
 
     fn end_boot(&mut self, name: &Name, exit: Exit) -> Result<(), ApplyFault>
-        ensures { Does (Allowed (device_view self.old) (stored.BootEnded name.now exit)) (applied (device_view self.old) (stored.BootEnded name.now exit)) (device_view self.old) (device_view self.new) result }
+        ensures { DoesRecord (stored.BootEnded name.now exit) (device_view self.old) (device_view self.new) result }
     {
         match &mut self.pending {
             Some(pending) => end(pending, name, exit),
@@ -74,7 +66,7 @@ impl Device {
     }
 
     fn fail_step(&mut self, name: &Name, step: Step, exit: Exit) -> Result<(), ApplyFault>
-        ensures { Does (Allowed (device_view self.old) (stored.StepFailed name.now step exit)) (applied (device_view self.old) (stored.StepFailed name.now step exit)) (device_view self.old) (device_view self.new) result }
+        ensures { DoesRecord (stored.StepFailed name.now step exit) (device_view self.old) (device_view self.new) result }
     {
         match &mut self.pending {
             Some(pending) => fail(self.set.as_slice(), pending, name, step, exit),
@@ -83,7 +75,7 @@ impl Device {
     }
 
     fn activate_plan(&mut self) -> Result<(), ApplyFault>
-        ensures { Does (Allowed (device_view self.old) stored.Activating) (applied (device_view self.old) stored.Activating) (device_view self.old) (device_view self.new) result }
+        ensures { DoesRecord stored.Activating (device_view self.old) (device_view self.new) result }
     {
         match &mut self.pending {
             Some(pending) => activate(pending),
@@ -92,10 +84,19 @@ impl Device {
     }
 
     fn break_plan(&mut self, name: &Name) -> Result<(), ApplyFault>
-        ensures { Does (Allowed (device_view self.old) (stored.Failing name.now)) (applied (device_view self.old) (stored.Failing name.now)) (device_view self.old) (device_view self.new) result }
+        ensures { DoesRecord (stored.Failing name.now) (device_view self.old) (device_view self.new) result }
     {
         match &mut self.pending {
             Some(pending) => break_off(pending, name),
+            None => Err(ApplyFault::NotLawful),
+        }
+    }
+
+    fn break_back(&mut self, alloc: Global, name: &Name) -> Result<(), ApplyFault>
+        ensures { DoesRecord (stored.FailingBack name.now) (device_view self.old) (device_view self.new) result }
+    {
+        match &mut self.pending {
+            Some(pending) => go_back(alloc, &self.origin, self.set.as_slice(), pending, name),
             None => Err(ApplyFault::NotLawful),
         }
     }
@@ -113,6 +114,19 @@ impl Device {
         self.groups.contains(&plan.group) || self.groups.len() < MOST_GROUPS
     }
 
+    /// Whether the plan has no revision, or none before its group's.
+    fn is_not_older(&self, plan: &Plan) -> bool
+        ensures { IsTrue result ↔ IsNotOlder (device_view self.now).groups (plan_view plan.now) }
+    {
+        plan.revision == 0 || self.groups.revision_of(&plan.group) <= plan.revision
+    }
+
+    fn is_in_turn(&self, plan: &Plan) -> bool
+        ensures { IsTrue result ↔ (HasRoomFor (device_view self.now) (plan_view plan.now) × IsNotOlder (device_view self.now).groups (plan_view plan.now)) }
+    {
+        self.has_room_for(plan) && self.is_not_older(plan)
+    }
+
     fn may_accept(&self, alloc: Global, plan: &Plan) -> Result<bool, NoMemory>
         requires regular { AreRegularItems (map item_view plan.now.items) }
         ensures { IfOk result (λ b. IsTrue b ↔ IsSomeAnd self.now.origin (MayAccept (device_view self.now) (plan_view plan.now))) }
@@ -120,13 +134,14 @@ impl Device {
         let Some(origin) = &self.origin else {
             return Ok(false);
         };
-        if !self.has_room_for(plan) {
+        if !self.is_in_turn(plan) {
             return Ok(false);
         }
         is_plan(alloc, &origin.platform, plan)
     }
 
-    fn take_plan(&mut self, plan: Plan)
+    /// Takes the plan without taking memory: the step of its Accepted, which is lawful.
+    pub fn take_plan(&mut self, plan: Plan)
         requires { Allowed (device_view self.old) (stored.Accepted (plan_view plan)) }
         ensures { device_view self.new ≡ applied (device_view self.old) (stored.Accepted (plan_view plan)) }
     {
@@ -136,13 +151,15 @@ impl Device {
             ended: 0,
             begun: false,
             boot_failed: false,
+            reach: 0,
+            back_flags: [false; 128],
             failures: [0; 128],
         });
     }
 
     fn accept(&mut self, alloc: Global, plan: Plan) -> Result<(), ApplyFault>
         requires regular { AreRegularItems (map item_view plan.items) }
-        ensures { Does (Allowed (device_view self.old) (stored.Accepted (plan_view plan))) (applied (device_view self.old) (stored.Accepted (plan_view plan))) (device_view self.old) (device_view self.new) result }
+        ensures { DoesRecord (stored.Accepted (plan_view plan)) (device_view self.old) (device_view self.new) result }
     {
         match self.may_accept(alloc, &plan) {
             Ok(true) => {
@@ -154,13 +171,24 @@ impl Device {
         }
     }
 
+    /// The revision of the plan's group behind it.
+    pub(crate) fn revision_after(&self, plan: &Plan) -> u64
+        ensures { result ≡ revision_after self.now.groups.list (plan_view plan.now) }
+    {
+        if plan.revision == 0 {
+            self.groups.revision_of(&plan.group)
+        } else {
+            plan.revision
+        }
+    }
+
     /// The plan takes the place of the set and of its group's requirements where the outcome says so. `key` is its
     /// group once more.
     fn settle(&mut self, key: Label, plan: Plan, outcome: Outcome)
         requires arn { key ≡ plan.group }
         requires room { 0 < self.old.groups.room }
         ensures origin { self.new.origin ≡ self.old.origin }
-        ensures groups { self.new.groups.list ≡ (if takes_plan outcome then with_group self.old.groups.list plan.group plan.requirements else self.old.groups.list) }
+        ensures groups { self.new.groups.list ≡ (if takes_plan outcome then with_group self.old.groups.list (plan_view plan) else self.old.groups.list) }
         ensures set { self.new.set ≡ (if takes_plan outcome then plan.items else self.old.set) }
         ensures closed { self.new.closed ≡ self.old.closed }
         ensures pending { self.new.pending ≡ self.old.pending }
@@ -168,10 +196,12 @@ impl Device {
         if !takes_plan(outcome) {
             return;
         }
+        let revision = self.revision_after(&plan);
         self.groups.put(
             key,
             Group {
                 arn: plan.group,
+                revision,
                 requirements: plan.requirements,
             },
         );
@@ -179,7 +209,7 @@ impl Device {
     }
 
     fn close(&mut self, alloc: Global, outcome: Outcome) -> Result<(), ApplyFault>
-        ensures { Does (Allowed (device_view self.old) (stored.Closed outcome)) (applied (device_view self.old) (stored.Closed outcome)) (device_view self.old) (device_view self.new) result }
+        ensures { DoesRecord (stored.Closed outcome) (device_view self.old) (device_view self.new) result }
     {
         let Some(pending) = &self.pending else {
             return Err(ApplyFault::NotLawful);
@@ -199,7 +229,7 @@ impl Device {
 
     fn take_record(&mut self, alloc: Global, entry: Record) -> Result<(), ApplyFault>
         requires regular { IsRegularRecord (record_view entry) }
-        ensures { Does (Allowed (device_view self.old) (record_view entry)) (applied (device_view self.old) (record_view entry)) (device_view self.old) (device_view self.new) result }
+        ensures { DoesRecord (record_view entry) (device_view self.old) (device_view self.new) result }
     {
         match entry {
             Record::Genesis(origin) => self.set_origin(origin),
@@ -209,7 +239,11 @@ impl Device {
             Record::Activating => self.activate_plan(),
             Record::StepFailed(name, step, exit) => self.fail_step(&name, step, exit),
             Record::Failing(name) => self.break_plan(&name),
+            Record::FailingBack(name) => self.break_back(alloc, &name),
             Record::Closed(outcome) => self.close(alloc, outcome),
+            Record::Turned(..) | Record::Grouped(_) | Record::Kept(_) | Record::Ended(..) => {
+                Err(ApplyFault::NotLawful)
+            }
         }
     }
 
@@ -217,8 +251,9 @@ impl Device {
     /// it was. The trees of the record are regular, as those of a record that was read are.
     pub fn apply(&mut self, alloc: Global, entry: Record) -> Result<(), ApplyFault>
         requires regular { IsRegularRecord (record_view entry) }
-        ensures taken { Does (Allowed (device_view self.old) (record_view entry)) (applied (device_view self.old) (record_view entry)) (device_view self.old) (device_view self.new) result }
+        ensures taken { DoesRecord (record_view entry) (device_view self.old) (device_view self.new) result }
         ensures regular { IsRegularDevice (device_view self.old) → IsRegularDevice (device_view self.new) }
+        ensures sound { IsSound (device_view self.old) → IsSound (device_view self.new) }
     {
         self.take_record(alloc, entry)
     }

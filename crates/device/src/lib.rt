@@ -11,31 +11,47 @@
 #![tactic(auto)]
 
 mod apply;
+mod backs;
 mod closed;
 mod device;
 mod fault;
-mod group;
 mod groups;
 mod laws;
+mod limits;
+mod mark;
+mod marking;
+mod marks;
+mod named;
 mod plan_needs;
 mod plan_recipes;
 mod plan_sizes;
 mod plans;
 mod replaying;
 mod scopes;
+mod spare;
 mod staged;
 mod steps;
 
 pub use closed::Closed;
 pub use device::Device;
 pub use fault::{ApplyFault, ReplayFault};
-pub use group::Group;
 pub use groups::Groups;
-pub use laws::{met_devices_stay_met, runs_give_the_plain_course};
+pub use laws::{
+    devices_are_sound, met_devices_stay_met, none_is_stuck, revisions_rise,
+    runs_give_the_plain_course,
+};
+pub use limits::{MOST_CLOSED, MOST_GROUPS};
+pub use mark::Mark;
 pub use plan_sizes::plans_are_short;
+pub use records::Group;
 pub use replaying::replay;
 pub use scopes::scope_of;
+pub use spare::Spare;
 pub use staged::{Pending, Stage};
 
+#[cfg(test)]
+mod marks_tests;
+#[cfg(test)]
+mod scopes_tests;
 #[cfg(test)]
 mod tests;

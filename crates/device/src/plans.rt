@@ -1,13 +1,14 @@
 //! Whether a plan is one that a device takes.
-ghost use Rattle.std.specs.Prelude.{◌≡◌, ◌↔◌, ◌≤◌, length, map, IsTrue, IfOk};
+ghost use Rattle.std.specs.Prelude.{◌≡◌, ◌↔◌, ◌≤◌, length, map, IsTrue, IfOk, MatchOption};
 ghost use Rattle.std.specs.List.{All, AllByRecursion, AllZip, IsDistinct, list_any};
 ghost use Rattle.std.specs.Str.{bytes_eq};
 ghost use Rattle.tree_core.specs.Regular.{IsRegular};
 ghost use Rattle.tree_core.specs.View.{view};
 ghost use Rattle.records.specs.Stored.{item_view, plan_view};
-ghost use Rattle.device.specs.Plans.{Rise, requirement_name, IsConfig, HasConfig, AreRegularItems, IsBoot, IsPlan};
-ghost use Rattle.device.specs.PlanNeeds.{names_of, HasConfigAt, IsRegularAt, IsRecipeAt, IsBootIn, IsListed, FitsTogether, FitsPlan};
+ghost use Rattle.device.specs.Plans.{Rise, requirement_name, IsConfig, AreRegularItems, AreRequirements, AreItems, IsPlan};
+ghost use Rattle.device.specs.PlanNeeds.{names_of, HasConfigAt, IsRegularAt, IsBootIn, AreListed, AreBootsIn, AreItemsWith, FitsTogether};
 
+use crate::limits::{MOST_CONFIG, MOST_ELEMENTS};
 use crate::plan_needs::{is_acyclic, needs_of, place_of};
 use crate::plan_recipes::recipes_of;
 use dep_order::Edges;
@@ -16,12 +17,6 @@ use recipe_reader::{Recipe, recipe_laws};
 use records::{Item, Plan, Requirement};
 use std::alloc::Global;
 use tree_core::Tree;
-
-/// The most items, requirements and boots of a plan.
-const MOST: usize = 128;
-
-/// The most bytes of a configuration's text.
-const CONFIG_LIMIT: usize = 65_536;
 
 fn requirements_rise(requirements: &[Requirement]) -> bool
     ensures { IsTrue result ↔ Rise (map requirement_name requirements.now) }
@@ -53,16 +48,16 @@ fn names_differ(names: &[Name]) -> bool
     true
 }
 
-/// Whether the lists of the plan are short and in order.
-fn is_listed(plan: &Plan) -> bool
-    ensures { IsTrue result ↔ IsListed plan.now }
+fn are_requirements(requirements: &[Requirement]) -> bool
+    ensures { IsTrue result ↔ AreRequirements requirements.now }
 {
-    plan.requirements.len() <= MOST
-        && requirements_rise(plan.requirements.as_slice())
-        && plan.items.len() <= MOST
-        && items_rise(plan.items.as_slice())
-        && plan.boots.len() <= MOST
-        && names_differ(plan.boots.as_slice())
+    requirements.len() <= MOST_ELEMENTS && requirements_rise(requirements)
+}
+
+fn are_listed(items: &[Item]) -> bool
+    ensures { IsTrue result ↔ AreListed items.now }
+{
+    items.len() <= MOST_ELEMENTS && items_rise(items)
 }
 
 fn is_config(alloc: Global, config: &Tree) -> Result<bool, NoMemory>
@@ -73,7 +68,7 @@ fn is_config(alloc: Global, config: &Tree) -> Result<bool, NoMemory>
         return Ok(false);
     }
     let text = config.write(alloc)?;
-    Ok(text.len() <= CONFIG_LIMIT)
+    Ok(text.len() <= MOST_CONFIG)
 }
 
 /// Whether each item's configuration is an object with a short text.
@@ -101,7 +96,7 @@ fn is_boot(items: &[Item], recipes: &[Recipe], name: &Name) -> bool
     }
 }
 
-fn are_boots(items: &[Item], recipes: &[Recipe], names: &[Name]) -> bool
+fn have_steps(items: &[Item], recipes: &[Recipe], names: &[Name]) -> bool
     requires rise { Rise (names_of items.now) }
     requires count { length recipes.now ≡ length items.now }
     ensures { IsTrue result ↔ AllByRecursion (IsBootIn items.now recipes.now) names.now }
@@ -112,6 +107,15 @@ fn are_boots(items: &[Item], recipes: &[Recipe], names: &[Name]) -> bool
         }
     }
     true
+}
+
+/// Whether the names are few and those of different items with a bootstrap step.
+fn are_boots(items: &[Item], recipes: &[Recipe], names: &[Name]) -> bool
+    requires rise { Rise (names_of items.now) }
+    requires count { length recipes.now ≡ length items.now }
+    ensures { IsTrue result ↔ AreBootsIn items.now recipes.now names.now }
+{
+    names.len() <= MOST_ELEMENTS && names_differ(names) && have_steps(items, recipes, names)
 }
 
 /// Whether the items meet the dependencies of their recipes, without a cycle.
@@ -131,18 +135,45 @@ fn are_in_order(alloc: Global, items: &[Item], recipes: &[Recipe]) -> Result<boo
     is_acyclic(alloc, &edges)
 }
 
-/// Whether the boots are such, and the items meet each other's needs.
-fn fits_together(alloc: Global, plan: &Plan, recipes: &[Recipe]) -> Result<bool, NoMemory>
-    requires rise { Rise (names_of plan.now.items) }
-    requires few { length plan.now.items ≤ 128 }
-    requires count { length recipes.now ≡ length plan.now.items }
-    ensures { IfOk result (λ b. IsTrue b ↔ FitsPlan plan.now recipes.now) }
+/// The recipes of the items, where a device of the platform runs such items.
+fn recipes_together(
+    alloc: Global,
+    platform: &Platform,
+    items: &[Item],
+) -> Result<Option<Vec<Recipe>>, NoMemory>
+    requires { All IsRegularAt items.now }
+    ensures { IfOk result (λ o. MatchOption o
+        (AreItems platform.now (map item_view items.now) → ⊥)
+        (λ recipes. AreItemsWith platform.now items.now recipes.items)) }
 {
-    let items = plan.items.as_slice();
-    if !are_boots(items, recipes, plan.boots.as_slice()) {
-        return Ok(false);
+    recipe_laws();
+    if !are_listed(items) {
+        return Ok(None);
     }
-    are_in_order(alloc, items, recipes)
+    let are_configured = are_configs(alloc, items)?;
+    if !are_configured {
+        return Ok(None);
+    }
+    let Some(recipes) = recipes_of(alloc, platform, items)? else {
+        return Ok(None);
+    };
+    let fit = are_in_order(alloc, items, recipes.as_slice())?;
+    if fit { Ok(Some(recipes)) } else { Ok(None) }
+}
+
+/// Whether a device of the platform runs such items.
+pub(crate) fn are_items(
+    alloc: Global,
+    platform: &Platform,
+    items: &[Item],
+) -> Result<bool, NoMemory>
+    requires { All IsRegularAt items.now }
+    ensures { IfOk result (λ b. IsTrue b ↔ AreItems platform.now (map item_view items.now)) }
+{
+    match recipes_together(alloc, platform, items)? {
+        Some(_) => Ok(true),
+        None => Ok(false),
+    }
 }
 
 /// Whether a device of the platform takes the plan, as far as the plan itself tells: its names, recipes,
@@ -152,16 +183,12 @@ pub(crate) fn is_plan(alloc: Global, platform: &Platform, plan: &Plan) -> Result
     ensures { IfOk result (λ b. IsTrue b ↔ IsPlan platform.now (plan_view plan.now)) }
 {
     recipe_laws();
-    if !is_listed(plan) {
+    if !are_requirements(plan.requirements.as_slice()) {
         return Ok(false);
     }
     let items = plan.items.as_slice();
-    let are_configured = are_configs(alloc, items)?;
-    if !are_configured {
-        return Ok(false);
-    }
-    match recipes_of(alloc, platform, items)? {
-        Some(recipes) => fits_together(alloc, plan, recipes.as_slice()),
+    match recipes_together(alloc, platform, items)? {
+        Some(recipes) => Ok(are_boots(items, recipes.as_slice(), plan.boots.as_slice())),
         None => Ok(false),
     }
 }

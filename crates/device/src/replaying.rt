@@ -2,23 +2,27 @@
 ghost use Rattle.std.specs.Prelude.{◌≡◌, ◌≤◌, ◌<◌, ◌+◌, ◌&&◌, nat_lt, is_some, ℕ, List, IsTrue, IsErrOf, IfOk};
 ghost use Rattle.nuc_base.specs.Faults.{Rose};
 ghost use Rattle.disk_model.specs.Disk.{Leaves};
-ghost use Rattle.gate_log.specs.Entries.{journal};
-ghost use Rattle.gate_log.specs.Journal.{StandsOn, log_files, log_stands};
-ghost use Rattle.gate_log.specs.Place.{EntryAt};
+ghost use Rattle.gate_log.specs.Entries.{most_file};
+ghost use Rattle.gate_log.specs.Journal.{IsBehind};
+ghost use Rattle.gate_log.specs.Place.{IsEntryAt};
 ghost use Rattle.device.specs.Devices.{device_view, IsRegularDevice};
-ghost use Rattle.device.specs.Standing.{Replayed, Took, TookEntry, most_bytes, room_of_plan};
+ghost use Rattle.device.specs.Limits.{room_of_plan};
+ghost use Rattle.device.specs.Rooms.{HasRoom, TakesRoom};
+ghost use Rattle.device.specs.Sound.{IsSound};
+ghost use Rattle.device.specs.Standing.{Replayed, Took, TookEntry};
 
 use crate::device::Device;
 use crate::fault::{ApplyFault, ReplayFault};
+use crate::limits::ROOM_OF_PLAN;
 use disk_model::Disk;
-use gate_log::Log;
+use gate_log::{Journal, MOST_FILE};
 use nuc_base::NoMemory;
 use records::Record;
 use std::alloc::Global;
 
 /// The last place behind the entry of an accepted plan with room for the records up to its close: 1,048,576 bytes, in
 /// a journal of at most 1,073,741,824.
-const LAST_WITH_ROOM: u64 = 1_073_741_824 - 1_048_576;
+const LAST_WITH_ROOM: u64 = MOST_FILE - ROOM_OF_PLAN;
 
 impl Device {
     /// Takes the record that the payload spells.
@@ -26,6 +30,7 @@ impl Device {
     pub(crate) fn take_payload(&mut self, alloc: Global, payload: &[u8]) -> Result<(), ApplyFault>
         ensures took { Took (device_view self.old) payload.now (device_view self.new) result }
         ensures regular { IsRegularDevice (device_view self.old) → IsRegularDevice (device_view self.new) }
+        ensures sound { IsSound (device_view self.old) → IsSound (device_view self.new) }
     {
         match Record::read(alloc, payload) {
             Ok(Some(record)) => self.apply(alloc, record),
@@ -36,22 +41,25 @@ impl Device {
 }
 
 /// Takes the record of the entry at this place, and gives the place behind it.
-fn take_entry<D: Disk>(
+fn take_entry<J: Journal, D: Disk>(
     device: &mut Device,
     alloc: Global,
-    log: &Log,
+    log: &J,
     disk: &mut D,
     at: u64,
 ) -> Result<u64, ReplayFault>
-    requires below { at < log.now.end }
-    requires place { IsTrue D.tells → (e : ℕ × List ℕ) × EntryAt (D.seen disk.old journal) at log.now.end e }
-    ensures told { IsTrue D.tells → (e : ℕ × List ℕ) → EntryAt (D.seen disk.old journal) at log.now.end e →
-        TookEntry (device_view device.old) at e.1 (device_view device.new) result }
+    requires below { at < J.end log.now }
+    requires place { IsTrue D.tells → (payload : List ℕ) × IsEntryAt J.stands log.now (D.seen disk.old) at payload }
+    ensures told { IsTrue D.tells → (payload : List ℕ) → IsEntryAt J.stands log.now (D.seen disk.old) at payload →
+        TookEntry (device_view device.old) at payload (device_view device.new) result }
     ensures goes_on { IfOk result (λ next. at < next) }
     ensures regular { IsRegularDevice (device_view device.old) → IsRegularDevice (device_view device.new) }
+    ensures sound { IsSound (device_view device.old) → IsSound (device_view device.new) }
+    ensures room { IsSound (device_view device.old) → IfOk result (λ next. TakesRoom at next (device_view device.old) (device_view device.new)) }
     ensures seen { D.seen disk.new ≡ D.seen disk.old }
     ensures moments { Leaves D.moment D.left_since disk.old disk.new (D.may_leave disk.old) }
     ensures cause { IsErrOf result ReplayFault.Disk → Rose (D.faults disk.old) (D.faults disk.new) }
+    ensures quiet { ¬ (IsErrOf result ReplayFault.Disk) → D.faults disk.new ≡ D.faults disk.old }
     ensures later { D.faults disk.old ≤ D.faults disk.new }
 {
     let (payload, next) = log.entry(alloc, disk, at)?;
@@ -64,26 +72,35 @@ fn take_entry<D: Disk>(
 
 /// Whether a plan is pending, and the room behind its entry, at this place, is missing.
 fn lacks_room(device: &Device, behind: u64) -> bool
-    ensures { result ≡ (is_some device.now.pending && nat_lt most_bytes (behind + room_of_plan)) }
+    ensures { result ≡ (is_some device.now.pending && nat_lt most_file (behind + room_of_plan)) }
 {
     device.pending.is_some() && behind > LAST_WITH_ROOM
 }
 
 /// The device for which the journal stands: each entry's record is taken in its turn. It writes nothing.
-pub fn replay<D: Disk>(alloc: Global, log: &Log, disk: &mut D) -> Result<Device, ReplayFault>
-    requires open { (payloads : List (List ℕ)) × StandsOn D.tells D.seen D.may_leave log_files log_stands log.now disk.old payloads }
-    ensures told { IsTrue D.tells → (payloads : List (List ℕ)) → StandsOn D.tells D.seen D.may_leave log_files log_stands log.now disk.old payloads → Replayed payloads result }
+pub fn replay<J: Journal, D: Disk>(
+    alloc: Global,
+    log: &J,
+    disk: &mut D,
+) -> Result<Device, ReplayFault>
+    requires open { (payloads : List (List ℕ)) × IsBehind D.may_leave J.stands log.now disk.old payloads }
+    ensures told { IsTrue D.tells → (payloads : List (List ℕ)) → J.stands log.now (D.seen disk.old) payloads → Replayed payloads result }
     ensures regular { IfOk result (λ d. IsRegularDevice (device_view d)) }
+    // Also where the disk tells nothing.
+    ensures sound { IfOk result (λ d. IsSound (device_view d)) }
+    ensures room { IfOk result (λ d. HasRoom (J.end log.now) (device_view d)) }
     ensures seen { D.seen disk.new ≡ D.seen disk.old }
     ensures moments { Leaves D.moment D.left_since disk.old disk.new (D.may_leave disk.old) }
     ensures cause { IsErrOf result ReplayFault.Disk → Rose (D.faults disk.old) (D.faults disk.new) }
+    ensures quiet { ¬ (IsErrOf result ReplayFault.Disk) → D.faults disk.new ≡ D.faults disk.old }
     ensures later { D.faults disk.old ≤ D.faults disk.new }
 {
     let mut device = Device::empty(alloc);
     let mut at = 0;
     // Where a plan is pending, the place just behind its entry.
     let mut behind = 0;
-    while at < log.end {
+    let end = log.end();
+    while at < end {
         let was_pending = device.pending.is_some();
         let next = take_entry(&mut device, alloc, log, disk, at)?;
         if !was_pending {

@@ -4,8 +4,8 @@ ghost use Rattle.std.specs.List.{list_any};
 ghost use Rattle.std.specs.Str.{bytes_eq};
 ghost use Rattle.recipe_reader.specs.OneRecipe.{Reads};
 ghost use Rattle.records.specs.Stored.{item_view};
-ghost use Rattle.device.specs.Plans.{AreRegularItems};
-ghost use Rattle.device.specs.Scopes.{IsScopeOf, HasScope, HasSomeRecipe, needed_at, ArePlacesAt, AddsNeeded, IsScopeBy};
+ghost use Rattle.device.specs.Plans.{AreRegularItems, HasSomeRecipe};
+ghost use Rattle.device.specs.Scopes.{IsScopeOf, HasScope, needed_at, ArePlacesAt, AddsNeeded, IsScopeBy};
 ghost use Rattle.device.specs.PlanNeeds.{IsPlaceAt};
 
 use crate::plan_recipes::recipe_in;

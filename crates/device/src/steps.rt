@@ -1,20 +1,66 @@
 // The steps of a pending deployment.
-ghost use Rattle.std.specs.Prelude.{◌≡◌, ◌↔◌, IsTrue, map, is_some, position, nat_eq, None, Some};
-ghost use Rattle.device.specs.Devices.{pending_view};
+ghost use Rattle.std.specs.Prelude.{◌≡◌, ◌≢◌, ◌↔◌, ◌≤◌, ◌<◌, length, IsTrue, map, is_some, option_map, true, position, nat_eq, slice_get, take, None, Some, [], List, ℕ};
+ghost use Rattle.device.specs.Devices.{pending_view, chosen};
 ghost use Rattle.device.specs.Does.{Does};
-ghost use Rattle.device.specs.Lawful.{MayBegin, MayEnd, MayActivate, MayFail, MayBreak, MayClose, begun, boot_ended, activated, count_failure, rolled, next_boot, place, broken, goes_on, takes_plan, failing_place, broken_name, MayCount, counted};
+ghost use Rattle.device.specs.Lawful.{MayBegin, MayEnd, MayActivate, MayFail, MayBreak, MayGoBack, MayClose, begun, boot_ended, one_ended, has_gone_back, moved_on, activated, count_failure, rolled, turned_to, turned_back, next_boot, failing_name, broken_name, reach_of, broken, goes_on, takes_plan, MayCount, counted, running, failing_place};
 ghost use Rattle.records.specs.Stored.{item_view};
 
+use crate::backs::tell_backs;
 use crate::fault::ApplyFault;
+use crate::named::place_of;
 use crate::staged::{Pending, Stage};
 use nuc_base::{Exit, Name, Outcome, Policy, Step};
-use records::Item;
+use records::{Item, Origin};
+use std::alloc::Global;
 
-pub(crate) fn is_next(pending: &Pending, name: &Name) -> bool
-    ensures { IsTrue result ↔ (next_boot (pending_view pending.now) ≡ Some name.now) }
+/// The name at this place among those with a flag.
+fn flagged_at<'a>(flags: &[bool], names: &'a [Name], at: u32) -> Option<&'a Name>
+    requires { length names.now ≤ length flags.now }
+    ensures { option_map (λ n. n.now) result ≡ slice_get (chosen flags.now names.now) at }
 {
-    match pending.plan.boots.as_slice().get(pending.ended as usize) {
-        Some(boot) => *boot == *name,
+    let mut left = at;
+    for (place, name) in names.iter().enumerate() {
+        let is_flagged = flags[place];
+        if is_flagged {
+            if left == 0 {
+                return Some(name);
+            }
+            left -= 1;
+        }
+    }
+    None
+}
+
+fn name_at(names: &[Name], at: usize) -> Option<&Name>
+    ensures { option_map (λ n. n.now) result ≡ slice_get names.now at }
+{
+    match names.get(at) {
+        Some(name) => Some(name),
+        None => None,
+    }
+}
+
+/// The bootstrap step that comes next.
+pub(crate) fn next_of(pending: &Pending) -> Option<&Name>
+    ensures { option_map (λ n. n.now) result ≡ next_boot (pending_view pending.now) }
+{
+    let boots = pending.plan.boots.as_slice();
+    match pending.stage {
+        Stage::Booting => name_at(boots, pending.ended as usize),
+        Stage::Backing => flagged_at(
+            &pending.back_flags,
+            &boots[..pending.reach as usize],
+            pending.ended,
+        ),
+        Stage::Activating | Stage::Rolling => None,
+    }
+}
+
+fn is_name(found: Option<&Name>, name: &Name) -> bool
+    ensures { IsTrue result ↔ (option_map (λ n. n.now) found.entry ≡ Some name.now) }
+{
+    match found {
+        Some(other) => *other == *name,
         None => false,
     }
 }
@@ -22,11 +68,7 @@ pub(crate) fn is_next(pending: &Pending, name: &Name) -> bool
 pub(crate) fn begin(pending: &mut Pending, name: &Name) -> Result<(), ApplyFault>
     ensures { Does (MayBegin name.now (pending_view pending.old)) (begun (pending_view pending.old)) (pending_view pending.old) (pending_view pending.new) result }
 {
-    if pending.stage == Stage::Booting
-        && !pending.boot_failed
-        && is_next(pending, name)
-        && !pending.begun
-    {
+    if !pending.boot_failed && is_name(next_of(pending), name) && !pending.begun {
         pending.begun = true;
         Ok(())
     } else {
@@ -34,7 +76,7 @@ pub(crate) fn begin(pending: &mut Pending, name: &Name) -> Result<(), ApplyFault
     }
 }
 
-fn goes_on(exit: Exit) -> bool
+pub(crate) fn goes_on(exit: Exit) -> bool
     ensures { result ≡ goes_on exit }
 {
     match exit {
@@ -43,17 +85,38 @@ fn goes_on(exit: Exit) -> bool
     }
 }
 
+pub(crate) fn roll(pending: &mut Pending)
+    ensures { pending_view pending.new ≡ rolled (pending_view pending.old) }
+{
+    pending.stage = Stage::Rolling;
+    pending.failures = [0; 128];
+}
+
+fn end_one(pending: &mut Pending)
+    requires { is_some (next_boot (pending_view pending.old)) ≡ true }
+    ensures { pending_view pending.new ≡ one_ended (pending_view pending.old) }
+{
+    pending.ended += 1;
+    pending.begun = false;
+}
+
+/// One more bootstrap step is ended, and behind the last back the items of the set are brought up.
+pub(crate) fn move_on(pending: &mut Pending)
+    requires { is_some (next_boot (pending_view pending.old)) ≡ true }
+    ensures { pending_view pending.new ≡ moved_on (pending_view pending.old) }
+{
+    end_one(pending);
+    if pending.stage == Stage::Backing && next_of(pending).is_none() {
+        roll(pending);
+    }
+}
+
 pub(crate) fn end(pending: &mut Pending, name: &Name, exit: Exit) -> Result<(), ApplyFault>
     ensures { Does (MayEnd name.now (pending_view pending.old)) (boot_ended exit (pending_view pending.old)) (pending_view pending.old) (pending_view pending.new) result }
 {
-    if pending.stage == Stage::Booting
-        && !pending.boot_failed
-        && is_next(pending, name)
-        && pending.begun
-    {
+    if !pending.boot_failed && is_name(next_of(pending), name) && pending.begun {
         if goes_on(exit) {
-            pending.ended += 1;
-            pending.begun = false;
+            move_on(pending);
         } else {
             pending.boot_failed = true;
         }
@@ -66,34 +129,13 @@ pub(crate) fn end(pending: &mut Pending, name: &Name, exit: Exit) -> Result<(), 
 pub(crate) fn activate(pending: &mut Pending) -> Result<(), ApplyFault>
     ensures { Does (MayActivate (pending_view pending.old)) (activated (pending_view pending.old)) (pending_view pending.old) (pending_view pending.new) result }
 {
-    if pending.stage == Stage::Booting
-        && !pending.boot_failed
-        && pending
-            .plan
-            .boots
-            .as_slice()
-            .get(pending.ended as usize)
-            .is_none()
-    {
+    if pending.stage == Stage::Booting && !pending.boot_failed && next_of(pending).is_none() {
         pending.stage = Stage::Activating;
         pending.failures = [0; 128];
         Ok(())
     } else {
         Err(ApplyFault::NotLawful)
     }
-}
-
-fn place_of(items: &[Item], name: &Name) -> Option<usize>
-    ensures { result ≡ place name.now (map item_view items.now) }
-{
-    let mut at = 0;
-    for item in items {
-        if *name == item.name {
-            return Some(at);
-        }
-        at += 1;
-    }
-    None
 }
 
 fn broken_of(failures: &[u8; 128]) -> Option<usize>
@@ -120,7 +162,7 @@ fn running_place(set: &[Item], pending: &Pending, name: &Name) -> Option<usize>
     ensures { result ≡ failing_place (map item_view set.now) (pending_view pending.now) name.now }
 {
     match pending.stage {
-        Stage::Booting => None,
+        Stage::Booting | Stage::Backing => None,
         Stage::Activating => place_of(pending.plan.items.as_slice(), name),
         Stage::Rolling => place_of(set, name),
     }
@@ -142,34 +184,114 @@ pub(crate) fn fail(
     count(pending, at)
 }
 
-fn is_broken(pending: &Pending, name: &Name) -> bool
-    ensures { IsTrue result ↔ (broken_name (pending_view pending.now).plan.items (pending_view pending.now) ≡ Some name.now) }
+/// The plan's first component with three failures.
+fn broken_in(pending: &Pending) -> Option<&Name>
+    ensures { option_map (λ n. n.now) result ≡ broken_name (pending_view pending.now).plan.items (pending_view pending.now) }
 {
     match broken_of(&pending.failures) {
         Some(at) => match pending.plan.items.as_slice().get(at) {
-            Some(item) => item.name == *name,
-            None => false,
+            Some(item) => Some(&item.name),
+            None => None,
         },
-        None => false,
+        None => None,
     }
+}
+
+/// The component by which the deployment fails.
+pub(crate) fn failing_of(pending: &Pending) -> Option<&Name>
+    ensures { option_map (λ n. n.now) result ≡ failing_name (pending_view pending.now) }
+{
+    match pending.stage {
+        Stage::Booting if pending.boot_failed => next_of(pending),
+        Stage::Activating => broken_in(pending),
+        _ => None,
+    }
+}
+
+fn may_break(pending: &Pending, name: &Name) -> bool
+    ensures { IsTrue result ↔ MayBreak name.now (pending_view pending.now) }
+{
+    pending.plan.policy == Policy::Rollback && is_name(failing_of(pending), name)
 }
 
 pub(crate) fn break_off(pending: &mut Pending, name: &Name) -> Result<(), ApplyFault>
     ensures { Does (MayBreak name.now (pending_view pending.old)) (rolled (pending_view pending.old)) (pending_view pending.old) (pending_view pending.new) result }
 {
-    let may = pending.plan.policy == Policy::Rollback
-        && match pending.stage {
-            Stage::Booting => pending.boot_failed && is_next(pending, name),
-            Stage::Activating => is_broken(pending, name),
-            Stage::Rolling => false,
-        };
-    if may {
-        pending.stage = Stage::Rolling;
-        pending.failures = [0; 128];
+    if may_break(pending, name) {
+        roll(pending);
         Ok(())
     } else {
         Err(ApplyFault::NotLawful)
     }
+}
+
+/// How many of the plan's bootstrap steps have begun, where the deployment fails.
+fn reach_of(pending: &Pending) -> u32
+    requires { is_some (failing_name (pending_view pending.now)) ≡ true }
+    ensures value { result ≡ reach_of (pending_view pending.now) }
+    ensures within { result ≤ length pending.now.plan.boots }
+{
+    match pending.stage {
+        Stage::Booting => pending.ended + 1,
+        _ => pending.plan.boots.as_slice().len() as u32,
+    }
+}
+
+/// The way back begins with the bootstrap steps that have a flag.
+pub(crate) fn turn_back(pending: &mut Pending, flags: &[bool; 128])
+    requires { is_some (failing_name (pending_view pending.old)) ≡ true }
+    ensures { pending_view pending.new ≡ turned_to (chosen flags.now (take (reach_of (pending_view pending.old)) pending.old.plan.boots)) (pending_view pending.old) }
+{
+    pending.reach = reach_of(pending);
+    pending.back_flags = *flags;
+    pending.stage = Stage::Backing;
+    pending.ended = 0;
+    pending.begun = false;
+    pending.boot_failed = false;
+    pending.failures = [0; 128];
+}
+
+/// Whether one of the bootstrap steps that have begun has a flag.
+fn has_flag(pending: &Pending, flags: &[bool; 128]) -> bool
+    requires { is_some (failing_name (pending_view pending.now)) ≡ true }
+    ensures { IsTrue result ↔ (chosen flags.now (take (reach_of (pending_view pending.now)) pending.now.plan.boots) ≢ []) }
+{
+    let reach = reach_of(pending) as usize;
+    let boots = pending.plan.boots.as_slice();
+    flagged_at(flags, &boots[..reach], 0).is_some()
+}
+
+pub(crate) fn go_back(
+    alloc: Global,
+    origin: &Option<Origin>,
+    set: &[Item],
+    pending: &mut Pending,
+    name: &Name,
+) -> Result<(), ApplyFault>
+    ensures { Does (MayGoBack origin.now (map item_view set.now) name.now (pending_view pending.old)) (turned_back origin.now (map item_view set.now) (pending_view pending.old)) (pending_view pending.old) (pending_view pending.new) result }
+{
+    let Some(origin) = origin else {
+        return Err(ApplyFault::NotLawful);
+    };
+    if !may_break(pending, name) {
+        return Err(ApplyFault::NotLawful);
+    }
+    let mut flags = [false; 128];
+    let tells = tell_backs(
+        alloc,
+        &origin.platform,
+        set,
+        pending.plan.boots.as_slice(),
+        &mut flags,
+    )?;
+    if !tells {
+        return Err(ApplyFault::NotLawful);
+    }
+    if !has_flag(pending, &flags) {
+        return Err(ApplyFault::NotLawful);
+    }
+    turn_back(pending, &flags);
+    Ok(())
 }
 
 pub(crate) fn may_close(pending: &Pending, outcome: Outcome) -> bool
@@ -184,7 +306,10 @@ pub(crate) fn may_close(pending: &Pending, outcome: Outcome) -> bool
                     || pending.stage == Stage::Activating && broken)
         }
         Outcome::RollbackComplete => pending.stage == Stage::Rolling && !broken,
-        Outcome::UnableToRollback => pending.stage == Stage::Rolling && broken,
+        Outcome::UnableToRollback => {
+            pending.stage == Stage::Rolling && broken
+                || pending.stage == Stage::Backing && pending.boot_failed
+        }
     }
 }
 

@@ -1,7 +1,10 @@
+ghost use Rattle.std.specs.Prelude.{IfOk, IfSome};
+ghost use Rattle.device.specs.Devices.{device_view};
+ghost use Rattle.device.specs.Sound.{IsSound};
+
 use crate::{ApplyFault, Device, ReplayFault, replay};
 use disk_model::{Disk, MemoryDisk};
-use gate_log::{FindFault, Log};
-use nuc_base::Label;
+use gate_log::{FindFault, Journal, Log};
 use std::alloc::Global;
 use std::test::Fail;
 
@@ -39,6 +42,30 @@ const RECORDS: &[(&str, &[u8])] = &[
         "again",
         b"\x12\0\0\0\x02d0\0\0\0\x01g\0\0\0\0\0\0\0\0\x01\0\0\0\x01b\0\0\0\x051.0.0\0\0\0\x81{\"RecipeFormatVersion\":\"2020-01-25\",\"ComponentName\":\"b\",\"ComponentVersion\":\"1.0.0\",\"Manifests\":[{\"Lifecycle\":{\"bootstrap\":\"s\"}}]}\0\0\0\x02{}\0\0\0\0\0\0\0\0",
     ),
+    (
+        "back",
+        b"\x12\0\0\0\x02d0\0\0\0\x01g\0\0\0\0\0\0\0\0\x01\0\0\0\x01a\0\0\0\x051.0.0\0\0\0\xa7{\"RecipeFormatVersion\":\"2020-01-25\",\"ComponentName\":\"a\",\"ComponentVersion\":\"1.0.0\",\"Manifests\":[{\"Lifecycle\":{\"bootstrap\":{\"Script\":\"s\",\"BootstrapOnRollback\":true}}}]}\0\0\0\x02{}\0\0\0\0\0\0\0\0",
+    ),
+    (
+        "r5",
+        b"\x1d\0\0\0\x02d5\0\0\0\x01g\0\0\0\0\0\0\0\x05\0\0\0\0\0\0\0\0\0\0\0\0\0",
+    ),
+    (
+        "r4",
+        b"\x1d\0\0\0\x02d4\0\0\0\x01g\0\0\0\0\0\0\0\x04\0\0\0\0\0\0\0\0\0\0\0\0\0",
+    ),
+    (
+        "r0",
+        b"\x12\0\0\0\x02d9\0\0\0\x01g\0\0\0\0\0\0\0\0\0\0\0\0\0",
+    ),
+    (
+        "scoped",
+        b"\x12\0\0\0\x02d1\0\0\0\x02g1\0\0\0\0\0\0\0\0\x04\0\0\0\x01a\0\0\0\x051.0.0\0\0\0\xaf{\"RecipeFormatVersion\":\"2020-01-25\",\"ComponentName\":\"a\",\"ComponentVersion\":\"1.0.0\",\"ComponentDependencies\":{\"d\":{\"DependencyType\":\"SOFT\"},\"b\":{\"VersionRequirement\":\"^1.0.0\"}}}\0\0\0\x09{\"x\":\"y\"}\0\0\0\0\0\0\0\x01b\0\0\0\x051.1.0\0\0\0\0\0\0\0\x07{\"n\":7}\0\0\0\0\0\0\0\x01c\0\0\0\x051.0.0\0\0\0\0\0\0\0\x02{}\0\0\0\0\0\0\0\x01d\0\0\0\x053.0.0\0\0\0\0\0\0\0\x0c{\"l\":[true]}\0\0\0\0\0\0\0\0",
+    ),
+    ("failing-back-a", b"\x1f\0\0\0\x01a"),
+    ("failing-back-b", b"\x1f\0\0\0\x01b"),
+    ("grouped", b"\x1a\0\0\0\x01g\0\0\0\0"),
+    ("ended", b"\x1c\0\0\0\x01x\x01"),
     ("begin-a", b"\x13\0\0\0\x01a"),
     ("begin-b", b"\x13\0\0\0\x01b"),
     ("begin-c", b"\x13\0\0\0\x01c"),
@@ -116,6 +143,42 @@ const LAWFUL: &[(&str, &str)] = &[
     ),
     (
         "genesis first activate close-successful boots begin-b end-b-lost failing-b fail-a fail-a fail-a",
+        "close-unable",
+    ),
+    // A revision that does not fall, and none.
+    ("genesis r4 activate close-successful", "r5"),
+    ("genesis r5 activate close-successful", "r0"),
+    // The way back: of the bootstraps that had begun, that of a runs again. A journal that goes back without it stands.
+    (
+        "genesis back activate close-successful boots begin-b end-b-0 begin-a end-a-1",
+        "failing-back-a",
+    ),
+    (
+        "genesis back activate close-successful boots begin-b end-b-0 begin-a end-a-1",
+        "failing-a",
+    ),
+    (
+        "genesis back activate close-successful boots begin-b end-b-0 begin-a end-a-1 failing-a",
+        "close-rolled",
+    ),
+    (
+        "genesis back activate close-successful boots begin-b end-b-0 begin-a end-a-1 failing-back-a",
+        "begin-a",
+    ),
+    (
+        "genesis back activate close-successful boots begin-b end-b-0 begin-a end-a-1 failing-back-a begin-a",
+        "end-a-100",
+    ),
+    (
+        "genesis back activate close-successful boots begin-b end-b-0 begin-a end-a-1 failing-back-a begin-a end-a-100",
+        "fail-a",
+    ),
+    (
+        "genesis back activate close-successful boots begin-b end-b-0 begin-a end-a-1 failing-back-a begin-a end-a-0",
+        "close-rolled",
+    ),
+    (
+        "genesis back activate close-successful boots begin-b end-b-0 begin-a end-a-1 failing-back-a begin-a end-a-1",
         "close-unable",
     ),
 ];
@@ -196,6 +259,45 @@ const UNLAWFUL: &[(&str, &str)] = &[
     // Not Rolling, no count of three.
     ("genesis bare activate fail-a fail-a fail-a", "close-unable"),
     ("genesis boots begin-b end-b-1 failing-b", "close-unable"),
+    // A revision that falls, also behind a deployment without one.
+    ("genesis r5 activate close-successful", "r4"),
+    (
+        "genesis r5 activate close-successful r0 activate close-successful",
+        "r4",
+    ),
+    // No back: the bootstrap of a had not begun, or its recipe does not ask for it; another name.
+    (
+        "genesis back activate close-successful boots begin-b end-b-1",
+        "failing-back-b",
+    ),
+    (
+        "genesis first activate close-successful boots begin-b end-b-0 begin-a end-a-1",
+        "failing-back-a",
+    ),
+    (
+        "genesis back activate close-successful boots begin-b end-b-0 begin-a end-a-1",
+        "failing-back-b",
+    ),
+    // Backing: a failure of a step, another failure, an end before one of a bootstrap, and one that did not fail.
+    (
+        "genesis back activate close-successful boots begin-b end-b-0 begin-a end-a-1 failing-back-a",
+        "fail-a",
+    ),
+    (
+        "genesis back activate close-successful boots begin-b end-b-0 begin-a end-a-1 failing-back-a begin-a end-a-1",
+        "failing-a",
+    ),
+    (
+        "genesis back activate close-successful boots begin-b end-b-0 begin-a end-a-1 failing-back-a",
+        "close-rolled",
+    ),
+    (
+        "genesis back activate close-successful boots begin-b end-b-0 begin-a end-a-1 failing-back-a begin-a",
+        "close-unable",
+    ),
+    // The records of a front.
+    ("genesis", "grouped"),
+    ("genesis", "ended"),
 ];
 
 fn records() -> &'static [(&'static str, &'static [u8])] {
@@ -203,7 +305,7 @@ fn records() -> &'static [(&'static str, &'static [u8])] {
 }
 
 /// The bytes of the record with this name, or none.
-fn record_named(name: &str) -> &'static [u8] {
+pub(crate) fn record_named(name: &str) -> &'static [u8] {
     for (other, bytes) in records() {
         if *other == name {
             return bytes;
@@ -213,7 +315,7 @@ fn record_named(name: &str) -> &'static [u8] {
 }
 
 /// Whether the record that the payload spells is lawful and is taken.
-pub(crate) fn is_taken(alloc: Global, device: &mut Device, payload: &[u8]) -> Result<bool, Fail> {
+fn is_taken(alloc: Global, device: &mut Device, payload: &[u8]) -> Result<bool, Fail> {
     match device.take_payload(alloc, payload) {
         Ok(()) => Ok(true),
         Err(ApplyFault::NotLawful) => Ok(false),
@@ -222,7 +324,7 @@ pub(crate) fn is_taken(alloc: Global, device: &mut Device, payload: &[u8]) -> Re
 }
 
 /// Whether all records of the history are taken.
-pub(crate) fn are_taken(alloc: Global, device: &mut Device, history: &str) -> Result<bool, Fail> {
+fn are_taken(alloc: Global, device: &mut Device, history: &str) -> Result<bool, Fail> {
     for name in history.split_whitespace() {
         if !is_taken(alloc, device, record_named(name))? {
             return Ok(false);
@@ -231,14 +333,37 @@ pub(crate) fn are_taken(alloc: Global, device: &mut Device, history: &str) -> Re
     Ok(true)
 }
 
+/// Whether the payload's record is lawful after a history, all of which is.
+fn follows(alloc: Global, history: &str, payload: &[u8]) -> Result<Option<bool>, Fail> {
+    let mut device = Device::empty(alloc);
+    if !are_taken(alloc, &mut device, history)? {
+        return Ok(None);
+    }
+    Ok(Some(is_taken(alloc, &mut device, payload)?))
+}
+
+/// The device of a journal with these records' entries, where it stands for one.
+pub(crate) fn replayed(alloc: Global, history: &str) -> Result<Option<Device>, Fail>
+    ensures { IfOk result (λ o. IfSome o (λ d. IsSound (device_view d))) }
+{
+    let mut journal = Vec::new(alloc);
+    for name in history.split_whitespace() {
+        push_entry(&mut journal, record_named(name))?;
+    }
+    journal.push(0)?;
+    let mut disk = MemoryDisk::new(alloc);
+    disk.write_at("journal", 0, &journal)?;
+    match Log::find(&mut disk) {
+        Ok(log) => Ok(replay(alloc, &log, &mut disk).ok()),
+        Err(_) => Ok(None),
+    }
+}
+
 /// How many rows of the table have a lawful history after which the record is lawful, or is not.
 fn count_rows(alloc: Global, table: &[(&str, &str)], lawful: bool) -> Result<usize, Fail> {
     let mut count = 0usize;
     for (history, name) in table {
-        let mut device = Device::empty(alloc);
-        if are_taken(alloc, &mut device, history)?
-            && is_taken(alloc, &mut device, record_named(name))? == lawful
-        {
+        if follows(alloc, history, record_named(name))? == Some(lawful) {
             count = count.saturating_add(1);
         }
     }
@@ -358,12 +483,335 @@ fn many_closed_deployments_are_replayed(rt: HostRuntime) -> Result<(), Fail> {
     let alloc = rt.alloc();
     let few = closings(alloc, 300, "")?;
     assert!(rt; found_in(alloc, 1, &few, 1)? == Found::Device(300));
-    // All 65,536 are taken, and behind their entries no more is accepted, whatever its id.
-    let end = closings(alloc, 65_536, "")?.len().saturating_sub(1) as u64;
-    let more = closings(alloc, 65_536, "more")?;
+    // All 131,072 are taken, and behind their entries no more is accepted, whatever its id.
+    let end = closings(alloc, 131_072, "")?.len().saturating_sub(1) as u64;
+    let more = closings(alloc, 131_072, "more")?;
     assert!(rt; found_in(alloc, 1, &more, 1)? == Found::Damaged(end));
     // An id that is closed is not accepted again: the entry of d2 stands behind those of d0 and d1.
     let again = closings(alloc, 2, "d1")?;
     assert!(rt; found_in(alloc, 1, &again, 1)? == Found::Damaged(133));
+    Ok(())
+}
+
+/// Plans and starts at the limits, in pieces that stand so often one after another, and whether they are lawful. In a
+/// piece `###` is the number of its turn.
+const SIZES: &[(&str, &[(usize, &[u8])], bool)] = &[
+    (
+        "",
+        &[
+            (1, b"\x11\0\0\x04\0"),
+            (1024, b"x"),
+            (
+                1,
+                b"\0\0\0\x02t1\0\0\0\x062.12.0\0\0\0\x05linux\0\0\0\x05amd64",
+            ),
+        ],
+        true,
+    ),
+    (
+        "",
+        &[
+            (1, b"\x11\0\0\x04\x01"),
+            (1025, b"x"),
+            (
+                1,
+                b"\0\0\0\x02t1\0\0\0\x062.12.0\0\0\0\x05linux\0\0\0\x05amd64",
+            ),
+        ],
+        false,
+    ),
+    (
+        "genesis",
+        &[
+            (1, b"\x12\0\0\0\x02d1\0\0\0\x02g1\0\0\0\0\x80"),
+            (128, b"\0\0\0\x04n###\0\0\0\x01*"),
+            (1, b"\0\0\0\x01"),
+            (
+                1,
+                b"\0\0\0\x04n###\0\0\0\x051.0.0\0\0\0V{\"RecipeFormatVersion\":\"2020-01-25\",\"ComponentName\":\"n###\",\"ComponentVersion\":\"1.0.0\"}\0\0\0\x02{}\0\0\0\0",
+            ),
+            (1, b"\0\0\0\0"),
+        ],
+        true,
+    ),
+    (
+        "genesis",
+        &[
+            (1, b"\x12\0\0\0\x02d1\0\0\0\x02g1\0\0\0\0\x81"),
+            (129, b"\0\0\0\x04n###\0\0\0\x01*"),
+            (1, b"\0\0\0\x01"),
+            (
+                1,
+                b"\0\0\0\x04n###\0\0\0\x051.0.0\0\0\0V{\"RecipeFormatVersion\":\"2020-01-25\",\"ComponentName\":\"n###\",\"ComponentVersion\":\"1.0.0\"}\0\0\0\x02{}\0\0\0\0",
+            ),
+            (1, b"\0\0\0\0"),
+        ],
+        false,
+    ),
+    (
+        "genesis",
+        &[
+            (1, b"\x12\0\0\0\x02d1\0\0\0\x02g1\0\0\0\0\0"),
+            (1, b"\0\0\0\x80"),
+            (
+                128,
+                b"\0\0\0\x04n###\0\0\0\x051.0.0\0\0\0V{\"RecipeFormatVersion\":\"2020-01-25\",\"ComponentName\":\"n###\",\"ComponentVersion\":\"1.0.0\"}\0\0\0\x02{}\0\0\0\0",
+            ),
+            (1, b"\0\0\0\0"),
+        ],
+        true,
+    ),
+    (
+        "genesis",
+        &[
+            (1, b"\x12\0\0\0\x02d1\0\0\0\x02g1\0\0\0\0\0"),
+            (1, b"\0\0\0\x81"),
+            (
+                129,
+                b"\0\0\0\x04n###\0\0\0\x051.0.0\0\0\0V{\"RecipeFormatVersion\":\"2020-01-25\",\"ComponentName\":\"n###\",\"ComponentVersion\":\"1.0.0\"}\0\0\0\x02{}\0\0\0\0",
+            ),
+            (1, b"\0\0\0\0"),
+        ],
+        false,
+    ),
+    (
+        "genesis",
+        &[
+            (
+                1,
+                b"\x12\0\0\0\x02d1\0\0\0\x02g1\0\0\0\0\0\0\0\0\x01\0\0\0\x04n###\0\0\0\x051.0.0\0\0\0V{\"RecipeFormatVersion\":\"2020-01-25\",\"ComponentName\":\"n###\",\"ComponentVersion\":\"1.0.0\"}\0\x01\0\0{\"k\":\"",
+            ),
+            (65528, b"x"),
+            (1, b"\"}\0\0\0\0\0\0\0\0"),
+        ],
+        true,
+    ),
+    (
+        "genesis",
+        &[
+            (
+                1,
+                b"\x12\0\0\0\x02d1\0\0\0\x02g1\0\0\0\0\0\0\0\0\x01\0\0\0\x04n###\0\0\0\x051.0.0\0\0\0V{\"RecipeFormatVersion\":\"2020-01-25\",\"ComponentName\":\"n###\",\"ComponentVersion\":\"1.0.0\"}\0\x01\0\x01{\"k\":\"",
+            ),
+            (65529, b"x"),
+            (1, b"\"}\0\0\0\0\0\0\0\0"),
+        ],
+        false,
+    ),
+];
+
+/// The digit of the number at this place of three.
+fn digit(number: usize, place: usize) -> u8 {
+    let digit = match place {
+        0 => number / 100 % 10,
+        1 => number / 10 % 10,
+        _ => number % 10,
+    };
+    digit as u8 + b'0'
+}
+
+/// Adds a piece in its turn. The first turn has the number 100.
+fn push_piece(bytes: &mut Vec<u8>, piece: &[u8], turn: usize) -> Result<(), Fail> {
+    let number = turn.saturating_add(100);
+    let mut place = 0usize;
+    for byte in piece {
+        if *byte == b'#' {
+            bytes.push(digit(number, place % 3))?;
+            place = place.saturating_add(1);
+        } else {
+            bytes.push(*byte)?;
+        }
+    }
+    Ok(())
+}
+
+fn push_pieces(bytes: &mut Vec<u8>, piece: &[u8], count: usize) -> Result<(), Fail> {
+    for turn in 0..count {
+        push_piece(bytes, piece, turn)?;
+    }
+    Ok(())
+}
+
+/// The pieces, each so often as it says.
+fn spelled(alloc: Global, pieces: &[(usize, &[u8])]) -> Result<Vec<u8>, Fail> {
+    let mut bytes = Vec::new(alloc);
+    for (count, piece) in pieces {
+        push_pieces(&mut bytes, piece, *count)?;
+    }
+    Ok(bytes)
+}
+
+/// How many of the payloads are lawful after their history, or not, as they should be.
+fn count_sizes(alloc: Global, table: &[(&str, &[(usize, &[u8])], bool)]) -> Result<usize, Fail> {
+    let mut count = 0usize;
+    for (history, pieces, lawful) in table {
+        if follows(alloc, history, &spelled(alloc, pieces)?)? == Some(*lawful) {
+            count = count.saturating_add(1);
+        }
+    }
+    Ok(count)
+}
+
+#[test]
+fn sizes_end_what_is_lawful(rt: HostRuntime) -> Result<(), Fail> {
+    let alloc = rt.alloc();
+    assert_eq!(rt; count_sizes(alloc, SIZES)?, SIZES.len());
+    // Each deployment brings a group of its own. The 513th is not taken.
+    let most = spelled(alloc, MOST_GROUPS)?;
+    assert!(rt; found_in(alloc, 1, &most, 512)? == Found::Device(512));
+    let more = spelled(alloc, MORE_GROUPS)?;
+    assert!(rt; found_in(alloc, 1, &more, 512)? == Found::Damaged(24_623));
+    Ok(())
+}
+
+/// Journals of so many deployments, each of a group of its own.
+const MOST_GROUPS: &[(usize, &[u8])] = &[
+    (
+        1,
+        b"\x01\0\0\0*\x11\0\0\0\x03/gg\0\0\0\x02t1\0\0\0\x062.12.0\0\0\0\x05linux\0\0\0\x05amd64",
+    ),
+    (
+        512,
+        b"\x01\0\0\0\x1e\x12\0\0\0\x04d###\0\0\0\x04g###\0\0\0\0\0\0\0\0\0\0\0\0\0\x01\0\0\0\x01\x15\x01\0\0\0\x02\x18\x01",
+    ),
+    (1, b"\0"),
+];
+
+const MORE_GROUPS: &[(usize, &[u8])] = &[
+    (
+        1,
+        b"\x01\0\0\0*\x11\0\0\0\x03/gg\0\0\0\x02t1\0\0\0\x062.12.0\0\0\0\x05linux\0\0\0\x05amd64",
+    ),
+    (
+        513,
+        b"\x01\0\0\0\x1e\x12\0\0\0\x04d###\0\0\0\x04g###\0\0\0\0\0\0\0\0\0\0\0\0\0\x01\0\0\0\x01\x15\x01\0\0\0\x02\x18\x01",
+    ),
+    (1, b"\0"),
+];
+
+/// Pieces of plans, each with its letter: the head, counts, requirements of a and b, names of boots, and components: a,
+/// which needs b softly and has a file with a digest of 32 bytes 0x11, b with a bootstrap step, and what is wrong of them.
+const PIECES: &[(u8, &[u8])] = &[
+    (b'P', b"\x12\0\0\0\x02d1\0\0\0\x02g1\0"),
+    (b'0', b"\0\0\0\0"),
+    (b'1', b"\0\0\0\x01"),
+    (b'2', b"\0\0\0\x02"),
+    (b'3', b"\0\0\0\x03"),
+    (b'a', b"\0\0\0\x01a\0\0\0\x01*"),
+    (b'b', b"\0\0\0\x01b\0\0\0\x01*"),
+    (b'x', b"\0\0\0\x01a"),
+    (b'y', b"\0\0\0\x01b"),
+    (b'z', b"\0\0\0\x01c"),
+    (
+        b'A',
+        b"\0\0\0\x01a\0\0\0\x051.0.0\0\0\x01<{\"RecipeFormatVersion\":\"2020-01-25\",\"ComponentName\":\"a\",\"ComponentVersion\":\"1.0.0\",\"ComponentDependencies\":{\"b\":{\"VersionRequirement\":\"^1.0.0\",\"DependencyType\":\"SOFT\"}},\"Manifests\":[{\"Artifacts\":[{\"URI\":\"s3://x/f\",\"Algorithm\":\"SHA-256\",\"Digest\":\"1111111111111111111111111111111111111111111111111111111111111111\"}]}]}\0\0\0\x07{\"k\":1}\0\0\0\x01\0\0\0\x01f\x11\x11\x11\x11\x11\x11\x11\x11\x11\x11\x11\x11\x11\x11\x11\x11\x11\x11\x11\x11\x11\x11\x11\x11\x11\x11\x11\x11\x11\x11\x11\x11",
+    ),
+    (
+        b'B',
+        b"\0\0\0\x01b\0\0\0\x051.1.0\0\0\0\x81{\"RecipeFormatVersion\":\"2020-01-25\",\"ComponentName\":\"b\",\"ComponentVersion\":\"1.1.0\",\"Manifests\":[{\"Lifecycle\":{\"bootstrap\":\"x\"}}]}\0\0\0\x02{}\0\0\0\0",
+    ),
+    (
+        b'N',
+        b"\0\0\0\x01b\0\0\0\x051.1.0\0\0\0\x02{}\0\0\0\x02{}\0\0\0\0",
+    ),
+    (
+        b'M',
+        b"\0\0\0\x01c\0\0\0\x051.1.0\0\0\0\x81{\"RecipeFormatVersion\":\"2020-01-25\",\"ComponentName\":\"b\",\"ComponentVersion\":\"1.1.0\",\"Manifests\":[{\"Lifecycle\":{\"bootstrap\":\"x\"}}]}\0\0\0\x02{}\0\0\0\0",
+    ),
+    (
+        b'V',
+        b"\0\0\0\x01b\0\0\0\x051.1.1\0\0\0\x81{\"RecipeFormatVersion\":\"2020-01-25\",\"ComponentName\":\"b\",\"ComponentVersion\":\"1.1.0\",\"Manifests\":[{\"Lifecycle\":{\"bootstrap\":\"x\"}}]}\0\0\0\x02{}\0\0\0\0",
+    ),
+    (
+        b'D',
+        b"\0\0\0\x01a\0\0\0\x051.0.0\0\0\x01<{\"RecipeFormatVersion\":\"2020-01-25\",\"ComponentName\":\"a\",\"ComponentVersion\":\"1.0.0\",\"ComponentDependencies\":{\"b\":{\"VersionRequirement\":\"^1.0.0\",\"DependencyType\":\"SOFT\"}},\"Manifests\":[{\"Artifacts\":[{\"URI\":\"s3://x/f\",\"Algorithm\":\"SHA-256\",\"Digest\":\"1111111111111111111111111111111111111111111111111111111111111111\"}]}]}\0\0\0\x07{\"k\":1}\0\0\0\0",
+    ),
+    (
+        b'E',
+        b"\0\0\0\x01a\0\0\0\x051.0.0\0\0\x01<{\"RecipeFormatVersion\":\"2020-01-25\",\"ComponentName\":\"a\",\"ComponentVersion\":\"1.0.0\",\"ComponentDependencies\":{\"b\":{\"VersionRequirement\":\"^1.0.0\",\"DependencyType\":\"SOFT\"}},\"Manifests\":[{\"Artifacts\":[{\"URI\":\"s3://x/f\",\"Algorithm\":\"SHA-256\",\"Digest\":\"1111111111111111111111111111111111111111111111111111111111111111\"}]}]}\0\0\0\x07{\"k\":1}\0\0\0\x01\0\0\0\x01f\x12\x12\x12\x12\x12\x12\x12\x12\x12\x12\x12\x12\x12\x12\x12\x12\x12\x12\x12\x12\x12\x12\x12\x12\x12\x12\x12\x12\x12\x12\x12\x12",
+    ),
+    (
+        b'F',
+        b"\0\0\0\x01b\0\0\0\x051.1.0\0\0\0\x81{\"RecipeFormatVersion\":\"2020-01-25\",\"ComponentName\":\"b\",\"ComponentVersion\":\"1.1.0\",\"Manifests\":[{\"Lifecycle\":{\"bootstrap\":\"x\"}}]}\0\0\0\x02{}\0\0\0\x01\0\0\0\x01f\x11\x11\x11\x11\x11\x11\x11\x11\x11\x11\x11\x11\x11\x11\x11\x11\x11\x11\x11\x11\x11\x11\x11\x11\x11\x11\x11\x11\x11\x11\x11\x11",
+    ),
+    (
+        b'O',
+        b"\0\0\0\x01b\0\0\0\x051.1.0\0\0\0\x81{\"RecipeFormatVersion\":\"2020-01-25\",\"ComponentName\":\"b\",\"ComponentVersion\":\"1.1.0\",\"Manifests\":[{\"Lifecycle\":{\"bootstrap\":\"x\"}}]}\0\0\0\x02[]\0\0\0\0",
+    ),
+    (
+        b'L',
+        b"\0\0\0\x01b\0\0\0\x052.0.0\0\0\0\x81{\"RecipeFormatVersion\":\"2020-01-25\",\"ComponentName\":\"b\",\"ComponentVersion\":\"2.0.0\",\"Manifests\":[{\"Lifecycle\":{\"bootstrap\":\"x\"}}]}\0\0\0\x02{}\0\0\0\0",
+    ),
+    (
+        b'C',
+        b"\0\0\0\x01b\0\0\0\x051.1.0\0\0\0\xa2{\"RecipeFormatVersion\":\"2020-01-25\",\"ComponentName\":\"b\",\"ComponentVersion\":\"1.1.0\",\"ComponentDependencies\":{\"a\":{}},\"Manifests\":[{\"Lifecycle\":{\"bootstrap\":\"x\"}}]}\0\0\0\x02{}\0\0\0\0",
+    ),
+];
+
+/// Plans in letters, and whether a device takes them.
+const PLANS: &[(&str, bool)] = &[
+    // A plan of two components, and one of none.
+    ("P2ab2AB1y", true),
+    ("P000", true),
+    // Names that do not rise.
+    ("P2ba2AB1y", false),
+    ("P2aa2AB1y", false),
+    ("P1a2BA1y", false),
+    ("P1a3ABB1y", false),
+    // No recipe, and one of another name or version.
+    ("P1a1N0", false),
+    ("P1a1M0", false),
+    ("P1a1V0", false),
+    // A file too few, another digest, a file too many.
+    ("P1a2DB1y", false),
+    ("P1a2EB1y", false),
+    ("P1a2AF1y", false),
+    // A configuration that is no object.
+    ("P1a2AO1y", false),
+    // A dependency that is not there, or in another version, and a cycle.
+    ("P1a1A0", false),
+    ("P1a2AL1y", false),
+    ("P1a2AC1y", false),
+    // A boot that stands twice, has no step, or is no component's.
+    ("P1a2AB2yy", false),
+    ("P1a2AB1x", false),
+    ("P1a2AB1z", false),
+];
+
+fn pieces() -> &'static [(u8, &'static [u8])] {
+    PIECES
+}
+
+fn piece_of(letter: u8) -> &'static [u8] {
+    for (other, piece) in pieces() {
+        if *other == letter {
+            return piece;
+        }
+    }
+    b""
+}
+
+fn plan_of(alloc: Global, letters: &str) -> Result<Vec<u8>, Fail> {
+    let mut plan = Vec::new(alloc);
+    for letter in letters.as_bytes() {
+        plan.extend_from_slice(piece_of(*letter))?;
+    }
+    Ok(plan)
+}
+
+/// How many plans a device that has started takes, or not, as it should.
+fn count_plans(alloc: Global, table: &[(&str, bool)]) -> Result<usize, Fail> {
+    let mut count = 0usize;
+    for (letters, lawful) in table {
+        if follows(alloc, "genesis", &plan_of(alloc, letters)?)? == Some(*lawful) {
+            count = count.saturating_add(1);
+        }
+    }
+    Ok(count)
+}
+
+#[test]
+fn plans_are_taken_or_not(rt: HostRuntime) -> Result<(), Fail> {
+    assert_eq!(rt; count_plans(rt.alloc(), PLANS)?, PLANS.len());
     Ok(())
 }

@@ -11,13 +11,13 @@
 mod create;
 mod entry;
 mod find;
-mod laws;
+mod journal;
 mod log;
 
 pub use entry::EntryFault;
-pub use find::FindFault;
-pub use laws::{answers_exclude, entries_are_one};
-pub use log::{AppendFault, Log};
+pub use find::{FindFault, length_in};
+pub use journal::Journal;
+pub use log::{AppendFault, JOURNAL, Log, MOST_FILE, MOST_PAYLOAD, open_gate};
 
 #[cfg(test)]
 mod tests;

@@ -1,20 +1,19 @@
 -- What each answer of the top call amounts to.
-use Rattle.std.proofs.Common.{◌≡◌, ◌∙◌, ◌⊎◌, inl, inr, ℕ, List, [], sym, ap}
+use Rattle.std.proofs.Common.{◌≡◌, ◌≢◌, ◌∙◌, ◌⊎◌, inl, inr, ℕ, List, sym, ap}
 use Rattle.std.specs.Prelude.{codes}
-use Rattle.std.proofs.lemmas.List.{append-nil}
 use Rattle.nuc_base.specs.declared.status.Status.{Status}
 use Rattle.nuc_base.specs.declared.status.Status.TheVariants as status
 use Rattle.nuc_base.specs.Faults.{Rose}
 use Rattle.disk_model.specs.Disk.{Image}
-use Rattle.edges.specs.Pieces.{AppendsFront}
-use Rattle.nucleus_top.specs.Words.{IsOrder, AsksNothing}
-use Rattle.nucleus_top.specs.Answers.{Store, Input, Printed, Told, IsUnchanged, HasRisen, Prints, Yields, usage_line, lines_of, status_of}
-use Rattle.nucleus_top.specs.Leaving.{IsKept, Keeps, file_of}
-use Rattle.nucleus_top.specs.Parts.{Comes, ComesOf, Parts}
+use Rattle.command_words.specs.Laws.{AsksOnce}
+use Rattle.command_words.specs.declared.order.Order.{Order}
+use Rattle.command_words.specs.declared.order.Order.TheVariants.{Init, Deploy, Status as Show}
+use Rattle.nucleus_top.specs.Words.{AsksNothing}
+use Rattle.nucleus_top.specs.Answers.{Store, Input, Printed, Told, IsUnchanged, HasRisen, IsQuiet, IsCutShort, Prints, Yields, usage_line, status_of}
+use Rattle.nucleus_top.specs.Leaving.{IsDurable, Keeps}
+use Rattle.nucleus_top.specs.Parts.{Comes, ComesOf, IsSourceFault, Parts}
 use Rattle.nucleus_top.specs.declared.answer.Answer.{Answer}
-use Rattle.nucleus_top.specs.declared.answer.Answer.TheVariants.{Stored, Made, Shown, WrongWords, DiskFailed, SourceFailed, NoMemory}
-use Rattle.nucleus_top.specs.declared.words.Order.{Order}
-use Rattle.nucleus_top.specs.declared.words.Order.TheVariants.{Init, Deploy, Status as Show}
+use Rattle.nucleus_top.specs.declared.answer.Answer.TheVariants.{WrongWords, DiskFailed, SourceFailed, NoMemory}
 use Rattle.nucleus_top.proofs.Orders.{comes_of}
 use Rattle.nucleus_top.proofs.DeployEnds.{deploy_parts}
 use Rattle.nucleus_top.proofs.InitEnds.{init_parts}
@@ -23,24 +22,28 @@ use Rattle.nucleus_top.proofs.StatusEnds.{status_parts}
 
 -- what a command's answer says of the disk
 risen : (order : Order) (store : Store) (input : Input) → ComesOf order store input DiskFailed → HasRisen store
-risen (Init origin) store input comes = comes
+risen (Init origin) store input comes = comes.0
 risen Deploy store input comes = comes.1
 risen (Show json) store input comes = comes.1
+risen _ store input comes = absurd comes
 
 unread : (order : Order) (store : Store) (input : Input) → ComesOf order store input SourceFailed → Rose input.faults_before input.faults_after
-unread (Init origin) store input comes = absurd comes
 unread Deploy store input comes = comes.0
+unread (Init origin) store input comes = absurd comes
 unread (Show json) store input comes = absurd comes
+unread _ store input comes = absurd comes
 
 untouched : (order : Order) (store : Store) (input : Input) → ComesOf order store input NoMemory → IsUnchanged store
 untouched (Init origin) store input comes = comes
 untouched Deploy store input comes = comes
 untouched (Show json) store input comes = comes
+untouched _ store input comes = absurd comes
 
 no_usage : (order : Order) (store : Store) (input : Input) → ComesOf order store input WrongWords → ⊥
 no_usage (Init origin) store input comes = comes
 no_usage Deploy store input comes = comes
 no_usage (Show json) store input comes = comes
+no_usage _ store input comes = absurd comes
 
 module _ (words : List (List ℕ)) (store : Store) (input : Input) (printed : Printed) (result : Status) where
   wrong : Comes words store input WrongWords → AsksNothing words × IsUnchanged store
@@ -74,15 +77,20 @@ module _ (words : List (List ℕ)) (store : Store) (input : Input) (printed : Pr
   source (inr (inl comes)) = cc
   source (inr (inr comes)) = cc
 
-  edge : (a : Answer) → Comes words store input a → Told printed result a → result ≡ status.Edge → Rose input.faults_before input.faults_after ⊎ Rose printed.faults_before printed.faults_after
-  edge a comes (inr told) is = inr told.1
-  edge SourceFailed comes (inl told) is = inl (source comes)
-  edge a comes (inl told) is = cc
+  disk_stays : (a : Answer) → IsQuiet store input a → Told printed result a → result ≢ status.Disk → result ≢ status.Edge → store.faults_after ≡ store.faults_before
+  disk_stays a quiet (inl told) other more = quiet.disk (λ is. other (told.0 ∙ ap status_of is))
+  disk_stays a quiet (inr told) other more = absurd (more told.0)
 
-  hides_nothing : (a : Answer) → Comes words store input a → Told printed result a → result ≡ status.Edge → (answer : Answer) × Comes words store input answer × AppendsFront printed.before printed.after (lines_of answer)
-  hides_nothing a comes (inr told) is = (a, comes, told.2)
-  hides_nothing SourceFailed comes (inl told) is = (SourceFailed, comes, (lines_of SourceFailed, [], sym (append-nil (lines_of SourceFailed)), told.1))
-  hides_nothing a comes (inl told) is = cc
+  edge : (a : Answer) → Comes words store input a → IsQuiet store input a → Told printed result a → result ≡ status.Edge
+      → IsSourceFault store input printed ⊎ ((answer : Answer) × Comes words store input answer × IsQuiet store input answer × IsCutShort printed answer)
+  edge a comes quiet (inr told) is = inr (a, comes, quiet, told.1)
+  edge SourceFailed comes quiet (inl told) is = inl (record { rose = source comes; line = told.1; disk_stays = quiet.disk (λ other. cc); sink_stays = told.2 })
+  edge a comes quiet (inl told) is = cc
+
+  edges_stay : (a : Answer) → IsQuiet store input a → Told printed result a → result ≢ status.Edge
+      → (input.faults_after ≡ input.faults_before) × (printed.faults_after ≡ printed.faults_before)
+  edges_stay a quiet (inl told) other = (quiet.source (λ is. other (told.0 ∙ ap status_of is)), told.2)
+  edges_stay a quiet (inr told) other = absurd (other told.0)
 
   same : Comes words store input NoMemory → IsUnchanged store
   same (inl comes) = untouched comes.0 store input comes.2
@@ -94,36 +102,23 @@ module _ (words : List (List ℕ)) (store : Store) (input : Input) (printed : Pr
   memory a comes (inl told) is = cc
   memory a comes (inr told) is = cc
 
-  pub parts : (a : Answer) → Comes words store input a → Told printed result a → Parts words store input printed result
-  parts a comes told = record {
+  pub parts : AsksOnce → (a : Answer) → Comes words store input a → IsQuiet store input a → Told printed result a → Parts words store input printed result
+  parts once a comes quiet told = record {
     usage = usage a comes told;
     usage_comes = usage_comes a comes told;
     disk = disk a comes told;
-    edge = edge a comes told;
-    hides_nothing = hides_nothing a comes told;
+    disk_stays = disk_stays a quiet told;
+    edge = edge a comes quiet told;
+    edges_stay = edges_stay a quiet told;
     memory = memory a comes told;
     one_device = same_device store.before;
-    deploy = λ is. deploy_parts store input printed result a (comes_of words Deploy store input a is comes) told;
-    init = λ origin is. init_parts origin store printed result a (comes_of words (Init origin) store input a is comes) told;
-    status = λ json is. status_parts json store printed result a (comes_of words (Show json) store input a is comes) told;
+    deploy = λ is. deploy_parts store input printed result a (comes_of once words Deploy store input a is comes) told;
+    init = λ origin is. init_parts origin store printed result a (comes_of once words (Init origin) store input a is comes) told;
+    status = λ json is. status_parts json store printed result a (comes_of once words (Show json) store input a is comes) told;
   }
 
--- 0 is answered only where the work is done, and then the command's file is kept
-kept : (order : Order) (store : Store) (input : Input) (images : Image → Type 0) (seen : Image) (printed : Printed) (result : Status) (a : Answer)
-    → ComesOf order store input a → Told printed result a → Keeps images seen a → result ≡ status.Done → IsKept images seen (file_of order)
-kept Deploy store input images seen printed result (Stored w) comes (inl told) keeps is = keeps
-kept Deploy store input images seen printed result (Made thing) comes (inl told) keeps is = absurd comes
-kept Deploy store input images seen printed result (Shown text) comes (inl told) keeps is = absurd comes
-kept (Init origin) store input images seen printed result (Stored w) comes (inl told) keeps is = absurd comes
-kept (Init origin) store input images seen printed result (Made thing) comes (inl told) keeps is = keeps
-kept (Init origin) store input images seen printed result (Shown text) comes (inl told) keeps is = absurd comes
-kept (Show json) store input images seen printed result (Stored w) comes (inl told) keeps is = absurd comes
-kept (Show json) store input images seen printed result (Made thing) comes (inl told) keeps is = absurd comes
-kept (Show json) store input images seen printed result (Shown text) comes (inl told) keeps is = keeps
-kept order store input images seen printed result a comes (inl told) keeps is = cc
-kept order store input images seen printed result a comes (inr told) keeps is = cc
-
-pub durable : (words : List (List ℕ)) (order : Order) (store : Store) (input : Input) (images : Image → Type 0) (seen : Image) (printed : Printed) (result : Status) (a : Answer)
-    → IsOrder words order → Comes words store input a → Told printed result a → Keeps images seen a → result ≡ status.Done → IsKept images seen (file_of order)
-durable words order store input images seen printed result a asks comes told keeps is =
-    kept order store input images seen printed result a (comes_of words order store input a asks comes) told keeps is
+-- 0 is answered only where the work is done
+pub durable : (order : Order) (images : Image → Type 0) (seen : Image) (printed : Printed) (result : Status) (a : Answer)
+    → Told printed result a → Keeps order images seen a → result ≡ status.Done → IsDurable order images seen
+durable order images seen printed result a (inl told) keeps is = keeps (sym told.0 ∙ is)
+durable order images seen printed result a (inr told) keeps is = cc

@@ -6,10 +6,11 @@ use Rattle.gate_log.specs.Journal.{log_none}
 use Rattle.records.specs.declared.record.Origin.{Origin}
 use Rattle.device.specs.Devices.{Device, no_device}
 use Rattle.device.specs.Standing.{Stands}
-use Rattle.nucleus_top.specs.Answers.{Store, Printed, Told, IsUnchanged, Prints, Expects, made_line, damaged_line, initialised_line}
+use Rattle.nucleus_top.specs.Answers.{Store, Printed, Told, IsUnchanged, Prints, Expects, made_line, damaged_line, initialised_line, status_of}
 use Rattle.nucleus_top.specs.Opening.{HasEntry, StandsForNone, IsInitialised}
-use Rattle.nucleus_top.specs.Inits.{IsMade, IsRefusedAt, NamesThing, Inits, InitParts}
-use Rattle.nucleus_top.specs.Leaving.{Keeps}
+use Rattle.nucleus_top.specs.Inits.{IsMade, MayBegin, IsRefusedAt, NamesThing, Inits, InitParts}
+use Rattle.command_words.specs.declared.order.Order.{Order}
+use Rattle.nucleus_top.specs.Leaving.{IsDurable}
 use Rattle.disk_model.specs.Disk.{Image}
 use Rattle.nucleus_top.specs.declared.answer.Answer.{Answer}
 use Rattle.nucleus_top.specs.declared.answer.Answer.TheVariants.{Stored, Made, Shown, DiskFailed, Damaged, Initialised, NoMemory}
@@ -32,6 +33,11 @@ module _ (origin : Origin) (store : Store) (printed : Printed) (result : Status)
   done_comes (Initialised thing) comes (inl told) tells none = absurd ((comes.1 tells).some none)
   done_comes NoMemory comes (inl told) tells none = inr (inr (inr told.0))
   done_comes a comes (inl told) tells none = absurd comes
+
+  failed : (a : Answer) → Inits origin store a → Told printed result a → result ≡ status.Disk → IsTrue store.tells → MayBegin store origin
+  failed DiskFailed comes (inl told) is = comes.1
+  failed a comes (inl told) is = cc
+  failed a comes (inr told) is = cc
 
   damaged : (a : Answer) → Inits origin store a → Told printed result a → result ≡ status.Damaged → (place : List ℕ) × IsRefusedAt store place × Prints printed (damaged_line place)
   damaged (Damaged place) comes (inl told) is = (place, comes, told.1)
@@ -67,6 +73,7 @@ module _ (origin : Origin) (store : Store) (printed : Printed) (result : Status)
     which = told_of (Inits origin store) printed result a comes told;
     done = done a comes told;
     done_comes = done_comes a comes told;
+    failed = failed a comes told;
     damaged = damaged a comes told;
     damaged_comes = damaged_comes a comes told;
     initialised = initialised a comes told;
@@ -79,7 +86,7 @@ names_comes origin store d (Initialised thing) names same found = (same, λ tell
 names_comes origin store d NoMemory names same found = same
 names_comes origin store d a names same found = absurd names
 
-pub names_keeps : (images : Image → Type 0) (seen : Image) (d : Device) (a : Answer) → NamesThing d a → Keeps images seen a
-names_keeps images seen d (Initialised thing) names = tt
-names_keeps images seen d NoMemory names = tt
-names_keeps images seen d a names = absurd names
+pub names_keeps : (order : Order) (images : Image → Type 0) (seen : Image) (d : Device) (a : Answer) → NamesThing d a → status_of a ≡ status.Done → IsDurable order images seen
+names_keeps order images seen d (Initialised thing) names done = cc
+names_keeps order images seen d NoMemory names done = cc
+names_keeps order images seen d a names done = absurd names

@@ -1,4 +1,3 @@
-mod Asked
 mod DeployEnds
 mod Ends
 mod Forms

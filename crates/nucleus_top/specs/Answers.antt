@@ -1,5 +1,5 @@
 -- The answers of a call: what each prints, and with which status it ends.
-use Rattle.std.specs.Prelude.{◌≡◌, ◌⊎◌, ℕ, List, ◌++◌, Bool, codes}
+use Rattle.std.specs.Prelude.{◌≡◌, ◌≢◌, ◌⊎◌, ℕ, List, ◌++◌, Bool, codes}
 use Rattle.std.specs.declared.option.Option.{Option}
 use Rattle.std.specs.Io.KnownBytes.{Appends}
 use Rattle.disk_model.specs.Disk.{Image}
@@ -69,14 +69,15 @@ pub record Store : Type 0 where
 abbrev pub store_of : {D : Type 0} → Bool → (D → Image) → (D → ℕ) → D → D → Store
 store_of tells seen faults old new = record { tells = tells; before = seen old; after = seen new; faults_before = faults old; faults_after = faults new }
 
--- What a call reads from. An untold document is None.
+-- What a call reads from: the bytes that it has left before and after. Untold bytes are None.
 pub record Input : Type 0 where
   pub document : Option (List ℕ)
+  pub rest : Option (List ℕ)
   pub faults_before : ℕ
   pub faults_after : ℕ
 
 abbrev pub input_of : {S : Type 0} → (S → Option (List ℕ)) → (S → ℕ) → S → S → Input
-input_of left faults old new = record { document = left old; faults_before = faults old; faults_after = faults new }
+input_of left faults old new = record { document = left old; rest = left new; faults_before = faults old; faults_after = faults new }
 
 -- What a call prints to, before and after.
 pub record Printed : Type 0 where
@@ -98,11 +99,21 @@ HasRisen store = Rose store.faults_before store.faults_after
 abbrev pub Prints : Printed → List ℕ → Type 0
 Prints printed lines = Appends printed.before printed.after lines
 
--- What the sink got: the lines of the answer, or where the sink failed a front of them.
+-- No count rose but that of the fault which is answered.
+pub record IsQuiet (store : Store) (input : Input) (answer : Answer) : Type 0 where
+  pub disk : answer ≢ DiskFailed → store.faults_after ≡ store.faults_before
+  pub source : answer ≢ SourceFailed → input.faults_after ≡ input.faults_before
+
+-- The sink failed, and got a front of the lines of this answer.
+pub record IsCutShort (printed : Printed) (answer : Answer) : Type 0 where
+  pub rose : Rose printed.faults_before printed.faults_after
+  pub front : AppendsFront printed.before printed.after (lines_of answer)
+
+-- What the sink got: the lines of the answer, and its count stays; or where it failed a front of them.
 abbrev pub Told : Printed → Status → Answer → Type 0
 Told printed result answer =
-    ((result ≡ status_of answer) × Prints printed (lines_of answer))
-    ⊎ ((result ≡ status.Edge) × Rose printed.faults_before printed.faults_after × AppendsFront printed.before printed.after (lines_of answer))
+    ((result ≡ status_of answer) × Prints printed (lines_of answer) × (printed.faults_after ≡ printed.faults_before))
+    ⊎ ((result ≡ status.Edge) × IsCutShort printed answer)
 
 -- this answer, or a fault of an edge, or want of memory
 abbrev pub Yields : Status → Status → Type 0

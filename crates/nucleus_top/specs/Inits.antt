@@ -8,17 +8,21 @@ use Rattle.gate_log.specs.Journal.{log_none}
 use Rattle.records.specs.declared.record.Origin.{Origin}
 use Rattle.device.specs.Devices.{Device}
 use Rattle.device.specs.Standing.{Stands}
-use Rattle.nucleus_top.specs.Begun.{begun_device}
+use Rattle.nucleus_top.specs.Begun.{begun_device, Begins}
 use Rattle.nucleus_top.specs.Opening.{HasEntry, StandsForNone, IsDamage, IsInitialised}
 use Rattle.nucleus_top.specs.Answers.{Store, Printed, IsUnchanged, HasRisen, Prints, Expects, made_line, damaged_line, initialised_line, status_of}
 use Rattle.nucleus_top.specs.declared.answer.Answer.{Answer}
-use Rattle.nucleus_top.specs.declared.answer.Answer.TheVariants.{Stored, Made, Shown, WrongWords, Refused, DiskFailed, SourceFailed, NotInitialised, Damaged, Initialised, NoMemory}
+use Rattle.nucleus_top.specs.declared.answer.Answer.TheVariants.{Made, DiskFailed, Damaged, Initialised, NoMemory}
 
 -- The journal held no entry and stands for the device that begins with this origin; the other files stay.
 pub record IsMade (store : Store) (origin : Origin) : Type 0 where
   pub none : log_none store.before
   pub stands : Stands store.after (begun_device origin)
   pub others : (name : List ℕ) → name ≢ journal → store.after name ≡ store.before name
+
+-- Every file reads as before; or the journal held no entry, and holds none or stands for the device of the origin.
+abbrev pub MayBegin : Store → Origin → Type 0
+MayBegin store origin = IsUnchanged store ⊎ Begins origin store.before store.after
 
 -- refused by a fault of the journal, with its place
 abbrev pub IsRefusedAt : Store → List ℕ → Type 0
@@ -38,17 +42,12 @@ NamesThing d _ = ⊥
 
 -- Why an answer comes, and what it leaves on the disk.
 abbrev pub Inits : Origin → Store → Answer → Type 0
-Inits origin store (Stored deployment) = ⊥
 Inits origin store (Made thing) = (thing ≡ origin.thing) × (IsTrue store.tells → IsMade store origin)
-Inits origin store (Shown text) = ⊥
-Inits origin store WrongWords = ⊥
-Inits origin store Refused = ⊥
-Inits origin store DiskFailed = HasRisen store
-Inits origin store SourceFailed = ⊥
-Inits origin store NotInitialised = ⊥
+Inits origin store DiskFailed = HasRisen store × (IsTrue store.tells → MayBegin store origin)
 Inits origin store (Damaged place) = IsRefusedAt store place
 Inits origin store (Initialised thing) = IsUnchanged store × (IsTrue store.tells → IsInitialised store.before thing)
 Inits origin store NoMemory = IsUnchanged store
+Inits origin store _ = ⊥
 
 pub record InitParts (origin : Origin) (store : Store) (printed : Printed) (result : Status) : Type 0 where
   -- The status is that of an answer that comes by its cause, or 6.
@@ -56,6 +55,8 @@ pub record InitParts (origin : Origin) (store : Store) (printed : Printed) (resu
   -- 0 comes exactly where the journal held no entry; it then stands for the device of the origin.
   pub done : result ≡ status.Done → (IsTrue store.tells → IsMade store origin) × Prints printed (made_line origin.thing)
   pub done_comes : IsTrue store.tells → log_none store.before → Expects result status.Done
+  -- 5: every file reads as before, or the journal held no entry, and holds none or stands for the device of the origin.
+  pub failed : result ≡ status.Disk → IsTrue store.tells → MayBegin store origin
   -- 9 comes exactly where the journal stands for no device.
   pub damaged : result ≡ status.Damaged → (place : List ℕ) × IsRefusedAt store place × Prints printed (damaged_line place)
   pub damaged_comes : IsTrue store.tells → StandsForNone store.before → Expects result status.Damaged

@@ -1,12 +1,12 @@
 -- What the journal of an image stands for.
-use Rattle.std.specs.Prelude.{◌≡◌, ◌⊎◌, ℕ, ◌<◌, List, length, Some, ⊤}
+use Rattle.std.specs.Prelude.{◌≡◌, ℕ, List, Some, ⊤}
 use Rattle.std.specs.Option.{IsSome}
 use Rattle.disk_model.specs.Disk.{Image}
-use Rattle.gate_log.specs.Entries.{journal, IsDamaged}
-use Rattle.gate_log.specs.Journal.{log_none, log_entries}
+use Rattle.gate_log.specs.Journal.{log_none, log_entries, log_damaged}
 use Rattle.records.specs.declared.record.Origin.{Origin}
 use Rattle.device.specs.Devices.{Device, device_view, IsRegularDevice}
-use Rattle.device.specs.Standing.{Stands, IsDamagedAt}
+use Rattle.device.specs.Standing.{Stands}
+use Rattle.device.specs.Damage as damage
 use Rattle.nucleus_top.specs.declared.opening.Opening.{Opening}
 use Rattle.nucleus_top.specs.declared.opening.Opening.TheVariants.{Empty, Found, Damaged, DiskFailed, NoMemory}
 
@@ -14,19 +14,13 @@ abbrev pub HasEntry : Image → Type 0
 HasEntry image = ¬ (log_none image)
 
 abbrev pub StandsForNone : Image → Type 0
-StandsForNone image = (d : Device) → Stands image d → ⊥
+StandsForNone = damage.StandsForNone log_entries
 
--- at this place of the journal stands the first open gate without a whole entry, the first entry that is no record or
--- is not lawful there, or, where only the room behind a pending plan is missing, the place behind its entry
-abbrev pub IsDamagedIn : Image → ℕ → Type 0
-IsDamagedIn image at =
-    ((1 < length (image journal)) × IsDamaged (image journal) at)
-    ⊎ ((payloads : List (List ℕ)) × log_entries image payloads × IsDamagedAt payloads at)
-
--- the journal stands for no device, by the fault at this place
-pub record IsDamage (image : Image) (at : ℕ) : Type 0 where
-  pub place : IsDamagedIn image at
-  pub none : StandsForNone image
+-- the journal stands for no device, by the fault at this place: the first open gate without a whole entry, the first
+-- entry that is no record or is not lawful there, or, where only the room behind a pending plan is missing, the place
+-- behind its entry
+abbrev pub IsDamage : Image → ℕ → Type 0
+IsDamage = damage.IsDamage log_entries log_damaged
 
 -- the journal has an entry, and stands for a device of this thing
 pub record IsInitialised (image : Image) (thing : List ℕ) : Type 0 where

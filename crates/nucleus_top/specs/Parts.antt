@@ -1,19 +1,18 @@
 -- What the top call promises of each answer.
-use Rattle.std.specs.Prelude.{◌≡◌, ◌⊎◌, ℕ, Bool, List, codes}
+use Rattle.std.specs.Prelude.{◌≡◌, ◌≢◌, ◌⊎◌, ℕ, Bool, List, codes}
 use Rattle.nuc_base.specs.declared.status.Status.{Status}
 use Rattle.nuc_base.specs.declared.status.Status.TheVariants as status
 use Rattle.nuc_base.specs.Faults.{Rose}
-use Rattle.edges.specs.Pieces.{AppendsFront}
 use Rattle.records.specs.declared.record.Origin.{Origin}
 use Rattle.device.specs.Devices.{Device}
 use Rattle.device.specs.Standing.{Stands}
-use Rattle.nucleus_top.specs.Words.{IsOrder, IsDeploy, AsksNothing}
-use Rattle.nucleus_top.specs.Answers.{Store, Input, Printed, IsUnchanged, HasRisen, Prints, Yields, usage_line, lines_of}
+use Rattle.command_words.specs.declared.order.Order.{Order}
+use Rattle.command_words.specs.declared.order.Order.TheVariants.{Init, Deploy, Status as Show}
+use Rattle.nucleus_top.specs.Words.{Asks, AsksNothing}
+use Rattle.nucleus_top.specs.Answers.{Store, Input, Printed, IsUnchanged, HasRisen, IsQuiet, IsCutShort, Prints, Yields, usage_line}
 use Rattle.nucleus_top.specs.Deploys.{Deploys, DeployParts}
 use Rattle.nucleus_top.specs.Inits.{Inits, InitParts}
 use Rattle.nucleus_top.specs.Shows.{Shows, StatusParts}
-use Rattle.nucleus_top.specs.declared.words.Order.{Order}
-use Rattle.nucleus_top.specs.declared.words.Order.TheVariants.{Init, Deploy, Status as Show}
 use Rattle.nucleus_top.specs.declared.answer.Answer.{Answer}
 use Rattle.nucleus_top.specs.declared.answer.Answer.TheVariants.{WrongWords, NoMemory}
 
@@ -22,28 +21,40 @@ abbrev pub ComesOf : Order → Store → Input → Answer → Type 0
 ComesOf (Init origin) store input = Inits origin store
 ComesOf Deploy store input = Deploys store input
 ComesOf (Show json) store input = Shows json store
+ComesOf _ store input = λ answer. ⊥
 
--- Why an answer comes: by the command that the words ask, since they ask nothing, or for want of memory.
+-- Why an answer comes: by the command that the words ask, since they ask none that is built, or for want of memory.
 abbrev pub Comes : List (List ℕ) → Store → Input → Answer → Type 0
 Comes words store input answer =
-    ((order : Order) × IsOrder words order × ComesOf order store input answer)
+    ((order : Order) × Asks words order × ComesOf order store input answer)
     ⊎ ((answer ≡ WrongWords) × AsksNothing words × IsUnchanged store)
     ⊎ ((answer ≡ NoMemory) × IsUnchanged store)
 
+-- the source failed, and that was printed
+pub record IsSourceFault (store : Store) (input : Input) (printed : Printed) : Type 0 where
+  pub rose : Rose input.faults_before input.faults_after
+  pub line : Prints printed (codes "fault 6 source\n")
+  pub disk_stays : store.faults_after ≡ store.faults_before
+  pub sink_stays : printed.faults_after ≡ printed.faults_before
+
 pub record Parts (words : List (List ℕ)) (store : Store) (input : Input) (printed : Printed) (result : Status) : Type 0 where
-  -- 1 comes exactly where the words ask nothing.
+  -- 1 comes exactly where the words ask no command that is built.
   pub usage : result ≡ status.Usage → AsksNothing words × IsUnchanged store × Prints printed usage_line
   pub usage_comes : AsksNothing words → Yields result status.Usage
-  -- 5 and 6 come only where a count rose.
+  -- 5 comes exactly where the disk's count rose, unless the sink fails besides.
   pub disk : result ≡ status.Disk → HasRisen store × Prints printed (codes "fault 5 disk\n")
-  pub edge : result ≡ status.Edge → Rose input.faults_before input.faults_after ⊎ Rose printed.faults_before printed.faults_after
-  -- With 6 a front was printed of the lines of an answer that comes by its cause and leaves what it leaves.
-  pub hides_nothing : result ≡ status.Edge → (answer : Answer) × Comes words store input answer × AppendsFront printed.before printed.after (lines_of answer)
+  pub disk_stays : result ≢ status.Disk → result ≢ status.Edge → store.faults_after ≡ store.faults_before
+  -- 6 comes exactly where the count of the source or the sink rose. The source's fault is printed whole, and the other
+  -- counts stay. Where the sink failed, a front was printed of the lines of an answer that comes by its cause, leaves
+  -- what it leaves and counts no fault but its own.
+  pub edge : result ≡ status.Edge → IsSourceFault store input printed
+      ⊎ ((answer : Answer) × Comes words store input answer × IsQuiet store input answer × IsCutShort printed answer)
+  pub edges_stay : result ≢ status.Edge → (input.faults_after ≡ input.faults_before) × (printed.faults_after ≡ printed.faults_before)
   -- With 15 nothing was printed, and every file reads as before.
   pub memory : result ≡ status.Memory → IsUnchanged store × Prints printed (codes "")
   -- The journal stands for one device at most.
   pub one_device : (d e : Device) → Stands store.before d → Stands store.before e → d ≡ e
   -- What each command promises.
-  pub deploy : IsDeploy words → DeployParts store input printed result
-  pub init : (origin : Origin) → IsOrder words (Init origin) → InitParts origin store printed result
-  pub status : (json : Bool) → IsOrder words (Show json) → StatusParts json store printed result
+  pub deploy : Asks words Deploy → DeployParts store input printed result
+  pub init : (origin : Origin) → Asks words (Init origin) → InitParts origin store printed result
+  pub status : (json : Bool) → Asks words (Show json) → StatusParts json store printed result

@@ -12,7 +12,7 @@ use Rattle.nucleus_top.specs.Opening.{HasEntry, StandsForNone}
 use Rattle.nucleus_top.specs.Inits.{IsRefusedAt}
 use Rattle.nucleus_top.specs.Answers.{Store, Printed, IsUnchanged, HasRisen, Prints, Expects, none_line, damaged_line, status_of}
 use Rattle.nucleus_top.specs.declared.answer.Answer.{Answer}
-use Rattle.nucleus_top.specs.declared.answer.Answer.TheVariants.{Stored, Made, Shown, WrongWords, Refused, DiskFailed, SourceFailed, NotInitialised, Damaged, Initialised, NoMemory}
+use Rattle.nucleus_top.specs.declared.answer.Answer.TheVariants.{Shown, DiskFailed, NotInitialised, Damaged, NoMemory}
 
 -- the lines of a device, or one line of JSON
 abbrev pub shown : Bool → Device → List ℕ
@@ -34,17 +34,12 @@ ShowsDevice json d _ = ⊥
 
 -- Why an answer comes, and what it leaves on the disk.
 abbrev pub Shows : Bool → Store → Answer → Type 0
-Shows json store (Stored deployment) = ⊥
-Shows json store (Made thing) = ⊥
 Shows json store (Shown text) = IsUnchanged store × (IsTrue store.tells → IsShown store.before json text)
-Shows json store WrongWords = ⊥
-Shows json store Refused = ⊥
 Shows json store DiskFailed = IsUnchanged store × HasRisen store
-Shows json store SourceFailed = ⊥
 Shows json store NotInitialised = IsUnchanged store × (IsTrue store.tells → log_none store.before)
 Shows json store (Damaged place) = IsRefusedAt store place
-Shows json store (Initialised thing) = ⊥
 Shows json store NoMemory = IsUnchanged store
+Shows json store _ = ⊥
 
 pub record StatusParts (json : Bool) (store : Store) (printed : Printed) (result : Status) : Type 0 where
   -- The status is that of an answer that comes by its cause, or 6.

@@ -1,4 +1,4 @@
-ghost use Rattle.std.specs.Prelude.{◌≡◌, ◌≤◌};
+ghost use Rattle.std.specs.Prelude.{◌≡◌, ◌≤◌, OnOk};
 ghost use Rattle.nuc_base.specs.Faults.{HasCause};
 ghost use Rattle.edges.specs.Pieces.{Writes};
 ghost use Rattle.nucleus_top.specs.Answers.{status_of, lines_of, printed_of, Told};
@@ -53,6 +53,7 @@ impl Answer {
     fn print<K: Sink>(&self, sink: &mut K) -> Result<(), EdgeFault>
         ensures lines { Writes (K.held sink.old) (K.held sink.new) (lines_of self.now) result }
         ensures cause { HasCause (K.faults sink.old) (K.faults sink.new) result }
+        ensures quiet { OnOk result (K.faults sink.new ≡ K.faults sink.old) }
     {
         match self {
             Answer::Stored(deployment) => {

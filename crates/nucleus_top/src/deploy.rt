@@ -1,10 +1,10 @@
 // The command `deploy`.
 ghost use Rattle.std.specs.Prelude.{◌≡◌, ◌≢◌, ◌≤◌, ℕ, List, IsTrue, codes};
 ghost use Rattle.disk_model.specs.Disk.{Leaves};
-ghost use Rattle.nucleus_top.specs.Answers.{store_of, input_of};
+ghost use Rattle.command_words.specs.declared.order.Order.TheVariants as order;
+ghost use Rattle.nucleus_top.specs.Answers.{store_of, input_of, IsQuiet};
 ghost use Rattle.nucleus_top.specs.Deploys.{Deploys};
 ghost use Rattle.nucleus_top.specs.Leaving.{Keeps, LeavesOf};
-ghost use Rattle.nucleus_top.specs.declared.words.Order.TheVariants as order;
 
 use crate::answer::Answer;
 use crate::document::{DOCUMENT_LIMIT, Deployment, DocumentFault};
@@ -20,8 +20,9 @@ const STATE: &str = "state";
 /// Stores what one document deploys.
 pub fn deploy<D: Disk, S: Source>(alloc: Global, disk: &mut D, source: &mut S) -> Answer
     ensures comes { Deploys (store_of D.tells D.seen D.faults disk.old disk.new) (input_of S.left S.faults source.old source.new) result }
+    ensures quiet { IsQuiet (store_of D.tells D.seen D.faults disk.old disk.new) (input_of S.left S.faults source.old source.new) result }
     ensures moments { Leaves D.moment D.left_since disk.old disk.new (LeavesOf order.Deploy (D.may_leave disk.old)) }
-    ensures keeps { Keeps (D.may_leave disk.new) (D.seen disk.new) result }
+    ensures keeps { Keeps order.Deploy (D.may_leave disk.new) (D.seen disk.new) result }
     ensures others { IsTrue D.tells → (name : List ℕ) → name ≢ codes "state" → D.seen disk.new name ≡ D.seen disk.old name }
     ensures disk_later { D.faults disk.old ≤ D.faults disk.new }
     ensures source_later { S.faults source.old ≤ S.faults source.new }

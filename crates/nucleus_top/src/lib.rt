@@ -1,8 +1,9 @@
 //! The top call of the nucleus: what the words of a command line ask, done over the devices that the call is given.
 //!
 //! It promises, in the one contract of `nucleus` and over every disk, source and sink, when each status comes, what is
-//! printed, what the disk holds afterwards and what a crash may leave at each moment. It stands on `device`, `gate_log`
-//! and `status_text` for the store, and on `edges` and `disk_model` for the devices.
+//! printed, what the disk holds afterwards and what a crash may leave at each moment. It stands on `command_words` for
+//! what words ask, on `device`, `gate_log` and `status_text` for the store, and on `edges` and `disk_model` for the
+//! devices.
 #![tactic(auto)]
 
 mod answer;
@@ -14,7 +15,6 @@ mod state;
 mod status;
 mod store;
 mod top;
-mod words;
 
 pub use top::nucleus;
 

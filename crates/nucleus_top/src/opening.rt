@@ -1,15 +1,15 @@
 // What the journal stands for when a command begins.
-ghost use Rattle.std.specs.Prelude.{◌≡◌, ◌≤◌, ℕ, List, IsTrue};
+ghost use Rattle.std.specs.Prelude.{◌≡◌, ◌≢◌, ◌≤◌, ℕ, List, IsTrue};
 ghost use Rattle.nuc_base.specs.Faults.{Rose};
 ghost use Rattle.disk_model.specs.Disk.{Leaves};
-ghost use Rattle.gate_log.specs.Journal.{AreSettled, StandsOn, log_files, log_stands};
+ghost use Rattle.gate_log.specs.Journal.{AreSettled, IsBehind, log_files, log_stands};
 ghost use Rattle.nucleus_top.specs.Opening.{HasEntry, Opens, IsReady, IsSettledAs};
 ghost use Rattle.nucleus_top.specs.Inits.{IsPlace};
 
 use crate::answer::Answer;
 use device::{Device, ReplayFault, replay};
 use disk_model::Disk;
-use gate_log::{FindFault, Log};
+use gate_log::{FindFault, Journal, Log};
 use nuc_base::Text;
 use std::alloc::Global;
 
@@ -28,7 +28,8 @@ pub enum Opening {
 /// Replays the entries behind which the log stands. Those of a disk that does not keep what it holds may give a device
 /// without an origin, which is a fault of the first entry.
 fn replayed<D: Disk>(alloc: Global, log: &Log, disk: &mut D) -> Opening
-    requires open { (payloads : List (List ℕ)) × StandsOn D.tells D.seen D.may_leave log_files log_stands log.now disk.old payloads }
+    requires open { (payloads : List (List ℕ)) × IsBehind D.may_leave log_stands log.now disk.old payloads }
+    requires settled { AreSettled D.seen D.may_leave log_files disk.old }
     requires some { IsTrue D.tells → HasEntry (D.seen disk.old) }
     ensures told { IsTrue D.tells → Opens (D.seen disk.old) result }
     // Nothing is begun over a journal in which entries were found, even where the disk tells nothing.
@@ -38,6 +39,7 @@ fn replayed<D: Disk>(alloc: Global, log: &Log, disk: &mut D) -> Opening
     ensures seen { D.seen disk.new ≡ D.seen disk.old }
     ensures moments { Leaves D.moment D.left_since disk.old disk.new (D.may_leave disk.old) }
     ensures cause { result ≡ Opening.DiskFailed → Rose (D.faults disk.old) (D.faults disk.new) }
+    ensures quiet { result ≢ Opening.DiskFailed → D.faults disk.new ≡ D.faults disk.old }
     ensures later { D.faults disk.old ≤ D.faults disk.new }
 {
     match replay(alloc, log, disk) {
@@ -62,6 +64,7 @@ pub fn open<D: Disk>(alloc: Global, disk: &mut D) -> Opening
     ensures seen { D.seen disk.new ≡ D.seen disk.old }
     ensures moments { Leaves D.moment D.left_since disk.old disk.new (D.may_leave disk.old) }
     ensures cause { result ≡ Opening.DiskFailed → Rose (D.faults disk.old) (D.faults disk.new) }
+    ensures quiet { result ≢ Opening.DiskFailed → D.faults disk.new ≡ D.faults disk.old }
     ensures later { D.faults disk.old ≤ D.faults disk.new }
 {
     match Log::find(disk) {

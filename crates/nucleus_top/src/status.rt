@@ -1,7 +1,8 @@
 // The command `status`.
-ghost use Rattle.std.specs.Prelude.{◌≡◌, ◌≤◌, IfOk};
+ghost use Rattle.std.specs.Prelude.{◌≡◌, ◌≢◌, ◌≤◌, IfOk};
 ghost use Rattle.std.specs.Option.{IsSome};
 ghost use Rattle.disk_model.specs.Disk.{Leaves};
+ghost use Rattle.command_words.specs.declared.order.Order.TheVariants as order;
 ghost use Rattle.device.specs.Devices.{device_view, IsRegularDevice};
 ghost use Rattle.nucleus_top.specs.Answers.{store_of};
 ghost use Rattle.nucleus_top.specs.Shows.{Shows, ShowsDevice, shown};
@@ -44,8 +45,9 @@ fn show(alloc: Global, json: bool, device: &Device) -> Answer
 pub fn status<D: Disk>(alloc: Global, json: bool, disk: &mut D) -> Answer
     ensures comes { Shows json (store_of D.tells D.seen D.faults disk.old disk.new) result }
     ensures moments { Leaves D.moment D.left_since disk.old disk.new (D.may_leave disk.old) }
-    ensures keeps { Keeps (D.may_leave disk.new) (D.seen disk.new) result }
+    ensures keeps { Keeps (order.Status json) (D.may_leave disk.new) (D.seen disk.new) result }
     ensures seen { D.seen disk.new ≡ D.seen disk.old }
+    ensures quiet { result ≢ Answer.DiskFailed → D.faults disk.new ≡ D.faults disk.old }
     ensures later { D.faults disk.old ≤ D.faults disk.new }
 {
     match open(alloc, disk) {

@@ -11,6 +11,7 @@ pub fn store<D: Disk>(disk: &mut D, file: &str, text: &[u8]) -> Result<(), DiskF
     ensures moments { Leaves D.moment D.left_since disk.old disk.new (After (D.may_leave disk.old) (Step file.now (λ old new. ⊤))) }
     ensures others { IsTrue D.tells → (name : List ℕ) → name ≢ file.now → D.seen disk.new name ≡ D.seen disk.old name }
     ensures cause { HasCause (D.faults disk.old) (D.faults disk.new) result }
+    ensures quiet { OnOk result (D.faults disk.new ≡ D.faults disk.old) }
 {
     disk.cut(file, 0)?;
     disk.write_at(file, 0, text)?;

@@ -1,14 +1,14 @@
 -- Each codec: what is read is spelled so, and what is spelled so is read.
-use Rattle.std.proofs.Common.{◌≡◌, ℕ, zero, suc, ◌+◌, ◌^◌, ◌<◌, ◌≤◌, false, List, [], ◌∷◌, ◌++◌, length, get_or, take, drop, Option, Some, refl, sym, ap, subst, ◌∙◌, append_assoc, arith, inl, inr}
+use Rattle.std.proofs.Common.{◌≡◌, ℕ, zero, suc, ◌+◌, ◌^◌, ◌<◌, ◌≤◌, Bool, true, false, List, [], ◌∷◌, ◌++◌, length, get_or, take, drop, Option, Some, refl, sym, ap, subst, ◌∙◌, append_assoc, arith, inl, inr}
 use Rattle.std.specs.Prelude.{nat_lt, ⊤}
 use Rattle.std.specs.List.{flat_map, AllByRecursion}
-use Rattle.std.specs.Int.{Width, w32, byte_len, from_be_bytes, to_be_bytes}
+use Rattle.std.specs.Int.{Width, w32, w64, byte_len, from_be_bytes, to_be_bytes}
 use Rattle.std.proofs.lemmas.Bool.{cases_lt, ltb-false, le-ltb}
 use Rattle.std.proofs.lemmas.List.{take_at, drop_at, take-append-drop, length-append, length-take, get_or-drop, get_or-take, get_or_past}
 use Rattle.std.proofs.lemmas.List.Concat.{flat_map-cons}
-use Rattle.std.proofs.lemmas.Nat.{be_bytes_4, from_be_bytes-to_be_bytes_4}
-use Rattle.records.specs.Codec.{Codec, ◌>>=◌, ◌&◌, wide_at, number_at, number, front_at, fixed, string_at, string, texts, as_a, nothing, byte_at, byte, items_at, list_of}
-use Rattle.records.proofs.Leaves.{bind_some, some_is, unless_some}
+use Rattle.std.proofs.lemmas.Nat.{be_bytes_4, be_bytes_8, from_be_bytes-to_be_bytes_4, from_be_bytes-to_be_bytes_8}
+use Rattle.records.specs.Codec.{Codec, ◌>>=◌, ◌&◌, only_if, wide_at, wide, number_at, number, long, those, front_at, fixed, string_at, string, texts, as_a, nothing, byte_at, byte, items_at, list_of}
+use Rattle.records.proofs.Leaves.{bind_some, some_is, if_some, unless_some}
 
 abbrev pub IsBytes : List ℕ → Type 0
 IsBytes bytes = (i : ℕ) → get_or bytes i 0 < 256
@@ -68,14 +68,28 @@ wide_again w limit wide n rest lt =
     let long : nat_lt (length (to_be_bytes w n ++ rest)) (byte_len w) ≡ false = le-ltb _ _ (omega (arith, length-append (to_be_bytes w n) rest)) in
     rw (long, take_at (to_be_bytes w n) rest (byte_len w) len, drop_at (to_be_bytes w n) rest (byte_len w) len, wide.again n lt) refl
 
+wide64 : IsWide w64 (2 ^ 64)
+wide64 = record {
+  len = λ n. refl;
+  back = λ bytes len fits. be_bytes_8 bytes _ len fits refl;
+  again = λ n lt. from_be_bytes-to_be_bytes_8 n lt;
+  below = λ bytes fits. omega (arith, fits 0, fits 1, fits 2, fits 3, fits 4, fits 5, fits 6, fits 7);
+}
+
 number_takes : (bytes : List ℕ) (p : ℕ × List ℕ) → IsBytes bytes → number_at bytes ≡ Some p → Takes bytes (to_be_bytes w32 p.0) p.1 × (p.0 < 2 ^ 32)
 number_takes = wide_takes w32 (2 ^ 32) wide32
 
 number_again : (n : ℕ) (rest : List ℕ) → n < 2 ^ 32 → number_at (to_be_bytes w32 n ++ rest) ≡ Some (n, rest)
 number_again = wide_again w32 (2 ^ 32) wide32
 
+wide_is : (w : Width) (limit : ℕ) → IsWide w limit → IsCodec (wide w limit)
+wide_is w limit is = record { takes = wide_takes w limit is; again = wide_again w limit is; asks = λ x h. tt }
+
 pub number_is : IsCodec number
-number_is = record { takes = number_takes; again = number_again; asks = λ x h. h }
+number_is = wide_is w32 (2 ^ 32) wide32
+
+pub long_is : IsCodec long
+long_is = wide_is w64 (2 ^ 64) wide64
 
 front_takes : (n : ℕ) (bytes : List ℕ) (p : List ℕ × List ℕ) → IsBytes bytes → front_at n bytes ≡ Some p → Takes bytes p.0 p.1 × (length p.0 ≡ n)
 front_takes n bytes p fits e =
@@ -146,6 +160,19 @@ as_a_is {A} {B} to from a back forth p = record {
       subst (λ (z : B × List ℕ). Takes bytes (a.spell (from z.0)) z.1 × a.Fits (from z.0)) (some_is made y f.2) one;
   again = λ y rest fits. rw (p.again (from y) rest fits, forth y) refl;
   asks = λ y fits. p.asks (from y) fits;
+}
+
+-- a test that stands for its rule
+pub those_is : {A : Type 0} (test : A → Bool) (Rule : A → Type 0) (c : Codec A) → ((x : A) → test x ≡ true → Rule x) → ((x : A) → Rule x → test x ≡ true) → IsCodec c → IsCodec (those test Rule c)
+those_is {A} test Rule c says found law = record {
+  takes = λ bytes p fits e.
+      let a = bind_some (c.at bytes) (λ x. only_if (test x.0) x) p e in
+      let b = if_some (test a.0.0) (Some a.0) p a.2 in
+      let t = law.takes bytes a.0 fits a.1 in
+      let one : Takes bytes (c.spell a.0.0) a.0.1 × (Rule a.0.0 × c.Fits a.0.0) = (t.0, (says a.0.0 b.0, t.1)) in
+      subst (λ (q : A × List ℕ). Takes bytes (c.spell q.0) q.1 × (Rule q.0 × c.Fits q.0)) (some_is a.0 p b.1) one;
+  again = λ x rest fits. rw (law.again x rest fits.1, found x fits.0) refl;
+  asks = λ x fits. (fits.0, law.asks x fits.1);
 }
 
 pub byte_is : {A : Type 0} (tag : A → ℕ) (of : ℕ → Option A) → ((b : ℕ) (x : A) → of b ≡ Some x → tag x ≡ b) → ((x : A) → of (tag x) ≡ Some x) → IsCodec (byte tag of)

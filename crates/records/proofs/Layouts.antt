@@ -1,10 +1,11 @@
 -- The layout of each record: what is read is spelled so, and what is spelled so is read.
-use Rattle.std.proofs.Common.{◌≡◌, ℕ, ◌^◌, ◌<◌, ℤ, Bool, true, false, List, [], ◌∷◌, ◌++◌, Option, Some, None, refl, sym, ap, subst, ◌∙◌, arith, inl, inr}
-use Rattle.std.specs.Prelude.{◌⊎◌, ◌==◌, if◌then◌else◌, FitsSigned, IsUtf8, IsSomeAnd, ⊤}
+use Rattle.std.proofs.Common.{◌≡◌, ℕ, zero, suc, ◌^◌, ◌<◌, ℤ, Bool, true, false, List, [], ◌∷◌, ◌++◌, Option, Some, None, refl, sym, ap, subst, ◌∙◌, arith, inl, inr}
+use Rattle.std.specs.Prelude.{◌⊎◌, ◌==◌, not, is_some, if◌then◌else◌, FitsSigned, IsUtf8, IsSomeAnd, ⊤}
 use Rattle.std.specs.Option.{option_map_or}
 use Rattle.std.specs.Str.{is_utf8}
 use Rattle.std.specs.Int.{w32, cast_signed, cast_unsigned}
 use Rattle.std.proofs.lemmas.Bool.{eqb-true}
+use Rattle.std.proofs.Math.Dec.{eqb-suc-zero}
 use Rattle.std.proofs.lemmas.Int.{of_z-to_z, to_z-of_z}
 use Rattle.std.proofs.Math.Facts.{sfits_to_z, Fits-of_lt, Fits-of_z, Fits-lt-pow}
 use Rattle.std.proofs.lemmas.List.{append-nil}
@@ -19,7 +20,7 @@ use Rattle.npm_ranges.specs.Ranges.{IsRange}
 use Rattle.npm_ranges.specs.Versions.{IsVersion}
 use Rattle.tree_core.specs.Regular.{IsRegular}
 use Rattle.tree_core.proofs.TextUtf8.{IsUtf8-compact_text}
-use Rattle.records.specs.Codec.{Codec, ◌>>=◌, only_if, number_at, whole}
+use Rattle.records.specs.Codec.{Codec, ◌>>=◌, ◌&◌, only_if, number_at, list_of, whole}
 use Rattle.records.specs.Layout as layout
 use Rattle.records.specs.Layout.{tree_of, Any, IsShort, IsShortTree, is_label, is_name, is_version, is_range}
 use Rattle.records.proofs.Leaves.{bind_some, some_is, if_some, label_says, label_test, name_says, name_test, version_says, version_test, range_says, range_test, tree_found, tree_says}
@@ -31,9 +32,11 @@ use Rattle.nuc_base.specs.declared.kinds.Policy.{Policy}
 use Rattle.nuc_base.specs.declared.kinds.Policy.TheVariants as policies
 use Rattle.nuc_base.specs.declared.kinds.Outcome.{Outcome}
 use Rattle.nuc_base.specs.declared.kinds.Outcome.TheVariants as outcomes
-use Rattle.records.specs.Stored.{Record, Activating}
-use Rattle.records.specs.Layout.{Kind, kinds, record_of, record_spelled, RecordFits, IsWritable, Spelled}
-use Rattle.records.proofs.Codecs.{IsBytes, IsBytes-rest, Takes, number_is, IsCodec, fixed_is, string_is, texts_is, both, as_a_is, nothing_is, byte_is, list_is}
+use Rattle.records.specs.Stored.{Plan, Record, Genesis, Accepted, Turned, Grouped, Kept}
+use Rattle.records.specs.declared.record.Group.{Group}
+use Rattle.records.specs.declared.record.Requirement.{Requirement}
+use Rattle.records.specs.Layout.{Kind, kinds, label, requirement, revision, Wanted, wanted, wanted_of, plan_of, record_of, record_spelled, RecordFits, IsWritable, Spelled}
+use Rattle.records.proofs.Codecs.{IsBytes, IsBytes-rest, Takes, number_is, long_is, IsCodec, fixed_is, string_is, texts_is, those_is, both, as_a_is, nothing_is, byte_is, list_is}
 
 ruled_says : (test : List ℕ → Bool) (Rule : List ℕ → Type 0) → ((t : List ℕ) → test t ≡ true → Rule t) → (t x : List ℕ) → only_if (test t) t ≡ Some x → (x ≡ t) × Rule x
 ruled_says test Rule tells t x e =
@@ -242,8 +245,19 @@ requirement_is = as_a_is _ _ _ (λ x. refl) (λ y. refl) (both _ _ name_is range
 pub item_is : IsCodec layout.item
 item_is = as_a_is _ _ _ (λ x. refl) (λ y. refl) (both _ _ name_is (both _ _ version_is (both _ _ string_is (both _ _ tree_is (list_is _ held_is)))))
 
-pub plan_is : IsCodec layout.plan
-plan_is = as_a_is _ _ _ (λ x. refl) (λ y. refl) (both _ _ label_is (both _ _ label_is (both _ _ policy_is (both _ _ (list_is _ requirement_is) (both _ _ (list_is _ item_is) (list_is _ name_is))))))
+above_zero : (n : ℕ) → not (n == 0) ≡ true → 0 < n
+above_zero zero e = absurd cc
+above_zero (suc n) e = omega arith
+
+pub not_zero : (n : ℕ) → 0 < n → (n == 0) ≡ false
+not_zero zero lt = absurd (omega (arith, lt))
+not_zero (suc n) lt = eqb-suc-zero n
+
+pub revision_is : IsCodec layout.revision
+revision_is = those_is _ _ _ above_zero (λ n lt. rw (not_zero n lt) refl) long_is
+
+pub wanted_is : IsCodec layout.wanted
+wanted_is = both _ _ policy_is (both _ _ (list_is _ requirement_is) (both _ _ (list_is _ item_is) (list_is _ name_is)))
 
 -- ---- records
 
@@ -258,27 +272,21 @@ whole_again c law make x fits = let e : c.at (c.spell x) ≡ Some (x, []) = ap c
 record IsKind (k : Kind) : Type 0 where
   takes : (rest : List ℕ) (r : Record) → IsBytes rest → k.of rest ≡ Some r → Spelled (k.first ∷ rest) r
   again : (r : Record) → k.Fits r → record_of (k.spell r) ≡ Some (k.made r)
-  asks : (r : Record) → k.Fits r → k.Asks r
 
 -- A kind is found by its first byte, and its records by their fields.
 kind_is : {A : Type 0} (first : ℕ) (c : Codec A) (make : A → Record) (value : Record → Option A) → IsCodec c
-    → ((x : A) → record_spelled (make x) ≡ first ∷ c.spell x) → ((x : A) → c.Fits x → RecordFits (make x)) → ((rest : List ℕ) → record_of (first ∷ rest) ≡ layout.all_as c make rest) → IsKind (layout.kind first c make value)
-kind_is {A} first c make value law spells good reads = record {
+    → ((x : A) → c.Fits x → Spelled (first ∷ c.spell x) (make x)) → ((rest : List ℕ) → record_of (first ∷ rest) ≡ layout.all_as c make rest) → IsKind (layout.kind first c make value)
+kind_is {A} first c make value law spells reads = record {
   takes = λ rest r fits e.
       let f = bind_some (whole (c.at rest)) (λ x. Some (make x)) r e in
       let t = law.takes rest (f.0, []) fits (whole_is (c.at rest) f.0 f.1) in
-      let one : Spelled (first ∷ rest) (make f.0) = record { fits = good f.0 t.1; same = rw (spells f.0) (ap (λ (t : List ℕ). first ∷ t) (t.0.parts ∙ append-nil (c.spell f.0))) } in
-      subst (Spelled (first ∷ rest)) (some_is (make f.0) r f.2) one;
+      let same : first ∷ c.spell f.0 ≡ first ∷ rest = ap (λ (t : List ℕ). first ∷ t) (sym (t.0.parts ∙ append-nil (c.spell f.0))) in
+      subst (Spelled (first ∷ rest)) (some_is (make f.0) r f.2) (subst (λ (bytes : List ℕ). Spelled bytes (make f.0)) same (spells f.0 t.1));
   again = λ r fits. again_of r (value r) fits;
-  asks = λ r fits. asks_of (value r) fits;
 } where
   again_of : (r : Record) (o : Option A) → IsSomeAnd o c.Fits → record_of (first ∷ option_map_or c.spell o []) ≡ Some (option_map_or make o r)
   again_of r None fits = absurd fits
   again_of r (Some x) fits = reads (c.spell x) ∙ whole_again c law make x fits
-
-  asks_of : (o : Option A) → IsSomeAnd o c.Fits → IsSomeAnd o c.Asks
-  asks_of None fits = absurd fits
-  asks_of (Some x) fits = law.asks x fits
 
 abbrev EachIsKind : List Kind → Type 0
 EachIsKind [] = ⊤
@@ -294,18 +302,70 @@ is ⊕ are = record { each = (is, are.each) }
 no_more : AreKinds []
 no_more = record { each = tt }
 
+-- ---- revisions
+
+abbrev pub plain_plan : Plan → List ℕ × (List ℕ × Wanted)
+plain_plan p = (p.id, (p.group, wanted_of p))
+
+abbrev pub plain_group : Group → List ℕ × List Requirement
+plain_group g = (g.arn, g.requirements)
+
+abbrev pub revised_group : Group → List ℕ × (ℕ × List Requirement)
+revised_group g = (g.arn, (g.revision, g.requirements))
+
+-- what the first of two kinds holds fits that one, and else the other
+abbrev FitsEither : {A B : Type 0} → Bool → Codec A → A → Codec B → B → Type 0
+FitsEither {A} b c x d y = let one : Option A = only_if b x in layout.choose (is_some one) (IsSomeAnd one c.Fits) (d.Fits y)
+
+abbrev pub revised_plan : Plan → List ℕ × (List ℕ × (ℕ × Wanted))
+revised_plan p = (p.id, (p.group, (p.revision, wanted_of p)))
+
+pub accepted_plain : (p : Plan) (bytes : List ℕ) → (p.revision == 0) ≡ true → (label & label & wanted).Fits (plain_plan p) → bytes ≡ 18 ∷ (label & label & wanted).spell (plain_plan p) → Spelled bytes (Accepted p)
+accepted_plain p bytes is fits same = record { fits = rw is fits; same = rw is same }
+
+pub accepted_revised : (p : Plan) (bytes : List ℕ) → (p.revision == 0) ≡ false → (label & label & revision & wanted).Fits (revised_plan p) → bytes ≡ 29 ∷ (label & label & revision & wanted).spell (revised_plan p)
+    → Spelled bytes (Accepted p)
+accepted_revised p bytes is fits same = record { fits = rw is fits; same = rw is same }
+
+pub grouped_plain : (g : Group) (bytes : List ℕ) → (g.revision == 0) ≡ true → (label & list_of requirement).Fits (plain_group g) → bytes ≡ 26 ∷ (label & list_of requirement).spell (plain_group g)
+    → Spelled bytes (Grouped g)
+grouped_plain g bytes is fits same = record { fits = rw is fits; same = rw is same }
+
+pub grouped_revised : (g : Group) (bytes : List ℕ) → (g.revision == 0) ≡ false → (label & revision & list_of requirement).Fits (revised_group g)
+    → bytes ≡ 30 ∷ (label & revision & list_of requirement).spell (revised_group g) → Spelled bytes (Grouped g)
+grouped_revised g bytes is fits same = record { fits = rw is fits; same = rw is same }
+
+pub plain_plan_spelled : (p : Plan) → (p.revision == 0) ≡ true → record_spelled (Accepted p) ≡ 18 ∷ (label & label & wanted).spell (plain_plan p)
+plain_plan_spelled p is = rw is refl
+
+pub revised_plan_spelled : (p : Plan) → (p.revision == 0) ≡ false → record_spelled (Accepted p) ≡ 29 ∷ (label & label & revision & wanted).spell (revised_plan p)
+revised_plan_spelled p is = rw is refl
+
+pub plain_group_spelled : (g : Group) → (g.revision == 0) ≡ true → record_spelled (Grouped g) ≡ 26 ∷ (label & list_of requirement).spell (plain_group g)
+plain_group_spelled g is = rw is refl
+
+pub revised_group_spelled : (g : Group) → (g.revision == 0) ≡ false → record_spelled (Grouped g) ≡ 30 ∷ (label & revision & list_of requirement).spell (revised_group g)
+revised_group_spelled g is = rw is refl
+
 -- a line for each kind
 kinds_are : AreKinds kinds
 unfolding record_of
 kinds_are =
-    kind_is _ _ _ _ origin_is (λ x. refl) (λ x f. f) (λ rest. refl) ⊕
-    kind_is _ _ _ _ plan_is (λ x. refl) (λ x f. f) (λ rest. refl) ⊕
-    kind_is _ _ _ _ name_is (λ x. refl) (λ x f. f) (λ rest. refl) ⊕
-    kind_is _ _ _ _ (both _ _ name_is exit_is) (λ x. refl) (λ x f. f) (λ rest. refl) ⊕
-    kind_is _ _ _ _ nothing_is (λ x. refl) (λ x f. f) (λ rest. refl) ⊕
-    kind_is _ _ _ _ (both _ _ name_is (both _ _ step_is exit_is)) (λ x. refl) (λ x f. f) (λ rest. refl) ⊕
-    kind_is _ _ _ _ name_is (λ x. refl) (λ x f. f) (λ rest. refl) ⊕
-    kind_is _ _ _ _ outcome_is (λ x. refl) (λ x f. f) (λ rest. refl) ⊕
+    kind_is _ _ _ _ origin_is (λ x f. record { fits = f; same = refl }) (λ rest. refl) ⊕
+    kind_is _ _ _ _ (both _ _ label_is (both _ _ label_is wanted_is)) (λ x f. record { fits = f; same = refl }) (λ rest. refl) ⊕
+    kind_is _ _ _ _ name_is (λ x f. record { fits = f; same = refl }) (λ rest. refl) ⊕
+    kind_is _ _ _ _ (both _ _ name_is exit_is) (λ x f. record { fits = f; same = refl }) (λ rest. refl) ⊕
+    kind_is _ _ _ _ nothing_is (λ x f. record { fits = f; same = refl }) (λ rest. refl) ⊕
+    kind_is _ _ _ _ (both _ _ name_is (both _ _ step_is exit_is)) (λ x f. record { fits = f; same = refl }) (λ rest. refl) ⊕
+    kind_is _ _ _ _ name_is (λ x f. record { fits = f; same = refl }) (λ rest. refl) ⊕
+    kind_is _ _ _ _ outcome_is (λ x f. record { fits = f; same = refl }) (λ rest. refl) ⊕
+    kind_is _ _ _ _ (both _ _ long_is (both _ _ origin_is (both _ _ number_is (both _ _ number_is number_is)))) (λ x f. record { fits = f; same = refl }) (λ rest. refl) ⊕
+    kind_is _ _ _ _ (both _ _ label_is (list_is _ requirement_is)) (λ x f. record { fits = f; same = refl }) (λ rest. refl) ⊕
+    kind_is _ _ _ _ item_is (λ x f. record { fits = f; same = refl }) (λ rest. refl) ⊕
+    kind_is _ _ _ _ (both _ _ label_is outcome_is) (λ x f. record { fits = f; same = refl }) (λ rest. refl) ⊕
+    kind_is _ _ _ _ (both _ _ label_is (both _ _ label_is (both _ _ revision_is wanted_is))) (λ x f. accepted_revised _ _ (not_zero _ f.1.1.0.0) f refl) (λ rest. refl) ⊕
+    kind_is _ _ _ _ (both _ _ label_is (both _ _ revision_is (list_is _ requirement_is))) (λ x f. grouped_revised _ _ (not_zero _ f.1.0.0) f refl) (λ rest. refl) ⊕
+    kind_is _ _ _ _ name_is (λ x f. record { fits = f; same = refl }) (λ rest. refl) ⊕
     no_more
 
 takes_by : (ks : List Kind) → EachIsKind ks → (b : ℕ) (rest : List ℕ) (r : Record) → IsBytes rest → layout.read_by ks b rest ≡ Some r → Spelled (b ∷ rest) r
@@ -328,16 +388,20 @@ again_by (k ∷ ks) laws r fits = chosen (k.holds r) fits (again_by ks laws.1 r)
   chosen true fits others = laws.0.again r fits
   chosen false fits others = others fits
 
-asked_by : (ks : List Kind) → EachIsKind ks → (r : Record) → layout.FitsBy ks r → layout.AskedBy ks r
-asked_by [] laws r fits = absurd fits
-asked_by (k ∷ ks) laws r fits = chosen (k.holds r) fits (asked_by ks laws.1 r) where
-  chosen : (b : Bool) → layout.choose b (k.Fits r) (layout.FitsBy ks r) → (layout.FitsBy ks r → layout.AskedBy ks r) → layout.choose b (k.Asks r) (layout.AskedBy ks r)
-  chosen true fits others = laws.0.asks r fits
-  chosen false fits others = others fits
-
 -- the kind that holds a record has its fields
 made : (r : Record) → made_by kinds r ≡ r
-made r = elim r as (λ r. made_by kinds r ≡ r) [ Activating ↦ refl | _ ↦ refl ]
+made r = elim r as (λ r. made_by kinds r ≡ r) [ Accepted p ↦ plan_made p | Grouped g ↦ group_made g | _ ↦ refl ] where
+  plan_made : (p : Plan) → made_by kinds (Accepted p) ≡ Accepted p
+  plan_made p = by (p.revision == 0) refl where
+    by : (b : Bool) → (p.revision == 0) ≡ b → made_by kinds (Accepted p) ≡ Accepted p
+    by true is = rw is (ap (λ n. Accepted (plan_of p.id p.group n (wanted_of p))) (sym (eqb-true p.revision 0 is)))
+    by false is = rw is refl
+
+  group_made : (g : Group) → made_by kinds (Grouped g) ≡ Grouped g
+  group_made g = by (g.revision == 0) refl where
+    by : (b : Bool) → (g.revision == 0) ≡ b → made_by kinds (Grouped g) ≡ Grouped g
+    by true is = rw is (ap (λ n. Grouped (record { arn = g.arn; revision = n; requirements = g.requirements })) (sym (eqb-true g.revision 0 is)))
+    by false is = rw is refl
 
 pub record_takes : (bytes : List ℕ) (r : Record) → IsBytes bytes → record_of bytes ≡ Some r → Spelled bytes r
 unfolding record_of
@@ -348,7 +412,21 @@ pub record_again : (r : Record) → RecordFits r → record_of (record_spelled r
 record_again r fits = again_by kinds kinds_are.each r fits ∙ ap (λ r. Some r) (made r)
 
 pub record_asks : (r : Record) → RecordFits r → IsWritable r
-record_asks = asked_by kinds kinds_are.each
+record_asks r = elim r as (λ r. RecordFits r → IsWritable r) [
+  | Genesis o ↦ origin_is.asks o
+  | Accepted p ↦ plan_asks p (p.revision == 0)
+  | Turned n o groups items closed ↦ λ fits. origin_is.asks o fits.1.0
+  | Grouped g ↦ group_asks g (g.revision == 0)
+  | Kept i ↦ item_is.asks i
+  | _ ↦ λ fits. tt
+] where
+  plan_asks : (p : Plan) (b : Bool) → FitsEither b (label & label & wanted) (plain_plan p) (label & label & revision & wanted) (revised_plan p) → IsWritable (Accepted p)
+  plan_asks p true fits = wanted_is.asks (wanted_of p) fits.1.1
+  plan_asks p false fits = wanted_is.asks (wanted_of p) fits.1.1.1
+
+  group_asks : (g : Group) (b : Bool) → FitsEither b (label & list_of requirement) (plain_group g) (label & revision & list_of requirement) (revised_group g) → IsWritable (Grouped g)
+  group_asks g true fits = (list_is _ requirement_is).asks g.requirements fits.1
+  group_asks g false fits = (list_is _ requirement_is).asks g.requirements fits.1.1
 
 -- bytes are the spelling of one record at most
 pub one_record : (bytes : List ℕ) (r s : Record) → Spelled bytes r → Spelled bytes s → r ≡ s

@@ -3,7 +3,7 @@ ghost use Rattle.std.specs.Prelude.{◌≡◌, ◌++◌, ℕ, List, Option, OnOk
 ghost use Rattle.records.specs.Codec.{front_at};
 ghost use Rattle.records.specs.Layout as layout;
 ghost use Rattle.records.specs.Gives.{Gives};
-ghost use Rattle.records.specs.Stored.{Item, Plan, item_view, plan_view};
+ghost use Rattle.records.specs.Stored.{Item, item_view};
 ghost use Rattle.nuc_base.specs.declared.kinds.Exit as exits;
 ghost use Rattle.nuc_base.specs.declared.kinds.Step as steps;
 ghost use Rattle.nuc_base.specs.declared.kinds.Policy as policies;
@@ -13,7 +13,7 @@ ghost use Rattle.records.specs.declared.record.Held as helds;
 ghost use Rattle.records.specs.declared.record.Requirement as requirements;
 
 use crate::coded::{Coded, number_of};
-use crate::record::{Held, Item, Origin, Plan, Requirement};
+use crate::record::{Held, Item, Origin, Requirement};
 use crate::stop::Stop;
 use npm_ranges::{Range, Version};
 use nuc_base::{Bytes, Exit, Label, List, Name, NoMemory, Outcome, Platform, Policy, Step, Text};
@@ -302,49 +302,6 @@ impl Coded for Item {
                 recipe,
                 config,
                 artifacts,
-            },
-            rest,
-        ))
-    }
-}
-
-impl Coded for Plan {
-    ghost Seen = { Plan };
-
-    ghost seen = { plan_view };
-
-    ghost spell = { layout.plan.spell };
-
-    ghost at = { layout.plan.at };
-
-    ghost fits = { layout.plan.Fits };
-
-    ghost asks = { layout.plan.Asks };
-
-    fn put(&self, alloc: Global, out: &mut Vec<u8>) -> Result<(), NoMemory> {
-        self.id.put(alloc, out)?;
-        self.group.put(alloc, out)?;
-        self.policy.put(alloc, out)?;
-        self.requirements.put(alloc, out)?;
-        self.items.put(alloc, out)?;
-        self.boots.put(alloc, out)
-    }
-
-    fn take(alloc: Global, bytes: &[u8]) -> Result<(Plan, &[u8]), Stop> {
-        let (id, rest) = Label::take(alloc, bytes)?;
-        let (group, rest) = Label::take(alloc, rest)?;
-        let (policy, rest) = Policy::take(alloc, rest)?;
-        let (requirements, rest) = List::<Requirement>::take(alloc, rest)?;
-        let (items, rest) = List::<Item>::take(alloc, rest)?;
-        let (boots, rest) = List::<Name>::take(alloc, rest)?;
-        Ok((
-            Plan {
-                id,
-                group,
-                policy,
-                requirements,
-                items,
-                boots,
             },
             rest,
         ))

@@ -12,13 +12,14 @@
 mod coded;
 mod fields;
 mod laws;
+mod numbers;
 mod record;
 mod records;
 mod stop;
 mod texts;
 
 pub use laws::bytes_spell_one_record;
-pub use record::{Draft, DraftItem, Held, Item, Origin, Plan, Record, Requirement};
+pub use record::{Draft, DraftItem, Group, Held, Item, Origin, Plan, Record, Requirement};
 
 #[cfg(test)]
 mod tests;

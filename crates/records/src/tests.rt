@@ -10,15 +10,24 @@ const ACCEPTED: &[u8] =
 const GENESIS: &[u8] =
     b"\x11\0\0\0\x03/gg\0\0\0\x02t1\0\0\0\x062.12.0\0\0\0\x05linux\0\0\0\x05amd64";
 
+const GROUPED: &[u8] = b"\x1e\0\0\0\x01g\0\0\0\0\0\0\x01\x02\0\0\0\x01\0\0\0\x01a\0\0\0\x07>=1.0.0";
+
 const SPELLINGS: &[&[u8]] = &[
     GENESIS,
     ACCEPTED,
+    GROUPED,
     b"\x13\0\0\0\x01a",
     b"\x14\0\0\0\x01a\0\xff\xff\xff\xfe",
     b"\x15",
     b"\x16\0\0\0\x01a\x03\x02",
     b"\x17\0\0\0\x01a",
     b"\x18\x02",
+    b"\x19\0\0\0\0\0\0\0\x07\0\0\0\x03/gg\0\0\0\x02t1\0\0\0\x062.12.0\0\0\0\x05linux\0\0\0\x05amd64\0\0\0\x01\0\0\0\x02\0\0\0\x03",
+    b"\x1a\0\0\0\x01g\0\0\0\0",
+    b"\x1b\0\0\0\x01a\0\0\0\x051.2.0\0\0\0\x02{}\0\0\0\x07{\"k\":1}\0\0\0\0",
+    b"\x1c\0\0\0\x02d1\x04",
+    b"\x1d\0\0\0\x02d1\0\0\0\x01g\0\0\0\0\0\0\0\x01\0\0\0\0\0\0\0\0\0\0\0\0\0",
+    b"\x1f\0\0\0\x01a",
 ];
 
 const OTHERS: &[&[u8]] = &[
@@ -31,6 +40,12 @@ const OTHERS: &[&[u8]] = &[
     b"\x16\0\0\0\x01a\x07\x02",
     b"\x18\x05",
     b"\x19",
+    // A front without its last count.
+    b"\x19\0\0\0\0\0\0\0\x07\0\0\0\x03/gg\0\0\0\x02t1\0\0\0\x062.12.0\0\0\0\x05linux\0\0\0\x05amd64\0\0\0\x01\0\0\0\x02",
+    // A revision of 0 that is written.
+    b"\x1d\0\0\0\x02d1\0\0\0\x01g\0\0\0\0\0\0\0\0\0\0\0\0\0\0\0\0\0\0\0\0\0",
+    b"\x1e\0\0\0\x01g\0\0\0\0\0\0\0\0\0\0\0\0",
+    b"\x20",
     // A folder that is no UTF-8.
     b"\x11\0\0\0\x03/g\xff\0\0\0\x02t1\0\0\0\x062.12.0\0\0\0\x05linux\0\0\0\x05amd64",
     // A range of 33 parts.
@@ -103,10 +118,11 @@ fn are_changes_sound(alloc: Global, bytes: &[u8]) -> Result<bool, NoMemory> {
 #[test]
 fn records_have_one_spelling(rt: HostRuntime) -> Result<(), Fail> {
     let alloc = rt.alloc();
-    assert!(rt; count_spellings(alloc, SPELLINGS)? == 8);
+    assert!(rt; count_spellings(alloc, SPELLINGS)? == 15);
     assert!(rt; count_spellings(alloc, OTHERS)? == 0);
     assert!(rt; are_prefixes_sound(alloc, ACCEPTED)?);
     assert!(rt; are_changes_sound(alloc, ACCEPTED)?);
+    assert!(rt; are_changes_sound(alloc, GROUPED)?);
     bytes_spell_one_record();
     Ok(())
 }
@@ -171,11 +187,29 @@ fn is_plan_copied(alloc: Global, bytes: &[u8]) -> Result<bool, NoMemory> {
     }
 }
 
+fn is_group(group: &Group) -> bool {
+    group.arn.as_str() == "g"
+        && group.revision == 258
+        && matches!(group.requirements.as_slice(), [requirement] if is_requirement(requirement))
+}
+
+/// Whether the group of these bytes and its copy are the one that is spelled.
+fn is_group_copied(alloc: Global, bytes: &[u8]) -> Result<bool, NoMemory> {
+    match Record::read(alloc, bytes)? {
+        Some(Record::Grouped(group)) => {
+            let copy = group.copy(alloc)?;
+            Ok(is_group(&group) && is_group(&copy))
+        }
+        _ => Ok(false),
+    }
+}
+
 #[test]
 fn copies_are_what_was_spelled(rt: HostRuntime) -> Result<(), Fail> {
     let alloc = rt.alloc();
     assert!(rt; is_origin_copied(alloc, GENESIS)?);
     assert!(rt; is_plan_copied(alloc, ACCEPTED)?);
+    assert!(rt; is_group_copied(alloc, GROUPED)?);
     Ok(())
 }
 

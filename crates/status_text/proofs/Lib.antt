@@ -1,2 +1,4 @@
+mod Joining
 mod StatusDepth
 mod StatusOrder
+mod Texts

@@ -9,7 +9,7 @@ use Rattle.records.specs.Stored.{Item}
 use Rattle.records.specs.declared.record.Origin.{Origin}
 use Rattle.device.specs.Devices.{Device, Pending, IsRegularDevice}
 use Rattle.status_text.specs.Regularity.{AreRegular}
-use Rattle.device.specs.declared.group.Group.{Group}
+use Rattle.records.specs.declared.record.Group.{Group}
 use Rattle.status_text.specs.Status.{closed_tree, component_tree, requirement_tree, group_tree, nucleus_tree, pending_tree, thing_tree, status_tree}
 
 -- a list nests as deep as its elements may

@@ -1,7 +1,7 @@
 -- What `status` prints of a device: lines, or one JSON text.
-use Rattle.std.specs.Prelude.{ℕ, List, [], ◌∷◌, ◌++◌, map, Option, Some, None, codes}
+use Rattle.std.specs.Prelude.{ℕ, List, [], ◌∷◌, ◌++◌, ◌==◌, if◌then◌else◌, map, Option, Some, None, codes, decimal}
 use Rattle.std.specs.List.{flat_map}
-use Rattle.serde_json.specs.Data.{Data, null, string, array, object, no_members, member}
+use Rattle.serde_json.specs.Data.{Data, unsigned, null, number, string, array, object, no_members, member}
 use Rattle.serde_json.specs.Written.{compact_text}
 use Rattle.nuc_base.specs.declared.kinds.Outcome.{Outcome}
 use Rattle.tree_core.specs.View.{items_of, pair_data}
@@ -9,7 +9,7 @@ use Rattle.records.specs.Stored.{Item}
 use Rattle.records.specs.declared.record.Origin.{Origin}
 use Rattle.records.specs.declared.record.Requirement.{Requirement}
 use Rattle.device.specs.Devices.{Device, Pending}
-use Rattle.device.specs.declared.group.Group.{Group}
+use Rattle.records.specs.declared.record.Group.{Group}
 use Rattle.status_text.specs.Words.{outcome_text, stage_text}
 
 -- ---- lines
@@ -26,8 +26,12 @@ origin_lines (Some o) = line (codes "thing") (o.thing ∷ []) ++ line (codes "nu
 abbrev pub requirement_line : Requirement → List ℕ
 requirement_line r = line (codes "require") (r.name ∷ r.range ∷ [])
 
+-- a group without a revision has no such line
+abbrev pub revision_line : ℕ → List ℕ
+revision_line n = if n == 0 then [] else line (codes "revision") (decimal n ∷ [])
+
 abbrev pub group_lines : Group → List ℕ
-group_lines g = line (codes "group") (g.arn ∷ []) ++ flat_map requirement_line g.requirements
+group_lines g = line (codes "group") (g.arn ∷ []) ++ revision_line g.revision ++ flat_map requirement_line g.requirements
 
 abbrev pub component_line : Item → List ℕ
 component_line i = line (codes "component") (i.name ∷ i.version ∷ compact_text i.config ∷ [])
@@ -70,7 +74,8 @@ requirement_tree r = pair_data (codes "name") r.name (codes "range") r.range
 abbrev pub group_tree : Group → Data
 group_tree g = object (
     member (codes "arn") (string g.arn) (
-    member (codes "components") (list_tree requirement_tree g.requirements) no_members))
+    member (codes "components") (list_tree requirement_tree g.requirements) (
+    member (codes "revision") (number (unsigned g.revision)) no_members)))
 
 abbrev pub nucleus_tree : Option Origin → Data
 nucleus_tree None = null

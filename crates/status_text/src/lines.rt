@@ -6,17 +6,17 @@ ghost use Rattle.tree_core.specs.View.{view};
 ghost use Rattle.device.specs.Devices.{device_view, pending_view, IsRegularDevice};
 ghost use Rattle.status_text.specs.Regularity.{AreRegular};
 ghost use Rattle.status_text.specs.Lists.{texts};
-ghost use Rattle.status_text.specs.Status.{line, origin_lines, requirement_line, group_lines, component_line, closed_line, pending_lines, status_text};
+ghost use Rattle.status_text.specs.Status.{line, origin_lines, requirement_line, revision_line, group_lines, component_line, closed_line, pending_lines, status_text};
 
-use crate::places::{group_at, group_count};
+use crate::places::group_at;
 use crate::words::{outcome_word, stage_word};
-use device::{Device, Group, Groups, Pending};
+use device::{Device, Groups, Pending};
 use nuc_base::{Label, NoMemory, Outcome, Text};
-use records::{Item, Origin, Requirement};
+use records::{Group, Item, Origin, Requirement};
 use std::alloc::Global;
 
 /// The status of a device in lines, each with a line feed at its end: `thing THING`, `nucleus VERSION`, then for each
-/// group `group ARN` and a line `require NAME RANGE` for each of its requirements, `component NAME VERSION CONFIG` for
+/// group `group ARN`, where its revision is 1 or more `revision R`, and a line `require NAME RANGE` for each of its requirements, `component NAME VERSION CONFIG` for
 /// each component, its configuration as compact JSON, `closed ID OUTCOME` for each closed deployment, and where one
 /// is pending `pending ID STAGE`.
 pub fn status_lines(alloc: Global, device: &Device) -> Result<Text, NoMemory>
@@ -26,7 +26,7 @@ pub fn status_lines(alloc: Global, device: &Device) -> Result<Text, NoMemory>
 {
     let mut out = Text::empty(alloc);
     put_origin(&mut out, device.origin.as_ref().unwrap())?;
-    put_groups(&mut out, &device.groups)?;
+    put_groups(alloc, &mut out, &device.groups)?;
     put_components(alloc, &mut out, device.set.as_slice())?;
     put_closed(&mut out, device.closed.as_slice())?;
     put_pending(&mut out, &device.pending)?;
@@ -59,20 +59,32 @@ fn put_origin(out: &mut Text, origin: &Origin) -> Result<(), NoMemory>
     put_line(out, "nucleus", &[origin.nucleus.text().as_str()])
 }
 
-fn put_groups(out: &mut Text, groups: &Groups) -> Result<(), NoMemory>
+fn put_groups(alloc: Global, out: &mut Text, groups: &Groups) -> Result<(), NoMemory>
     ensures { OnOk result (out.new ≡ out.old ++ flat_map group_lines groups.now.list) }
 {
-    for at in 0..group_count(groups)? {
-        put_group(out, group_at(groups, at))?;
+    for at in 0..groups.len() {
+        put_group(alloc, out, group_at(groups, at))?;
     }
     Ok(())
 }
 
-fn put_group(out: &mut Text, group: &Group) -> Result<(), NoMemory>
+fn put_group(alloc: Global, out: &mut Text, group: &Group) -> Result<(), NoMemory>
     ensures { OnOk result (out.new ≡ out.old ++ group_lines group.now) }
 {
     put_line(out, "group", &[group.arn.as_str()])?;
+    put_revision(alloc, out, group.revision)?;
     put_requirements(out, group.requirements.as_slice())
+}
+
+/// Adds the line of a revision, where there is one.
+fn put_revision(alloc: Global, out: &mut Text, revision: u64) -> Result<(), NoMemory>
+    ensures { OnOk result (out.new ≡ out.old ++ revision_line revision) }
+{
+    if revision == 0 {
+        return Ok(());
+    }
+    let number = format!(in alloc; "{revision}")?;
+    put_line(out, "revision", &[number.as_str()])
 }
 
 fn put_requirements(out: &mut Text, requirements: &[Requirement]) -> Result<(), NoMemory>

@@ -23,6 +23,7 @@ pub fn stage_word(stage: Stage) -> &'static str
     match stage {
         Stage::Booting => "Booting",
         Stage::Activating => "Activating",
+        Stage::Backing => "Backing",
         Stage::Rolling => "Rolling",
     }
 }

@@ -238,70 +238,18 @@ fn a_failing_disk_is_status_5(rt: HostRuntime) -> Result<(), Fail> {
     Ok(())
 }
 
-/// Whether the words are refused with the usage line, and the journal stays empty.
-fn is_usage(alloc: Global, words: &[&str]) -> Result<bool, Fail> {
-    leaves(
-        alloc,
-        words,
-        &mut MemoryDisk::new(alloc),
-        (Status::Usage, USAGE),
-        b"",
-    )
-}
+/// The words of `status` in another order and spelling.
+const SHOW_TURNED: [&str; 4] = ["nucleus", "status", "--json", "--root=/gg"];
 
-/// The words of `init` with one of them changed.
-fn with_word<'a>(at: usize, word: &'a str) -> [&'a str; 12] {
-    let mut words: [&'a str; 12] = INIT;
-    if at < 12 {
-        words[at] = word;
-    }
-    words
-}
-
-/// A word of `init` in its place, changed into one that is refused.
-const WRONG_WORDS: &[(usize, &str)] = &[
-    (1, "--rot"),
-    (2, "/g\ng"),
-    (3, "Init"),
-    (4, "--name"),
-    (5, "t 1"),
-    (5, ""),
-    (6, "--version"),
-    (7, "2.12"),
-    (7, "02.12.0"),
-    (8, "--system"),
-    (9, "linux\t"),
-    (10, "--architecture"),
-    (11, ""),
-];
+/// A command that is not built yet.
+const RESUME: [&str; 4] = ["nucleus", "--root", "/gg", "resume"];
 
 #[test]
-fn other_words_are_usage(rt: HostRuntime) -> Result<(), Fail> {
+fn words_have_no_order_and_what_is_not_built_is_refused(rt: HostRuntime) -> Result<(), Fail> {
     let alloc = rt.alloc();
-    for (at, word) in WRONG_WORDS {
-        assert!(rt; is_usage(alloc, &with_word(*at, word))?, "{word:?} at {at}");
-    }
-    assert!(rt; is_usage(alloc, &[])?);
-    assert!(rt; is_usage(alloc, &["nucleus", "deploy"])?);
-    assert!(rt; is_usage(alloc, &INIT[..11])?);
-    assert!(rt; is_usage(alloc, &["nucleus", "--root", "/gg", "status", "--jso"])?);
-    let twice = ["nucleus", "--root", "/gg", "status", "--json", "--json"];
-    assert!(rt; is_usage(alloc, &twice)?);
-    assert!(rt; is_usage(alloc, &["nucleus", "--root", "/gg", "init"])?);
-    assert!(rt; is_usage(alloc, &["nucleus", "--root", "/gg", "deploy", "--json"])?);
-    assert!(rt; is_usage(alloc, &["nucleus", "--root", "/gg", "resume"])?);
-    Ok(())
-}
-
-#[test]
-fn a_root_has_1024_bytes_at_most(rt: HostRuntime) -> Result<(), Fail> {
-    let alloc = rt.alloc();
-    let longest = "0123456789abcdef".repeat(alloc, 64)?;
-    let words = ["nucleus", "--root", &longest, "status"];
-    let mut disk = MemoryDisk::new(alloc);
-    assert!(rt; answers(alloc, &words, &mut disk, Status::NotInitialised, NONE)?);
-    let longer = format!(in alloc; "{longest}/")?;
-    assert!(rt; is_usage(alloc, &["nucleus", "--root", &longer, "status"])?);
+    let mut disk = holding(alloc, &NEW, 0x01)?;
+    assert!(rt; leaves(alloc, &SHOW_TURNED, &mut disk, (Status::Done, JSON), &NEW)?);
+    assert!(rt; leaves(alloc, &RESUME, &mut disk, (Status::Usage, USAGE), &NEW)?);
     Ok(())
 }
 

@@ -2,39 +2,46 @@ use Rattle.std.proofs.Common.{refl, sym, ◌∙◌, subst, arith}
 use Rattle.std.proofs.lemmas.Result.{err_from_is_err_and}
 use Rattle.disk_model.specs.Disk.{Image}
 use Rattle.disk_model.specs.Moments.{then_same, at_start}
-use Rattle.gate_log.specs.Entries.{journal}
-use Rattle.gate_log.specs.Place.{EntryAt}
+use Rattle.gate_log.specs.Journal.{reads_behind}
+use Rattle.gate_log.specs.Place.{IsEntryAt}
 use Rattle.device.specs.Devices.{Device, device_view, IsRegularDevice}
-use Rattle.device.proofs.Marching.{Reached, next, first_on, later_on, fault_told, has_room, room_lacks, starts}
+use Rattle.device.specs.Sound.{IsSound}
+use Rattle.device.proofs.Marching.{Reached, entry_at, next, first_on, later_on, fault_told, has_room, room_lacks, starts}
+use Rattle.device.proofs.Roomy.{IsAhead, first_ahead, later_ahead, ends_ahead}
+use Rattle.device.proofs.Sounding.{none_sound}
 use Rattle.device.proofs.replaying.replay.Goals as goal
 
 pub loop-at-init : goal.loop-at-init
 loop-at-init g c =
-    let file = g.D.Disk.seen c.args.disk.now journal in
     record {
       goes = at_start g.met.D.Disk.laws c.args.disk.now;
       seen = refl;
-      faults = omega arith;
+      faults = refl;
       regular = subst IsRegularDevice (sym c.empty-device.ensures) (record { set = λ k d lt. absurd (omega (arith, lt)); pending = tt });
-      reached = λ told payloads stands. subst (λ (d : Device). Reached payloads file c.args.log.now.end 0 0 d) (sym c.empty-device.ensures) (starts payloads file c.args.log.now.end (stands.stands_for told));
+      sound = subst IsSound (sym c.empty-device.ensures) none_sound;
+      ahead = subst (IsAhead 0 0) (sym c.empty-device.ensures) tt;
+      reached = λ told payloads stands. subst (λ (d : Device). Reached payloads c.end-end.result 0 0 d) (sym c.empty-device.ensures) (starts payloads c.end-end.result (c.end-end.ensures ∙ g.met.J.Journal.laws.ends c.args.log.now (g.D.Disk.seen c.args.disk.now) payloads stands));
     }
 
 pub take_entry-requires-clause-place : goal.take_entry-requires-clause-place
 take_entry-requires-clause-place g c told =
-    let file = g.D.Disk.seen c.args.disk.now journal in
-    let r = c.loop-at.invariant.reached told c.requires.open.0 c.requires.open.1 in
-    let n = next c.requires.open.0 file c.args.log.now.end c.loop-at.at c.loop-at.behind (device_view c.loop-at.device) r c.loop-at-test.true in
-    (n.first, subst (λ (i : Image). EntryAt (i journal) c.loop-at.at c.args.log.now.end n.first) (sym c.loop-at.invariant.seen) n.place)
+    let on = reads_behind g.met.D.Disk.laws g.J.Journal.stands c.args.log.now c.args.disk.now c.requires.open.0 c.requires.open.1 told in
+    let r = c.loop-at.invariant.reached told c.requires.open.0 on in
+    let n = next c.requires.open.0 c.end-end.result c.loop-at.at c.loop-at.behind (device_view c.loop-at.device) r c.loop-at-test.true in (
+      n.first,
+      subst (λ (i : Image). IsEntryAt g.J.Journal.stands c.args.log.now i c.loop-at.at n.first) (sym c.loop-at.invariant.seen)
+          (entry_at g.J.Journal.stands c.args.log.now (g.D.Disk.seen c.args.disk.now) c.requires.open.0 c.end-end.result c.loop-at.at c.loop-at.behind (device_view c.loop-at.device) r n on),
+    )
 
 pub returns-in_err-next-clause-told : goal.returns-in_err-next-clause-told
 returns-in_err-next-clause-told g c told payloads stands =
-    let file = g.D.Disk.seen c.args.disk.now journal in
     let d = device_view c.loop-at.device in
     let r = c.loop-at.invariant.reached told payloads stands in
-    let n = next payloads file c.args.log.now.end c.loop-at.at c.loop-at.behind d r c.loop-at-test.true in
-    let place = subst (λ (i : Image). EntryAt (i journal) c.loop-at.at c.args.log.now.end n.first) (sym c.loop-at.invariant.seen) n.place in
+    let n = next payloads c.end-end.result c.loop-at.at c.loop-at.behind d r c.loop-at-test.true in
+    let place = subst (λ (i : Image). IsEntryAt g.J.Journal.stands c.args.log.now i c.loop-at.at n.first) (sym c.loop-at.invariant.seen)
+    (entry_at g.J.Journal.stands c.args.log.now (g.D.Disk.seen c.args.disk.now) payloads c.end-end.result c.loop-at.at c.loop-at.behind d r n stands) in
     let p = err_from_is_err_and c.from_residual.result c.from_residual.ensures.1 in
-    rw (p.1, p.2) (fault_told payloads file c.args.log.now.end c.loop-at.at c.loop-at.behind d (device_view c.take_entry.new.device) r n c.in_err-next.field-0.0 (c.in_err-next.ensures.told told n.first place))
+    rw (p.1, p.2) (fault_told payloads c.end-end.result c.loop-at.at c.loop-at.behind d (device_view c.take_entry.new.device) r n c.in_err-next.field-0.0 (c.in_err-next.ensures.told told n.first place))
 
 pub returns-in_err-next-clause-moments : goal.returns-in_err-next-clause-moments
 returns-in_err-next-clause-moments g c =
@@ -45,16 +52,18 @@ loop-at-preserved-then-not-was_pending g c =
     record {
       goes = then_same g.met.D.Disk.laws c.args.disk.now c.loop-at.disk c.take_entry.new.disk (g.D.Disk.may_leave c.args.disk.now) c.loop-at.invariant.goes c.take_entry.ensures.moments;
       seen = c.take_entry.ensures.seen ∙ c.loop-at.invariant.seen;
-      faults = omega (arith, c.loop-at.invariant.faults, c.take_entry.ensures.later);
+      faults = c.in_ok-next.ensures.quiet (λ h. cc) ∙ c.loop-at.invariant.faults;
       regular = c.take_entry.ensures.regular c.loop-at.invariant.regular;
+      sound = c.take_entry.ensures.sound c.loop-at.invariant.sound;
+      ahead = first_ahead c.loop-at.at c.in_ok-next.next c.loop-at.device (device_view c.take_entry.new.device) (sym c.is_some-was_pending.ensures ∙ c.if-not-was_pending.true) (c.in_ok-next.ensures.room c.loop-at.invariant.sound);
       reached = λ told payloads stands.
-          let file = g.D.Disk.seen c.args.disk.now journal in
           let d = device_view c.loop-at.device in
           let r = c.loop-at.invariant.reached told payloads stands in
-          let n = next payloads file c.args.log.now.end c.loop-at.at c.loop-at.behind d r c.loop-at-test.true in
-          let place = subst (λ (i : Image). EntryAt (i journal) c.loop-at.at c.args.log.now.end n.first) (sym c.loop-at.invariant.seen) n.place in
+          let n = next payloads c.end-end.result c.loop-at.at c.loop-at.behind d r c.loop-at-test.true in
+          let place = subst (λ (i : Image). IsEntryAt g.J.Journal.stands c.args.log.now i c.loop-at.at n.first) (sym c.loop-at.invariant.seen)
+          (entry_at g.J.Journal.stands c.args.log.now (g.D.Disk.seen c.args.disk.now) payloads c.end-end.result c.loop-at.at c.loop-at.behind d r n stands) in
           let took = c.in_ok-next.ensures.told told n.first place in
-          first_on payloads file c.args.log.now.end c.loop-at.at c.loop-at.behind c.in_ok-next.next c.loop-at.device (device_view c.take_entry.new.device) r n took.1 took.0
+          first_on payloads c.end-end.result c.loop-at.at c.loop-at.behind c.in_ok-next.next c.loop-at.device (device_view c.take_entry.new.device) r n took.1 took.0
           (sym c.is_some-was_pending.ensures ∙ c.if-not-was_pending.true);
     }
 
@@ -63,25 +72,33 @@ loop-at-preserved g c =
     record {
       goes = then_same g.met.D.Disk.laws c.args.disk.now c.loop-at.disk c.take_entry.new.disk (g.D.Disk.may_leave c.args.disk.now) c.loop-at.invariant.goes c.take_entry.ensures.moments;
       seen = c.take_entry.ensures.seen ∙ c.loop-at.invariant.seen;
-      faults = omega (arith, c.loop-at.invariant.faults, c.take_entry.ensures.later);
+      faults = c.in_ok-next.ensures.quiet (λ h. cc) ∙ c.loop-at.invariant.faults;
       regular = c.take_entry.ensures.regular c.loop-at.invariant.regular;
+      sound = c.take_entry.ensures.sound c.loop-at.invariant.sound;
+      ahead = later_ahead c.loop-at.at c.in_ok-next.next c.loop-at.behind c.loop-at.device (device_view c.take_entry.new.device) (sym c.is_some-was_pending.ensures ∙ c.if-not-was_pending.false) c.loop-at.invariant.ahead (c.in_ok-next.ensures.room c.loop-at.invariant.sound);
       reached = λ told payloads stands.
-          let file = g.D.Disk.seen c.args.disk.now journal in
           let d = device_view c.loop-at.device in
           let r = c.loop-at.invariant.reached told payloads stands in
-          let n = next payloads file c.args.log.now.end c.loop-at.at c.loop-at.behind d r c.loop-at-test.true in
-          let place = subst (λ (i : Image). EntryAt (i journal) c.loop-at.at c.args.log.now.end n.first) (sym c.loop-at.invariant.seen) n.place in
+          let n = next payloads c.end-end.result c.loop-at.at c.loop-at.behind d r c.loop-at-test.true in
+          let place = subst (λ (i : Image). IsEntryAt g.J.Journal.stands c.args.log.now i c.loop-at.at n.first) (sym c.loop-at.invariant.seen)
+          (entry_at g.J.Journal.stands c.args.log.now (g.D.Disk.seen c.args.disk.now) payloads c.end-end.result c.loop-at.at c.loop-at.behind d r n stands) in
           let took = c.in_ok-next.ensures.told told n.first place in
-          later_on payloads file c.args.log.now.end c.loop-at.at c.loop-at.behind c.in_ok-next.next c.loop-at.device (device_view c.take_entry.new.device) r n took.1 took.0
+          later_on payloads c.end-end.result c.loop-at.at c.loop-at.behind c.in_ok-next.next c.loop-at.device (device_view c.take_entry.new.device) r n took.1 took.0
           (sym c.is_some-was_pending.ensures ∙ c.if-not-was_pending.false);
     }
 
 pub returns-then-lacks_room-clause-told : goal.returns-then-lacks_room-clause-told
 returns-then-lacks_room-clause-told g c told payloads stands =
-    room_lacks payloads (g.D.Disk.seen c.args.disk.now journal) c.args.log.now.end c.loop-at.at c.loop-at.behind c.loop-at.device
+    room_lacks payloads c.end-end.result c.loop-at.at c.loop-at.behind c.loop-at.device
     (c.loop-at.invariant.reached told payloads stands) c.loop-at-test.false (sym c.lacks_room.ensures ∙ c.if-lacks_room.true)
 
 pub returns-clause-told : goal.returns-clause-told
 returns-clause-told g c told payloads stands =
-    has_room payloads (g.D.Disk.seen c.args.disk.now journal) c.args.log.now.end c.loop-at.at c.loop-at.behind c.loop-at.device
+    has_room payloads c.end-end.result c.loop-at.at c.loop-at.behind c.loop-at.device
     (c.loop-at.invariant.reached told payloads stands) c.loop-at-test.false (sym c.lacks_room.ensures ∙ c.if-lacks_room.false)
+
+pub returns-clause-room : goal.returns-clause-room
+returns-clause-room g c =
+    let past = c.loop-at-test.false in
+    let same = c.end-end.ensures in
+    ends_ahead (g.J.Journal.end c.args.log.now) c.loop-at.at c.loop-at.behind c.loop-at.device (omega (arith, past, same)) (sym c.lacks_room.ensures ∙ c.if-lacks_room.false) c.loop-at.invariant.ahead

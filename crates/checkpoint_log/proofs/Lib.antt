@@ -1,0 +1,4 @@
+pub mod Opened
+pub mod Turning
+pub mod Finding
+pub mod Looking

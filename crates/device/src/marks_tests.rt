@@ -1,0 +1,44 @@
+// A deployment that closes by a mark.
+ghost use Rattle.device.specs.Devices.{device_view};
+ghost use Rattle.device.specs.Sound.{IsSound};
+
+use crate::steps::may_close;
+use crate::tests::{record_named, replayed};
+use crate::{Device, Mark};
+use nuc_base::Outcome;
+use std::alloc::Global;
+use std::test::Fail;
+
+/// Closes the pending deployment by a mark, where that is lawful, and says whether the mark was written as its record.
+fn close(alloc: Global, device: &mut Device) -> Result<bool, Fail>
+    requires { IsSound (device_view device.old) }
+{
+    let mark = Mark::Closed(Outcome::Successful);
+    let Some(pending) = &device.pending else {
+        return Ok(false);
+    };
+    if !may_close(pending, Outcome::Successful) {
+        return Ok(false);
+    }
+    let mut spare = device.spare(alloc, &pending.plan)?;
+    let mut bytes = [0; 1024];
+    let size = device.write_mark(mark, &spare, &mut bytes);
+    device.apply_mark(mark, &mut spare);
+    Ok(&bytes[..size] == record_named("close-successful"))
+}
+
+/// Whether the mark of a close was written, and how many closed deployments, groups and components there are then.
+fn closed(alloc: Global) -> Result<(bool, usize, usize, usize), Fail> {
+    let Some(mut device) = replayed(alloc, "genesis bare activate")? else {
+        return Ok((false, 0, 0, 0));
+    };
+    let is_written = close(alloc, &mut device)?;
+    let counts = (device.closed.len(), device.groups.len(), device.set.len());
+    Ok((is_written, counts.0, counts.1, counts.2))
+}
+
+#[test]
+fn a_plan_closes_by_a_mark(rt: HostRuntime) -> Result<(), Fail> {
+    assert!(rt; closed(rt.alloc())? == (true, 1, 1, 2));
+    Ok(())
+}
