@@ -1,31 +1,14 @@
 -- Elements of mapped lists, and of lists with one more candidate.
-use Rattle.std.proofs.Common.{◌≡◌, ◌+◌, ◌≤◌, ◌⊎◌, List, [], ◌∷◌, ◌++◌, length, map, get_or, refl, sym, ap, subst, ◌∙◌, inl, inr, arith, length-append}
+use Rattle.std.proofs.Common.{◌≡◌, ◌+◌, ◌≤◌, ◌⊎◌, List, ◌∷◌, ◌++◌, length, map, get_or, refl, sym, ap, subst, ◌∙◌, inl, inr, arith, length-append}
 use Rattle.std.specs.List.{All, Contains}
 use Rattle.std.proofs.lemmas.List.{get_or_default}
 use Rattle.std.proofs.lemmas.List.Elements.{All-contains, Contains-append_left, Contains-append_right, Contains-append_cases}
-use Rattle.nuc_base.proofs.Lists.{in_nil, in_cons, in_here, in_there}
+use Rattle.nuc_base.proofs.Lists.{in_cons, in_there, in_here, in_map, from_map, all_from_in}
 use Rattle.recipe_reader.specs.Members.{members, IsRising}
 use Rattle.recipe_reader.specs.Candidates.{IsAlike, IsAdded}
 use Rattle.recipe_reader.specs.declared.candidate.Candidate.{Candidate}
 use Rattle.recipe_reader.proofs.Orders.{one_alike}
 use Rattle.library_core.specs.Sources.{Source, source}
-
-pub in_map : {A B : Type 0} (f : A → B) (xs : List A) (y : B) → Contains (map f xs) y → (x : A) × Contains xs x × (f x ≡ y)
-in_map f [] y h = absurd (in_nil y h)
-in_map f (x ∷ xs) y h = elim (in_cons (f x) (map f xs) y h) [
-  | inl e ↦ (x, in_here x xs, e)
-  | inr i ↦ let r = in_map f xs y i in (r.0, in_there x xs r.0 r.1, r.2)
-]
-
-pub map_in : {A B : Type 0} (f : A → B) (xs : List A) (x : A) → Contains xs x → Contains (map f xs) (f x)
-map_in f [] x h = absurd (in_nil x h)
-map_in {A} {B} f (z ∷ xs) x h = elim (in_cons z xs x h) [
-  | inl e ↦ subst (λ (w : A). Contains (f z ∷ map f xs) (f w)) e (in_here (f z) (map f xs))
-  | inr i ↦ in_there (f z) (map f xs) (f x) (map_in f xs x i)
-]
-
-pub all_from_each : {X : Type 0} (P : X → Type 0) (xs : List X) → ((x : X) → Contains xs x → P x) → All P xs
-all_from_each P xs h k d below = h (get_or xs k d) (k, below, get_or_default xs k (get_or xs k d) d below)
 
 -- two of a rising list that are alike are one
 pub alike_one : (cs : List Candidate) (a b : Candidate) → IsRising (members cs) → Contains cs a → Contains cs b → IsAlike a b → a ≡ b
@@ -65,27 +48,27 @@ pub now_in : (cs new : List Candidate) (c : Candidate) → IsAdded cs c new → 
 now_in cs new c (inl h) =
     let s = h.0 in
     subst (λ (l : List Candidate). Contains (map source l) (source c)) (sym h.1)
-    (subst (λ (x : Source). Contains (map source cs) x) (source_of_alike s.as_one c s.alike s.same) (map_in source cs s.as_one s.there))
+    (subst (λ (x : Source). Contains (map source cs) x) (source_of_alike s.as_one c s.alike s.same) (in_map source cs s.as_one s.there))
 now_in cs new c (inr put) =
     subst (λ (l : List Candidate). Contains (map source l) (source c)) (sym put.is)
-    (map_in source (put.before ++ c ∷ put.after) c (Contains-append_right put.before (c ∷ put.after) c (in_here c put.after)))
+    (in_map source (put.before ++ c ∷ put.after) c (Contains-append_right put.before (c ∷ put.after) c (in_here c put.after)))
 
 -- the same of their sources
 pub source_added : (cs new : List Candidate) (c : Candidate) (s : Source) → IsAdded cs c new → Contains (map source new) s → Contains (map source cs) s ⊎ (source c ≡ s)
 source_added cs new c s h i =
-    let r = in_map source new s i in
+    let r = from_map source new s i in
     elim (in_added cs new c r.0 h r.1) [
-      | inl old ↦ inl (subst (λ (x : Source). Contains (map source cs) x) r.2 (map_in source cs r.0 old))
+      | inl old ↦ inl (subst (λ (x : Source). Contains (map source cs) x) r.2 (in_map source cs r.0 old))
       | inr e ↦ inr (ap source e ∙ r.2)
     ]
 
 pub source_still : (cs new : List Candidate) (c : Candidate) (s : Source) → IsAdded cs c new → Contains (map source cs) s → Contains (map source new) s
 source_still cs new c s h i =
-    let r = in_map source cs s i in
-    subst (λ (x : Source). Contains (map source new) x) r.2 (map_in source new r.0 (still_in cs new c r.0 h r.1))
+    let r = from_map source cs s i in
+    subst (λ (x : Source). Contains (map source new) x) r.2 (in_map source new r.0 (still_in cs new c r.0 h r.1))
 
 pub all_added : (P : Candidate → Type 0) (cs new : List Candidate) (c : Candidate) → IsAdded cs c new → All P cs → P c → All P new
-all_added P cs new c h all one = all_from_each P new (λ d i. elim (in_added cs new c d h i) [
+all_added P cs new c h all one = all_from_in P new (λ d i. elim (in_added cs new c d h i) [
   | inl old ↦ All-contains P cs d all old
   | inr e ↦ subst P e one
 ])

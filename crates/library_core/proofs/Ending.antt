@@ -1,23 +1,27 @@
 -- What the walk over a library's recipes comes to.
-use Rattle.std.proofs.Common.{◌≡◌, ℕ, ◌+◌, ◌<◌, ◌≤◌, List, [], ◌∷◌, ◌++◌, length, take, get_or, Result, Ok, Err, IfOk, sym, subst, inl, inr, arith}
-use Rattle.std.specs.List.{All}
+use Rattle.std.proofs.Common.{◌≡◌, ℕ, ◌+◌, ◌<◌, ◌≤◌, List, [], ◌∷◌, ◌++◌, length, take, get_or, Result, Ok, Err, IfOk, map, sym, ap, subst, ◌∙◌, inl, inr, arith}
+use Rattle.std.specs.List.{All, Contains}
 use Rattle.std.specs.Result.{IsErrAnd}
 use Rattle.std.proofs.lemmas.List.{take_all, take_more}
 use Rattle.std.proofs.lemmas.List.Elements.{All-contains, Contains-push_cases}
 use Rattle.nuc_base.specs.declared.platform.Platform.{Platform}
 use Rattle.records.specs.declared.record.Origin.{Origin}
-use Rattle.records.specs.declared.record.Item.{Item}
+use Rattle.records.specs.Stored.{Item}
 use Rattle.recipe_reader.specs.declared.candidate.Candidate.{Candidate}
-use Rattle.library_core.specs.Sources.{own, Passes}
-use Rattle.library_core.specs.Gathered.{most}
-use Rattle.library_core.specs.Faults.{IsClash, Refuses, Gathered}
+use Rattle.nuc_base.proofs.Lists.{in_there, all_from_in, from_map, in_map}
+use Rattle.recipe_reader.specs.Candidates.{IsAlike}
+use Rattle.library_core.specs.Sources.{Source, source, nucleus, kept_source, own, Passes}
+use Rattle.library_core.specs.Gathered.{most, AreGathered, IsGatheredOf, KeepBytes}
+use Rattle.library_core.specs.Faults.{IsClash, Refuses, Gathered, fault_of}
+use Rattle.library_core.specs.declared.library.LibraryFault.{LibraryFault}
+use Rattle.library_core.specs.declared.library.LibraryFault.TheVariants as library
 use Rattle.library_core.specs.SoFar.{IsSoFar, Stops}
 use Rattle.library_core.specs.declared.fault.CandidatesFault.{CandidatesFault}
 use Rattle.library_core.specs.declared.fault.CandidatesFault.TheVariants.{Library, TooManyRecipes, Recipe, RecipeDiffers, TwoRecipes, NoMemory}
-use Rattle.library_core.proofs.Elements.{all_from_each}
+use Rattle.library_core.proofs.Elements.{alike_one}
 
 all_push : {X : Type 0} (P : X → Type 0) (xs : List X) (x : X) → All P xs → P x → All P (xs ++ x ∷ [])
-all_push P xs x all one = all_from_each P (xs ++ x ∷ []) (λ y i. elim (Contains-push_cases xs x y i) [ inl old ↦ All-contains P xs y all old | inr e ↦ subst P e one ])
+all_push P xs x all one = all_from_in P (xs ++ x ∷ []) (λ y i. elim (Contains-push_cases xs x y i) [ inl old ↦ All-contains P xs y all old | inr e ↦ subst P e one ])
 
 -- one recipe more
 pub passed_more : (p : Platform) (recipes : List (List ℕ)) (i : ℕ) → i < length recipes → All (Passes p) (take i recipes) → Passes p (get_or recipes i []) → All (Passes p) (take (i + 1) recipes)
@@ -60,3 +64,30 @@ ended_gathered origin kept recipes i r past few all h =
 pub more_room : (r : Result (List Candidate) CandidatesFault) (n m : ℕ) → n ≤ m → IfOk r (λ cs. length cs ≤ n) → IfOk r (λ cs. length cs ≤ m)
 more_room (Ok cs) n m le h = omega arith
 more_room (Err f) n m le h = tt
+
+-- the candidates at the end are gathered from the recipes that were given
+pub so_far_of : (origin : Origin) (kept : List Item) (given : List (List ℕ)) (r : Result (List Candidate) CandidatesFault) → IsSoFar (own origin kept) origin.platform given r → IfOk r (IsGatheredOf origin kept)
+so_far_of origin kept given (Ok cs) h = (given, h)
+so_far_of origin kept given (Err f) h = tt
+
+kept_bytes_of : (origin : Origin) (kept : List Item) (given : List (List ℕ)) (cs : List Candidate) → AreGathered (own origin kept) origin.platform given cs → KeepBytes kept cs
+kept_bytes_of origin kept given cs g i c there here name version =
+    let s = kept_source i in
+    let mine : Contains (own origin kept) s = in_there (nucleus origin.nucleus) (map kept_source kept) s (in_map kept_source kept i there) in
+    let x = from_map source cs s ((g.whole s).1 (inl mine)) in
+    let alike : IsAlike c x.0 = record {
+      name = name ∙ sym (ap (λ (y : Source). y.name) x.2);
+      version = version ∙ sym (ap (λ (y : Source). y.version) x.2);
+    } in
+    ap (λ (d : Candidate). d.bytes) (alike_one cs c x.0 g.rising here x.1 alike) ∙ ap (λ (y : Source). y.bytes) x.2
+
+-- and those of a kept item's name and version have its recipe
+pub keep_bytes : (origin : Origin) (kept : List Item) (given : List (List ℕ)) (r : Result (List Candidate) CandidatesFault) → IsSoFar (own origin kept) origin.platform given r → IfOk r (KeepBytes kept)
+keep_bytes origin kept given (Ok cs) h = kept_bytes_of origin kept given cs h
+keep_bytes origin kept given (Err f) h = tt
+
+-- where `?` hands on another fault than the library's own, the library did not fail
+pub handed_quiet : {T : Type 0} (r : Result (List Candidate) CandidatesFault) (f : LibraryFault) → IsErrAnd r (λ e. e ≡ fault_of f) → (r ≡ Err Library → ⊥) → ◌≡◌ {A = Result T LibraryFault} (Err f) (Err library.Failed) → ⊥
+handed_quiet (Ok cs) f h other e = absurd h
+handed_quiet (Err g) library.Failed h other e = other (ap Err h)
+handed_quiet (Err g) library.NoMemory h other e = cc e

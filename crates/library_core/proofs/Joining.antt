@@ -2,10 +2,10 @@
 use Rattle.std.proofs.Common.{◌≡◌, ◌≢◌, ℕ, ◌⊎◌, ◌↔◌, List, [], ◌∷◌, ◌++◌, map, Ok, refl, sym, ap, subst, ◌∙◌, inl, inr, append_assoc}
 use Rattle.std.specs.List.{All, Contains}
 use Rattle.std.proofs.lemmas.List.Elements.{All-cons, All-nil, Contains-append_left, Contains-push, Contains-push_cases}
-use Rattle.nuc_base.proofs.Lists.{in_nil, in_cons, in_there}
+use Rattle.nuc_base.proofs.Lists.{in_nil, in_cons, in_there, from_map, in_map}
 use Rattle.nuc_base.specs.declared.platform.Platform.{Platform}
 use Rattle.records.specs.declared.record.Origin.{Origin}
-use Rattle.records.specs.declared.record.Item.{Item}
+use Rattle.records.specs.Stored.{Item}
 use Rattle.tree_core.specs.Laws.{IsOneTree}
 use Rattle.recipe_reader.specs.Recipes.{ReadsRecipe}
 use Rattle.recipe_reader.specs.Members.{members, IsRising}
@@ -17,7 +17,7 @@ use Rattle.library_core.specs.Faults.{IsClash}
 use Rattle.library_core.specs.SoFar.{IsOther, Keeps, Decides}
 use Rattle.library_core.specs.declared.fault.CandidatesFault.{CandidatesFault}
 use Rattle.library_core.specs.declared.fault.CandidatesFault.TheVariants.{Library, TooManyRecipes, Recipe, RecipeDiffers, TwoRecipes, NoMemory}
-use Rattle.library_core.proofs.Elements.{in_map, map_in, alike_one, source_added, source_still, now_in, all_added}
+use Rattle.library_core.proofs.Elements.{alike_one, source_added, source_still, now_in, all_added}
 use Rattle.library_core.proofs.Readings.{never_both, one_source}
 
 -- candidates whose sources are those of which P holds
@@ -29,8 +29,8 @@ pub record AreOf (P : Source → Type 0) (p : Platform) (cs : List Candidate) : 
 -- the sources of candidates in order agree
 pub sources_agree : (P : Source → Type 0) (p : Platform) (cs : List Candidate) → AreOf P p cs → Agree P
 sources_agree P p cs are a b at_a at_b clash =
-    let x = in_map source cs a ((are.whole a).1 at_a) in
-    let y = in_map source cs b ((are.whole b).1 at_b) in
+    let x = from_map source cs a ((are.whole a).1 at_a) in
+    let y = from_map source cs b ((are.whole b).1 at_b) in
     let alike : IsAlike x.0 y.0 = record {
       name = ap (λ (s : Source). s.name) x.2 ∙ clash.name ∙ sym (ap (λ (s : Source). s.name) y.2);
       version = ap (λ (s : Source). s.version) x.2 ∙ clash.version ∙ sym (ap (λ (s : Source). s.version) y.2);
@@ -64,7 +64,7 @@ gathered_of mine p recipes cs g = record { rising = g.rising; read = g.read; who
 pub against : (P : Source → Type 0) (p : Platform) (cs : List Candidate) (c : Candidate) → AreOf P p cs → Clashes cs c → IsAgainst P (source c)
 against P p cs c are clash = (
   source clash.with,
-  (are.whole (source clash.with)).0 (map_in source cs clash.with clash.there),
+  (are.whole (source clash.with)).0 (in_map source cs clash.with clash.there),
   record { name = clash.alike.name; version = clash.alike.version; differs = clash.differs },
 )
 
@@ -178,8 +178,8 @@ kept_against : (origin : Origin) (kept : List Item) (p : Platform) (before : Lis
     → AreGathered (own origin kept) p before cs → Clashes cs c → Keeps kept c → IsAgainst (Contains (own origin kept)) (source c)
 kept_against origin kept p before cs c g clash k =
     let s = kept_source k.0 in
-    let there : Contains (own origin kept) s = in_there (nucleus origin.nucleus) (map kept_source kept) s (map_in kept_source kept k.0 k.1) in
-    let x = in_map source cs s ((g.whole s).1 (inl there)) in
+    let there : Contains (own origin kept) s = in_there (nucleus origin.nucleus) (map kept_source kept) s (in_map kept_source kept k.0 k.1) in
+    let x = from_map source cs s ((g.whole s).1 (inl there)) in
     let alike : IsAlike x.0 clash.with = record {
       name = ap (λ (y : Source). y.name) x.2 ∙ k.2.0 ∙ sym clash.alike.name;
       version = ap (λ (y : Source). y.version) x.2 ∙ k.2.1 ∙ sym clash.alike.version;
@@ -194,7 +194,7 @@ never_against origin kept c other none a =
     elim (in_cons (nucleus origin.nucleus) (map kept_source kept) a.0 a.1) [
       | inl e ↦ other (sym (ap (λ (s : Source). s.name) e ∙ a.2.name))
       | inr i ↦
-          let r = in_map kept_source kept a.0 i in
+          let r = from_map kept_source kept a.0 i in
           none (r.0, r.1, (ap (λ (s : Source). s.name) r.2 ∙ a.2.name, ap (λ (s : Source). s.version) r.2 ∙ a.2.version))
     ]
 

@@ -1,11 +1,12 @@
 -- The candidates of what a device keeps, item by item.
 use Rattle.std.proofs.Common.{◌≡◌, ◌⊎◌, ℕ, ◌+◌, ◌<◌, ◌≤◌, List, [], ◌∷◌, ◌++◌, length, map, take, drop, get_or, refl, sym, ap, subst, ◌∙◌, inl, inr, arith}
 use Rattle.std.specs.List.{All, Contains}
-use Rattle.std.proofs.lemmas.List.{map_more, take_all, take-append-drop, map-append}
+use Rattle.std.proofs.lemmas.List.{map_more, take_all, take-append-drop, map-append, get_or-map, length-map}
 use Rattle.nuc_base.proofs.Tables.{map_next}
 use Rattle.nuc_base.specs.declared.platform.Platform.{Platform}
 use Rattle.records.specs.declared.record.Origin.{Origin}
-use Rattle.records.specs.declared.record.Item.{Item}
+use Rattle.records.specs.Stored.{Item, item_view}
+use Rattle.records.specs.declared.record.Item as code
 use Rattle.recipe_reader.specs.Members.{members, IsRising}
 use Rattle.recipe_reader.specs.Candidates.{IsReadFor, IsAdded, IsNucleus}
 use Rattle.recipe_reader.specs.declared.candidate.Candidate.{Candidate}
@@ -74,6 +75,16 @@ pub kept_at : (p : Platform) (kept items : List Item) (i : ℕ) (x : Item) → i
 kept_at p kept items i x same below at all =
     let h : All (IsKept p) items = subst (λ (l : List Item). All (IsKept p) l) (sym same) all in
     subst (IsKept p) (sym at) (h i x below)
+
+-- the items as they are seen, place by place
+pub seen_below : (items : List code.Item) (i : ℕ) → i < length items → i < length (map item_view items)
+seen_below items i below = omega (arith, below, length-map items item_view)
+
+pub seen_at : (items : List code.Item) (i : ℕ) (x : code.Item) → i < length items → x ≡ get_or items i x → item_view x ≡ get_or (map item_view items) i (item_view x)
+seen_at items i x below at = ap item_view at ∙ sym (get_or-map item_view items i x (item_view x) below)
+
+pub seen_past : (items : List code.Item) (i : ℕ) → length items ≤ i → length (map item_view items) ≤ i
+seen_past items i past = omega (arith, past, length-map items item_view)
 
 -- a clash that `?` hands on
 pub handed_so : (mine : List Source) (p : Platform) (recipes : List (List ℕ)) (r : Result (List Candidate) CandidatesFault) (f : CandidatesFault) → IsErrAnd r (λ e. e ≡ f) → (f ≡ NoMemory) ⊎ IsClash mine p recipes f → IsSoFar mine p recipes r

@@ -1,12 +1,12 @@
 -- A recipe has one reading for a platform.
-use Rattle.std.proofs.Common.{◌≡◌, ℕ, ◌≤◌, ◌<◌, List, length, take, Ok, Some, sym, ap, subst, ◌∙◌, inl, inr, arith}
+use Rattle.std.proofs.Common.{◌≡◌, ◌⊎◌, ℕ, ◌≤◌, ◌<◌, List, length, take, Ok, Some, sym, ap, subst, ◌∙◌, inl, inr, arith}
 use Rattle.std.proofs.lemmas.List.{take_all, length-take}
 use Rattle.serde_json.specs.Data.{Data, string}
 use Rattle.serde_json.specs.Find.{get}
 use Rattle.nuc_base.specs.Tables.{AllHold}
 use Rattle.nuc_base.specs.declared.platform.Platform.{Platform}
 use Rattle.nuc_base.proofs.Tables.{first_excludes}
-use Rattle.tree_core.specs.Laws.{IsOneTree}
+use Rattle.tree_core.specs.Laws.{IsOneTree, HasNoFault}
 use Rattle.tree_core.specs.Reading.{IsTreeOf, IsFirstFault}
 use Rattle.tree_core.specs.declared.fault.TreeFault.{TreeFault}
 use Rattle.tree_core.specs.declared.fault.TreeFault.TheVariants as tree
@@ -36,6 +36,18 @@ reads_elsewhere one bytes p r a (inl h) = let e = h.1 in cc
 reads_elsewhere one bytes p r a (inr h) =
     let same = one bytes limit a.0 h.0 a.1 h.1 in
     first_excludes (recipe_lines p h.0) fault.NoManifest (subst (λ (d : Data). AllHold (recipe_lines p d)) same a.2) h.2
+
+-- what reads has no fault
+reads_well : IsOneTree → HasNoFault → (bytes : List ℕ) (p : Platform) (r : Recipe) (f : RecipeFault) → ReadsRecipe bytes p (Ok r) → IsFault bytes p f → ⊥
+reads_well one none bytes p r f a (inl h) = h.3 (none bytes limit a.0 h.0 a.1 h.2)
+reads_well one none bytes p r f a (inr h) =
+    let same = one bytes limit a.0 h.0 a.1 h.1 in
+    first_excludes (recipe_lines p h.0) f (subst (λ (d : Data). AllHold (recipe_lines p d)) same a.2) h.2
+
+-- and its reading answers nothing but want of memory
+pub wants_memory : IsOneTree → HasNoFault → (slice bytes : List ℕ) (p : Platform) (r : Recipe) (f : RecipeFault) → slice ≡ bytes → ReadsRecipe bytes p (Ok r) → (f ≡ fault.NoMemory) ⊎ IsFault slice p f → f ≡ fault.NoMemory
+wants_memory one none slice bytes p r f same a (inl e) = e
+wants_memory one none slice bytes p r f same a (inr h) = absurd (reads_well one none bytes p r f a (subst (λ (s : List ℕ). IsFault s p f) same h))
 
 pub never_both : IsOneTree → (p : Platform) (bytes : List ℕ) (s : Source) → IsTaken p bytes s → IsSkipped p bytes → ⊥
 never_both one p bytes s t (inl h) = reads_elsewhere one bytes p t.recipe t.reads h

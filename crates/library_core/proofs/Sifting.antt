@@ -1,5 +1,5 @@
 -- What a step makes of the candidates so far.
-use Rattle.std.proofs.Common.{Bool, true, false, ◌≡◌, ℕ, ◌⊎◌, ◌+◌, ◌≤◌, List, [], ◌∷◌, ◌++◌, length, take, Ok, Err, Result, IfOk, IfErr, ◌≢◌, refl, sym, ap, subst, ◌∙◌, inl, inr, arith}
+use Rattle.std.proofs.Common.{Bool, true, false, ◌≡◌, ℕ, ◌⊎◌, ◌+◌, ◌≤◌, List, [], ◌∷◌, ◌++◌, length, map, take, Ok, Err, Result, IfOk, IfErr, ◌≢◌, refl, sym, ap, subst, ◌∙◌, inl, inr, arith}
 use Rattle.std.specs.Prelude.{Option, MatchOption, nat_eq, ◌||◌}
 use Rattle.std.specs.List.{list_any}
 use Rattle.std.specs.Cmp.Lexicographic.{pointwise, bytes_decides}
@@ -7,7 +7,8 @@ use Rattle.std.proofs.lemmas.Bool.{and_parts, or_cases, false≢true}
 use Rattle.nuc_base.proofs.Lists.{in_nil, in_cons, in_here, in_there}
 use Rattle.nuc_base.specs.declared.platform.Platform.{Platform}
 use Rattle.records.specs.declared.record.Origin.{Origin}
-use Rattle.records.specs.declared.record.Item.{Item}
+use Rattle.records.specs.Stored.{Item, item_view}
+use Rattle.records.specs.declared.record.Item as code
 use Rattle.tree_core.specs.Laws.{IsOneTree}
 use Rattle.recipe_reader.specs.Recipes.{ReadsRecipe, IsFault}
 use Rattle.recipe_reader.specs.Candidates.{Clashes}
@@ -100,22 +101,22 @@ is_of_means c i h =
 is_of_holds : (c : Candidate) (i : Item) → IsOf c i → is_of c i ≡ true
 is_of_holds c i h = rw ((bytes_decides i.name c.recipe.name).1 h.0, (bytes_decides i.version c.recipe.version).1 h.1) refl
 
-pub keeps_found : (kept : List Item) (c : Candidate) → list_any (is_of c) kept ≡ true → Keeps kept c
+pub keeps_found : (kept : List code.Item) (c : Candidate) → list_any (λ i. is_of c (item_view i)) kept ≡ true → Keeps (map item_view kept) c
 keeps_found [] c h = absurd (false≢true h)
-keeps_found (i ∷ kept) c h = elim (or_cases (is_of c i) (list_any (is_of c) kept) h) [
-  | inl e ↦ (i, in_here i kept, is_of_means c i e)
-  | inr r ↦ let k = keeps_found kept c r in (k.0, in_there i kept k.0 k.1, k.2)
+keeps_found (i ∷ kept) c h = elim (or_cases (is_of c (item_view i)) (list_any (λ (j : code.Item). is_of c (item_view j)) kept) h) [
+  | inl e ↦ (item_view i, in_here (item_view i) (map item_view kept), is_of_means c (item_view i) e)
+  | inr r ↦ let k = keeps_found kept c r in (k.0, in_there (item_view i) (map item_view kept) k.0 k.1, k.2)
 ]
 
 or_true : (b : Bool) → (b || true) ≡ true
 or_true true = refl
 or_true false = refl
 
-pub keeps_shown : (kept : List Item) (c : Candidate) → Keeps kept c → list_any (is_of c) kept ≡ true
+pub keeps_shown : (kept : List code.Item) (c : Candidate) → Keeps (map item_view kept) c → list_any (λ i. is_of c (item_view i)) kept ≡ true
 keeps_shown [] c k = absurd (in_nil k.0 k.1)
-keeps_shown (i ∷ kept) c k = elim (in_cons i kept k.0 k.1) [
-  | inl e ↦ rw (is_of_holds c i (subst (IsOf c) (sym e) k.2)) refl
-  | inr r ↦ rw (keeps_shown kept c (k.0, r, k.2)) (or_true (is_of c i))
+keeps_shown (i ∷ kept) c k = elim (in_cons (item_view i) (map item_view kept) k.0 k.1) [
+  | inl e ↦ rw (is_of_holds c (item_view i) (subst (IsOf c) (sym e) k.2)) refl
+  | inr r ↦ rw (keeps_shown kept c (k.0, r, k.2)) (or_true (is_of c (item_view i)))
 ]
 
 -- ---- faults

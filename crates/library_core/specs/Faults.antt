@@ -2,7 +2,7 @@
 use Rattle.std.specs.Prelude.{◌≡◌, ℕ, ◌<◌, ◌≤◌, List, length, All, Result, MatchResult, ⊤}
 use Rattle.nuc_base.specs.declared.platform.Platform.{Platform}
 use Rattle.records.specs.declared.record.Origin.{Origin}
-use Rattle.records.specs.declared.record.Item.{Item}
+use Rattle.records.specs.Stored.{Item}
 use Rattle.recipe_reader.specs.declared.candidate.Candidate.{Candidate}
 use Rattle.library_core.specs.Sources.{Source, own, Passes}
 use Rattle.library_core.specs.Gathered.{most, AreGathered, IsFirstFaulty, Named, Differs, IsSecond}

@@ -5,7 +5,9 @@ use Rattle.recipe_reader.specs.Members.{members, IsRising}
 use Rattle.recipe_reader.specs.Candidates.{IsReadFor}
 use Rattle.recipe_reader.specs.declared.candidate.Candidate.{Candidate}
 use Rattle.recipe_reader.specs.declared.fault.RecipeFault.{RecipeFault}
-use Rattle.library_core.specs.Sources.{Source, source, IsTaken, Passes, IsFaulty, IsSource, Agree, IsAgainst}
+use Rattle.records.specs.declared.record.Origin.{Origin}
+use Rattle.records.specs.Stored.{Item}
+use Rattle.library_core.specs.Sources.{Source, source, own, IsTaken, Passes, IsFaulty, IsSource, Agree, IsAgainst}
 
 -- the most recipes of a library
 abbrev pub most : ℕ
@@ -16,6 +18,14 @@ pub record AreGathered (mine : List Source) (p : Platform) (recipes : List (List
   pub rising : IsRising (members cs)
   pub read : All (IsReadFor p) cs
   pub whole : (s : Source) → Contains (map source cs) s ↔ IsSource mine p recipes s
+
+-- the candidates of what the device has and of some recipes, as one finds them where a library tells nothing
+abbrev pub IsGatheredOf : Origin → List Item → List Candidate → Type 0
+IsGatheredOf origin kept cs = (recipes : List (List ℕ)) × AreGathered (own origin kept) origin.platform recipes cs
+
+-- a candidate of a kept item's name and version has its recipe
+abbrev pub KeepBytes : List Item → List Candidate → Type 0
+KeepBytes kept cs = (i : Item) (c : Candidate) → Contains kept i → Contains cs c → c.recipe.name ≡ i.name → c.recipe.version ≡ i.version → c.bytes ≡ i.recipe
 
 -- ---- the first refusal
 

@@ -2,7 +2,7 @@
 use Rattle.std.specs.Prelude.{◌≡◌, ◌≢◌, ◌⊎◌, ℕ, List, Result, Err, MatchResult, MatchOption, Option, None, Contains, Bool, ◌&&◌, nat_eq}
 use Rattle.std.specs.Cmp.Lexicographic.{pointwise}
 use Rattle.nuc_base.specs.declared.platform.Platform.{Platform}
-use Rattle.records.specs.declared.record.Item.{Item}
+use Rattle.records.specs.Stored.{Item}
 use Rattle.recipe_reader.specs.Members.{members, IsRising}
 use Rattle.recipe_reader.specs.Candidates.{IsReadFor, IsAdded, Clashes, nucleus_name}
 use Rattle.recipe_reader.specs.declared.candidate.Candidate.{Candidate}

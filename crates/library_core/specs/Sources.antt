@@ -2,7 +2,7 @@
 use Rattle.std.specs.Prelude.{◌≡◌, ◌≢◌, ◌⊎◌, ℕ, List, ◌∷◌, map, Ok, Contains}
 use Rattle.nuc_base.specs.declared.platform.Platform.{Platform}
 use Rattle.records.specs.declared.record.Origin.{Origin}
-use Rattle.records.specs.declared.record.Item.{Item}
+use Rattle.records.specs.Stored.{Item}
 use Rattle.recipe_reader.specs.Recipes.{ReadsRecipe, IsFault}
 use Rattle.recipe_reader.specs.Candidates.{nucleus_name, nucleus_bytes}
 use Rattle.recipe_reader.specs.declared.candidate.Candidate.{Candidate}

@@ -6,7 +6,7 @@ use nuc_base::{Name, NoMemory};
 use recipe_reader::RecipeFault;
 
 /// Why there are no candidates.
-#[derive(Drop)]
+#[derive(Debug, Drop)]
 pub enum CandidatesFault {
     /// The library failed.
     Library,

@@ -1,7 +1,9 @@
-ghost use Rattle.std.specs.Prelude.{◌≡◌, ◌≤◌, length, Some, IsErrOf, All};
+ghost use Rattle.std.specs.Prelude.{◌≡◌, ◌≤◌, length, map, Some, IfOk, IsErrOf, All};
 ghost use Rattle.nuc_base.specs.Faults.{Rose};
+ghost use Rattle.records.specs.Stored.{item_view};
 ghost use Rattle.library_core.specs.Library.{Content};
 ghost use Rattle.library_core.specs.Sources.{IsKept};
+ghost use Rattle.library_core.specs.Gathered.{IsGatheredOf, KeepBytes};
 ghost use Rattle.library_core.specs.Faults.{Gathered};
 
 use crate::fault::CandidatesFault;
@@ -22,7 +24,8 @@ const MOST: u32 = 1024;
 /// The first of these refusals answers: the library has more than 1,024 recipes; by index the first of them with a
 /// fault other than `NoManifest`; the first kept item that clashes with the built-in component or with an earlier item;
 /// by index the first recipe that clashes with what the device has or with an earlier recipe. Two clash where they have
-/// the same name and version and different bytes. `Library` answers at the call that fails.
+/// the same name and version and different bytes. `Library` answers at the call that fails. Also where a library tells
+/// nothing the candidates are gathered from the recipes that it gave.
 pub fn candidates<L: Library>(
     alloc: Global,
     library: &mut L,
@@ -30,10 +33,13 @@ pub fn candidates<L: Library>(
     kept: &List<Item>,
 ) -> Result<Candidates, CandidatesFault>
     requires few { length kept.now ≤ 128 }
-    requires read { All (IsKept origin.now.platform) kept.now }
-    ensures gathered { (l : Content) → L.content library.old ≡ Some l → Gathered l.recipes origin.now kept.now result }
+    requires read { All (IsKept origin.now.platform) (map item_view kept.now) }
+    ensures gathered { (l : Content) → L.content library.old ≡ Some l → Gathered l.recipes origin.now (map item_view kept.now) result }
+    ensures read { IfOk result (IsGatheredOf origin.now (map item_view kept.now)) }
+    ensures kept_bytes { IfOk result (KeepBytes (map item_view kept.now)) }
     ensures kept { L.content library.new ≡ L.content library.old }
     ensures cause { IsErrOf result CandidatesFault.Library → Rose (L.faults library.old) (L.faults library.new) }
+    ensures quiet { ¬ (IsErrOf result CandidatesFault.Library) → L.faults library.new ≡ L.faults library.old }
     ensures later { L.faults library.old ≤ L.faults library.new }
 {
     let count = library.count(alloc)?;

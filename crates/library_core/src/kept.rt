@@ -1,5 +1,6 @@
 // What a device has of its own.
-ghost use Rattle.std.specs.Prelude.{◌≡◌, ◌<◌, ◌≤◌, ◌+◌, ◌-◌, ◌^◌, [], length, All, IfOk, OnOk, IfErr};
+ghost use Rattle.std.specs.Prelude.{◌≡◌, ◌<◌, ◌≤◌, ◌+◌, ◌-◌, ◌^◌, [], length, map, All, IfOk, OnOk, IfErr};
+ghost use Rattle.records.specs.Stored.{item_view};
 ghost use Rattle.recipe_reader.specs.Members.{members, IsRising};
 ghost use Rattle.recipe_reader.specs.Candidates.{IsRead, IsReadFor, IsAdded};
 ghost use Rattle.library_core.specs.Sources.{source, own, kept_source, IsKept};
@@ -8,22 +9,32 @@ ghost use Rattle.library_core.specs.SoFar.{IsSoFar, IsClashOf, IsDiffering};
 use crate::fault::CandidatesFault;
 use crate::given_up::{give_up, name_of};
 use nuc_base::{Copied, List, NoMemory, Platform};
-use recipe_reader::{AddRefusal, Candidate, Candidates, Recipe};
+use recipe_reader::{AddRefusal, Candidate, Candidates, Recipe, RecipeFault};
 use records::{Item, Origin};
 use std::alloc::Global;
 use tree_core::tree_laws;
 
+/// The fault of a recipe that reads: memory alone was wanting.
+fn want_of(fault: RecipeFault) -> NoMemory
+    requires { fault ≡ RecipeFault.NoMemory }
+{
+    match fault {
+        RecipeFault::NoMemory => NoMemory,
+        _ => unreachable!(),
+    }
+}
+
 /// The candidate of a kept item.
 fn candidate_of(alloc: Global, platform: &Platform, item: &Item) -> Result<Candidate, NoMemory>
-    requires { IsKept platform.now item.now }
+    requires { IsKept platform.now (item_view item.now) }
     ensures read { IfOk result (IsReadFor platform.now) }
-    ensures source { IfOk result (λ c. source c ≡ kept_source item.now) }
+    ensures source { IfOk result (λ c. source c ≡ kept_source (item_view item.now)) }
 {
     tree_laws();
     let bytes = item.recipe.copy(alloc)?;
-    // It reads, so that memory alone may be wanting.
-    let Ok(recipe) = Recipe::read(alloc, item.recipe.as_slice(), platform) else {
-        return Err(NoMemory);
+    let recipe = match Recipe::read(alloc, item.recipe.as_slice(), platform) {
+        Ok(recipe) => recipe,
+        Err(fault) => return Err(want_of(fault)),
     };
     Ok(Candidate { recipe, bytes })
 }
@@ -62,8 +73,8 @@ pub(crate) fn own_candidates(
     kept: &List<Item>,
 ) -> Result<Candidates, CandidatesFault>
     requires few { length kept.now ≤ 128 }
-    requires read { All (IsKept origin.now.platform) kept.now }
-    ensures so_far { IsSoFar (own origin.now kept.now) origin.now.platform [] result }
+    requires read { All (IsKept origin.now.platform) (map item_view kept.now) }
+    ensures so_far { IsSoFar (own origin.now (map item_view kept.now)) origin.now.platform [] result }
     ensures few { IfOk result (λ cs. length cs ≤ length kept.now + 1) }
 {
     let mut candidates = Candidates::with_nucleus(alloc, &origin.nucleus)?;

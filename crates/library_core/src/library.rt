@@ -22,8 +22,8 @@ pub enum Piece {
     Bytes(usize),
 }
 
-/// Where recipes and artifacts come from. No call changes what it holds. A call answers that it failed only where the
-/// count of faults rose.
+/// Where recipes and artifacts come from. No call changes what it holds. A call answers that it failed where the count
+/// of faults rose, and else not.
 pub trait Library {
     ghost use Rattle.library_core.specs.Library.{Content, most_given, IsPieceOf, IsWithin};
 
@@ -38,6 +38,7 @@ pub trait Library {
         ensures told { (l : Content) → content self.old ≡ Some l → IfOk result (λ n. n ≡ length l.recipes) }
         ensures kept { content self.new ≡ content self.old }
         ensures cause { IsErrOf result LibraryFault.Failed → Rose (faults self.old) (faults self.new) }
+        ensures quiet { ¬ (IsErrOf result LibraryFault.Failed) → faults self.new ≡ faults self.old }
         ensures later { faults self.old ≤ faults self.new };
 
     /// The bytes of a recipe, or its first 65,537.
@@ -47,6 +48,7 @@ pub trait Library {
         ensures short { IfOk result (λ bytes. length bytes ≤ most_given) }
         ensures kept { content self.new ≡ content self.old }
         ensures cause { IsErrOf result LibraryFault.Failed → Rose (faults self.old) (faults self.new) }
+        ensures quiet { ¬ (IsErrOf result LibraryFault.Failed) → faults self.new ≡ faults self.old }
         ensures later { faults self.old ≤ faults self.new };
 
     /// Bytes of an artifact from that place on.
@@ -63,5 +65,6 @@ pub trait Library {
         ensures bound { IfOk result (IsWithin (length into.old)) }
         ensures kept { content self.new ≡ content self.old }
         ensures cause { IsErrOf result LibraryFault.Failed → Rose (faults self.old) (faults self.new) }
+        ensures quiet { ¬ (IsErrOf result LibraryFault.Failed) → faults self.new ≡ faults self.old }
         ensures later { faults self.old ≤ faults self.new };
 }

@@ -55,6 +55,7 @@ impl Library for MemoryLibrary {
         ensures told { (l : Content) → Some (library_content self.old) ≡ Some l → IfOk result (λ n. n ≡ length l.recipes) }
         ensures kept { Some (library_content self.new) ≡ Some (library_content self.old) }
         ensures cause { IsErrOf result LibraryFault.Failed → Rose (faults_of (library_failing self.old)) (faults_of (library_failing self.new)) }
+        ensures quiet { ¬ (IsErrOf result LibraryFault.Failed) → faults_of (library_failing self.new) ≡ faults_of (library_failing self.old) }
         ensures later { faults_of (library_failing self.old) ≤ faults_of (library_failing self.new) }
         ensures listed { IsErrOf result LibraryFault.Failed ↔ IsListed (library_failing self.old) }
         ensures counted { IsCounted (library_failing self.old) (library_failing self.new) }
@@ -74,6 +75,7 @@ impl Library for MemoryLibrary {
         ensures short { IfOk result (λ bytes. length bytes ≤ most_given) }
         ensures kept { Some (library_content self.new) ≡ Some (library_content self.old) }
         ensures cause { IsErrOf result LibraryFault.Failed → Rose (faults_of (library_failing self.old)) (faults_of (library_failing self.new)) }
+        ensures quiet { ¬ (IsErrOf result LibraryFault.Failed) → faults_of (library_failing self.new) ≡ faults_of (library_failing self.old) }
         ensures later { faults_of (library_failing self.old) ≤ faults_of (library_failing self.new) }
         ensures listed { IsErrOf result LibraryFault.Failed ↔ IsListed (library_failing self.old) }
         ensures counted { IsCounted (library_failing self.old) (library_failing self.new) }
@@ -97,6 +99,7 @@ impl Library for MemoryLibrary {
         ensures bound { IfOk result (IsWithin (length into.old)) }
         ensures kept { Some (library_content self.new) ≡ Some (library_content self.old) }
         ensures cause { IsErrOf result LibraryFault.Failed → Rose (faults_of (library_failing self.old)) (faults_of (library_failing self.new)) }
+        ensures quiet { ¬ (IsErrOf result LibraryFault.Failed) → faults_of (library_failing self.new) ≡ faults_of (library_failing self.old) }
         ensures later { faults_of (library_failing self.old) ≤ faults_of (library_failing self.new) }
         ensures listed { IsErrOf result LibraryFault.Failed ↔ IsListed (library_failing self.old) }
         ensures counted { IsCounted (library_failing self.old) (library_failing self.new) }

@@ -1,7 +1,8 @@
 // What a library's recipe is to a device.
-ghost use Rattle.std.specs.Prelude.{◌≡◌, ◌<◌, ◌≤◌, ◌⊎◌, ◌↔◌, ◌+◌, ◌-◌, ◌^◌, ◌++◌, ◌∷◌, [], ℕ, List, IsTrue, length, take, IfOk, IfErr, ◌≢◌, MatchResult};
+ghost use Rattle.std.specs.Prelude.{◌≡◌, ◌<◌, ◌≤◌, ◌⊎◌, ◌↔◌, ◌+◌, ◌-◌, ◌^◌, ◌++◌, ◌∷◌, [], ℕ, List, IsTrue, length, map, take, IfOk, IfErr, ◌≢◌, MatchResult};
 ghost use Rattle.std.specs.List.{list_any};
 ghost use Rattle.nuc_base.specs.declared.platform.Platform.{Platform};
+ghost use Rattle.records.specs.Stored.{item_view};
 ghost use Rattle.recipe_reader.specs.Candidates.{IsRead, nucleus_name};
 ghost use Rattle.library_core.specs.Library.{most_given};
 ghost use Rattle.library_core.specs.Sources.{own, Passes};
@@ -46,14 +47,14 @@ fn sift(alloc: Global, platform: &Platform, bytes: Bytes) -> Result<Option<Candi
 }
 
 fn is_item_of(item: &Item, candidate: &Candidate) -> bool
-    ensures { result ≡ is_of candidate.now item.now }
+    ensures { result ≡ is_of candidate.now (item_view item.now) }
 {
     item.name == candidate.recipe.name && item.version == candidate.recipe.version
 }
 
 /// Whether a kept item has the candidate's name and version.
 fn keeps(kept: &[Item], candidate: &Candidate) -> bool
-    ensures { result ≡ list_any (is_of candidate.now) kept.now }
+    ensures { result ≡ list_any (λ item. is_of candidate.now (item_view item)) kept.now }
 {
     for item in kept {
         if is_item_of(item, candidate) {
@@ -64,7 +65,7 @@ fn keeps(kept: &[Item], candidate: &Candidate) -> bool
 }
 
 fn clash_of(kept: &[Item], candidate: Candidate) -> CandidatesFault
-    ensures { Decides kept.now candidate result }
+    ensures { Decides (map item_view kept.now) candidate result }
 {
     let is_kept = keeps(kept, &candidate);
     let (name, version) = name_of(candidate);
@@ -77,7 +78,7 @@ fn clash_of(kept: &[Item], candidate: Candidate) -> CandidatesFault
 
 /// The refusal of a recipe that clashes: with what the device keeps, or with an earlier recipe alone.
 fn refusal_of(kept: &[Item], refusal: AddRefusal) -> CandidatesFault
-    ensures { IsRefusal kept.now refusal result }
+    ensures { IsRefusal (map item_view kept.now) refusal result }
 {
     match refusal {
         AddRefusal::Clash(candidate) => clash_of(kept, candidate),
@@ -93,7 +94,7 @@ fn join(
 ) -> Result<Candidates, CandidatesFault>
     requires read { IsRead candidate }
     requires room { IfOk gathered (λ cs. length cs < 2 ^ 32 - 1) }
-    ensures { IsJoined kept.now candidate gathered result }
+    ensures { IsJoined (map item_view kept.now) candidate gathered result }
 {
     let mut candidates = match gathered {
         Ok(candidates) => candidates,
@@ -126,9 +127,9 @@ pub(crate) fn take_in(
     gathered: Result<Candidates, CandidatesFault>,
 ) -> Result<Result<Candidates, CandidatesFault>, CandidatesFault>
     requires room { IfOk gathered (λ cs. length cs < 2 ^ 32 - 1) }
-    ensures next { (b : List ℕ) → (before : List (List ℕ)) → bytes ≡ take most_given b → IsSoFar (own origin.now kept.now) origin.now.platform before gathered
+    ensures next { (b : List ℕ) → (before : List (List ℕ)) → bytes ≡ take most_given b → IsSoFar (own origin.now (map item_view kept.now)) origin.now.platform before gathered
         → MatchResult result
-        (λ next. Passes origin.now.platform b × IsSoFar (own origin.now kept.now) origin.now.platform (before ++ b ∷ []) next)
+        (λ next. Passes origin.now.platform b × IsSoFar (own origin.now (map item_view kept.now)) origin.now.platform (before ++ b ∷ []) next)
         (Stops origin.now.platform b at) }
     ensures few { (n : ℕ) → IfOk gathered (λ cs. length cs ≤ n) → IfOk result (λ next. IfOk next (λ cs. length cs ≤ n + 1)) }
     ensures held { IfErr gathered (λ f. f ≢ CandidatesFault.Library) → IfOk result (λ next. IfErr next (λ f. f ≢ CandidatesFault.Library)) }

@@ -1,18 +1,20 @@
-use Rattle.std.proofs.Common.{All, sym, subst}
-use Rattle.std.proofs.lemmas.List.Elements.{All-nil, All-push}
+use Rattle.std.proofs.Common.{List, length, All, sym, ap, subst, arith}
+use Rattle.std.proofs.lemmas.List.{length_push}
+use Rattle.std.proofs.lemmas.List.Elements.{All-push, All-map}
+use Rattle.records.specs.Stored.{item_view}
 use Rattle.records.specs.declared.record.Item.{Item}
 use Rattle.library_core.specs.Sources.{IsKept}
 use Rattle.library_core.proofs.tests.items.Goals as goal
 
-pub returns-in_ok-push-in-len1-clause-read : goal.returns-in_ok-push-in-len1-clause-read
-returns-in_ok-push-in-len1-clause-read c =
-    let P : Item → Type 0 = IsKept c.args.platform.now in
-    let none : All P c.empty-kept.result = subst (All P) (sym c.empty-kept.ensures) (All-nil P) in
-    subst (All P) (sym c.in_ok-push-in-len1.ensures.ok) (All-push P c.empty-kept.result c.in_ok-item-in-len1.field-0 none c.in_ok-item-in-len1.ensures)
+pub loop-letter-preserved : goal.loop-letter-preserved
+loop-letter-preserved c =
+    let P : Item → Type 0 = λ i. IsKept c.args.platform.now (item_view i) in
+    let kept = c.loop-letter.kept in
+    let item = c.in_ok-item.field-0 in
+    let e = c.in_ok-push.ensures.ok in (
+      omega (arith, ap length e, length_push kept item, c.loop-letter.invariant.0),
+      subst (λ (items : List Item). All P items) (sym e) (All-push P kept item c.loop-letter.invariant.1 c.in_ok-item.ensures),
+    )
 
-pub returns-in_ok-push-in-len2-up-2-clause-read : goal.returns-in_ok-push-in-len2-up-2-clause-read
-returns-in_ok-push-in-len2-up-2-clause-read c =
-    let P : Item → Type 0 = IsKept c.args.platform.now in
-    let none : All P c.empty-kept-in-len2-up.result = subst (All P) (sym c.empty-kept-in-len2-up.ensures) (All-nil P) in
-    let one : All P c.push-in-len2-up.new.self = subst (All P) (sym c.in_ok-push-in-len2-up.ensures.ok) (All-push P c.empty-kept-in-len2-up.result c.in_ok-item-in-len2-up.field-0 none c.in_ok-item-in-len2-up.ensures) in
-    subst (All P) (sym c.in_ok-push-in-len2-up-2.ensures.ok) (All-push P c.push-in-len2-up.new.self c.in_ok-item-in-len2-up-2.field-0 one c.in_ok-item-in-len2-up-2.ensures)
+pub returns-clause-read : goal.returns-clause-read
+returns-clause-read c = All-map (IsKept c.args.platform.now) item_view c.loop-letter.kept c.loop-letter.invariant.1
