@@ -1,0 +1,18 @@
+use Rattle.std.proofs.Common.{◌-◌, ◌≡◌, ◌<◌, ◌≤◌, ◌^◌, ℕ, All}
+use Rattle.host_edges.proofs.runner.ShellRunner.poll_until.Given as goal
+
+abbrev pub invariant-polling : goal.invariant-polling
+invariant-polling g l = record {
+  living : l.self.living.items ≡ l.fn.self.living.items;
+  next : l.self.next ≡ l.fn.self.next;
+  told : l.self.told ≡ l.fn.self.told;
+  asked : l.self.asked ≡ l.fn.self.asked;
+  faults : l.self.faults ≡ l.fn.self.faults;
+  later : l.fn.self.clock ≤ l.self.clock;
+  in_time : l.self.clock < 2 ^ 62;
+  past : l.self.told ≤ l.self.clock;
+  numbered : All (λ (c : ℕ). c < l.self.next) l.self.living.items;
+}
+
+abbrev pub decreases-polling : goal.decreases-polling
+decreases-polling g l = l.until - l.self.clock

@@ -1,0 +1,27 @@
+//! The real objects: the disk, the library and the inbox over a folder, and children by the system's shell.
+//!
+//! It promises that each meets its trait with its content untold: a fault is answered where its count rose, and else
+//! not. What the system does is trusted.
+#![tactic(auto)]
+
+mod access;
+mod disk;
+mod documents;
+mod inbox;
+mod library;
+mod listing;
+mod paths;
+mod runner;
+mod slot;
+mod store;
+mod streams;
+mod window;
+
+pub use access::Access;
+pub use disk::FileDisk;
+pub use inbox::FolderInbox;
+pub use library::FolderLibrary;
+pub use runner::ShellRunner;
+
+#[cfg(test)]
+mod tests;

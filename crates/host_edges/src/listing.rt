@@ -1,0 +1,73 @@
+use crate::paths::Paths;
+use nuc_base::{FileName, List};
+use std::fs::{DirEntry, File, Files};
+use std::io::ErrorKind;
+use std::{fs, io};
+
+/// What a walk below a folder found.
+#[derive(Drop)]
+struct Found {
+    folders: Vec<String>,
+    files: Vec<FileName>,
+}
+
+/// The names of the files below a folder that are not empty, rising by their bytes. What is neither a folder nor a plain
+/// file, and a name that is no UTF-8, is an error.
+pub fn list_files<R: Files<File = File> + AllocGlobal + Clone + Drop>(
+    files: &R,
+    paths: &mut Paths<'_>,
+    folder: &str,
+) -> io::Result<List<FileName>> {
+    let alloc = files.alloc();
+    let mut found = Found {
+        folders: Vec::new(alloc),
+        files: Vec::new(alloc),
+    };
+    found.folders.push(String::from_str(alloc, folder)?)?;
+    for _ in 0..u64::MAX {
+        let Some(name) = found.folders.pop() else {
+            break;
+        };
+        list_folder(files, paths, name.as_str(), &mut found)?;
+    }
+    found.files.sort()?;
+    Ok(List::new(found.files))
+}
+
+/// Adds what stands in one folder.
+fn list_folder<R: Files<File = File> + AllocGlobal + Clone + Drop>(
+    files: &R,
+    paths: &mut Paths<'_>,
+    folder: &str,
+    found: &mut Found,
+) -> io::Result<()> {
+    let entries = match fs::read_dir(files, paths.below(folder)?) {
+        Ok(entries) => entries,
+        Err(error) if error.kind() == ErrorKind::NotFound => return Ok(()),
+        Err(error) => return Err(error),
+    };
+    for entry in entries {
+        add_entry(files, folder, &entry?, found)?;
+    }
+    Ok(())
+}
+
+fn add_entry<R: Files<File = File> + AllocGlobal + Clone + Drop>(
+    files: &R,
+    folder: &str,
+    entry: &DirEntry<R>,
+    found: &mut Found,
+) -> io::Result<()> {
+    let alloc = files.alloc();
+    let name = entry.file_name();
+    let path = format!(in alloc; "{folder}/{name}")?;
+    let metadata = entry.metadata()?;
+    if metadata.is_dir() {
+        found.folders.push(path)?;
+    } else if !metadata.is_file() {
+        return Err(io::Error::from(ErrorKind::InvalidInput));
+    } else if metadata.len() > 0 {
+        found.files.push(FileName::new(path))?;
+    }
+    Ok(())
+}

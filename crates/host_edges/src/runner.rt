@@ -1,0 +1,307 @@
+ghost use Rattle.std.specs.Prelude.{◌≡◌, ◌<◌, ◌≤◌, ◌+◌, ◌^◌, ◌∷◌, [], ℕ, All, Contains, IsTrue, None, IfSome, IfNone, OnOk, OnErr, true};
+ghost use Rattle.step_runner.specs.Entries.{without};
+ghost use Rattle.step_runner.specs.Waits.{RoseAtLost, is_own};
+
+use crate::documents::is_file;
+use nuc_base::{Exit, Text};
+use std::alloc::{AllocError, Global};
+use std::fs::{DirBuilder, File, Files};
+use std::io::ErrorKind;
+use std::os::unix::fs::DirBuilderExt;
+use std::process::{Child, OpenProcess, Processes, Stdio};
+use std::rt::{Clock, Env};
+use std::time::{Duration, Instant};
+use std::{env, fs, io, process, thread};
+use step_runner::{Command, Runner, RunnerFault, Waited, forget_child};
+
+/// No moment is later.
+const LAST_MOMENT: u64 = (1 << 62) - 1;
+
+/// How long a wait sleeps before it looks at the children again.
+const PAUSE_MS: u64 = 5;
+
+/// Folders are their owner's alone.
+const FOLDER_MODE: u32 = 0o700;
+
+/// Runs each command as `sh -c SCRIPT` in its folder, which is made as needed, with the command's variables added to the
+/// environment. A child reads nothing, and what it prints is dropped, on the standard error too: what it starts may live
+/// on, and whoever reads this program's output would wait for that. A kill ends that one child and waits for it. Ends are
+/// found by asking each child in turn, with a pause between. It tells no list. Moments are milliseconds since it was
+/// made.
+#[derive(Drop)]
+pub struct ShellRunner<'a, R: Processes + Clock> {
+    rt: &'a R,
+    alloc: Global,
+    start: Option<Instant>,
+    living: Vec<u64>,
+    children: Vec<Child<R::Started>>,
+    next: u64,
+    clock: u64,
+    told: u64,
+    asked: bool,
+    faults: u64,
+    ghost in_time: { clock < 2 ^ 62 },
+    ghost past: { told ≤ clock },
+    ghost numbered: { All (λ (c : ℕ). c < next) living.items },
+}
+
+impl<'a, R: Processes + Clock + Files<File = File> + Env + AllocGlobal> ShellRunner<'a, R> {
+    ghost use Rattle.host_edges.specs.Real.{runner_living, runner_faults};
+
+    /// It begins with no child.
+    pub fn new(rt: &'a R) -> Self
+        ensures living { runner_living result ≡ [] }
+        ensures faults { runner_faults result ≡ 0 }
+    {
+        let alloc = rt.alloc();
+        ShellRunner {
+            rt,
+            alloc,
+            start: Instant::now(rt).ok(),
+            living: Vec::new(alloc),
+            children: Vec::new(alloc),
+            next: 0,
+            clock: 0,
+            told: 0,
+            asked: false,
+            faults: 0,
+        }
+    }
+}
+
+/// Reads the clock. The answer never falls.
+fn later<C: Clock>(clock: &C, start: &Option<Instant>, now: u64) -> u64
+    requires { now < 2 ^ 62 }
+    ensures later { now ≤ result }
+    ensures bound { result < 2 ^ 62 }
+{
+    let Some(start) = start else {
+        return now;
+    };
+    match start.elapsed(clock) {
+        Ok(elapsed) => match u64::try_from(elapsed.as_millis()) {
+            Ok(millis) => now.max(millis.min(LAST_MOMENT)),
+            Err(_) => LAST_MOMENT,
+        },
+        Err(_) => now,
+    }
+}
+
+/// How the child ended, if it has.
+fn poll<P: OpenProcess>(child: &mut Child<P>) -> Option<Exit>
+    ensures { IfSome result (λ exit. is_own exit ≡ true) }
+{
+    match child.try_wait() {
+        Ok(None) => None,
+        Ok(Some(status)) => match status.code() {
+            Some(code) => Some(Exit::Code(code)),
+            None => Some(Exit::Signal),
+        },
+        Err(_) => Some(Exit::Lost),
+    }
+}
+
+/// The first living child that has ended.
+fn poll_all<P: OpenProcess>(living: &[u64], children: &mut Vec<Child<P>>) -> Option<(u64, Exit)>
+    ensures lived { IfSome result (λ ended. Contains living.now ended.0) }
+    ensures own { IfSome result (λ ended. is_own ended.1 ≡ true) }
+{
+    for at in 0..living.len() {
+        if let Some(child) = children.get_mut(at) {
+            if let Some(exit) = poll(child) {
+                return Some((living[at], exit));
+            }
+        }
+    }
+    None
+}
+
+/// The count of faults: a lost child is one.
+fn counted(faults: u64, exit: Exit) -> u64
+    ensures cause { RoseAtLost faults result exit }
+    ensures later { faults ≤ result }
+{
+    match exit {
+        Exit::Lost => faults.saturating_add(1),
+        Exit::Code(_) => faults,
+        Exit::Signal => faults,
+        Exit::TimedOut => faults,
+        Exit::NotStarted => faults,
+    }
+}
+
+fn make_folder<R: Files>(files: &R, folder: &str) -> io::Result<()> {
+    DirBuilder::new()
+        .recursive(true)
+        .mode(FOLDER_MODE)
+        .create(files, folder)
+}
+
+/// `sh -c` with the command's variables and folder.
+fn prepared(alloc: Global, command: &Command) -> Result<process::Command, AllocError> {
+    let mut child = process::Command::new(alloc, "sh")?;
+    child.arg("-c")?.arg(command.script.as_str())?;
+    for (name, value) in command.env.as_slice() {
+        child.env(name.as_str(), value.as_str())?;
+    }
+    child.current_dir(command.folder.as_str())?;
+    child.stdin(Stdio::null());
+    child.stdout(Stdio::null());
+    child.stderr(Stdio::null());
+    Ok(child)
+}
+
+fn spawn<R: Processes + Files>(
+    rt: &R,
+    alloc: Global,
+    command: &Command,
+) -> io::Result<Child<R::Started>> {
+    make_folder(rt, command.folder.as_str())?;
+    prepared(alloc, command)?.spawn(rt)
+}
+
+fn end<P: OpenProcess>(child: &mut Child<P>) {
+    let _ = child.kill();
+    let _ = child.wait();
+}
+
+impl<'a, R: Processes + Clock + Files<File = File> + Env + AllocGlobal> ShellRunner<'a, R> {
+    /// Starts a child, and keeps it in front of the others, as its number.
+    fn try_start(&mut self, command: &Command) -> io::Result<()>
+        ensures started { OnOk result (self.new.living.items ≡ self.old.next ∷ self.old.living.items) }
+        ensures refused { OnErr result (self.new.living.items ≡ self.old.living.items) }
+        ensures next { OnErr result (self.new.next ≡ self.old.next) }
+        ensures counted { OnOk result (self.new.next ≡ self.old.next + 1) }
+        ensures same { (self.new.clock ≡ self.old.clock) × (self.new.told ≡ self.old.told) × (self.new.asked ≡ self.old.asked) × (self.new.faults ≡ self.old.faults) }
+    {
+        let number = self.next;
+        if number == u64::MAX {
+            return Err(io::Error::from(ErrorKind::QuotaExceeded));
+        }
+        self.living.reserve(1)?;
+        self.children.reserve(1)?;
+        let child = spawn(self.rt, self.alloc, command)?;
+        self.children.insert(0, child)?;
+        self.living.insert(0, number)?;
+        self.next = number + 1;
+        Ok(())
+    }
+
+    /// Ends a child where it has not ended, and drops it.
+    fn end_child(&mut self, child: u64)
+        ensures left { self.new.living.items ≡ without child self.old.living.items }
+        ensures same { (self.new.next ≡ self.old.next) × (self.new.clock ≡ self.old.clock) × (self.new.told ≡ self.old.told) × (self.new.asked ≡ self.old.asked) × (self.new.faults ≡ self.old.faults) }
+    {
+        let place = self.living.iter().position(|number| *number == child);
+        if let Some(at) = place {
+            if at < self.children.len() {
+                end(&mut self.children[at]);
+                let _ = self.children.remove(at);
+            }
+        }
+        forget_child(&mut self.living, child);
+    }
+
+    /// Looks at the children and sleeps, until one has ended or the clock is there. It looks once at least.
+    fn poll_until(&mut self, until: u64) -> Option<(u64, Exit)>
+        requires { until < 2 ^ 62 }
+        ensures lived { IfSome result (λ ended. Contains self.old.living.items ended.0) }
+        ensures own { IfSome result (λ ended. is_own ended.1 ≡ true) }
+        ensures none { IfNone result (until ≤ self.new.clock) }
+        ensures later { self.old.clock ≤ self.new.clock }
+        ensures same { (self.new.living.items ≡ self.old.living.items) × (self.new.next ≡ self.old.next) × (self.new.told ≡ self.old.told) × (self.new.asked ≡ self.old.asked) × (self.new.faults ≡ self.old.faults) }
+    {
+        'polling: while self.clock < until {
+            let ended = poll_all(self.living.as_slice(), &mut self.children);
+            if ended.is_some() {
+                return ended;
+            }
+            thread::sleep(self.rt, Duration::from_millis(PAUSE_MS));
+            self.clock = later(self.rt, &self.start, self.clock + 1);
+        }
+        poll_all(self.living.as_slice(), &mut self.children)
+    }
+
+    /// Whether a file of this name stands in a folder of PATH. An empty folder there is the current one.
+    fn is_on_path(&self, word: &str) -> io::Result<bool> {
+        let folders = env::var(self.rt, "PATH").map_err(|_| io::Error::from(ErrorKind::NotFound))?;
+        for folder in folders.split(':') {
+            let folder = if folder.is_empty() { "." } else { folder };
+            let path = format!(in self.alloc; "{folder}/{word}")?;
+            if is_file(self.rt, path.as_str()).unwrap_or(false) {
+                return Ok(true);
+            }
+        }
+        Ok(false)
+    }
+}
+
+impl<'a, R: Processes + Clock + Files<File = File> + Env + AllocGlobal> Runner
+    for ShellRunner<'a, R> {
+    ghost use Rattle.host_edges.specs.Real.{runner_told, runner_asked, runner_clock, runner_living, runner_started, runner_faults};
+
+    ghost list = { λ r. None };
+
+    ghost told = { λ r. runner_told r };
+
+    ghost asked = { λ r. runner_asked r };
+
+    ghost clock = { λ r. runner_clock r };
+
+    ghost living = { λ r. runner_living r };
+
+    ghost started = { λ r. runner_started r };
+
+    ghost faults = { λ r. runner_faults r };
+
+    fn start(&mut self, command: &Command) -> Result<u64, RunnerFault> {
+        let number = self.next;
+        self.asked = false;
+        match self.try_start(command) {
+            Ok(()) => Ok(number),
+            Err(_) => {
+                self.faults = self.faults.saturating_add(1);
+                Err(RunnerFault)
+            }
+        }
+    }
+
+    fn wait(&mut self, limit: u64) -> Waited {
+        self.asked = false;
+        let until = (self.clock + limit).min(LAST_MOMENT);
+        match self.poll_until(until) {
+            Some((child, exit)) => {
+                self.end_child(child);
+                self.faults = counted(self.faults, exit);
+                Waited::Ended(child, exit)
+            }
+            None => Waited::Elapsed,
+        }
+    }
+
+    fn kill(&mut self, child: u64) {
+        self.asked = false;
+        self.end_child(child);
+    }
+
+    fn moment(&mut self) -> u64 {
+        self.clock = later(self.rt, &self.start, self.clock);
+        self.told = self.clock;
+        self.asked = true;
+        self.clock
+    }
+
+    fn exists(&mut self, path: &Text) -> bool {
+        self.asked = false;
+        fs::exists(self.rt, path.as_str()).unwrap_or(false)
+    }
+
+    fn on_path(&mut self, word: &Text) -> bool {
+        self.asked = false;
+        self.is_on_path(word.as_str()).unwrap_or(false)
+    }
+
+    ghost past = { λ r. r.past };
+
+    ghost in_time = { λ r. r.in_time };
+}

@@ -1,0 +1,217 @@
+ghost use Rattle.std.specs.Prelude.{◌≤◌, length, IfOk};
+
+use crate::access::Access;
+use crate::paths::Paths;
+use crate::store::FILE_MODE;
+use crate::window::{Window, read_full};
+use nuc_base::NoMemory;
+use std::alloc::Global;
+use std::fs::{File, Files, OpenOptions};
+use std::io;
+use std::io::ErrorKind;
+use std::os::unix::fs::{FileExt, OpenOptionsExt};
+
+/// How an open file stands to what the medium keeps.
+#[derive(Clone, Copy, Debug, PartialEq, Eq)]
+enum Kept {
+    /// Nothing is known: an earlier program may have left it unsynced.
+    Unknown,
+    /// It was written or cut since its last sync.
+    Changed,
+    /// It was synced, and has not changed.
+    Synced,
+}
+
+/// A file that stays open from its first use on, so that the descriptor that wrote is the one that is synced.
+#[derive(Drop)]
+struct Opened {
+    file: File,
+    kept: Kept,
+}
+
+/// One of the files that are kept open.
+#[derive(Drop)]
+pub(crate) struct Slot {
+    opened: Option<Opened>,
+    window: Window,
+    /// Whether the folder is known to name the file, or to name none, also after a loss of power.
+    is_named: bool,
+    /// Whether readers wait while it is changed.
+    is_shared: bool,
+}
+
+impl Slot {
+    pub fn new(alloc: Global, is_shared: bool) -> Result<Slot, NoMemory> {
+        Ok(Slot {
+            opened: None,
+            window: Window::new(alloc)?,
+            is_named: false,
+            is_shared,
+        })
+    }
+
+    /// Closes the file, which is to have nothing unsynced.
+    pub fn close(&mut self) {
+        self.opened = None;
+        self.window.forget();
+        self.is_named = false;
+    }
+
+    pub fn is_changed(&self) -> bool {
+        match &self.opened {
+            Some(opened) => opened.kept == Kept::Changed,
+            None => false,
+        }
+    }
+
+    /// Whether the folder still has to be synced for this file.
+    pub fn is_named(&self) -> bool {
+        self.is_named
+    }
+
+    /// The folder was synced.
+    pub fn set_named(&mut self) {
+        self.is_named = true;
+    }
+
+    /// Opens the file where it is there and not open yet.
+    pub fn open<R: Files<File = File>>(
+        &mut self,
+        files: &R,
+        access: Access,
+        paths: &mut Paths<'_>,
+        name: &str,
+    ) -> io::Result<()> {
+        if self.opened.is_some() {
+            return Ok(());
+        }
+        let path = paths.plain_file(files, name)?;
+        match options(access).open(files, path) {
+            Ok(file) => {
+                self.keep(file);
+                Ok(())
+            }
+            Err(error) if error.kind() == ErrorKind::NotFound => Ok(()),
+            Err(error) => Err(error),
+        }
+    }
+
+    /// Opens the file, and makes it with its folders where it is not there.
+    pub fn make<R: Files<File = File>>(
+        &mut self,
+        files: &R,
+        access: Access,
+        paths: &mut Paths<'_>,
+        name: &str,
+    ) -> io::Result<()> {
+        self.open(files, access, paths, name)?;
+        if self.opened.is_some() {
+            return Ok(());
+        }
+        paths.make_folders(files, name)?;
+        let path = paths.plain_file(files, name)?;
+        let file = options(access).create_new(true).open(files, path)?;
+        self.keep(file);
+        self.is_named = false;
+        Ok(())
+    }
+
+    fn keep(&mut self, file: File) {
+        self.opened = Some(Opened {
+            file,
+            kept: Kept::Unknown,
+        });
+        self.window.forget();
+    }
+
+    /// How many bytes the file has. One that is not there has none.
+    pub fn length(&self) -> io::Result<u64> {
+        match &self.opened {
+            Some(opened) => Ok(opened.file.metadata()?.len()),
+            None => Ok(0),
+        }
+    }
+
+    /// Reads as many bytes as there are from that place on, up to the slice.
+    pub fn read(&mut self, access: Access, at: u64, into: &mut [u8]) -> io::Result<usize>
+        ensures { IfOk result (λ n. n ≤ length into.old) }
+    {
+        let Some(opened) = &self.opened else {
+            return Ok(0);
+        };
+        if self.is_shared && access == Access::Read && !self.window.has(at, into.len()) {
+            return read_shared(&mut self.window, &opened.file, at, into);
+        }
+        self.window.read(&opened.file, at, into)
+    }
+
+    /// Writes all of it at that place.
+    pub fn write(&mut self, at: u64, bytes: &[u8]) -> io::Result<()> {
+        self.window.forget();
+        self.change()?;
+        match &self.opened {
+            Some(opened) => opened.file.write_all_at(bytes, at),
+            None => Err(io::Error::from(ErrorKind::NotFound)),
+        }
+    }
+
+    /// Keeps so many bytes of the file.
+    pub fn cut(&mut self, len: u64) -> io::Result<()> {
+        if self.opened.is_none() && len == 0 {
+            return Ok(());
+        }
+        self.window.forget();
+        self.change()?;
+        match &self.opened {
+            Some(opened) => opened.file.set_len(len),
+            None => Err(io::Error::from(ErrorKind::NotFound)),
+        }
+    }
+
+    /// The file changes from now on until its next sync: readers wait.
+    fn change(&mut self) -> io::Result<()> {
+        let Some(opened) = &mut self.opened else {
+            return Ok(());
+        };
+        if self.is_shared && opened.kept != Kept::Changed {
+            opened.file.lock()?;
+        }
+        opened.kept = Kept::Changed;
+        Ok(())
+    }
+
+    /// Makes the bytes stable where they may not be. Readers go on.
+    pub fn sync(&mut self) -> io::Result<()> {
+        let Some(opened) = &mut self.opened else {
+            return Ok(());
+        };
+        if opened.kept == Kept::Synced {
+            return Ok(());
+        }
+        opened.file.sync_data()?;
+        if self.is_shared && opened.kept == Kept::Changed {
+            opened.file.unlock()?;
+        }
+        opened.kept = Kept::Synced;
+        Ok(())
+    }
+}
+
+fn options(access: Access) -> OpenOptions {
+    let mut options = OpenOptions::new();
+    options
+        .read(true)
+        .write(access == Access::Write)
+        .mode(FILE_MODE);
+    options
+}
+
+/// Reads while no writer is between a write and its sync.
+fn read_shared(window: &mut Window, file: &File, at: u64, into: &mut [u8]) -> io::Result<usize>
+    ensures { IfOk result (λ n. n ≤ length into.old) }
+{
+    file.lock_shared()?;
+    let count = window.read(file, at, into);
+    file.unlock()?;
+    count
+}

@@ -1,0 +1,239 @@
+ghost use Rattle.std.specs.Prelude.{◌≤◌, length, IfOk};
+
+use crate::access::Access;
+use crate::listing::list_files;
+use crate::paths::{LONGEST_NAME, Paths, folder_of, is_within, sync_folder};
+use crate::slot::Slot;
+use crate::streams::HeldStreams;
+use nuc_base::{FileName, List, NoMemory};
+use std::fs::{File, Files, OpenOptions};
+use std::io::ErrorKind;
+use std::os::unix::fs::OpenOptionsExt;
+use std::{fs, io};
+
+/// The two files of the journal, which stay open from their first use on.
+const FIRST_JOURNAL: &str = "journal";
+
+const SECOND_JOURNAL: &str = "journal.b";
+
+/// The file on which a program that may write holds a lock, to its end.
+const LOCK: &str = "lock";
+
+/// What the artifacts stand below.
+const ARTIFACTS: &str = "packages/artifacts";
+
+/// Files are their owner's alone.
+pub const FILE_MODE: u32 = 0o600;
+
+/// The files below a folder.
+#[derive(Drop)]
+pub struct Store<'a, R: Files<File = File>> {
+    files: &'a R,
+    access: Access,
+    paths: Paths<'a>,
+    streams: HeldStreams,
+    lock: Option<File>,
+    journal: Slot,
+    second: Slot,
+    other: Slot,
+    /// The name of the file that `other` is.
+    named: String,
+    /// The folder whose whole way up to the root was synced last.
+    linked: String,
+    begun: bool,
+    failed: bool,
+}
+
+impl<'a, R: Files<File = File> + AllocGlobal> Store<'a, R> {
+    /// Takes all memory that later calls need, but for that of a listing.
+    pub fn new(files: &'a R, root: &'a str, access: Access) -> Result<Self, NoMemory> {
+        let alloc = files.alloc();
+        Ok(Store {
+            files,
+            access,
+            paths: Paths::new(alloc, root)?,
+            streams: HeldStreams::new(alloc)?,
+            lock: None,
+            journal: Slot::new(alloc, true)?,
+            second: Slot::new(alloc, true)?,
+            other: Slot::new(alloc, false)?,
+            named: String::with_capacity(alloc, LONGEST_NAME)?,
+            linked: String::with_capacity(alloc, LONGEST_NAME)?,
+            begun: false,
+            failed: false,
+        })
+    }
+
+    /// Before the first call: holds the free streams, and takes the lock of a program that may write.
+    fn begin(&mut self) -> io::Result<()> {
+        if self.failed {
+            return Err(io::Error::from(ErrorKind::Other));
+        }
+        if self.begun {
+            return Ok(());
+        }
+        self.streams.hold(self.files)?;
+        if self.access == Access::Write {
+            self.lock = Some(take_lock(self.files, &mut self.paths)?);
+        }
+        self.begun = true;
+        Ok(())
+    }
+
+    fn slot(&mut self, file: &str) -> &mut Slot {
+        if file == FIRST_JOURNAL {
+            &mut self.journal
+        } else if file == SECOND_JOURNAL {
+            &mut self.second
+        } else {
+            &mut self.other
+        }
+    }
+
+    /// Makes `other` the slot of this file, where it is none of the journal's. What it held before is made stable first.
+    fn turn_to(&mut self, file: &str) -> io::Result<()> {
+        self.begin()?;
+        let is_journal = file == FIRST_JOURNAL || file == SECOND_JOURNAL;
+        if is_journal || self.named.as_str() == file {
+            return Ok(());
+        }
+        self.settle_other()?;
+        self.other.close();
+        self.named.clear();
+        self.named.push_str(file)?;
+        Ok(())
+    }
+
+    /// Makes stable what `other` holds. After a failure nothing is answered any more.
+    fn settle_other(&mut self) -> io::Result<()> {
+        if !self.other.is_changed() {
+            return Ok(());
+        }
+        self.failed = true;
+        self.other.sync()?;
+        self.failed = false;
+        Ok(())
+    }
+
+    /// Opens the file where it is there.
+    fn open(&mut self, file: &str) -> io::Result<()> {
+        self.turn_to(file)?;
+        let files = self.files;
+        let access = self.access;
+        if file == FIRST_JOURNAL {
+            self.journal.open(files, access, &mut self.paths, file)
+        } else if file == SECOND_JOURNAL {
+            self.second.open(files, access, &mut self.paths, file)
+        } else {
+            self.other.open(files, access, &mut self.paths, file)
+        }
+    }
+
+    /// Opens the file, and makes it where it is not there.
+    fn make(&mut self, file: &str) -> io::Result<()> {
+        self.turn_to(file)?;
+        let files = self.files;
+        let access = self.access;
+        if file == FIRST_JOURNAL {
+            self.journal.make(files, access, &mut self.paths, file)
+        } else if file == SECOND_JOURNAL {
+            self.second.make(files, access, &mut self.paths, file)
+        } else {
+            self.other.make(files, access, &mut self.paths, file)
+        }
+    }
+
+    pub fn length(&mut self, file: &str) -> io::Result<u64> {
+        self.open(file)?;
+        self.slot(file).length()
+    }
+
+    pub fn read(&mut self, file: &str, at: u64, into: &mut [u8]) -> io::Result<usize>
+        ensures { IfOk result (λ n. n ≤ length into.old) }
+    {
+        self.open(file)?;
+        let access = self.access;
+        self.slot(file).read(access, at, into)
+    }
+
+    pub fn write_at(&mut self, file: &str, at: u64, bytes: &[u8]) -> io::Result<()> {
+        self.make(file)?;
+        self.slot(file).write(at, bytes)
+    }
+
+    pub fn cut(&mut self, file: &str, len: u64) -> io::Result<()> {
+        self.open(file)?;
+        self.slot(file).cut(len)
+    }
+
+    /// Makes the file stable, and that its folder names it, or names none. Nothing is synced that is known to be stable.
+    pub fn sync(&mut self, file: &str) -> io::Result<()> {
+        self.open(file)?;
+        self.failed = true;
+        self.slot(file).sync()?;
+        if !self.slot(file).is_named() {
+            self.sync_folders(file)?;
+            self.slot(file).set_named();
+        }
+        self.failed = false;
+        Ok(())
+    }
+
+    /// Syncs the file's folder, and each folder above it up to the first that is known to be named by its own.
+    fn sync_folders(&mut self, file: &str) -> io::Result<()> {
+        let folder = folder_of(file);
+        let is_there = sync_folder(self.files, self.paths.below(folder)?)?;
+        self.sync_above(folder)?;
+        if is_there && !folder.is_empty() {
+            self.linked.clear();
+            self.linked.push_str(folder)?;
+        }
+        Ok(())
+    }
+
+    /// Syncs what stands above a folder, up to the first that is known to be named by its own.
+    fn sync_above(&mut self, folder: &str) -> io::Result<()> {
+        let mut name = folder;
+        for _ in folder.split('/') {
+            if name.is_empty() || is_within(name, self.linked.as_str()) {
+                break;
+            }
+            name = folder_of(name);
+            sync_folder(self.files, self.paths.below(name)?)?;
+        }
+        Ok(())
+    }
+
+    /// Removes the file where it is there.
+    pub fn remove(&mut self, file: &str) -> io::Result<()> {
+        self.turn_to(file)?;
+        self.slot(file).close();
+        let path = self.paths.plain_file(self.files, file)?;
+        match fs::remove_file(self.files, path) {
+            Ok(()) => Ok(()),
+            Err(error) if error.kind() == ErrorKind::NotFound => Ok(()),
+            Err(error) => Err(error),
+        }
+    }
+}
+
+impl<'a, R: Files<File = File> + AllocGlobal + Clone + Drop> Store<'a, R> {
+    /// The names of all artifacts that are not empty, rising by their bytes.
+    pub fn list(&mut self) -> io::Result<List<FileName>> {
+        self.begin()?;
+        list_files(self.files, &mut self.paths, ARTIFACTS)
+    }
+}
+
+/// Makes the lock's file where it is missing, and holds a lock on it. It fails where another program holds one.
+fn take_lock<R: Files<File = File>>(files: &R, paths: &mut Paths<'_>) -> io::Result<File> {
+    let path = paths.plain_file(files, LOCK)?;
+    let lock = OpenOptions::new()
+        .read(true)
+        .write(true)
+        .create(true)
+        .mode(FILE_MODE)
+        .open(files, path)?;
+    lock.try_lock()?;
+    Ok(lock)
+}

@@ -1,0 +1,216 @@
+use crate::{Access, FileDisk, FolderInbox, FolderLibrary, ShellRunner};
+use disk_model::{Disk, DiskFault};
+use edges::{Inbox, Incoming};
+use library_core::{Library, LibraryFault, Piece};
+use npm_ranges::Version;
+use nuc_base::{Exit, Label, List, Name, NoMemory, Text};
+use std::alloc::Global;
+use std::os::unix::fs::symlink;
+use std::test::Fail;
+use std::{env, fs};
+use step_runner::{Command, Runner, Waited};
+
+const FILE: &str = "packages/artifacts/A/1.0.0/f";
+
+/// Whether it lists that file alone.
+fn lists<D: Disk>(alloc: Global, disk: &mut D, file: &str) -> bool {
+    match disk.list(alloc) {
+        Ok(names) => match names.as_slice() {
+            [name] => name.as_str() == file,
+            _ => false,
+        },
+        Err(_) => false,
+    }
+}
+
+/// Whether the file has these bytes from that place on.
+fn reads<D: Disk>(disk: &mut D, file: &str, at: u64, bytes: &[u8]) -> Result<bool, DiskFault> {
+    let mut seen = [0; 8];
+    let count = disk.read(file, at, &mut seen)?;
+    Ok(seen.get(..count) == Some(bytes))
+}
+
+/// Whether two files are kept, cut, listed and removed as they should.
+fn stores(alloc: Global, disk: &mut FileDisk<'_, HostRuntime>) -> Result<bool, DiskFault> {
+    disk.write_at("journal", 0, b"abcd")?;
+    disk.cut("journal", 3)?;
+    disk.sync("journal")?;
+    disk.write_at(FILE, 0, b"xyz")?;
+    disk.sync(FILE)?;
+    let is_kept = reads(disk, "journal", 1, b"bc")? && disk.length(FILE)? == 3;
+    let is_listed = lists(alloc, disk, FILE);
+    disk.remove(FILE)?;
+    disk.sync(FILE)?;
+    Ok(is_kept && is_listed && disk.length(FILE)? == 0)
+}
+
+/// Whether a second writer is refused, a reader reads, and a link is not followed.
+fn is_guarded(rt: &HostRuntime, root: &str) -> Result<bool, Fail> {
+    let mut second = FileDisk::new(rt, root, Access::Write)?;
+    let mut reader = FileDisk::new(rt, root, Access::Read)?;
+    Ok(
+        second.length("journal").is_err()
+            && reads(&mut reader, "journal", 0, b"abc")?
+            && reader.length("linked").is_err(),
+    )
+}
+
+#[test]
+fn a_disk_keeps_what_is_written(rt: HostRuntime) -> Result<(), Fail> {
+    let root = "disk-of-a-test";
+    fs::create_dir_all(&rt, root)?;
+    symlink(&rt, "journal", "disk-of-a-test/linked")?;
+    let mut disk = FileDisk::new(&rt, root, Access::Write)?;
+    let is_stored = stores(rt.alloc(), &mut disk)?;
+    let is_guarded = is_guarded(&rt, root)?;
+    fs::remove_dir_all(&rt, root)?;
+    assert!(rt; is_stored && is_guarded);
+    Ok(())
+}
+
+fn text(alloc: Global, text: &str) -> Result<Text, NoMemory> {
+    Text::from_str(alloc, text)
+}
+
+/// A command in that folder, with a variable.
+fn command(alloc: Global, folder: &str, script: &str) -> Result<Command, NoMemory> {
+    let mut env = List::empty(alloc);
+    env.push((text(alloc, "END")?, text(alloc, "3")?))?;
+    Ok(Command {
+        script: text(alloc, script)?,
+        env,
+        folder: text(alloc, folder)?,
+    })
+}
+
+/// What a child with this script ends with, where that is within ten seconds.
+fn ended<R: Runner>(
+    alloc: Global,
+    runner: &mut R,
+    folder: &str,
+    script: &str,
+) -> Result<Option<Exit>, NoMemory> {
+    let command = command(alloc, folder, script)?;
+    let Ok(child) = runner.start(&command) else {
+        return Ok(None);
+    };
+    match runner.wait(10_000) {
+        Waited::Ended(which, exit) if which == child => Ok(Some(exit)),
+        _ => Ok(None),
+    }
+}
+
+/// Whether a child is ended before its time, and no end of it is told.
+fn is_killed<R: Runner>(alloc: Global, runner: &mut R, folder: &str) -> Result<bool, NoMemory> {
+    let command = command(alloc, folder, "exec sleep 30")?;
+    let Ok(child) = runner.start(&command) else {
+        return Ok(false);
+    };
+    let begun = runner.moment();
+    runner.kill(child);
+    Ok(runner.wait(50) == Waited::Elapsed && runner.moment().saturating_sub(begun) < 10_000)
+}
+
+#[test]
+fn children_run_in_their_folder_and_end(rt: HostRuntime) -> Result<(), Fail> {
+    let alloc = rt.alloc();
+    let root = "runner-of-a-test";
+    let mut runner = ShellRunner::new(&rt);
+    let code = ended(
+        alloc,
+        &mut runner,
+        "runner-of-a-test/a",
+        "echo x > made; exit $END",
+    )?;
+    let is_made = runner.exists(&text(alloc, "runner-of-a-test/a/made")?);
+    let signal = ended(alloc, &mut runner, root, "kill -9 $$")?;
+    let is_killed = is_killed(alloc, &mut runner, root)?;
+    fs::remove_dir_all(&rt, root)?;
+    assert!(rt;
+        is_made && is_killed && code == Some(Exit::Code(3)) && signal == Some(Exit::Signal)
+    );
+    let is_found = runner.on_path(&text(alloc, "sh")?) == env::var(&rt, "PATH").is_ok();
+    assert!(rt; is_found && !runner.on_path(&text(alloc, "no-such")?));
+    Ok(())
+}
+
+/// Whether two recipes are given in the order of their names.
+fn gives_recipes(
+    alloc: Global,
+    library: &mut FolderLibrary<'_, HostRuntime>,
+) -> Result<bool, LibraryFault> {
+    let count = library.count(alloc)?;
+    let first = library.recipe(alloc, 0)?;
+    let second = library.recipe(alloc, 1)?;
+    Ok(count == 2 && first.as_slice() == b"{}".as_slice() && second.as_slice() == b"[]".as_slice())
+}
+
+/// What is given of a file of `A` in version 1.0.0, from its second byte on.
+fn piece<L: Library>(
+    alloc: Global,
+    library: &mut L,
+    file: &str,
+    into: &mut [u8],
+) -> Result<Option<Piece>, Fail> {
+    let name = Name::read(alloc, b"A")?;
+    let version = Version::read(alloc, b"1.0.0")?;
+    let file = Label::read(alloc, file.as_bytes())?;
+    Ok(
+        library
+            .artifact(alloc, &name, &version, &file, 1, into)
+            .ok(),
+    )
+}
+
+#[test]
+fn a_library_gives_its_files(rt: HostRuntime) -> Result<(), Fail> {
+    let alloc = rt.alloc();
+    let root = "library-of-a-test";
+    fs::create_dir_all(&rt, "library-of-a-test/library/recipes/folder.json")?;
+    fs::create_dir_all(&rt, "library-of-a-test/library/artifacts/A/1.0.0")?;
+    fs::write(&rt, "library-of-a-test/library/recipes/b.json", "[]")?;
+    fs::write(&rt, "library-of-a-test/library/recipes/a.json", "{}")?;
+    fs::write(&rt, "library-of-a-test/library/recipes/a.json.old", "x")?;
+    fs::write(&rt, "library-of-a-test/library/artifacts/A/1.0.0/f", "xyz")?;
+    let mut library = FolderLibrary::new(&rt, root)?;
+    let mut into = [b'#'; 4];
+    let are_given = gives_recipes(alloc, &mut library) == Ok(true);
+    let is_missing = piece(alloc, &mut library, "g", &mut into)? == Some(Piece::Missing);
+    let is_given = piece(alloc, &mut library, "f", &mut into)? == Some(Piece::Bytes(2));
+    fs::remove_dir_all(&rt, root)?;
+    assert!(rt; are_given && is_missing && is_given && into == *b"yz##");
+    Ok(())
+}
+
+/// Whether this document comes next, also when it is asked for twice, and is done then.
+fn takes<I: Inbox>(alloc: Global, inbox: &mut I, bytes: &[u8]) -> bool {
+    let is_first = match inbox.next(alloc) {
+        Ok(Incoming::Document(document)) => document.as_slice() == bytes,
+        _ => false,
+    };
+    match inbox.next(alloc) {
+        Ok(Incoming::Document(document)) => is_first
+            && document.as_slice() == bytes
+            && inbox.done().is_ok(),
+        _ => false,
+    }
+}
+
+#[test]
+fn an_inbox_gives_what_is_not_done(rt: HostRuntime) -> Result<(), Fail> {
+    let alloc = rt.alloc();
+    let root = "inbox-of-a-test";
+    let mut inbox = FolderInbox::new(&rt, root)?;
+    let is_absent = matches!(inbox.next(alloc), Ok(Incoming::Nothing));
+    fs::create_dir_all(&rt, "inbox-of-a-test/inbox")?;
+    fs::write(&rt, "inbox-of-a-test/inbox/b.json", "second")?;
+    fs::write(&rt, "inbox-of-a-test/inbox/a.json", "first")?;
+    fs::write(&rt, "inbox-of-a-test/inbox/a.txt", "x")?;
+    let are_taken = takes(alloc, &mut inbox, b"first") && takes(alloc, &mut inbox, b"second");
+    let is_empty = matches!(inbox.next(alloc), Ok(Incoming::Nothing));
+    fs::write(&rt, "inbox-of-a-test/inbox/closed", "")?;
+    let is_closed = matches!(inbox.next(alloc), Ok(Incoming::Closed));
+    fs::remove_dir_all(&rt, root)?;
+    assert!(rt; is_absent && are_taken && is_empty && is_closed);
+    Ok(())
+}
