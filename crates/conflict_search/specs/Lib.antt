@@ -1,0 +1,6 @@
+pub mod Conflicts
+pub mod Numbers
+pub mod Claims
+pub mod Boards
+pub mod Edges
+pub mod Stands
