@@ -24,3 +24,6 @@ pub mod Ending
 pub mod FirstPlaces
 pub mod Marked
 pub mod Sparing
+pub mod Stocks
+pub mod Fronting
+pub mod Restoring
