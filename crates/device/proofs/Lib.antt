@@ -27,3 +27,4 @@ pub mod Sparing
 pub mod Stocks
 pub mod Fronting
 pub mod Restoring
+pub mod Telling

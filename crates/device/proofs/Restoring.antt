@@ -1,5 +1,5 @@
 -- The records of a front, as they lie in memory, are taken one after another.
-use Rattle.std.proofs.Common.{◌≡◌, List, [], ◌∷◌, ◌++◌, map, Result, Ok, Err, refl, sym, ap, subst, ◌∙◌, append_assoc}
+use Rattle.std.proofs.Common.{◌≡◌, List, [], ◌∷◌, ◌++◌, length, map, Result, Ok, Err, arith, refl, sym, ap, subst, ◌∙◌, append_assoc}
 use Rattle.std.specs.List.{AllByRecursion}
 use Rattle.std.proofs.lemmas.List.{append-nil, map-append}
 use Rattle.records.specs.declared.record.Record as code
@@ -61,3 +61,7 @@ pub finished : (front : List code.Record) (b : Building) (result : Result code_d
 finished front b (Ok d) taken are whole = subst (IsFrontOf (map record_view front)) (sym whole.1) (whole_front (map record_view front) b are whole.0 (all_built front b taken))
 finished front b (Err fault.NotSound) taken are bad = λ d of. bad (is_whole (map record_view front) b d (all_built front b taken) of)
 finished front b (Err fault.NoMemory) taken are bad = tt
+
+pub nothing_left : {A : Type 0} (xs : List A) → length xs ≡ 0 → xs ≡ []
+nothing_left [] none = refl
+nothing_left (x ∷ xs) none = absurd (omega (arith, none))

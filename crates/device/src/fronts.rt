@@ -1,9 +1,9 @@
 // The front of a device: the records that begin a journal anew with it.
-ghost use Rattle.std.specs.Prelude.{◌≡◌, ◌<◌, ℕ, Some, length, map, slice_get, IfOk};
+ghost use Rattle.std.specs.Prelude.{◌≡◌, ◌<◌, ◌+◌, ◌++◌, ℕ, Some, length, map, slice_get, IfOk};
 ghost use Rattle.std.specs.List.{AllByRecursion};
-ghost use Rattle.records.specs.Stored.{record_view};
+ghost use Rattle.records.specs.Stored.{item_view, record_view, Kept};
 ghost use Rattle.device.specs.Devices.{device_view, IsRegularDevice};
-ghost use Rattle.device.specs.Fronts.{Front, HasFront, FrontsAreOne, IsRegularEntry, Restored, SpellsAt, stock_of};
+ghost use Rattle.device.specs.Fronts.{Front, HasFront, FrontsAreOne, IsRegularEntry, Restored, SpellsAt, ended, stock_of};
 ghost use Rattle.device.specs.Sound.{IsSound};
 
 use crate::device::Device;
@@ -42,21 +42,35 @@ impl Device {
         ))
     }
 
-    /// The one that stands at this place behind the first.
-    fn stocked(&self, alloc: Global, at: usize) -> Result<Record, NoMemory>
-        requires { at < length (stock_of (device_view self.now)) }
+    /// The record of the closed deployment at this place.
+    fn ended_at(&self, alloc: Global, at: usize) -> Result<Record, NoMemory>
+        requires { at < length self.now.closed }
+        ensures { IfOk result (λ r. slice_get (map ended self.now.closed) at ≡ Some (record_view r)) }
+    {
+        let (id, outcome) = &self.closed.as_slice()[at];
+        Ok(Record::Ended(id.copy(alloc)?, *outcome))
+    }
+
+    /// The record at this place of those of the items and of the closed deployments.
+    fn kept_at(&self, alloc: Global, at: usize) -> Result<Record, NoMemory>
+        requires { at < length self.now.set + length self.now.closed }
+        ensures { IfOk result (λ r. slice_get (map Kept (map item_view self.now.set) ++ map ended self.now.closed) at ≡ Some (record_view r)) }
+    {
+        match self.set.as_slice().get(at) {
+            Some(item) => Ok(Record::Kept(item.copy(alloc)?)),
+            None => self.ended_at(alloc, at - self.set.len()),
+        }
+    }
+
+    /// The record at this place behind the first.
+    fn stocked_at(&self, alloc: Global, at: usize) -> Result<Record, NoMemory>
+        requires { at < length self.now.groups.list + (length self.now.set + length self.now.closed) }
         ensures { IfOk result (λ r. slice_get (stock_of (device_view self.now)) at ≡ Some (record_view r)) }
     {
-        if let Some(group) = self.groups.nth(at) {
-            return Ok(Record::Grouped(group.copy(alloc)?));
+        match self.groups.nth(at) {
+            Some(group) => Ok(Record::Grouped(group.copy(alloc)?)),
+            None => self.kept_at(alloc, at - self.groups.len()),
         }
-        let at = at - self.groups.len();
-        if let Some(item) = self.set.as_slice().get(at) {
-            return Ok(Record::Kept(item.copy(alloc)?));
-        }
-        let at = at - self.set.len();
-        let ended = &self.closed.as_slice()[at];
-        Ok(Record::Ended(ended.0.copy(alloc)?, ended.1))
     }
 
     fn front_record(&self, alloc: Global, number: u64, at: u32) -> Result<Record, NoMemory>
@@ -66,7 +80,7 @@ impl Device {
     {
         match &self.origin {
             Some(origin) if at == 0 => self.turned(alloc, number, origin),
-            _ => self.stocked(alloc, at as usize - 1),
+            _ => self.stocked_at(alloc, at as usize - 1),
         }
     }
 
