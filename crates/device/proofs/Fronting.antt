@@ -10,15 +10,15 @@ use Rattle.std.proofs.lemmas.List.{append-nil, length-append, map-append}
 use Rattle.std.proofs.lemmas.List.Elements.{All-append, All-from_recursion}
 use Rattle.nuc_base.specs.declared.kinds.Outcome.{Outcome}
 use Rattle.records.specs.declared.record.Origin.{Origin}
-use Rattle.records.specs.Stored.{Item, Record, Genesis, Accepted, BootBegun, BootEnded, Activating, StepFailed, Failing, FailingBack, Closed, Turned, Grouped, Kept, Ended}
+use Rattle.records.specs.Stored.{Item, Record, Turned, Grouped, Kept, Ended}
 use Rattle.tree_core.specs.Regular.{IsRegular}
-use Rattle.device.specs.Limits.{most_root, most_groups, most_closed, most_elements}
+use Rattle.device.specs.Limits.{most_root, most_groups, most_elements}
 use Rattle.device.specs.Grouped.{has_group, put_group}
-use Rattle.device.specs.Devices.{Device, Group, Pending, no_device}
+use Rattle.device.specs.Devices.{Device, Group, Pending}
 use Rattle.device.specs.Regularity.{IsRegularRecord}
-use Rattle.device.specs.Plans.{AreItems, AreRequirements, AreRegularItems}
+use Rattle.device.specs.Plans.{AreItems, AreRequirements}
 use Rattle.device.specs.Sound.{IsSound, AreGroups, AreClosed, AreItemsFor, arns, ids}
-use Rattle.device.specs.Fronts.{ended, stock_of, front_of, front_by, Front, HasFront, IsFrontOf, IsNoFront, FrontsAreOne}
+use Rattle.device.specs.Fronts.{ended, stock_of, front_by, HasFront, IsFrontOf, IsNoFront, FrontsAreOne}
 use Rattle.device.specs.Rebuilt.{Building, device_of, Begins, BeginsAs, Comes, with_next, IsWhole, IsOrderly, IsBuilt}
 use Rattle.device.proofs.SoundLists.{not_same, all_more, distinct_more, closed_more}
 use Rattle.device.proofs.Sounding.{none_sound}
@@ -161,7 +161,7 @@ next_built records b (Grouped g) built comes =
           (Turned built.number b.origin (length b.groups + b.groups_to_come) (length b.set + b.items_to_come) (length b.closed + b.closed_to_come))
           (stock_of (device_of b)) (stock_of (device_of (with_next b (Grouped g)))) built.told
           (at_end Grouped b.groups g (map Kept b.set ++ map ended b.closed) (nothing_later b.set b.closed no_items no_closed))
-      ∙ ap (λ (n : ℕ). Turned built.number b.origin n (length b.set + b.items_to_come) (length b.closed + b.closed_to_come) ∷ stock_of (device_of (with_next b (Grouped g)))) count;
+          ∙ ap (λ (n : ℕ). Turned built.number b.origin n (length b.set + b.items_to_come) (length b.closed + b.closed_to_come) ∷ stock_of (device_of (with_next b (Grouped g)))) count;
       items_later = λ (later : 0 < b.groups_to_come - 1). no_items;
       closed_later = λ (later : 0 < (b.groups_to_come - 1) + b.items_to_come). no_closed;
     }
@@ -178,7 +178,7 @@ next_built records b (Kept i) built comes =
           (stock_of (device_of b)) (stock_of (device_of (with_next b (Kept i)))) built.told
           (append_assoc (map Grouped b.groups) (map Kept b.set ++ map ended b.closed) (Kept i ∷ [])
           ∙ ap (λ (l : List Record). map Grouped b.groups ++ l) (at_end Kept b.set i (map ended b.closed) (ap (map ended) no_closed)))
-      ∙ ap (λ (n : ℕ). Turned built.number b.origin (length b.groups + b.groups_to_come) n (length b.closed + b.closed_to_come) ∷ stock_of (device_of (with_next b (Kept i)))) count;
+          ∙ ap (λ (n : ℕ). Turned built.number b.origin (length b.groups + b.groups_to_come) n (length b.closed + b.closed_to_come) ∷ stock_of (device_of (with_next b (Kept i)))) count;
       items_later = λ (later : 0 < b.groups_to_come). absurd (omega (arith, later, none));
       closed_later = λ (later : 0 < b.groups_to_come + (b.items_to_come - 1)). no_closed;
     }
@@ -195,8 +195,8 @@ next_built records b (Ended id o) built comes =
           (stock_of (device_of b)) (stock_of (device_of (with_next b (Ended id o)))) built.told
           (append_assoc (map Grouped b.groups) (map Kept b.set ++ map ended b.closed) (Ended id o ∷ [])
           ∙ ap (λ (l : List Record). map Grouped b.groups ++ l)
-              (append_assoc (map Kept b.set) (map ended b.closed) (Ended id o ∷ []) ∙ ap (λ (l : List Record). map Kept b.set ++ l) (sym (map-append ended b.closed ((id, o) ∷ [])))))
-      ∙ ap (λ (n : ℕ). Turned built.number b.origin (length b.groups + b.groups_to_come) (length b.set + b.items_to_come) n ∷ stock_of (device_of (with_next b (Ended id o)))) count;
+          (append_assoc (map Kept b.set) (map ended b.closed) (Ended id o ∷ []) ∙ ap (λ (l : List Record). map Kept b.set ++ l) (sym (map-append ended b.closed ((id, o) ∷ [])))))
+          ∙ ap (λ (n : ℕ). Turned built.number b.origin (length b.groups + b.groups_to_come) (length b.set + b.items_to_come) n ∷ stock_of (device_of (with_next b (Ended id o)))) count;
       items_later = λ (later : 0 < b.groups_to_come). absurd (omega (arith, later, none));
       closed_later = λ (later : 0 < b.groups_to_come + b.items_to_come). absurd (omega (arith, later, none, nothing));
     }
@@ -223,7 +223,7 @@ agrees records rest b d built front = by d.origin refl front.has.origin front.is
     by None is some same = absurd cc
     by (Some o) is some same =
         let whole : Turned built.number b.origin (length b.groups + b.groups_to_come) (length b.set + b.items_to_come) (length b.closed + b.closed_to_come) ∷ (stock_of (device_of b) ++ rest)
-            ≡ Turned front.number o (length d.groups) (length d.set) (length d.closed) ∷ stock_of d = sym (ap (λ (l : List Record). l ++ rest) built.told) ∙ same in
+        ≡ Turned front.number o (length d.groups) (length d.set) (length d.closed) ∷ stock_of d = sym (ap (λ (l : List Record). l ++ rest) built.told) ∙ same in
         let origin : o ≡ b.origin = cc in
         let stock : stock_of d ≡ stock_of (device_of b) ++ rest = cc in
         record {
@@ -233,7 +233,7 @@ agrees records rest b d built front = by d.origin refl front.has.origin front.is
           items = cc;
           closed = cc;
           stock = stock ∙ append_assoc (map Grouped b.groups) (map Kept b.set ++ map ended b.closed) rest
-          ∙ ap (λ (l : List Record). map Grouped b.groups ++ l) (append_assoc (map Kept b.set) (map ended b.closed) rest);
+              ∙ ap (λ (l : List Record). map Grouped b.groups ++ l) (append_assoc (map Kept b.set) (map ended b.closed) rest);
         }
 
 none_or_some : (n : ℕ) → (n ≡ 0) ⊎ (0 < n)
@@ -282,10 +282,10 @@ pub comes : (records rest : List Record) (r : Record) (b : Building) (d : Device
 comes records rest r b d built front =
     elim (none_or_some b.groups_to_come) [
       | inr lt ↦ (
-        let next = next_group b d (r ∷ rest) a lt (built.items_later lt) (built.closed_later (omega (arith, lt))) in
-        let is : r ≡ Grouped next.element = let e = next.rest in cc in
-        let new = new_group d.groups b.groups next.element next.more next.split a.has.sound.groups in
-        subst (Comes b) (sym is) (lt, new.0, new.1))
+          let next = next_group b d (r ∷ rest) a lt (built.items_later lt) (built.closed_later (omega (arith, lt))) in
+          let is : r ≡ Grouped next.element = let e = next.rest in cc in
+          let new = new_group d.groups b.groups next.element next.more next.split a.has.sound.groups in
+          subst (Comes b) (sym is) (lt, new.0, new.1))
       | inl none ↦ behind_groups none (none_or_some b.items_to_come)
     ]
   where
@@ -373,9 +373,9 @@ whole_front records b are whole built =
       has = record { origin = refl; idle = refl; sound = whole_sound b are whole };
       number = built.number;
       is = built.told
-      ∙ ap (λ (n : ℕ). Turned built.number b.origin n (length b.set + b.items_to_come) (length b.closed + b.closed_to_come) ∷ stock_of (device_of b)) g
-      ∙ ap (λ (n : ℕ). Turned built.number b.origin (length b.groups) n (length b.closed + b.closed_to_come) ∷ stock_of (device_of b)) i
-      ∙ ap (λ (n : ℕ). Turned built.number b.origin (length b.groups) (length b.set) n ∷ stock_of (device_of b)) c;
+          ∙ ap (λ (n : ℕ). Turned built.number b.origin n (length b.set + b.items_to_come) (length b.closed + b.closed_to_come) ∷ stock_of (device_of b)) g
+          ∙ ap (λ (n : ℕ). Turned built.number b.origin (length b.groups) n (length b.closed + b.closed_to_come) ∷ stock_of (device_of b)) i
+          ∙ ap (λ (n : ℕ). Turned built.number b.origin (length b.groups) (length b.set) n ∷ stock_of (device_of b)) c;
     }
 
 -- ---- how a front begins

@@ -4,13 +4,12 @@ use Rattle.std.specs.List.{AllByRecursion}
 use Rattle.std.proofs.lemmas.List.{append-nil, map-append}
 use Rattle.records.specs.declared.record.Record as code
 use Rattle.records.specs.Stored.{Record, record_view}
-use Rattle.device.specs.Devices.{Device, device_view}
 use Rattle.device.specs.declared.device.Device as code_device
 use Rattle.device.specs.declared.fault.RestoreFault.{RestoreFault}
 use Rattle.device.specs.declared.fault.RestoreFault.TheVariants as fault
 use Rattle.device.specs.declared.rebuilding.Rebuilding as code_rebuilding
 use Rattle.device.specs.Fronts.{IsFrontOf, IsNoFront, IsRegularEntry, Restored}
-use Rattle.device.specs.Rebuilt.{Building, building_view, device_of, Begins, BeginsAs, Comes, with_next, IsWhole, IsOrderly, IsBuilt, Began, Came, Finished}
+use Rattle.device.specs.Rebuilt.{Building, building_view, Begins, Comes, with_next, IsOrderly, IsBuilt, Began, Came, Finished}
 use Rattle.device.proofs.Fronting.{begins_built, built_more, comes, is_whole, whole_front, front_begins}
 
 -- so far the first of these records were taken, and the others stand behind them
@@ -43,7 +42,7 @@ next_bad : (front rest : List code.Record) (r : code.Record) (b : Building) → 
 next_bad front rest r b taken bad d of =
     bad
     (comes (map record_view taken.done) (map record_view rest) (record_view r) b d taken.built
-      (subst (λ (l : List Record). IsFrontOf l d) (ap (map record_view) taken.split ∙ map-append record_view taken.done (r ∷ rest)) of))
+    (subst (λ (l : List Record). IsFrontOf l d) (ap (map record_view) taken.split ∙ map-append record_view taken.done (r ∷ rest)) of))
 
 -- all were taken
 all_built : (front : List code.Record) (b : Building) → Taken front [] b → IsBuilt (map record_view front) b

@@ -1,8 +1,8 @@
 -- The records of lists of elements, one list behind another.
-use Rattle.std.proofs.Common.{◌≡◌, ℕ, ◌<◌, List, [], ◌∷◌, ◌++◌, length, map, refl, sym, ap, subst, ◌∙◌, arith}
+use Rattle.std.proofs.Common.{◌≡◌, ℕ, ◌<◌, List, [], ◌∷◌, ◌++◌, length, map, refl, sym, ap, subst, arith}
 use Rattle.nuc_base.specs.declared.kinds.Outcome.{Outcome}
 use Rattle.records.specs.declared.record.Group.{Group}
-use Rattle.records.specs.Stored.{Item, Record, Grouped, Kept, Ended}
+use Rattle.records.specs.Stored.{Item, Record, Grouped, Kept}
 use Rattle.device.specs.Fronts.{ended}
 
 -- of two lists the longer one goes on with this element, whose record is the next
@@ -11,6 +11,9 @@ pub record Beyond {A : Type 0} (f : A → Record) (bs ds : List A) (zs ws : List
   pub more : List A
   pub split : ds ≡ bs ++ element ∷ more
   pub rest : ws ≡ f element ∷ (map f more ++ zs)
+
+with_head : {A : Type 0} (x y : A) (xs ys : List A) → x ≡ y → xs ≡ ys → x ∷ xs ≡ y ∷ ys
+with_head x y xs ys head tail = cc
 
 module _ {A : Type 0} (f : A → Record) (one : (x y : A) → f x ≡ f y → x ≡ y) where
   pub beyond : (bs ds : List A) (zs ws : List Record) → length bs < length ds → map f ds ++ zs ≡ map f bs ++ ws → Beyond f bs ds zs ws
@@ -24,7 +27,7 @@ module _ {A : Type 0} (f : A → Record) (one : (x y : A) → f x ≡ f y → x 
       record {
         element = rest.element;
         more = rest.more;
-        split = ap (λ (x : A). x ∷ ds) (one d b head) ∙ ap (λ (l : List A). b ∷ l) rest.split;
+        split = with_head d b ds (bs ++ rest.element ∷ rest.more) (one d b head) rest.split;
         rest = rest.rest;
       }
 
@@ -36,7 +39,7 @@ module _ {A : Type 0} (f : A → Record) (one : (x y : A) → f x ≡ f y → x 
       let head : f d ≡ f b = cc in
       let tail : map f ds ++ zs ≡ map f bs ++ ws = cc in
       let rest = alike bs ds zs ws (omega (arith, same)) tail in
-      (ap (λ (x : A). x ∷ ds) (one d b head) ∙ ap (λ (l : List A). b ∷ l) rest.0, rest.1)
+      (with_head d b ds bs (one d b head) rest.0, rest.1)
 
 pub one_group : (x y : Group) → Grouped x ≡ Grouped y → x ≡ y
 one_group x y same = cc

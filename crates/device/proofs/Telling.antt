@@ -1,5 +1,5 @@
 -- The records of a front by their places.
-use Rattle.std.proofs.Common.{◌≡◌, ℕ, zero, suc, ◌+◌, ◌-◌, ◌<◌, ◌≤◌, ◌^◌, List, [], ◌∷◌, ◌++◌, length, map, get_or, Option, Some, None, Result, Ok, Err, refl, sym, ap, subst, ◌∙◌, arith}
+use Rattle.std.proofs.Common.{◌≡◌, ℕ, zero, suc, ◌-◌, ◌≤◌, List, [], ◌∷◌, ◌++◌, length, map, Option, Some, None, Result, Ok, Err, sym, ap, subst, ◌∙◌, arith}
 use Rattle.std.specs.Prelude.{slice_get, IfOk}
 use Rattle.std.specs.List.{AllByRecursion}
 use Rattle.std.specs.Option.{IsSome, IfSome}
@@ -11,12 +11,12 @@ use Rattle.records.specs.declared.record.Group.{Group}
 use Rattle.records.specs.Layout.{Spelled, IsWritable}
 use Rattle.records.specs.Layout as layout
 use Rattle.records.specs.declared.record.Record as code
-use Rattle.records.specs.Stored.{Item, Record, Turned, Grouped, Kept, Ended, record_view}
+use Rattle.records.specs.Stored.{Item, Record, Grouped, Kept, record_view}
 use Rattle.tree_core.specs.Regular.{IsRegular}
 use Rattle.device.specs.Limits.{most_root}
 use Rattle.device.specs.Devices.{Device, IsRegularDevice}
-use Rattle.device.specs.Fronts.{ended, stock_of, front_of, front_by, Front, HasFront, SpellsAt}
-use Rattle.device.specs.Plans.{HasConfig, HasRecipe, IsHeldFor, AreItems, AreRequirements}
+use Rattle.device.specs.Fronts.{ended, front_by, Front, HasFront, SpellsAt}
+use Rattle.device.specs.Plans.{HasConfig, HasRecipe, IsHeldFor, AreRequirements}
 use Rattle.device.specs.Sound.{AreItemsFor}
 use Rattle.device.proofs.PlanLengths.{few_files, as_long}
 
@@ -97,7 +97,7 @@ all_writable number d has regular = by d.origin has.origin has.sound.root has.so
       (omega (arith, root), (tt, (tt, (tt, tt)))),
       all_front IsWritable (map Grouped d.groups) (map Kept d.set ++ map ended d.closed) (groups_writable d.groups has.sound.groups.requirements)
           (all_front IsWritable (map Kept d.set) (map ended d.closed)
-            (items_writable o.platform d.set items.recipes items.configs (recursion_from_All (λ (i : Item). IsRegular i.config) d.set regular.set)) (closed_writable d.closed)),
+          (items_writable o.platform d.set items.recipes items.configs (recursion_from_All (λ (i : Item). IsRegular i.config) d.set regular.set)) (closed_writable d.closed)),
     )
 
 pub writable_at : (number at : ℕ) (d : Device) (r : Record) → HasFront d → IsRegularDevice d → slice_get (Front number d) at ≡ Some r → IsWritable r

@@ -6,7 +6,7 @@ use Rattle.records.specs.declared.record.Origin.{Origin}
 use Rattle.records.specs.declared.record.Record as code_record
 use Rattle.records.specs.Stored.{Record, Turned, Grouped, Kept, Ended, record_view}
 use Rattle.records.specs.Layout.{Spelled}
-use Rattle.device.specs.Devices.{Device, device_view, IsRegularDevice}
+use Rattle.device.specs.Devices.{Device, device_view}
 use Rattle.device.specs.declared.device.Device as code
 use Rattle.device.specs.Regularity.{IsRegularRecord}
 use Rattle.device.specs.Sound.{IsSound}

@@ -23,12 +23,7 @@ impl Device {
     }
 
     /// The first record of the front.
-    fn turned(
-        &self,
-        alloc: Global,
-        number: u64,
-        origin: &Origin,
-    ) -> Result<Record, NoMemory>
+    fn turned(&self, alloc: Global, number: u64, origin: &Origin) -> Result<Record, NoMemory>
         requires has { HasFront (device_view self.now) }
         requires origin { self.now.origin ≡ Some origin.now }
         ensures { IfOk result (λ r. slice_get (Front number (device_view self.now)) 0 ≡ Some (record_view r)) }

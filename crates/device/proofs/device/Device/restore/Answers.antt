@@ -11,7 +11,7 @@ loop-entry-init c =
     let rest = into_iter_items c.into_iter-entry-iterator.result in
     let same = ap into_iter_items c.into_iter-entry-iterator.ensures.into_iter_gives in
     let is : c.args.front ≡ c.in-Some.first ∷ rest =
-        sym c.into_vec.ensures ∙ sym c.into_iter-records.ensures.rest ∙ c.in-Some.ensures.items ∙ ap (λ (l : List code.Record). c.in-Some.first ∷ l) (sym same) in
+    sym c.into_vec.ensures ∙ sym c.into_iter-records.ensures.rest ∙ c.in-Some.ensures.items ∙ ap (λ (l : List code.Record). c.in-Some.first ∷ l) (sym same) in
     record {
       can_next = tt;
       is_finite = tt;

@@ -2,7 +2,6 @@ use Rattle.std.proofs.Common.{Result, Ok, Err, ap, subst}
 use Rattle.std.specs.Prelude.{OnOk}
 use Rattle.records.specs.Stored.{Record, Grouped, Kept, Ended, item_view, record_view}
 use Rattle.device.specs.declared.fault.RestoreFault.{RestoreFault}
-use Rattle.device.specs.declared.fault.RestoreFault.TheVariants as fault
 use Rattle.device.specs.Regularity.{IsRegularRecord}
 use Rattle.device.specs.Rebuilt.{Building, building_view, Came, IsOrderly}
 use Rattle.device.proofs.Fronting.{stays_orderly}
