@@ -1,6 +1,7 @@
 pub mod Course
 pub mod Meeting
 pub mod OneDevice
+pub mod Beginnings
 pub mod Origins
 pub mod Places
 pub mod Settling

@@ -4,8 +4,8 @@ use Rattle.std.specs.Prelude.{if◌then◌else◌, option_map, ◌&&◌, nat_lt}
 use Rattle.std.proofs.lemmas.Bool.{ltb-true, ltb-false}
 use Rattle.std.specs.Option.{IfSome, IsSome, IsSomeAnd}
 use Rattle.std.proofs.lemmas.Option.{none-some}
-use Rattle.std.specs.List.{AllByRecursion}
-use Rattle.std.proofs.lemmas.List.{append-nil}
+use Rattle.std.specs.List.{AllByRecursion, AllZip}
+use Rattle.std.proofs.lemmas.List.{append-nil, append_cancel_left}
 use Rattle.gate_log.specs.Entries.{most_file}
 use Rattle.gate_log.specs.Place.{place_behind, IsEntryAt}
 use Rattle.records.specs.Stored.{Plan, Record, Genesis, Accepted, BootBegun, BootEnded, Activating, StepFailed, Failing, FailingBack, Closed}
@@ -18,8 +18,10 @@ use Rattle.device.specs.declared.fault.ReplayFault.TheVariants as fault
 use Rattle.device.specs.Devices.{Device, Pending, no_device, device_view, pending_view}
 use Rattle.records.specs.declared.record.Origin.{Origin}
 use Rattle.device.specs.Lawful.{Allowed, applied, MayAccept, MayBegin, MayEnd, MayActivate, MayFail, MayBreak, MayGoBack, MayClose}
-use Rattle.device.specs.Standing.{Takes, Plays, Means, SpellsNoPlan, IsBehindAccepted, IsBadAt, LacksRoomAt, IsDamagedAt, Room, Replayed, TookEntry}
+use Rattle.device.specs.Standing.{Takes, Plays, Means, IsNoTurnBehind, SpellsNoPlan, IsBehindAccepted, IsBadAt, LacksRoomAt, IsDamagedAt, Room, Replayed, TookEntry}
+use Rattle.device.specs.Fronts.{IsFrontOf}
 use Rattle.device.specs.Limits.{room_of_plan}
+use Rattle.device.proofs.Beginnings.{BeginsWithTurn, front_turns}
 
 -- the walk is at this place, d is the device there, and behind its pending plan's entry is this place
 pub record Reached (payloads : List (List ℕ)) (end at behind : ℕ) (d : Device) : Type 0 where
@@ -28,11 +30,44 @@ pub record Reached (payloads : List (List ℕ)) (end at behind : ℕ) (d : Devic
   pub split : payloads ≡ done ++ rest
   pub at_is : at ≡ place_behind done
   pub end_is : end ≡ place_behind payloads
-  pub plays : Plays no_device done d
+  pub means : Means done d
+  pub no_turn : (p : List ℕ) (ps : List (List ℕ)) → rest ≡ p ∷ ps → IsNoTurnBehind done p
   pub behind_is : IfSome d.pending (λ q. IsBehindAccepted done behind)
 
-pub starts : (payloads : List (List ℕ)) (end : ℕ) → end ≡ place_behind payloads → Reached payloads end 0 0 no_device
-starts payloads end is = record { done = []; rest = payloads; split = refl; at_is = refl; end_is = is; plays = refl; behind_is = tt }
+-- where no turn stands first
+pub starts : (payloads : List (List ℕ)) (end : ℕ) → end ≡ place_behind payloads → (BeginsWithTurn payloads → ⊥) → Reached payloads end 0 0 no_device
+starts payloads end is none = record {
+  done = [];
+  rest = payloads;
+  split = refl;
+  at_is = refl;
+  end_is = is;
+  means = inl refl;
+  no_turn = λ p ps first turn. none (subst BeginsWithTurn (sym first) turn);
+  behind_is = tt;
+}
+
+idle_behind : (done : List (List ℕ)) (behind : ℕ) (o : Option Pending) → o ≡ None → IfSome o (λ q. IsBehindAccepted done behind)
+idle_behind done behind None is = tt
+idle_behind done behind (Some q) is = absurd cc
+
+no_turn_behind : (done : List (List ℕ)) (p : List ℕ) → BeginsWithTurn done → IsNoTurnBehind done p
+no_turn_behind [] p turn = absurd turn
+no_turn_behind (q ∷ done) p turn = tt
+
+-- where the front of a device does, behind it
+pub starts_anew : (payloads front after : List (List ℕ)) (records : List Record) (end at behind : ℕ) (d : Device) → payloads ≡ front ++ after → end ≡ place_behind payloads → at ≡ place_behind front
+    → AllZip Spelled front records → IsFrontOf records d → Reached payloads end at behind d
+starts_anew payloads front after records end at behind d split is at_is spelled of = record {
+  done = front;
+  rest = after;
+  split = split;
+  at_is = at_is;
+  end_is = is;
+  means = inr (record { front = front; after = []; split = sym (append-nil front); records = records; spelled = spelled; begun = d; is = of; plays = refl });
+  no_turn = λ p ps first. no_turn_behind front p (front_turns front records d spelled of);
+  behind_is = idle_behind front behind d.pending of.has.idle;
+}
 
 place_on : (a b : List (List ℕ)) → place_behind (a ++ b) ≡ place_behind a + place_behind b
 place_on [] b = omega arith
@@ -59,6 +94,23 @@ entry_at stands log image payloads end at behind d r n on = record { before = r.
 plays_more : (ps : List (List ℕ)) (p : List ℕ) (d c e : Device) → Plays d ps c → Takes c p e → Plays d (ps ++ p ∷ []) e
 plays_more [] p d c e h t = (e, subst (λ x. Takes x p e) h t, refl)
 plays_more (q ∷ ps) p d c e h t = (h.0, h.1, plays_more ps p h.0 c e h.2 t)
+
+means_more : (ps : List (List ℕ)) (p : List ℕ) (c e : Device) → Means ps c → Takes c p e → Means (ps ++ p ∷ []) e
+means_more ps p c e (inl plays) t = inl (plays_more ps p no_device c e plays t)
+means_more ps p c e (inr anew) t = inr (record {
+  front = anew.front;
+  after = anew.after ++ p ∷ [];
+  split = ap (λ (l : List (List ℕ)). l ++ p ∷ []) anew.split ∙ append_assoc anew.front anew.after (p ∷ []);
+  records = anew.records;
+  spelled = anew.spelled;
+  begun = anew.begun;
+  is = anew.is;
+  plays = plays_more anew.after p anew.begun c e anew.plays t;
+})
+
+no_turn_later : (done : List (List ℕ)) (x p : List ℕ) → IsNoTurnBehind (done ++ x ∷ []) p
+no_turn_later [] x p = tt
+no_turn_later (q ∷ done) x p = tt
 
 place_more : (ps : List (List ℕ)) (p : List ℕ) → place_behind (ps ++ p ∷ []) ≡ place_behind ps + (5 + length p)
 place_more [] p = omega arith
@@ -145,7 +197,8 @@ goes_on payloads end at behind to d c r n to_is t =
       split = n.split ∙ sym (append_assoc r.done (n.first ∷ []) n.others);
       at_is = place;
       end_is = r.end_is;
-      plays = plays_more r.done n.first no_device d c r.plays t;
+      means = means_more r.done n.first d c r.means t;
+      no_turn = λ p ps first. no_turn_later r.done n.first p;
       behind_is = behind_goes_on r.done n.first behind to d c t place r.behind_is;
     }
 
@@ -158,13 +211,14 @@ is_bad payloads end at behind d r n refused = record {
   split = n.split;
   place = r.at_is;
   reached = d;
-  means = r.plays;
+  means = r.means;
+  no_turn = r.no_turn n.first n.others (append_cancel_left r.done r.rest (n.first ∷ n.others) (sym r.split ∙ n.split));
   refused = refused;
 }
 
 -- the walk is at the end
 record Ended (payloads : List (List ℕ)) (behind : ℕ) (d : Device) : Type 0 where
-  plays : Plays no_device payloads d
+  means : Means payloads d
   behind_is : IfSome d.pending (λ q. IsBehindAccepted payloads behind)
 
 ended : (payloads : List (List ℕ)) (end at behind : ℕ) (d : Device) → Reached payloads end at behind d → end ≤ at → Ended payloads behind d
@@ -174,14 +228,14 @@ ended payloads end at behind d r le = by r.rest r.split
     by [] split =
         let all = sym (split ∙ append-nil r.done) in
         record {
-          plays = subst (λ ps. Plays no_device ps d) all r.plays;
+          means = subst (λ ps. Means ps d) all r.means;
           behind_is = subst (λ ps. IfSome d.pending (λ q. IsBehindAccepted ps behind)) all r.behind_is;
         }
     by (p ∷ ps) split = let same = ap place_behind split in absurd (omega (arith, le, r.at_is, r.end_is, same, place_on r.done (p ∷ ps)))
 
 is_all : (payloads : List (List ℕ)) (end at behind : ℕ) (d : Device) → Reached payloads end at behind d → end ≤ at → (IsSome d.pending → behind + room_of_plan ≤ most_file)
     → Means payloads d × Room payloads d
-is_all payloads end at behind d r le room = let e = ended payloads end at behind d r le in (e.plays, by d.pending e.behind_is room)
+is_all payloads end at behind d r le room = let e = ended payloads end at behind d r le in (e.means, by d.pending e.behind_is room)
   where
     by : (o : Option Pending) → IfSome o (λ q. IsBehindAccepted payloads behind) → (IsSome o → behind + room_of_plan ≤ most_file) → IfSome o (λ q. (at : ℕ) × IsBehindAccepted payloads at × (at + room_of_plan ≤ most_file))
     by None is room = tt
@@ -190,7 +244,7 @@ is_all payloads end at behind d r le room = let e = ended payloads end at behind
 lacks_room : (payloads : List (List ℕ)) (end at behind : ℕ) (d : Device) → Reached payloads end at behind d → end ≤ at → IsSome d.pending → most_file < behind + room_of_plan → LacksRoomAt payloads behind
 lacks_room payloads end at behind d r le some lacks =
     let e = ended payloads end at behind d r le in
-    record { reached = d; means = e.plays; pending = some; behind = by d.pending some e.behind_is; lacks = lacks }
+    record { reached = d; means = e.means; pending = some; behind = by d.pending some e.behind_is; lacks = lacks }
   where
     by : (o : Option Pending) → IsSome o → IfSome o (λ q. IsBehindAccepted payloads behind) → IsBehindAccepted payloads behind
     by None some is = absurd cc
@@ -230,7 +284,7 @@ pub room_lacks : (payloads : List (List ℕ)) (end at behind : ℕ) (device : co
     → (is_some device.pending && nat_lt most_file (behind + room_of_plan)) ≡ true → IsDamagedAt payloads behind
 room_lacks payloads end at behind device r le lacks =
     let h = both_true (is_some device.pending) (nat_lt most_file (behind + room_of_plan)) lacks in
-    inr (lacks_room payloads end at behind (device_view device) r le (shown device.pending ∙ h.0) (ltb-true most_file (behind + room_of_plan) h.1))
+    inr (inl (lacks_room payloads end at behind (device_view device) r le (shown device.pending ∙ h.0) (ltb-true most_file (behind + room_of_plan) h.1)))
 
 pub has_room : (payloads : List (List ℕ)) (end at behind : ℕ) (device : code.Device) → Reached payloads end at behind (device_view device) → end ≤ at
     → (is_some device.pending && nat_lt most_file (behind + room_of_plan)) ≡ false → Means payloads (device_view device) × Room payloads (device_view device)
