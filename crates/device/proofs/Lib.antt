@@ -29,3 +29,4 @@ pub mod Stocks
 pub mod Fronting
 pub mod Restoring
 pub mod Telling
+pub mod Walking
