@@ -41,12 +41,12 @@ no_turn_before (p ∷ before) bad behind d none turn plays = no_turn_taken no_de
 -- ---- the first record of a front
 
 -- the turn, and how many stand behind it
-record Heads (records : List Record) (d : Device) : Type 0 where
-  number : ℕ
-  origin : Origin
-  is : records ≡ Turned number origin (length d.groups) (length d.set) (length d.closed) ∷ stock_of d
+pub record Heads (records : List Record) (d : Device) : Type 0 where
+  pub number : ℕ
+  pub origin : Origin
+  pub is : records ≡ Turned number origin (length d.groups) (length d.set) (length d.closed) ∷ stock_of d
 
-heads : (records : List Record) (d : Device) → IsFrontOf records d → Heads records d
+pub heads : (records : List Record) (d : Device) → IsFrontOf records d → Heads records d
 heads records d front = by d.origin front.has.origin front.is
   where
     by : (o : Option Origin) → IsSome o → records ≡ front_by front.number d o → Heads records d

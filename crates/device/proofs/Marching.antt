@@ -112,7 +112,7 @@ no_turn_later : (done : List (List ℕ)) (x p : List ℕ) → IsNoTurnBehind (do
 no_turn_later [] x p = tt
 no_turn_later (q ∷ done) x p = tt
 
-place_more : (ps : List (List ℕ)) (p : List ℕ) → place_behind (ps ++ p ∷ []) ≡ place_behind ps + (5 + length p)
+pub place_more : (ps : List (List ℕ)) (p : List ℕ) → place_behind (ps ++ p ∷ []) ≡ place_behind ps + (5 + length p)
 place_more [] p = omega arith
 place_more (q ∷ ps) p = omega (arith, place_more ps p)
 

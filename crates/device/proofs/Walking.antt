@@ -1,18 +1,19 @@
 -- A walk over the entries of a front, at the beginning of a journal.
-use Rattle.std.proofs.Common.{◌≡◌, ◌⊎◌, inl, inr, ℕ, ◌+◌, ◌<◌, ◌≤◌, List, [], ◌∷◌, ◌++◌, length, Option, Some, None, refl, sym, ap, subst, ◌∙◌, append_assoc, arith}
+use Rattle.std.proofs.Common.{◌≡◌, ◌⊎◌, inl, inr, ℕ, ◌+◌, ◌<◌, ◌≤◌, List, [], ◌∷◌, ◌++◌, length, map, Option, Some, None, refl, sym, ap, subst, ◌∙◌, append_assoc, arith}
 use Rattle.std.specs.List.{AllZip}
-use Rattle.std.proofs.lemmas.List.{append-nil, append_cancel_left, length-append}
+use Rattle.std.proofs.lemmas.List.{append-nil, length-append, length-map}
 use Rattle.gate_log.specs.Place.{place_behind}
-use Rattle.records.specs.Stored.{Record}
+use Rattle.records.specs.Stored.{Record, Turned, Grouped, Kept}
 use Rattle.records.specs.Layout.{Spelled}
 use Rattle.records.proofs.Layouts.{one_record}
 use Rattle.device.specs.Devices.{Device}
-use Rattle.device.specs.Fronts.{IsFrontOf, IsNoFront}
-use Rattle.device.specs.Rebuilt.{Building, device_of, Begins, Comes, with_next, IsWhole, IsOrderly, IsBuilt}
+use Rattle.device.specs.Fronts.{ended, stock_of, IsFrontOf, IsNoFront}
+use Rattle.device.specs.Rebuilt.{Building, device_of, Begins, BeginsAs, Comes, with_next, IsWhole, IsOrderly, IsBuilt}
 use Rattle.device.specs.Standing.{BeginsNoFront, IsTurn}
-use Rattle.device.proofs.Beginnings.{same_spelled}
-use Rattle.device.proofs.Fronting.{built_more, comes, is_all, is_whole, whole_front, front_begins}
+use Rattle.device.proofs.Beginnings.{heads, front_long, same_spelled}
+use Rattle.device.proofs.Fronting.{begins_built, built_more, comes, no_empty_front, is_all, is_whole, whole_front, front_begins}
 use Rattle.device.proofs.Marching.{place_more}
+use Rattle.device.proofs.Restoring.{nothing_left}
 
 -- the walk is at this place, and the entries before it were taken
 pub record Walked (payloads : List (List ℕ)) (at : ℕ) (b : Building) : Type 0 where
@@ -84,5 +85,105 @@ record GoesOn (payloads : List (List ℕ)) (rest : List (List ℕ)) (records who
   zip : AllZip Spelled between behind
   rest_is : rest ≡ between ++ more
 
--- What is left: where the front ends among the records that were taken, they are all of it (the turns are one, so the counts
--- are: what is to come is 0, and is_all and length say the rest).
+built_long : (records : List Record) (b : Building) → IsBuilt records b → length records ≡ 1 + length b.groups + length b.set + length b.closed
+built_long records b built =
+    let whole = ap length built.told in
+    let first = length-append (map Grouped b.groups) (map Kept b.set ++ map ended b.closed) in
+    let second = length-append (map Kept b.set) (map ended b.closed) in
+    let g = length-map b.groups Grouped in
+    let i = length-map b.set Kept in
+    let c = length-map b.closed ended in
+    omega (arith, whole, first, second, g, i, c)
+
+-- a front among the records that were taken is all of them
+nothing_more : (whole more : List Record) (b : Building) (d : Device) → IsBuilt (whole ++ more) b → IsFrontOf whole d → length more ≡ 0
+nothing_more whole more b d built of =
+    let h = heads whole d of in
+    let long = front_long whole d of in
+    let all = built_long (whole ++ more) b built in
+    let both = length-append whole more in
+    let turn : Turned h.number h.origin (length d.groups) (length d.set) (length d.closed) ∷ (stock_of d ++ more)
+        ≡ Turned built.number b.origin (length b.groups + b.groups_to_come) (length b.set + b.items_to_come) (length b.closed + b.closed_to_come) ∷ stock_of (device_of b)
+        = sym (ap (λ (l : List Record). l ++ more) h.is) ∙ built.told in
+    let g : length d.groups ≡ length b.groups + b.groups_to_come = cc in
+    let i : length d.set ≡ length b.set + b.items_to_come = cc in
+    let c : length d.closed ≡ length b.closed + b.closed_to_come = cc in
+    omega (arith, long, all, both, g, i, c)
+
+goes_on : (payloads front after : List (List ℕ)) (whole : List Record) (at : ℕ) (b : Building) (d : Device) (w : Walked payloads at b) → payloads ≡ front ++ after → AllZip Spelled front whole → IsFrontOf whole d
+    → GoesOn payloads w.rest w.records whole
+goes_on payloads front after whole at b d w split zip of = elim (cut w.done w.rest front after (sym w.split ∙ split)) [
+  | inl h ↦ (
+    let p = parts w.done h.between whole (subst (λ (l : List (List ℕ)). AllZip Spelled l whole) h.long_is zip) in
+    let same = same_spelled w.done p.first w.records p.zip w.spelled in
+    record { behind = p.second; between = h.between; more = after; is = p.is ∙ ap (λ (l : List Record). l ++ p.second) same; zip = p.rest; rest_is = h.behind_is })
+  | inr h ↦ (
+    let p = parts front h.between w.records (subst (λ (l : List (List ℕ)). AllZip Spelled l w.records) h.long_is w.spelled) in
+    let same = same_spelled front p.first whole p.zip zip in
+    let records = p.is ∙ ap (λ (l : List Record). l ++ p.second) same in
+    let none = nothing_left p.second (nothing_more whole p.second b d (subst (λ (l : List Record). IsBuilt l b) records w.built) of) in
+    let all : w.records ≡ whole = records ∙ ap (λ (l : List Record). whole ++ l) none ∙ append-nil whole in
+    record { behind = []; between = []; more = w.rest; is = sym all ∙ sym (append-nil w.records); zip = tt; rest_is = refl })
+]
+
+whole_then : (records whole : List Record) (b : Building) (d : Device) → IsBuilt records b → whole ≡ records ++ [] → IsFrontOf whole d → IsWhole b
+whole_then records whole b d built is of = is_whole records b d built (subst (λ (l : List Record). IsFrontOf l d) (is ∙ append-nil records) of)
+
+-- the entries end before the front is whole, or it is whole and no front of a sound device
+pub stops_at_end : (payloads : List (List ℕ)) (at : ℕ) (b : Building) (w : Walked payloads at b) → w.rest ≡ [] → (IsWhole b → ⊥) → BeginsNoFront payloads
+stops_at_end payloads at b w none bad front after whole split zip d of =
+    let g = goes_on payloads front after whole at b d w split zip of in
+    bad (by g.between g.behind (sym none ∙ g.rest_is) g.zip g.is)
+  where
+    by : (between : List (List ℕ)) (behind : List Record) → [] ≡ between ++ (goes_on payloads front after whole at b d w split zip of).more → AllZip Spelled between behind → whole ≡ w.records ++ behind → IsWhole b
+    by [] [] is zipped same = whole_then w.records whole b d w.built same of
+    by [] (r ∷ rs) is zipped same = absurd zipped
+    by (p ∷ ps) behind is zipped same = absurd cc
+
+pub stops_whole : (payloads : List (List ℕ)) (at : ℕ) (b : Building) (w : Walked payloads at b) → b.groups_to_come ≡ 0 → b.items_to_come ≡ 0 → b.closed_to_come ≡ 0 → (IsWhole b → ⊥) → BeginsNoFront payloads
+stops_whole payloads at b w none nothing no_more bad front after whole split zip d of =
+    let g = goes_on payloads front after whole at b d w split zip of in
+    let all = is_all w.records g.behind b d w.built (subst (λ (l : List Record). IsFrontOf l d) g.is of) none nothing no_more in
+    bad (whole_then w.records whole b d w.built (g.is ∙ ap (λ (l : List Record). w.records ++ l) (sym all.0)) of)
+
+-- the next payload spells no record that comes
+pub stops_before : (payloads others : List (List ℕ)) (at : ℕ) (p : List ℕ) (b : Building) (w : Walked payloads at b) → w.rest ≡ p ∷ others → 0 < b.groups_to_come + b.items_to_come + b.closed_to_come
+    → ((r : Record) → Spelled p r → Comes b r → ⊥) → BeginsNoFront payloads
+stops_before payloads others at p b w next some bad front after whole split zip d of =
+    let g = goes_on payloads front after whole at b d w split zip of in
+    by g.between g.behind g.more (sym next ∙ g.rest_is) g.zip g.is
+  where
+    by : (between : List (List ℕ)) (behind : List Record) (more : List (List ℕ)) → p ∷ others ≡ between ++ more → AllZip Spelled between behind → whole ≡ w.records ++ behind → ⊥
+    by [] [] more is zipped same =
+        let all = whole_then w.records whole b d w.built same of in
+        let none = all.no_groups in
+        let nothing = all.no_items in
+        let no_more = all.no_closed in
+        absurd (omega (arith, some, none, nothing, no_more))
+    by [] (r ∷ rs) more is zipped same = absurd zipped
+    by (q ∷ qs) [] more is zipped same = absurd zipped
+    by (q ∷ qs) (r ∷ rs) more is zipped same =
+        let head : q ≡ p = cc in
+        bad r (subst (λ (z : List ℕ). Spelled z r) head zipped.0) (comes w.records rs r b d w.built (subst (λ (l : List Record). IsFrontOf l d) same of))
+
+-- ---- the beginning
+
+pub walks_first : (payloads others : List (List ℕ)) (to : ℕ) (p : List ℕ) (r : Record) (b : Building) → payloads ≡ p ∷ others → to ≡ 0 + 5 + length p → Spelled p r → Begins r → BeginsAs r b → Walked payloads to b
+walks_first payloads others to p r b is to_is spelled begins as = record {
+  done = p ∷ [];
+  rest = others;
+  split = is;
+  at_is = omega (arith, to_is);
+  records = r ∷ [];
+  spelled = (spelled, tt);
+  built = begins_built r b begins as;
+}
+
+pub stops_first : (payloads others : List (List ℕ)) (p : List ℕ) (r : Record) → payloads ≡ p ∷ others → Spelled p r → (Begins r → ⊥) → BeginsNoFront payloads
+stops_first payloads others p r is spelled bad [] after [] split zip d of = no_empty_front d of
+stops_first payloads others p r is spelled bad [] after (s ∷ ss) split zip d of = absurd zip
+stops_first payloads others p r is spelled bad (q ∷ qs) after [] split zip d of = absurd zip
+stops_first payloads others p r is spelled bad (q ∷ qs) after (s ∷ ss) split zip d of =
+    let head : q ≡ p = cc in
+    let same : s ≡ r = one_record p s r (subst (λ (z : List ℕ). Spelled z s) head zip.0) spelled in
+    bad (subst Begins same (front_begins s ss d of))
