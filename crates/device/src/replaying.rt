@@ -70,6 +70,84 @@ fn take_entry<J: Journal, D: Disk>(
     }
 }
 
+impl Rebuilding {
+    /// Takes the record of a front that the payload spells.
+    #[tactic(auto, using(crate::proofs::Regular::writable))]
+    pub(crate) fn take_payload(&mut self, alloc: Global, payload: &[u8]) -> Result<(), RestoreFault>
+        requires orderly { IsOrderly (building_view self.old) }
+        ensures came { CamePayload (building_view self.old) payload.now (building_view self.new) result }
+        ensures orderly { OnOk result (IsOrderly (building_view self.new)) }
+    {
+        match Record::read(alloc, payload) {
+            Ok(Some(entry)) => self.take(alloc, entry),
+            Ok(None) => Err(RestoreFault::NotSound),
+            Err(NoMemory) => Err(RestoreFault::NoMemory),
+        }
+    }
+}
+
+/// Takes the entry of a front at this place, and gives the place behind it.
+fn take_front_entry<J: Journal, D: Disk>(
+    building: &mut Rebuilding,
+    alloc: Global,
+    log: &J,
+    disk: &mut D,
+    at: u64,
+) -> Result<u64, ReplayFault>
+    requires below { at < J.end log.now }
+    requires place { IsTrue D.tells → (payload : List ℕ) × IsEntryAt J.stands log.now (D.seen disk.old) at payload }
+    requires orderly { IsOrderly (building_view building.old) }
+    ensures told { IsTrue D.tells → (payload : List ℕ) → IsEntryAt J.stands log.now (D.seen disk.old) at payload →
+        CameEntry (building_view building.old) at payload (building_view building.new) result }
+    ensures orderly { OnOk result (IsOrderly (building_view building.new)) }
+    ensures goes_on { IfOk result (λ next. at < next) }
+    ensures seen { D.seen disk.new ≡ D.seen disk.old }
+    ensures moments { Leaves D.moment D.left_since disk.old disk.new (D.may_leave disk.old) }
+    ensures cause { IsErrOf result ReplayFault.Disk → Rose (D.faults disk.old) (D.faults disk.new) }
+    ensures quiet { ¬ (IsErrOf result ReplayFault.Disk) → D.faults disk.new ≡ D.faults disk.old }
+    ensures later { D.faults disk.old ≤ D.faults disk.new }
+{
+    let (payload, next) = log.entry(alloc, disk, at)?;
+    match building.take_payload(alloc, payload.as_slice()) {
+        Ok(()) => Ok(next),
+        Err(RestoreFault::NotSound) => Err(ReplayFault::Damaged(0)),
+        Err(RestoreFault::NoMemory) => Err(ReplayFault::NoMemory),
+    }
+}
+
+/// Takes the entries of a front behind its first, up to its last or the end of the journal, and gives the place behind
+/// them with the device.
+fn take_front<J: Journal, D: Disk>(
+    mut building: Rebuilding,
+    alloc: Global,
+    log: &J,
+    disk: &mut D,
+    mut at: u64,
+) -> Result<(Device, u64), ReplayFault>
+    requires open { (payloads : List (List ℕ)) × IsBehind D.may_leave J.stands log.now disk.old payloads }
+    requires orderly { IsOrderly (building_view building) }
+    requires walked { IsTrue D.tells → (payloads : List (List ℕ)) → J.stands log.now (D.seen disk.old) payloads → Walked payloads at (building_view building) }
+    ensures told { IsTrue D.tells → (payloads : List (List ℕ)) → J.stands log.now (D.seen disk.old) payloads → TookFront payloads result }
+    ensures regular { IfOk result (λ r. IsRegularDevice (device_view r.0)) }
+    ensures sound { IfOk result (λ r. IsSound (device_view r.0)) }
+    ensures idle { IfOk result (λ r. r.0.pending ≡ None) }
+    ensures seen { D.seen disk.new ≡ D.seen disk.old }
+    ensures moments { Leaves D.moment D.left_since disk.old disk.new (D.may_leave disk.old) }
+    ensures cause { IsErrOf result ReplayFault.Disk → Rose (D.faults disk.old) (D.faults disk.new) }
+    ensures quiet { ¬ (IsErrOf result ReplayFault.Disk) → D.faults disk.new ≡ D.faults disk.old }
+    ensures later { D.faults disk.old ≤ D.faults disk.new }
+{
+    let end = log.end();
+    while building.lacks_some() && at < end {
+        at = take_front_entry(&mut building, alloc, log, disk, at)?;
+    }
+    match building.finish(alloc) {
+        Ok(device) => Ok((device, at)),
+        Err(RestoreFault::NotSound) => Err(ReplayFault::Damaged(0)),
+        Err(RestoreFault::NoMemory) => Err(ReplayFault::NoMemory),
+    }
+}
+
 /// Whether a plan is pending, and the room behind its entry, at this place, is missing.
 fn lacks_room(device: &Device, behind: u64) -> bool
     ensures { result ≡ (is_some device.now.pending && nat_lt most_file (behind + room_of_plan)) }
