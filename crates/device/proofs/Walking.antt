@@ -9,21 +9,11 @@ use Rattle.records.proofs.Layouts.{one_record}
 use Rattle.device.specs.Devices.{Device}
 use Rattle.device.specs.Fronts.{ended, stock_of, IsFrontOf, IsNoFront}
 use Rattle.device.specs.Rebuilt.{Building, device_of, Begins, BeginsAs, Comes, with_next, IsWhole, IsOrderly, IsBuilt}
-use Rattle.device.specs.Standing.{BeginsNoFront, IsTurn}
+use Rattle.device.specs.Standing.{BeginsNoFront, Walked}
 use Rattle.device.proofs.Beginnings.{heads, front_long, same_spelled}
 use Rattle.device.proofs.Fronting.{begins_built, built_more, comes, no_empty_front, is_all, is_whole, whole_front, front_begins}
 use Rattle.device.proofs.Marching.{place_more}
 use Rattle.device.proofs.Restoring.{nothing_left}
-
--- the walk is at this place, and the entries before it were taken
-pub record Walked (payloads : List (List ℕ)) (at : ℕ) (b : Building) : Type 0 where
-  pub done : List (List ℕ)
-  pub rest : List (List ℕ)
-  pub split : payloads ≡ done ++ rest
-  pub at_is : at ≡ place_behind done
-  pub records : List Record
-  pub spelled : AllZip Spelled done records
-  pub built : IsBuilt records b
 
 zip_more : (ps : List (List ℕ)) (rs : List Record) (p : List ℕ) (r : Record) → AllZip Spelled ps rs → Spelled p r → AllZip Spelled (ps ++ p ∷ []) (rs ++ r ∷ [])
 zip_more [] [] p r zip spelled = (spelled, tt)

@@ -1,5 +1,5 @@
 // The device for which a journal stands.
-ghost use Rattle.std.specs.Prelude.{◌≡◌, ◌≤◌, ◌<◌, ◌+◌, ◌&&◌, nat_lt, is_some, ℕ, List, IsTrue, IsErrOf, IfOk};
+ghost use Rattle.std.specs.Prelude.{◌≡◌, ◌≤◌, ◌<◌, ◌+◌, ◌&&◌, nat_lt, is_some, ℕ, List, None, IsTrue, IsErrOf, IfOk, OnOk};
 ghost use Rattle.nuc_base.specs.Faults.{Rose};
 ghost use Rattle.disk_model.specs.Disk.{Leaves};
 ghost use Rattle.gate_log.specs.Entries.{most_file};
@@ -9,11 +9,13 @@ ghost use Rattle.device.specs.Devices.{device_view, IsRegularDevice};
 ghost use Rattle.device.specs.Limits.{room_of_plan};
 ghost use Rattle.device.specs.Rooms.{HasRoom, TakesRoom};
 ghost use Rattle.device.specs.Sound.{IsSound};
-ghost use Rattle.device.specs.Standing.{Replayed, Took, TookEntry};
+ghost use Rattle.device.specs.Rebuilt.{building_view, IsOrderly};
+ghost use Rattle.device.specs.Standing.{BegunAt, CameEntry, CamePayload, Replayed, Took, TookEntry, TookFront, TurnOf, Walked};
 
 use crate::device::Device;
-use crate::fault::{ApplyFault, ReplayFault};
+use crate::fault::{ApplyFault, ReplayFault, RestoreFault};
 use crate::limits::ROOM_OF_PLAN;
+use crate::rebuilding::Rebuilding;
 use disk_model::Disk;
 use gate_log::{Journal, MOST_FILE};
 use nuc_base::NoMemory;
@@ -148,6 +150,47 @@ fn take_front<J: Journal, D: Disk>(
     }
 }
 
+/// The record, where the payload spells one that begins a front.
+fn turn_of(alloc: Global, payload: &[u8]) -> Result<Option<Record>, NoMemory>
+    ensures { IfOk result (TurnOf payload.now) }
+{
+    match Record::read(alloc, payload)? {
+        Some(entry) if matches!(&entry, Record::Turned(..)) => Ok(Some(entry)),
+        _ => Ok(None),
+    }
+}
+
+/// The device of the front that begins the journal, and the place behind it; or no device, where no front does.
+fn begin<J: Journal, D: Disk>(
+    alloc: Global,
+    log: &J,
+    disk: &mut D,
+) -> Result<(Device, u64), ReplayFault>
+    requires open { (payloads : List (List ℕ)) × IsBehind D.may_leave J.stands log.now disk.old payloads }
+    ensures told { IsTrue D.tells → (payloads : List (List ℕ)) → J.stands log.now (D.seen disk.old) payloads → BegunAt payloads result }
+    ensures regular { IfOk result (λ r. IsRegularDevice (device_view r.0)) }
+    ensures sound { IfOk result (λ r. IsSound (device_view r.0)) }
+    ensures idle { IfOk result (λ r. r.0.pending ≡ None) }
+    ensures seen { D.seen disk.new ≡ D.seen disk.old }
+    ensures moments { Leaves D.moment D.left_since disk.old disk.new (D.may_leave disk.old) }
+    ensures cause { IsErrOf result ReplayFault.Disk → Rose (D.faults disk.old) (D.faults disk.new) }
+    ensures quiet { ¬ (IsErrOf result ReplayFault.Disk) → D.faults disk.new ≡ D.faults disk.old }
+    ensures later { D.faults disk.old ≤ D.faults disk.new }
+{
+    if log.end() == 0 {
+        return Ok((Device::empty(alloc), 0));
+    }
+    let (payload, next) = log.entry(alloc, disk, 0)?;
+    let Some(entry) = turn_of(alloc, payload.as_slice())? else {
+        return Ok((Device::empty(alloc), 0));
+    };
+    match Rebuilding::begin(alloc, entry) {
+        Ok(building) => take_front(building, alloc, log, disk, next),
+        Err(RestoreFault::NotSound) => Err(ReplayFault::Damaged(0)),
+        Err(RestoreFault::NoMemory) => Err(ReplayFault::NoMemory),
+    }
+}
+
 /// Whether a plan is pending, and the room behind its entry, at this place, is missing.
 fn lacks_room(device: &Device, behind: u64) -> bool
     ensures { result ≡ (is_some device.now.pending && nat_lt most_file (behind + room_of_plan)) }
@@ -155,7 +198,8 @@ fn lacks_room(device: &Device, behind: u64) -> bool
     device.pending.is_some() && behind > LAST_WITH_ROOM
 }
 
-/// The device for which the journal stands: each entry's record is taken in its turn. It writes nothing.
+/// The device for which the journal stands: a front first, where one begins it, and each further entry's record in its
+/// turn. It writes nothing.
 pub fn replay<J: Journal, D: Disk>(
     alloc: Global,
     log: &J,
@@ -173,10 +217,9 @@ pub fn replay<J: Journal, D: Disk>(
     ensures quiet { ¬ (IsErrOf result ReplayFault.Disk) → D.faults disk.new ≡ D.faults disk.old }
     ensures later { D.faults disk.old ≤ D.faults disk.new }
 {
-    let mut device = Device::empty(alloc);
-    let mut at = 0;
+    let (mut device, mut at) = begin(alloc, log, disk)?;
     // Where a plan is pending, the place just behind its entry.
-    let mut behind = 0;
+    let mut behind = at;
     let end = log.end();
     while at < end {
         let was_pending = device.pending.is_some();
