@@ -11,9 +11,11 @@ use Rattle.recipe_reader.specs.declared.recipe.Skip.TheVariants as skips
 use Rattle.supervisor.specs.declared.kinds.Prepared.{Prepared}
 use Rattle.records.specs.declared.record.Origin.{Origin}
 use Rattle.step_runner.specs.declared.command.Command.{Command}
+use Rattle.step_runner.specs.declared.entries.RunnerEntry.{RunnerEntry}
+use Rattle.step_runner.specs.declared.entries.Seen.{Seen}
 use Rattle.step_runner.specs.declared.entries.Seen.TheVariants as seen
 use Rattle.device.specs.Devices.{Device}
-use Rattle.device.specs.Lawful.{no_failures}
+use Rattle.device.specs.Lawful.{no_failures, applied}
 use Rattle.device.specs.declared.staged.Stage.TheVariants as stages
 use Rattle.session.specs.Happenings.{Happening, Ran, Booted, Slept, Kept, Moved, Asked, Changed}
 use Rattle.session.specs.Places.{Place, left_by}
@@ -49,6 +51,10 @@ boots_by command name e =
 
 abbrev pub boots : List ℕ → Exit → List Happening
 boots name e = boots_by (script (codes "b")) name e
+
+-- its start, with this number
+abbrev pub starts_boot : (Seen → RunnerEntry) → ℕ → Command → Happening
+starts_boot tells n command = Booted (tells (seen.Started n command)) (boot_of command)
 
 -- it takes too long
 abbrev pub boots_long : Command → List Happening
@@ -146,6 +152,10 @@ back_failed command = Kept (Closed outcomes.UnableToRollback) ∷ boots_by comma
 -- the old one still runs
 abbrev pub still_up : Origin → Place
 still_up o = before_change (backing_device o) (world_of (running_part (runs item_a [] []) 4 ∷ []))
+
+-- so it does where the bootstrap was begun, to which no history leads
+abbrev pub begun_up : Origin → Place
+begun_up o = before_change (applied (backing_device o) (BootBegun a)) (world_of (running_part (runs item_a [] []) 4 ∷ []))
 
 -- and in a later call the old one comes up
 abbrev pub rolling_place : Origin → Place

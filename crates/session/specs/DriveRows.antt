@@ -16,7 +16,7 @@ use Rattle.supervisor.specs.World.{Part}
 use Rattle.device.specs.Devices.{Device}
 use Rattle.session.specs.Happenings.{Happening, Ran, Kept, Moved, Asked, Changed, StopsAll}
 use Rattle.session.specs.Places.{Place, left_by}
-use Rattle.session.specs.Rows.{item, starts_up, recovers, script, device_of, pending_in, plan_of, place_at, call_begins, world_of, idle_part, starting_part, asked, not_asked, ends, good, bad, a, b, one, two}
+use Rattle.session.specs.Rows.{item, starts_up, recovers, script, device_of, pending_in, plan_of, place_at, call_begins, world_of, idle_part, running_part, starting_part, runs, asked, not_asked, ends, good, bad, a, b, one, two}
 
 abbrev pub old_a : Item
 old_a = item a one
@@ -99,6 +99,11 @@ closes_it = Kept (Closed outcomes.RollbackNotRequested) ∷ []
 abbrev pub broken_beside : Origin → Place
 broken_beside o = place_at (device_of o (old_a ∷ []) (Some (pending_in stages.Activating (plan_of (new_a ∷ item b one ∷ []) []) (counts_of 3))))
     (world_of (idle_part new_up state.Broken 3 ∷ idle_part (starts_up (item b one) []) state.Installed 0 ∷ []))
+
+-- beside it stands another that may begin, and it is up
+abbrev pub beside_up : Origin → Place
+beside_up o = place_at (device_of o (old_a ∷ []) (Some (pending_in stages.Activating (plan_of (new_a ∷ item b one ∷ []) []) no_failures)))
+    (world_of (running_part (runs new_a [] []) 7 ∷ idle_part (starts_up (item b one) []) state.Installed 0 ∷ []))
 
 -- a call begins with so many recorded failures
 abbrev pub resumed : Origin → ℕ → Place

@@ -1,5 +1,5 @@
 // Worked rows of bootstraps in whole calls, on functions that do nothing.
-ghost use Rattle.std.specs.Prelude.{◌∷◌, [], pos, true, false, Some, codes, List};
+ghost use Rattle.std.specs.Prelude.{◌≡◌, ◌∷◌, [], pos, true, false, Some, codes, List};
 ghost use Rattle.nuc_base.specs.declared.kinds.Step.TheVariants as step;
 ghost use Rattle.nuc_base.specs.declared.kinds.Exit.TheVariants as exits;
 ghost use Rattle.nuc_base.specs.declared.kinds.Outcome.TheVariants as outcomes;
@@ -30,7 +30,7 @@ pub fn stops_for_boots_row()
     ensures ends { (o : Origin) → IsEnd (after_boot_over o) statuses.Restart false }
     ensures begun { (o : Origin) → MayFollow (after_boot_runs o) (Kept (BootBegun a)) → ⊥ }
     ensures begun_while { (o : Origin) → MayFollow (left_by (after_boot_runs o) (StopsAll ∷ [])) (Kept (BootBegun a)) → ⊥ }
-    ensures living { (o : Origin) → MayFollow (left_by (after_boot_runs o) (Kept (BootBegun a) ∷ StopsAll ∷ [])) (runs_boot (not_asked 0) (boot_starts 1)) → ⊥ }
+    ensures living { (o : Origin) (r : Recipes) (command : Command) → MayFollow (with_recipes r (left_by (after_boot_runs o) (Kept (BootBegun a) ∷ StopsAll ∷ []))) (boots_with command (not_asked 0) 1) → ⊥ }
     ensures after { (o : Origin) → MayFollow (after_boot_over o) (Kept Activating) → ⊥ }
 {}
 
@@ -72,15 +72,15 @@ pub fn closes_without_row()
     ensures comes { (o : Origin) → IsProper (after_left_changes o) left_comes }
     ensures ends { (o : Origin) → IsEnd (after_left_comes o) statuses.TurnsOver false }
     ensures asks { (o : Origin) → MayFollow (after_left_fails o) (Questioned nothing) → ⊥ }
-    ensures waits { (o : Origin) → MayFollow (left_by (after_left_fails o) (Questioned nothing ∷ [])) (passes (asked 3) 1000) → ⊥ }
-    ensures waits_brought { (o : Origin) → MayFollow (left_by (after_left_changes o) (Questioned nothing ∷ [])) (passes (asked 3) 1000) → ⊥ }
+    ensures waits { (o : Origin) → MayFollow (after_left_fails o) (passes (asked 3) 1000) → ⊥ }
+    ensures waits_brought { (o : Origin) → MayFollow (after_left_changes o) (passes (asked 3) 1000) → ⊥ }
 {}
 
 /// On the way back the bootstraps are those of the set. A skipped one counts as done, and a refused one as not started.
 pub fn boot_texts_row()
     ensures newer { (o : Origin) (r : Recipes) (command : Command) → (IsStepAt o (read_as r (item_a ∷ [])) 0 step.Bootstrap (Some (boot_of command)) → ⊥) → MayFollow (with_recipes r (back_begun o)) (boots_with command (asked 0) 0) → ⊥ }
     ensures earlier { (o : Origin) (r : Recipes) (command : Command) → (IsStepAt o (read_as r both) 1 step.Bootstrap (Some (boot_of command)) → ⊥) → MayFollow (with_recipes r (second_begun o)) (boots_with command (asked 0) 0) → ⊥ }
-    ensures other_text { (o : Origin) → MayFollow (back_begun o) (runs_boot (asked 0) (seen.Started 0 (script (codes "x")))) → ⊥ }
+    ensures other_text { (o : Origin) (r : Recipes) (command other : Command) → (other ≡ command → ⊥) → MayFollow (with_recipes r (back_begun o)) (Booted (asked 0 (seen.Started 0 other)) (boot_of command)) → ⊥ }
     ensures out_of_turn { (o : Origin) → MayFollow (second o) (Kept (BootEnded a good)) → ⊥ }
     ensures refused_as { (o : Origin) → MayFollow (left_by (backing o) (runs_boot (asked 0) (seen.Refused (script (codes "b"))) ∷ Asked 0 ∷ Kept (BootBegun a) ∷ [])) (Kept (BootEnded a exits.Signal)) → ⊥ }
     ensures skipped_as { (o : Origin) → MayFollow (left_by (backing o) (Booted (asked 0 (seen.OnPath (codes "x") true)) (record boots_up { skip = Some (skips.OnPath (codes "x")) }) ∷ Asked 0 ∷ Kept (BootBegun a) ∷ [])) (Kept (BootEnded a (exits.Code (pos 100)))) → ⊥ }

@@ -16,7 +16,7 @@ ghost use Rattle.session.specs.Courses.{IsBare, IsEnd};
 ghost use Rattle.nuc_base.specs.declared.status.Status.TheVariants as statuses;
 ghost use Rattle.device.specs.Lawful.{applied, no_failures};
 ghost use Rattle.session.specs.Rows.{Recipes, read_as, with_recipes, call_begins, asked, not_asked, script, ends, good, bad, boot_of, boots_up, a, b};
-ghost use Rattle.session.specs.BootRows.{item_a, items, booting_device, first_boot, second_boot, restart, boots_by, boots_long, boot_lives, boot_over, boot_failed, restarted, one_done, all_done, begun_device, begun_before, failed_before, boots_again, boots_or_skips, boot_skips, boot_skipped, boot_probed, boot_refused, newer_a, newer_boots, fails_back, backed, back_begun, back_done, back_failed, still_up, rolling_place, old_up, comes_back, rolls};
+ghost use Rattle.session.specs.BootRows.{item_a, items, booting_device, first_boot, second_boot, restart, boots_by, boots_long, boot_lives, boot_over, boot_failed, restarted, one_done, all_done, begun_device, begun_before, failed_before, boots_again, boots_or_skips, boot_skips, boot_skipped, boot_probed, boot_refused, newer_a, newer_boots, fails_back, backed, back_begun, back_done, back_failed, still_up, begun_up, starts_boot, rolling_place, comes_back, rolls};
 
 /// Bootstraps come one at a time, each begun before its start and ended after its end. One that asks for a restart, and
 /// the last good one, end the call.
@@ -36,28 +36,28 @@ pub fn two_bootstraps_row()
     ensures asks_after { (o : Origin) → MayFollow (restarted o) (Asked 0) → ⊥ }
     ensures as_done { (o : Origin) → IsEnd (restarted o) statuses.Done false → ⊥ }
     ensures as_restart { (o : Origin) → IsEnd (one_done o) statuses.Restart false → ⊥ }
-    ensures skipped_as { (o : Origin) → MayFollow (left_by (first_boot o) (boot_skips (codes "x") (script (codes "b")))) (Kept (BootEnded a exits.NotStarted)) → ⊥ }
-    ensures unprobed { (o : Origin) → MayFollow (left_by (first_boot o) (Asked 0 ∷ Kept (BootBegun a) ∷ [])) (Booted (asked 0 (seen.Started 0 (script (codes "b")))) (boots_or_skips (codes "x") (script (codes "b")))) → ⊥ }
+    ensures skipped_as { (o : Origin) (word : List ℕ) (command : Command) → MayFollow (left_by (first_boot o) (boot_skips word command)) (Kept (BootEnded a exits.NotStarted)) → ⊥ }
+    ensures unprobed { (o : Origin) (r : Recipes) (word : List ℕ) (command : Command) → MayFollow (with_recipes r (left_by (first_boot o) (Asked 0 ∷ Kept (BootBegun a) ∷ []))) (Booted (asked 0 (seen.Started 0 command)) (boots_or_skips word command)) → ⊥ }
 {}
 
 /// What was begun and did not end runs again; what ended does not, however it ended.
 pub fn bootstrap_again_row()
     ensures again { (o : Origin) (r : Recipes) (command : Command) → IsStepAt o (read_as r items) 0 step.Bootstrap (Some (boot_of command)) → IsProper (with_recipes r (begun_before o)) (boots_again command) }
     ensures begun { (o : Origin) → begun_device o ≡ applied (booting_device o 0) (BootBegun a) }
-    ensures failed { (o : Origin) → MayFollow (boot_failed o) (Booted (not_asked 0 (seen.Started 1 (script (codes "b")))) boots_up) → ⊥ }
-    ensures failed_before { (o : Origin) → MayFollow (left_by (failed_before o) (Asked 0 ∷ [])) (Booted (asked 0 (seen.Started 0 (script (codes "b")))) boots_up) → ⊥ }
-    ensures unasked { (o : Origin) → MayFollow (begun_before o) (Booted (not_asked 0 (seen.Started 0 (script (codes "b")))) boots_up) → ⊥ }
+    ensures failed { (o : Origin) (r : Recipes) (command : Command) → MayFollow (with_recipes r (left_by (boot_failed o) (Asked 0 ∷ []))) (starts_boot (asked 0) 1 command) → ⊥ }
+    ensures failed_before { (o : Origin) (r : Recipes) (command : Command) → MayFollow (with_recipes r (left_by (failed_before o) (Asked 0 ∷ []))) (starts_boot (asked 0) 0 command) → ⊥ }
+    ensures unasked { (o : Origin) (r : Recipes) (command : Command) → MayFollow (with_recipes r (begun_before o)) (starts_boot (not_asked 0) 0 command) → ⊥ }
     ensures ended { (o : Origin) → MayFollow (begun_before o) (Kept (BootEnded a good)) → ⊥ }
     ensures waits { (o : Origin) → MayFollow (left_by (begun_before o) (Asked 0 ∷ [])) (Slept (asked 0 (seen.Elapsed 1000))) → ⊥ }
-    ensures changes { (o : Origin) → MayFollow (begun_before o) (Changed [] [] false) → ⊥ }
+    ensures changes { (o : Origin) → MayFollow (begun_before o) (Changed [] no_failures false) → ⊥ }
 {}
 
 /// What must not come among bootstraps.
 pub fn bootstrap_before_its_record()
-    ensures unrecorded { (o : Origin) → MayFollow (left_by (first_boot o) (Asked 0 ∷ [])) (Booted (asked 0 (seen.Started 0 (script (codes "b")))) boots_up) → ⊥ }
+    ensures unrecorded { (o : Origin) (r : Recipes) (command : Command) → MayFollow (with_recipes r (left_by (first_boot o) (Asked 0 ∷ []))) (starts_boot (asked 0) 0 command) → ⊥ }
     ensures ended { (o : Origin) → MayFollow (boot_lives o) (Kept (BootEnded a good)) → ⊥ }
     ensures other { (o : Origin) → MayFollow (boot_over o) (Kept (BootEnded a good)) → ⊥ }
-    ensures again { (o : Origin) → MayFollow (boot_over o) (Booted (not_asked 0 (seen.Started 1 (script (codes "b")))) boots_up) → ⊥ }
+    ensures again { (o : Origin) (r : Recipes) (command : Command) → MayFollow (with_recipes r (left_by (boot_over o) (Asked 0 ∷ []))) (starts_boot (asked 0) 1 command) → ⊥ }
     ensures next { (o : Origin) → MayFollow (boot_over o) (Kept (BootBegun b)) → ⊥ }
     ensures activates { (o : Origin) → MayFollow (boot_lives o) (Kept Activating) → ⊥ }
     ensures waits { (o : Origin) → MayFollow (left_by (boot_over o) (Asked 0 ∷ [])) (Slept (asked 0 (seen.Elapsed 1000))) → ⊥ }
@@ -80,11 +80,11 @@ pub fn bootstraps_on_rollback_row()
     ensures up { (o : Origin) → IsProper (rolls o) comes_back }
     ensures unable { (o : Origin) (r : Recipes) (command : Command) → IsStepAt o (read_as r (item_a ∷ [])) 0 step.Bootstrap (Some (boot_of command)) → IsProper (with_recipes r (backed o)) (back_failed command) }
     ensures stops { (o : Origin) → MayFollow (still_up o) StopsAll }
-    ensures early { (o : Origin) → MayFollow (left_by (still_up o) (Kept (BootBegun a) ∷ [])) (Booted (asked 0 (seen.Started 0 (script (codes "b")))) boots_up) → ⊥ }
+    ensures early { (o : Origin) (r : Recipes) (command : Command) → MayFollow (with_recipes r (begun_up o)) (starts_boot (asked 0) 0 command) → ⊥ }
     ensures early_record { (o : Origin) → MayFollow (still_up o) (Kept (BootBegun a)) → ⊥ }
-    ensures unrecorded { (o : Origin) → MayFollow (left_by (backed o) (Asked 0 ∷ [])) (Booted (asked 0 (seen.Started 0 (script (codes "b")))) boots_up) → ⊥ }
-    ensures goes_on { (o : Origin) → MayFollow (back_done o) (Changed (old_up ∷ []) no_failures false) → ⊥ }
-    ensures comes_early { (o : Origin) → MayFollow (backed o) (Changed (old_up ∷ []) no_failures false) → ⊥ }
+    ensures unrecorded { (o : Origin) (r : Recipes) (command : Command) → MayFollow (with_recipes r (left_by (backed o) (Asked 0 ∷ []))) (starts_boot (asked 0) 0 command) → ⊥ }
+    ensures goes_on { (o : Origin) (r : Recipes) (made : List Fitted) → MayFollow (with_recipes r (back_done o)) (Changed made no_failures false) → ⊥ }
+    ensures comes_early { (o : Origin) (r : Recipes) (made : List Fitted) → MayFollow (with_recipes r (backed o)) (Changed made no_failures false) → ⊥ }
     ensures waits { (o : Origin) → MayFollow (left_by (back_begun o) (Asked 0 ∷ [])) (Slept (asked 0 (seen.Elapsed 1000))) → ⊥ }
     ensures as_done { (o : Origin) → MayFollow (back_begun o) (Kept (BootEnded a good)) → ⊥ }
     ensures up_waits { (o : Origin) → MayFollow (still_up o) (Slept (asked 0 (seen.Elapsed 1000))) → ⊥ }

@@ -18,7 +18,7 @@ ghost use Rattle.session.specs.Courses.{IsBare, IsBack, IsEnd, IsStart, IsStoppi
 ghost use Rattle.session.specs.Phases.{present};
 ghost use Rattle.nuc_base.specs.declared.status.Status.TheVariants as statuses;
 ghost use Rattle.session.specs.Rows.{Recipes, read_as, with_recipes, call_begins, asked, not_asked, states_of, script, ends, good, bad, a};
-ghost use Rattle.session.specs.DriveRows.{old_a, new_a, old_up, new_up, counts_of, failures_in, closes_it, broken_beside, resumed, booting_with, starting, driven, one_try, tried, records_it, recovers_it, failed_once, broken, rolls_back, rolling, comes_back, is_back, stops_it, keeps_it, breaking, breaks_too};
+ghost use Rattle.session.specs.DriveRows.{old_a, new_a, old_up, new_up, counts_of, failures_in, closes_it, broken_beside, resumed, booting_with, starting, beside_up, driven, one_try, tried, records_it, recovers_it, failed_once, broken, rolls_back, rolling, comes_back, is_back, stops_it, keeps_it, breaking, breaks_too};
 
 /// The new version fails three times, each failure is recorded, and the old one comes back.
 pub fn rollback_row()
@@ -43,8 +43,8 @@ pub fn do_nothing_row()
     ensures closed { (o : Origin) → IsBack (left_by (broken o) closes_it) }
     ensures other_begins { (o : Origin) → MayFollow (broken_beside o) (Moved 1 event.MayBegin) }
     ensures starts { (o : Origin) → MayFollow (left_by (broken_beside o) closes_it) (Moved 1 event.MayBegin) → ⊥ }
-    ensures waits { (o : Origin) → MayFollow (left_by (broken o) closes_it) (Slept (not_asked 0 (seen.Elapsed 1000))) → ⊥ }
-    ensures changes { (o : Origin) → MayFollow (left_by (broken o) closes_it) (Changed (new_up ∷ []) no_failures true) → ⊥ }
+    ensures waits { (o : Origin) → MayFollow (left_by (broken o) (Asked 0 ∷ closes_it)) (Slept (asked 0 (seen.Elapsed 1000))) → ⊥ }
+    ensures changes { (o : Origin) (r : Recipes) (made : List Fitted) → MayFollow (with_recipes r (left_by (broken o) closes_it)) (Changed made no_failures true) → ⊥ }
     ensures as_success { (o : Origin) → MayFollow (broken o) (Kept (Closed outcomes.Successful)) → ⊥ }
     ensures unstopped { (o : Origin) → IsEnd (left_by (broken o) closes_it) statuses.NotRequested false → ⊥ }
 {}
@@ -53,10 +53,10 @@ pub fn do_nothing_row()
 pub fn resumes_with_failures()
     ensures two { (o : Origin) (r : Recipes) (made : List Fitted) → AreFitted o (read_as r (new_a ∷ [])) made → IsProper (with_recipes r (resumed o 2)) (Changed made (counts_of 2) false ∷ []) }
     ensures third { (o : Origin) → failures_in (left_by (resumed o 2) (Changed (new_up ∷ []) (counts_of 2) false ∷ [])) ≡ 2 ∷ [] }
-    ensures fewer { (o : Origin) → MayFollow (resumed o 2) (Changed (new_up ∷ []) no_failures false) → ⊥ }
-    ensures fourth { (o : Origin) → MayFollow (resumed o 3) (Changed (new_up ∷ []) (counts_of 3) false) → ⊥ }
+    ensures fewer { (o : Origin) (r : Recipes) (made : List Fitted) → MayFollow (with_recipes r (resumed o 2)) (Changed made no_failures false) → ⊥ }
+    ensures fourth { (o : Origin) (r : Recipes) (made : List Fitted) → MayFollow (with_recipes r (resumed o 3)) (Changed made (counts_of 3) false) → ⊥ }
     ensures leads_back { (o : Origin) → MayFollow (resumed o 3) (Kept (Failing a)) }
-    ensures other { (o : Origin) → MayFollow (resumed o 2) (Changed (old_up ∷ []) (counts_of 2) true) → ⊥ }
+    ensures steady { (o : Origin) (r : Recipes) (made : List Fitted) → MayFollow (with_recipes r (resumed o 2)) (Changed made (counts_of 2) true) → ⊥ }
 {}
 
 /// What must not follow a failure.
@@ -72,12 +72,13 @@ pub fn late_records()
 
 /// What must not follow where Rolling begins.
 pub fn rolls_early()
-    ensures changes { (o : Origin) → MayFollow (left_by (broken o) (Kept (Failing a) ∷ [])) (Changed (old_up ∷ []) no_failures false) → ⊥ }
+    ensures changes { (o : Origin) (r : Recipes) (made : List Fitted) → MayFollow (with_recipes r (left_by (broken o) (Kept (Failing a) ∷ []))) (Changed made no_failures false) → ⊥ }
     ensures waits { (o : Origin) → MayFollow (left_by (broken o) (Asked 0 ∷ Kept (Failing a) ∷ [])) (Slept (asked 0 (seen.Elapsed 1000))) → ⊥ }
     ensures closes { (o : Origin) → MayFollow (rolling o) (Kept (Closed outcomes.RollbackComplete)) → ⊥ }
     ensures stops { (o : Origin) → MayFollow (driven o state.Installed 0) StopsAll → ⊥ }
-    ensures serves_on { (o : Origin) → MayFollow (left_by (is_back o) stops_it) (Changed (old_up ∷ []) no_failures true) → ⊥ }
-    ensures cut { (o : Origin) → MayFollow (left_by (driven o state.Installed 0) (Cut (asked 0 (seen.Killed 7)) ∷ [])) (Moved 0 event.MayBegin) → ⊥ }
+    ensures serves_on { (o : Origin) (r : Recipes) (made : List Fitted) → MayFollow (with_recipes r (left_by (is_back o) stops_it)) (Changed made no_failures true) → ⊥ }
+    ensures cut { (o : Origin) → MayFollow (left_by (beside_up o) (Cut (asked 0 (seen.Killed 7)) ∷ [])) (Moved 1 event.MayBegin) → ⊥ }
+    ensures uncut { (o : Origin) → MayFollow (beside_up o) (Moved 1 event.MayBegin) }
     ensures unasked { (o : Origin) → MayFollow (left_by (tried o 0) records_it) (Slept (not_asked 0 (seen.Elapsed 1000))) → ⊥ }
 {}
 

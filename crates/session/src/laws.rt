@@ -1,5 +1,13 @@
 // Laws of histories, on functions that do nothing.
-ghost use Rattle.std.specs.Prelude.{◌≡◌, ◌++◌, List};
+ghost use Rattle.std.specs.Prelude.{◌≡◌, ◌++◌, ◌∷◌, [], ℕ, List, Some};
+ghost use Rattle.nuc_base.specs.declared.kinds.Step.TheVariants as step;
+ghost use Rattle.interpolation.specs.declared.scope.Scope.{Scope};
+ghost use Rattle.interpolation.specs.Variables.{HasNoVariable};
+ghost use Rattle.records.specs.Stored.{Item};
+ghost use Rattle.records.specs.declared.record.Origin.{Origin};
+ghost use Rattle.device.specs.Scopes.{IsScopeOf};
+ghost use Rattle.supervisor.specs.Made.{AreFitted, IsStepAt};
+ghost use Rattle.session.specs.Ready.{RunsOnly, plain_def, plain_step, running_item};
 ghost use Rattle.session.specs.Happenings.{Happening, records_of, entries_of};
 ghost use Rattle.session.specs.Places.{Place, left_by};
 ghost use Rattle.session.specs.Follows.{IsProper};
@@ -11,6 +19,14 @@ pub fn joins()
     ensures left { (p : Place) (h g : List Happening) → left_by p (h ++ g) ≡ left_by (left_by p g) h }
     ensures records { (h g : List Happening) → records_of (h ++ g) ≡ records_of g ++ records_of h }
     ensures entries { (h g : List Happening) → entries_of (h ++ g) ≡ entries_of g ++ entries_of h }
+{}
+
+/// What rows of changes and of bootstraps have as their premise is met: by no items, and by an item with a scope whose
+/// recipe has one run step, or a bootstrap, without variables.
+pub fn made_ready()
+    ensures none { (o : Origin) → AreFitted o [] [] }
+    ensures one { (o : Origin) (i : Item) (text : List ℕ) (scope : Scope) (is : IsScopeOf o (i ∷ []) 0 scope) → RunsOnly is.recipe text → AreFitted o (i ∷ []) (running_item o i text ∷ []) }
+    ensures boot { (o : Origin) (i : Item) (text : List ℕ) (scope : Scope) (is : IsScopeOf o (i ∷ []) 0 scope) → HasNoVariable text → is.recipe.bootstrap ≡ Some (plain_def text (Some 120000)) → IsStepAt o (i ∷ []) 0 step.Bootstrap (Some (plain_step o i text (Some 120000))) }
 {}
 
 /// Failures and ends of bootstraps are recorded before the next step starts and before anything waits, each as it came,

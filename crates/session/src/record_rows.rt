@@ -25,7 +25,7 @@ pub fn tries_again_row()
     ensures stops { (o : Origin) → IsProper (after_again_tries o) again_stops }
     ensures ends { (o : Origin) → IsEnd (after_again_stops o) statuses.Done false }
     ensures starts { (o : Origin) → MayFollow (after_again_fails o) (starts (asked 2) 1 0 step.Startup (codes "s")) → ⊥ }
-    ensures begins { (o : Origin) → MayFollow (left_by (after_again_fails o) (Moved 0 event.Retry ∷ [])) (begins 0) → ⊥ }
+    ensures retries { (o : Origin) → MayFollow (after_again_fails o) (Moved 0 event.Retry) → ⊥ }
     ensures as_other { (o : Origin) → MayFollow (after_again_fails o) (fails a step.Startup (exits.Code (pos 2))) → ⊥ }
     ensures as_step { (o : Origin) → MayFollow (after_again_fails o) (fails a step.Run bad) → ⊥ }
     ensures before { (o : Origin) → MayFollow (left_by (after_again o) (starts (asked 0) 0 0 step.Startup (codes "s") ∷ Asked 0 ∷ begins 0 ∷ begins 0 ∷ [])) (fails a step.Startup bad) → ⊥ }
@@ -71,6 +71,6 @@ pub fn forgets_at_close_row()
     ensures again { (o : Origin) → IsProper (after_later_fails o) later_again }
     ensures ends { (o : Origin) → IsEnd (after_later_again o) statuses.TurnsOver false }
     ensures idles { (o : Origin) → MayFollow (after_later_fails o) (Questioned nothing) → ⊥ }
-    ensures waits { (o : Origin) → MayFollow (left_by (after_later_fails o) (Questioned nothing ∷ [])) (passes (asked 7) 1000) → ⊥ }
+    ensures waits { (o : Origin) → MayFollow (after_later_fails o) (passes (asked 7) 1000) → ⊥ }
     ensures recorded { (o : Origin) → MayFollow (left_by (after_later_runs o) (Heard 0 ∷ Asked 7 ∷ dies (not_asked 0) 0 0 step.Run bad 1000 ∷ Questioned nothing ∷ [])) (fails a step.Run bad) → ⊥ }
 {}

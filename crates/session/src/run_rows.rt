@@ -3,6 +3,7 @@ ghost use Rattle.std.specs.Prelude.{◌≡◌, ◌∷◌, [], List, true, false,
 ghost use Rattle.nuc_base.specs.declared.kinds.Step.TheVariants as step;
 ghost use Rattle.nuc_base.specs.declared.kinds.Outcome.TheVariants as outcomes;
 ghost use Rattle.lifecycle.specs.declared.kinds.State.TheVariants as state;
+ghost use Rattle.device.specs.Lawful.{no_failures};
 ghost use Rattle.records.specs.Stored.{Closed, Activating, StepFailed, Failing};
 ghost use Rattle.nuc_base.specs.declared.kinds.Exit.TheVariants as exits;
 ghost use Rattle.lifecycle.specs.declared.kinds.LifeEvent.TheVariants as event;
@@ -31,7 +32,7 @@ pub fn starts_nothing()
     ensures changed { (o : Origin) → MayFollow (hello_changed o) (Kept (Closed outcomes.Successful)) → ⊥ }
     ensures unchanged { (o : Origin) → MayFollow (left_by (hello_accepted o) (Kept Activating ∷ [])) (Kept (Closed outcomes.Successful)) → ⊥ }
     ensures begun { (o : Origin) → MayFollow (hello_begun o) (Kept (Closed outcomes.Successful)) → ⊥ }
-    ensures twice { (o : Origin) → MayFollow (hello_changed o) (Changed (hello_up ∷ []) [] false) → ⊥ }
+    ensures twice { (o : Origin) (r : Recipes) (made : List Fitted) → MayFollow (with_recipes r (hello_changed o)) (Changed made no_failures false) → ⊥ }
     ensures unanswered { (o : Origin) → MayFollow (left_by (hello_begun o) (Asked 0 ∷ [])) (Slept (asked 0 (seen.Elapsed 1000))) → ⊥ }
     ensures unasked { (o : Origin) → MayFollow (hello_begun o) (Ran (not_asked 0 (seen.Started 0 (script (codes "r")))) 0 step.Run) → ⊥ }
     ensures other { (o : Origin) → MayFollow (left_by (hello_begun o) (Asked 0 ∷ [])) (Ran (asked 0 (seen.Started 0 (script (codes "x")))) 0 step.Run) → ⊥ }

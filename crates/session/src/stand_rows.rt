@@ -47,7 +47,7 @@ pub fn steady_failures_row()
     ensures stops { (o : Origin) → IsProper (after_steady_third o) steady_stops }
     ensures ends { (o : Origin) → IsEnd (after_steady_stops o) statuses.TurnsOver false }
     ensures idles { (o : Origin) → MayFollow (after_steady_again o) (Questioned nothing) → ⊥ }
-    ensures waits { (o : Origin) → MayFollow (left_by (after_steady_again o) (Questioned nothing ∷ [])) (passes (not_asked 9) 1000) → ⊥ }
+    ensures waits { (o : Origin) → MayFollow (after_steady_again o) (passes (not_asked 9) 1000) → ⊥ }
     ensures sooner { (o : Origin) → MayFollow (after_steady_fails o) (Moved 1 event.Retry) → ⊥ }
     ensures recorded { (o : Origin) → MayFollow (left_by (after_steady o) (Heard 0 ∷ refuses (not_asked 0) 0 step.Startup (codes "s") ∷ begins 0 ∷ begins 0 ∷ starts (asked 0) 0 1 step.Run (codes "r") ∷ Asked 0 ∷ begins 1 ∷ begins 1 ∷ [])) (fails a step.Startup exits.NotStarted) → ⊥ }
 {}
@@ -75,7 +75,7 @@ pub fn installs_first_row()
     ensures opens_items { (o : Origin) (r : Recipes) (made : List Fitted) → AreFitted o (read_as r (item_a ∷ [])) made → IsProper (with_recipes r (after_installs_taken o)) (Changed made no_failures false ∷ []) }
     ensures comes { (o : Origin) → IsProper (after_installs o) installs_comes }
     ensures startup { (o : Origin) → MayFollow (left_by (after_installs o) (Asked 0 ∷ begins 0 ∷ [])) (starts (asked 0) 0 0 step.Startup (codes "s")) → ⊥ }
-    ensures booting { (o : Origin) → MayFollow (left_by (fresh o) (Kept (Accepted (plan_of (item_a ∷ []) [])) ∷ [])) (Changed (installs_a ∷ []) no_failures false) → ⊥ }
+    ensures booting { (o : Origin) (r : Recipes) (made : List Fitted) → MayFollow (with_recipes r (left_by (fresh o) (Kept (Accepted (plan_of (item_a ∷ []) [])) ∷ []))) (Changed made no_failures false) → ⊥ }
     ensures begins { (o : Origin) → MayFollow (left_by (fresh o) (Kept (Accepted (plan_of (item_a ∷ []) [])) ∷ [])) (begins 0) → ⊥ }
 {}
 
@@ -116,5 +116,5 @@ pub fn stays_broken_row()
     ensures retries { (o : Origin) → MayFollow (after_stays_closes o) (Moved 0 event.Retry) → ⊥ }
     ensures begins { (o : Origin) → MayFollow (after_stays_closes o) (begins 0) → ⊥ }
     ensures starts { (o : Origin) → MayFollow (after_stays_closes o) (starts (not_asked 0) 0 0 step.Startup (codes "s")) → ⊥ }
-    ensures changed { (o : Origin) → MayFollow (after_stays_closes o) (Changed (up_a ∷ []) no_failures true) → ⊥ }
+    ensures changed { (o : Origin) (r : Recipes) (made : List Fitted) → MayFollow (with_recipes r (after_stays_closes o)) (Changed made no_failures true) → ⊥ }
 {}

@@ -87,7 +87,7 @@ pub fn document_comes_row()
     ensures stops { (o : Origin) → IsProper (after_adds_comes o) adds_stops }
     ensures ends { (o : Origin) → IsEnd (after_adds_stops o) statuses.TurnsOver false }
     ensures asks { (o : Origin) → MayFollow (after_adds o) (Questioned document) → ⊥ }
-    ensures accepts { (o : Origin) → MayFollow (left_by (after_adds o) (Questioned document ∷ [])) (Kept (Accepted (plan_of both []))) → ⊥ }
+    ensures accepts { (o : Origin) → MayFollow (left_by (after_adds_starts o) (Asked 120000 ∷ Questioned document ∷ [])) (Kept (Accepted (plan_of both []))) → ⊥ }
     ensures stays { (o : Origin) → MayFollow (after_adds_takes o) (kills (not_asked 0) 0 0 step.Startup) → ⊥ }
 {}
 
