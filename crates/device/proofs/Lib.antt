@@ -1,6 +1,7 @@
 pub mod Course
 pub mod Meeting
 pub mod OneDevice
+pub mod Beginnings
 pub mod Origins
 pub mod Places
 pub mod Settling
@@ -24,3 +25,9 @@ pub mod Ending
 pub mod FirstPlaces
 pub mod Marked
 pub mod Sparing
+pub mod Stocks
+pub mod Fronting
+pub mod Restoring
+pub mod Telling
+pub mod Walking
+pub mod Begun

@@ -4,8 +4,8 @@ use Rattle.std.specs.Prelude.{if◌then◌else◌, option_map, ◌&&◌, nat_lt}
 use Rattle.std.proofs.lemmas.Bool.{ltb-true, ltb-false}
 use Rattle.std.specs.Option.{IfSome, IsSome, IsSomeAnd}
 use Rattle.std.proofs.lemmas.Option.{none-some}
-use Rattle.std.specs.List.{AllByRecursion}
-use Rattle.std.proofs.lemmas.List.{append-nil}
+use Rattle.std.specs.List.{AllByRecursion, AllZip}
+use Rattle.std.proofs.lemmas.List.{append-nil, append_cancel_left}
 use Rattle.gate_log.specs.Entries.{most_file}
 use Rattle.gate_log.specs.Place.{place_behind, IsEntryAt}
 use Rattle.records.specs.Stored.{Plan, Record, Genesis, Accepted, BootBegun, BootEnded, Activating, StepFailed, Failing, FailingBack, Closed}
@@ -18,7 +18,7 @@ use Rattle.device.specs.declared.fault.ReplayFault.TheVariants as fault
 use Rattle.device.specs.Devices.{Device, Pending, no_device, device_view, pending_view}
 use Rattle.records.specs.declared.record.Origin.{Origin}
 use Rattle.device.specs.Lawful.{Allowed, applied, MayAccept, MayBegin, MayEnd, MayActivate, MayFail, MayBreak, MayGoBack, MayClose}
-use Rattle.device.specs.Standing.{Takes, Plays, Means, SpellsNoPlan, IsBehindAccepted, IsBadAt, LacksRoomAt, IsDamagedAt, Room, Replayed, TookEntry}
+use Rattle.device.specs.Standing.{Takes, Plays, Means, IsNoTurnBehind, SpellsNoPlan, IsBehindAccepted, IsBadAt, LacksRoomAt, IsDamagedAt, Room, Replayed, TookEntry, BeginsAt, BegunAt}
 use Rattle.device.specs.Limits.{room_of_plan}
 
 -- the walk is at this place, d is the device there, and behind its pending plan's entry is this place
@@ -28,13 +28,28 @@ pub record Reached (payloads : List (List ℕ)) (end at behind : ℕ) (d : Devic
   pub split : payloads ≡ done ++ rest
   pub at_is : at ≡ place_behind done
   pub end_is : end ≡ place_behind payloads
-  pub plays : Plays no_device done d
+  pub means : Means done d
+  pub no_turn : (p : List ℕ) (ps : List (List ℕ)) → rest ≡ p ∷ ps → IsNoTurnBehind done p
   pub behind_is : IfSome d.pending (λ q. IsBehindAccepted done behind)
 
-pub starts : (payloads : List (List ℕ)) (end : ℕ) → end ≡ place_behind payloads → Reached payloads end 0 0 no_device
-starts payloads end is = record { done = []; rest = payloads; split = refl; at_is = refl; end_is = is; plays = refl; behind_is = tt }
+idle_behind : (done : List (List ℕ)) (behind : ℕ) (o : Option Pending) → o ≡ None → IfSome o (λ q. IsBehindAccepted done behind)
+idle_behind done behind None is = tt
+idle_behind done behind (Some q) is = absurd cc
 
-place_on : (a b : List (List ℕ)) → place_behind (a ++ b) ≡ place_behind a + place_behind b
+-- at the beginning, where no plan is pending
+pub starts : (payloads : List (List ℕ)) (end at behind : ℕ) (d : Device) → end ≡ place_behind payloads → d.pending ≡ None → BeginsAt payloads d at → Reached payloads end at behind d
+starts payloads end at behind d is idle begins = record {
+  done = begins.front;
+  rest = begins.after;
+  split = begins.split;
+  at_is = begins.place;
+  end_is = is;
+  means = begins.means;
+  no_turn = begins.no_turn;
+  behind_is = idle_behind begins.front behind d.pending idle;
+}
+
+pub place_on : (a b : List (List ℕ)) → place_behind (a ++ b) ≡ place_behind a + place_behind b
 place_on [] b = omega arith
 place_on (p ∷ a) b = omega (arith, place_on a b)
 
@@ -60,7 +75,24 @@ plays_more : (ps : List (List ℕ)) (p : List ℕ) (d c e : Device) → Plays d 
 plays_more [] p d c e h t = (e, subst (λ x. Takes x p e) h t, refl)
 plays_more (q ∷ ps) p d c e h t = (h.0, h.1, plays_more ps p h.0 c e h.2 t)
 
-place_more : (ps : List (List ℕ)) (p : List ℕ) → place_behind (ps ++ p ∷ []) ≡ place_behind ps + (5 + length p)
+means_more : (ps : List (List ℕ)) (p : List ℕ) (c e : Device) → Means ps c → Takes c p e → Means (ps ++ p ∷ []) e
+means_more ps p c e (inl plays) t = inl (plays_more ps p no_device c e plays t)
+means_more ps p c e (inr anew) t = inr (record {
+  front = anew.front;
+  after = anew.after ++ p ∷ [];
+  split = ap (λ (l : List (List ℕ)). l ++ p ∷ []) anew.split ∙ append_assoc anew.front anew.after (p ∷ []);
+  records = anew.records;
+  spelled = anew.spelled;
+  begun = anew.begun;
+  is = anew.is;
+  plays = plays_more anew.after p anew.begun c e anew.plays t;
+})
+
+no_turn_later : (done : List (List ℕ)) (x p : List ℕ) → IsNoTurnBehind (done ++ x ∷ []) p
+no_turn_later [] x p = tt
+no_turn_later (q ∷ done) x p = tt
+
+pub place_more : (ps : List (List ℕ)) (p : List ℕ) → place_behind (ps ++ p ∷ []) ≡ place_behind ps + (5 + length p)
 place_more [] p = omega arith
 place_more (q ∷ ps) p = omega (arith, place_more ps p)
 
@@ -145,7 +177,8 @@ goes_on payloads end at behind to d c r n to_is t =
       split = n.split ∙ sym (append_assoc r.done (n.first ∷ []) n.others);
       at_is = place;
       end_is = r.end_is;
-      plays = plays_more r.done n.first no_device d c r.plays t;
+      means = means_more r.done n.first d c r.means t;
+      no_turn = λ p ps first. no_turn_later r.done n.first p;
       behind_is = behind_goes_on r.done n.first behind to d c t place r.behind_is;
     }
 
@@ -158,13 +191,14 @@ is_bad payloads end at behind d r n refused = record {
   split = n.split;
   place = r.at_is;
   reached = d;
-  means = r.plays;
+  means = r.means;
+  no_turn = r.no_turn n.first n.others (append_cancel_left r.done r.rest (n.first ∷ n.others) (sym r.split ∙ n.split));
   refused = refused;
 }
 
 -- the walk is at the end
 record Ended (payloads : List (List ℕ)) (behind : ℕ) (d : Device) : Type 0 where
-  plays : Plays no_device payloads d
+  means : Means payloads d
   behind_is : IfSome d.pending (λ q. IsBehindAccepted payloads behind)
 
 ended : (payloads : List (List ℕ)) (end at behind : ℕ) (d : Device) → Reached payloads end at behind d → end ≤ at → Ended payloads behind d
@@ -174,14 +208,14 @@ ended payloads end at behind d r le = by r.rest r.split
     by [] split =
         let all = sym (split ∙ append-nil r.done) in
         record {
-          plays = subst (λ ps. Plays no_device ps d) all r.plays;
+          means = subst (λ ps. Means ps d) all r.means;
           behind_is = subst (λ ps. IfSome d.pending (λ q. IsBehindAccepted ps behind)) all r.behind_is;
         }
     by (p ∷ ps) split = let same = ap place_behind split in absurd (omega (arith, le, r.at_is, r.end_is, same, place_on r.done (p ∷ ps)))
 
 is_all : (payloads : List (List ℕ)) (end at behind : ℕ) (d : Device) → Reached payloads end at behind d → end ≤ at → (IsSome d.pending → behind + room_of_plan ≤ most_file)
     → Means payloads d × Room payloads d
-is_all payloads end at behind d r le room = let e = ended payloads end at behind d r le in (e.plays, by d.pending e.behind_is room)
+is_all payloads end at behind d r le room = let e = ended payloads end at behind d r le in (e.means, by d.pending e.behind_is room)
   where
     by : (o : Option Pending) → IfSome o (λ q. IsBehindAccepted payloads behind) → (IsSome o → behind + room_of_plan ≤ most_file) → IfSome o (λ q. (at : ℕ) × IsBehindAccepted payloads at × (at + room_of_plan ≤ most_file))
     by None is room = tt
@@ -190,7 +224,7 @@ is_all payloads end at behind d r le room = let e = ended payloads end at behind
 lacks_room : (payloads : List (List ℕ)) (end at behind : ℕ) (d : Device) → Reached payloads end at behind d → end ≤ at → IsSome d.pending → most_file < behind + room_of_plan → LacksRoomAt payloads behind
 lacks_room payloads end at behind d r le some lacks =
     let e = ended payloads end at behind d r le in
-    record { reached = d; means = e.plays; pending = some; behind = by d.pending some e.behind_is; lacks = lacks }
+    record { reached = d; means = e.means; pending = some; behind = by d.pending some e.behind_is; lacks = lacks }
   where
     by : (o : Option Pending) → IsSome o → IfSome o (λ q. IsBehindAccepted payloads behind) → IsBehindAccepted payloads behind
     by None some is = absurd cc
@@ -218,6 +252,17 @@ fault_told payloads end at behind d e r n fault.Disk took = tt
 fault_told payloads end at behind d e r n (fault.Damaged place) took = inl (subst (IsBadAt payloads) (sym took.0) (is_bad payloads end at behind d r n took.1))
 fault_told payloads end at behind d e r n fault.NoMemory took = tt
 
+-- where the beginning has a fault
+pub begin_fault : (payloads : List (List ℕ)) (f : ReplayFault) → BegunAt payloads (Err f) → Replayed payloads (Err f)
+begin_fault payloads fault.Disk begun = tt
+begin_fault payloads (fault.Damaged place) begun = inr (inr begun)
+begin_fault payloads fault.NoMemory begun = tt
+
+-- as the code has its device without a pending plan
+pub idle_view : (o : Option code_pending.Pending) → o ≡ None → option_map pending_view o ≡ None
+idle_view None is = refl
+idle_view (Some q) is = absurd cc
+
 both_true : (a b : Bool) → (a && b) ≡ true → (a ≡ true) × (b ≡ true)
 both_true true b h = (refl, h)
 both_true false b h = absurd cc
@@ -230,7 +275,7 @@ pub room_lacks : (payloads : List (List ℕ)) (end at behind : ℕ) (device : co
     → (is_some device.pending && nat_lt most_file (behind + room_of_plan)) ≡ true → IsDamagedAt payloads behind
 room_lacks payloads end at behind device r le lacks =
     let h = both_true (is_some device.pending) (nat_lt most_file (behind + room_of_plan)) lacks in
-    inr (lacks_room payloads end at behind (device_view device) r le (shown device.pending ∙ h.0) (ltb-true most_file (behind + room_of_plan) h.1))
+    inr (inl (lacks_room payloads end at behind (device_view device) r le (shown device.pending ∙ h.0) (ltb-true most_file (behind + room_of_plan) h.1)))
 
 pub has_room : (payloads : List (List ℕ)) (end at behind : ℕ) (device : code.Device) → Reached payloads end at behind (device_view device) → end ≤ at
     → (is_some device.pending && nat_lt most_file (behind + room_of_plan)) ≡ false → Means payloads (device_view device) × Room payloads (device_view device)

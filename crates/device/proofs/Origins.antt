@@ -1,11 +1,12 @@
 -- A device has an origin from its first record on.
-use Rattle.std.proofs.Common.{◌≡◌, ◌∙◌, ℕ, List, [], ◌∷◌, ap, refl, Option, Some, None}
+use Rattle.std.proofs.Common.{◌≡◌, ◌∙◌, inl, inr, ℕ, List, [], ◌∷◌, ap, refl, Option, Some, None}
+use Rattle.std.specs.Option.{IsSome}
 use Rattle.nuc_base.specs.declared.kinds.Outcome.{Outcome}
 use Rattle.records.specs.declared.record.Origin.{Origin}
 use Rattle.records.specs.Stored.{Record, Genesis, Closed}
 use Rattle.device.specs.Devices.{Device, Pending, no_device}
 use Rattle.device.specs.Lawful.{Allowed, applied, close_pending}
-use Rattle.device.specs.Standing.{Plays}
+use Rattle.device.specs.Standing.{Plays, Means}
 
 close_origin : (o : Outcome) (d : Device) (q : Option Pending) → (close_pending o d q).origin ≡ d.origin
 close_origin o d None = refl
@@ -26,10 +27,17 @@ first_origin : (r : Record) → Allowed no_device r → (o : Origin) × ((applie
 first_origin (Genesis o) allowed = (o, refl)
 first_origin _ allowed = absurd allowed
 
+has_one : (o : Option Origin) → IsSome o → (x : Origin) × (o ≡ Some x)
+has_one None some = absurd cc
+has_one (Some x) some = (x, refl)
+
 -- where there is an entry
-pub has_origin : (ps : List (List ℕ)) (d : Device) → (ps ≡ [] → ⊥) → Plays no_device ps d → (o : Origin) × (d.origin ≡ Some o)
-has_origin [] d some plays = absurd (some refl)
-has_origin (p ∷ ps) d some plays =
+pub has_origin : (ps : List (List ℕ)) (d : Device) → (ps ≡ [] → ⊥) → Means ps d → (o : Origin) × (d.origin ≡ Some o)
+has_origin [] d some (inl plays) = absurd (some refl)
+has_origin (p ∷ ps) d some (inl plays) =
     let step = plays.1 in
     let first = first_origin step.entry step.lawful.allowed in
     (first.0, plays_on plays.0 ps d first.0 (ap (λ (x : Device). x.origin) step.lawful.leaves ∙ first.1) plays.2)
+has_origin ps d some (inr anew) =
+    let first = has_one anew.begun.origin anew.is.has.origin in
+    (first.0, plays_on anew.begun anew.after d first.0 first.1 anew.plays)

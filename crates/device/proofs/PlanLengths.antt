@@ -35,7 +35,7 @@ hold_last : {Fault : Type 0} (above lines : Table Fault) → AllHold (above ++ l
 hold_last [] lines h = h
 hold_last (line ∷ above) lines h = hold_last above lines h.1
 
-as_long : {A B : Type 0} (R : A → B → Type 0) (xs : List A) (ys : List B) → AllZip R xs ys → length ys ≡ length xs
+pub as_long : {A B : Type 0} (R : A → B → Type 0) (xs : List A) (ys : List B) → AllZip R xs ys → length ys ≡ length xs
 as_long R [] [] z = refl
 as_long R [] (y ∷ ys) z = absurd z
 as_long R (x ∷ xs) [] z = absurd z
@@ -49,7 +49,7 @@ few_at : (m : Option Data) (xs : List Artifact) → AllHold (on m chosen_lines) 
 few_at None xs h a = rw a (omega arith)
 few_at (Some v) xs h a = few_in (present (get (spelled Artifacts) v)) xs (hold_last (optional (spelled Lifecycle) v lifecycle_lines) (optional (spelled Artifacts) v artifacts_lines) h) a
 
-few_files : (bytes : List ℕ) (platform : Platform) (recipe : Recipe) → Reads bytes platform recipe → length recipe.artifacts ≤ 64
+pub few_files : (bytes : List ℕ) (platform : Platform) (recipe : Recipe) → Reads bytes platform recipe → length recipe.artifacts ≤ 64
 few_files bytes platform recipe r =
     let d = r.0 in
     let parts = hold_last ((head_lines d ++ optional (spelled ComponentConfiguration) d config_lines) ++ optional (spelled ComponentDependencies) d dependencies_lines) (part_lines platform d) r.2 in

@@ -24,7 +24,7 @@ not_same x y other = by (bytes_eq y x) refl
     by false is = refl
     by true is = absurd (false≢true (sym other ∙ (bytes_eq-Decides x y).1 (sym ((bytes_eq-Decides y x).0 is))))
 
-all_more : {A : Type 0} (P : A → Type 0) (xs : List A) (x : A) → AllByRecursion P xs → P x → AllByRecursion P (xs ++ x ∷ [])
+pub all_more : {A : Type 0} (P : A → Type 0) (xs : List A) (x : A) → AllByRecursion P xs → P x → AllByRecursion P (xs ++ x ∷ [])
 all_more P [] x h p = (p, tt)
 all_more P (y ∷ xs) x h p = (h.0, all_more P xs x h.1 p)
 
@@ -46,7 +46,7 @@ apart (e ∷ es) id none = by (bytes_eq id e.0) refl none (apart es id)
     by true is h rest = absurd cc
     by false is h rest = (not_same id e.0 is, rest h)
 
-distinct_more : (xs : List (List ℕ)) (id : List ℕ) → AllByRecursion (λ y. bytes_eq y id ≡ false) xs → IsDistinct bytes_eq xs → IsDistinct bytes_eq (xs ++ id ∷ [])
+pub distinct_more : (xs : List (List ℕ)) (id : List ℕ) → AllByRecursion (λ y. bytes_eq y id ≡ false) xs → IsDistinct bytes_eq xs → IsDistinct bytes_eq (xs ++ id ∷ [])
 unfolding IsDistinct
 distinct_more [] id h d = (tt, tt)
 distinct_more (x ∷ xs) id h d = (all_more (λ y. bytes_eq x y ≡ false) xs id d.0 h.0, distinct_more xs id h.1 d.1)

@@ -22,7 +22,7 @@ flip_false : (x y : List ℕ) → bytes_eq y x ≡ false → bytes_eq x y ≡ fa
 flip_false x y h = false_from_ne_true (bytes_eq x y) (λ e. false≢true (sym h ∙ (bytes_eq-Decides y x).1 (sym ((bytes_eq-Decides x y).0 e))))
 
 -- one of texts that differ is none of those before it
-none_before : (ys : List (List ℕ)) (x : List ℕ) (zs : List (List ℕ)) → IsDistinct bytes_eq (ys ++ x ∷ zs) → AllByRecursion (λ y. bytes_eq x y ≡ false) ys
+pub none_before : (ys : List (List ℕ)) (x : List ℕ) (zs : List (List ℕ)) → IsDistinct bytes_eq (ys ++ x ∷ zs) → AllByRecursion (λ y. bytes_eq x y ≡ false) ys
 none_before [] x zs differ = tt
 none_before (y ∷ ys) x zs differ =
     (flip_false x y (all_at (λ z. bytes_eq y z ≡ false) ys x zs (IsDistinct-head bytes_eq y (ys ++ x ∷ zs) differ)), none_before ys x zs (IsDistinct-tail bytes_eq y (ys ++ x ∷ zs) differ))
@@ -36,7 +36,7 @@ keys_before key xs i x below is differ =
     let whole : map key xs ≡ map key (take i xs) ++ key x ∷ map key (drop (i + 1) xs) = ap (map key) (split xs i x below is) ∙ map-append key (take i xs) (x ∷ drop (i + 1) xs) in
     none_before (map key (take i xs)) (key x) (map key (drop (i + 1) xs)) (subst (IsDistinct bytes_eq) whole differ)
 
-fresh : (id : List ℕ) (es : List (List ℕ × Outcome)) → AllByRecursion (λ y. bytes_eq id y ≡ false) (ids es) → lookup (bytes_eq id) es ≡ None
+pub fresh : (id : List ℕ) (es : List (List ℕ × Outcome)) → AllByRecursion (λ y. bytes_eq id y ≡ false) (ids es) → lookup (bytes_eq id) es ≡ None
 fresh id [] h = refl
 fresh id (e ∷ es) h = rw h.0 (fresh id es h.1)
 

@@ -15,6 +15,8 @@ pub mod Rooms
 pub mod Met
 pub mod Does
 pub mod Free
+pub mod Fronts
+pub mod Rebuilt
 pub mod Standing
 pub mod Damage
 pub mod Faults

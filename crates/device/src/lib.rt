@@ -15,6 +15,7 @@ mod backs;
 mod closed;
 mod device;
 mod fault;
+mod fronts;
 mod groups;
 mod laws;
 mod limits;
@@ -26,6 +27,7 @@ mod plan_needs;
 mod plan_recipes;
 mod plan_sizes;
 mod plans;
+mod rebuilding;
 mod replaying;
 mod scopes;
 mod spare;
@@ -34,7 +36,8 @@ mod steps;
 
 pub use closed::Closed;
 pub use device::Device;
-pub use fault::{ApplyFault, ReplayFault};
+pub use fault::{ApplyFault, ReplayFault, RestoreFault};
+pub use fronts::fronts_are_one;
 pub use groups::Groups;
 pub use laws::{
     devices_are_sound, met_devices_stay_met, none_is_stuck, revisions_rise,
@@ -49,6 +52,8 @@ pub use scopes::scope_of;
 pub use spare::Spare;
 pub use staged::{Pending, Stage};
 
+#[cfg(test)]
+mod fronts_tests;
 #[cfg(test)]
 mod marks_tests;
 #[cfg(test)]

@@ -48,7 +48,7 @@ fn names_differ(names: &[Name]) -> bool
     true
 }
 
-fn are_requirements(requirements: &[Requirement]) -> bool
+pub(crate) fn are_requirements(requirements: &[Requirement]) -> bool
     ensures { IsTrue result ↔ AreRequirements requirements.now }
 {
     requirements.len() <= MOST_ELEMENTS && requirements_rise(requirements)

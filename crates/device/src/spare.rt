@@ -54,7 +54,7 @@ fn copy_groups(alloc: Global, groups: &Groups) -> Result<Groups, NoMemory>
 }
 
 /// Puts the group in its place.
-fn join(alloc: Global, groups: &mut Groups, group: Group) -> Result<(), NoMemory>
+pub(crate) fn join(alloc: Global, groups: &mut Groups, group: Group) -> Result<(), NoMemory>
     ensures { OnOk result (groups.new.list ≡ put_group groups.old.list group) }
 {
     groups.make_room()?;

@@ -64,7 +64,24 @@ const RECORDS: &[(&str, &[u8])] = &[
     ),
     ("failing-back-a", b"\x1f\0\0\0\x01a"),
     ("failing-back-b", b"\x1f\0\0\0\x01b"),
+    (
+        "turned",
+        b"\x19\0\0\0\0\0\0\0\x02\0\0\0\x03/gg\0\0\0\x02t1\0\0\0\x062.12.0\0\0\0\x05linux\0\0\0\x05amd64\0\0\0\x01\0\0\0\0\0\0\0\x01",
+    ),
+    (
+        "turned-group",
+        b"\x19\0\0\0\0\0\0\0\x01\0\0\0\x03/gg\0\0\0\x02t1\0\0\0\x062.12.0\0\0\0\x05linux\0\0\0\x05amd64\0\0\0\x01\0\0\0\0\0\0\0\0",
+    ),
+    (
+        "turned-0",
+        b"\x19\0\0\0\0\0\0\0\0\0\0\0\x03/gg\0\0\0\x02t1\0\0\0\x062.12.0\0\0\0\x05linux\0\0\0\x05amd64\0\0\0\0\0\0\0\0\0\0\0\0",
+    ),
     ("grouped", b"\x1a\0\0\0\x01g\0\0\0\0"),
+    (
+        "falling",
+        b"\x1a\0\0\0\x01g\0\0\0\x02\0\0\0\x01b\0\0\0\x01*\0\0\0\x01a\0\0\0\x01*",
+    ),
+    ("junk", b"\x99"),
     ("ended", b"\x1c\0\0\0\x01x\x01"),
     ("begin-a", b"\x13\0\0\0\x01a"),
     ("begin-b", b"\x13\0\0\0\x01b"),
@@ -380,7 +397,7 @@ fn each_row_is_lawful_where_its_conditions_hold(rt: HostRuntime) -> Result<(), F
 
 /// What is found of a journal: the first bad place, or how many deployments are closed.
 #[derive(Clone, Copy, Debug, PartialEq, Eq)]
-enum Found {
+pub(crate) enum Found {
     NotInitialised,
     Damaged(u64),
     Failed,
@@ -416,7 +433,12 @@ fn found_on(alloc: Global, disk: &mut MemoryDisk, groups: usize) -> Found {
 }
 
 /// What is found of a journal of these bytes, the first of them changed.
-fn found_in(alloc: Global, first: u8, bytes: &[u8], groups: usize) -> Result<Found, Fail> {
+pub(crate) fn found_in(
+    alloc: Global,
+    first: u8,
+    bytes: &[u8],
+    groups: usize,
+) -> Result<Found, Fail> {
     let mut disk = MemoryDisk::new(alloc);
     disk.write_at("journal", 0, bytes)?;
     disk.write_at("journal", 0, &[first])?;
@@ -442,7 +464,7 @@ fn a_journal_stands_for_its_device(rt: HostRuntime) -> Result<(), Fail> {
 }
 
 /// Adds an entry of a short payload to the journal.
-fn push_entry(journal: &mut Vec<u8>, payload: &[u8]) -> Result<(), Fail> {
+pub(crate) fn push_entry(journal: &mut Vec<u8>, payload: &[u8]) -> Result<(), Fail> {
     let len = payload.len().min(1_000_000) as u32;
     journal.push(1)?;
     journal.extend_from_slice(&len.to_be_bytes())?;

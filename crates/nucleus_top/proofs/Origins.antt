@@ -1,5 +1,5 @@
 -- The device that begins with an origin, by its first entry.
-use Rattle.std.proofs.Common.{◌≡◌, ◌∙◌, ℕ, List, [], ◌∷◌, ap, refl, Option, Some, is_some, false, sym}
+use Rattle.std.proofs.Common.{◌≡◌, ◌∙◌, ℕ, List, [], ◌∷◌, ap, inl, refl, Option, Some, is_some, false, sym}
 use Rattle.std.proofs.lemmas.Bool.{false≢true}
 use Rattle.disk_model.specs.Disk.{Image}
 use Rattle.gate_log.specs.Journal.{log_entries}
@@ -14,7 +14,7 @@ pub first_stands : (image : Image) (payload : List ℕ) (o : Origin) → IsFirst
 first_stands image payload o first entries = record {
   payloads = payload ∷ [];
   live = entries;
-  means = (begun_device o, record { entry = Genesis o; spelled = first.spelled; lawful = record { allowed = (refl, first.short); leaves = refl } }, refl);
+  means = inl (begun_device o, record { entry = Genesis o; spelled = first.spelled; lawful = record { allowed = (refl, first.short); leaves = refl } }, refl);
   room = tt;
 }
 

@@ -1,26 +1,33 @@
-use Rattle.std.proofs.Common.{refl, sym, ◌∙◌, subst, arith}
+use Rattle.std.proofs.Common.{sym, ◌∙◌, ◌+◌, ◌*◌, ◌≤◌, Option, IfSome, subst, arith}
 use Rattle.std.proofs.lemmas.Result.{err_from_is_err_and}
 use Rattle.disk_model.specs.Disk.{Image}
 use Rattle.disk_model.specs.Moments.{then_same, at_start}
 use Rattle.gate_log.specs.Journal.{reads_behind}
 use Rattle.gate_log.specs.Place.{IsEntryAt}
-use Rattle.device.specs.Devices.{Device, device_view, IsRegularDevice}
-use Rattle.device.specs.Sound.{IsSound}
-use Rattle.device.proofs.Marching.{Reached, entry_at, next, first_on, later_on, fault_told, has_room, room_lacks, starts}
-use Rattle.device.proofs.Roomy.{IsAhead, first_ahead, later_ahead, ends_ahead}
-use Rattle.device.proofs.Sounding.{none_sound}
+use Rattle.device.specs.Devices.{Pending, device_view}
+use Rattle.device.specs.Rooms.{left_of}
+use Rattle.device.proofs.Marching.{entry_at, next, first_on, later_on, fault_told, has_room, room_lacks, starts, begin_fault, idle_view}
+use Rattle.device.proofs.Roomy.{first_ahead, later_ahead, ends_ahead}
 use Rattle.device.proofs.replaying.replay.Goals as goal
+
+pub returns-in_err-device-clause-told : goal.returns-in_err-device-clause-told
+returns-in_err-device-clause-told g c told payloads stands =
+    let p = err_from_is_err_and c.from_residual.result c.from_residual.ensures.1 in
+    rw (p.1, p.2) (begin_fault payloads c.in_err-device.field-0.0 (c.in_err-device.ensures.told told payloads stands))
 
 pub loop-at-init : goal.loop-at-init
 loop-at-init g c =
+    let device = c.in_ok-device.device in
+    let at = c.in_ok-device.at in
+    let idle = idle_view device.pending c.in_ok-device.ensures.idle in
     record {
-      goes = at_start g.met.D.Disk.laws c.args.disk.now;
-      seen = refl;
-      faults = refl;
-      regular = subst IsRegularDevice (sym c.empty-device.ensures) (record { set = λ k d lt. absurd (omega (arith, lt)); pending = tt });
-      sound = subst IsSound (sym c.empty-device.ensures) none_sound;
-      ahead = subst (IsAhead 0 0) (sym c.empty-device.ensures) tt;
-      reached = λ told payloads stands. subst (λ (d : Device). Reached payloads c.end-end.result 0 0 d) (sym c.empty-device.ensures) (starts payloads c.end-end.result (c.end-end.ensures ∙ g.met.J.Journal.laws.ends c.args.log.now (g.D.Disk.seen c.args.disk.now) payloads stands));
+      goes = c.begin.ensures.moments;
+      seen = c.begin.ensures.seen;
+      faults = c.in_ok-device.ensures.quiet (λ h. cc);
+      regular = c.in_ok-device.ensures.regular;
+      sound = c.in_ok-device.ensures.sound;
+      ahead = subst (λ (o : Option Pending). IfSome o (λ q. at + 256 * left_of q ≤ at + 256 * 1283)) (sym idle) tt;
+      reached = λ told payloads stands. starts payloads c.end-end.result at at (device_view device) (c.end-end.ensures ∙ g.met.J.Journal.laws.ends c.args.log.now (g.D.Disk.seen c.args.disk.now) payloads stands) idle (c.in_ok-device.ensures.told told payloads stands);
     }
 
 pub take_entry-requires-clause-place : goal.take_entry-requires-clause-place
@@ -40,7 +47,7 @@ returns-in_err-next-clause-told g c told payloads stands =
     let n = next payloads c.end-end.result c.loop-at.at c.loop-at.behind d r c.loop-at-test.true in
     let place = subst (λ (i : Image). IsEntryAt g.J.Journal.stands c.args.log.now i c.loop-at.at n.first) (sym c.loop-at.invariant.seen)
     (entry_at g.J.Journal.stands c.args.log.now (g.D.Disk.seen c.args.disk.now) payloads c.end-end.result c.loop-at.at c.loop-at.behind d r n stands) in
-    let p = err_from_is_err_and c.from_residual.result c.from_residual.ensures.1 in
+    let p = err_from_is_err_and c.from_residual-in_err-next.result c.from_residual-in_err-next.ensures.1 in
     rw (p.1, p.2) (fault_told payloads c.end-end.result c.loop-at.at c.loop-at.behind d (device_view c.take_entry.new.device) r n c.in_err-next.field-0.0 (c.in_err-next.ensures.told told n.first place))
 
 pub returns-in_err-next-clause-moments : goal.returns-in_err-next-clause-moments
