@@ -1,0 +1,9 @@
+pub mod Changing
+pub mod Facts
+pub mod Found
+pub mod Growing
+pub mod Needing
+pub mod Opening
+pub mod Planned
+pub mod Proposing
+pub mod Scripts

@@ -1,0 +1,149 @@
+-- The checks of a document in their order, up to its plan: the first that fails answers.
+use Rattle.std.specs.Prelude.{◌≡◌, ◌⊎◌, ℕ, List, [], ◌∷◌, Option, Some, Result, Ok, Err, MatchResult, ⊤}
+use Rattle.std.specs.Str.{bytes_eq}
+use Rattle.std.specs.Map.{lookup}
+use Rattle.nuc_base.specs.Faults.{Rose}
+use Rattle.nuc_base.specs.Tables.{AllHold, IsFirst}
+use Rattle.nuc_base.specs.declared.kinds.Outcome.{Outcome}
+use Rattle.recipe_reader.specs.declared.candidate.Candidate.{Candidate}
+use Rattle.library_core.specs.Library.{Content}
+use Rattle.library_core.specs.Gathered.{IsGatheredOf, KeepBytes}
+use Rattle.library_core.specs.Faults.{Gathered}
+use Rattle.library_core.specs.declared.fault.CandidatesFault.{CandidatesFault}
+use Rattle.library_core.specs.declared.fault.CandidatesFault.TheVariants as gather
+use Rattle.records.specs.Stored.{Draft, draft_view}
+use Rattle.records.specs.declared.record.Draft as code
+use Rattle.records.specs.declared.record.Origin.{Origin}
+use Rattle.device.specs.Devices.{Device}
+use Rattle.device.specs.Grouped.{revision_of}
+use Rattle.deployment_doc.specs.Reads.{ReadsDocument, IsFault}
+use Rattle.deployment_doc.specs.declared.document.Document.{Document}
+use Rattle.deployment_doc.specs.declared.fault.DocFault.{DocFault}
+use Rattle.deployment_doc.specs.declared.fault.DocFault.TheVariants as doc
+use Rattle.plan_core.specs.Plans.{room_lines, IsPlanned, IsRefused}
+use Rattle.plan_core.specs.Ready.{IsOpen, IsFresh}
+use Rattle.plan_core.specs.declared.fault.PlanFault.{PlanFault}
+use Rattle.plan_core.specs.declared.fault.PlanFault.TheVariants as plan
+use Rattle.plan_core.specs.declared.fault.Refusal.{Refusal}
+use Rattle.plan_core.specs.declared.fault.Refusal.TheVariants.{Document as BadDocument, Repeated, Stale, Candidates, Plan, NoMemory}
+
+-- ---- what is looked at
+
+-- what a call finds, and what it makes of that on its way
+pub record Facts : Type 0 where
+  pub device : Device
+  pub origin : Origin
+  pub document : Document
+  -- what the library holds, where it tells that
+  pub content : Option Content
+  pub candidates : List Candidate
+  pub draft : Draft
+  -- how often the library had failed when the call began, and when it ended
+  pub before : ℕ
+  pub after : ℕ
+
+-- ---- the checks
+
+pub data Check : Type 0 where
+  -- the bytes are a document
+  Reading : List ℕ → Check
+  -- no deployment of its id is closed
+  Opening : Check
+  -- it is no older than what its group has
+  Ageing : Check
+  -- the candidates are gathered
+  Gathering : Check
+  -- one more deployment may close, of its group
+  Room : Check
+  -- there is a plan
+  Planning : Check
+
+-- the candidates that a device has with a library
+pub record AreCandidatesOf (f : Facts) : Type 0 where
+  pub gathered : IsGatheredOf f.origin f.device.set f.candidates
+  pub kept : KeepBytes f.device.set f.candidates
+  pub told : (l : Content) → f.content ≡ Some l → Gathered l.recipes f.origin f.device.set (Ok f.candidates)
+
+abbrev pub Passes : Facts → Check → Type 0
+Passes f (Reading bytes) = ReadsDocument bytes (Ok f.document)
+Passes f Opening = IsOpen f.device f.document
+Passes f Ageing = IsFresh f.device f.document
+Passes f Gathering = AreCandidatesOf f
+Passes f Room = AllHold (room_lines f.device f.document)
+Passes f Planning = IsPlanned f.origin f.device f.candidates f.document f.draft
+
+-- ---- what a check answers that fails
+
+abbrev pub document_refusal : DocFault → Refusal
+document_refusal doc.NoMemory = NoMemory
+document_refusal fault = BadDocument fault
+
+abbrev pub gather_refusal : CandidatesFault → Refusal
+gather_refusal gather.NoMemory = NoMemory
+gather_refusal fault = Candidates fault
+
+abbrev pub plan_refusal : PlanFault → Refusal
+plan_refusal plan.NoMemory = NoMemory
+plan_refusal fault = Plan fault
+
+-- the library fails only where its count rose, and refuses by what it holds where it tells that
+pub record IsGatherFault (f : Facts) (fault : CandidatesFault) : Type 0 where
+  pub cause : fault ≡ gather.Library → Rose f.before f.after
+  pub told : (l : Content) → f.content ≡ Some l → Gathered l.recipes f.origin f.device.set (Err fault)
+
+abbrev pub Fails : Facts → Check → Refusal → Type 0
+Fails f (Reading bytes) a = (fault : DocFault) × IsFault bytes fault × (a ≡ document_refusal fault)
+Fails f Opening a = (o : Outcome) × (lookup (bytes_eq f.document.id) f.device.closed ≡ Some o) × (a ≡ Repeated f.document.id o)
+Fails f Ageing a = (IsFresh f.device f.document → ⊥) × (a ≡ Stale f.document.id (revision_of f.document.group f.device.groups))
+Fails f Gathering a = (fault : CandidatesFault) × IsGatherFault f fault × (a ≡ gather_refusal fault)
+Fails f Room a = (fault : PlanFault) × IsFirst (room_lines f.device f.document) fault × (a ≡ plan_refusal fault)
+Fails f Planning a = (fault : PlanFault) × IsRefused f.device f.candidates f.document fault × (a ≡ plan_refusal fault)
+
+-- the first check that fails answers. Want of memory is free.
+abbrev pub Stops : Facts → List Check → Refusal → Type 0
+Stops f [] a = ⊥
+Stops f (k ∷ checks) a = (a ≡ NoMemory) ⊎ Fails f k a ⊎ (Passes f k × Stops f checks a)
+
+-- none fails
+abbrev pub PassesAll : Facts → List Check → Type 0
+PassesAll f [] = ⊤
+PassesAll f (k ∷ checks) = Passes f k × PassesAll f checks
+
+-- ---- the order
+
+-- of a document that was read
+abbrev pub plan_checks : List Check
+plan_checks = Opening ∷ Ageing ∷ Gathering ∷ Room ∷ Planning ∷ []
+
+-- of the bytes of one
+abbrev pub read_checks : List ℕ → List Check
+read_checks bytes = Reading bytes ∷ plan_checks
+
+-- every check passes and this is the draft, or the first that fails answers
+abbrev pub Comes : Facts → List Check → Result code.Draft Refusal → Type 0
+Comes f checks (Ok draft) = (f.draft ≡ draft_view draft) × PassesAll f checks
+Comes f checks (Err a) = Stops f checks a
+
+-- ---- the calls
+
+-- the two checks that look at the device alone pass, or the first that fails answers
+abbrev pub Opens : Device → Document → Result (Unit {0}) Refusal → Type 0
+Opens d document result = MatchResult result
+    (λ _. IsOpen d document × IsFresh d document)
+    (λ a. (a ≡ NoMemory)
+    ⊎ ((o : Outcome) × (lookup (bytes_eq document.id) d.closed ≡ Some o) × (a ≡ Repeated document.id o))
+    ⊎ (IsOpen d document × (IsFresh d document → ⊥) × (a ≡ Stale document.id (revision_of document.group d.groups))))
+
+abbrev pub facts : Device → Origin → Option Content → ℕ → ℕ → Document → List Candidate → Draft → Facts
+facts d origin content before after document cs draft =
+    record { device = d; origin = origin; document = document; content = content; candidates = cs; draft = draft; before = before; after = after }
+
+-- what comes of a document, by some candidates and a draft
+abbrev pub Proposes : Device → Origin → Option Content → ℕ → ℕ → Document → Result code.Draft Refusal → Type 0
+Proposes d origin content before after document result =
+    (cs : List Candidate) × (draft : Draft) × Comes (facts d origin content before after document cs draft) plan_checks result
+
+-- what comes of the bytes of a document, by what they read as besides
+abbrev pub ProposesRead : Device → Origin → Option Content → ℕ → ℕ → List ℕ → Result code.Draft Refusal → Type 0
+ProposesRead d origin content before after bytes result =
+    (document : Document) × (cs : List Candidate) × (draft : Draft) × Comes (facts d origin content before after document cs draft) (read_checks bytes) result

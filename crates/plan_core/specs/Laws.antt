@@ -1,0 +1,27 @@
+-- Laws of the checks of a plan.
+use Rattle.std.specs.Prelude.{◌≡◌, ◌<◌, ◌≤◌, ◌+◌, IsTrue, List, length}
+use Rattle.nuc_base.specs.Tables.{AllHold}
+use Rattle.recipe_reader.specs.declared.candidate.Candidate.{Candidate}
+use Rattle.device.specs.Devices.{Device}
+use Rattle.device.specs.Grouped.{has_group}
+use Rattle.deployment_doc.specs.declared.document.Document.{Document}
+use Rattle.device.specs.Limits.{most_closed, most_groups}
+use Rattle.plan_core.specs.Plans.{room_lines, IsRefused, HasNoSet}
+use Rattle.plan_core.specs.declared.fault.PlanFault.{PlanFault}
+use Rattle.plan_core.specs.declared.fault.PlanFault.TheVariants as fault
+
+-- where as many closed as may, nothing else is looked at
+abbrev pub ClosedComesFirst : Type 0
+ClosedComesFirst = (d : Device) (cs : List Candidate) (document : Document) (f : PlanFault)
+    → most_closed ≤ length d.closed → IsRefused d cs document f → f ≡ fault.TooManyClosed (most_closed + 1)
+
+-- then the groups
+abbrev pub GroupsComeSecond : Type 0
+GroupsComeSecond = (d : Device) (cs : List Candidate) (document : Document) (f : PlanFault)
+    → length d.closed < most_closed → (IsTrue (has_group document.group d.groups) → ⊥) → most_groups ≤ length d.groups
+    → IsRefused d cs document f → f ≡ fault.TooManyGroups (most_groups + 1)
+
+-- then the set, before its size and its configurations
+abbrev pub VersionsComeThird : Type 0
+VersionsComeThird = (d : Device) (cs : List Candidate) (document : Document) (f : PlanFault)
+    → AllHold (room_lines d document) → HasNoSet d cs document → IsRefused d cs document f → f ≡ fault.NoVersion

@@ -1,0 +1,11 @@
+pub mod Boots
+pub mod Checks
+pub mod Filled
+pub mod Laws
+pub mod Looks
+pub mod Parts
+pub mod Plans
+pub mod Ready
+pub mod Requests
+pub mod Rows
+pub mod Set
