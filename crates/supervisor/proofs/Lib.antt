@@ -1,3 +1,16 @@
+pub mod Apart
 pub mod Closes
+pub mod Deadline
+pub mod Each
+pub mod Flags
 pub mod Handed
+pub mod Kept
+pub mod Kids
+pub mod Lived
+pub mod Numbers
+pub mod Once
+pub mod Owners
+pub mod Readies
+pub mod Scoped
 pub mod Times
+pub mod Worlds

@@ -1,0 +1,7 @@
+use Rattle.std.proofs.Common.{◌≡◌, refl, length}
+use Rattle.supervisor.specs.Changes.{forgetting}
+use Rattle.supervisor.proofs.Kept.{kept_all, length_all, forgetting_children}
+use Rattle.supervisor.proofs.supervisor.Supervisor.steady.Goals as goal
+
+pub invariant_of-self : goal.invariant_of-self
+invariant_of-self c = (kept_all forgetting forgetting_children _ _ c.forget_all.new.slots.items c.self.invariant.0 c.forget_all.ensures refl refl, length_all forgetting c.self.inside.slots.items c.forget_all.new.slots.items _ c.self.invariant.1 c.forget_all.ensures)

@@ -1,0 +1,7 @@
+use Rattle.std.proofs.Common.{◌≡◌, refl, length}
+use Rattle.supervisor.specs.Changes.{leaving}
+use Rattle.supervisor.proofs.Kept.{kept_all, length_all, leaving_children}
+use Rattle.supervisor.proofs.supervisor.Supervisor.stop_all.Goals as goal
+
+pub invariant_of-self : goal.invariant_of-self
+invariant_of-self c = (kept_all leaving leaving_children _ _ c.leave_all.new.slots.items c.self.invariant.0 c.leave_all.ensures refl refl, length_all leaving c.self.inside.slots.items c.leave_all.new.slots.items _ c.self.invariant.1 c.leave_all.ensures)
