@@ -5,24 +5,24 @@ use Rattle.std.specs.Prelude.{slice_get, slice_set, slice_index_or, MatchOption}
 use Rattle.std.specs.List.{All, Contains}
 use Rattle.std.proofs.lemmas.Bool.{cases_eq, eqb-true}
 use Rattle.std.proofs.lemmas.Option.{same_Some, none-some, slice_get_within, get_or_from_slice_get}
-use Rattle.std.proofs.lemmas.List.{length-map, get_or-set_same, get_or-set_other}
+use Rattle.std.proofs.lemmas.List.{get_or-set_same, get_or-set_other}
 use Rattle.std.proofs.lemmas.List.Elements.{All-push, All-contains, Contains-append_left, Contains-push, Contains-push_cases}
 use Rattle.nuc_base.proofs.Lists.{in_nil, in_one, all_from_in}
 use Rattle.dep_order.proofs.Filtered.{in_filter}
-use Rattle.recipe_reader.specs.Members.{Need, Member, member, members, IsRising}
-use Rattle.recipe_reader.specs.Sets.{name_of, needs_of, required_names, IsTaken, IsNext, IsComplete}
+use Rattle.recipe_reader.specs.Members.{Need, Member, members, IsRising}
+use Rattle.recipe_reader.specs.Sets.{name_of, needs_of, required_names, IsTaken, IsComplete}
 use Rattle.recipe_reader.specs.declared.candidate.Candidate.{Candidate}
 use Rattle.recipe_reader.proofs.Required.{required_by_wanted, required_by_need}
 use Rattle.recipe_reader.proofs.Searching.{within_from_name}
 use Rattle.conflict_search.specs.Conflicts.{IsReason}
 use Rattle.conflict_search.specs.Numbers.{IsNumber, IsNumberAt, IsNextNumber}
-use Rattle.conflict_search.specs.Claims.{Claim, claims_from, claims_of, demand_need, claim, AreDemands}
+use Rattle.conflict_search.specs.Claims.{claims_from, claims_of, demand_need, claim, AreDemands}
 use Rattle.conflict_search.specs.Boards.{IsAsked, IsIndexed, IsChosen, IsBoard}
 use Rattle.conflict_search.specs.declared.demands.Demand.{Demand}
 use Rattle.conflict_search.specs.declared.board.Board.{Board}
 use Rattle.conflict_search.proofs.Finding.{number_same, numbers_rise}
 use Rattle.conflict_search.proofs.Indexing.{row, asked_in_row}
-use Rattle.conflict_search.proofs.Claiming.{IsClaimOf, demands_push, demands_pop, from_claims, claim_for, number_for, demand_required, required_demand}
+use Rattle.conflict_search.proofs.Claiming.{demands_push, demands_pop, from_claims, claim_for, number_for, demand_required, required_demand}
 
 -- ---- what is chosen
 

@@ -1,9 +1,9 @@
 -- Claims and the demands that stand for them.
 use Rattle.std.proofs.Common.{◌≡◌, ℕ, ◌+◌, ◌-◌, ◌<◌, ◌≤◌, ◌⊎◌, List, [], ◌∷◌, ◌++◌, length, get_or, map, take, Option, Some, None, refl, sym, ap, ◌∙◌, subst, inl, inr, arith, append_assoc, append-nil, length-append}
-use Rattle.std.specs.List.{All, Contains}
+use Rattle.std.specs.List.{Contains}
 use Rattle.std.proofs.lemmas.List.{take_more, take_all, map-append, length-map, take-map, take-append-le}
 use Rattle.std.proofs.lemmas.List.Elements.{All-push, All-append, All-contains, Contains-append_left, Contains-append_right, Contains-append_cases, All-take}
-use Rattle.nuc_base.proofs.Lists.{in_nil, in_cons, in_here, in_there, in_map, from_map, all_from_in}
+use Rattle.nuc_base.proofs.Lists.{in_nil, in_cons, in_here, in_there, in_map, from_map}
 use Rattle.recipe_reader.specs.Members.{Need, Member}
 use Rattle.recipe_reader.specs.Sets.{needs_of, required_names}
 use Rattle.recipe_reader.proofs.Required.{required_from, required_by_wanted, required_by_need}
@@ -12,9 +12,6 @@ use Rattle.conflict_search.specs.Claims.{Claim, claims_from, claims_by, claims_o
 use Rattle.conflict_search.specs.declared.demands.Demand.{Demand}
 
 -- ---- one after another
-
-pub demands_none : (ms : List Member) (from : Option ℕ) → AreDemands ms (claims_from from []) []
-demands_none ms from = record { are = refl; numbered = λ k d lt. absurd (omega (arith, lt)) }
 
 pub demands_more : {X : Type 0} (f : X → Need) (ms : List Member) (from : Option ℕ) (xs : List X) (i : ℕ) (x : X) (old new : List Demand) (d : Demand) → i < length xs → AreDemands ms (claims_from from (map f (take i xs))) old
     → new ≡ old ++ d ∷ [] → claim d ≡ record { from = from; need = f (get_or xs i x) } → IsNumber ms d.name.now d.number → AreDemands ms (claims_from from (map f (take (i + 1) xs))) new
@@ -27,9 +24,6 @@ demands_more f ms from xs i x old new d lt h e is number = record {
       ∙ ap (claims_from from) (sym (map-append f (take i xs) (get_or xs i x ∷ [])) ∙ ap (map f) (sym (take_more xs i x lt)));
   numbered = subst (AreNumbered ms) (sym e) (All-push (λ (d : Demand). IsNumber ms d.name.now d.number) old d h.numbered number);
 }
-
-pub demands_all : {X : Type 0} (f : X → Need) (ms : List Member) (from : Option ℕ) (xs : List X) (i : ℕ) (ds : List Demand) (needs : List Need) → length xs ≤ i → map f xs ≡ needs → AreDemands ms (claims_from from (map f (take i xs))) ds → AreDemands ms (claims_from from needs) ds
-demands_all f ms from xs i ds needs le e h = subst (λ l. AreDemands ms (claims_from from l) ds) (ap (map f) (take_all i xs le) ∙ e) h
 
 -- ---- one more place
 

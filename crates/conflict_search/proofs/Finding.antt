@@ -1,5 +1,5 @@
 -- Names and their numbers among candidates that rise.
-use Rattle.std.proofs.Common.{◌≡◌, ◌≢◌, ℕ, ◌+◌, ◌-◌, ◌<◌, ◌≤◌, ◌⊎◌, Bool, true, false, List, length, get_or, Option, Some, None, option_map, refl, sym, ap, ◌∙◌, subst, inl, inr, arith}
+use Rattle.std.proofs.Common.{◌≡◌, ◌≢◌, ℕ, ◌-◌, ◌<◌, ◌≤◌, true, false, List, length, get_or, Option, Some, None, option_map, refl, sym, ap, ◌∙◌, subst, inl, inr, arith}
 use Rattle.std.specs.Prelude.{slice_get}
 use Rattle.std.specs.Ordering.{nat_cmp, is_lt, is_le, ordering_reverse}
 use Rattle.std.specs.List.Sorted.{IsPartitionedBy, IsPartitionPoint}
@@ -9,12 +9,12 @@ use Rattle.std.specs.declared.cmp.Ordering.TheVariants.{Less, Equal, Greater}
 use Rattle.std.proofs.lemmas.Bool.{cases_eq, cases_lt, false≢true}
 use Rattle.std.proofs.lemmas.Map.Lookups.{exact_bytes}
 use Rattle.std.proofs.lemmas.Option.{same_Some, slice_get-map, slice_get-get_or, slice_get_within, get_or_from_slice_get, none-some}
-use Rattle.recipe_reader.specs.Members.{Member, member, members, IsBefore, IsRising}
+use Rattle.recipe_reader.specs.Members.{Member, member, members, IsRising}
 use Rattle.recipe_reader.specs.Sets.{name_in, name_of, IsUpTo}
 use Rattle.recipe_reader.specs.declared.candidate.Candidate.{Candidate}
 use Rattle.recipe_reader.proofs.NameOrder.{up_to_refl, up_to_trans, up_to_antisym, up_to_from_before}
 use Rattle.recipe_reader.proofs.Orders.{before_at}
-use Rattle.conflict_search.specs.Numbers.{IsNumber, IsUnknown, IsFirstPlace, IsNumberAt, is_up_to, is_less}
+use Rattle.conflict_search.specs.Numbers.{IsNumber, IsUnknown, IsFirstPlace, is_up_to, is_less}
 
 -- there is only one number of a name
 pub number_same : (ms : List Member) (n : List ℕ) (j k : ℕ) → IsNumber ms n j → IsNumber ms n k → j ≡ k

@@ -1,9 +1,9 @@
 -- Edges among decided places, and cycles.
 use Rattle.std.proofs.Common.{◌≡◌, ℕ, ◌+◌, ◌<◌, ◌⊎◌, List, [], ◌∷◌, ◌++◌, length, get_or, take, Option, Some, None, refl, sym, ap, ◌∙◌, subst, inl, inr}
 use Rattle.std.specs.Prelude.{slice_index_or}
-use Rattle.std.specs.List.{All, Contains}
+use Rattle.std.specs.List.{Contains}
 use Rattle.std.proofs.lemmas.Option.{same_Some, none-some}
-use Rattle.std.proofs.lemmas.List.{take_more, take_all}
+use Rattle.std.proofs.lemmas.List.{take_more}
 use Rattle.std.proofs.lemmas.List.Elements.{Contains-append_left, Contains-push, Contains-push_cases, All-contains}
 use Rattle.nuc_base.specs.Leads.{Leads, direct, through}
 use Rattle.nuc_base.proofs.Lists.{in_nil, in_cons, in_here, in_there, all_from_in}
@@ -12,21 +12,17 @@ use Rattle.dep_order.specs.declared.Need.{Need as Edge}
 use Rattle.dep_order.specs.declared.Edges.{Edges}
 use Rattle.dep_order.specs.Orders as orders
 use Rattle.recipe_reader.specs.Members.{Need, Member}
-use Rattle.recipe_reader.specs.Sets.{name_of, needs_of, Needs}
-use Rattle.recipe_reader.specs.Searches.{IsConsistent}
-use Rattle.conflict_search.specs.Conflicts.{IsNogood, IsConflict}
+use Rattle.recipe_reader.specs.Sets.{needs_of, Needs}
+use Rattle.conflict_search.specs.Conflicts.{IsConflict}
 use Rattle.conflict_search.specs.Numbers.{IsNumber}
-use Rattle.conflict_search.specs.Claims.{Claim, claims_of, demand_need, claim, AreDemands}
-use Rattle.conflict_search.specs.Boards.{IsChosen, IsBoard}
-use Rattle.conflict_search.specs.Edges.{Joins, Asks, AreEdgesOf}
+use Rattle.conflict_search.specs.Claims.{Claim, claims_of, demand_need, claim}
+use Rattle.conflict_search.specs.Boards.{IsBoard}
+use Rattle.conflict_search.specs.Edges.{Asks, AreEdgesOf}
 use Rattle.conflict_search.specs.declared.demands.Demand.{Demand}
 use Rattle.conflict_search.specs.declared.board.Board.{Board}
-use Rattle.conflict_search.proofs.Claiming.{IsClaimOf, need_claim, from_claims, demand_for, claim_for, number_for}
+use Rattle.conflict_search.proofs.Claiming.{need_claim, from_claims, demand_for, claim_for, number_for}
 
 -- ---- the edges so far
-
-pub edges_none : (chosen : List (Option ℕ)) → AreEdgesOf [] chosen []
-edges_none chosen = record { has = λ a b h. absurd (in_nil h.by h.is); only = λ a b h. absurd (in_nil h.by h.is) }
 
 module _ (asked : List Demand) (chosen : List (Option ℕ)) (i : ℕ) (d : Demand) (lt : i < length asked) where
   this : Contains (take (i + 1) asked) (get_or asked i d)

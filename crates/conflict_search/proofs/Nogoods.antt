@@ -1,17 +1,17 @@
 -- How conflicts are joined, and what they rule out.
-use Rattle.std.proofs.Common.{◌≡◌, ◌≢◌, ◌↔◌, ℕ, ◌+◌, ◌<◌, ◌≤◌, ◌⊎◌, List, [], ◌∷◌, ◌++◌, length, get_or, take, Some, sym, ap, ◌∙◌, subst, inl, inr, arith, append_assoc}
+use Rattle.std.proofs.Common.{◌≡◌, ◌≢◌, ◌↔◌, ℕ, ◌+◌, ◌<◌, ◌≤◌, ◌⊎◌, List, [], ◌∷◌, ◌++◌, length, get_or, take, Some, sym, ◌∙◌, subst, inl, inr, arith, append_assoc}
 use Rattle.std.specs.List.{Contains}
 use Rattle.std.proofs.lemmas.Bool.{cases_eq}
 use Rattle.std.proofs.lemmas.List.{take_more}
 use Rattle.std.proofs.lemmas.List.Elements.{Contains-append_left, Contains-push, Contains-push_cases}
-use Rattle.nuc_base.proofs.Lists.{in_nil, in_cons, in_here, in_there}
+use Rattle.nuc_base.proofs.Lists.{in_cons, in_here, in_there}
 use Rattle.recipe_reader.specs.Members.{Need, Member}
 use Rattle.recipe_reader.specs.Sets.{name_of, required_names, IsNext, IsWalk}
 use Rattle.recipe_reader.specs.Searches.{IsConsistent, HasNone}
 use Rattle.recipe_reader.proofs.Required.{required_from, required_by_wanted, required_by_need}
 use Rattle.recipe_reader.proofs.Searching.{AreTried, consistent_fewer}
 use Rattle.recipe_reader.proofs.ValidSets.{complete_from}
-use Rattle.conflict_search.specs.Conflicts.{IsNogood, IsPrefix, IsConflict, IsConflictWith, JoinsOthers, IsReason}
+use Rattle.conflict_search.specs.Conflicts.{IsNogood, IsPrefix, IsConflict, IsConflictWith, JoinsOthers}
 
 module _ (ms : List Member) (wanted : List Need) where
   pub nogood_bad : (conflict : List ℕ) → (IsConsistent ms wanted conflict → ⊥) → IsNogood ms wanted conflict
@@ -94,9 +94,6 @@ module _ (ms : List Member) (wanted : List Need) where
   ]
 
 -- ---- the others of a conflict, so far
-
-pub joins_none : (place : ℕ) (old : List ℕ) → JoinsOthers place [] old old
-joins_none place old = record { kept = λ x i. i; joined = λ x i. absurd (in_nil x i); only = λ x i. inl i }
 
 module _ (place : ℕ) (conflict old mid : List ℕ) (i : ℕ) (lt : i < length conflict) (h : JoinsOthers place (take i conflict) old mid) where
   so_far : (x : ℕ) → Contains (take i conflict) x → Contains (take (i + 1) conflict) x

@@ -1,6 +1,6 @@
 -- What stands against one more place, and what nothing standing against it says.
-use Rattle.std.proofs.Common.{◌≡◌, ◌≢◌, ◌↔◌, ℕ, ◌⊎◌, true, eqb, List, [], ◌∷◌, ◌++◌, Option, Some, None, refl, sym, ap, ◌∙◌, subst, inl, inr}
-use Rattle.std.specs.Prelude.{IfSome, filter, slice_index_or}
+use Rattle.std.proofs.Common.{◌≡◌, ◌↔◌, ℕ, ◌⊎◌, eqb, List, [], ◌∷◌, ◌++◌, Option, Some, None, refl, sym, ap, ◌∙◌, subst, inl, inr}
+use Rattle.std.specs.Prelude.{IfSome, slice_index_or}
 use Rattle.std.specs.List.{Contains}
 use Rattle.std.proofs.lemmas.Bool.{cases_eq, eqb-true, eq-eqb}
 use Rattle.std.proofs.lemmas.Option.{same_Some, none-some}
@@ -14,7 +14,7 @@ use Rattle.recipe_reader.specs.Sets.{name_of, version_of, needs_of, IsMetBy, Nee
 use Rattle.recipe_reader.specs.Searches.{IsConsistent, Suits}
 use Rattle.recipe_reader.proofs.Required.{required_by_need}
 use Rattle.recipe_reader.proofs.ValidSets.{complete_from}
-use Rattle.conflict_search.specs.Conflicts.{IsNogood, IsConflict, IsConflictWith, AreInRange, IsInRangeWith}
+use Rattle.conflict_search.specs.Conflicts.{IsNogood, IsConflictWith, AreInRange, IsInRangeWith}
 use Rattle.conflict_search.specs.Numbers.{IsNumber, IsUnknown, IsNumberAt}
 use Rattle.conflict_search.specs.Claims.{Claim, claims_from, claims_of, demand_need, claim, AreDemands}
 use Rattle.conflict_search.specs.Boards.{IsChosen}
@@ -23,7 +23,7 @@ use Rattle.conflict_search.specs.declared.demands.Demand.{Demand}
 use Rattle.conflict_search.proofs.Nogoods.{nogood_bad}
 use Rattle.conflict_search.proofs.Finding.{number_same}
 use Rattle.conflict_search.proofs.Indexing.{row}
-use Rattle.conflict_search.proofs.Claiming.{IsClaimOf, wanted_claim, need_claim, from_claims, from_claims_from, claim_in, demand_for, claim_for, number_for}
+use Rattle.conflict_search.proofs.Claiming.{wanted_claim, need_claim, from_claims, from_claims_from, claim_in, demand_for, claim_for, number_for}
 
 module _ (ms : List Member) (wanted : List Need) where
   -- ---- places in range

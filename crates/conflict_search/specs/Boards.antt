@@ -1,5 +1,5 @@
 -- What a board keeps of the decided places and of what is asked.
-use Rattle.std.specs.Prelude.{◌≡◌, ◌==◌, ◌↔◌, ℕ, ◌<◌, List, [], ◌∷◌, ◌++◌, length, filter, get_or, slice_index_or, Option, Some, None}
+use Rattle.std.specs.Prelude.{◌≡◌, ◌==◌, ◌↔◌, ℕ, ◌<◌, List, length, filter, get_or, slice_index_or, Option, Some, None}
 use Rattle.std.specs.List.{All, Contains}
 use Rattle.std.specs.declared.vec.Vec.{Vec}
 use Rattle.std.specs.declared.alloc.Global.{Global}

@@ -1,9 +1,9 @@
 -- Numbers of names.
-use Rattle.std.specs.Prelude.{◌≡◌, ℕ, ◌≤◌, Bool, true, false, List, Some}
+use Rattle.std.specs.Prelude.{◌≡◌, ℕ, ◌≤◌, Bool, List, Some}
 use Rattle.std.specs.Ordering.{nat_cmp, is_lt, is_le}
 use Rattle.std.specs.Cmp.Lexicographic.{slice_cmp}
 use Rattle.recipe_reader.specs.Members.{Need, Member}
-use Rattle.recipe_reader.specs.Sets.{name_of, IsComplete, IsNext}
+use Rattle.recipe_reader.specs.Sets.{name_of, IsNext}
 
 -- the number of a name is the last of the places that have it: its greatest version
 pub record IsNumber (ms : List Member) (name : List ℕ) (number : ℕ) : Type 0 where

@@ -1,11 +1,9 @@
 -- What the search keeps, and what it finds.
 use Rattle.std.specs.Prelude.{◌≡◌, ◌++◌, ◌∷◌, [], ℕ, List, Some, IfSome}
 use Rattle.std.specs.List.{All}
-use Rattle.std.specs.declared.vec.Vec.{Vec}
 use Rattle.recipe_reader.specs.Members.{Need, Member, members}
 use Rattle.npm_ranges.specs.Ranges.{Meets}
 use Rattle.recipe_reader.specs.Sets.{asked, version_of, needs_of}
-use Rattle.recipe_reader.specs.Searches.{IsBest}
 use Rattle.conflict_search.specs.Numbers.{IsNumberAt, IsNextNumber}
 use Rattle.conflict_search.specs.Claims.{claims_from, AreDemands}
 use Rattle.conflict_search.specs.Conflicts.{IsNogood, IsConflict, IsConflictWith, IsPrefix, AreInRange, IsInRangeWith}

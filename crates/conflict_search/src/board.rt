@@ -2,7 +2,6 @@
 
 ghost use Rattle.std.specs.Prelude.{◌≡◌, ◌≢◌, ◌⊎◌, ◌↔◌, ◌<◌, ◌-◌, ◌++◌, ◌∷◌, [], ℕ, Some, None, length, take, slice_set, slice_index_or, filter, ◌==◌, ◌≤◌, IfOk, OnOk, MatchOption};
 ghost use Rattle.std.specs.List.{All, Contains};
-ghost use Rattle.recipe_reader.specs.Members.{Need, Member};
 ghost use Rattle.conflict_search.specs.Boards.{IsIndexed, IsAsked};
 
 use crate::demands::Demand;

@@ -1,7 +1,6 @@
 //! Cycles among the decided places.
 
-ghost use Rattle.std.specs.Prelude.{◌≡◌, ◌<◌, ◌^◌, Some, None, ℕ, length, slice_index_or, IfOk, MatchOption};
-ghost use Rattle.std.specs.List.{All, Contains};
+ghost use Rattle.std.specs.Prelude.{◌<◌, ◌^◌, Some, None, length, IfOk, MatchOption};
 ghost use Rattle.nuc_base.specs.Leads.{Leads};
 ghost use Rattle.dep_order.specs.Orders as orders;
 ghost use Rattle.dep_order.specs.Faults.{IfCycle};

@@ -1,6 +1,6 @@
 //! What is asked of names.
 
-ghost use Rattle.std.specs.Prelude.{◌≡◌, ◌<◌, ◌^◌, ℕ, None, Some, length, IfOk, MatchOption};
+ghost use Rattle.std.specs.Prelude.{◌<◌, ◌^◌, None, Some, length, IfOk, MatchOption};
 ghost use Rattle.std.specs.List.{Contains};
 ghost use Rattle.recipe_reader.specs.Members.{members, IsRising, Need};
 ghost use Rattle.recipe_reader.specs.Sets.{asked, needs_of};

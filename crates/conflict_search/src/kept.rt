@@ -14,7 +14,7 @@ use crate::places::name_at;
 use nuc_base::NoMemory;
 
 /// So many sets are kept at most.
-const MOST_SETS: usize = 65_536;
+const MOST_SETS: usize = 4_096;
 
 /// Sets of places that cannot stand together. For each place stand beside them the sets of which it was the last to be
 /// decided, and the number of its name.

@@ -1,7 +1,7 @@
 //! Numbers of names. The places of a name stand together among the candidates, and the last of them is the number of the
 //! name. So numbers rise as names do, in byte order.
 
-ghost use Rattle.std.specs.Prelude.{◌≡◌, ◌<◌, ◌^◌, ℕ, Some, length, IsTrue, MatchOption};
+ghost use Rattle.std.specs.Prelude.{◌≡◌, ◌<◌, ◌^◌, ℕ, Some, length, MatchOption};
 ghost use Rattle.std.specs.Cmp.Lexicographic.{slice_cmp};
 ghost use Rattle.std.specs.Ordering.{nat_cmp};
 ghost use Rattle.recipe_reader.specs.Members.{members, IsRising};

@@ -1,7 +1,6 @@
 //! The search from the decided places on.
 
 ghost use Rattle.std.specs.Prelude.{◌≡◌, ◌≤◌, ◌<◌, ◌^◌, ◌++◌, ◌∷◌, [], ℕ, List, Some, length, IfOk, OnOk, MatchOption};
-ghost use Rattle.std.specs.List.{All, Contains};
 ghost use Rattle.recipe_reader.specs.Members.{IsRising};
 ghost use Rattle.recipe_reader.specs.Sets.{IsComplete, needs_of};
 ghost use Rattle.recipe_reader.specs.Searches.{IsBest};

@@ -1,6 +1,5 @@
-use Rattle.std.proofs.Common.{◌≡◌, ◌⊎◌, ◌↔◌, ℕ, List, Result, Ok, Err, None, inl, inr}
+use Rattle.std.proofs.Common.{Result, Ok, Err, inl, inr}
 use Rattle.std.specs.Prelude.{OnOk}
-use Rattle.std.specs.List.{Contains}
 use Rattle.conflict_search.proofs.board.add_unchosen.Goals as goal
 
 on_ok : {A E : Type 0} (r : Result A E) {P Q : Type 0} → (P → Q) → OnOk r P → OnOk r Q

@@ -1,9 +1,9 @@
-use Rattle.std.proofs.Common.{◌≡◌, ◌+◌, take, sym, subst}
+use Rattle.std.proofs.Common.{◌+◌, take, sym, subst}
 use Rattle.std.specs.declared.vec.Vec.{Vec}
 use Rattle.std.specs.declared.alloc.Global.{Global}
 use Rattle.std.proofs.Common.{ℕ}
 use Rattle.conflict_search.specs.Conflicts.{JoinsOthers}
-use Rattle.conflict_search.proofs.Nogoods.{joins_none, joins_more, joins_same}
+use Rattle.conflict_search.proofs.Nogoods.{joins_more, joins_same}
 use Rattle.conflict_search.proofs.conflicts.add_others.Goals as goal
 use Rattle.conflict_search.proofs.conflicts.add_others.Goals.{then-other-place+in_ok-add, else-other-place}
 

@@ -1,4 +1,4 @@
-use Rattle.std.proofs.Common.{◌≡◌, ◌+◌, ◌<◌, ℕ, List, length, None, Some, take, get_or, refl, sym, ap, ◌∙◌, subst, Vec, Global}
+use Rattle.std.proofs.Common.{◌≡◌, ◌+◌, ◌<◌, List, length, None, take, get_or, sym, ap, ◌∙◌, subst, Vec, Global}
 use Rattle.std.specs.Prelude.{slice_index_or}
 use Rattle.std.proofs.lemmas.Option.{none-some}
 use Rattle.dep_order.specs.declared.Need.{Need}

@@ -1,8 +1,8 @@
-use Rattle.std.proofs.Common.{◌≡◌, ℕ, Some, None, refl, sym, ap, map, ◌∙◌, subst, get_or}
+use Rattle.std.proofs.Common.{Some, ap, subst, get_or}
 use Rattle.std.specs.List.{Contains}
 use Rattle.std.proofs.lemmas.List.Elements.{Contains-get_or}
 use Rattle.nuc_base.proofs.Lists.{in_map}
-use Rattle.recipe_reader.specs.Members.{Need, members, need}
+use Rattle.recipe_reader.specs.Members.{members, need}
 use Rattle.recipe_reader.specs.declared.recipe.Dependency.{Dependency}
 use Rattle.conflict_search.specs.Numbers.{IsUnknown}
 use Rattle.conflict_search.specs.Claims.{Claim}

@@ -1,8 +1,7 @@
-use Rattle.std.proofs.Common.{◌≡◌, ℕ, Some, None, refl, sym, ap, map, ◌∙◌, subst, get_or}
-use Rattle.std.specs.List.{Contains}
+use Rattle.std.proofs.Common.{None, ap, subst, get_or}
 use Rattle.std.proofs.lemmas.List.Elements.{Contains-get_or}
 use Rattle.nuc_base.proofs.Lists.{in_map}
-use Rattle.recipe_reader.specs.Members.{Need, members}
+use Rattle.recipe_reader.specs.Members.{members}
 use Rattle.recipe_reader.specs.Sets.{wanted_need}
 use Rattle.recipe_reader.specs.declared.wanted.Wanted.{Wanted}
 use Rattle.conflict_search.specs.Numbers.{IsUnknown}

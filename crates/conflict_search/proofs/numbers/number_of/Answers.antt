@@ -1,7 +1,6 @@
-use Rattle.std.proofs.Common.{◌≡◌, ◌<◌, ◌-◌, ℕ, Some, true, false, sym, ap, ◌∙◌, subst, arith, rules}
+use Rattle.std.proofs.Common.{◌-◌, Some, true, false, ap, ◌∙◌, arith, rules}
 use Rattle.std.proofs.lemmas.Bool.{iff_false}
 use Rattle.std.proofs.lemmas.List.Sorted.{IsPartitionPoint-from_clause}
-use Rattle.recipe_reader.specs.Members.{members}
 use Rattle.recipe_reader.specs.declared.candidate.Candidate.{Candidate}
 use Rattle.conflict_search.specs.Numbers.{is_up_to}
 use Rattle.conflict_search.proofs.Finding.{up_to_parted, unknown_from_start, unknown_from_other, number_found}

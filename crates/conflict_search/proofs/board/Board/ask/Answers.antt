@@ -1,4 +1,4 @@
-use Rattle.std.proofs.Common.{◌≡◌, ◌<◌, ◌∷◌, ◌++◌, ◌⊎◌, [], ℕ, None, refl, sym, ap, ◌∙◌, subst, length, get_or, arith, inl, inr, Vec, Global}
+use Rattle.std.proofs.Common.{◌≡◌, ◌<◌, ◌∷◌, ◌++◌, [], None, refl, sym, ap, ◌∙◌, length, get_or, arith, inl, inr, Vec, Global}
 use Rattle.std.proofs.lemmas.List.{get_or_default}
 use Rattle.conflict_search.specs.declared.demands.Demand.{Demand}
 use Rattle.conflict_search.proofs.Indexing.{indexed_ask}

@@ -1,7 +1,5 @@
-use Rattle.std.proofs.Common.{◌≡◌, ◌⊎◌, ◌<◌, ℕ, List, None, Some, length, get_or, sym, ap, ◌∙◌, subst, Vec, Global}
-use Rattle.std.specs.Prelude.{slice_index_or}
-use Rattle.std.specs.List.{All, Contains}
-use Rattle.std.proofs.lemmas.Option.{slice_get_within, get_or_from_slice_get}
+use Rattle.std.proofs.Common.{◌≡◌, ◌<◌, ℕ, List, length, get_or, sym, ap, ◌∙◌, subst, Vec, Global}
+use Rattle.std.specs.List.{Contains}
 use Rattle.conflict_search.specs.Conflicts.{IsNogood}
 use Rattle.conflict_search.specs.Stands.{members_in, wanted_in}
 use Rattle.conflict_search.proofs.Trying.{kept_conflict}

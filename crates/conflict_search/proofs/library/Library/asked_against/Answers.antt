@@ -1,4 +1,4 @@
-use Rattle.std.proofs.Common.{ℕ, sym, subst}
+use Rattle.std.proofs.Common.{subst}
 use Rattle.std.specs.List.{Contains}
 use Rattle.npm_ranges.specs.Ranges.{Meets}
 use Rattle.conflict_search.specs.declared.demands.Demand.{Demand}

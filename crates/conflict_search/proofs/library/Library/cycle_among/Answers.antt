@@ -1,7 +1,6 @@
-use Rattle.std.proofs.Common.{◌≡◌, ℕ, length, refl, sym, ap, ◌∙◌, subst}
+use Rattle.std.proofs.Common.{length, sym, subst}
 use Rattle.std.proofs.lemmas.List.{length-map}
 use Rattle.dep_order.specs.declared.Edges.{Edges}
-use Rattle.dep_order.specs.Orders as orders
 use Rattle.recipe_reader.specs.Members.{member}
 use Rattle.conflict_search.specs.Conflicts.{IsConflict}
 use Rattle.conflict_search.specs.Edges.{AreEdgesOf}

@@ -1,4 +1,3 @@
-use Rattle.std.proofs.Common.{ℕ}
 use Rattle.conflict_search.specs.Stands.{members_in, wanted_in}
 use Rattle.conflict_search.proofs.Trying.{needs_met, unfit_conflict}
 use Rattle.conflict_search.proofs.library.Library.needs_against.Goals as goal

@@ -1,4 +1,4 @@
-use Rattle.std.proofs.Common.{◌≡◌, ◌≤◌, ℕ, List, Option, None, Some}
+use Rattle.std.proofs.Common.{◌≤◌, ℕ, List, Option, None, Some}
 use Rattle.std.specs.Prelude.{MatchOption}
 use Rattle.std.specs.List.{Contains}
 use Rattle.recipe_reader.specs.Members.{Need, members, IsRising}

@@ -1,5 +1,5 @@
-use Rattle.std.proofs.Common.{◌≡◌, ◌∷◌, [], ℕ, List, Result, Ok, Err, Option, None, Some, refl, sym, ap, ◌∙◌, subst, Vec, Global}
-use Rattle.std.specs.Prelude.{IfOk, MatchOption, slice_get}
+use Rattle.std.proofs.Common.{◌≡◌, ℕ, List, Result, Ok, Err, Some, refl, sym, ap, ◌∙◌, Vec, Global}
+use Rattle.std.specs.Prelude.{IfOk, slice_get}
 use Rattle.std.specs.Option.{option_copied}
 use Rattle.conflict_search.specs.declared.demands.Demand.{Demand}
 use Rattle.conflict_search.specs.Stands.{members_in, wanted_in}

@@ -1,4 +1,4 @@
-use Rattle.std.proofs.Common.{ℕ, None, Vec, Global}
+use Rattle.std.proofs.Common.{Vec, Global}
 use Rattle.std.specs.List.{Contains}
 use Rattle.std.proofs.lemmas.Option.{MatchOption-at_none}
 use Rattle.recipe_reader.specs.Members.{Need}
