@@ -51,6 +51,7 @@ pub use replaying::replay;
 pub use scopes::scope_of;
 pub use spare::Spare;
 pub use staged::{Pending, Stage};
+pub use steps::{broken_of, next_of, running_place};
 
 #[cfg(test)]
 mod fronts_tests;

@@ -1,18 +1,20 @@
 // Marks and plans, applied without taking memory.
-ghost use Rattle.std.specs.Prelude.{◌≡◌, ◌++◌, ◌∷◌, [], length, take, is_some, true, Some, None, List, ℕ, if◌then◌else◌};
+ghost use Rattle.std.specs.Prelude.{◌≡◌, ◌≢◌, ◌↔◌, ◌++◌, ◌∷◌, [], length, take, is_some, true, Some, None, List, ℕ, IsTrue, if◌then◌else◌};
+ghost use Rattle.std.specs.Option.{IfSome, IsSomeAnd};
 ghost use Rattle.records.specs.Stored as stored;
 ghost use Rattle.records.specs.Stored.{plan_view, Record};
 ghost use Rattle.device.specs.Devices.{chosen, device_view, pending_view};
-ghost use Rattle.device.specs.Lawful.{Allowed, applied, boot_ended, takes_plan, MayCount, counted, next_boot, reach_of};
+ghost use Rattle.device.specs.Lawful.{Allowed, HasBacks, applied, backs, boot_ended, failing_name, takes_plan, MayCount, counted, next_boot, reach_of};
 ghost use Rattle.device.specs.Grouped.{with_group};
 ghost use Rattle.device.specs.Marks.{IsMark, IsClosing, CanMark, marked};
+ghost use Rattle.device.specs.Sound.{IsSound};
 ghost use Rattle.device.specs.Spares.{IsSpareFor, IsSpareOf};
 
 use crate::device::Device;
 use crate::mark::Mark;
 use crate::spare::Spare;
 use crate::staged::{Pending, Stage};
-use crate::steps::{goes_on, move_on, roll, takes_plan, turn_back};
+use crate::steps::{goes_on, has_flag, move_on, roll, takes_plan, turn_back};
 use nuc_base::{Exit, Outcome};
 use records::Plan;
 use std::mem::swap;
@@ -95,6 +97,20 @@ impl Device {
         }
         if let Some(pending) = &mut self.pending {
             mark_pending(pending, mark, &spare.back_flags);
+        }
+    }
+    /// Whether bootstrap steps run again on the way back, where the pending deployment fails now. The spare was made for its
+    /// plan from this device.
+    pub fn has_backs(&self, spare: &Spare) -> bool
+        requires sound { IsSound (device_view self.now) }
+        requires spare { IsSpareOf spare.now (device_view self.now) }
+        requires fails { IsSomeAnd (device_view self.now).pending (λ q. is_some (failing_name q) ≡ true) }
+        ensures told { IfSome (device_view self.now).pending (λ q. IsTrue result ↔ (backs (device_view self.now).origin (device_view self.now).set q.plan (reach_of q) ≢ [])) }
+        ensures lawful { IfSome (device_view self.now).pending (λ q. IsTrue result ↔ IsSomeAnd (device_view self.now).origin (HasBacks (device_view self.now).set q)) }
+    {
+        match &self.pending {
+            Some(pending) => has_flag(pending, &spare.back_flags),
+            None => false,
         }
     }
 }

@@ -40,8 +40,9 @@ fn name_at(names: &[Name], at: usize) -> Option<&Name>
     }
 }
 
-/// The bootstrap step that comes next.
-pub(crate) fn next_of(pending: &Pending) -> Option<&Name>
+/// The bootstrap step that comes next: of the plan, or on the way back of those that run again. `None` where all are ended
+/// and where components run.
+pub fn next_of(pending: &Pending) -> Option<&Name>
     ensures { option_map (λ n. n.now) result ≡ next_boot (pending_view pending.now) }
 {
     let boots = pending.plan.boots.as_slice();
@@ -138,7 +139,8 @@ pub(crate) fn activate(pending: &mut Pending) -> Result<(), ApplyFault>
     }
 }
 
-fn broken_of(failures: &[u8; 128]) -> Option<usize>
+/// The first place with three failures.
+pub fn broken_of(failures: &[u8; 128]) -> Option<usize>
     ensures { result ≡ position (nat_eq 3) failures.now }
 {
     failures.iter().position(|count| 3 == *count)
@@ -158,7 +160,8 @@ fn count(pending: &mut Pending, at: Option<usize>) -> Result<(), ApplyFault>
     }
 }
 
-fn running_place(set: &[Item], pending: &Pending, name: &Name) -> Option<usize>
+/// The place of the item of this name among those that run: the plan's, or in Rolling those of the set.
+pub fn running_place(set: &[Item], pending: &Pending, name: &Name) -> Option<usize>
     ensures { result ≡ failing_place (map item_view set.now) (pending_view pending.now) name.now }
 {
     match pending.stage {
@@ -252,7 +255,7 @@ pub(crate) fn turn_back(pending: &mut Pending, flags: &[bool; 128])
 }
 
 /// Whether one of the bootstrap steps that have begun has a flag.
-fn has_flag(pending: &Pending, flags: &[bool; 128]) -> bool
+pub(crate) fn has_flag(pending: &Pending, flags: &[bool; 128]) -> bool
     requires { is_some (failing_name (pending_view pending.now)) ≡ true }
     ensures { IsTrue result ↔ (chosen flags.now (take (reach_of (pending_view pending.now)) pending.now.plan.boots) ≢ []) }
 {

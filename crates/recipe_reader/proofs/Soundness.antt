@@ -30,12 +30,7 @@ use Rattle.recipe_reader.specs.declared.fault.Key.TheVariants as key
 use Rattle.recipe_reader.specs.declared.fault.RecipeFault.{RecipeFault}
 use Rattle.recipe_reader.specs.declared.fault.RecipeFault.TheVariants as fault
 use Rattle.recipe_reader.specs.Lifecycles.{lifecycle_lines}
-
--- ---- of lines that all hold, those in front
-
-hold_first : {Fault : Type 0} (above lines : Table Fault) → AllHold (above ++ lines) → AllHold above
-hold_first [] lines h = tt
-hold_first (line ∷ above) lines h = (h.0, hold_first above lines h.1)
+use Rattle.recipe_reader.proofs.SoundSteps.{chosen_files, hold_first, lifecycle_holds, not_both, short_steps}
 
 module _ (platform : Platform) (d : Data) where
   abbrev configs : Table RecipeFault
@@ -137,6 +132,8 @@ chosen_artifacts (Some m) xs h z =
 pub recipe_sound : (platform : Platform) (d : Data) (r : Recipe) → IsRegular d → AllHold (recipe_lines platform d) → IsRecipe platform d r → IsSound r
 recipe_sound platform d r regular h is =
     let head = head_holds platform d h in
+    let chosen = chosen_hold platform d h in
+    let steps = lifecycle_holds (manifest_of platform d) chosen in
     let named = named_holds d head in
     let versioned = versioned_holds d head in
     let needs = few_dependencies (present (get (spelled key.ComponentDependencies) d)) r.dependencies (present_regular (get (spelled key.ComponentDependencies) d) (get_regular (spelled key.ComponentDependencies) d regular)) (needs_hold platform d h) is.dependencies in
@@ -147,7 +144,10 @@ recipe_sound platform d r regular h is =
       regular = is.regular;
       few = needs.0;
       rising = needs.1;
-      few_artifacts = chosen_artifacts (manifest_of platform d) r.artifacts (chosen_hold platform d h) is.artifacts;
+      few_artifacts = chosen_artifacts (manifest_of platform d) r.artifacts chosen is.artifacts;
+      files = chosen_files (manifest_of platform d) r.artifacts chosen is.artifacts;
+      not_both = not_both (inner key.Lifecycle (manifest_of platform d)) r steps is.steps;
+      limits = short_steps (inner key.Lifecycle (manifest_of platform d)) r steps is.steps;
     }
 
 pub answers_sound : (platform : Platform) (d : Data) (result : Result Recipe RecipeFault) → IsRegular d → Answers fault.NoMemory (recipe_lines platform d) (IsRecipe platform d) result → IfOk result IsSound
