@@ -5,6 +5,7 @@ pub mod Beginnings
 pub mod Origins
 pub mod Places
 pub mod Settling
+pub mod HavingBacks
 pub mod Indexing
 pub mod Joining
 pub mod Regular

@@ -15,6 +15,7 @@ pub mod Regulars
 pub mod Required
 pub mod Room
 pub mod Searching
+pub mod SoundSteps
 pub mod Soundness
 pub mod Trims
 pub mod ValidSets
