@@ -17,17 +17,17 @@ use Rattle.device.proofs.Flags.{chosen_told}
 -- an item of a sound set has a recipe
 is_readable : (platform : Platform) (items : List Item) (n : List ℕ) → AllByRecursion (HasRecipe platform) items → IsReadable platform items n
 is_readable platform [] n h = tt
-is_readable platform (i ∷ items) n h = by (bytes_eq n i.name)
+is_readable platform (i ∷ items) n h = by (bytes_eq n i.name) (is_readable platform items n h.1)
   where
-    by : (b : Bool) → IfSome (if b then Some i else item_named n items) (λ (i : Item). HasSomeRecipe platform i.recipe)
-    by true = (h.0.0, h.0.1.reads)
-    by false = is_readable platform items n h.1
+    by : (b : Bool) → IsReadable platform items n → IfSome (if b then Some i else item_named n items) (λ (i : Item). HasSomeRecipe platform i.recipe)
+    by true rest = (h.0.0, h.0.1.reads)
+    by false rest = rest
 
 are_readable : (platform : Platform) (items : List Item) (names : List (List ℕ)) → AllByRecursion (HasRecipe platform) items → AllByRecursion (IsReadable platform items) names
 are_readable platform items [] h = tt
 are_readable platform items (n ∷ names) h = (is_readable platform items n h, are_readable platform items names h)
 
-Some-backs : Option Origin → List Item → Pending → Type 0
+abbrev Some-backs : Option Origin → List Item → Pending → Type 0
 Some-backs origin set q = backs origin set q.plan (reach_of q) ≡ [] → ⊥
 
 -- with an origin, the chosen are the backs, and all boots are readable

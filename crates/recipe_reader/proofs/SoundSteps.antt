@@ -1,5 +1,5 @@
 -- The steps and the files of the recipe that the lines name.
-use Rattle.std.proofs.Common.{◌≡◌, ◌≤◌, ℕ, ◌*◌, ◌||◌, Bool, true, false, nat_eq, List, [], ◌∷◌, ◌++◌, map, Option, Some, None, IsSome, IfSome, sym, ap, subst, ◌∙◌, arith, lit≤}
+use Rattle.std.proofs.Common.{◌≡◌, ◌≤◌, ℕ, ◌*◌, ◌||◌, Bool, true, false, nat_eq, List, [], ◌∷◌, ◌++◌, map, Option, Some, None, IsSome, IfSome, refl, sym, subst, arith, lit≤}
 use Rattle.std.specs.Prelude.{◌⊎◌}
 use Rattle.std.specs.List.{AllByRecursion, AllZip, IsDistinct}
 use Rattle.std.specs.Str.{bytes_eq}
@@ -81,10 +81,10 @@ short_limit : (step : Step) (o : Option Data) (limit : Option ℕ) → AllHold (
 short_limit step None limit h is = subst (λ (l : Option ℕ). IfSome l (λ limit. limit ≤ 1000000000)) (sym is) (short_usual step)
 short_limit step (Some v) limit h is =
     let count = h.1.0 in
-    let same : count.0 ≡ is.0 = cc (count.1.0, is.1.0) in
-    let few : count.0 ≤ 1000000 = count.1.1.1 in
+    let same : count.0 ≡ is.0 = cc (count.1, is.1) in
+    let few : count.0 ≤ 1000000 = count.3 in
     let below : is.0 * 1000 ≤ 1000000000 = omega (arith, same, few) in
-    subst (λ (l : Option ℕ). IfSome l (λ limit. limit ≤ 1000000000)) (sym is.1.1) below
+    subst (λ (l : Option ℕ). IfSome l (λ limit. limit ≤ 1000000000)) (sym is.2) below
 
 -- a text has no key of a limit
 limit_lines : (step : Step) (v : Data) → AllHold (step_lines step v) → AllHold (on (keyed (spelled key.Timeout) v) timeout_lines)
@@ -112,7 +112,7 @@ short_steps (Some v) recipe h are step = short_step step are.outer (step_value s
 -- ---- files
 
 -- none of the names is one of the files
-Differ : List (List ℕ) → List (List ℕ) → Type 0
+abbrev Differ : List (List ℕ) → List (List ℕ) → Type 0
 Differ names files = AllByRecursion (λ n. AllByRecursion (λ f. bytes_eq n f ≡ false) files) names
 
 none_differ : (names : List (List ℕ)) → Differ names []
@@ -121,17 +121,18 @@ none_differ (n ∷ names) = (tt, none_differ names)
 
 one_more : (names : List (List ℕ)) (f : List ℕ) (files : List (List ℕ)) → has_name names f ≡ false → Differ names files → Differ names (f ∷ files)
 one_more [] f files h differ = tt
-one_more (n ∷ names) f files h differ = by (bytes_eq n f) refl h
+one_more (n ∷ names) f files h differ = by (bytes_eq n f) refl h (λ none. one_more names f files none differ.1)
   where
-    by : (b : Bool) → bytes_eq n f ≡ b → (b || has_name names f) ≡ false → Differ (n ∷ names) (f ∷ files)
-    by true is h = absurd cc
-    by false is h = ((is, differ.0), one_more names f files h differ.1)
+    by : (b : Bool) → bytes_eq n f ≡ b → (b || has_name names f) ≡ false → (has_name names f ≡ false → Differ names (f ∷ files)) → Differ (n ∷ names) (f ∷ files)
+    by true is h rest = absurd cc
+    by false is h rest = ((is, differ.0), rest h)
 
 parted : (names : List (List ℕ)) (f : List ℕ) (files : List (List ℕ)) → Differ (names ++ f ∷ []) files → Differ names files × AllByRecursion (λ g. bytes_eq f g ≡ false) files
 parted [] f files h = (tt, h.0)
 parted (n ∷ names) f files h = let rest = parted names f files h.1 in ((h.0, rest.0), rest.1)
 
 listed : (names : List (List ℕ)) (vs : List Data) (xs : List Artifact) → AllHold (listed_lines names vs) → AllZip IsArtifact vs xs → Differ names (map artifact_file xs) × IsDistinct bytes_eq (map artifact_file xs)
+unfolding IsDistinct
 listed names [] [] h z = (none_differ names, tt)
 listed names [] (x ∷ xs) h z = absurd z
 listed names (v ∷ vs) [] h z = absurd z
@@ -144,6 +145,7 @@ listed names (v ∷ vs) (x ∷ xs) h z =
     (one_more names (file_at v) (map artifact_file xs) here halves.0, (halves.1, rest.1))
 
 files_differ : (o : Option Data) (xs : List Artifact) → AllHold (on o artifacts_lines) → AreArtifacts o xs → IsDistinct bytes_eq (map artifact_file xs)
+unfolding IsDistinct
 files_differ None xs h z = subst (λ (ys : List Artifact). IsDistinct bytes_eq (map artifact_file ys)) (sym z) tt
 files_differ (Some v) xs h z = (listed [] (values v) xs h.1.1 z).1
 
