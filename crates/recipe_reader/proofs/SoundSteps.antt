@@ -3,6 +3,7 @@ use Rattle.std.proofs.Common.{◌≡◌, ◌≤◌, ℕ, ◌*◌, ◌||◌, Bool
 use Rattle.std.specs.Prelude.{◌⊎◌}
 use Rattle.std.specs.List.{AllByRecursion, AllZip, IsDistinct}
 use Rattle.std.specs.Str.{bytes_eq}
+use Rattle.std.proofs.lemmas.Bool.{false≢true}
 use Rattle.serde_json.specs.Data.{Data, null, boolean, number, unsigned, string, array, object}
 use Rattle.serde_json.specs.Find.{get}
 use Rattle.nuc_base.specs.Tables.{Table, AllHold, on}
@@ -63,7 +64,7 @@ there step outer None (Some def) is has = absurd is
 there step outer (Some v) def is has = refl
 
 pub not_both : (o : Option Data) (recipe : Recipe) → AllHold (on o lifecycle_lines) → AreSteps o (step_of recipe) → IsSome recipe.run → IsSome recipe.startup → ⊥
-not_both None recipe h are run startup = absurd (there Run are.outer None recipe.run (are.steps Run) run)
+not_both None recipe h are run startup = false≢true (there Run are.outer None recipe.run (are.steps Run) run)
 not_both (Some v) recipe h are run startup =
     not_both_of v h (there Run are.outer (step_value Run v) recipe.run (are.steps Run) run, there Startup are.outer (step_value Startup v) recipe.startup (are.steps Startup) startup)
 
