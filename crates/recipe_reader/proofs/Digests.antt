@@ -1,5 +1,5 @@
 -- A text is one digest at most.
-use Rattle.std.proofs.Common.{◌≡◌, ℕ, ◌+◌, ◌-◌, ◌*◌, ◌/◌, ◌%◌, Bool, true, false, cond, eqb, List, length, replicate, Ok, Err, Result, inl, inr, ap, sym, ◌∙◌, refl, arith, length-append, eqb-true, rules}
+use Rattle.std.proofs.Common.{◌≡◌, ℕ, ◌+◌, ◌-◌, ◌*◌, ◌/◌, ◌%◌, Bool, true, false, cond, eqb, List, length, replicate, Ok, Err, Result, inl, inr, ap, sym, ◌∙◌, refl, length-append, eqb-true}
 use Rattle.std.proofs.lemmas.List.{length-replicate}
 use Rattle.hex.specs.Hex.{decode_sized, decode_pairs}
 use Rattle.hex.specs.declared.error.FromHexError.{FromHexError}

@@ -1,26 +1,24 @@
 -- The steps and the files of the recipe that the lines name.
-use Rattle.std.proofs.Common.{◌≡◌, ◌≤◌, ℕ, ◌*◌, ◌||◌, Bool, true, false, nat_eq, List, [], ◌∷◌, ◌++◌, map, Option, Some, None, IsSome, IfSome, refl, sym, subst, arith, lit≤}
-use Rattle.std.specs.Prelude.{◌⊎◌}
+use Rattle.std.proofs.Common.{◌≡◌, ◌≤◌, ℕ, ◌*◌, ◌||◌, Bool, true, false, List, [], ◌∷◌, ◌++◌, map, Option, Some, None, IsSome, IfSome, refl, sym, subst, arith, lit≤}
 use Rattle.std.specs.List.{AllByRecursion, AllZip, IsDistinct}
 use Rattle.std.specs.Str.{bytes_eq}
 use Rattle.std.proofs.lemmas.Bool.{false≢true}
-use Rattle.serde_json.specs.Data.{Data, null, boolean, number, unsigned, string, array, object}
+use Rattle.serde_json.specs.Data.{Data, null, boolean, number, string, array, object}
 use Rattle.serde_json.specs.Find.{get}
 use Rattle.nuc_base.specs.Tables.{Table, AllHold, on}
 use Rattle.nuc_base.specs.declared.artifact.Artifact.{Artifact}
 use Rattle.nuc_base.specs.declared.kinds.Step.{Step}
 use Rattle.nuc_base.specs.declared.kinds.Step.TheVariants.{Install, Run, Startup, Shutdown, Recover, Bootstrap}
 use Rattle.nuc_base.proofs.Tables.{hold_last}
-use Rattle.tree_core.specs.Parts.{check, values, optional, present, IsText, IsObject, IsList}
-use Rattle.tree_core.specs.Counts.{IsCount}
+use Rattle.tree_core.specs.Parts.{check, values, optional, present}
 use Rattle.recipe_reader.specs.Artifacts.{IsArtifact, AreArtifacts, artifacts_lines, artifact_lines, listed_lines, has_name, file_at}
 use Rattle.recipe_reader.specs.Environment.{Variable, environment_lines}
 use Rattle.recipe_reader.specs.Keys.{keyed}
-use Rattle.recipe_reader.specs.Lifecycles.{AreSteps, HasBoth, first_steps, key_value, keys_lines, last_steps, lifecycle_lines, one_step, step_value}
+use Rattle.recipe_reader.specs.Lifecycles.{AreSteps, HasBoth, first_steps, keys_lines, last_steps, lifecycle_lines, one_step, step_value}
 use Rattle.recipe_reader.specs.Recipes.{chosen_lines, inner}
 use Rattle.recipe_reader.specs.Sound.{IsShort, artifact_file}
 use Rattle.recipe_reader.specs.Spelled.{spelled}
-use Rattle.recipe_reader.specs.Steps.{IsLimit, IsStep, IsStepDef, double_lines, key_of, object_lines, script_lines, skip_lines, step_lines, step_of, timeout_lines, usual_limit}
+use Rattle.recipe_reader.specs.Steps.{IsLimit, IsStep, double_lines, script_lines, skip_lines, step_lines, step_of, timeout_lines, usual_limit}
 use Rattle.recipe_reader.specs.declared.recipe.Recipe.{Recipe}
 use Rattle.recipe_reader.specs.declared.recipe.StepDef.{StepDef}
 use Rattle.recipe_reader.specs.declared.fault.Key.TheVariants as key

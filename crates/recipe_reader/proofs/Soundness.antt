@@ -1,5 +1,5 @@
 -- The recipe that the lines name is sound.
-use Rattle.std.proofs.Common.{◌≡◌, ◌≤◌, ℕ, List, [], ◌∷◌, ◌++◌, map, length, Option, Some, None, Result, Ok, Err, IfSome, IfOk, sym, subst, arith, nat_cmp, lit≤}
+use Rattle.std.proofs.Common.{◌≡◌, ◌≤◌, ℕ, List, ◌++◌, map, length, Option, Some, None, Result, Ok, Err, IfSome, IfOk, sym, subst, arith, nat_cmp, lit≤}
 use Rattle.std.specs.List.{AllZip}
 use Rattle.std.specs.List.Sorted.{IsStrictlySortedBy}
 use Rattle.std.specs.Cmp.Lexicographic.{slice_cmp}
