@@ -52,12 +52,3 @@ pub use scopes::scope_of;
 pub use spare::Spare;
 pub use staged::{Pending, Stage};
 pub use steps::{broken_of, next_of, running_place};
-
-#[cfg(test)]
-mod fronts_tests;
-#[cfg(test)]
-mod marks_tests;
-#[cfg(test)]
-mod scopes_tests;
-#[cfg(test)]
-mod tests;

@@ -4,8 +4,8 @@ ghost use Rattle.interpolation.specs.Scopes.{HasRegularConfigs};
 ghost use Rattle.records.specs.Stored.{item_view};
 ghost use Rattle.device.specs.Plans.{AreRegularItems};
 
-use crate::scope_of;
-use crate::tests::record_named;
+use crate::histories::record_named;
+use device::scope_of;
 use interpolation::{Scope, expand};
 use nuc_base::{List, Text};
 use recipe_reader::Recipe;

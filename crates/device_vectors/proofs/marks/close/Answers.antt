@@ -7,7 +7,7 @@ use Rattle.device.specs.declared.mark.Mark.TheVariants as marks
 use Rattle.device.specs.Devices.{Pending, device_view, pending_view}
 use Rattle.device.specs.Lawful.{MayClose}
 use Rattle.device.specs.Marks.{IsMarkOf}
-use Rattle.device.proofs.marks_tests.close.Goals as goal
+use Rattle.device_vectors.proofs.marks.close.Goals as goal
 
 pub write_mark-size-requires : goal.write_mark-size-requires
 write_mark-size-requires c =
@@ -20,5 +20,5 @@ apply_mark-requires-clause-lawful c =
     let is = sym (ap (option_map pending_view) c.in-Some.is) in (
       stored.Closed outcomes.Successful,
       subst (λ (o : Option Pending). IsSomeAnd o (λ q. IsMarkOf d.set q (marks.Closed outcomes.Successful) (stored.Closed outcomes.Successful))) is refl,
-      subst (λ (o : Option Pending). IsSomeAnd o (λ q. MayClose q outcomes.Successful)) is (c.if-not-may_close.ensures.0 refl),
+      subst (λ (o : Option Pending). IsSomeAnd o (λ q. MayClose q outcomes.Successful)) is (c.if-not-may_close.ensures refl),
     )

@@ -3,8 +3,8 @@ ghost use Rattle.std.specs.Prelude.{IfOk};
 ghost use Rattle.std.specs.List.{AllByRecursion};
 ghost use Rattle.device.specs.Fronts.{IsRegularEntry};
 
-use crate::tests::{Found, found_in, push_entry, record_named};
-use crate::{ApplyFault, Device, RestoreFault};
+use crate::histories::{Found, found_in, push_entry, record_named};
+use device::{ApplyFault, Device, RestoreFault};
 use nuc_base::List;
 use records::Record;
 use std::alloc::Global;
@@ -20,7 +20,7 @@ const FRONT: [&[u8]; 5] = [
 ];
 
 /// The records that these payloads spell.
-#[tactic(auto, using(crate::proofs::Regular::writable, crate::proofs::SoundLists::all_more))]
+#[tactic(auto, using(crate::proofs::Reading::writable, crate::proofs::Reading::all_more))]
 fn records_of(alloc: Global, payloads: &[&[u8]]) -> Result<List<Record>, Fail>
     ensures { IfOk result (λ records. AllByRecursion IsRegularEntry records) }
 {

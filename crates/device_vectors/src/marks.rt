@@ -1,13 +1,22 @@
 // A deployment that closes by a mark.
-ghost use Rattle.device.specs.Devices.{device_view};
+ghost use Rattle.std.specs.Prelude.{IsTrue};
+ghost use Rattle.nuc_base.specs.declared.kinds.Outcome.TheVariants as outcomes;
+ghost use Rattle.device.specs.Devices.{device_view, pending_view};
+ghost use Rattle.device.specs.Lawful.{MayClose};
 ghost use Rattle.device.specs.Sound.{IsSound};
 
-use crate::steps::may_close;
-use crate::tests::{record_named, replayed};
-use crate::{Device, Mark};
+use crate::histories::{record_named, replayed};
+use device::{Device, Mark, Pending, Stage, broken_of};
 use nuc_base::Outcome;
 use std::alloc::Global;
 use std::test::Fail;
+
+/// Whether the pending deployment may close as successful.
+fn may_close(pending: &Pending) -> bool
+    ensures { IsTrue result → MayClose (pending_view pending.now) outcomes.Successful }
+{
+    pending.stage == Stage::Activating && broken_of(&pending.failures).is_none()
+}
 
 /// Closes the pending deployment by a mark, where that is lawful, and says whether the mark was written as its record.
 fn close(alloc: Global, device: &mut Device) -> Result<bool, Fail>
@@ -17,7 +26,7 @@ fn close(alloc: Global, device: &mut Device) -> Result<bool, Fail>
     let Some(pending) = &device.pending else {
         return Ok(false);
     };
-    if !may_close(pending, Outcome::Successful) {
+    if !may_close(pending) {
         return Ok(false);
     }
     let mut spare = device.spare(alloc, &pending.plan)?;

@@ -2,7 +2,7 @@ use Rattle.std.proofs.Common.{◌≡◌, Some, slice_get, option_map, sym, ap, s
 use Rattle.std.proofs.lemmas.Option.{slice_get-map}
 use Rattle.recipe_reader.specs.OneRecipe.{Reads}
 use Rattle.records.specs.Stored.{item_view}
-use Rattle.device.proofs.scopes_tests.count_in.Goals as goal
+use Rattle.device_vectors.proofs.scopes.count_in.Goals as goal
 
 pub scope_of-requires-clause-recipe : goal.scope_of-requires-clause-recipe
 scope_of-requires-clause-recipe c =

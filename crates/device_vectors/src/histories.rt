@@ -2,9 +2,10 @@ ghost use Rattle.std.specs.Prelude.{IfOk, IfSome};
 ghost use Rattle.device.specs.Devices.{device_view};
 ghost use Rattle.device.specs.Sound.{IsSound};
 
-use crate::{ApplyFault, Device, ReplayFault, replay};
+use device::{ApplyFault, Device, ReplayFault, replay};
 use disk_model::{Disk, MemoryDisk};
 use gate_log::{FindFault, Journal, Log};
+use records::Record;
 use std::alloc::Global;
 use std::test::Fail;
 
@@ -332,8 +333,12 @@ pub(crate) fn record_named(name: &str) -> &'static [u8] {
 }
 
 /// Whether the record that the payload spells is lawful and is taken.
+#[tactic(auto, using(crate::proofs::Reading::writable))]
 fn is_taken(alloc: Global, device: &mut Device, payload: &[u8]) -> Result<bool, Fail> {
-    match device.take_payload(alloc, payload) {
+    let Some(entry) = Record::read(alloc, payload)? else {
+        return Ok(false);
+    };
+    match device.apply(alloc, entry) {
         Ok(()) => Ok(true),
         Err(ApplyFault::NotLawful) => Ok(false),
         Err(ApplyFault::NoMemory) => Err(ApplyFault::NoMemory)?,
