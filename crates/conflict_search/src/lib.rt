@@ -22,6 +22,3 @@ mod walk;
 
 pub use recipe_reader::Wanted;
 pub use searches::{SearchFault, search};
-
-#[cfg(test)]
-mod tests;

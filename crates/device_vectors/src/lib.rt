@@ -1,7 +1,7 @@
 //! Tables of records, journals and plans, and what they make of a device.
 //!
-//! It promises nothing of its own: it holds the tests of `device`, in a crate of their own so that its library is not
-//! proved again for them. It stands on `device` and on the disk in memory.
+//! It promises nothing of its own: it holds the tests of `device` and of `status_text`, in a crate of their own so that
+//! their libraries are not proved again for them. It stands on these two and on the disk in memory.
 #![tactic(auto)]
 
 #[cfg(test)]
@@ -12,3 +12,5 @@ mod histories;
 mod marks;
 #[cfg(test)]
 mod scopes;
+#[cfg(test)]
+mod statuses;

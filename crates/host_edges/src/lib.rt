@@ -22,6 +22,3 @@ pub use disk::FileDisk;
 pub use inbox::FolderInbox;
 pub use library::FolderLibrary;
 pub use runner::ShellRunner;
-
-#[cfg(test)]
-mod tests;

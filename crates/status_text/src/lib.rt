@@ -12,6 +12,3 @@ mod words;
 pub use lines::status_lines;
 pub use trees::status_json;
 pub use words::{outcome_word, stage_word};
-
-#[cfg(test)]
-mod tests;

@@ -1,6 +1,6 @@
-use crate::{Access, FileDisk, FolderInbox, FolderLibrary, ShellRunner};
 use disk_model::{Disk, DiskFault};
 use edges::{Inbox, Incoming};
+use host_edges::{Access, FileDisk, FolderInbox, FolderLibrary, ShellRunner};
 use library_core::{Library, LibraryFault, Piece};
 use npm_ranges::Version;
 use nuc_base::{Exit, Label, List, Name, NoMemory, Text};

@@ -1,7 +1,7 @@
 ghost use Rattle.std.specs.Prelude.{IfOk};
 ghost use Rattle.recipe_reader.specs.Candidates.{IsRead};
 
-use crate::{SearchFault, Wanted, search};
+use conflict_search::{SearchFault, Wanted, search};
 use npm_ranges::{Range, Version};
 use nuc_base::{Bytes, Label, List, Name};
 use recipe_reader::{Candidate, Candidates, Platform, Recipe};

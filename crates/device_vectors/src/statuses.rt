@@ -1,9 +1,9 @@
 ghost use Rattle.device.specs.Devices.{device_view, IsRegularDevice};
 
-use super::*;
 use device::Device;
 use nuc_base::NoMemory;
 use records::Record;
+use status_text::{status_json, status_lines};
 use std::alloc::Global;
 use std::test::Fail;
 
