@@ -1,5 +1,9 @@
+pub mod Accepting
+pub mod Booting
 pub mod Changing
 pub mod Facts
+pub mod Files
+pub mod Filling
 pub mod Found
 pub mod Growing
 pub mod Needing
@@ -7,3 +11,4 @@ pub mod Opening
 pub mod Planned
 pub mod Proposing
 pub mod Scripts
+pub mod Supplying

@@ -25,7 +25,7 @@ use Rattle.plan_core.specs.declared.fault.PlanFault.TheVariants as fault
 -- one more deployment may close, of this group
 abbrev pub room_lines : Device → Document → Table PlanFault
 room_lines d document =
-    check (length d.closed < most_closed) (fault.TooManyClosed (most_closed + 1))
+    check (length d.closed < most_closed) (fault.TooManyClosed most_closed)
     ++ check (IsTrue (has_group document.group d.groups) ⊎ (length d.groups < most_groups)) (fault.TooManyGroups (most_groups + 1))
 
 -- the text of the configuration is short

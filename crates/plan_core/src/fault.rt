@@ -7,7 +7,7 @@ use nuc_base::{Label, Name, NoMemory, Outcome};
 /// Why a document makes no plan, in the order in which this is checked.
 #[derive(Debug, Drop)]
 pub enum PlanFault {
-    /// So many deployments would be closed on the device.
+    /// So many deployments are closed on the device, and no more may be.
     TooManyClosed(u32),
     /// The device would have so many groups.
     TooManyGroups(u32),

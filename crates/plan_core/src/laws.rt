@@ -1,7 +1,10 @@
 //! Laws of plans.
-ghost use Rattle.plan_core.specs.Laws.{ClosedComesFirst, GroupsComeSecond, VersionsComeThird};
+ghost use Rattle.plan_core.specs.Laws.{ClosedComesFirst, GroupsComeSecond, VersionsComeThird, FilledIsAllowed};
 ghost use Rattle.plan_core.specs.Ready.{GatheredMayPlan};
 ghost use Rattle.plan_core.specs.Rows.{TwoGroups, KeepsConfig, TakesDefault, KeepsDigest, TakesRecipeDigest, OrdersNeeds, BootsInOrder};
+
+use config_ops::config_is_object;
+use recipe_reader::recipe_laws;
 
 /// The checks of a plan come in their order. It does nothing.
 pub fn limits_in_order()
@@ -26,3 +29,12 @@ pub fn small_plans()
 pub fn gathered_candidates_make_plans()
     ensures { GatheredMayPlan }
 {}
+
+/// A plan that fills a draft which was made on a device may be accepted there: the record of its acceptance is lawful. It
+/// does nothing.
+pub fn filled_drafts_may_be_accepted()
+    ensures { FilledIsAllowed }
+{
+    recipe_laws();
+    config_is_object();
+}

@@ -17,9 +17,8 @@ mod requests;
 mod sizes;
 
 pub use fault::{PlanFault, Refusal};
-pub use laws::{gathered_candidates_make_plans, limits_in_order, small_plans};
+pub use laws::{
+    filled_drafts_may_be_accepted, gathered_candidates_make_plans, limits_in_order, small_plans,
+};
 pub use plan::make_plan;
 pub use proposals::{propose, propose_read};
-
-#[cfg(test)]
-mod tests;

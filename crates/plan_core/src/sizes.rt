@@ -28,7 +28,7 @@ pub(crate) fn check_room(device: &Device, document: &Document) -> Result<(), Pla
     ensures { MatchResult result (λ _. AllHold (room_lines (device_view device.now) document.now)) (IsFirst (room_lines (device_view device.now) document.now)) }
 {
     if device.closed.len() >= MOST_CLOSED {
-        return Err(PlanFault::TooManyClosed(MOST_CLOSED as u32 + 1));
+        return Err(PlanFault::TooManyClosed(MOST_CLOSED as u32));
     }
     if device.groups.contains(&document.group) {
         return Ok(());

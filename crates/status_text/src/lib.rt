@@ -9,6 +9,6 @@ mod places;
 mod trees;
 mod words;
 
-pub use lines::status_lines;
+pub use lines::{put_line, status_lines};
 pub use trees::status_json;
 pub use words::{outcome_word, stage_word};

@@ -34,7 +34,7 @@ pub fn status_lines(alloc: Global, device: &Device) -> Result<Text, NoMemory>
 }
 
 /// Adds a line: a word, more words with a space before each, and a line feed.
-fn put_line(out: &mut Text, word: &str, more: &[&str]) -> Result<(), NoMemory>
+pub fn put_line(out: &mut Text, word: &str, more: &[&str]) -> Result<(), NoMemory>
     ensures { OnOk result (out.new ≡ out.old ++ line word.now (texts more.now)) }
 {
     out.push_str(word)?;

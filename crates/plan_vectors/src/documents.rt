@@ -2,12 +2,12 @@ ghost use Rattle.std.specs.Prelude.{IfOk};
 ghost use Rattle.device.specs.Devices.{device_view, IsRegularDevice};
 ghost use Rattle.device.specs.Sound.{IsSound};
 
-use super::*;
 use device::{Device, replay};
 use disk_model::{Disk, MemoryDisk};
 use gate_log::{Journal, Log};
 use library_core::MemoryLibrary;
 use nuc_base::{Bytes, List};
+use plan_core::propose_read;
 use records::Draft;
 use std::alloc::Global;
 use std::test::Fail;
