@@ -9,7 +9,7 @@ use Rattle.nucleus_top.specs.Answers.{Store, Input, Printed, Told, IsUnchanged, 
 use Rattle.nucleus_top.specs.Deploys.{IsStored, IsRead, Deploys, DeployParts}
 use Rattle.nucleus_top.specs.declared.document.Deployment.{Deployment}
 use Rattle.nucleus_top.specs.declared.answer.Answer.{Answer}
-use Rattle.nucleus_top.specs.declared.answer.Answer.TheVariants.{Stored, Made, Shown, Refused, DiskFailed, SourceFailed, NoMemory}
+use Rattle.nucleus_top.specs.declared.answer.Answer.TheVariants.{Stored, Made, Shown, Planned, Unplanned, Refused, DiskFailed, SourceFailed, NoMemory}
 use Rattle.nucleus_top.proofs.Told.{told_of}
 
 -- what is said of an untold value holds of the value that is told
@@ -21,11 +21,14 @@ module _ (store : Store) (input : Input) (printed : Printed) (result : Status) w
   done (Stored w) comes (inl told) is = (w, comes.0, told.1)
   done (Made thing) comes (inl told) is = absurd comes
   done (Shown text) comes (inl told) is = absurd comes
+  done (Planned text) comes (inl told) is = absurd comes
+  done (Unplanned r text) comes (inl told) is = absurd comes
   done a comes (inl told) is = cc
   done a comes (inr told) is = cc
 
   refused : (a : Answer) → Deploys store input a → Told printed result a → result ≡ status.BadInput → IfSome input.document HasNoForm × IsUnchanged store × Prints printed refused_line
   refused Refused comes (inl told) is = (comes.0, comes.1, told.1)
+  refused (Unplanned r text) comes (inl told) is = absurd comes
   refused a comes (inl told) is = cc
   refused a comes (inr told) is = cc
 

@@ -1,5 +1,5 @@
 -- What each answer of the top call amounts to.
-use Rattle.std.proofs.Common.{◌≡◌, ◌≢◌, ◌∙◌, ◌⊎◌, inl, inr, ℕ, List, sym, ap}
+use Rattle.std.proofs.Common.{◌≡◌, ◌≢◌, ◌∙◌, ◌⊎◌, inl, inr, ℕ, List, refl, sym, ap, subst}
 use Rattle.std.specs.Prelude.{codes}
 use Rattle.nuc_base.specs.declared.status.Status.{Status}
 use Rattle.nuc_base.specs.declared.status.Status.TheVariants as status
@@ -7,114 +7,170 @@ use Rattle.nuc_base.specs.Faults.{Rose}
 use Rattle.disk_model.specs.Disk.{Image}
 use Rattle.command_words.specs.Laws.{AsksOnce}
 use Rattle.command_words.specs.declared.order.Order.{Order}
-use Rattle.command_words.specs.declared.order.Order.TheVariants.{Init, Deploy, Status as Show}
+use Rattle.command_words.specs.declared.order.Order.TheVariants.{Init, Deploy, Status as Show, Plan}
 use Rattle.nucleus_top.specs.Words.{AsksNothing}
-use Rattle.nucleus_top.specs.Answers.{Store, Input, Printed, Told, IsUnchanged, HasRisen, IsQuiet, IsCutShort, Prints, Yields, usage_line, status_of}
+use Rattle.nucleus_top.specs.Answers.{Store, Input, Shelf, Printed, Told, IsUnchanged, HasRisen, IsQuiet, IsStill, IsCutShort, Prints, Yields, usage_line, library_line, status_of}
 use Rattle.nucleus_top.specs.Leaving.{IsDurable, Keeps}
 use Rattle.nucleus_top.specs.Parts.{Comes, ComesOf, IsSourceFault, Parts}
 use Rattle.nucleus_top.specs.declared.answer.Answer.{Answer}
-use Rattle.nucleus_top.specs.declared.answer.Answer.TheVariants.{WrongWords, DiskFailed, SourceFailed, NoMemory}
+use Rattle.nucleus_top.specs.declared.answer.Answer.TheVariants.{Unplanned, WrongWords, DiskFailed, SourceFailed, LibraryFailed, NoMemory}
 use Rattle.nucleus_top.proofs.Orders.{comes_of}
 use Rattle.nucleus_top.proofs.DeployEnds.{deploy_parts}
 use Rattle.nucleus_top.proofs.InitEnds.{init_parts}
+use Rattle.nucleus_top.proofs.PlanEnds.{plan_parts}
 use Rattle.device.proofs.OneDevice.{same_device}
 use Rattle.nucleus_top.proofs.StatusEnds.{status_parts}
+use Rattle.nucleus_top.proofs.Unrefused.{no_refusal, silent}
+use Rattle.refusal_lines.specs.Lines.{refusal_line}
+use Rattle.refusal_lines.specs.Statuses.{status_of_refusal}
+use Rattle.plan_core.specs.declared.fault.Refusal.{Refusal}
 
 -- what a command's answer says of the disk
-risen : (order : Order) (store : Store) (input : Input) → ComesOf order store input DiskFailed → HasRisen store
-risen (Init origin) store input comes = comes.0
-risen Deploy store input comes = comes.1
-risen (Show json) store input comes = comes.1
-risen _ store input comes = absurd comes
+risen : (order : Order) (store : Store) (input : Input) (library : Shelf) → ComesOf order store input library DiskFailed → HasRisen store
+risen (Init origin) store input library comes = comes.0
+risen Deploy store input library comes = comes.1
+risen (Show json) store input library comes = comes.1
+risen Plan store input library comes = comes.1
+risen _ store input library comes = absurd comes
 
-unread : (order : Order) (store : Store) (input : Input) → ComesOf order store input SourceFailed → Rose input.faults_before input.faults_after
-unread Deploy store input comes = comes.0
-unread (Init origin) store input comes = absurd comes
-unread (Show json) store input comes = absurd comes
-unread _ store input comes = absurd comes
+unread : (order : Order) (store : Store) (input : Input) (library : Shelf) → ComesOf order store input library SourceFailed → Rose input.faults_before input.faults_after
+unread Deploy store input library comes = comes.0
+unread Plan store input library comes = comes.1.2.1
+unread (Init origin) store input library comes = absurd comes
+unread (Show json) store input library comes = absurd comes
+unread _ store input library comes = absurd comes
 
-untouched : (order : Order) (store : Store) (input : Input) → ComesOf order store input NoMemory → IsUnchanged store
-untouched (Init origin) store input comes = comes
-untouched Deploy store input comes = comes
-untouched (Show json) store input comes = comes
-untouched _ store input comes = absurd comes
+ungiven : (order : Order) (store : Store) (input : Input) (library : Shelf) → ComesOf order store input library LibraryFailed → Rose library.faults_before library.faults_after
+ungiven Plan store input library comes = comes.1.2.1
+ungiven Deploy store input library comes = absurd comes
+ungiven (Init origin) store input library comes = absurd comes
+ungiven (Show json) store input library comes = absurd comes
+ungiven _ store input library comes = absurd comes
 
-no_usage : (order : Order) (store : Store) (input : Input) → ComesOf order store input WrongWords → ⊥
-no_usage (Init origin) store input comes = comes
-no_usage Deploy store input comes = comes
-no_usage (Show json) store input comes = comes
-no_usage _ store input comes = absurd comes
+-- what a refusal of a document prints, and of which status it is not
+abbrev Refuses : Store → Refusal → List ℕ → Type 0
+Refuses store r text = IsUnchanged store × (text ≡ refusal_line r) × (status_of_refusal r ≢ status.Library)
 
-module _ (words : List (List ℕ)) (store : Store) (input : Input) (printed : Printed) (result : Status) where
-  wrong : Comes words store input WrongWords → AsksNothing words × IsUnchanged store
-  wrong (inl comes) = absurd (no_usage comes.0 store input comes.2)
+unplanned : (order : Order) (store : Store) (input : Input) (library : Shelf) (r : Refusal) (text : List ℕ) → ComesOf order store input library (Unplanned r text) → Refuses store r text
+unplanned Plan store input library r text comes = (comes.0, comes.1.2.1, comes.1.2.2)
+unplanned Deploy store input library r text comes = absurd comes
+unplanned (Init origin) store input library r text comes = absurd comes
+unplanned (Show json) store input library r text comes = absurd comes
+unplanned _ store input library r text comes = absurd comes
+
+untouched : (order : Order) (store : Store) (input : Input) (library : Shelf) → ComesOf order store input library NoMemory → IsUnchanged store
+untouched (Init origin) store input library comes = comes
+untouched Deploy store input library comes = comes
+untouched (Show json) store input library comes = comes
+untouched Plan store input library comes = comes
+untouched _ store input library comes = absurd comes
+
+no_usage : (order : Order) (store : Store) (input : Input) (library : Shelf) → ComesOf order store input library WrongWords → ⊥
+no_usage (Init origin) store input library comes = comes
+no_usage Deploy store input library comes = comes
+no_usage (Show json) store input library comes = comes
+no_usage Plan store input library comes = comes.1.2
+no_usage _ store input library comes = absurd comes
+
+module _ (words : List (List ℕ)) (store : Store) (input : Input) (library : Shelf) (printed : Printed) (result : Status) where
+  wrong : Comes words store input library WrongWords → AsksNothing words × IsUnchanged store
+  wrong (inl comes) = absurd (no_usage comes.0 store input library comes.2)
   wrong (inr (inl comes)) = (comes.1, comes.2)
   wrong (inr (inr comes)) = cc
 
-  usage : (a : Answer) → Comes words store input a → Told printed result a → result ≡ status.Usage → AsksNothing words × IsUnchanged store × Prints printed usage_line
+  refuses : (r : Refusal) (text : List ℕ) → Comes words store input library (Unplanned r text) → Refuses store r text
+  refuses r text (inl comes) = unplanned comes.0 store input library r text comes.2
+  refuses r text (inr (inl comes)) = cc
+  refuses r text (inr (inr comes)) = cc
+
+  usage : (a : Answer) → Comes words store input library a → Told printed result a → result ≡ status.Usage → AsksNothing words × IsUnchanged store × Prints printed usage_line
   usage WrongWords comes (inl told) is = let w = wrong comes in (w.0, w.1, told.1)
+  usage (Unplanned r text) comes (inl told) is = absurd (no_refusal r status.Usage refl (sym told.0 ∙ is))
   usage a comes (inl told) is = cc
   usage a comes (inr told) is = cc
 
-  usage_comes : (a : Answer) → Comes words store input a → Told printed result a → AsksNothing words → Yields result status.Usage
+  usage_comes : (a : Answer) → Comes words store input library a → Told printed result a → AsksNothing words → Yields result status.Usage
   usage_comes a comes (inr told) nothing = inr (inl told.0)
   usage_comes a (inl comes) (inl told) nothing = absurd (nothing comes.0 comes.1)
   usage_comes a (inr (inl comes)) (inl told) nothing = inl (told.0 ∙ ap status_of comes.0)
   usage_comes a (inr (inr comes)) (inl told) nothing = inr (inr (told.0 ∙ ap status_of comes.0))
 
-  failed : Comes words store input DiskFailed → HasRisen store
-  failed (inl comes) = risen comes.0 store input comes.2
+  failed : Comes words store input library DiskFailed → HasRisen store
+  failed (inl comes) = risen comes.0 store input library comes.2
   failed (inr (inl comes)) = cc
   failed (inr (inr comes)) = cc
 
-  disk : (a : Answer) → Comes words store input a → Told printed result a → result ≡ status.Disk → HasRisen store × Prints printed (codes "fault 5 disk\n")
+  disk : (a : Answer) → Comes words store input library a → Told printed result a → result ≡ status.Disk → HasRisen store × Prints printed (codes "fault 5 disk\n")
   disk DiskFailed comes (inl told) is = (failed comes, told.1)
+  disk (Unplanned r text) comes (inl told) is = absurd (no_refusal r status.Disk refl (sym told.0 ∙ is))
   disk a comes (inl told) is = cc
   disk a comes (inr told) is = cc
 
-  source : Comes words store input SourceFailed → Rose input.faults_before input.faults_after
-  source (inl comes) = unread comes.0 store input comes.2
+  source : Comes words store input library SourceFailed → Rose input.faults_before input.faults_after
+  source (inl comes) = unread comes.0 store input library comes.2
   source (inr (inl comes)) = cc
   source (inr (inr comes)) = cc
+
+  shelf : Comes words store input library LibraryFailed → Rose library.faults_before library.faults_after
+  shelf (inl comes) = ungiven comes.0 store input library comes.2
+  shelf (inr (inl comes)) = cc
+  shelf (inr (inr comes)) = cc
 
   disk_stays : (a : Answer) → IsQuiet store input a → Told printed result a → result ≢ status.Disk → result ≢ status.Edge → store.faults_after ≡ store.faults_before
   disk_stays a quiet (inl told) other more = quiet.disk (λ is. other (told.0 ∙ ap status_of is))
   disk_stays a quiet (inr told) other more = absurd (more told.0)
 
-  edge : (a : Answer) → Comes words store input a → IsQuiet store input a → Told printed result a → result ≡ status.Edge
-      → IsSourceFault store input printed ⊎ ((answer : Answer) × Comes words store input answer × IsQuiet store input answer × IsCutShort printed answer)
-  edge a comes quiet (inr told) is = inr (a, comes, quiet, told.1)
-  edge SourceFailed comes quiet (inl told) is = inl (record { rose = source comes; line = told.1; disk_stays = quiet.disk (λ other. cc); sink_stays = told.2 })
-  edge a comes quiet (inl told) is = cc
+  edge : (a : Answer) → Comes words store input library a → IsQuiet store input a → IsStill library a → Told printed result a → result ≡ status.Edge
+      → IsSourceFault store input library printed ⊎ ((answer : Answer) × Comes words store input library answer × IsQuiet store input answer × IsStill library answer × IsCutShort printed answer)
+  edge a comes quiet still (inr told) is = inr (a, comes, quiet, still, told.1)
+  edge SourceFailed comes quiet still (inl told) is = inl (record { rose = source comes; line = told.1; disk_stays = quiet.disk (λ other. cc); library_stays = still (λ other. cc); sink_stays = told.2 })
+  edge (Unplanned r text) comes quiet still (inl told) is = absurd (no_refusal r status.Edge refl (sym told.0 ∙ is))
+  edge a comes quiet still (inl told) is = cc
 
   edges_stay : (a : Answer) → IsQuiet store input a → Told printed result a → result ≢ status.Edge
       → (input.faults_after ≡ input.faults_before) × (printed.faults_after ≡ printed.faults_before)
   edges_stay a quiet (inl told) other = (quiet.source (λ is. other (told.0 ∙ ap status_of is)), told.2)
   edges_stay a quiet (inr told) other = absurd (other told.0)
 
-  same : Comes words store input NoMemory → IsUnchanged store
-  same (inl comes) = untouched comes.0 store input comes.2
+  given : (a : Answer) → Comes words store input library a → Told printed result a → result ≡ status.Library → Rose library.faults_before library.faults_after × Prints printed library_line
+  given LibraryFailed comes (inl told) is = (shelf comes, told.1)
+  given (Unplanned r text) comes (inl told) is = absurd ((refuses r text comes).2 (sym told.0 ∙ is))
+  given a comes (inl told) is = cc
+  given a comes (inr told) is = cc
+
+  library_stays : (a : Answer) → IsStill library a → Told printed result a → result ≢ status.Library → result ≢ status.Edge → library.faults_after ≡ library.faults_before
+  library_stays a still (inl told) other more = still (λ is. other (told.0 ∙ ap status_of is))
+  library_stays a still (inr told) other more = absurd (more told.0)
+
+  same : Comes words store input library NoMemory → IsUnchanged store
+  same (inl comes) = untouched comes.0 store input library comes.2
   same (inr (inl comes)) = comes.2
   same (inr (inr comes)) = comes.1
 
-  memory : (a : Answer) → Comes words store input a → Told printed result a → result ≡ status.Memory → IsUnchanged store × Prints printed (codes "")
+  memory : (a : Answer) → Comes words store input library a → Told printed result a → result ≡ status.Memory → IsUnchanged store × Prints printed (codes "")
   memory NoMemory comes (inl told) is = (same comes, told.1)
+  memory (Unplanned r text) comes (inl told) is =
+      let r_is = refuses r text comes in
+      (r_is.0, subst (λ (t : List ℕ). Prints printed t) (r_is.1 ∙ silent r (sym told.0 ∙ is)) told.1)
   memory a comes (inl told) is = cc
   memory a comes (inr told) is = cc
 
-  pub parts : AsksOnce → (a : Answer) → Comes words store input a → IsQuiet store input a → Told printed result a → Parts words store input printed result
-  parts once a comes quiet told = record {
+  pub parts : AsksOnce → (a : Answer) → Comes words store input library a → IsQuiet store input a → IsStill library a → Told printed result a → Parts words store input library printed result
+  parts once a comes quiet still told = record {
     usage = usage a comes told;
     usage_comes = usage_comes a comes told;
     disk = disk a comes told;
     disk_stays = disk_stays a quiet told;
-    edge = edge a comes quiet told;
+    edge = edge a comes quiet still told;
     edges_stay = edges_stay a quiet told;
+    library_failed = given a comes told;
+    library_stays = library_stays a still told;
     memory = memory a comes told;
     one_device = same_device store.before;
-    deploy = λ is. deploy_parts store input printed result a (comes_of once words Deploy store input a is comes) told;
-    init = λ origin is. init_parts origin store printed result a (comes_of once words (Init origin) store input a is comes) told;
-    status = λ json is. status_parts json store printed result a (comes_of once words (Show json) store input a is comes) told;
+    deploy = λ is. deploy_parts store input printed result a (comes_of once words Deploy store input library a is comes) told;
+    init = λ origin is. init_parts origin store printed result a (comes_of once words (Init origin) store input library a is comes) told;
+    status = λ json is. status_parts json store printed result a (comes_of once words (Show json) store input library a is comes) told;
+    plan = λ is. plan_parts store input library printed result a (comes_of once words Plan store input library a is comes) told;
   }
 
 -- 0 is answered only where the work is done

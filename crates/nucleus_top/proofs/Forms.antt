@@ -3,7 +3,7 @@ use Rattle.std.proofs.Common.{◌≡◌, ◌∙◌, ℕ, List, length, take, ap,
 use Rattle.std.proofs.lemmas.List.{take_all, length-take}
 use Rattle.std.specs.declared.option.Option.{Option}
 use Rattle.std.specs.Prelude.{codes}
-use Rattle.nucleus_top.specs.Answers.{stored_lines, made_line, damaged_line, initialised_line}
+use Rattle.nucleus_top.specs.Answers.{stored_lines, made_line, pending_line, damaged_line, initialised_line}
 use Rattle.nucleus_top.specs.First.{FirstForm, HasForm, HasNoForm}
 use Rattle.nucleus_top.specs.declared.document.Deployment.{Deployment}
 
@@ -27,6 +27,9 @@ stored_joined id = simp append_assoc
 
 pub made_joined : (thing : List ℕ) → codes "initialised " ++ (thing ++ (codes "\n" ++ [])) ≡ made_line thing
 made_joined thing = simp append_assoc
+
+pub pending_joined : (id : List ℕ) → codes "refused 4 pending " ++ (id ++ (codes "\n" ++ [])) ≡ pending_line id
+pending_joined id = simp append_assoc
 
 pub damaged_joined : (place : List ℕ) → codes "refused 9 Damaged " ++ (place ++ (codes "\n" ++ [])) ≡ damaged_line place
 damaged_joined place = simp append_assoc

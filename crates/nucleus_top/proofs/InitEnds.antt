@@ -13,7 +13,7 @@ use Rattle.command_words.specs.declared.order.Order.{Order}
 use Rattle.nucleus_top.specs.Leaving.{IsDurable}
 use Rattle.disk_model.specs.Disk.{Image}
 use Rattle.nucleus_top.specs.declared.answer.Answer.{Answer}
-use Rattle.nucleus_top.specs.declared.answer.Answer.TheVariants.{Stored, Made, Shown, DiskFailed, Damaged, Initialised, NoMemory}
+use Rattle.nucleus_top.specs.declared.answer.Answer.TheVariants.{Stored, Made, Shown, Planned, Unplanned, DiskFailed, Damaged, Initialised, NoMemory}
 use Rattle.device.proofs.OneDevice.{none_stands}
 use Rattle.nucleus_top.proofs.Told.{told_of}
 
@@ -22,6 +22,8 @@ module _ (origin : Origin) (store : Store) (printed : Printed) (result : Status)
   done (Stored w) comes (inl told) is = absurd comes
   done (Shown text) comes (inl told) is = absurd comes
   done (Made thing) comes (inl told) is = (comes.1, subst (λ (t : List ℕ). Prints printed (made_line t)) comes.0 told.1)
+  done (Planned text) comes (inl told) is = absurd comes
+  done (Unplanned r text) comes (inl told) is = absurd comes
   done a comes (inl told) is = cc
   done a comes (inr told) is = cc
 
@@ -36,11 +38,13 @@ module _ (origin : Origin) (store : Store) (printed : Printed) (result : Status)
 
   failed : (a : Answer) → Inits origin store a → Told printed result a → result ≡ status.Disk → IsTrue store.tells → MayBegin store origin
   failed DiskFailed comes (inl told) is = comes.1
+  failed (Unplanned r text) comes (inl told) is = absurd comes
   failed a comes (inl told) is = cc
   failed a comes (inr told) is = cc
 
   damaged : (a : Answer) → Inits origin store a → Told printed result a → result ≡ status.Damaged → (place : List ℕ) × IsRefusedAt store place × Prints printed (damaged_line place)
   damaged (Damaged place) comes (inl told) is = (place, comes, told.1)
+  damaged (Unplanned r text) comes (inl told) is = absurd comes
   damaged a comes (inl told) is = cc
   damaged a comes (inr told) is = cc
 
@@ -56,6 +60,7 @@ module _ (origin : Origin) (store : Store) (printed : Printed) (result : Status)
   initialised : (a : Answer) → Inits origin store a → Told printed result a → result ≡ status.Initialised
       → (thing : List ℕ) × IsUnchanged store × (IsTrue store.tells → IsInitialised store.before thing) × Prints printed (initialised_line thing)
   initialised (Initialised thing) comes (inl told) is = (thing, comes.0, comes.1, told.1)
+  initialised (Unplanned r text) comes (inl told) is = absurd comes
   initialised a comes (inl told) is = cc
   initialised a comes (inr told) is = cc
 

@@ -5,8 +5,11 @@ mod Images
 mod InitEnds
 mod Orders
 mod Origins
+mod PlanEnds
+mod Proposals
 pub mod Refusals
 mod Standing
+pub mod Unrefused
 pub mod StateOrder
 mod StatusEnds
 mod Told

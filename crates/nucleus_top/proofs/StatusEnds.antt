@@ -10,7 +10,7 @@ use Rattle.nucleus_top.specs.Opening.{HasEntry, StandsForNone}
 use Rattle.nucleus_top.specs.Inits.{IsRefusedAt}
 use Rattle.nucleus_top.specs.Shows.{IsShown, Shows, StatusParts}
 use Rattle.nucleus_top.specs.declared.answer.Answer.{Answer}
-use Rattle.nucleus_top.specs.declared.answer.Answer.TheVariants.{Stored, Made, Shown, DiskFailed, NotInitialised, Damaged, NoMemory}
+use Rattle.nucleus_top.specs.declared.answer.Answer.TheVariants.{Stored, Made, Shown, Planned, Unplanned, DiskFailed, NotInitialised, Damaged, NoMemory}
 use Rattle.device.proofs.OneDevice.{none_stands}
 use Rattle.nucleus_top.proofs.Told.{told_of}
 
@@ -27,6 +27,8 @@ module _ (json : Bool) (store : Store) (printed : Printed) (result : Status) whe
   done (Stored w) comes (inl told) is = absurd comes
   done (Made thing) comes (inl told) is = absurd comes
   done (Shown text) comes (inl told) is = (text, comes.1, told.1)
+  done (Planned text) comes (inl told) is = absurd comes
+  done (Unplanned r text) comes (inl told) is = absurd comes
   done a comes (inl told) is = cc
   done a comes (inr told) is = cc
 
@@ -41,6 +43,7 @@ module _ (json : Bool) (store : Store) (printed : Printed) (result : Status) whe
 
   none : (a : Answer) → Shows json store a → Told printed result a → result ≡ status.NotInitialised → (IsTrue store.tells → log_none store.before) × Prints printed none_line
   none NotInitialised comes (inl told) is = (comes.1, told.1)
+  none (Unplanned r text) comes (inl told) is = absurd comes
   none a comes (inl told) is = cc
   none a comes (inr told) is = cc
 
@@ -55,6 +58,7 @@ module _ (json : Bool) (store : Store) (printed : Printed) (result : Status) whe
 
   damaged : (a : Answer) → Shows json store a → Told printed result a → result ≡ status.Damaged → (place : List ℕ) × IsRefusedAt store place × Prints printed (damaged_line place)
   damaged (Damaged place) comes (inl told) is = (place, comes, told.1)
+  damaged (Unplanned r text) comes (inl told) is = absurd comes
   damaged a comes (inl told) is = cc
   damaged a comes (inr told) is = cc
 

@@ -1,23 +1,29 @@
 -- The answers of a call: what each prints, and with which status it ends.
-use Rattle.std.specs.Prelude.{◌≡◌, ◌≢◌, ◌⊎◌, ℕ, List, ◌++◌, Bool, codes}
+use Rattle.std.specs.Prelude.{◌≡◌, ◌≢◌, ◌⊎◌, ℕ, ◌≤◌, List, ◌++◌, length, Bool, codes}
 use Rattle.std.specs.declared.option.Option.{Option}
-use Rattle.std.specs.Io.KnownBytes.{Appends}
+use Rattle.std.specs.Io.KnownBytes.{Appends, Consumes}
 use Rattle.disk_model.specs.Disk.{Image}
 use Rattle.nuc_base.specs.declared.status.Status.{Status}
 use Rattle.nuc_base.specs.declared.status.Status.TheVariants as status
 use Rattle.nuc_base.specs.Faults.{Rose}
 use Rattle.edges.specs.Pieces.{AppendsFront}
+use Rattle.library_core.specs.Library.{Content}
+use Rattle.refusal_lines.specs.Statuses.{status_of_refusal}
 use Rattle.nucleus_top.specs.declared.answer.Answer.{Answer}
-use Rattle.nucleus_top.specs.declared.answer.Answer.TheVariants.{Stored, Made, Shown, WrongWords, Refused, DiskFailed, SourceFailed, NotInitialised, Damaged, Initialised, NoMemory}
+use Rattle.nucleus_top.specs.declared.answer.Answer.TheVariants.{Stored, Made, Shown, Planned, Unplanned, Pending, WrongWords, Refused, DiskFailed, SourceFailed, LibraryFailed, NotInitialised, Damaged, Initialised, NoMemory}
 
 abbrev pub status_of : Answer → Status
 status_of (Stored deployment) = status.Done
 status_of (Made thing) = status.Done
 status_of (Shown text) = status.Done
+status_of (Planned text) = status.Done
+status_of (Unplanned refusal text) = status_of_refusal refusal
+status_of (Pending id) = status.PendingStands
 status_of WrongWords = status.Usage
 status_of Refused = status.BadInput
 status_of DiskFailed = status.Disk
 status_of SourceFailed = status.Edge
+status_of LibraryFailed = status.Library
 status_of NotInitialised = status.NotInitialised
 status_of (Damaged place) = status.Damaged
 status_of (Initialised thing) = status.Initialised
@@ -35,6 +41,12 @@ refused_line = codes "refused 2 document NotYet\n"
 abbrev pub made_line : List ℕ → List ℕ
 made_line thing = codes "initialised " ++ thing ++ codes "\n"
 
+abbrev pub pending_line : List ℕ → List ℕ
+pending_line id = codes "refused 4 pending " ++ id ++ codes "\n"
+
+abbrev pub library_line : List ℕ
+library_line = codes "refused 7 library\n"
+
 abbrev pub none_line : List ℕ
 none_line = codes "refused 8 NotInitialised\n"
 
@@ -49,10 +61,14 @@ abbrev pub lines_of : Answer → List ℕ
 lines_of (Stored deployment) = stored_lines deployment.id
 lines_of (Made thing) = made_line thing
 lines_of (Shown text) = text
+lines_of (Planned text) = text
+lines_of (Unplanned refusal text) = text
+lines_of (Pending id) = pending_line id
 lines_of WrongWords = usage_line
 lines_of Refused = refused_line
 lines_of DiskFailed = codes "fault 5 disk\n"
 lines_of SourceFailed = codes "fault 6 source\n"
+lines_of LibraryFailed = library_line
 lines_of NotInitialised = none_line
 lines_of (Damaged place) = damaged_line place
 lines_of (Initialised thing) = initialised_line thing
@@ -79,6 +95,21 @@ pub record Input : Type 0 where
 abbrev pub input_of : {S : Type 0} → (S → Option (List ℕ)) → (S → ℕ) → S → S → Input
 input_of left faults old new = record { document = left old; rest = left new; faults_before = faults old; faults_after = faults new }
 
+-- What was read is gone from the document: at most so many bytes.
+pub record IsReadUpTo (limit : ℕ) (input : Input) : Type 0 where
+  pub bytes : List ℕ
+  pub consumed : Consumes input.document input.rest bytes
+  pub short : length bytes ≤ limit
+
+-- The library of a call: what it holds, where it tells that, and its counts of faults.
+pub record Shelf : Type 0 where
+  pub content : Option Content
+  pub faults_before : ℕ
+  pub faults_after : ℕ
+
+abbrev pub shelf_of : {L : Type 0} → (L → Option Content) → (L → ℕ) → L → L → Shelf
+shelf_of content faults old new = record { content = content old; faults_before = faults old; faults_after = faults new }
+
 -- What a call prints to, before and after.
 pub record Printed : Type 0 where
   pub before : Option (List ℕ)
@@ -103,6 +134,10 @@ Prints printed lines = Appends printed.before printed.after lines
 pub record IsQuiet (store : Store) (input : Input) (answer : Answer) : Type 0 where
   pub disk : answer ≢ DiskFailed → store.faults_after ≡ store.faults_before
   pub source : answer ≢ SourceFailed → input.faults_after ≡ input.faults_before
+
+-- The library's count rose only for its own fault.
+abbrev pub IsStill : Shelf → Answer → Type 0
+IsStill library answer = answer ≢ LibraryFailed → library.faults_after ≡ library.faults_before
 
 -- The sink failed, and got a front of the lines of this answer.
 pub record IsCutShort (printed : Printed) (answer : Answer) : Type 0 where

@@ -1,12 +1,11 @@
 -- What `deploy` answers.
-use Rattle.std.specs.Prelude.{◌≡◌, ◌⊎◌, ℕ, ◌≤◌, List, length, IsTrue, IfSome, codes, Some}
-use Rattle.std.specs.Io.KnownBytes.{Consumes}
+use Rattle.std.specs.Prelude.{◌≡◌, ◌⊎◌, List, ℕ, IsTrue, IfSome, codes, Some}
 use Rattle.nuc_base.specs.declared.status.Status.{Status}
 use Rattle.nuc_base.specs.declared.status.Status.TheVariants as status
 use Rattle.nuc_base.specs.Faults.{Rose}
 use Rattle.nucleus_top.specs.First.{FirstForm, HasForm, HasNoForm}
 use Rattle.nucleus_top.specs.State.{state_text}
-use Rattle.nucleus_top.specs.Answers.{Store, Input, Printed, IsUnchanged, HasRisen, Prints, Yields, stored_lines, refused_line, status_of}
+use Rattle.nucleus_top.specs.Answers.{Store, Input, Printed, IsUnchanged, IsReadUpTo, HasRisen, Prints, Yields, stored_lines, refused_line, status_of}
 use Rattle.nucleus_top.specs.declared.document.Deployment.{Deployment}
 use Rattle.nucleus_top.specs.declared.answer.Answer.{Answer}
 use Rattle.nucleus_top.specs.declared.answer.Answer.TheVariants.{Stored, Refused, DiskFailed, SourceFailed, NoMemory}
@@ -15,11 +14,9 @@ use Rattle.nucleus_top.specs.declared.answer.Answer.TheVariants.{Stored, Refused
 abbrev pub IsStored : Store → Input → Deployment → Type 0
 IsStored store input deployment = IfSome input.document (λ document. FirstForm document deployment) × (IsTrue store.tells → store.after (codes "state") ≡ state_text deployment)
 
--- What was read is gone from the document: at most one byte past its limit.
-pub record IsRead (input : Input) : Type 0 where
-  pub bytes : List ℕ
-  pub consumed : Consumes input.document input.rest bytes
-  pub short : length bytes ≤ 262145
+-- at most one byte past the limit of a document of the first form was read
+abbrev pub IsRead : Input → Type 0
+IsRead = IsReadUpTo 262145
 
 -- Why an answer comes, and what it leaves on the disk.
 abbrev pub Deploys : Store → Input → Answer → Type 0

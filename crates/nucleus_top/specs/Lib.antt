@@ -6,6 +6,7 @@ pub mod Inits
 pub mod Leaving
 pub mod Opening
 pub mod Parts
+pub mod Planning
 pub mod Reading
 pub mod Shows
 pub mod State

@@ -5,6 +5,7 @@ use Rattle.disk_model.specs.Disk.{Image}
 use Rattle.gate_log.specs.Journal.{log_none, log_entries, log_damaged}
 use Rattle.records.specs.declared.record.Origin.{Origin}
 use Rattle.device.specs.Devices.{Device, device_view, IsRegularDevice}
+use Rattle.device.specs.Sound.{IsSound}
 use Rattle.device.specs.Standing.{Stands}
 use Rattle.device.specs.Damage as damage
 use Rattle.nucleus_top.specs.declared.opening.Opening.{Opening}
@@ -39,10 +40,10 @@ Opens image (Damaged at) = IsDamage image at
 Opens image DiskFailed = ⊤
 Opens image NoMemory = ⊤
 
--- a device that was found has an origin and regular trees
+-- a device that was found has an origin and regular trees, and is sound
 abbrev pub IsReady : Opening → Type 0
 IsReady Empty = ⊤
-IsReady (Found d) = IsSome d.origin × IsRegularDevice (device_view d)
+IsReady (Found d) = IsSome d.origin × IsRegularDevice (device_view d) × IsSound (device_view d)
 IsReady (Damaged at) = ⊤
 IsReady DiskFailed = ⊤
 IsReady NoMemory = ⊤

@@ -7,37 +7,40 @@ use Rattle.records.specs.declared.record.Origin.{Origin}
 use Rattle.device.specs.Devices.{Device}
 use Rattle.device.specs.Standing.{Stands}
 use Rattle.command_words.specs.declared.order.Order.{Order}
-use Rattle.command_words.specs.declared.order.Order.TheVariants.{Init, Deploy, Status as Show}
+use Rattle.command_words.specs.declared.order.Order.TheVariants.{Init, Deploy, Status as Show, Plan}
 use Rattle.nucleus_top.specs.Words.{Asks, AsksNothing}
-use Rattle.nucleus_top.specs.Answers.{Store, Input, Printed, IsUnchanged, HasRisen, IsQuiet, IsCutShort, Prints, Yields, usage_line}
+use Rattle.nucleus_top.specs.Answers.{Store, Input, Shelf, Printed, IsUnchanged, HasRisen, IsQuiet, IsStill, IsCutShort, Prints, Yields, usage_line, library_line}
 use Rattle.nucleus_top.specs.Deploys.{Deploys, DeployParts}
 use Rattle.nucleus_top.specs.Inits.{Inits, InitParts}
+use Rattle.nucleus_top.specs.Planning.{Plans, PlanParts}
 use Rattle.nucleus_top.specs.Shows.{Shows, StatusParts}
 use Rattle.nucleus_top.specs.declared.answer.Answer.{Answer}
 use Rattle.nucleus_top.specs.declared.answer.Answer.TheVariants.{WrongWords, NoMemory}
 
 -- why an answer of a command comes
-abbrev pub ComesOf : Order → Store → Input → Answer → Type 0
-ComesOf (Init origin) store input = Inits origin store
-ComesOf Deploy store input = Deploys store input
-ComesOf (Show json) store input = Shows json store
-ComesOf _ store input = λ answer. ⊥
+abbrev pub ComesOf : Order → Store → Input → Shelf → Answer → Type 0
+ComesOf (Init origin) store input library = Inits origin store
+ComesOf Deploy store input library = Deploys store input
+ComesOf (Show json) store input library = Shows json store
+ComesOf Plan store input library = Plans store input library
+ComesOf _ store input library = λ answer. ⊥
 
 -- Why an answer comes: by the command that the words ask, since they ask none that is built, or for want of memory.
-abbrev pub Comes : List (List ℕ) → Store → Input → Answer → Type 0
-Comes words store input answer =
-    ((order : Order) × Asks words order × ComesOf order store input answer)
+abbrev pub Comes : List (List ℕ) → Store → Input → Shelf → Answer → Type 0
+Comes words store input library answer =
+    ((order : Order) × Asks words order × ComesOf order store input library answer)
     ⊎ ((answer ≡ WrongWords) × AsksNothing words × IsUnchanged store)
     ⊎ ((answer ≡ NoMemory) × IsUnchanged store)
 
 -- the source failed, and that was printed
-pub record IsSourceFault (store : Store) (input : Input) (printed : Printed) : Type 0 where
+pub record IsSourceFault (store : Store) (input : Input) (library : Shelf) (printed : Printed) : Type 0 where
   pub rose : Rose input.faults_before input.faults_after
   pub line : Prints printed (codes "fault 6 source\n")
   pub disk_stays : store.faults_after ≡ store.faults_before
+  pub library_stays : library.faults_after ≡ library.faults_before
   pub sink_stays : printed.faults_after ≡ printed.faults_before
 
-pub record Parts (words : List (List ℕ)) (store : Store) (input : Input) (printed : Printed) (result : Status) : Type 0 where
+pub record Parts (words : List (List ℕ)) (store : Store) (input : Input) (library : Shelf) (printed : Printed) (result : Status) : Type 0 where
   -- 1 comes exactly where the words ask no command that is built.
   pub usage : result ≡ status.Usage → AsksNothing words × IsUnchanged store × Prints printed usage_line
   pub usage_comes : AsksNothing words → Yields result status.Usage
@@ -47,9 +50,12 @@ pub record Parts (words : List (List ℕ)) (store : Store) (input : Input) (prin
   -- 6 comes exactly where the count of the source or the sink rose. The source's fault is printed whole, and the other
   -- counts stay. Where the sink failed, a front was printed of the lines of an answer that comes by its cause, leaves
   -- what it leaves and counts no fault but its own.
-  pub edge : result ≡ status.Edge → IsSourceFault store input printed
-      ⊎ ((answer : Answer) × Comes words store input answer × IsQuiet store input answer × IsCutShort printed answer)
+  pub edge : result ≡ status.Edge → IsSourceFault store input library printed
+      ⊎ ((answer : Answer) × Comes words store input library answer × IsQuiet store input answer × IsStill library answer × IsCutShort printed answer)
   pub edges_stay : result ≢ status.Edge → (input.faults_after ≡ input.faults_before) × (printed.faults_after ≡ printed.faults_before)
+  -- 7 comes exactly where the library's count rose, unless the sink fails besides.
+  pub library_failed : result ≡ status.Library → Rose library.faults_before library.faults_after × Prints printed library_line
+  pub library_stays : result ≢ status.Library → result ≢ status.Edge → library.faults_after ≡ library.faults_before
   -- With 15 nothing was printed, and every file reads as before.
   pub memory : result ≡ status.Memory → IsUnchanged store × Prints printed (codes "")
   -- The journal stands for one device at most.
@@ -58,3 +64,4 @@ pub record Parts (words : List (List ℕ)) (store : Store) (input : Input) (prin
   pub deploy : Asks words Deploy → DeployParts store input printed result
   pub init : (origin : Origin) → Asks words (Init origin) → InitParts origin store printed result
   pub status : (json : Bool) → Asks words (Show json) → StatusParts json store printed result
+  pub plan : Asks words Plan → PlanParts store input library printed result

@@ -6,6 +6,8 @@ ghost use Rattle.nucleus_top.specs.Answers.{status_of, lines_of, printed_of, Tol
 use crate::document::Deployment;
 use edges::{EdgeFault, Sink, write_pieces};
 use nuc_base::{Label, Status, Text};
+use plan_core::Refusal;
+use refusal_lines::refusal_status;
 
 /// What a call has come to, with what its lines say.
 #[derive(Drop)]
@@ -16,10 +18,17 @@ pub enum Answer {
     Made(Label),
     /// The status is this text.
     Shown(Text),
+    /// The plan is this text.
+    Planned(Text),
+    /// The document comes to no plan, as this text says.
+    Unplanned(Refusal, Text),
+    /// The deployment of this id is pending.
+    Pending(Label),
     WrongWords,
     Refused,
     DiskFailed,
     SourceFailed,
+    LibraryFailed,
     /// The journal holds no entry.
     NotInitialised,
     /// The journal stands for no device, by the fault at this place in decimal digits.
@@ -38,10 +47,14 @@ impl Answer {
             Answer::Stored(_) => Status::Done,
             Answer::Made(_) => Status::Done,
             Answer::Shown(_) => Status::Done,
+            Answer::Planned(_) => Status::Done,
+            Answer::Unplanned(refusal, _) => refusal_status(refusal),
+            Answer::Pending(_) => Status::PendingStands,
             Answer::WrongWords => Status::Usage,
             Answer::Refused => Status::BadInput,
             Answer::DiskFailed => Status::Disk,
             Answer::SourceFailed => Status::Edge,
+            Answer::LibraryFailed => Status::Library,
             Answer::NotInitialised => Status::NotInitialised,
             Answer::Damaged(_) => Status::Damaged,
             Answer::Initialised(_) => Status::Initialised,
@@ -62,12 +75,18 @@ impl Answer {
             }
             Answer::Made(thing) => write_pieces(sink, &["initialised ", thing.as_str(), "\n"]),
             Answer::Shown(text) => write_pieces(sink, &[text.as_str()]),
+            Answer::Planned(text) => write_pieces(sink, &[text.as_str()]),
+            Answer::Unplanned(_, text) => write_pieces(sink, &[text.as_str()]),
+            Answer::Pending(id) => {
+                write_pieces(sink, &["refused 4 pending ", id.as_str(), "\n"])
+            }
             Answer::WrongWords => {
                 write_pieces(sink, &["usage: nucleus --root DIR COMMAND [OPTIONS]\n"])
             }
             Answer::Refused => write_pieces(sink, &["refused 2 document NotYet\n"]),
             Answer::DiskFailed => write_pieces(sink, &["fault 5 disk\n"]),
             Answer::SourceFailed => write_pieces(sink, &["fault 6 source\n"]),
+            Answer::LibraryFailed => write_pieces(sink, &["refused 7 library\n"]),
             Answer::NotInitialised => write_pieces(sink, &["refused 8 NotInitialised\n"]),
             Answer::Damaged(place) => {
                 write_pieces(sink, &["refused 9 Damaged ", place.as_str(), "\n"])

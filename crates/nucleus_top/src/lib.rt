@@ -2,8 +2,8 @@
 //!
 //! It promises, in the one contract of `nucleus` and over every disk, source and sink, when each status comes, what is
 //! printed, what the disk holds afterwards and what a crash may leave at each moment. It stands on `command_words` for
-//! what words ask, on `device`, `gate_log` and `status_text` for the store, and on `edges` and `disk_model` for the
-//! devices.
+//! what words ask, on `device`, `gate_log` and `status_text` for the store, on `plan_core` and `refusal_lines` for plans,
+//! and on `edges`, `disk_model` and `library_core` for the devices.
 #![tactic(auto)]
 
 mod answer;
@@ -11,12 +11,10 @@ mod deploy;
 mod document;
 mod init;
 mod opening;
+mod planning;
 mod state;
 mod status;
 mod store;
 mod top;
 
 pub use top::nucleus;
-
-#[cfg(test)]
-mod tests;

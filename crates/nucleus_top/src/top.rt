@@ -4,35 +4,42 @@ ghost use Rattle.nuc_base.specs.declared.status.Status.TheVariants as status;
 ghost use Rattle.command_words.specs.declared.order.Order.{Order};
 ghost use Rattle.command_words.specs.declared.order.Order.TheVariants as order;
 ghost use Rattle.nucleus_top.specs.Words.{Asks};
-ghost use Rattle.nucleus_top.specs.Answers.{store_of, input_of, printed_of, IsQuiet};
+ghost use Rattle.nucleus_top.specs.Answers.{store_of, input_of, shelf_of, printed_of, IsQuiet, IsStill};
 ghost use Rattle.nucleus_top.specs.Leaving.{IsDurable, Keeps, MayLeave, file_of};
 ghost use Rattle.nucleus_top.specs.Parts.{Comes, Parts};
 
 use crate::answer::Answer;
 use crate::deploy::deploy;
 use crate::init::init;
+use crate::planning::plan;
 use crate::status::status;
 use command_words::{Order, WordsFault, read_words, words_ask_one_thing};
 use disk_model::Disk;
 use edges::{Sink, Source};
+use library_core::Library;
 use nuc_base::Status;
 use std::alloc::Global;
 
 /// Does all but the printing.
-fn answer<D: Disk, S: Source>(
+fn answer<D: Disk, L: Library, S: Source>(
     alloc: Global,
     words: &Vec<String>,
     disk: &mut D,
+    library: &mut L,
     source: &mut S,
 ) -> Answer
-    ensures comes { Comes (map string_bytes words.now.items) (store_of D.tells D.seen D.faults disk.old disk.new) (input_of S.left S.faults source.old source.new) result }
+    ensures comes { Comes (map string_bytes words.now.items) (store_of D.tells D.seen D.faults disk.old disk.new) (input_of S.left S.faults source.old source.new) (shelf_of L.content L.faults library.old library.new) result }
     ensures quiet { IsQuiet (store_of D.tells D.seen D.faults disk.old disk.new) (input_of S.left S.faults source.old source.new) result }
-    ensures unread { (Asks (map string_bytes words.now.items) order.Deploy → ⊥) → source.new ≡ source.old }
+    ensures still { IsStill (shelf_of L.content L.faults library.old library.new) result }
+    ensures unread { (Asks (map string_bytes words.now.items) order.Deploy → ⊥) → (Asks (map string_bytes words.now.items) order.Plan → ⊥) → source.new ≡ source.old }
+    ensures unasked { (Asks (map string_bytes words.now.items) order.Plan → ⊥) → library.new ≡ library.old }
+    ensures kept { L.content library.new ≡ L.content library.old }
     ensures moments { Leaves D.moment D.left_since disk.old disk.new (MayLeave (map string_bytes words.now.items) (D.may_leave disk.old)) }
     ensures keeps { (order : Order) → Asks (map string_bytes words.now.items) order → Keeps order (D.may_leave disk.new) (D.seen disk.new) result }
     ensures others { (order : Order) → Asks (map string_bytes words.now.items) order → IsTrue D.tells →
         (name : List ℕ) → name ≢ file_of order → D.seen disk.new name ≡ D.seen disk.old name }
     ensures disk_later { D.faults disk.old ≤ D.faults disk.new }
+    ensures library_later { L.faults library.old ≤ L.faults library.new }
     ensures source_later { S.faults source.old ≤ S.faults source.new }
 {
     words_ask_one_thing();
@@ -45,6 +52,7 @@ fn answer<D: Disk, S: Source>(
         Order::Init(origin) => init(alloc, origin, disk),
         Order::Deploy => deploy(alloc, disk, source),
         Order::Status(json) => status(alloc, json, disk),
+        Order::Plan => plan(alloc, disk, library, source),
         // The other commands are not built yet.
         _ => Answer::WrongWords,
     }
@@ -55,20 +63,26 @@ fn answer<D: Disk, S: Source>(
 /// `nucleus --root DIR init --thing NAME --nucleus VERSION --os OS --arch ARCH` makes a store and prints
 /// `initialised NAME`. `nucleus --root DIR status`, with `--json` or without, prints the status of the device for which
 /// the journal stands. `nucleus --root DIR deploy` reads one document of the first form from the source, stores what it
-/// deploys in the file `state` and prints `accepted ID` and `closed ID SUCCESSFUL`. The other commands are refused as
-/// wrong words are, with status 1. The clause `parts` says when each status comes, what it prints and what it leaves on
-/// the disk.
-pub fn nucleus<D: Disk, S: Source, K: Sink>(
+/// deploys in the file `state` and prints `accepted ID` and `closed ID SUCCESSFUL`. `nucleus --root DIR plan` reads one
+/// document from the source and prints what it would make of the device with the recipes of the library, `plan NAME
+/// VERSION` for each component and `boot NAME` for each bootstrap, or the first reason why it would not. The other
+/// commands are refused as wrong words are, with status 1. The clause `parts` says when each status comes, what it prints
+/// and what it leaves on the disk.
+pub fn nucleus<D: Disk, L: Library, S: Source, K: Sink>(
     alloc: Global,
     words: &Vec<String>,
     disk: &mut D,
+    library: &mut L,
     source: &mut S,
     sink: &mut K,
 ) -> Status
     ensures parts { Parts (map string_bytes words.now.items) (store_of D.tells D.seen D.faults disk.old disk.new)
-        (input_of S.left S.faults source.old source.new) (printed_of K.held K.faults sink.old sink.new) result }
-    // `deploy` alone reads from the source.
-    ensures unread { (Asks (map string_bytes words.now.items) order.Deploy → ⊥) → source.new ≡ source.old }
+        (input_of S.left S.faults source.old source.new) (shelf_of L.content L.faults library.old library.new)
+        (printed_of K.held K.faults sink.old sink.new) result }
+    // `deploy` and `plan` alone read from the source, and `plan` alone asks the library.
+    ensures unread { (Asks (map string_bytes words.now.items) order.Deploy → ⊥) → (Asks (map string_bytes words.now.items) order.Plan → ⊥) → source.new ≡ source.old }
+    ensures unasked { (Asks (map string_bytes words.now.items) order.Plan → ⊥) → library.new ≡ library.old }
+    ensures library_kept { L.content library.new ≡ L.content library.old }
     // Whenever a crash comes during the call, it leaves an image that the start allowed, or what the command may make of one.
     ensures moments { Leaves D.moment D.left_since disk.old disk.new (MayLeave (map string_bytes words.now.items) (D.may_leave disk.old)) }
     // Once the lines of finished work are printed, a crash does not undo it.
@@ -77,10 +91,11 @@ pub fn nucleus<D: Disk, S: Source, K: Sink>(
     ensures others { (order : Order) → Asks (map string_bytes words.now.items) order → IsTrue D.tells →
         (name : List ℕ) → name ≢ file_of order → D.seen disk.new name ≡ D.seen disk.old name }
     ensures disk_later { D.faults disk.old ≤ D.faults disk.new }
+    ensures library_later { L.faults library.old ≤ L.faults library.new }
     ensures source_later { S.faults source.old ≤ S.faults source.new }
     ensures sink_later { K.faults sink.old ≤ K.faults sink.new }
 {
     words_ask_one_thing();
-    let answer = answer(alloc, words, disk, source);
+    let answer = answer(alloc, words, disk, library, source);
     answer.tell(sink)
 }

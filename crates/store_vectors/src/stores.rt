@@ -2,6 +2,7 @@
 // layout of records.
 use disk_model::{Disk, FusedDisk, MemoryDisk, Pick};
 use edges::{MemorySink, MemorySource};
+use library_core::MemoryLibrary;
 use nuc_base::{Bytes, List, Status};
 use nucleus_top::nucleus;
 use std::alloc::{AllocError, Global};
@@ -72,7 +73,9 @@ fn run<D: Disk>(alloc: Global, words: &[&str], disk: &mut D, failing: &[u64]) ->
     let mut source = MemorySource::new(Bytes::empty(alloc), List::empty(alloc));
     let failing = List::new(Vec::from_slice(alloc, failing)?);
     let mut sink = MemorySink::new(alloc, failing);
-    let status = nucleus(alloc, &words, disk, &mut source, &mut sink);
+    let recipes = List::empty(alloc);
+    let mut library = MemoryLibrary::new(recipes, List::empty(alloc), List::empty(alloc));
+    let status = nucleus(alloc, &words, disk, &mut library, &mut source, &mut sink);
     Ok(Ran {
         status,
         printed: sink.bytes().to_vec(alloc)?,

@@ -1,8 +1,9 @@
 // Runs of the top call over objects in memory.
-use super::*;
 use disk_model::{FusedDisk, MemoryDisk};
 use edges::{MemorySink, MemorySource};
+use library_core::MemoryLibrary;
 use nuc_base::{Bytes, List, Status};
+use nucleus_top::nucleus;
 use std::alloc::{AllocError, Global};
 use std::test::Fail;
 
@@ -60,7 +61,16 @@ fn run(alloc: Global, words: &[&str], document: &[u8], faults: &Faults) -> Resul
     let bytes = Bytes::from_slice(alloc, document)?;
     let mut source = MemorySource::new(bytes, numbers(alloc, faults.source)?);
     let mut sink = MemorySink::new(alloc, numbers(alloc, faults.sink)?);
-    let status = nucleus(alloc, &words, &mut disk, &mut source, &mut sink);
+    let recipes = List::empty(alloc);
+    let mut library = MemoryLibrary::new(recipes, List::empty(alloc), List::empty(alloc));
+    let status = nucleus(
+        alloc,
+        &words,
+        &mut disk,
+        &mut library,
+        &mut source,
+        &mut sink,
+    );
     Ok(Ran {
         status,
         printed: sink.bytes().to_vec(alloc)?,
@@ -194,7 +204,7 @@ fn documents_are_stored_or_refused(rt: HostRuntime) -> Result<(), Fail> {
 fn other_words_are_usage(rt: HostRuntime) -> Result<(), Fail> {
     let alloc = rt.alloc();
     assert!(rt; is_usage(alloc, &["nucleus", "--root", "/gg", "deploys"])?);
-    assert!(rt; is_usage(alloc, &["nucleus", "--root", "/gg", "plan"])?);
+    assert!(rt; is_usage(alloc, &["nucleus", "--root", "/gg", "resume"])?);
     assert!(rt; is_usage(alloc, &["nucleus", "deploy"])?);
     Ok(())
 }

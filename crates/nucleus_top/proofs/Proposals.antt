@@ -1,0 +1,130 @@
+-- From what comes of a document to the answer of `plan`.
+use Rattle.std.proofs.Common.{◌≡◌, ◌∙◌, inl, inr, ℕ, ◌≤◌, ◌<◌, List, length, take, refl, sym, ap, subst, arith, Result, Ok, Err, Some, None, IfSome}
+use Rattle.std.proofs.lemmas.Bool.{cases_lt, false≢true}
+use Rattle.std.proofs.lemmas.List.{take_all, length-take}
+use Rattle.std.specs.Option.{IsSome}
+use Rattle.std.specs.Result.{IsErrOf}
+use Rattle.std.specs.declared.option.Option.{Option}
+use Rattle.std.specs.Io.KnownBytes.{Consumes}
+use Rattle.nuc_base.specs.Faults.{Rose}
+use Rattle.nuc_base.specs.declared.status.Status.TheVariants as status
+use Rattle.tree_core.specs.Reading.{IsFirstFault}
+use Rattle.tree_core.specs.declared.fault.TreeFault.{TreeFault}
+use Rattle.tree_core.specs.declared.fault.TreeFault.TheVariants as tree
+use Rattle.library_core.specs.Library.{Content}
+use Rattle.library_core.specs.declared.fault.CandidatesFault.TheVariants as gather
+use Rattle.records.specs.declared.record.Origin.{Origin}
+use Rattle.records.specs.declared.record.Draft.{Draft}
+use Rattle.device.specs.Devices.{Device, Pending as PendingPlan}
+use Rattle.deployment_doc.specs.Reads.{IsFault}
+use Rattle.deployment_doc.specs.declared.fault.DocFault.{DocFault}
+use Rattle.plan_core.specs.Checks.{Facts, facts, Comes, read_checks, ProposesRead}
+use Rattle.plan_core.specs.declared.fault.Refusal.{Refusal}
+use Rattle.plan_core.specs.declared.fault.Refusal.TheVariants.{Candidates}
+use Rattle.refusal_lines.specs.Statuses.{status_of_refusal}
+use Rattle.nucleus_top.specs.Answers.{Store, Input, Shelf, IsUnchanged, IsStill}
+use Rattle.nucleus_top.specs.Planning.{IsProposed, Tells, NamesPending, PlansOn, IsFound, Plans}
+use Rattle.nucleus_top.specs.declared.answer.Answer.{Answer}
+use Rattle.nucleus_top.specs.declared.answer.Answer.TheVariants.{Planned, Unplanned, Pending, DiskFailed, LibraryFailed, NotInitialised, Damaged, NoMemory}
+use Rattle.nucleus_top.proofs.Unrefused.{only_library}
+
+-- ---- a longer text reads as its front
+
+module _ (whole front : List ℕ) (is : front ≡ take 524289 whole) (long : 524288 < length whole) where
+  front_is_long : 524288 < length front
+  front_is_long = omega (arith, ap length is, length-take 524289 whole)
+
+  tree_too_long : (t : TreeFault) → (t ≡ tree.NoMemory → ⊥) → IsFirstFault front 524288 t → IsFirstFault whole 524288 t
+  tree_too_long tree.TooLarge other fault = long
+  tree_too_long tree.NotJson other fault = absurd (omega (arith, front_is_long, fault.0))
+  tree_too_long tree.TooDeep other fault = absurd (omega (arith, front_is_long, fault.0))
+  tree_too_long tree.NotWhole other fault = absurd (omega (arith, front_is_long, fault.0))
+  tree_too_long tree.NoMemory other fault = absurd (other refl)
+
+  too_long : (f : DocFault) → IsFault front f → IsFault whole f
+  too_long f (inl fault) = inl (fault.0, fault.1, tree_too_long fault.0 fault.3 fault.2, fault.3)
+  too_long f (inr fault) = absurd (omega (arith, front_is_long, fault.1.within))
+
+  comes_of_long : (f : Facts) (result : Result Draft Refusal) → Comes f (read_checks front) result → Comes f (read_checks whole) result
+  comes_of_long f (Ok draft) comes = absurd (omega (arith, front_is_long, comes.1.0.1.within))
+  comes_of_long f (Err a) (inl memory) = inl memory
+  comes_of_long f (Err a) (inr (inl fails)) = inr (inl (fails.0, too_long fails.0 fails.1, fails.2))
+  comes_of_long f (Err a) (inr (inr passes)) = absurd (omega (arith, front_is_long, passes.0.1.within))
+
+module _ (d : Device) (origin : Origin) (content : Option Content) (before after : ℕ) (result : Result Draft Refusal) where
+  -- the first 524,289 bytes are enough
+  whole_comes : (whole front : List ℕ) → front ≡ take 524289 whole → ProposesRead d origin content before after front result → ProposesRead d origin content before after whole result
+  whole_comes whole front is comes =
+      elim (cases_lt 524288 (length whole)) [
+        | inl long ↦ (comes.0, comes.1, comes.2, comes_of_long whole front is long (facts d origin content before after comes.0 comes.1 comes.2) result comes.3)
+        | inr short ↦ subst (λ (bytes : List ℕ). ProposesRead d origin content before after bytes result) (is ∙ take_all 524289 whole (omega (arith, short))) comes
+      ]
+
+  -- the whole document, where the source tells it, or what was read
+  pub document_comes : (left : Option (List ℕ)) (front : List ℕ) → IfSome left (λ whole. front ≡ take 524289 whole) → ProposesRead d origin content before after front result
+      → (bytes : List ℕ) × ((whole : List ℕ) → left ≡ Some whole → bytes ≡ whole) × ProposesRead d origin content before after bytes result
+  document_comes None front is comes = (front, λ whole told. cc, comes)
+  document_comes (Some document) front is comes = (document, λ whole told. cc, whole_comes document front is comes)
+
+-- ---- a device without a pending deployment
+
+some_of : (x : Option Origin) → IsSome x → (o : Origin) × (x ≡ Some o)
+some_of None some = absurd (false≢true some)
+some_of (Some o) some = (o, refl)
+
+pub proposed : (d : Device) (input : Input) (library : Shelf) (front : List ℕ) (result : Result Draft Refusal)
+    → IsSome d.origin → d.pending ≡ None
+    → IfSome input.document (λ whole. front ≡ take 524289 whole) → Consumes input.document input.rest front → length front ≤ 524289
+    → ((o : Origin) → d.origin ≡ Some o → ProposesRead d o library.content library.faults_before library.faults_after front result)
+    → IsProposed d input library result
+proposed d input library front result some idle is consumed short comes =
+    let origin = some_of d.origin some in
+    let document = document_comes d origin.0 library.content library.faults_before library.faults_after result input.document front is (comes origin.0 origin.1) in
+    record {
+      idle = idle;
+      origin = origin.0;
+      origin_is = origin.1;
+      bytes = document.0;
+      document = document.1;
+      read = record { bytes = front; consumed = consumed; short = short };
+      comes = document.2;
+    }
+
+-- the answer that tells what comes
+pub told_on : (d : Device) (input : Input) (library : Shelf) (result : Result Draft Refusal) (a : Answer) → IsProposed d input library result
+    → (IsErrOf result (Candidates gather.Library) → Rose library.faults_before library.faults_after) → Tells result a → PlansOn d input library a
+told_on d input library (Ok draft) (Planned text) proposal cause tells = (draft, proposal, tells)
+told_on d input library (Ok draft) NoMemory proposal cause tells = tt
+told_on d input library (Ok draft) a proposal cause tells = absurd tells
+told_on d input library (Err refusal) (Unplanned r text) proposal cause tells =
+    subst (λ (x : Refusal). PlansOn d input library (Unplanned x text)) (sym tells.0) (proposal, tells.1, tells.2)
+told_on d input library (Err refusal) LibraryFailed proposal cause tells =
+    let is : refusal ≡ Candidates gather.Library = only_library refusal tells in
+    (subst (λ (x : Refusal). IsProposed d input library (Err x)) is proposal, cause (cc))
+told_on d input library (Err refusal) NoMemory proposal cause tells = tt
+told_on d input library (Err refusal) a proposal cause tells = absurd tells
+
+failed : (refusal : Refusal) (result : Result Draft Refusal) → result ≡ Err refusal → IsErrOf result (Candidates gather.Library) → status_of_refusal refusal ≡ status.Library
+failed refusal result refused is = let same : refusal ≡ Candidates gather.Library = cc in ap status_of_refusal same
+
+pub told_still : (library : Shelf) (result : Result Draft Refusal) (a : Answer) → Tells result a
+    → (¬ (IsErrOf result (Candidates gather.Library)) → library.faults_after ≡ library.faults_before) → IsStill library a
+told_still library (Ok draft) a tells quiet = λ other. quiet (λ is. cc)
+told_still library (Err refusal) (Unplanned r text) tells quiet = λ other. quiet (λ is. tells.2 (failed refusal (Err refusal) refl is))
+told_still library (Err refusal) LibraryFailed tells quiet = λ other. absurd (other refl)
+told_still library (Err refusal) NoMemory tells quiet = λ other. quiet (λ is. tells (failed refusal (Err refusal) refl is))
+told_still library (Err refusal) a tells quiet = absurd tells
+
+-- ---- any device
+
+pub pending_on : (d : Device) (input : Input) (library : Shelf) (q : PendingPlan) (a : Answer) → d.pending ≡ Some q → input.rest ≡ input.document → NamesPending q.plan.id a → PlansOn d input library a
+pending_on d input library q (Pending id) is same names = (same, (q, is, names))
+pending_on d input library q NoMemory is same names = tt
+pending_on d input library q a is same names = absurd names
+
+pub found_comes : (store : Store) (input : Input) (library : Shelf) (d : Device) (a : Answer) → IsUnchanged store → IsFound store d → PlansOn d input library a → Plans store input library a
+found_comes store input library d DiskFailed same found on = absurd on
+found_comes store input library d NotInitialised same found on = absurd on
+found_comes store input library d (Damaged place) same found on = absurd on
+found_comes store input library d NoMemory same found on = same
+found_comes store input library d a same found on = (same, (d, found, on))

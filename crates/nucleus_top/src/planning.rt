@@ -1,0 +1,140 @@
+// The command `plan`.
+ghost use Rattle.std.specs.Prelude.{◌≡◌, ◌≢◌, ◌≤◌, None};
+ghost use Rattle.std.specs.Option.{IsSome};
+ghost use Rattle.disk_model.specs.Disk.{Leaves};
+ghost use Rattle.command_words.specs.declared.order.Order.TheVariants as order;
+ghost use Rattle.device.specs.Devices.{device_view, IsRegularDevice};
+ghost use Rattle.device.specs.Sound.{IsSound};
+ghost use Rattle.nucleus_top.specs.Answers.{store_of, input_of, shelf_of, IsQuiet, IsStill};
+ghost use Rattle.nucleus_top.specs.Leaving.{Keeps};
+ghost use Rattle.nucleus_top.specs.Planning.{TellsDraft, TellsRefusal, Tells, NamesPending, PlansOn, Plans};
+
+use crate::answer::Answer;
+use crate::opening::{Opening, damaged, open};
+use device::Device;
+use disk_model::Disk;
+use edges::{ReadFault, Source, read_up_to};
+use library_core::Library;
+use nuc_base::{Copied, DOCUMENT_LIMIT, Label, Status};
+use plan_core::{Refusal, propose_read};
+use records::Draft;
+use refusal_lines::{plan_text, refusal_status, refusal_text};
+use std::alloc::Global;
+
+fn planned(alloc: Global, draft: &Draft) -> Answer
+    ensures { TellsDraft draft.now result }
+{
+    match plan_text(alloc, draft) {
+        Ok(text) => Answer::Planned(text),
+        Err(_) => Answer::NoMemory,
+    }
+}
+
+/// The first refusal of a document. That the library failed is told without memory.
+fn unplanned(alloc: Global, refusal: Refusal) -> Answer
+    ensures { TellsRefusal refusal result }
+{
+    match refusal_status(&refusal) {
+        Status::Library => Answer::LibraryFailed,
+        _ => match refusal_text(alloc, &refusal) {
+            Ok(text) => Answer::Unplanned(refusal, text),
+            Err(_) => Answer::NoMemory,
+        },
+    }
+}
+
+fn told(alloc: Global, proposal: Result<Draft, Refusal>) -> Answer
+    ensures { Tells proposal result }
+{
+    match proposal {
+        Ok(draft) => planned(alloc, &draft),
+        Err(refusal) => unplanned(alloc, refusal),
+    }
+}
+
+/// The plan of the document that the source has, on a device without a pending deployment.
+fn plan_idle<L: Library, S: Source>(
+    alloc: Global,
+    device: &Device,
+    library: &mut L,
+    source: &mut S,
+) -> Answer
+    requires origin { IsSome device.now.origin }
+    requires idle { device.now.pending ≡ None }
+    requires sound { IsSound (device_view device.now) }
+    requires regular { IsRegularDevice (device_view device.now) }
+    ensures comes { PlansOn (device_view device.now) (input_of S.left S.faults source.old source.new) (shelf_of L.content L.faults library.old library.new) result }
+    ensures still { IsStill (shelf_of L.content L.faults library.old library.new) result }
+    ensures kept { L.content library.new ≡ L.content library.old }
+    ensures quiet { result ≢ Answer.SourceFailed → S.faults source.new ≡ S.faults source.old }
+    ensures library_later { L.faults library.old ≤ L.faults library.new }
+    ensures source_later { S.faults source.old ≤ S.faults source.new }
+{
+    let bytes = match read_up_to(alloc, source, DOCUMENT_LIMIT + 1) {
+        Ok(bytes) => bytes,
+        Err(ReadFault::Edge) => return Answer::SourceFailed,
+        Err(ReadFault::NoMemory) => return Answer::NoMemory,
+    };
+    let proposal = propose_read(alloc, device, library, bytes.as_slice());
+    told(alloc, proposal)
+}
+
+/// The refusal of a device with a pending deployment of this id.
+fn pending(alloc: Global, id: &Label) -> Answer
+    ensures { NamesPending id.now result }
+{
+    match id.copy(alloc) {
+        Ok(id) => Answer::Pending(id),
+        Err(_) => Answer::NoMemory,
+    }
+}
+
+fn plan_on<L: Library, S: Source>(
+    alloc: Global,
+    device: &Device,
+    library: &mut L,
+    source: &mut S,
+) -> Answer
+    requires origin { IsSome device.now.origin }
+    requires sound { IsSound (device_view device.now) }
+    requires regular { IsRegularDevice (device_view device.now) }
+    ensures comes { PlansOn (device_view device.now) (input_of S.left S.faults source.old source.new) (shelf_of L.content L.faults library.old library.new) result }
+    ensures still { IsStill (shelf_of L.content L.faults library.old library.new) result }
+    ensures kept { L.content library.new ≡ L.content library.old }
+    ensures quiet { result ≢ Answer.SourceFailed → S.faults source.new ≡ S.faults source.old }
+    ensures library_later { L.faults library.old ≤ L.faults library.new }
+    ensures source_later { S.faults source.old ≤ S.faults source.new }
+{
+    match &device.pending {
+        Some(deployment) => pending(alloc, &deployment.plan.id),
+        None => plan_idle(alloc, device, library, source),
+    }
+}
+
+/// What the document of the source would do to the device for which the journal stands, with the recipes of the library.
+/// It writes nothing to the disk, and a pending deployment is refused before the source is read.
+pub fn plan<D: Disk, L: Library, S: Source>(
+    alloc: Global,
+    disk: &mut D,
+    library: &mut L,
+    source: &mut S,
+) -> Answer
+    ensures comes { Plans (store_of D.tells D.seen D.faults disk.old disk.new) (input_of S.left S.faults source.old source.new) (shelf_of L.content L.faults library.old library.new) result }
+    ensures quiet { IsQuiet (store_of D.tells D.seen D.faults disk.old disk.new) (input_of S.left S.faults source.old source.new) result }
+    ensures still { IsStill (shelf_of L.content L.faults library.old library.new) result }
+    ensures kept { L.content library.new ≡ L.content library.old }
+    ensures moments { Leaves D.moment D.left_since disk.old disk.new (D.may_leave disk.old) }
+    ensures keeps { Keeps order.Plan (D.may_leave disk.new) (D.seen disk.new) result }
+    ensures seen { D.seen disk.new ≡ D.seen disk.old }
+    ensures disk_later { D.faults disk.old ≤ D.faults disk.new }
+    ensures library_later { L.faults library.old ≤ L.faults library.new }
+    ensures source_later { S.faults source.old ≤ S.faults source.new }
+{
+    match open(alloc, disk) {
+        Opening::Empty => Answer::NotInitialised,
+        Opening::Found(device) => plan_on(alloc, &device, library, source),
+        Opening::Damaged(at) => damaged(alloc, at),
+        Opening::DiskFailed => Answer::DiskFailed,
+        Opening::NoMemory => Answer::NoMemory,
+    }
+}
