@@ -136,7 +136,7 @@ stays_leaving_at false false p h = (refl, tt)
 pub stays_leaving : (p : Part) → IsNamed p → Stays p (leaving p)
 stays_leaving p h = stays_leaving_at p.life.gone (is_gone (under_way p.life)) p h
 
-forgotten_name : (n : List ℕ) (o : Option (Fitted × ℕ)) → IfSome o (λ x. name_of x.0 ≡ n) → IfSome {T = Fitted × ℕ} (option_map (λ (x : Fitted × ℕ). (x.0, 0)) o) (λ x. name_of x.0 ≡ n)
+forgotten_name : (n : List ℕ) (o : Option (Fitted × ℕ)) → IfSome o (λ x. name_of x.0 ≡ n) → IfSome (option_map (λ (x : Fitted × ℕ). (x.0, 0)) o) (λ x. name_of x.0 ≡ n)
 forgotten_name n None h = tt
 forgotten_name n (Some x) h = h
 

@@ -105,13 +105,6 @@ pub(crate) fn child_of(children: &[Child], number: u64) -> Option<&Child>
     children.iter().find(|child| child.number == number)
 }
 
-/// The first child whose deadline has passed.
-pub(crate) fn late_child(children: &[Child], moment: u64) -> Option<&Child>
-    ensures { option_map (λ c. c.now) result ≡ find (λ c. has_passed moment c.deadline) children.now }
-{
-    children.iter().find(|child| passed(moment, child.deadline))
-}
-
 /// Whether the deadline of the child of this number has passed.
 pub(crate) fn is_late_child(children: &[Child], number: u64, moment: u64) -> bool
     ensures { result ≡ elim (find (λ c. c.number == number) children.now) [ None ↦ false | Some c ↦ has_passed moment c.deadline ] }

@@ -6,7 +6,6 @@
 //! table by which each component moves.
 #![tactic(auto)]
 
-mod acting;
 mod asks;
 mod befall;
 mod changing;
@@ -16,6 +15,7 @@ mod kinds;
 mod laws;
 mod lives;
 mod marks;
+mod merging;
 mod prepared;
 mod ready;
 mod slot;

@@ -1,12 +1,13 @@
 ghost use Rattle.std.specs.Prelude.{◌≡◌, ◌≤◌, ◌<◌, ℕ, true, All};
+ghost use Rattle.supervisor.specs.Acts.{NextAct};
 ghost use Rattle.supervisor.specs.Answers.{has_answered, is_steady, standing_count};
 ghost use Rattle.supervisor.specs.Changes.{changed_to};
 ghost use Rattle.supervisor.specs.Readied.{KeepSteps, Readied};
 ghost use Rattle.supervisor.specs.World.{World};
 
-use crate::kinds::Mode;
+use crate::kinds::{Act, Mode};
 
-/// The call of a supervisor that it does not have yet, by what it makes of the components.
+/// The calls of a supervisor that it does not have yet, by what each makes of the components.
 pub trait Supervise {
     /// What a change takes: items that were made ready, and room for the components that stand.
     type Ready;
@@ -25,4 +26,8 @@ pub trait Supervise {
         requires answered { has_answered (world self.old) ≡ true }
         requires same { KeepSteps (readied ready).coming (world self.old).parts }
         ensures { world self.new ≡ changed_to (readied ready).coming failures.now (is_steady mode) (world self.old) };
+
+    /// A failure first, else what the component of the least name that may act has to have done.
+    fn next_act(&mut self) -> Option<Act>
+        ensures next { NextAct (world self.old) result (world self.new) };
 }

@@ -15,11 +15,12 @@ ghost use Rattle.supervisor.specs.Fitted.{prepared_of};
 ghost use Rattle.supervisor.specs.World.{At, part_name, is_settled, is_stopped};
 ghost use Rattle.supervisor.specs.Readied.{KeepSteps};
 
-use crate::acting::next_in;
 use crate::asks;
 use crate::befall::befall_in;
 use crate::changing::{forget_all, leave_all};
-use crate::kinds::{Act, Event};
+use crate::kinds::{Event, Mode};
+use crate::merging;
+use crate::merging::change_in;
 use crate::ready::{Ready, make_ready};
 use crate::slot::Slot;
 use nuc_base::{List, Name, NoMemory, Step};
@@ -43,7 +44,6 @@ impl Model for Supervisor {
     ghost use Rattle.std.specs.Prelude.{◌≡◌, length};
     ghost use Rattle.supervisor.specs.World.{World};
     ghost use Rattle.supervisor.specs.Readied.{IsKept};
-    ghost use Rattle.supervisor.specs.Whole.{AreWhole};
     ghost use Rattle.std.specs.Coded.{codes};
     ghost use Rattle.supervisor.specs.Coding.{data_code};
 
@@ -53,7 +53,7 @@ impl Model for Supervisor {
 
     ghost view = { λ s. record { parts = s.slots.items; moment = s.moment; steady = s.steady } };
 
-    ghost invariant = { λ s. IsKept (record { parts = s.slots.items; moment = s.moment; steady = s.steady }) × (length s.flags.items ≡ length s.slots.items) × AreWhole s.slots.items };
+    ghost invariant = { λ s. IsKept (record { parts = s.slots.items; moment = s.moment; steady = s.steady }) × (length s.flags.items ≡ length s.slots.items) };
 }
 
 impl Supervisor {
@@ -89,16 +89,6 @@ impl Supervisor {
         make_ready(alloc, origin, items, self.slots.len())
     }
 
-    /// What is to be done next: a failure first, else what the component of the least name that may act has to have done. None
-    /// comes where no failure is owed and no component may act.
-    pub fn next_act(&mut self) -> Option<Act>
-        ensures next { NextAct self.old result self.new }
-    {
-        let moment = self.moment;
-        let steady = self.steady;
-        next_in(&mut self.slots, &mut self.flags, moment, steady)
-    }
-
     /// Something befell a component at this moment, or time went on to it. The start that an event answers was handed out, the
     /// child that ended lives, and the number of a started child is that of none that lives. A moment is below 2^62, and not
     /// below an earlier one.
@@ -111,6 +101,19 @@ impl Supervisor {
         let steady = self.steady;
         befall_in(&mut self.slots, &mut self.flags, event, moment, steady);
         self.moment = moment;
+    }
+
+    /// Other items are to run, each with the failures at its place. Those that go away, and those that are replaced, are stopped
+    /// first. An item that a component has already has the steps that it had, and each start that was handed out is answered.
+    pub fn change(&mut self, ready: Ready, failures: &[u8; 128], mode: Mode)
+        requires room { standing_count self.old ≤ ready.room }
+        requires few { All (λ (n : ℕ). n < 3) failures.now }
+        requires answered { has_answered self.old ≡ true }
+        requires same { KeepSteps ready.coming self.old.parts }
+        ensures { self.new ≡ changed_to ready.coming failures.now (is_steady mode) self.old }
+    {
+        change_in(&mut self.slots, &mut self.flags, ready, failures);
+        self.steady = merging::is_steady(mode);
     }
 
     /// All components are to be stopped for good.
