@@ -1,0 +1,11 @@
+pub mod Within
+pub mod Meaning
+pub mod Sparing
+pub mod Handing
+pub mod Creating
+pub mod Steps
+pub mod Stating
+pub mod Accepted
+pub mod FrontLengths
+pub mod Turning
+pub mod Siting

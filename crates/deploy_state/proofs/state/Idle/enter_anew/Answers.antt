@@ -1,0 +1,25 @@
+use Rattle.std.proofs.Common.{inl}
+use Rattle.records.specs.Stored as stored
+use Rattle.records.specs.Stored.{plan_view}
+use Rattle.device.specs.Lawful.{applied}
+use Rattle.device.specs.Standing.{StandsFor}
+use Rattle.deploy_state.specs.Hand.{StandsForEither}
+use Rattle.deploy_state.specs.States.{idle_device}
+use Rattle.deploy_state.proofs.Within.{then_within}
+use Rattle.deploy_state.proofs.state.Idle.enter_anew.Goals as goal
+
+pub returns-in-Ok-enter-clause-moments : goal.returns-in-Ok-enter-clause-moments
+returns-in-Ok-enter-clause-moments g c =
+    let d = idle_device c.args.self in
+    let e = applied d (stored.Accepted (plan_view c.args.kit.plan)) in
+    let entries = g.J.Journal.entries in
+    then_within g.met.D.Disk.laws g.J.Journal.files c.args.disk.now c.turn.new.disk c.enter.new.disk (λ i. StandsFor entries i d) (StandsForEither entries d e) (StandsForEither entries d e)
+    c.turn.ensures.moments c.enter.ensures.moments (λ i h. inl h) (λ i h. h)
+
+pub returns-in-Ok-clause-moments : goal.returns-in-Ok-clause-moments
+returns-in-Ok-clause-moments g c =
+    let d = idle_device c.args.self in
+    let e = applied d (stored.Accepted (plan_view c.args.kit.plan)) in
+    let entries = g.J.Journal.entries in
+    then_within g.met.D.Disk.laws g.J.Journal.files c.args.disk.now c.turn.new.disk c.enter.new.disk (λ i. StandsFor entries i d) (StandsForEither entries d e) (StandsForEither entries d e)
+    c.turn.ensures.moments c.enter.ensures.moments (λ i h. inl h) (λ i h. h)

@@ -1,0 +1,7 @@
+pub mod Hand
+pub mod States
+pub mod Fields
+pub mod Loading
+pub mod Turning
+pub mod Accepting
+pub mod Mute

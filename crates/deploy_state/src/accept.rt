@@ -1,0 +1,260 @@
+// A plan is accepted.
+ghost use Rattle.std.specs.Prelude.{◌≡◌, ◌≤◌, ◌+◌, ◌*◌, Some, ℕ, max, List, IsTrue, IfOk, OnOk, length};
+ghost use Rattle.nuc_base.specs.Faults.{HasCause, Rose};
+ghost use Rattle.disk_model.specs.Disk.{Leaves};
+ghost use Rattle.gate_log.specs.Entries.{most_file};
+ghost use Rattle.records.specs.Layout.{IsWritable, Spelled};
+ghost use Rattle.records.specs.Stored as stored;
+ghost use Rattle.records.specs.Stored.{plan_view};
+ghost use Rattle.device.specs.Devices.{device_view};
+ghost use Rattle.device.specs.Lawful.{Allowed, applied};
+ghost use Rattle.device.specs.Regularity.{IsRegularRecord};
+ghost use Rattle.device.specs.Sound.{IsSound};
+ghost use Rattle.device.specs.Spares.{IsSpareFor};
+ghost use Rattle.deploy_state.specs.Accepting.{HandsBack, HasStopped, IsFullAt, IsFullOrShort, booting_log, idle_log, receipt_id};
+ghost use Rattle.deploy_state.specs.Hand.{LeavesEither};
+ghost use Rattle.deploy_state.specs.States.{InBooting, InIdle, booting_device, idle_device};
+ghost use Rattle.deploy_state.specs.Turning.{IsTooFar, can_turn, is_turning, next_front, plan_bytes, start_of};
+
+use crate::fault::AcceptRefusal;
+use crate::measure::{Site, site_of};
+use crate::state::{Booting, Hand, Idle, Receipt, Stopped};
+use crate::turn::{TurnFault, turn};
+use device::{Device, Spare};
+use disk_model::Disk;
+use gate_log::{Journal, MOST_FILE};
+use nuc_base::{Bytes, Copied, Label, NoMemory};
+use records::{Plan, Record};
+use std::alloc::Global;
+use std::marker::PhantomData;
+
+/// What is kept free behind an accepted plan for the records up to its close.
+const KEPT: u64 = 2_097_152;
+
+/// What accepting a plan takes of memory, and the plan.
+#[derive(Drop)]
+struct Kit {
+    plan: Plan,
+    payload: Bytes,
+    id: Label,
+    spare: Spare,
+}
+
+fn plan_in(entry: Record) -> Option<Plan>
+    ensures { (plan : Plan) → entry ≡ Record.Accepted plan → result ≡ Some plan }
+{
+    let Record::Accepted(plan) = entry else {
+        return None;
+    };
+    Some(plan)
+}
+
+/// The plan, and the payload of its record.
+fn spell(alloc: Global, plan: Plan) -> Result<(Plan, Bytes), NoMemory>
+    requires { IsWritable (stored.Accepted (plan_view plan)) }
+    ensures { IfOk result (λ r. (r.0 ≡ plan) × Spelled r.1 (stored.Accepted (plan_view plan))) }
+{
+    let entry = Record::Accepted(plan);
+    let payload = entry.write(alloc)?;
+    match plan_in(entry) {
+        Some(plan) => Ok((plan, payload)),
+        None => Err(NoMemory),
+    }
+}
+
+fn prepare(alloc: Global, device: &Device, plan: Plan) -> Result<Kit, NoMemory>
+    requires lawful { Allowed (device_view device.now) (stored.Accepted (plan_view plan)) }
+    requires regular { IsRegularRecord (stored.Accepted (plan_view plan)) }
+    requires sound { IsSound (device_view device.now) }
+    ensures plan { IfOk result (λ k. k.plan ≡ plan) }
+    ensures payload { IfOk result (λ k. Spelled k.payload (stored.Accepted (plan_view plan))) }
+    ensures id { IfOk result (λ k. k.id ≡ plan.id) }
+    ensures spare { IfOk result (λ k. IsSpareFor k.spare (device_view device.now) (plan_view plan)) }
+{
+    let id = plan.id.copy(alloc)?;
+    let spare = device.spare(alloc, &plan)?;
+    let (plan, payload) = spell(alloc, plan)?;
+    Ok(Kit {
+        plan,
+        payload,
+        id,
+        spare,
+    })
+}
+
+impl<J: Journal + Drop> Idle<J> {
+    /// Adds the entry of the plan, and lets the device take it.
+    fn enter<D: Disk>(self, disk: &mut D, kit: Kit) -> Result<(Booting<J>, Receipt), Stopped<J>>
+        requires held { InIdle D.tells D.may_leave J.stands J.end self disk.old }
+        requires lawful { Allowed (idle_device self) (stored.Accepted (plan_view kit.plan)) }
+        requires regular { IsRegularRecord (stored.Accepted (plan_view kit.plan)) }
+        requires payload { Spelled kit.payload (stored.Accepted (plan_view kit.plan)) }
+        requires spare { IsSpareFor kit.spare (idle_device self) (plan_view kit.plan) }
+        requires room { J.end (idle_log self) + 6 + length kit.payload + 2097152 ≤ most_file }
+        ensures moments { Leaves D.moment D.left_since disk.old disk.new
+            (LeavesEither D.may_leave J.files J.entries disk.old (idle_device self) (applied (idle_device self) (stored.Accepted (plan_view kit.plan)))) }
+        ensures taken { IfOk result (λ r. booting_device r.0 ≡ applied (idle_device self) (stored.Accepted (plan_view kit.plan))) }
+        ensures held { IfOk result (λ r. InBooting D.tells D.may_leave J.stands J.end r.0 disk.new) }
+        ensures receipt { IfOk result (λ r. receipt_id r.1 ≡ kit.id) }
+        ensures end { IfOk result (λ r. J.end (booting_log r.0) ≡ J.end (idle_log self) + 5 + length kit.payload) }
+        ensures number { IfOk result (λ r. J.number (booting_log r.0) ≡ J.number (idle_log self)) }
+        ensures others { IsTrue D.tells → (name : List ℕ) → ¬ (J.files name) → D.seen disk.new name ≡ D.seen disk.old name }
+        ensures cause { HasCause (D.faults disk.old) (D.faults disk.new) result }
+        ensures quiet { OnOk result (D.faults disk.new ≡ D.faults disk.old) }
+    {
+        let mut log = self.log;
+        let mut device = self.device;
+        match log.append(disk, kit.payload.as_slice()) {
+            Ok(()) => {
+                device.take_plan(kit.plan);
+                let hand = Hand {
+                    log,
+                    device,
+                    spare: kit.spare,
+                };
+                Ok((Booting { hand }, Receipt { id: kit.id }))
+            }
+            // There is room, so the disk failed.
+            Err(_) => Err(Stopped { of: PhantomData }),
+        }
+    }
+
+    /// Begins the journal anew with the device, and goes on with that of the plan.
+    fn enter_anew<D: Disk>(
+        self,
+        alloc: Global,
+        disk: &mut D,
+        kit: Kit,
+    ) -> Result<(Booting<J>, Receipt), AcceptRefusal<J>>
+        requires held { InIdle D.tells D.may_leave J.stands J.end self disk.old }
+        requires lawful { Allowed (idle_device self) (stored.Accepted (plan_view kit.plan)) }
+        requires regular { IsRegularRecord (stored.Accepted (plan_view kit.plan)) }
+        requires payload { Spelled kit.payload (stored.Accepted (plan_view kit.plan)) }
+        requires spare { IsSpareFor kit.spare (idle_device self) (plan_view kit.plan) }
+        requires can { IsTrue (can_turn (J.turns (idle_log self)) (J.number (idle_log self))) }
+        requires room { next_front J.number (idle_log self) (idle_device self) + 6 + length kit.payload + 2097152 ≤ most_file }
+        ensures moments { Leaves D.moment D.left_since disk.old disk.new
+            (LeavesEither D.may_leave J.files J.entries disk.old (idle_device self) (applied (idle_device self) (stored.Accepted (plan_view kit.plan)))) }
+        ensures taken { IfOk result (λ r. booting_device r.0 ≡ applied (idle_device self) (stored.Accepted (plan_view kit.plan))) }
+        ensures held { IfOk result (λ r. InBooting D.tells D.may_leave J.stands J.end r.0 disk.new) }
+        ensures receipt { IfOk result (λ r. receipt_id r.1 ≡ kit.id) }
+        ensures end { IfOk result (λ r. J.end (booting_log r.0) ≡ next_front J.number (idle_log self) (idle_device self) + 5 + length kit.payload) }
+        ensures number { IfOk result (λ r. J.number (booting_log r.0) ≡ J.number (idle_log self) + 1) }
+        ensures back { HandsBack (λ s. InIdle D.tells D.may_leave J.stands J.end s disk.new × (idle_device s ≡ idle_device self)) result }
+        ensures fits { (at : ℕ) → IsFullAt result at → ⊥ }
+        ensures others { IsTrue D.tells → (name : List ℕ) → ¬ (J.files name) → D.seen disk.new name ≡ D.seen disk.old name }
+        ensures cause { HasStopped result → Rose (D.faults disk.old) (D.faults disk.new) }
+        ensures quiet { ¬ (HasStopped result) → D.faults disk.new ≡ D.faults disk.old }
+        ensures later { D.faults disk.old ≤ D.faults disk.new }
+    {
+        let mut state = self;
+        match turn(alloc, &mut state.log, &state.device, disk) {
+            Ok(()) => match state.enter(disk, kit) {
+                Ok(entered) => Ok(entered),
+                Err(stopped) => Err(AcceptRefusal::Stopped(stopped)),
+            },
+            Err(TurnFault::NoMemory) => Err(AcceptRefusal::NoMemory(state)),
+            Err(TurnFault::Disk) => Err(AcceptRefusal::Stopped(Stopped { of: PhantomData })),
+        }
+    }
+
+    /// Adds the entry of the plan at its site, where it has room.
+    fn enter_at<D: Disk>(
+        self,
+        alloc: Global,
+        disk: &mut D,
+        kit: Kit,
+        site: Site,
+    ) -> Result<(Booting<J>, Receipt), AcceptRefusal<J>>
+        requires held { InIdle D.tells D.may_leave J.stands J.end self disk.old }
+        requires lawful { Allowed (idle_device self) (stored.Accepted (plan_view kit.plan)) }
+        requires regular { IsRegularRecord (stored.Accepted (plan_view kit.plan)) }
+        requires payload { Spelled kit.payload (stored.Accepted (plan_view kit.plan)) }
+        requires spare { IsSpareFor kit.spare (idle_device self) (plan_view kit.plan) }
+        requires turns { site.turns ≡ is_turning J.end J.number J.turns (idle_log self) (idle_device self) (length kit.payload) }
+        requires start { site.start ≡ start_of J.end J.number J.turns (idle_log self) (idle_device self) (length kit.payload) }
+        requires room { site.start + 6 + length kit.payload + 2097152 ≤ most_file }
+        ensures moments { Leaves D.moment D.left_since disk.old disk.new
+            (LeavesEither D.may_leave J.files J.entries disk.old (idle_device self) (applied (idle_device self) (stored.Accepted (plan_view kit.plan)))) }
+        ensures taken { IfOk result (λ r. booting_device r.0 ≡ applied (idle_device self) (stored.Accepted (plan_view kit.plan))) }
+        ensures held { IfOk result (λ r. InBooting D.tells D.may_leave J.stands J.end r.0 disk.new) }
+        ensures receipt { IfOk result (λ r. receipt_id r.1 ≡ kit.id) }
+        ensures end { IfOk result (λ r. J.end (booting_log r.0) ≡ site.start + 5 + length kit.payload) }
+        ensures back { HandsBack (λ s. InIdle D.tells D.may_leave J.stands J.end s disk.new × (idle_device s ≡ idle_device self)) result }
+        ensures fits { (at : ℕ) → IsFullAt result at → ⊥ }
+        ensures others { IsTrue D.tells → (name : List ℕ) → ¬ (J.files name) → D.seen disk.new name ≡ D.seen disk.old name }
+        ensures cause { HasStopped result → Rose (D.faults disk.old) (D.faults disk.new) }
+        ensures quiet { ¬ (HasStopped result) → D.faults disk.new ≡ D.faults disk.old }
+        ensures later { D.faults disk.old ≤ D.faults disk.new }
+    {
+        if site.turns {
+            return self.enter_anew(alloc, disk, kit);
+        }
+        match self.enter(disk, kit) {
+            Ok(entered) => Ok(entered),
+            Err(stopped) => Err(AcceptRefusal::Stopped(stopped)),
+        }
+    }
+
+    /// The device for which the journal stands.
+    pub fn device(&self) -> &Device
+        ensures { device_view result.now ≡ idle_device self.now }
+    {
+        &self.device
+    }
+
+    /// Accepts a plan, and answers a receipt once its entry is stable. All memory for the steps up to the close is taken
+    /// before that entry is written. The journal is begun anew first where the entry would take it beyond twice the front of
+    /// the device and 1,048,576 bytes more.
+    pub fn accept<D: Disk>(
+        self,
+        alloc: Global,
+        disk: &mut D,
+        plan: Plan,
+    ) -> Result<(Booting<J>, Receipt), AcceptRefusal<J>>
+        requires held { InIdle D.tells D.may_leave J.stands J.end self disk.old }
+        requires lawful { Allowed (idle_device self) (stored.Accepted (plan_view plan)) }
+        requires regular { IsRegularRecord (stored.Accepted (plan_view plan)) }
+        ensures moments { Leaves D.moment D.left_since disk.old disk.new
+            (LeavesEither D.may_leave J.files J.entries disk.old (idle_device self) (applied (idle_device self) (stored.Accepted (plan_view plan)))) }
+        ensures taken { IfOk result (λ r. booting_device r.0 ≡ applied (idle_device self) (stored.Accepted (plan_view plan))) }
+        ensures held { IfOk result (λ r. InBooting D.tells D.may_leave J.stands J.end r.0 disk.new) }
+        ensures receipt { IfOk result (λ r. receipt_id r.1 ≡ plan.id) }
+        ensures back { HandsBack (λ s. InIdle D.tells D.may_leave J.stands J.end s disk.new × (idle_device s ≡ idle_device self)) result }
+        // Full, with nothing written, exactly where the plan does not fit with what may follow it, want of memory aside.
+        ensures full { (at : ℕ) → IsFullAt result at → (at ≡ start_of J.end J.number J.turns (idle_log self) (idle_device self) (plan_bytes (plan_view plan)))
+            × IsTooFar at (plan_bytes (plan_view plan)) × (disk.new ≡ disk.old) }
+        ensures fills { IsTooFar (start_of J.end J.number J.turns (idle_log self) (idle_device self) (plan_bytes (plan_view plan))) (plan_bytes (plan_view plan))
+            → IsFullOrShort result (start_of J.end J.number J.turns (idle_log self) (idle_device self) (plan_bytes (plan_view plan))) }
+        // The plan's entry stands at this place.
+        ensures end { IfOk result (λ r. J.end (booting_log r.0) ≡ start_of J.end J.number J.turns (idle_log self) (idle_device self) (plan_bytes (plan_view plan)) + 5 + plan_bytes (plan_view plan)) }
+        // A journal that turns does not grow for ever.
+        ensures bound { IsTrue (can_turn (J.turns (idle_log self)) (J.number (idle_log self))) → IfOk result (λ r. J.end (booting_log r.0)
+            ≤ max (2 * next_front J.number (idle_log self) (idle_device self) + 1048576) (next_front J.number (idle_log self) (idle_device self) + 6 + plan_bytes (plan_view plan))) }
+        ensures others { IsTrue D.tells → (name : List ℕ) → ¬ (J.files name) → D.seen disk.new name ≡ D.seen disk.old name }
+        ensures cause { HasStopped result → Rose (D.faults disk.old) (D.faults disk.new) }
+        ensures quiet { ¬ (HasStopped result) → D.faults disk.new ≡ D.faults disk.old }
+        ensures later { D.faults disk.old ≤ D.faults disk.new }
+    {
+        let Ok(kit) = prepare(alloc, &self.device, plan) else {
+            return Err(AcceptRefusal::NoMemory(self));
+        };
+        let size = kit.payload.len() as u64;
+        let Ok(site) = site_of(alloc, &self.log, &self.device, size) else {
+            return Err(AcceptRefusal::NoMemory(self));
+        };
+        if site.start.saturating_add(6 + size + KEPT) > MOST_FILE {
+            return Err(AcceptRefusal::Full(self, site.start));
+        }
+        self.enter_at(alloc, disk, kit, site)
+    }
+}
+
+impl Receipt {
+    /// The id of the deployment.
+    pub fn id(&self) -> &Label
+        ensures { result.now ≡ receipt_id self.now }
+    {
+        &self.id
+    }
+}

@@ -1,0 +1,127 @@
+// The bootstrap steps of the plan.
+ghost use Rattle.std.specs.Prelude.{◌≡◌, ℕ, List, IsTrue, OnOk, IfOk, option_map};
+ghost use Rattle.nuc_base.specs.Faults.{HasCause};
+ghost use Rattle.disk_model.specs.Disk.{Leaves};
+ghost use Rattle.records.specs.Stored as stored;
+ghost use Rattle.records.specs.Stored.{Record};
+ghost use Rattle.device.specs.Devices.{device_view};
+ghost use Rattle.device.specs.Lawful.{Allowed, applied};
+ghost use Rattle.device.specs.Marks.{IsMark};
+ghost use Rattle.device.specs.declared.mark.Mark.TheVariants as marks;
+ghost use Rattle.nuc_base.specs.declared.kinds.Outcome.TheVariants as outcomes;
+ghost use Rattle.deploy_state.specs.Fields.{CanBegin, CanBreakOff, IsBegun, IsBreak, has_failed, next_name};
+ghost use Rattle.deploy_state.specs.Hand.{LeavesEither, MayMark};
+ghost use Rattle.deploy_state.specs.States.{InActivating, InBooting, InBrokeOff, InIdle, activating_device, booting_device, broken_device, idle_device};
+
+use crate::names::{failed_in, next_in};
+use crate::state::{Activating, Booting, BrokeOff, Idle, Stopped};
+use device::{Device, Mark};
+use disk_model::Disk;
+use gate_log::Journal;
+use nuc_base::{Exit, Name, Outcome};
+
+impl<J: Journal + Drop> Booting<J> {
+    /// The device for which the journal stands.
+    pub fn device(&self) -> &Device
+        ensures { device_view result.now ≡ booting_device self.now }
+    {
+        &self.hand.device
+    }
+
+    /// The bootstrap step after the ended ones.
+    pub fn next(&self) -> Option<&Name>
+        ensures { option_map (λ n. n.now) result ≡ next_name (booting_device self.now) }
+    {
+        next_in(&self.hand.device)
+    }
+
+    /// Whether that one failed.
+    pub fn failed(&self) -> bool
+        ensures { result ≡ has_failed (booting_device self.now) }
+    {
+        failed_in(&self.hand.device)
+    }
+
+    /// Records that the next bootstrap step begins, unless that is recorded.
+    pub fn begin<D: Disk>(self, disk: &mut D) -> Result<Booting<J>, Stopped<J>>
+        requires held { InBooting D.tells D.may_leave J.stands J.end self disk.old }
+        requires may { CanBegin (booting_device self) }
+        ensures moments { (r : Record) → IsMark (booting_device self) marks.BootBegun r →
+            Leaves D.moment D.left_since disk.old disk.new (LeavesEither D.may_leave J.files J.entries disk.old (booting_device self) (applied (booting_device self) r)) }
+        ensures taken { (r : Record) → IsMark (booting_device self) marks.BootBegun r → IfOk result (λ s. booting_device s ≡ applied (booting_device self) r) }
+        ensures held { IfOk result (λ s. InBooting D.tells D.may_leave J.stands J.end s disk.new) }
+        ensures silent { IsBegun (booting_device self) → (disk.new ≡ disk.old) × IfOk result (λ s. s ≡ self) }
+        ensures others { IsTrue D.tells → (name : List ℕ) → ¬ (J.files name) → D.seen disk.new name ≡ D.seen disk.old name }
+        ensures cause { HasCause (D.faults disk.old) (D.faults disk.new) result }
+        ensures quiet { OnOk result (D.faults disk.new ≡ D.faults disk.old) }
+    {
+        match self.hand.begin(disk) {
+            Ok(hand) => Ok(Booting { hand }),
+            Err(stopped) => Err(stopped),
+        }
+    }
+
+    /// Records how the bootstrap step that was begun ended.
+    pub fn ended<D: Disk>(self, disk: &mut D, exit: Exit) -> Result<Booting<J>, Stopped<J>>
+        requires held { InBooting D.tells D.may_leave J.stands J.end self disk.old }
+        requires may { MayMark (booting_device self) (marks.BootEnded exit) }
+        ensures moments { (r : Record) → IsMark (booting_device self) (marks.BootEnded exit) r →
+            Leaves D.moment D.left_since disk.old disk.new (LeavesEither D.may_leave J.files J.entries disk.old (booting_device self) (applied (booting_device self) r)) }
+        ensures taken { (r : Record) → IsMark (booting_device self) (marks.BootEnded exit) r → IfOk result (λ s. booting_device s ≡ applied (booting_device self) r) }
+        ensures held { IfOk result (λ s. InBooting D.tells D.may_leave J.stands J.end s disk.new) }
+        ensures others { IsTrue D.tells → (name : List ℕ) → ¬ (J.files name) → D.seen disk.new name ≡ D.seen disk.old name }
+        ensures cause { HasCause (D.faults disk.old) (D.faults disk.new) result }
+        ensures quiet { OnOk result (D.faults disk.new ≡ D.faults disk.old) }
+    {
+        match self.hand.step(disk, Mark::BootEnded(exit)) {
+            Ok(hand) => Ok(Booting { hand }),
+            Err(stopped) => Err(stopped),
+        }
+    }
+
+    /// All bootstrap steps are ended, and the plan's items are to be brought up.
+    pub fn activate<D: Disk>(self, disk: &mut D) -> Result<Activating<J>, Stopped<J>>
+        requires held { InBooting D.tells D.may_leave J.stands J.end self disk.old }
+        requires may { Allowed (booting_device self) stored.Activating }
+        ensures moments { Leaves D.moment D.left_since disk.old disk.new (LeavesEither D.may_leave J.files J.entries disk.old (booting_device self) (applied (booting_device self) stored.Activating)) }
+        ensures taken { IfOk result (λ s. activating_device s ≡ applied (booting_device self) stored.Activating) }
+        ensures held { IfOk result (λ s. InActivating D.tells D.may_leave J.stands J.end s disk.new) }
+        ensures others { IsTrue D.tells → (name : List ℕ) → ¬ (J.files name) → D.seen disk.new name ≡ D.seen disk.old name }
+        ensures cause { HasCause (D.faults disk.old) (D.faults disk.new) result }
+        ensures quiet { OnOk result (D.faults disk.new ≡ D.faults disk.old) }
+    {
+        match self.hand.step(disk, Mark::Activating) {
+            Ok(hand) => Ok(Activating { hand }),
+            Err(stopped) => Err(stopped),
+        }
+    }
+
+    /// A bootstrap step failed, and the deployment is rolled back.
+    pub fn break_off<D: Disk>(self, disk: &mut D) -> Result<BrokeOff<J>, Stopped<J>>
+        requires held { InBooting D.tells D.may_leave J.stands J.end self disk.old }
+        requires may { CanBreakOff (booting_device self) }
+        ensures moments { (r : Record) → IsBreak (booting_device self) r →
+            Leaves D.moment D.left_since disk.old disk.new (LeavesEither D.may_leave J.files J.entries disk.old (booting_device self) (applied (booting_device self) r)) }
+        ensures taken { (r : Record) → IsBreak (booting_device self) r → IfOk result (λ s. broken_device s ≡ applied (booting_device self) r) }
+        ensures held { IfOk result (λ s. InBrokeOff D.tells D.may_leave J.stands J.end s disk.new) }
+        ensures others { IsTrue D.tells → (name : List ℕ) → ¬ (J.files name) → D.seen disk.new name ≡ D.seen disk.old name }
+        ensures cause { HasCause (D.faults disk.old) (D.faults disk.new) result }
+        ensures quiet { OnOk result (D.faults disk.new ≡ D.faults disk.old) }
+    {
+        self.hand.break_off(disk)
+    }
+
+    /// The failed deployment stays as it is and closes.
+    pub fn keep<D: Disk>(self, disk: &mut D) -> Result<Idle<J>, Stopped<J>>
+        requires held { InBooting D.tells D.may_leave J.stands J.end self disk.old }
+        requires may { Allowed (booting_device self) (stored.Closed outcomes.RollbackNotRequested) }
+        ensures moments { Leaves D.moment D.left_since disk.old disk.new (LeavesEither D.may_leave J.files J.entries disk.old (booting_device self) (applied (booting_device self) (stored.Closed outcomes.RollbackNotRequested))) }
+        ensures taken { IfOk result (λ s. idle_device s ≡ applied (booting_device self) (stored.Closed outcomes.RollbackNotRequested)) }
+        ensures held { IfOk result (λ s. InIdle D.tells D.may_leave J.stands J.end s disk.new) }
+        ensures others { IsTrue D.tells → (name : List ℕ) → ¬ (J.files name) → D.seen disk.new name ≡ D.seen disk.old name }
+        ensures cause { HasCause (D.faults disk.old) (D.faults disk.new) result }
+        ensures quiet { OnOk result (D.faults disk.new ≡ D.faults disk.old) }
+    {
+        self.hand.close(disk, Outcome::RollbackNotRequested)
+    }
+}

@@ -1,0 +1,94 @@
+// A record is noted in the journal and taken by the device.
+ghost use Rattle.std.specs.Prelude.{◌≡◌, ℕ, List, IsTrue, OnOk, IfOk};
+ghost use Rattle.nuc_base.specs.Faults.{HasCause};
+ghost use Rattle.disk_model.specs.Disk.{Leaves};
+ghost use Rattle.records.specs.Stored as stored;
+ghost use Rattle.records.specs.Stored.{Record};
+ghost use Rattle.device.specs.Lawful.{Allowed, applied};
+ghost use Rattle.device.specs.Marks.{IsMark, IsClosing};
+ghost use Rattle.device.specs.Spares.{IsSpareOf};
+ghost use Rattle.deploy_state.specs.Hand.{IsInHand, LeavesEither, MayMark};
+ghost use Rattle.deploy_state.specs.States.{IsHeld, InIdle, device_of, idle_device};
+
+use crate::state::{Hand, Idle, Stopped};
+use device::Mark;
+use disk_model::{Disk, DiskFault};
+use gate_log::Journal;
+use nuc_base::Outcome;
+use std::marker::PhantomData;
+
+impl<J: Journal + Drop> Hand<J> {
+    /// Adds the record to the journal, and lets the device take it.
+    fn note<D: Disk>(&mut self, disk: &mut D, mark: Mark) -> Result<(), DiskFault>
+        requires hand { IsInHand D.tells D.may_leave J.stands J.end self.old.log disk.old (device_of self.old) }
+        requires spare { IsSpareOf self.old.spare (device_of self.old) }
+        requires may { MayMark (device_of self.old) mark }
+        ensures moments { (r : Record) → IsMark (device_of self.old) mark r →
+            Leaves D.moment D.left_since disk.old disk.new (LeavesEither D.may_leave J.files J.entries disk.old (device_of self.old) (applied (device_of self.old) r)) }
+        ensures taken { (r : Record) → IsMark (device_of self.old) mark r → OnOk result (device_of self.new ≡ applied (device_of self.old) r) }
+        ensures hand { OnOk result (IsInHand D.tells D.may_leave J.stands J.end self.new.log disk.new (device_of self.new)) }
+        ensures spare { OnOk result (¬ (IsClosing mark) → IsSpareOf self.new.spare (device_of self.new)) }
+        ensures others { IsTrue D.tells → (name : List ℕ) → ¬ (J.files name) → D.seen disk.new name ≡ D.seen disk.old name }
+        ensures cause { HasCause (D.faults disk.old) (D.faults disk.new) result }
+        ensures quiet { OnOk result (D.faults disk.new ≡ D.faults disk.old) }
+    {
+        let mut bytes = [0u8; 1024];
+        let size = self.device.write_mark(mark, &self.spare, &mut bytes);
+        match self.log.append(disk, &bytes[..size]) {
+            Ok(()) => {
+                self.device.apply_mark(mark, &mut self.spare);
+                Ok(())
+            }
+            // There is room, so the disk failed.
+            Err(_) => Err(DiskFault),
+        }
+    }
+}
+
+impl<J: Journal + Drop> Hand<J> {
+    /// The hand behind the record of a mark other than a close.
+    pub(crate) fn step<D: Disk>(self, disk: &mut D, mark: Mark) -> Result<Hand<J>, Stopped<J>>
+        requires held { IsHeld D.tells D.may_leave J.stands J.end self disk.old }
+        requires may { MayMark (device_of self) mark }
+        requires going { ¬ (IsClosing mark) }
+        ensures moments { (r : Record) → IsMark (device_of self) mark r →
+            Leaves D.moment D.left_since disk.old disk.new (LeavesEither D.may_leave J.files J.entries disk.old (device_of self) (applied (device_of self) r)) }
+        ensures taken { (r : Record) → IsMark (device_of self) mark r → IfOk result (λ h. device_of h ≡ applied (device_of self) r) }
+        ensures held { IfOk result (λ h. IsHeld D.tells D.may_leave J.stands J.end h disk.new) }
+        ensures others { IsTrue D.tells → (name : List ℕ) → ¬ (J.files name) → D.seen disk.new name ≡ D.seen disk.old name }
+        ensures cause { HasCause (D.faults disk.old) (D.faults disk.new) result }
+        ensures quiet { OnOk result (D.faults disk.new ≡ D.faults disk.old) }
+    {
+        let mut hand = self;
+        match hand.note(disk, mark) {
+            Ok(()) => Ok(hand),
+            Err(_) => Err(Stopped { of: PhantomData }),
+        }
+    }
+
+    /// The state behind the close.
+    pub(crate) fn close<D: Disk>(
+        self,
+        disk: &mut D,
+        outcome: Outcome,
+    ) -> Result<Idle<J>, Stopped<J>>
+        requires held { IsHeld D.tells D.may_leave J.stands J.end self disk.old }
+        requires may { Allowed (device_of self) (stored.Closed outcome) }
+        ensures moments { Leaves D.moment D.left_since disk.old disk.new
+            (LeavesEither D.may_leave J.files J.entries disk.old (device_of self) (applied (device_of self) (stored.Closed outcome))) }
+        ensures taken { IfOk result (λ s. idle_device s ≡ applied (device_of self) (stored.Closed outcome)) }
+        ensures idle { IfOk result (λ s. InIdle D.tells D.may_leave J.stands J.end s disk.new) }
+        ensures others { IsTrue D.tells → (name : List ℕ) → ¬ (J.files name) → D.seen disk.new name ≡ D.seen disk.old name }
+        ensures cause { HasCause (D.faults disk.old) (D.faults disk.new) result }
+        ensures quiet { OnOk result (D.faults disk.new ≡ D.faults disk.old) }
+    {
+        let mut hand = self;
+        match hand.note(disk, Mark::Closed(outcome)) {
+            Ok(()) => Ok(Idle {
+                log: hand.log,
+                device: hand.device,
+            }),
+            Err(_) => Err(Stopped { of: PhantomData }),
+        }
+    }
+}
