@@ -1,0 +1,9 @@
+pub mod Audited
+pub mod Faults
+pub mod Filled
+pub mod Holding
+pub mod Laws
+pub mod Needed
+pub mod Paths
+pub mod Staged
+pub mod Swept
