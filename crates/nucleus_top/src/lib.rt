@@ -7,6 +7,7 @@
 #![tactic(auto)]
 
 mod answer;
+mod auditing;
 mod deploy;
 mod document;
 mod init;

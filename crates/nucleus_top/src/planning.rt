@@ -10,7 +10,7 @@ ghost use Rattle.nucleus_top.specs.Leaving.{Keeps};
 ghost use Rattle.nucleus_top.specs.Planning.{TellsDraft, TellsRefusal, Tells, NamesPending, PlansOn, Plans};
 
 use crate::answer::Answer;
-use crate::opening::{Opening, damaged, open};
+use crate::opening::{open, refused};
 use device::Device;
 use disk_model::Disk;
 use edges::{ReadFault, Source, read_up_to};
@@ -131,10 +131,7 @@ pub fn plan<D: Disk, L: Library, S: Source>(
     ensures source_later { S.faults source.old ≤ S.faults source.new }
 {
     match open(alloc, disk) {
-        Opening::Empty => Answer::NotInitialised,
-        Opening::Found(device) => plan_on(alloc, &device, library, source),
-        Opening::Damaged(at) => damaged(alloc, at),
-        Opening::DiskFailed => Answer::DiskFailed,
-        Opening::NoMemory => Answer::NoMemory,
+        Ok(state) => plan_on(alloc, state.device(), library, source),
+        Err(fault) => refused(alloc, fault),
     }
 }

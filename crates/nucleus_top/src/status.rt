@@ -9,7 +9,7 @@ ghost use Rattle.nucleus_top.specs.Shows.{Shows, ShowsDevice, shown};
 ghost use Rattle.nucleus_top.specs.Leaving.{Keeps};
 
 use crate::answer::Answer;
-use crate::opening::{Opening, damaged, open};
+use crate::opening::{open, refused};
 use device::Device;
 use disk_model::Disk;
 use nuc_base::{NoMemory, Text};
@@ -51,10 +51,7 @@ pub fn status<D: Disk>(alloc: Global, json: bool, disk: &mut D) -> Answer
     ensures later { D.faults disk.old ≤ D.faults disk.new }
 {
     match open(alloc, disk) {
-        Opening::Empty => Answer::NotInitialised,
-        Opening::Found(device) => show(alloc, json, &device),
-        Opening::Damaged(at) => damaged(alloc, at),
-        Opening::DiskFailed => Answer::DiskFailed,
-        Opening::NoMemory => Answer::NoMemory,
+        Ok(state) => show(alloc, json, state.device()),
+        Err(fault) => refused(alloc, fault),
     }
 }
