@@ -7,7 +7,8 @@ use Rattle.std.proofs.lemmas.Bool.{cases_eq}
 use Rattle.std.specs.Str.{bytes_eq}
 use Rattle.std.specs.Prelude.{◌&&◌, ◌||◌, not, if◌then◌else◌, slice_set}
 use Rattle.supervisor.specs.World.{Part, At, part_name}
-use Rattle.supervisor.specs.Marks.{Flagged, grown, reaching, is_flagged, needs_flagged, flagged, flagged_at, marked, restarted, may_restart, Within, IsClosedBack}
+use Rattle.supervisor.specs.Changes.{is_replacing, replanned}
+use Rattle.supervisor.specs.Marks.{Flagged, grown, reaching, is_flagged, needs_flagged, flagged, flagged_at, marked, restarted, may_restart, may_replan, Within, IsClosedBack}
 use Rattle.supervisor.specs.Flags.{with_flags, free, may_by, joins, Under, Spreads}
 use Rattle.supervisor.proofs.Each.{at_more}
 use Rattle.supervisor.proofs.Closes.{within_refl, trans, needs_more, most, closes, least, or_true}
@@ -287,3 +288,7 @@ length_flagged_at (suc k) (p ∷ ps) = ap suc (length_flagged_at k ps)
 pub restarted_is : (ps new : List Part) (k : ℕ) (fs hs : Flagged) → new ≡ marked (may_by false) hs → hs ≡ reaching (length ps) fs → fs ≡ flagged_at k ps → new ≡ restarted may_restart (flagged_at k ps)
 restarted_is ps new k fs hs e r f =
     e ∙ ap (marked may_restart) (r ∙ ap (reaching (length ps)) f ∙ ap (λ (n : ℕ). reaching n (flagged_at k ps)) (sym (length_flagged_at k ps)))
+
+pub replanned_is : (ps new : List Part) (fs hs : Flagged) → new ≡ marked (may_by true) hs → hs ≡ reaching (length ps) fs → fs ≡ flagged is_replacing ps → new ≡ replanned ps
+replanned_is ps new fs hs e r f =
+    e ∙ ap (marked may_replan) (r ∙ ap (reaching (length ps)) f ∙ ap (λ (n : ℕ). reaching n (flagged is_replacing ps)) (sym (length_flagged is_replacing ps)))

@@ -82,3 +82,8 @@ kids_lived_at k e w =
     let c : kids qs ≡ kids w.parts = kids_changed (lived w.steady e) (lived_children w.steady e) k w.parts in
     let fs : Flagged = flagged_at k qs in
     if_kids (drops_at k w e) (restarted may_restart fs) qs (kids w.parts) (marked_firsts may_restart (reaching (length fs) fs) ∙ reaching_firsts (length fs) fs ∙ flagged_at_firsts k qs ∙ c) c
+
+pub kids_restarted : (may t : Part → Bool) (ps : List Part) → kids (restarted may (flagged t ps)) ≡ kids ps
+kids_restarted may t ps =
+    let fs : Flagged = flagged t ps in
+    marked_firsts may (reaching (length fs) fs) ∙ reaching_firsts (length fs) fs ∙ flagged_firsts t ps

@@ -1,5 +1,6 @@
 pub mod Apart
 pub mod Asked
+pub mod Changed
 pub mod Closes
 pub mod Deadline
 pub mod Deeds
@@ -10,6 +11,8 @@ pub mod Handed
 pub mod Kept
 pub mod Kids
 pub mod Lived
+pub mod Meets
+pub mod Merged
 pub mod Moved
 pub mod Names
 pub mod Numbers
@@ -17,7 +20,9 @@ pub mod Once
 pub mod Owners
 pub mod Readies
 pub mod Scoped
+pub mod Slots
 pub mod Tables
 pub mod Times
 pub mod Whole
+pub mod Wholly
 pub mod Worlds

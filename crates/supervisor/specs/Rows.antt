@@ -51,6 +51,15 @@ is_stop_ready p = elim p.stop [ None ↦ false | Some a ↦ is_awaited (event.St
 abbrev pub is_begin_ready : Part → Bool
 is_begin_ready p = is_awaited event.MayBegin p.life && not (is_to_stop p)
 
+-- the item, and the failures, that one with this item takes once it is stopped with Again; None is its own item
+abbrev pub taken_item : Fitted → Option Fitted → Fitted
+taken_item f None = f
+taken_item f (Some g) = g
+
+abbrev pub next_of : Fitted → Option (Option Fitted × ℕ) → Option (Fitted × ℕ)
+next_of f None = None
+next_of f (Some n) = Some (taken_item f n.0, n.1)
+
 -- one that was stopped with Again takes the item that replaces its own
 pub record Takes (again : Bool) (f f2 : Fitted) (c c2 : Life) (n n2 : Option (Fitted × ℕ)) : Type 0 where
   pub taken : again ≡ true → MatchOption n ((f2 ≡ f) × (c2 ≡ c)) (λ x. (f2 ≡ x.0) × (c2 ≡ begun (steps_of x.0) x.1)) × (n2 ≡ None)

@@ -1,10 +1,14 @@
 //! Items that are ready to run.
 ghost use Rattle.std.specs.Prelude.{◌≡◌, true, map, option_map, IfOk};
+ghost use Rattle.std.specs.Str.{bytes_eq};
+ghost use Rattle.serde_json.specs.Written.{compact_text};
+ghost use Rattle.tree_core.specs.View.{view as tree_view};
+ghost use Rattle.tree_core.specs.Regular.{IsRegular};
 ghost use Rattle.interpolation.specs.Scopes.{HasRegularConfigs};
 ghost use Rattle.records.specs.Stored.{item_view};
 ghost use Rattle.device.specs.Plans.{AreRegularItems};
 ghost use Rattle.device.specs.Scopes.{HasScope};
-ghost use Rattle.supervisor.specs.Fitted.{name_of, prepared_of, steps_of, limit_of};
+ghost use Rattle.supervisor.specs.Fitted.{name_of, prepared_of, steps_of, limit_of, is_same_item};
 ghost use Rattle.supervisor.specs.Made.{IsFittedAt, hard_names, soft_names};
 ghost use Rattle.supervisor.specs.Runs.{IsFittedBy, AreFirst, AreLast, AreFit, IsShort, IsFit};
 
@@ -13,7 +17,7 @@ use crate::prepared::{known_recipe, prepare_step};
 use device::scope_of;
 use interpolation::Scope;
 use lifecycle::StepSet;
-use nuc_base::{Copied, List, Name, NoMemory, Step};
+use nuc_base::{Copied, List, Name, NoMemory, Step, Text};
 use recipe_reader::{Dependency, Recipe, recipe_laws};
 use records::{Item, Origin};
 use std::alloc::Global;
@@ -43,16 +47,20 @@ struct Needs {
     soft: List<Name>,
 }
 
-/// An item with the names that it needs and its steps with all variables expanded.
+/// An item with the names that it needs and its steps with all variables expanded, beside its configuration as text.
 #[derive(Drop)]
 pub struct FittedItem {
     item: Item,
+    config: Text,
     needs: Needs,
     first: FirstSteps,
     last: LastSteps,
 }
 
 impl Model for FittedItem {
+    ghost use Rattle.std.specs.Prelude.{◌≡◌};
+    ghost use Rattle.serde_json.specs.Written.{compact_text};
+    ghost use Rattle.tree_core.specs.View.{view as tree_view};
     ghost use Rattle.records.specs.Stored.{item_view};
     ghost use Rattle.supervisor.specs.Fitted.{Fitted};
     ghost use Rattle.supervisor.specs.Runs.{AreFit};
@@ -65,7 +73,7 @@ impl Model for FittedItem {
 
     ghost view = { λ f. record { item = item_view f.item; hard = f.needs.hard; soft = f.needs.soft; install = f.first.install; run = f.first.run; startup = f.first.startup; shutdown = f.last.shutdown; recover = f.last.recover } };
 
-    ghost invariant = { λ f. AreFit f.first.install f.first.run f.first.startup f.last.shutdown f.last.recover };
+    ghost invariant = { λ f. AreFit f.first.install f.first.run f.first.startup f.last.shutdown f.last.recover × (f.config ≡ compact_text (tree_view f.item.config)) };
 }
 
 /// The names that are needed hard.
@@ -151,22 +159,48 @@ fn are_fit(first: &FirstSteps, last: &LastSteps) -> bool
     is_short(&last.shutdown) && is_short(&last.recover)
 }
 
-fn fit_with(
-    item: Item,
+/// The item's configuration as text.
+fn config_of(alloc: Global, item: &Item) -> Result<Text, NoMemory>
+    requires { IsRegular (tree_view item.now.config) }
+    ensures { IfOk result (λ text. text ≡ compact_text (tree_view item.now.config)) }
+{
+    item.config.write(alloc)
+}
+
+/// What an item needs, and its steps.
+#[derive(Drop)]
+struct Parts {
     needs: Needs,
     first: FirstSteps,
     last: LastSteps,
-) -> Result<FittedItem, NoMemory>
-    ensures { IfOk result (λ f. f ≡ record { item = item_view item; hard = needs.hard; soft = needs.soft; install = first.install; run = first.run; startup = first.startup; shutdown = last.shutdown; recover = last.recover }) }
+}
+
+fn parts_by(alloc: Global, recipe: &Recipe, scope: &Scope) -> Result<Parts, NoMemory>
+    requires { HasRegularConfigs scope.now }
+    ensures hard { IfOk result (λ p. p.needs.hard ≡ hard_names recipe.now.dependencies) }
+    ensures soft { IfOk result (λ p. p.needs.soft ≡ soft_names recipe.now.dependencies) }
+    ensures first { IfOk result (λ p. AreFirst scope.now recipe.now p.first.install p.first.run p.first.startup) }
+    ensures last { IfOk result (λ p. AreLast scope.now recipe.now p.last.shutdown p.last.recover) }
 {
-    if !are_fit(&first, &last) {
+    let needs = needs_of(alloc, recipe.dependencies.as_slice())?;
+    let first = first_by(alloc, recipe, scope)?;
+    let last = last_by(alloc, recipe, scope)?;
+    Ok(Parts { needs, first, last })
+}
+
+fn fit_with(item: Item, config: Text, parts: Parts) -> Result<FittedItem, NoMemory>
+    requires { config ≡ compact_text (tree_view item.config) }
+    ensures { IfOk result (λ f. f ≡ record { item = item_view item; hard = parts.needs.hard; soft = parts.needs.soft; install = parts.first.install; run = parts.first.run; startup = parts.first.startup; shutdown = parts.last.shutdown; recover = parts.last.recover }) }
+{
+    if !are_fit(&parts.first, &parts.last) {
         return Err(NoMemory);
     }
     Ok(FittedItem {
         item,
-        needs,
-        first,
-        last,
+        config,
+        needs: parts.needs,
+        first: parts.first,
+        last: parts.last,
     })
 }
 
@@ -177,14 +211,14 @@ fn fit_by(
     recipe: &Recipe,
     scope: &Scope,
 ) -> Result<FittedItem, NoMemory>
-    requires { HasRegularConfigs scope.now }
+    requires scope { HasRegularConfigs scope.now }
+    requires config { IsRegular (tree_view item.now.config) }
     ensures { IfOk result (IsFittedBy scope.now recipe.now (item_view item.now)) }
 {
-    let needs = needs_of(alloc, recipe.dependencies.as_slice())?;
-    let first = first_by(alloc, recipe, scope)?;
-    let last = last_by(alloc, recipe, scope)?;
+    let parts = parts_by(alloc, recipe, scope)?;
+    let config = config_of(alloc, item)?;
     let item = item.copy(alloc)?;
-    fit_with(item, needs, first, last)
+    fit_with(item, config, parts)
 }
 
 /// The item at that place made ready.
@@ -206,7 +240,23 @@ pub(crate) fn fit(
     fit_by(alloc, item, &recipe, &scope)
 }
 
+fn same_bytes(a: &[u8], b: &[u8]) -> bool
+    ensures { result ≡ bytes_eq a.now b.now }
+{
+    a == b
+}
+
 impl FittedItem {
+    /// Whether the other one is the same component: name, version, configuration and recipe.
+    pub(crate) fn is_same_item(&self, other: &FittedItem) -> bool
+        ensures { result ≡ is_same_item self.now.item other.now.item }
+    {
+        self.item.name == other.item.name
+            && (self.item.version == other.item.version
+                && (self.config == other.config
+                    && same_bytes(self.item.recipe.as_slice(), other.item.recipe.as_slice())))
+    }
+
     pub(crate) fn name(&self) -> &Name
         ensures { result.now ≡ name_of self.now }
     {

@@ -16,6 +16,7 @@ mod kinds;
 mod laws;
 mod lives;
 mod marks;
+mod merging;
 mod prepared;
 mod ready;
 mod slot;

@@ -1,10 +1,11 @@
 //! What an event of the table makes of the parts of a component.
-ghost use Rattle.std.specs.Prelude.{◌≡◌, ◌<◌, ◌&&◌, true, if◌then◌else◌, IfSome};
+ghost use Rattle.std.specs.Prelude.{◌≡◌, ◌<◌, ◌&&◌, true, Some, if◌then◌else◌, IfSome};
 ghost use Rattle.lifecycle.specs.Life.{begun};
 ghost use Rattle.lifecycle.specs.Awaits.{is_stopping as is_in_shutdown};
 ghost use Rattle.supervisor.specs.World.{is_again as is_with_again, is_gone as is_with_gone, is_up as is_state_up, is_running as is_state_running, is_broken as is_state_broken, is_starting as is_state_starting, under_way as way_of, stops_for_good as is_stopped_for_good};
 ghost use Rattle.supervisor.specs.Lives.{stop_in as stop_of};
-ghost use Rattle.supervisor.specs.Rows.{succeeds_from, is_spared_by, owed_after as owed_by, stop_after as stop_by, completed_from, Takes};
+ghost use Rattle.supervisor.specs.Fitted.{Fitted};
+ghost use Rattle.supervisor.specs.Rows.{succeeds_from, is_spared_by, owed_after as owed_by, stop_after as stop_by, completed_from, next_of, Takes};
 
 use crate::children::busy_with;
 use crate::fitted::FittedItem;
@@ -178,17 +179,45 @@ pub(crate) fn take_where(
     again: bool,
     fitted: &mut FittedItem,
     life: &mut Component,
-    next: &mut Option<(FittedItem, u8)>,
+    next: &mut Option<(Option<FittedItem>, u8)>,
 )
     requires stopped { again ≡ true → life.old ≡ begun life.old.steps 0 }
-    requires few { IfSome next.old (λ n. n.1 < 3) }
-    ensures { Takes again fitted.old fitted.new life.old life.new next.old next.new }
+    requires few { IfSome (next_of fitted.old next.old) (λ n. n.1 < 3) }
+    ensures { Takes again fitted.old fitted.new life.old life.new (next_of fitted.old next.old) (next_of fitted.new next.new) }
 {
     if !again {
         return;
     }
     if let Some((item, failures)) = next.take() {
-        life.renew(item.steps(), failures);
-        *fitted = item;
+        match item {
+            None => life.renew(fitted.steps(), failures),
+            Some(item) => {
+                life.renew(item.steps(), failures);
+                *fitted = item;
+            }
+        }
     }
+}
+
+/// Where it was to take its own item, which is this one no longer, it is still to take that.
+pub(crate) fn keep_next(next: &mut Option<(Option<FittedItem>, u8)>, own: FittedItem)
+    ensures { (f : Fitted) → next_of f next.new ≡ next_of own next.old }
+{
+    if let Some((item, failures)) = next.take() {
+        match item {
+            None => *next = Some((Some(own), failures)),
+            Some(item) => *next = Some((Some(item), failures)),
+        }
+    }
+}
+
+/// Again takes the place of Gone in a stop that is under way.
+pub(crate) fn stop_again(life: &mut Component)
+    requires { is_stopped_for_good life.old ≡ true }
+    ensures { life.new ≡ record life.old { stop = Some After.Again } }
+{
+    if !is_gone(under_way(life)) {
+        return;
+    }
+    life.replace_gone();
 }

@@ -4,7 +4,8 @@ ghost use Rattle.supervisor.specs.World.{Part, At, part_name};
 ghost use Rattle.std.specs.Str.{bytes_eq};
 ghost use Rattle.std.specs.Prelude.{List as ListOf};
 ghost use Rattle.supervisor.specs.Flags.{with_flags, may_by, joins as joins_at, Spreads};
-ghost use Rattle.supervisor.specs.Marks.{is_flagged as is_named_flagged, needs_flagged as are_needs_flagged, reaching, marked, restarted, flagged_at, may_restart};
+ghost use Rattle.supervisor.specs.Changes.{is_replacing, replanned};
+ghost use Rattle.supervisor.specs.Marks.{is_flagged as is_named_flagged, needs_flagged as are_needs_flagged, reaching, marked, restarted, flagged, flagged_at, may_restart};
 
 use crate::slot::Slot;
 use nuc_base::Name;
@@ -130,4 +131,15 @@ pub(crate) fn restart_from(slots: &mut [Slot], flags: &mut [bool], at: usize)
     flag_one(flags, at);
     spread(slots, flags);
     mark(slots, flags, false);
+}
+
+/// Those that reach one with a flag are to be restarted, in whatever state. Each whose place another item takes has a flag.
+pub(crate) fn replan(slots: &mut [Slot], flags: &mut [bool])
+    requires flags { with_flags slots.old flags.old ≡ flagged is_replacing slots.old }
+    requires many { length flags.old ≡ length slots.old }
+    ensures replanned { slots.new ≡ replanned slots.old }
+    ensures many { length flags.new ≡ length flags.old }
+{
+    spread(slots, flags);
+    mark(slots, flags, true);
 }

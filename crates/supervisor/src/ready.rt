@@ -2,9 +2,10 @@
 ghost use Rattle.std.specs.Prelude.{◌≤◌, length, map, IfOk};
 ghost use Rattle.std.specs.List.{AllByRecursion};
 ghost use Rattle.records.specs.Stored.{item_view};
-ghost use Rattle.device.specs.Plans.{AreRegularItems, HasSomeRecipe};
+ghost use Rattle.device.specs.Plans.{AreRegularItems, HasSomeRecipe, Rise, item_name};
 ghost use Rattle.device.specs.Scopes.{HasScope};
 ghost use Rattle.supervisor.specs.Made.{AreFitted, IsFittedAt};
+ghost use Rattle.supervisor.specs.Readied.{IsFresh, AreFresh};
 ghost use Rattle.supervisor.specs.World.{Part};
 
 use crate::children::Children;
@@ -25,8 +26,8 @@ pub struct Ready {
 
 impl Model for Ready {
     ghost use Rattle.std.specs.Prelude.{◌≡◌, ◌<◌, ◌≤◌, ◌-◌, ◌^◌, [], length, map, vec_capacity};
-    ghost use Rattle.supervisor.specs.World.{Part};
-    ghost use Rattle.supervisor.specs.Readied.{Readied};
+    ghost use Rattle.supervisor.specs.World.{Part, part_name};
+    ghost use Rattle.supervisor.specs.Readied.{Readied, AreFresh, AreNamesApart};
     ghost use Rattle.std.specs.Coded.{codes};
     ghost use Rattle.supervisor.specs.Coding.{data_code};
 
@@ -36,14 +37,15 @@ impl Model for Ready {
 
     ghost view = { λ r. record { coming = map (λ (p : Part). p.fitted) r.coming.items; room = vec_capacity r.room - length r.coming.items } };
 
-    ghost invariant = { λ r. (r.room.items ≡ []) × (r.flags.items ≡ []) × (length r.coming.items ≤ vec_capacity r.room) × (vec_capacity r.room ≤ vec_capacity r.flags) × (vec_capacity r.room < 2 ^ 32) };
+    ghost invariant = { λ r. (r.room.items ≡ []) × (r.flags.items ≡ []) × (length r.coming.items ≤ vec_capacity r.room) × (vec_capacity r.room ≤ vec_capacity r.flags) × (vec_capacity r.room < 2 ^ 32) × (length r.coming.items ≤ 128) × AreFresh r.coming.items × AreNamesApart (map part_name r.coming.items) };
 }
 
 /// The item at that place made ready, as a component that did not stand before.
 fn fit_one(alloc: Global, origin: &Origin, items: &List<Item>, at: u32) -> Result<Slot, NoMemory>
     requires recipe { HasScope origin.now (map item_view items.now) at }
     requires regular { AreRegularItems (map item_view items.now) }
-    ensures { IfOk result (λ slot. IsFittedAt origin.now (map item_view items.now) at slot.fitted) }
+    ensures fitted { IfOk result (λ slot. IsFittedAt origin.now (map item_view items.now) at slot.fitted) }
+    ensures fresh { IfOk result (λ slot. IsFresh slot) }
 {
     let fitted = fit(alloc, origin, items, at)?;
     let children = Children::none(alloc)?;
@@ -55,7 +57,8 @@ fn fit_all(alloc: Global, origin: &Origin, items: &List<Item>) -> Result<Vec<Slo
     requires few { length items.now ≤ 128 }
     requires recipes { AllByRecursion (λ i. HasSomeRecipe origin.now.platform i.recipe) (map item_view items.now) }
     requires regular { AreRegularItems (map item_view items.now) }
-    ensures { IfOk result (λ slots. AreFitted origin.now (map item_view items.now) (map (λ (p : Part). p.fitted) slots.items)) }
+    ensures fitted { IfOk result (λ slots. AreFitted origin.now (map item_view items.now) (map (λ (p : Part). p.fitted) slots.items)) }
+    ensures fresh { IfOk result (λ slots. AreFresh slots.items) }
 {
     let mut slots = Vec::with_capacity(alloc, items.len())?;
     for at in 0..items.len() as u32 {
@@ -71,6 +74,7 @@ pub(crate) fn make_ready(
     items: &List<Item>,
     standing: usize,
 ) -> Result<Ready, NoMemory>
+    requires rise { Rise (map item_name (map item_view items.now)) }
     requires few { length items.now ≤ 128 }
     requires recipes { AllByRecursion (λ i. HasSomeRecipe origin.now.platform i.recipe) (map item_view items.now) }
     requires regular { AreRegularItems (map item_view items.now) }

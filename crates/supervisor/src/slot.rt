@@ -1,14 +1,15 @@
 //! One component.
 ghost use Rattle.std.specs.Prelude.{◌≡◌, ℕ, Bool, ◌<◌, ◌≤◌, ◌^◌, ◌&&◌, ◌||◌, ◌∷◌, [], not, true, false, None, Some, is_some, option_map, if◌then◌else◌, IfSome};
-ghost use Rattle.supervisor.specs.Fitted.{prepared_of, limit_of};
-ghost use Rattle.supervisor.specs.World.{part_name, without_child, is_orphan, is_up as is_state_up, is_running as is_state_running, is_broken as is_state_broken, is_to_stop, stands_up, is_over, has_orphan as has_an_orphan};
+ghost use Rattle.supervisor.specs.Fitted.{prepared_of, limit_of, steps_of, is_same_item};
+ghost use Rattle.supervisor.specs.World.{part_name, without_child, is_orphan, is_up as is_state_up, is_running as is_state_running, is_broken as is_state_broken, is_to_stop, stands_up, is_over, has_orphan as has_an_orphan, is_spared};
 ghost use Rattle.supervisor.specs.Turns.{may_retry, serves_softly, is_begun, is_late, is_unstarted, is_to_start};
 ghost use Rattle.supervisor.specs.Lives.{lived, drops};
 ghost use Rattle.supervisor.specs.Runs.{IsShort};
-ghost use Rattle.supervisor.specs.Rows.{is_begin_ready, is_stop_ready};
+ghost use Rattle.supervisor.specs.Rows.{is_begin_ready, is_stop_ready, taken_item};
 ghost use Rattle.supervisor.specs.Events.{with_child, kill_event};
-ghost use Rattle.supervisor.specs.Changes.{leaving, forgetting, fresh_part};
+ghost use Rattle.supervisor.specs.Changes.{leaving, forgetting, fresh_part, is_replaced, is_replacing, with_texts, replacing, staying, coming_again, meeting};
 ghost use Rattle.supervisor.specs.Deadlines.{deadline_after, has_passed};
+ghost use Rattle.supervisor.specs.Readied.{IsFresh, coming_of};
 ghost use Rattle.supervisor.specs.Flags.{may_by};
 ghost use Rattle.supervisor.specs.Marks.{may_restart, may_replan};
 ghost use Rattle.supervisor.specs.Acts.{HasStart, kills};
@@ -26,6 +27,7 @@ use crate::lives;
 use lifecycle::{After, Component, LifeEvent};
 use nuc_base::{Exit, Name, Step};
 use std::marker::Model;
+use std::mem::{replace, swap};
 
 const LAST_MOMENT: u64 = (1 << 62) - 1;
 
@@ -38,11 +40,13 @@ pub struct Slot {
     handed: bool,
     owed: Option<(Step, Exit)>,
     stop: Option<After>,
-    next: Option<(FittedItem, u8)>,
+    /// The item, None where it is its own, and the failures that it takes once it is stopped with Again.
+    next: Option<(Option<FittedItem>, u8)>,
 }
 
 impl Model for Slot {
     ghost use Rattle.supervisor.specs.World.{Part};
+    ghost use Rattle.supervisor.specs.Rows.{next_of};
     ghost use Rattle.supervisor.specs.Runs.{IsKeptPart};
     ghost use Rattle.std.specs.Coded.{codes};
     ghost use Rattle.supervisor.specs.Coding.{data_code};
@@ -51,9 +55,9 @@ impl Model for Slot {
 
     ghost coded = { Prim.hlevel (codes, data_code) };
 
-    ghost view = { λ s. record { fitted = s.fitted; life = s.life; children = s.children; handed = s.handed; owed = s.owed; stop = s.stop; next = s.next } };
+    ghost view = { λ s. record { fitted = s.fitted; life = s.life; children = s.children; handed = s.handed; owed = s.owed; stop = s.stop; next = next_of s.fitted s.next } };
 
-    ghost invariant = { λ s. IsKeptPart (record { fitted = s.fitted; life = s.life; children = s.children; handed = s.handed; owed = s.owed; stop = s.stop; next = s.next }) };
+    ghost invariant = { λ s. IsKeptPart (record { fitted = s.fitted; life = s.life; children = s.children; handed = s.handed; owed = s.owed; stop = s.stop; next = next_of s.fitted s.next }) };
 }
 
 /// Until when a step may take that is started at this moment.
@@ -475,6 +479,116 @@ impl Slot {
         if let Some(next) = &mut self.next {
             next.1 = 0;
         }
+    }
+
+    fn is_spared(&self) -> bool
+        ensures { result ≡ is_spared self.now }
+    {
+        lives::is_spared(self.stop, &self.life)
+    }
+
+    /// Whether the item that comes for it takes its place.
+    fn is_replaced(&self, item: &FittedItem) -> bool
+        ensures { result ≡ is_replaced item.now self.now }
+    {
+        !item.is_same_item(&self.fitted) || (self.is_spared() || self.is_broken())
+    }
+
+    /// Whether another item, or its own one anew, takes its place.
+    pub(crate) fn is_replacing(&self) -> bool
+        ensures { result ≡ is_replacing self.now }
+    {
+        self.next.is_some()
+    }
+
+    /// It takes its item as it is expanded now. Another item is given back.
+    fn take_texts(&mut self, item: FittedItem) -> Option<FittedItem>
+        requires same { is_same_item item.item self.old.fitted.item ≡ true → steps_of item ≡ steps_of self.old.fitted }
+        ensures texts { self.new ≡ with_texts item self.old }
+        ensures other { taken_item self.new.fitted result ≡ item }
+    {
+        if !item.is_same_item(&self.fitted) {
+            return Some(item);
+        }
+        let earlier = replace(&mut self.fitted, item);
+        lives::keep_next(&mut self.next, earlier);
+        None
+    }
+
+    /// It is to be stopped with Again, and then takes the item, where None is its own one.
+    fn replace(&mut self, item: Option<FittedItem>, failures: u8)
+        requires { failures < 3 }
+        ensures { self.new ≡ replacing (taken_item self.old.fitted item, failures) self.old }
+    {
+        self.next = Some((item, failures));
+        if !lives::stops_for_good(&self.life) {
+            self.stop = Some(After::Again);
+            return;
+        }
+        lives::stop_again(&mut self.life);
+        self.stop = None;
+    }
+
+    /// It stays as it is, with these failures.
+    fn stay(&mut self, failures: u8)
+        requires { failures < 3 }
+        ensures { self.new ≡ record self.old { life = record self.old.life { failures = failures } } }
+    {
+        self.life.set_failures(failures);
+    }
+
+    /// It stands, and this item comes for it.
+    fn meet_item(&mut self, item: FittedItem, failures: u8)
+        requires few { failures < 3 }
+        requires same { is_same_item item.item self.old.fitted.item ≡ true → steps_of item ≡ steps_of self.old.fitted }
+        ensures { self.new ≡ (if is_replaced item self.old then replacing (item, failures) (with_texts item self.old) else staying (item, failures) (with_texts item self.old)) }
+    {
+        let anew = self.is_replaced(&item);
+        let other = self.take_texts(item);
+        if !anew {
+            self.stay(failures);
+            return;
+        }
+        self.replace(other, failures);
+    }
+
+    /// The other one gets its children.
+    fn give_children(&mut self, other: &mut Slot)
+        ensures { other.new ≡ record other.old { children = self.old.children } }
+    {
+        swap(&mut self.children, &mut other.children);
+    }
+
+    /// It is gone, and its child is still to be killed: it is a new component that still has that child.
+    fn come_again(&mut self, mut coming: Slot)
+        requires { IsFresh coming }
+        ensures { self.new ≡ coming_again (coming_of coming) self.old }
+    {
+        self.give_children(&mut coming);
+        *self = coming;
+    }
+
+    /// What comes is of its name.
+    pub(crate) fn meet(&mut self, coming: Slot)
+        requires fresh { IsFresh coming }
+        requires same { is_same_item coming.fitted.item self.old.fitted.item ≡ true → steps_of coming.fitted ≡ steps_of self.old.fitted }
+        ensures { self.new ≡ meeting (coming_of coming) self.old }
+    {
+        if self.is_gone() {
+            self.come_again(coming);
+            return;
+        }
+        let failures = coming.life.failures();
+        self.meet_item(coming.fitted, failures);
+    }
+
+    /// It is one that did not stand before, and begins with these failures.
+    pub(crate) fn begin_with(&mut self, failures: u8)
+        requires few { failures < 3 }
+        requires fresh { IsFresh self.old }
+        ensures { self.new ≡ fresh_part (self.old.fitted, failures) }
+    {
+        self.life.set_failures(failures);
     }
 
     /// One that did not stand before.

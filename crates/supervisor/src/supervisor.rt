@@ -16,12 +16,13 @@ ghost use Rattle.supervisor.specs.World.{At, part_name, is_settled, is_stopped};
 ghost use Rattle.supervisor.specs.Readied.{KeepSteps};
 
 use crate::acting::next_in;
-use crate::asks;
 use crate::befall::befall_in;
 use crate::changing::{forget_all, leave_all};
-use crate::kinds::{Act, Event};
+use crate::kinds::{Act, Event, Mode};
+use crate::merging::change_in;
 use crate::ready::{Ready, make_ready};
 use crate::slot::Slot;
+use crate::{asks, merging};
 use nuc_base::{List, Name, NoMemory, Step};
 use recipe_reader::Skip;
 use records::{Item, Origin};
@@ -111,6 +112,19 @@ impl Supervisor {
         let steady = self.steady;
         befall_in(&mut self.slots, &mut self.flags, event, moment, steady);
         self.moment = moment;
+    }
+
+    /// Other items are to run, each with the failures at its place. Those that go away, and those that are replaced, are stopped
+    /// first. An item that a component has already has the steps that it had, and each start that was handed out is answered.
+    pub fn change(&mut self, ready: Ready, failures: &[u8; 128], mode: Mode)
+        requires room { standing_count self.old ≤ ready.room }
+        requires few { All (λ (n : ℕ). n < 3) failures.now }
+        requires answered { has_answered self.old ≡ true }
+        requires same { KeepSteps ready.coming self.old.parts }
+        ensures { self.new ≡ changed_to ready.coming failures.now (is_steady mode) self.old }
+    {
+        change_in(&mut self.slots, &mut self.flags, ready, failures);
+        self.steady = merging::is_steady(mode);
     }
 
     /// All components are to be stopped for good.

@@ -15,9 +15,12 @@ fit_one-requires-clause-recipe c =
 
 pub loop-at-preserved : goal.loop-at-preserved
 loop-at-preserved c = subst (λ (ps : List Part). AreReady c.args.origin.now (map item_view c.args.items.now) (c.loop-at.at + 1) ps) (sym c.in_ok-push.ensures.items)
-    (one_more c.args.origin.now (map item_view c.args.items.now) c.loop-at.at c.loop-at.slots.items c.in_ok-fit_one.field-0 c.loop-at.invariant c.in_ok-fit_one.ensures)
+    (one_more c.args.origin.now (map item_view c.args.items.now) c.loop-at.at c.loop-at.slots.items c.in_ok-fit_one.field-0 c.loop-at.invariant c.in_ok-fit_one.ensures.fitted c.in_ok-fit_one.ensures.fresh)
 
-pub returns : goal.returns
-returns c =
+pub returns-clause-fresh : goal.returns-clause-fresh
+returns-clause-fresh c = c.loop-at.invariant.fresh
+
+pub returns-clause-fitted : goal.returns-clause-fitted
+returns-clause-fitted c =
     let l = length-map c.args.items.now item_view in
     all_ready c.args.origin.now (map item_view c.args.items.now) c.loop-at.at c.loop-at.slots.items (omega (arith, l)) c.loop-at.invariant
