@@ -1,0 +1,36 @@
+-- What a part of a session leaves at its end.
+use Rattle.std.specs.Prelude.{◌≡◌, ◌≤◌, ℕ, List, ◌++◌, length, Option, Result, Ok, Err}
+use Rattle.std.specs.Io.KnownBytes.{Appends}
+use Rattle.disk_model.specs.Disk.{Image}
+use Rattle.edges.specs.Pieces.{AppendsFront}
+use Rattle.records.specs.Stored.{Record}
+use Rattle.device.specs.Devices.{Device}
+use Rattle.device.specs.Standing.{StandsFor}
+use Rattle.session.specs.Happenings.{Happening, records_of}
+use Rattle.session.specs.Places.{Place, left_by}
+use Rattle.driver.specs.Lines.{lines_of}
+use Rattle.driver.specs.Went.{StandsForMost}
+use Rattle.driver.specs.declared.over.Over.{Over}
+use Rattle.driver.specs.declared.over.Over.TheVariants as over
+
+-- The lines of the records are written. Where the disk failed that of the last may be missing, and where a line was not
+-- written there is a front of them.
+abbrev pub LinesAt : Option (List ℕ) → Option (List ℕ) → Device → List Record → Over → Type 0
+LinesAt old new d records over.Disk = (told : List Record) × (rest : List Record) × (records ≡ told ++ rest) × (length rest ≤ 1) × Appends old new (lines_of d told)
+LinesAt old new d records over.Edge = AppendsFront old new (lines_of d records)
+
+-- where the session goes on, all of them are
+abbrev pub Lines : {A : Type 0} → Option (List ℕ) → Option (List ℕ) → Device → List Record → Result A Over → Type 0
+Lines old new d records (Ok x) = Appends old new (lines_of d records)
+Lines old new d records (Err e) = LinesAt old new d records e
+
+-- Where the disk failed the last record is in doubt; where a line was not written each image stands for the device of all
+-- records.
+abbrev pub LeftAt : {D : Type 0} → (Image → List (List ℕ) → Type 0) → (D → Image → Type 0) → D → Place → List Happening → Over → Type 0
+LeftAt entries may_leave disk p h over.Disk = (c : Image) → may_leave disk c → StandsForMost entries p.device (records_of h) c
+LeftAt entries may_leave disk p h over.Edge = (c : Image) → may_leave disk c → StandsFor entries c (left_by p h).device
+
+-- where the session goes on, the value is where the history leaves it
+abbrev pub Left : {A D : Type 0} → (Image → List (List ℕ) → Type 0) → (D → Image → Type 0) → D → Place → List Happening → (A → Place → Type 0) → Result A Over → Type 0
+Left entries may_leave disk p h is (Ok x) = is x (left_by p h)
+Left entries may_leave disk p h is (Err e) = LeftAt entries may_leave disk p h e

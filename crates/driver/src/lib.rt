@@ -1,0 +1,17 @@
+//! How a deployment is driven: the calls that run its steps, keep their records and print their lines.
+//!
+//! It promises that what happens in each of its calls is a history that `session` allows, that at every moment each image
+//! that a crash may leave stands for the device that a front of its records gives, and that the lines are those of the
+//! records. It stands on `deploy_state` for the records, on `step_runner` for children, and on `session` for what a
+//! history is.
+#![tactic(auto)]
+
+mod boots;
+mod lines;
+mod over;
+mod steps;
+mod turns;
+
+pub use boots::run_boots;
+pub use lines::acknowledge;
+pub use over::{Booted, Over};
