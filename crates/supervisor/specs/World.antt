@@ -13,12 +13,11 @@ use Rattle.lifecycle.specs.declared.kinds.State.TheVariants as state
 use Rattle.lifecycle.specs.declared.kinds.After.{After}
 use Rattle.lifecycle.specs.declared.kinds.After.TheVariants as after
 use Rattle.supervisor.specs.Fitted.{Fitted, name_of}
+use Rattle.supervisor.specs.declared.children.Child as code
 
 -- a child that lives: its number, its step, and until when it may
-pub record Child : Type 0 where
-  pub number : ℕ
-  pub of : Step
-  pub deadline : Option ℕ
+abbrev pub Child : Type 0
+Child = code.Child
 
 pub record Part : Type 0 where
   pub fitted : Fitted  -- the item whose steps it runs

@@ -1,10 +1,25 @@
 // Laws of the components, on functions that do nothing.
-ghost use Rattle.std.specs.Prelude.{◌≡◌, ℕ};
+ghost use Rattle.std.specs.Prelude.{◌≡◌, ℕ, Bool};
+ghost use Rattle.std.specs.Prelude.{List as ListOf};
+ghost use Rattle.std.specs.declared.option.Option.{Option};
 ghost use Rattle.nuc_base.specs.declared.kinds.Exit.{Exit};
 ghost use Rattle.supervisor.specs.Marks.{HasFirst, IsClosedWhole, IsLeast};
-ghost use Rattle.supervisor.specs.World.{World};
-ghost use Rattle.supervisor.specs.Events.{ended, handed_at, later, refused, skipped, started};
+ghost use Rattle.supervisor.specs.World.{Part, World};
+ghost use Rattle.supervisor.specs.Acts.{NextAct};
+ghost use Rattle.supervisor.specs.Changes.{all_stopped, changed_to, steadied};
+ghost use Rattle.supervisor.specs.Events.{ended, handed_at, later, noticed, refused, skipped, started};
+ghost use Rattle.supervisor.specs.Fitted.{Fitted};
+ghost use Rattle.supervisor.specs.Made.{AreFitted};
+ghost use Rattle.supervisor.specs.Platforms.{AllFor, AllRunFor};
+ghost use Rattle.supervisor.specs.Readied.{KeepSteps};
+ghost use Rattle.supervisor.specs.declared.kinds.Act.{Act};
+ghost use Rattle.supervisor.specs.declared.kinds.Event.{Event};
 ghost use Rattle.nuc_base.specs.declared.kinds.Step.{Step};
+ghost use Rattle.nuc_base.specs.declared.platform.Platform.{Platform};
+ghost use Rattle.records.specs.Stored.{Item};
+ghost use Rattle.records.specs.declared.record.Origin.{Origin};
+
+use recipe_reader::recipe_laws;
 
 /// It makes no difference whether the end of a child is told before or after the moment that was asked for behind it.
 pub fn time_passes()
@@ -24,3 +39,17 @@ pub fn marks_are_least()
     ensures closed { IsClosedWhole }
     ensures least { IsLeast }
 {}
+
+/// Where all items were made ready for one platform, each has the steps that it had before, so they may come at a change; and
+/// whatever befalls the components leaves it so.
+pub fn one_platform()
+    ensures same { (platform : Platform) (fs : ListOf Fitted) (parts : ListOf Part) → AllFor platform fs → AllRunFor platform parts → KeepSteps fs parts }
+    ensures ready { (origin : Origin) (items : ListOf Item) (fs : ListOf Fitted) → AreFitted origin items fs → AllFor origin.platform fs }
+    ensures event { (platform : Platform) (e : Event) (w : World) → AllRunFor platform w.parts → AllRunFor platform (noticed e w).parts }
+    ensures next_act { (platform : Platform) (w : World) (act : Option Act) (v : World) → NextAct w act v → AllRunFor platform w.parts → AllRunFor platform v.parts }
+    ensures stop_all { (platform : Platform) (w : World) → AllRunFor platform w.parts → AllRunFor platform (all_stopped w).parts }
+    ensures steady { (platform : Platform) (w : World) → AllRunFor platform w.parts → AllRunFor platform (steadied w).parts }
+    ensures change { (platform : Platform) (fs : ListOf Fitted) (counts : ListOf ℕ) (steady : Bool) (w : World) → AllFor platform fs → AllRunFor platform w.parts → AllRunFor platform (changed_to fs counts steady w).parts }
+{
+    recipe_laws();
+}

@@ -12,6 +12,7 @@ ghost use Rattle.supervisor.specs.Changes.{changed_to, all_stopped, steadied};
 ghost use Rattle.supervisor.specs.Deadlines.{least_deadline};
 ghost use Rattle.supervisor.specs.Events.{noticed, later};
 ghost use Rattle.supervisor.specs.Fitted.{Fitted, prepared_of};
+ghost use Rattle.supervisor.specs.Readied.{KeepSteps};
 ghost use Rattle.supervisor.specs.World.{World, At, part_name, is_settled, is_stopped};
 
 use crate::kinds::{Act, Event, Mode};
@@ -50,11 +51,13 @@ pub trait Supervise {
         ensures made { IfOk result (λ r. AreFitted origin.now (map item_view items.now) (coming r)) }
         ensures room { IfOk result (λ r. standing_count (world self.now) ≤ room r) };
 
-    /// Other items are to run, each with the failures at its place.
+    /// Other items are to run, each with the failures at its place. An item that a component has already has the steps that it
+    /// had, as where both were made ready for one platform.
     fn change(&mut self, ready: Self::Ready, failures: &[u8; 128], mode: Mode)
         requires room { standing_count (world self.old) ≤ room ready }
         requires few { All (λ (n : ℕ). n < 3) failures.now }
         requires answered { has_answered (world self.old) ≡ true }
+        requires same { KeepSteps (coming ready) (world self.old).parts }
         ensures { world self.new ≡ changed_to (coming ready) failures.now (is_steady mode) (world self.old) };
 
     /// A failure first, else what the component of the least name that may act has to have done.

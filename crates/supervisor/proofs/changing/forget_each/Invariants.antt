@@ -1,0 +1,9 @@
+use Rattle.std.proofs.Common.{◌≡◌, take, drop, map}
+use Rattle.supervisor.specs.Changes.{forgetting}
+use Rattle.supervisor.proofs.changing.forget_each.Given as goal
+
+abbrev pub invariant-loop-slot : goal.invariant-loop-slot
+invariant-loop-slot l = record {
+  done : take l.slot-index l.slots ≡ map forgetting (take l.slot-index l.fn.slots);
+  rest : drop l.slot-index l.slots ≡ drop l.slot-index l.fn.slots;
+}

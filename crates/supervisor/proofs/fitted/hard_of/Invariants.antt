@@ -1,0 +1,6 @@
+use Rattle.std.proofs.Common.{◌≡◌, ◌++◌, drop}
+use Rattle.supervisor.specs.Made.{hard_names}
+use Rattle.supervisor.proofs.fitted.hard_of.Given as goal
+
+abbrev pub invariant-loop-dependency : goal.invariant-loop-dependency
+invariant-loop-dependency l = l.names.items ++ hard_names (drop l.dependency-index l.dependencies) ≡ hard_names l.dependencies

@@ -1,0 +1,42 @@
+use Rattle.std.proofs.Common.{◌∙◌, List, ap, arith, length, map, not, subst, sym}
+use Rattle.std.proofs.lemmas.List.{length-map}
+use Rattle.supervisor.specs.Changes.{fate, replanned}
+use Rattle.supervisor.specs.Merges.{unmet}
+use Rattle.supervisor.specs.Readied.{AreNamesApart, KeepSteps, coming_of}
+use Rattle.supervisor.specs.World.{Part, is_over}
+use Rattle.supervisor.proofs.Changed.{replanned_length}
+use Rattle.supervisor.proofs.Meets.{apart_filter, fits, keeps_standing}
+use Rattle.supervisor.proofs.Names.{names}
+use Rattle.supervisor.proofs.merging.meet_all.Goals as goal
+
+pub meet_in-requires-clause-apart : goal.meet_in-requires-clause-apart
+meet_in-requires-clause-apart c = subst (λ (ps : List Part). AreNamesApart (names ps)) (sym c.drop_over.ensures) (apart_filter (λ (p : Part). not (is_over p)) c.args.slots.now.items c.requires.apart)
+
+pub meet_in-requires-clause-same : goal.meet_in-requires-clause-same
+meet_in-requires-clause-same c =
+    let qs : List Part = c.args.coming.now.items in
+    subst (λ (ps : List Part). KeepSteps (fits qs) ps) (sym c.drop_over.ensures) (keeps_standing (λ (p : Part). not (is_over p)) (fits qs) c.args.slots.now.items c.requires.same)
+
+pub restart_all-requires-clause-room : goal.restart_all-requires-clause-room
+restart_all-requires-clause-room c =
+    let f = fate (map coming_of c.args.coming.now.items) in
+    let e = ap length c.meet_in.ensures.met ∙ length-map c.drop_over.new.slots.items f ∙ ap length c.drop_over.ensures in
+    omega (arith, e, c.requires.room)
+
+pub returns-clause-met : goal.returns-clause-met
+returns-clause-met c =
+    let f = fate (map coming_of c.args.coming.now.items) in
+    c.restart_all.ensures.replanned ∙ ap replanned (c.meet_in.ensures.met ∙ ap (λ (ps : List Part). map f ps) c.drop_over.ensures)
+
+pub returns-clause-rest : goal.returns-clause-rest
+returns-clause-rest c = c.meet_in.ensures.rest ∙ ap (λ (ps : List Part). unmet ps c.args.coming.now.items) c.drop_over.ensures
+
+pub returns-clause-parts : goal.returns-clause-parts
+returns-clause-parts c =
+    let f = fate (map coming_of c.args.coming.now.items) in
+    ap length c.restart_all.ensures.replanned ∙ replanned_length c.meet_in.new.slots.items ∙ ap length c.meet_in.ensures.met ∙ length-map c.drop_over.new.slots.items f ∙ ap length c.drop_over.ensures
+
+pub returns-clause-many : goal.returns-clause-many
+returns-clause-many c =
+    let f = fate (map coming_of c.args.coming.now.items) in
+    c.restart_all.ensures.many ∙ ap length c.meet_in.ensures.met ∙ length-map c.drop_over.new.slots.items f ∙ ap length c.drop_over.ensures

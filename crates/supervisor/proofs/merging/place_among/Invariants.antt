@@ -1,0 +1,7 @@
+use Rattle.std.proofs.Common.{◌≡◌, ◌++◌, take, drop}
+use Rattle.supervisor.specs.Changes.{placed}
+use Rattle.supervisor.specs.World.{Part, part_name}
+use Rattle.supervisor.proofs.merging.place_among.Given as goal
+
+abbrev pub invariant-loop-at : goal.invariant-loop-at
+invariant-loop-at l = (p : Part) → part_name p ≡ l.name → placed p l.slots ≡ take l.at l.slots ++ placed p (drop l.at l.slots)

@@ -1,0 +1,289 @@
+//! What is handed out next.
+ghost use Rattle.std.specs.Prelude.{◌≡◌, ◌<◌, ◌^◌, ◌&&◌, ℕ, Bool, true, false, None, Some, is_some, length, map, IfSome};
+ghost use Rattle.std.specs.List.{list_any, list_all};
+ghost use Rattle.std.specs.Str.{bytes_eq};
+ghost use Rattle.supervisor.specs.Acts.{HandsOut, NextAct};
+ghost use Rattle.supervisor.specs.Answers.{living_numbers};
+ghost use Rattle.supervisor.specs.Deeds.{MayDo, IsFirst, IsDone, IsOwed, IsOwing, IsTold};
+ghost use Rattle.supervisor.specs.Flags.{at_moment};
+ghost use Rattle.supervisor.specs.Readied.{AreApart, AreNamesApart, IsKept};
+ghost use Rattle.supervisor.specs.Rows.{is_stop_ready};
+ghost use Rattle.supervisor.specs.Turns.{may_act, may_begin as may_begin_among, may_stop, is_met, is_held as is_held_among, serves_softly, owes};
+ghost use Rattle.supervisor.specs.Whole.{AreWhole};
+ghost use Rattle.supervisor.specs.World.{At, changed_at, part_name, is_to_stop, stands_up as stands};
+
+use crate::befall::{kill_child, live_at};
+use crate::kinds::Act;
+use crate::slot::Slot;
+use lifecycle::{After, LifeEvent};
+use nuc_base::{Name, Step};
+
+/// What the component whose turn it is has to do.
+#[derive(Clone, Copy, Debug, PartialEq, Eq)]
+pub enum Deed {
+    /// It moves, and leaves nothing outside.
+    Moves(LifeEvent),
+    Starts(Step),
+    /// Its child of this number is killed.
+    Kills(u64),
+}
+
+/// Whether it has this name and stands up.
+fn stands_as(slot: &Slot, name: &Name) -> bool
+    ensures { result ≡ (bytes_eq (part_name slot.now) name.now && stands slot.now) }
+{
+    *slot.name() == *name && slot.stands_up()
+}
+
+/// Whether it has this name and is enough for one that needs it softly.
+fn serves_as(slot: &Slot, name: &Name) -> bool
+    ensures { result ≡ (bytes_eq (part_name slot.now) name.now && serves_softly slot.now) }
+{
+    *slot.name() == *name && slot.serves_softly()
+}
+
+fn is_up(slots: &[Slot], name: &Name) -> bool
+    ensures { result ≡ is_met stands slots.now name.now }
+{
+    slots.iter().any(|slot| stands_as(slot, name))
+}
+
+fn is_served(slots: &[Slot], name: &Name) -> bool
+    ensures { result ≡ is_met serves_softly slots.now name.now }
+{
+    slots.iter().any(|slot| serves_as(slot, name))
+}
+
+fn are_up(slots: &[Slot], names: &[Name]) -> bool
+    ensures { result ≡ list_all (is_met stands slots.now) names.now }
+{
+    names.iter().all(|name| is_up(slots, name))
+}
+
+fn are_served(slots: &[Slot], names: &[Name]) -> bool
+    ensures { result ≡ list_all (is_met serves_softly slots.now) names.now }
+{
+    names.iter().all(|name| is_served(slots, name))
+}
+
+/// Whether the component may begin among these.
+fn may_begin(slots: &[Slot], slot: &Slot) -> bool
+    ensures { result ≡ may_begin_among (at_moment slots.now 0 true) slot.now }
+{
+    slot.waits() && (are_up(slots, slot.hard()) && are_served(slots, slot.soft()))
+}
+
+/// Whether it needs this name hard.
+fn needs(slot: &Slot, name: &Name) -> bool
+    ensures { result ≡ list_any (bytes_eq name.now) slot.now.fitted.hard }
+{
+    slot.hard().iter().any(|need| *name == *need)
+}
+
+/// Whether it is to be stopped and needs this name hard.
+fn holds(slot: &Slot, name: &Name) -> bool
+    ensures { result ≡ (is_to_stop slot.now && list_any (bytes_eq name.now) slot.now.fitted.hard) }
+{
+    slot.is_to_stop() && needs(slot, name)
+}
+
+fn is_held(slots: &[Slot], name: &Name) -> bool
+    ensures { result ≡ is_held_among name.now slots.now }
+{
+    slots.iter().any(|slot| holds(slot, name))
+}
+
+/// The stop of the component that may be given among these.
+fn stop_of(slots: &[Slot], slot: &Slot) -> Option<After>
+    ensures given { IfSome result (λ a. (slot.now.stop ≡ Some a) × (is_stop_ready slot.now ≡ true)) }
+    ensures may { is_some result ≡ may_stop (at_moment slots.now 0 true) slot.now }
+{
+    match slot.due_stop() {
+        None => None,
+        Some(after) => {
+            if is_held(slots, slot.name()) {
+                None
+            } else {
+                Some(after)
+            }
+        }
+    }
+}
+
+/// What the component there has to do.
+fn deed_at(slots: &[Slot], at: u32, moment: u64) -> Option<Deed>
+    requires at { at < length slots.now }
+    requires apart { AreApart (living_numbers slots.now) }
+    requires whole { AreWhole slots.now }
+    ensures none { result ≡ None → At at (λ p. may_act (at_moment slots.now moment true) p ≡ false) slots.now }
+    ensures some { IfSome result (MayDo (at_moment slots.now moment true) at) }
+{
+    let slot = &slots[at as usize];
+    let begins = may_begin(slots, slot);
+    let stop = stop_of(slots, slot);
+    slot.deed(moment, begins, stop)
+}
+
+/// The first component that has something to do, and what it is.
+fn first_deed(slots: &[Slot], moment: u64) -> Option<(u32, Deed)>
+    requires few { length slots.now < 2 ^ 32 }
+    requires apart { AreApart (living_numbers slots.now) }
+    requires whole { AreWhole slots.now }
+    ensures { IsFirst (at_moment slots.now moment true) result }
+{
+    for at in 0..slots.len() as u32 {
+        if let Some(deed) = deed_at(slots, at, moment) {
+            return Some((at, deed));
+        }
+    }
+    None
+}
+
+fn hand_at(slots: &mut [Slot], at: u32)
+    requires { at < length slots.old }
+    ensures { slots.new ≡ changed_at at (λ p. record p { handed = true }) slots.old }
+{
+    slots[at as usize].set_handed(true);
+}
+
+/// The deed is done. The answer is what is handed out.
+fn perform(
+    slots: &mut [Slot],
+    flags: &mut [bool],
+    at: u32,
+    deed: Deed,
+    moment: u64,
+    steady: bool,
+) -> Option<Act>
+    requires at { at < length slots.old }
+    requires few { length slots.old < 2 ^ 32 }
+    requires many { length flags.old ≡ length slots.old }
+    ensures done { IsDone (at_moment slots.old moment steady) at deed result (at_moment slots.new moment steady) }
+    ensures many { length flags.new ≡ length slots.new }
+{
+    match deed {
+        Deed::Moves(event) => {
+            live_at(slots, flags, at, steady, event);
+            None
+        }
+        Deed::Starts(step) => {
+            hand_at(slots, at);
+            Some(Act::Start(at, step))
+        }
+        Deed::Kills(number) => {
+            kill_child(slots, flags, number, moment, steady);
+            Some(Act::Kill(number))
+        }
+    }
+}
+
+/// The failure that the component there owes.
+fn failure_at(slots: &[Slot], at: u32) -> Option<Act>
+    requires { at < length slots.now }
+    ensures none { result ≡ None → At at (λ p. owes p ≡ false) slots.now }
+    ensures some { IfSome result (IsOwed at slots.now) }
+{
+    let slot = &slots[at as usize];
+    match slot.owed() {
+        None => None,
+        Some((step, exit)) => {
+            if slot.is_broken() {
+                Some(Act::Broke(at, step, exit))
+            } else {
+                Some(Act::Failed(at, step, exit))
+            }
+        }
+    }
+}
+
+/// The first component that owes a failure, and the failure.
+fn first_failure(slots: &[Slot]) -> Option<(u32, Act)>
+    requires { length slots.now < 2 ^ 32 }
+    ensures { IsOwing slots.now result }
+{
+    for at in 0..slots.len() as u32 {
+        if let Some(act) = failure_at(slots, at) {
+            return Some((at, act));
+        }
+    }
+    None
+}
+
+fn tell_at(slots: &mut [Slot], at: u32)
+    requires { at < length slots.old }
+    ensures { slots.new ≡ changed_at at (λ p. record p { owed = None }) slots.old }
+{
+    slots[at as usize].tell();
+}
+
+/// A failure that is owed is handed out.
+fn tell_first(slots: &mut [Slot]) -> Option<Act>
+    requires few { length slots.old < 2 ^ 32 }
+    requires names { AreNamesApart (map part_name slots.old) }
+    ensures none { result ≡ None → (list_any owes slots.old ≡ false) × (slots.new ≡ slots.old) }
+    ensures some { IfSome result (λ act. (m : ℕ) (s : Bool) → HandsOut (at_moment slots.old m s) (Some act) (at_moment slots.new m s)) }
+    ensures told { IfSome result (λ act. IsTold slots.old slots.new) }
+{
+    match first_failure(slots) {
+        None => None,
+        Some((at, act)) => {
+            tell_at(slots, at);
+            Some(act)
+        }
+    }
+}
+
+/// What is handed out where no failure is owed: components move until there is something, or nothing may move.
+fn act_first(slots: &mut [Slot], flags: &mut [bool], moment: u64, steady: bool) -> Option<Act>
+    requires many { length flags.old ≡ length slots.old }
+    requires kept { IsKept (at_moment slots.old moment steady) }
+    requires whole { AreWhole slots.old }
+    requires told { list_any owes slots.old ≡ false }
+    ensures next { NextAct (at_moment slots.old moment steady) result (at_moment slots.new moment steady) }
+    ensures kept { IsKept (at_moment slots.new moment steady) }
+    ensures whole { AreWhole slots.new }
+    ensures many { length flags.new ≡ length slots.new }
+{
+    'turns: loop {
+        let Some((at, deed)) = first_deed(slots, moment) else {
+            return None;
+        };
+        let act = perform(slots, flags, at, deed, moment, steady);
+        if act.is_some() {
+            return act;
+        }
+    }
+}
+
+fn next(slots: &mut [Slot], flags: &mut [bool], moment: u64, steady: bool) -> Option<Act>
+    requires many { length flags.old ≡ length slots.old }
+    requires kept { IsKept (at_moment slots.old moment steady) }
+    requires whole { AreWhole slots.old }
+    ensures next { NextAct (at_moment slots.old moment steady) result (at_moment slots.new moment steady) }
+    ensures kept { IsKept (at_moment slots.new moment steady) }
+    ensures whole { AreWhole slots.new }
+    ensures many { length flags.new ≡ length slots.new }
+{
+    match tell_first(slots) {
+        Some(act) => Some(act),
+        None => act_first(slots, flags, moment, steady),
+    }
+}
+
+/// A failure first, else what the component of the least name that may act has to have done.
+pub(crate) fn next_in(
+    slots: &mut Vec<Slot>,
+    flags: &mut Vec<bool>,
+    moment: u64,
+    steady: bool,
+) -> Option<Act>
+    requires many { length flags.old.items ≡ length slots.old.items }
+    requires kept { IsKept (at_moment slots.old.items moment steady) }
+    requires whole { AreWhole slots.old.items }
+    ensures next { NextAct (at_moment slots.old.items moment steady) result (at_moment slots.new.items moment steady) }
+    ensures kept { IsKept (at_moment slots.new.items moment steady) }
+    ensures whole { AreWhole slots.new.items }
+    ensures many { length flags.new.items ≡ length slots.new.items }
+{
+    next(slots.as_mut_slice(), flags.as_mut_slice(), moment, steady)
+}
