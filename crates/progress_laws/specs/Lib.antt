@@ -1,0 +1,4 @@
+pub mod Kept
+pub mod Rank
+pub mod Time
+pub mod Small

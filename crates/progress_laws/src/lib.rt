@@ -1,0 +1,14 @@
+//! Why the loops that drive components end: where nothing may act, time can go on or all is done; and a number falls at
+//! whatever happens.
+//!
+//! It stands on the definitions of `supervisor`, and takes from `supervisor_laws` which stops may stand together.
+#![tactic(auto)]
+
+mod laws;
+mod rows;
+
+pub use laws::{
+    all_keeps, bringing_up, change_keeps, each_keeps, measure_falls, next_falls, rank_falls,
+    stopping,
+};
+pub use rows::one_waits_for_another;
