@@ -1,0 +1,13 @@
+pub mod Answered
+pub mod Living
+pub mod Entering
+pub mod Starting
+pub mod Handing
+pub mod Waiting
+pub mod Failed
+pub mod Recorded
+pub mod Turning
+pub mod Closed
+pub mod Stages
+pub mod Written
+pub mod Parting

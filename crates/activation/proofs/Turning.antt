@@ -1,0 +1,86 @@
+-- What a turn leaves.
+use Rattle.std.specs.Prelude.{ℕ, ◌+◌, Bool, true, false, not, ◌&&◌, List, [], ◌∷◌, ◌++◌, Option}
+use Rattle.std.specs.Io.KnownBytes.{Appends}
+use Rattle.std.proofs.Common.{◌≡◌, ◌≤◌, ◌∙◌, refl, sym, ap, subst, arith}
+use Rattle.records.specs.Stored.{Record}
+use Rattle.device.specs.Devices.{Device}
+use Rattle.step_runner.specs.Entries.{Told}
+use Rattle.supervisor.specs.World.{World, is_settled, owner}
+use Rattle.session.specs.Phases.{duty_of}
+use Rattle.session.specs.Waits.{has_three}
+use Rattle.session.specs.Happenings.{Happening, Ran, Booted, Slept, Cut, Kept, Moved, Asked, Heard, Questioned, Changed, StopsAll, records_of}
+use Rattle.session.specs.Places.{Place, left_by}
+use Rattle.session.proofs.Joined.{left-append}
+use Rattle.driver.specs.Lines.{lines_of}
+use Rattle.driver.proofs.Told.{nothing_told}
+use Rattle.activation.specs.Did.{ActLeft}
+use Rattle.activation.specs.Runs.{MaySit, Quits, Rests, Runs}
+use Rattle.activation.specs.Turns.{moments_in}
+
+neither : (x y : Bool) → x ≡ false → y ≡ false → (not x && not y) ≡ true
+neither x y a b = rw (a, b) refl
+
+pub rests : (q : Place) (d : Device) (world : World) (told : Told) (living : List ℕ) (none broken v : Bool) → ActLeft q d none world told living → none ≡ true → broken ≡ has_three (duty_of d).counts → broken ≡ v → Rests q d v world told living
+rests q d world told living none broken v a all is v_is = record {
+  runs = a.runs;
+  device_is = a.device_is;
+  quiet = a.quiet all;
+  counts = ap (λ (x : Device). has_three (duty_of x).counts) a.device_is ∙ sym is ∙ v_is;
+}
+
+pub settled_is : (q : Place) (d : Device) (v : Bool) (world : World) (told : Told) (living : List ℕ) (settled b : Bool) → Rests q d v world told living → settled ≡ is_settled world → settled ≡ b → is_settled q.world ≡ b
+settled_is q d v world told living settled b r is b_is = sym (ap (λ (w : World). is_settled w) r.runs.world_is) ∙ sym is ∙ b_is
+
+pub sits : (q : Place) (d : Device) (world : World) (told : Told) (living : List ℕ) (settled : Bool) → Rests q d false world told living → settled ≡ is_settled world → settled ≡ false → MaySit q world told living
+sits q d world told living settled r is f = record {
+  runs = r.runs;
+  quiet = r.quiet;
+  work = neither (is_settled q.world) (has_three (duty_of q.device).counts) (settled_is q d false world told living settled false r is f) r.counts;
+}
+
+-- a part without records prints nothing
+pub no_lines : (a : Option (List ℕ)) (d : Device) (h : List Happening) → records_of h ≡ [] → Appends a a (lines_of d (records_of h))
+no_lines a d h none = nothing_told a (lines_of d (records_of h)) (ap (λ (l : List Record). lines_of d l) none)
+
+-- ---- how often a moment was asked for
+
+pub moments_on : (h g : List Happening) → moments_in (g ++ h) ≡ moments_in h + moments_in g
+moments_on h [] = omega arith
+moments_on h (Ran e k s ∷ g) = moments_on h g
+moments_on h (Booted e m ∷ g) = moments_on h g
+moments_on h (Slept e ∷ g) = moments_on h g
+moments_on h (Cut e ∷ g) = moments_on h g
+moments_on h (Kept r ∷ g) = moments_on h g
+moments_on h (Moved k e ∷ g) = moments_on h g
+moments_on h (Asked m ∷ g) = omega (arith, moments_on h g)
+moments_on h (Heard k ∷ g) = moments_on h g
+moments_on h (Questioned a ∷ g) = moments_on h g
+moments_on h (Changed f c b ∷ g) = moments_on h g
+moments_on h (StopsAll ∷ g) = moments_on h g
+
+pub some_moments : (h g : List Happening) → 1 ≤ moments_in h → 1 ≤ moments_in (g ++ h)
+some_moments h g some = omega (arith, some, moments_on h g)
+
+pub more_moments : (n : ℕ) (h g : List Happening) → n ≤ moments_in h → 1 ≤ moments_in g → n + 1 ≤ moments_in (g ++ h)
+more_moments n h g most some = omega (arith, most, some, moments_on h g)
+
+-- ---- giving up
+
+pub quits_of : (q : Place) (world : World) (told : Told) (living : List ℕ) → Runs q world told living → Quits q world told living
+quits_of q world told living r =
+    let w = r.within in
+    record {
+      moment = w.moment;
+      asked = w.asked;
+      due = w.due;
+      boot = w.on.boot;
+      boot_end = w.on.boot_end;
+      over = w.on.over;
+      cut = w.on.cut;
+      differ = w.keeps.differ;
+      owners = λ n. ap (λ (v : World). owner n v.parts) r.world_is;
+      children = w.children;
+    }
+
+pub quits_on : (p : Place) (h g : List Happening) (world : World) (told : Told) (living : List ℕ) → Quits (left_by (left_by p h) g) world told living → Quits (left_by p (g ++ h)) world told living
+quits_on p h g world told living q = subst (λ (x : Place). Quits x world told living) (sym (left-append p g h)) q

@@ -1,0 +1,106 @@
+use Rattle.std.proofs.Common.{◌∙◌, ◌++◌, [], true, false, refl, sym, subst, arith}
+use Rattle.std.proofs.KnownBytes.{Appends-nil}
+use Rattle.device.specs.Devices.{Device}
+use Rattle.device.specs.Standing.{StandsFor}
+use Rattle.step_runner.specs.Entries.{Listed}
+use Rattle.session.specs.Places.{Place, left_by}
+use Rattle.session.proofs.Joined.{left-append}
+use Rattle.driver.specs.declared.over.Over.TheVariants as over
+use Rattle.driver.proofs.Acting.{acts_none}
+use Rattle.driver.proofs.Joins.{acted, went_on}
+use Rattle.driver.proofs.Restarts.{not_err}
+use Rattle.driver.proofs.Told.{all_told, left_joined, lines_at_joined}
+use Rattle.activation.specs.Coming.{coming_device}
+use Rattle.activation.specs.Did.{ActLeft}
+use Rattle.activation.proofs.Entering.{never}
+use Rattle.activation.proofs.Stages.{coming_stands}
+use Rattle.activation.proofs.Turning.{quits_on}
+use Rattle.activation.proofs.turns.take_acts.Goals as goal
+
+pub loop-act-init : goal.loop-act-init
+loop-act-init g c = record {
+  now = c.requires.now.0;
+  held = c.requires.held;
+  same = refl;
+  others = λ tells name other. refl;
+  quiet_disk = refl;
+  quiet_sink = refl;
+  went = λ p runs device. (
+    [],
+    acted g.J.Journal.entries g.J.Journal.files g.met.D.Disk.laws c.args.disk.now (g.R.Runner.list c.args.runner.now) (g.R.Runner.list c.args.runner.now) p []
+        (λ i left. subst (λ (d : Device). StandsFor g.J.Journal.entries i d) (sym device) (coming_stands g.met.D.Disk.laws g.met.J.Journal.laws c.args.state c.args.disk.now c.requires.held i left))
+        (acts_none p (g.R.Runner.list c.args.runner.now) (g.R.Runner.list c.args.runner.now) refl),
+    Appends-nil (g.K.Sink.held c.args.sink.now),
+    record { runs = runs; device_is = device; quiet = λ none. absurd (never false refl none) },
+  );
+}
+
+pub take_act-requires-clause-now : goal.take_act-requires-clause-now
+take_act-requires-clause-now g c = (c.loop-act.invariant.now, c.requires.now.1)
+
+pub take_act-requires-clause-held : goal.take_act-requires-clause-held
+take_act-requires-clause-held g c = c.loop-act.invariant.held
+
+pub take_act-requires-clause-placed : goal.take_act-requires-clause-placed
+take_act-requires-clause-placed g c =
+    let q = c.requires.placed in
+    let w = c.loop-act.invariant.went q.0 q.1 q.2 in
+    (left_by q.0 w.0, w.3.runs, w.3.device_is)
+
+pub loop-act-preserved : goal.loop-act-preserved
+loop-act-preserved g c = record {
+  now = c.take_act.ensures.now;
+  held = c.in-Ok.ensures.held;
+  same = c.in-Ok.ensures.same ∙ c.loop-act.invariant.same;
+  others = λ tells name other. c.take_act.ensures.others tells name other ∙ c.loop-act.invariant.others tells name other;
+  quiet_disk = c.in-Ok.ensures.quiet_disk (not_err (c.in-Ok.next, c.in-Ok.none) over.Disk) ∙ c.loop-act.invariant.quiet_disk;
+  quiet_sink = c.in-Ok.ensures.quiet_sink (not_err (c.in-Ok.next, c.in-Ok.none) over.Edge) ∙ c.loop-act.invariant.quiet_sink;
+  went = λ p runs device.
+      let w = c.loop-act.invariant.went p runs device in
+      let t = c.in-Ok.ensures.went (left_by p w.0) w.3.runs w.3.device_is in (
+        t.0 ++ w.0,
+        went_on g.J.Journal.entries g.J.Journal.files g.met.D.Disk.laws c.args.disk.now c.loop-act.disk c.take_act.new.disk
+            (g.R.Runner.list c.args.runner.now) (g.R.Runner.list c.loop-act.runner) (g.R.Runner.list c.take_act.new.runner) p w.0 t.0 w.1 t.1,
+        all_told (g.K.Sink.held c.args.sink.now) (g.K.Sink.held c.loop-act.sink) (g.K.Sink.held c.take_act.new.sink) p w.0 t.0 w.1.run w.2 t.2,
+        subst (λ (x : Place). ActLeft x (coming_device c.in-Ok.next) false (g.S.Supervise.world c.take_act.new.supervisor)
+            (Listed g.R.Runner.list g.R.Runner.told g.R.Runner.asked c.take_act.new.runner) (g.R.Runner.living c.take_act.new.runner)) (sym (left-append p t.0 w.0))
+            (record { runs = t.3.runs; device_is = t.3.device_is; quiet = λ none. absurd (never false refl none) }),
+      );
+}
+
+pub returns-then-none-clause-went : goal.returns-then-none-clause-went
+returns-then-none-clause-went g c = λ p runs device.
+    let w = c.loop-act.invariant.went p runs device in
+    let t = c.in-Ok.ensures.went (left_by p w.0) w.3.runs w.3.device_is in (
+      t.0 ++ w.0,
+      went_on g.J.Journal.entries g.J.Journal.files g.met.D.Disk.laws c.args.disk.now c.loop-act.disk c.take_act.new.disk
+          (g.R.Runner.list c.args.runner.now) (g.R.Runner.list c.loop-act.runner) (g.R.Runner.list c.take_act.new.runner) p w.0 t.0 w.1 t.1,
+      all_told (g.K.Sink.held c.args.sink.now) (g.K.Sink.held c.loop-act.sink) (g.K.Sink.held c.take_act.new.sink) p w.0 t.0 w.1.run w.2 t.2,
+      subst (λ (x : Place). ActLeft x (coming_device c.in-Ok.next) true (g.S.Supervise.world c.take_act.new.supervisor)
+          (Listed g.R.Runner.list g.R.Runner.told g.R.Runner.asked c.take_act.new.runner) (g.R.Runner.living c.take_act.new.runner)) (sym (left-append p t.0 w.0))
+          (record { runs = t.3.runs; device_is = t.3.device_is; quiet = λ none. t.3.quiet c.if-none.true }),
+      tt,
+    )
+
+pub returns-in-Err-clause-went : goal.returns-in-Err-clause-went
+returns-in-Err-clause-went g c = λ p runs device.
+    let w = c.loop-act.invariant.went p runs device in
+    let t = c.in-Err.ensures.went (left_by p w.0) w.3.runs w.3.device_is in (
+      t.0 ++ w.0,
+      went_on g.J.Journal.entries g.J.Journal.files g.met.D.Disk.laws c.args.disk.now c.loop-act.disk c.take_act.new.disk
+          (g.R.Runner.list c.args.runner.now) (g.R.Runner.list c.loop-act.runner) (g.R.Runner.list c.take_act.new.runner) p w.0 t.0 w.1 t.1,
+      lines_at_joined (g.K.Sink.held c.args.sink.now) (g.K.Sink.held c.loop-act.sink) (g.K.Sink.held c.take_act.new.sink) p w.0 t.0 c.in-Err.over w.1.run w.2 t.2,
+      left_joined g.J.Journal.entries g.D.Disk.may_leave c.take_act.new.disk p w.0 t.0 c.in-Err.over w.1.run t.3,
+      quits_on p w.0 t.0 (g.S.Supervise.world c.take_act.new.supervisor) (Listed g.R.Runner.list g.R.Runner.told g.R.Runner.asked c.take_act.new.runner) (g.R.Runner.living c.take_act.new.runner) t.4,
+    )
+
+pub returns-in-Err-clause-disk : goal.returns-in-Err-clause-disk
+returns-in-Err-clause-disk g c = λ is. let r = c.in-Err.ensures.disk is in omega (arith, r, c.loop-act.invariant.quiet_disk)
+
+pub returns-in-Err-clause-edge : goal.returns-in-Err-clause-edge
+returns-in-Err-clause-edge g c = λ is. let r = c.in-Err.ensures.edge is in omega (arith, r, c.loop-act.invariant.quiet_sink)
+
+pub returns-clause-went : goal.returns-clause-went
+returns-clause-went g c = λ p runs device.
+    let w = c.loop-act.invariant.went p runs device in
+    (w.0, w.1, w.2, w.3, tt)

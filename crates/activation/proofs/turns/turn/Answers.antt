@@ -1,0 +1,155 @@
+use Rattle.std.proofs.Common.{◌∙◌, ◌++◌, true, false, sym, subst}
+use Rattle.device.specs.Devices.{Device}
+use Rattle.device.specs.Standing.{StandsFor}
+use Rattle.step_runner.specs.Entries.{Listed}
+use Rattle.session.specs.Places.{Place, left_by}
+use Rattle.session.proofs.Joined.{left-append}
+use Rattle.driver.proofs.Joins.{acted, went_on}
+use Rattle.driver.proofs.Told.{all_told, left_joined, lines_at_joined}
+use Rattle.activation.specs.Coming.{coming_device}
+use Rattle.activation.specs.Did.{ActLeft}
+use Rattle.activation.specs.Runs.{Comes}
+use Rattle.activation.proofs.Entering.{comes_of}
+use Rattle.activation.proofs.Stages.{coming_stands}
+use Rattle.activation.proofs.Turning.{no_lines, quits_on, rests, settled_is, sits, some_moments}
+use Rattle.activation.proofs.turns.turn.Goals as goal
+
+pub pass-now-requires : goal.pass-now-requires
+pass-now-requires g c = let q = c.requires.placed in record { placed = (q.0, coming_device c.args.state, q.1) }
+
+pub take_acts-requires-clause-now : goal.take_acts-requires-clause-now
+take_acts-requires-clause-now g c = c.pass-now.ensures.now
+
+pub take_acts-requires-clause-placed : goal.take_acts-requires-clause-placed
+take_acts-requires-clause-placed g c =
+    let q = c.requires.placed in
+    let w = c.pass-now.ensures.went q.0 (coming_device c.args.state) q.1 in
+    (left_by q.0 w.0, w.2, w.1.device ∙ q.1.stands.device_is)
+
+pub returns-in-Err-clause-went : goal.returns-in-Err-clause-went
+returns-in-Err-clause-went g c = λ p comes.
+    let d = coming_device c.args.state in
+    let w = c.pass-now.ensures.went p d comes in
+    let device = comes.stands.device_is in
+    let t = c.in-Err.ensures.went (left_by p w.0) w.2 (w.1.device ∙ device) in
+    let one = acted g.J.Journal.entries g.J.Journal.files g.met.D.Disk.laws c.args.disk.now (g.R.Runner.list c.args.runner.now) (g.R.Runner.list c.pass-now.new.runner) p w.0
+    (λ i left. subst (λ (x : Device). StandsFor g.J.Journal.entries i x) (sym device) (coming_stands g.met.D.Disk.laws g.met.J.Journal.laws c.args.state c.args.disk.now c.requires.held i left)) w.1 in (
+      t.0 ++ w.0,
+      went_on g.J.Journal.entries g.J.Journal.files g.met.D.Disk.laws c.args.disk.now c.args.disk.now c.take_acts.new.disk
+          (g.R.Runner.list c.args.runner.now) (g.R.Runner.list c.pass-now.new.runner) (g.R.Runner.list c.take_acts.new.runner) p w.0 t.0 one t.1,
+      lines_at_joined (g.K.Sink.held c.args.sink.now) (g.K.Sink.held c.args.sink.now) (g.K.Sink.held c.take_acts.new.sink) p w.0 t.0 c.in-Err.over one.run (no_lines (g.K.Sink.held c.args.sink.now) p.device w.0 w.1.none) t.2,
+      left_joined g.J.Journal.entries g.D.Disk.may_leave c.take_acts.new.disk p w.0 t.0 c.in-Err.over one.run t.3,
+      quits_on p w.0 t.0 (g.S.Supervise.world c.take_acts.new.supervisor) (Listed g.R.Runner.list g.R.Runner.told g.R.Runner.asked c.take_acts.new.runner) (g.R.Runner.living c.take_acts.new.runner) t.4,
+    )
+
+pub returns-then-not-none-clause-went : goal.returns-then-not-none-clause-went
+returns-then-not-none-clause-went g c = λ p comes.
+    let d = coming_device c.args.state in
+    let e = coming_device c.in-Ok.next in
+    let w = c.pass-now.ensures.went p d comes in
+    let device = comes.stands.device_is in
+    let t = c.in-Ok.ensures.went (left_by p w.0) w.2 (w.1.device ∙ device) in
+    let one = acted g.J.Journal.entries g.J.Journal.files g.met.D.Disk.laws c.args.disk.now (g.R.Runner.list c.args.runner.now) (g.R.Runner.list c.pass-now.new.runner) p w.0
+    (λ i left. subst (λ (x : Device). StandsFor g.J.Journal.entries i x) (sym device) (coming_stands g.met.D.Disk.laws g.met.J.Journal.laws c.args.state c.args.disk.now c.requires.held i left)) w.1 in
+    let new = Listed g.R.Runner.list g.R.Runner.told g.R.Runner.asked c.take_acts.new.runner in
+    let world = g.S.Supervise.world c.take_acts.new.supervisor in
+    let living = g.R.Runner.living c.take_acts.new.runner in (
+      t.0 ++ w.0,
+      went_on g.J.Journal.entries g.J.Journal.files g.met.D.Disk.laws c.args.disk.now c.args.disk.now c.take_acts.new.disk
+          (g.R.Runner.list c.args.runner.now) (g.R.Runner.list c.pass-now.new.runner) (g.R.Runner.list c.take_acts.new.runner) p w.0 t.0 one t.1,
+      all_told (g.K.Sink.held c.args.sink.now) (g.K.Sink.held c.args.sink.now) (g.K.Sink.held c.take_acts.new.sink) p w.0 t.0 one.run (no_lines (g.K.Sink.held c.args.sink.now) p.device w.0 w.1.none) t.2,
+      (subst (λ (x : Place). Comes x e world new living) (sym (left-append p t.0 w.0)) (comes_of (left_by (left_by p w.0) t.0) e world new living t.3.runs t.3.device_is), some_moments w.0 t.0 w.3),
+      tt,
+    )
+
+pub returns-then-is_broken-clause-went : goal.returns-then-is_broken-clause-went
+returns-then-is_broken-clause-went g c = λ p comes.
+    let d = coming_device c.args.state in
+    let e = coming_device c.in-Ok.next in
+    let w = c.pass-now.ensures.went p d comes in
+    let device = comes.stands.device_is in
+    let t = c.in-Ok.ensures.went (left_by p w.0) w.2 (w.1.device ∙ device) in
+    let one = acted g.J.Journal.entries g.J.Journal.files g.met.D.Disk.laws c.args.disk.now (g.R.Runner.list c.args.runner.now) (g.R.Runner.list c.pass-now.new.runner) p w.0
+    (λ i left. subst (λ (x : Device). StandsFor g.J.Journal.entries i x) (sym device) (coming_stands g.met.D.Disk.laws g.met.J.Journal.laws c.args.state c.args.disk.now c.requires.held i left)) w.1 in
+    let new = Listed g.R.Runner.list g.R.Runner.told g.R.Runner.asked c.take_acts.new.runner in
+    let world = g.S.Supervise.world c.take_acts.new.supervisor in
+    let living = g.R.Runner.living c.take_acts.new.runner in
+    let a = subst (λ (x : Place). ActLeft x e c.in-Ok.none world new living) (sym (left-append p t.0 w.0)) t.3 in (
+      t.0 ++ w.0,
+      went_on g.J.Journal.entries g.J.Journal.files g.met.D.Disk.laws c.args.disk.now c.args.disk.now c.take_acts.new.disk
+          (g.R.Runner.list c.args.runner.now) (g.R.Runner.list c.pass-now.new.runner) (g.R.Runner.list c.take_acts.new.runner) p w.0 t.0 one t.1,
+      all_told (g.K.Sink.held c.args.sink.now) (g.K.Sink.held c.args.sink.now) (g.K.Sink.held c.take_acts.new.sink) p w.0 t.0 one.run (no_lines (g.K.Sink.held c.args.sink.now) p.device w.0 w.1.none) t.2,
+      (rests (left_by p (t.0 ++ w.0)) e world new living c.in-Ok.none c.is_broken.result true a c.if-not-none.false c.is_broken.ensures c.if-is_broken.true, some_moments w.0 t.0 w.3),
+      tt,
+    )
+
+pub returns-then-settled-clause-went : goal.returns-then-settled-clause-went
+returns-then-settled-clause-went g c = λ p comes.
+    let d = coming_device c.args.state in
+    let e = coming_device c.in-Ok.next in
+    let w = c.pass-now.ensures.went p d comes in
+    let device = comes.stands.device_is in
+    let t = c.in-Ok.ensures.went (left_by p w.0) w.2 (w.1.device ∙ device) in
+    let one = acted g.J.Journal.entries g.J.Journal.files g.met.D.Disk.laws c.args.disk.now (g.R.Runner.list c.args.runner.now) (g.R.Runner.list c.pass-now.new.runner) p w.0
+    (λ i left. subst (λ (x : Device). StandsFor g.J.Journal.entries i x) (sym device) (coming_stands g.met.D.Disk.laws g.met.J.Journal.laws c.args.state c.args.disk.now c.requires.held i left)) w.1 in
+    let new = Listed g.R.Runner.list g.R.Runner.told g.R.Runner.asked c.take_acts.new.runner in
+    let world = g.S.Supervise.world c.take_acts.new.supervisor in
+    let living = g.R.Runner.living c.take_acts.new.runner in
+    let a = subst (λ (x : Place). ActLeft x e c.in-Ok.none world new living) (sym (left-append p t.0 w.0)) t.3 in
+    let q = left_by p (t.0 ++ w.0) in
+    let r = rests q e world new living c.in-Ok.none c.is_broken.result false a c.if-not-none.false c.is_broken.ensures c.if-is_broken.false in (
+      t.0 ++ w.0,
+      went_on g.J.Journal.entries g.J.Journal.files g.met.D.Disk.laws c.args.disk.now c.args.disk.now c.take_acts.new.disk
+          (g.R.Runner.list c.args.runner.now) (g.R.Runner.list c.pass-now.new.runner) (g.R.Runner.list c.take_acts.new.runner) p w.0 t.0 one t.1,
+      all_told (g.K.Sink.held c.args.sink.now) (g.K.Sink.held c.args.sink.now) (g.K.Sink.held c.take_acts.new.sink) p w.0 t.0 one.run (no_lines (g.K.Sink.held c.args.sink.now) p.device w.0 w.1.none) t.2,
+      ((r, settled_is q e false world new living c.settled.result true r c.settled.ensures c.if-settled.true), some_moments w.0 t.0 w.3),
+      tt,
+    )
+
+pub wait_once-requires-clause-now : goal.wait_once-requires-clause-now
+wait_once-requires-clause-now g c = (c.take_acts.ensures.now, c.pass-now.ensures.now.1)
+
+pub wait_once-requires-clause-placed : goal.wait_once-requires-clause-placed
+wait_once-requires-clause-placed g c =
+    let q = c.requires.placed in
+    let p = q.0 in
+    let d = coming_device c.args.state in
+    let e = coming_device c.in-Ok.next in
+    let w = c.pass-now.ensures.went p d q.1 in
+    let t = c.in-Ok.ensures.went (left_by p w.0) w.2 (w.1.device ∙ q.1.stands.device_is) in
+    let new = Listed g.R.Runner.list g.R.Runner.told g.R.Runner.asked c.take_acts.new.runner in
+    let world = g.S.Supervise.world c.take_acts.new.supervisor in
+    let living = g.R.Runner.living c.take_acts.new.runner in
+    let x = left_by (left_by p w.0) t.0 in
+    let r = rests x e world new living c.in-Ok.none c.is_broken.result false t.3 c.if-not-none.false c.is_broken.ensures c.if-is_broken.false in
+    (x, sits x e world new living c.settled.result r c.settled.ensures c.if-settled.false)
+
+pub returns-else-settled-clause-went : goal.returns-else-settled-clause-went
+returns-else-settled-clause-went g c = λ p comes.
+    let d = coming_device c.args.state in
+    let e = coming_device c.in-Ok.next in
+    let w = c.pass-now.ensures.went p d comes in
+    let device = comes.stands.device_is in
+    let t = c.in-Ok.ensures.went (left_by p w.0) w.2 (w.1.device ∙ device) in
+    let one = acted g.J.Journal.entries g.J.Journal.files g.met.D.Disk.laws c.args.disk.now (g.R.Runner.list c.args.runner.now) (g.R.Runner.list c.pass-now.new.runner) p w.0
+    (λ i left. subst (λ (x : Device). StandsFor g.J.Journal.entries i x) (sym device) (coming_stands g.met.D.Disk.laws g.met.J.Journal.laws c.args.state c.args.disk.now c.requires.held i left)) w.1 in
+    let new = Listed g.R.Runner.list g.R.Runner.told g.R.Runner.asked c.take_acts.new.runner in
+    let last = Listed g.R.Runner.list g.R.Runner.told g.R.Runner.asked c.wait_once.new.runner in
+    let world = g.S.Supervise.world c.take_acts.new.supervisor in
+    let living = g.R.Runner.living c.take_acts.new.runner in
+    let both = went_on g.J.Journal.entries g.J.Journal.files g.met.D.Disk.laws c.args.disk.now c.args.disk.now c.take_acts.new.disk
+    (g.R.Runner.list c.args.runner.now) (g.R.Runner.list c.pass-now.new.runner) (g.R.Runner.list c.take_acts.new.runner) p w.0 t.0 one t.1 in
+    let lines = all_told (g.K.Sink.held c.args.sink.now) (g.K.Sink.held c.args.sink.now) (g.K.Sink.held c.take_acts.new.sink) p w.0 t.0 one.run (no_lines (g.K.Sink.held c.args.sink.now) p.device w.0 w.1.none) t.2 in
+    let x = left_by p (t.0 ++ w.0) in
+    let a = subst (λ (y : Place). ActLeft y e c.in-Ok.none world new living) (sym (left-append p t.0 w.0)) t.3 in
+    let r = rests x e world new living c.in-Ok.none c.is_broken.result false a c.if-not-none.false c.is_broken.ensures c.if-is_broken.false in
+    let u = c.wait_once.ensures.went x e a.device_is (sits x e world new living c.settled.result r c.settled.ensures c.if-settled.false) in
+    let slept = acted g.J.Journal.entries g.J.Journal.files g.met.D.Disk.laws c.take_acts.new.disk (g.R.Runner.list c.take_acts.new.runner) (g.R.Runner.list c.wait_once.new.runner) x u.0
+    (λ i left. subst (λ (y : Device). StandsFor g.J.Journal.entries i y) (sym a.device_is) (coming_stands g.met.D.Disk.laws g.met.J.Journal.laws c.in-Ok.next c.take_acts.new.disk c.in-Ok.ensures.held i left)) u.1 in (
+      u.0 ++ (t.0 ++ w.0),
+      went_on g.J.Journal.entries g.J.Journal.files g.met.D.Disk.laws c.args.disk.now c.take_acts.new.disk c.take_acts.new.disk
+          (g.R.Runner.list c.args.runner.now) (g.R.Runner.list c.take_acts.new.runner) (g.R.Runner.list c.wait_once.new.runner) p (t.0 ++ w.0) u.0 both slept,
+      all_told (g.K.Sink.held c.args.sink.now) (g.K.Sink.held c.take_acts.new.sink) (g.K.Sink.held c.take_acts.new.sink) p (t.0 ++ w.0) u.0 both.run lines (no_lines (g.K.Sink.held c.take_acts.new.sink) x.device u.0 u.1.none),
+      (subst (λ (y : Place). Comes y e (g.S.Supervise.world c.wait_once.new.supervisor) last (g.R.Runner.living c.wait_once.new.runner)) (sym (left-append p u.0 (t.0 ++ w.0))) u.2, some_moments (t.0 ++ w.0) u.0 (some_moments w.0 t.0 w.3)),
+      tt,
+    )

@@ -1,0 +1,57 @@
+-- What the stages leave at their ends.
+use Rattle.std.specs.Prelude.{◌≡◌, ◌≤◌, ℕ, Bool, true, List, [], ◌∷◌, ◌++◌}
+use Rattle.disk_model.specs.Disk.{Image}
+use Rattle.nuc_base.specs.declared.kinds.Outcome.{Outcome}
+use Rattle.nuc_base.specs.declared.kinds.Outcome.TheVariants as outcomes
+use Rattle.records.specs.Stored.{Record, Closed}
+use Rattle.device.specs.Devices.{Device}
+use Rattle.deploy_state.specs.States.{InActivating, InIdle, InRolling, activating_device, idle_device, rolling_device}
+use Rattle.step_runner.specs.Entries.{Told}
+use Rattle.supervisor.specs.World.{World}
+use Rattle.supervisor.specs.Turns.{IsQuiet}
+use Rattle.session.specs.Phases.{duty_of}
+use Rattle.session.specs.Happenings.{Happening, records_of}
+use Rattle.session.specs.Places.{Place}
+use Rattle.session.specs.Waits.{has_three}
+use Rattle.session.specs.Courses.{IsBack, Stands}
+use Rattle.activation.specs.Runs.{Comes}
+use Rattle.activation.specs.Turns.{moments_in, most_turns}
+use Rattle.activation.specs.declared.activating.Activated.{Activated}
+use Rattle.activation.specs.declared.activating.Activated.TheVariants as activated
+use Rattle.activation.specs.declared.rolling.Rolled.{Rolled}
+use Rattle.activation.specs.declared.rolling.Rolled.TheVariants as rolled
+
+-- the last of the records is that the deployment closed so
+abbrev pub ClosesAs : Outcome → List Record → Type 0
+ClosesAs outcome records = (front : List Record) × (records ≡ front ++ Closed outcome ∷ [])
+
+-- Nothing is pending any more, and the components are as they were.
+pub record HasClosed (outcome : Outcome) (records : List Record) (q : Place) (d : Device) (world : World) (told : Told) (living : List ℕ) : Type 0 where
+  pub stands : Stands q d world told living
+  pub back : IsBack q
+  pub closed : ClosesAs outcome records
+
+-- No act is left, and a component failed three times.
+pub record HasBroken (q : Place) (d : Device) (world : World) (told : Told) (living : List ℕ) : Type 0 where
+  pub comes : Comes q d world told living
+  pub quiet : IsQuiet q.world
+  pub counts : has_three (duty_of q.device).counts ≡ true
+
+abbrev pub ActivatedLeft : {J : Type 0} → Activated J → List Happening → Place → World → Told → List ℕ → Type 0
+ActivatedLeft (activated.Closed s) h q world told living = HasClosed outcomes.Successful (records_of h) q (idle_device s) world told living
+ActivatedLeft (activated.Broken s) h q world told living = HasBroken q (activating_device s) world told living
+ActivatedLeft (activated.More s) h q world told living = Comes q (activating_device s) world told living × (most_turns ≤ moments_in h)
+
+abbrev pub RolledLeft : {J : Type 0} → Rolled J → List Happening → Place → World → Told → List ℕ → Type 0
+RolledLeft (rolled.Closed s outcome) h q world told living = HasClosed outcome (records_of h) q (idle_device s) world told living
+RolledLeft (rolled.More s) h q world told living = Comes q (rolling_device s) world told living × (most_turns ≤ moments_in h)
+
+module _ {J D : Type 0} (tells : Bool) (may_leave : D → Image → Type 0) (stands : J → Image → List (List ℕ) → Type 0) (end : J → ℕ) where
+  abbrev pub InActivated : Activated J → D → Type 0
+  InActivated (activated.Closed s) disk = InIdle tells may_leave stands end s disk
+  InActivated (activated.Broken s) disk = InActivating tells may_leave stands end s disk
+  InActivated (activated.More s) disk = InActivating tells may_leave stands end s disk
+
+  abbrev pub InRolled : Rolled J → D → Type 0
+  InRolled (rolled.Closed s outcome) disk = InIdle tells may_leave stands end s disk
+  InRolled (rolled.More s) disk = InRolling tells may_leave stands end s disk

@@ -1,0 +1,51 @@
+// One act.
+ghost use Rattle.std.specs.Prelude.{◌≡◌, ◌<◌, ◌^◌, ℕ, List};
+ghost use Rattle.step_runner.specs.Entries.{Listed};
+ghost use Rattle.session.specs.Happenings.{Happening};
+ghost use Rattle.session.specs.Places.{Place, left_by};
+ghost use Rattle.driver.specs.Went.{Acts};
+ghost use Rattle.activation.specs.Did.{DidLeave};
+ghost use Rattle.activation.specs.Runs.{Runs};
+
+use crate::laws::driving_laws;
+use crate::starts::start_step;
+use nuc_base::{Exit, Step};
+use step_runner::Runner;
+use supervisor::{Act, Supervise};
+
+/// What came of asking for the next act.
+#[derive(Clone, Copy, Debug, Drop, PartialEq, Eq)]
+pub(crate) enum Did {
+    /// There was none.
+    Nothing,
+    Something,
+    /// The step of this component failed, which is still to be recorded.
+    Failed(u32, Step, Exit),
+}
+
+/// Takes the next act.
+pub(crate) fn act<R: Runner, S: Supervise>(runner: &mut R, supervisor: &mut S, now: u64) -> Did
+    requires now { (R.told runner.old ≡ now) × (now < 2 ^ 62) }
+    requires placed { (p : Place) × Runs p (S.world supervisor.old) (Listed R.list R.told R.asked runner.old) (R.living runner.old) }
+    ensures now { R.told runner.new ≡ now }
+    ensures went { (p : Place) → Runs p (S.world supervisor.old) (Listed R.list R.told R.asked runner.old) (R.living runner.old) →
+        (h : List Happening) × Acts p h (R.list runner.old) (R.list runner.new)
+        × DidLeave result (left_by p h) (S.world supervisor.new) (Listed R.list R.told R.asked runner.new) (R.living runner.new) }
+{
+    driving_laws();
+    match supervisor.next_act() {
+        None => Did::Nothing,
+        Some(next) => match next {
+            Act::Start(who, step) => {
+                start_step(runner, supervisor, who, step, now);
+                Did::Something
+            }
+            Act::Kill(child) => {
+                runner.kill(child);
+                Did::Something
+            }
+            Act::Failed(who, step, exit) => Did::Failed(who, step, exit),
+            Act::Broke(who, step, exit) => Did::Failed(who, step, exit),
+        },
+    }
+}

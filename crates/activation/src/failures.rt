@@ -1,0 +1,79 @@
+// The record of a failure, and its line.
+ghost use Rattle.std.specs.Prelude.{◌≡◌, ◌≤◌, ℕ, List, IsTrue, IfOk, IsErrOf, OnErr, OnOk, IsSome};
+ghost use Rattle.nuc_base.specs.Faults.{HasCause, Rose};
+ghost use Rattle.edges.specs.Pieces.{Writes};
+ghost use Rattle.records.specs.Stored.{StepFailed};
+ghost use Rattle.step_runner.specs.Entries.{Told};
+ghost use Rattle.session.specs.Happenings.{Happening, records_of};
+ghost use Rattle.session.specs.Places.{Place, left_by};
+ghost use Rattle.driver.specs.Lines.{line_of};
+ghost use Rattle.driver.specs.Over.{Left, Lines};
+ghost use Rattle.driver.specs.Went.{Went};
+ghost use Rattle.activation.specs.Coming.{InComing, coming_device, is_plan};
+ghost use Rattle.activation.specs.Runs.{HasFailed, Quits, Runs};
+
+use crate::coming::Coming;
+use crate::laws::driving_laws;
+use crate::lines::tell_failed_step;
+use disk_model::Disk;
+use driver::Over;
+use edges::{EdgeFault, Sink};
+use gate_log::Journal;
+use nuc_base::{Exit, Name, Step};
+use supervisor::Supervise;
+
+/// Prints the line of a failure that was recorded.
+fn tell_failed<J: Journal + Drop, K: Sink>(
+    state: &Coming<J>,
+    sink: &mut K,
+    name: &Name,
+    step: Step,
+    exit: Exit,
+) -> Result<(), EdgeFault>
+    requires { IsSome (coming_device state.now).pending }
+    ensures line { Writes (K.held sink.old) (K.held sink.new) (line_of (coming_device state.now) (StepFailed name.now step exit)) result }
+    ensures cause { HasCause (K.faults sink.old) (K.faults sink.new) result }
+    ensures quiet { OnOk result (K.faults sink.new ≡ K.faults sink.old) }
+{
+    match &state.device().pending {
+        Some(pending) => tell_failed_step(sink, &pending.plan.id, name, step, exit),
+        None => Ok(()),
+    }
+}
+
+/// Records the failure that was handed out, and prints its line.
+pub(crate) fn note_failure<D: Disk, J: Journal + Drop, K: Sink, S: Supervise>(
+    state: Coming<J>,
+    disk: &mut D,
+    sink: &mut K,
+    supervisor: &S,
+    who: u32,
+    step: Step,
+    exit: Exit,
+) -> Result<Coming<J>, Over>
+    requires held { InComing D.tells D.may_leave J.stands J.end state disk.old }
+    requires placed { (p : Place) × (told : Told) × (living : List ℕ) × HasFailed p who step exit (S.world supervisor.now) told living × (p.device ≡ coming_device state) }
+    ensures went { (p : Place) → (told : Told) → (living : List ℕ) → HasFailed p who step exit (S.world supervisor.now) told living → (p.device ≡ coming_device state) →
+        (h : List Happening) × Went J.entries J.files D.may_leave D.moment D.left_since disk.old disk.new told.list told.list p h
+        × Lines (K.held sink.old) (K.held sink.new) p.device (records_of h) result
+        × Left J.entries D.may_leave disk.new p h (λ s q. Runs q (S.world supervisor.now) told living × (q.device ≡ coming_device s)) result
+        × OnErr result (Quits (left_by p h) (S.world supervisor.now) told living) }
+    ensures held { IfOk result (λ s. InComing D.tells D.may_leave J.stands J.end s disk.new) }
+    ensures same { IfOk result (λ s. is_plan s ≡ is_plan state) }
+    ensures others { IsTrue D.tells → (name : List ℕ) → ¬ (J.files name) → D.seen disk.new name ≡ D.seen disk.old name }
+    ensures disk { IsErrOf result Over.Disk → Rose (D.faults disk.old) (D.faults disk.new) }
+    ensures edge { IsErrOf result Over.Edge → Rose (K.faults sink.old) (K.faults sink.new) }
+    ensures quiet_disk { ¬ (IsErrOf result Over.Disk) → D.faults disk.new ≡ D.faults disk.old }
+    ensures quiet_sink { ¬ (IsErrOf result Over.Edge) → K.faults sink.new ≡ K.faults sink.old }
+    ensures later { (D.faults disk.old ≤ D.faults disk.new) × (K.faults sink.old ≤ K.faults sink.new) }
+{
+    driving_laws();
+    let name = supervisor.name(who);
+    match state.failed(disk, name, step, exit) {
+        Ok(next) => match tell_failed(&next, sink, name, step, exit) {
+            Ok(()) => Ok(next),
+            Err(_) => Err(Over::Edge),
+        },
+        Err(_) => Err(Over::Disk),
+    }
+}

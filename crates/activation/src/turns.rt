@@ -1,0 +1,199 @@
+// One turn, and the turns of a stage.
+ghost use Rattle.std.specs.Prelude.{◌≡◌, ◌≤◌, ◌<◌, ◌^◌, ℕ, List, IsTrue, IfOk, OnErr, IsErrOf};
+ghost use Rattle.nuc_base.specs.Faults.{Rose};
+ghost use Rattle.step_runner.specs.Entries.{Listed};
+ghost use Rattle.session.specs.Happenings.{Happening, records_of};
+ghost use Rattle.session.specs.Places.{Place, left_by};
+ghost use Rattle.driver.specs.Over.{Left, Lines};
+ghost use Rattle.driver.specs.Went.{Went};
+ghost use Rattle.activation.specs.Coming.{InComing, coming_device, is_plan};
+ghost use Rattle.activation.specs.Did.{ActLeft};
+ghost use Rattle.activation.specs.Runs.{Comes, Quits, Runs};
+ghost use Rattle.activation.specs.Turns.{StageLeft, TurnLeft, moments_in};
+
+use crate::acts::{Did, act};
+use crate::coming::Coming;
+use crate::failures::note_failure;
+use crate::starts::pass;
+use crate::waits::wait_once;
+use disk_model::Disk;
+use driver::Over;
+use edges::Sink;
+use gate_log::Journal;
+use step_runner::Runner;
+use supervisor::Supervise;
+
+/// What a turn came to.
+#[derive(Clone, Copy, Debug, Drop, PartialEq, Eq)]
+pub(crate) enum Turned {
+    /// It goes on.
+    On,
+    /// All components are up.
+    Settled,
+    /// A component failed three times.
+    Broken,
+}
+
+/// Takes the next act, and records it where it is a failure. Tells whether none is left.
+fn take_act<D: Disk, J: Journal + Drop, K: Sink, R: Runner, S: Supervise>(
+    state: Coming<J>,
+    disk: &mut D,
+    sink: &mut K,
+    runner: &mut R,
+    supervisor: &mut S,
+    now: u64,
+) -> Result<(Coming<J>, bool), Over>
+    requires now { (R.told runner.old ≡ now) × (now < 2 ^ 62) }
+    requires held { InComing D.tells D.may_leave J.stands J.end state disk.old }
+    requires placed { (p : Place) × Runs p (S.world supervisor.old) (Listed R.list R.told R.asked runner.old) (R.living runner.old) × (p.device ≡ coming_device state) }
+    ensures now { R.told runner.new ≡ now }
+    ensures went { (p : Place) → Runs p (S.world supervisor.old) (Listed R.list R.told R.asked runner.old) (R.living runner.old) → (p.device ≡ coming_device state) →
+        (h : List Happening) × Went J.entries J.files D.may_leave D.moment D.left_since disk.old disk.new (R.list runner.old) (R.list runner.new) p h
+        × Lines (K.held sink.old) (K.held sink.new) p.device (records_of h) result
+        × Left J.entries D.may_leave disk.new p h (λ s q. ActLeft q (coming_device s.0) s.1 (S.world supervisor.new) (Listed R.list R.told R.asked runner.new) (R.living runner.new)) result
+        × OnErr result (Quits (left_by p h) (S.world supervisor.new) (Listed R.list R.told R.asked runner.new) (R.living runner.new)) }
+    ensures held { IfOk result (λ s. InComing D.tells D.may_leave J.stands J.end s.0 disk.new) }
+    ensures same { IfOk result (λ s. is_plan s.0 ≡ is_plan state) }
+    ensures others { IsTrue D.tells → (name : List ℕ) → ¬ (J.files name) → D.seen disk.new name ≡ D.seen disk.old name }
+    ensures disk { IsErrOf result Over.Disk → Rose (D.faults disk.old) (D.faults disk.new) }
+    ensures edge { IsErrOf result Over.Edge → Rose (K.faults sink.old) (K.faults sink.new) }
+    ensures quiet_disk { ¬ (IsErrOf result Over.Disk) → D.faults disk.new ≡ D.faults disk.old }
+    ensures quiet_sink { ¬ (IsErrOf result Over.Edge) → K.faults sink.new ≡ K.faults sink.old }
+    ensures later { (D.faults disk.old ≤ D.faults disk.new) × (K.faults sink.old ≤ K.faults sink.new) }
+{
+    match act(runner, supervisor, now) {
+        Did::Nothing => Ok((state, true)),
+        Did::Something => Ok((state, false)),
+        Did::Failed(who, step, exit) => {
+            match note_failure(state, disk, sink, supervisor, who, step, exit) {
+                Ok(next) => Ok((next, false)),
+                Err(over) => Err(over),
+            }
+        }
+    }
+}
+
+/// Takes acts until none is left, which it tells.
+fn take_acts<D: Disk, J: Journal + Drop, K: Sink, R: Runner, S: Supervise>(
+    state: Coming<J>,
+    disk: &mut D,
+    sink: &mut K,
+    runner: &mut R,
+    supervisor: &mut S,
+    now: u64,
+) -> Result<(Coming<J>, bool), Over>
+    requires now { (R.told runner.old ≡ now) × (now < 2 ^ 62) }
+    requires held { InComing D.tells D.may_leave J.stands J.end state disk.old }
+    requires placed { (p : Place) × Runs p (S.world supervisor.old) (Listed R.list R.told R.asked runner.old) (R.living runner.old) × (p.device ≡ coming_device state) }
+    ensures now { R.told runner.new ≡ now }
+    ensures went { (p : Place) → Runs p (S.world supervisor.old) (Listed R.list R.told R.asked runner.old) (R.living runner.old) → (p.device ≡ coming_device state) →
+        (h : List Happening) × Went J.entries J.files D.may_leave D.moment D.left_since disk.old disk.new (R.list runner.old) (R.list runner.new) p h
+        × Lines (K.held sink.old) (K.held sink.new) p.device (records_of h) result
+        × Left J.entries D.may_leave disk.new p h (λ s q. ActLeft q (coming_device s.0) s.1 (S.world supervisor.new) (Listed R.list R.told R.asked runner.new) (R.living runner.new)) result
+        × OnErr result (Quits (left_by p h) (S.world supervisor.new) (Listed R.list R.told R.asked runner.new) (R.living runner.new)) }
+    ensures held { IfOk result (λ s. InComing D.tells D.may_leave J.stands J.end s.0 disk.new) }
+    ensures same { IfOk result (λ s. is_plan s.0 ≡ is_plan state) }
+    ensures others { IsTrue D.tells → (name : List ℕ) → ¬ (J.files name) → D.seen disk.new name ≡ D.seen disk.old name }
+    ensures disk { IsErrOf result Over.Disk → Rose (D.faults disk.old) (D.faults disk.new) }
+    ensures edge { IsErrOf result Over.Edge → Rose (K.faults sink.old) (K.faults sink.new) }
+    ensures quiet_disk { ¬ (IsErrOf result Over.Disk) → D.faults disk.new ≡ D.faults disk.old }
+    ensures quiet_sink { ¬ (IsErrOf result Over.Edge) → K.faults sink.new ≡ K.faults sink.old }
+    ensures later { (D.faults disk.old ≤ D.faults disk.new) × (K.faults sink.old ≤ K.faults sink.new) }
+{
+    let mut state = state;
+    for _act in 0..u64::MAX {
+        match take_act(state, disk, sink, runner, supervisor, now) {
+            Ok((next, none)) => {
+                if none {
+                    return Ok((next, true));
+                }
+                state = next;
+            }
+            Err(over) => return Err(over),
+        }
+    }
+    Ok((state, false))
+}
+
+/// Asks for the moment, takes every act, and waits where there is something to wait for.
+fn turn<D: Disk, J: Journal + Drop, K: Sink, R: Runner, S: Supervise>(
+    state: Coming<J>,
+    disk: &mut D,
+    sink: &mut K,
+    runner: &mut R,
+    supervisor: &mut S,
+) -> Result<(Coming<J>, Turned), Over>
+    requires held { InComing D.tells D.may_leave J.stands J.end state disk.old }
+    requires placed { (p : Place) × Comes p (coming_device state) (S.world supervisor.old) (Listed R.list R.told R.asked runner.old) (R.living runner.old) }
+    ensures went { (p : Place) → Comes p (coming_device state) (S.world supervisor.old) (Listed R.list R.told R.asked runner.old) (R.living runner.old) →
+        (h : List Happening) × Went J.entries J.files D.may_leave D.moment D.left_since disk.old disk.new (R.list runner.old) (R.list runner.new) p h
+        × Lines (K.held sink.old) (K.held sink.new) p.device (records_of h) result
+        × Left J.entries D.may_leave disk.new p h (λ s q. TurnLeft s.1 q (coming_device s.0) (S.world supervisor.new) (Listed R.list R.told R.asked runner.new) (R.living runner.new) × (1 ≤ moments_in h)) result
+        × OnErr result (Quits (left_by p h) (S.world supervisor.new) (Listed R.list R.told R.asked runner.new) (R.living runner.new)) }
+    ensures held { IfOk result (λ s. InComing D.tells D.may_leave J.stands J.end s.0 disk.new) }
+    ensures same { IfOk result (λ s. is_plan s.0 ≡ is_plan state) }
+    ensures others { IsTrue D.tells → (name : List ℕ) → ¬ (J.files name) → D.seen disk.new name ≡ D.seen disk.old name }
+    ensures disk { IsErrOf result Over.Disk → Rose (D.faults disk.old) (D.faults disk.new) }
+    ensures edge { IsErrOf result Over.Edge → Rose (K.faults sink.old) (K.faults sink.new) }
+    ensures quiet_disk { ¬ (IsErrOf result Over.Disk) → D.faults disk.new ≡ D.faults disk.old }
+    ensures quiet_sink { ¬ (IsErrOf result Over.Edge) → K.faults sink.new ≡ K.faults sink.old }
+    ensures later { (D.faults disk.old ≤ D.faults disk.new) × (K.faults sink.old ≤ K.faults sink.new) }
+{
+    let now = pass(runner, supervisor);
+    match take_acts(state, disk, sink, runner, supervisor, now) {
+        Ok((next, none)) => {
+            if !none {
+                return Ok((next, Turned::On));
+            }
+            if next.is_broken() {
+                return Ok((next, Turned::Broken));
+            }
+            if supervisor.settled() {
+                return Ok((next, Turned::Settled));
+            }
+            wait_once(runner, supervisor, now);
+            Ok((next, Turned::On))
+        }
+        Err(over) => Err(over),
+    }
+}
+
+/// Takes turns until all components are up or one failed three times, which it tells.
+pub(crate) fn come_up<D: Disk, J: Journal + Drop, K: Sink, R: Runner, S: Supervise>(
+    state: Coming<J>,
+    disk: &mut D,
+    sink: &mut K,
+    runner: &mut R,
+    supervisor: &mut S,
+) -> Result<(Coming<J>, Turned), Over>
+    requires held { InComing D.tells D.may_leave J.stands J.end state disk.old }
+    requires placed { (p : Place) × Comes p (coming_device state) (S.world supervisor.old) (Listed R.list R.told R.asked runner.old) (R.living runner.old) }
+    ensures went { (p : Place) → Comes p (coming_device state) (S.world supervisor.old) (Listed R.list R.told R.asked runner.old) (R.living runner.old) →
+        (h : List Happening) × Went J.entries J.files D.may_leave D.moment D.left_since disk.old disk.new (R.list runner.old) (R.list runner.new) p h
+        × Lines (K.held sink.old) (K.held sink.new) p.device (records_of h) result
+        × Left J.entries D.may_leave disk.new p h (λ s q. StageLeft s.1 (moments_in h) q (coming_device s.0) (S.world supervisor.new) (Listed R.list R.told R.asked runner.new) (R.living runner.new)) result
+        × OnErr result (Quits (left_by p h) (S.world supervisor.new) (Listed R.list R.told R.asked runner.new) (R.living runner.new)) }
+    ensures held { IfOk result (λ s. InComing D.tells D.may_leave J.stands J.end s.0 disk.new) }
+    ensures same { IfOk result (λ s. is_plan s.0 ≡ is_plan state) }
+    ensures others { IsTrue D.tells → (name : List ℕ) → ¬ (J.files name) → D.seen disk.new name ≡ D.seen disk.old name }
+    ensures disk { IsErrOf result Over.Disk → Rose (D.faults disk.old) (D.faults disk.new) }
+    ensures edge { IsErrOf result Over.Edge → Rose (K.faults sink.old) (K.faults sink.new) }
+    ensures quiet_disk { ¬ (IsErrOf result Over.Disk) → D.faults disk.new ≡ D.faults disk.old }
+    ensures quiet_sink { ¬ (IsErrOf result Over.Edge) → K.faults sink.new ≡ K.faults sink.old }
+    ensures later { (D.faults disk.old ≤ D.faults disk.new) × (K.faults sink.old ≤ K.faults sink.new) }
+{
+    let mut state = state;
+    for _turn in 0..u64::MAX {
+        match turn(state, disk, sink, runner, supervisor) {
+            Ok((next, turned)) => match turned {
+                Turned::On => {
+                    state = next;
+                }
+                Turned::Settled => return Ok((next, Turned::Settled)),
+                Turned::Broken => return Ok((next, Turned::Broken)),
+            },
+            Err(over) => return Err(over),
+        }
+    }
+    Ok((state, Turned::On))
+}
