@@ -1,0 +1,4 @@
+pub mod Shut
+pub mod Stage
+pub mod Entered
+pub mod Begun

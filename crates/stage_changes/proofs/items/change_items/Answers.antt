@@ -1,0 +1,35 @@
+use Rattle.std.proofs.Common.{◌≡◌, ℕ, List, false, sym, subst}
+use Rattle.device.specs.Devices.{device_view, pending_view}
+use Rattle.supervisor.specs.World.{World}
+use Rattle.session.specs.Happenings.{Happening}
+use Rattle.session.specs.Phases.{duty_of}
+use Rattle.session.specs.Places.{left_by}
+use Rattle.driver.specs.Went.{Acts}
+use Rattle.activation.specs.Runs.{Comes}
+use Rattle.session.specs.Waits.{has_three}
+use Rattle.stage_changes.proofs.Entered.{entered}
+use Rattle.stage_changes.proofs.Stage.{long_pending, pending_is, stage_with}
+use Rattle.stage_changes.proofs.items.change_items.Goals as goal
+
+pub change-requires-clause-few : goal.change-requires-clause-few
+change-requires-clause-few g c =
+    let d = device_view c.args.device.now in
+    (stage_with d c.requires.ready.0 c.requires.ready.1 c.requires.sound (pending_view c.in-Some.pending) (pending_is c.args.device.now.pending c.in-Some.pending c.in-Some.is) c.requires.stage c.requires.few).below
+
+pub returns : goal.returns
+returns g c = record {
+  went = λ p told living enters.
+      let d = device_view c.args.device.now in
+      let q = pending_view c.in-Some.pending in
+      let is = pending_is c.args.device.now.pending c.in-Some.pending c.in-Some.is in
+      let ready = c.requires.ready in
+      let fitted = g.S.Supervise.coming c.args.ready in
+      let counts : List ℕ = c.in-Some.pending.failures in
+      let stage = stage_with d ready.0 ready.1 c.requires.sound q is c.requires.stage c.requires.few in
+      let counted = c.ready_items_are_counted.ensures.counted ready.0 d q (duty_of d).items fitted is stage.items stage.rise ready.2 stage.few stage.below in
+      let differ = c.ready_items_are_counted.ensures.differ ready.0 (duty_of d).items fitted stage.rise ready.2 in
+      let keeps = c.changes_keep.ensures.keeps d fitted counts p.world (long_pending d q is stage.long) counted differ enters.recorded enters.orderly in
+      let few : has_three counts ≡ false = subst (λ (l : List ℕ). has_three l ≡ false) stage.counts c.requires.few in
+      subst (λ (w : World). (h : List Happening) × Acts p h told.list told.list × Comes (left_by p h) d w told living) (sym c.change.ensures) (entered c.marks_are_least.ensures.first d fitted counts p (g.S.Supervise.world c.args.supervisor.now) told living enters c.requires.stage ready (sym stage.counts) few keeps
+      (λ n. c.changes_keep.ensures.owners n fitted counts false p.world));
+}

@@ -1,0 +1,40 @@
+//! The items of a stage take the place of those that stand.
+ghost use Rattle.std.specs.Prelude.{◌≡◌, ◌≤◌, ℕ, List, true, false};
+ghost use Rattle.device.specs.Devices.{device_view};
+ghost use Rattle.device.specs.Sound.{IsSound};
+ghost use Rattle.step_runner.specs.Entries.{Told};
+ghost use Rattle.supervisor.specs.Answers.{has_answered, standing_count};
+ghost use Rattle.supervisor.specs.Readied.{KeepSteps};
+ghost use Rattle.session.specs.Happenings.{Happening};
+ghost use Rattle.session.specs.Phases.{duty_of};
+ghost use Rattle.session.specs.Places.{Place, left_by};
+ghost use Rattle.session.specs.Waits.{has_three};
+ghost use Rattle.driver.specs.Went.{Acts};
+ghost use Rattle.activation.specs.Runs.{Comes, rises};
+ghost use Rattle.stage_changes.specs.Enters.{AreReady, MayEnter};
+
+use device::Device;
+use supervisor::{Mode, Supervise, marks_are_least};
+use supervisor_laws::{changes_keep, ready_items_are_counted};
+
+/// The items of the stage are to run, each with the failures that are recorded of it. Those that stand and are none of them
+/// go away.
+pub fn change_items<S: Supervise>(device: &Device, ready: S::Ready, supervisor: &mut S)
+    requires stage { rises (duty_of (device_view device.now)).phase ≡ true }
+    requires ready { AreReady (device_view device.now) (S.coming ready) }
+    requires room { standing_count (S.world supervisor.old) ≤ S.room ready }
+    requires few { has_three (duty_of (device_view device.now)).counts ≡ false }
+    requires sound { IsSound (device_view device.now) }
+    requires answered { has_answered (S.world supervisor.old) ≡ true }
+    requires same { KeepSteps (S.coming ready) (S.world supervisor.old).parts }
+    ensures went { (p : Place) → (told : Told) → (living : List ℕ) → MayEnter p (device_view device.now) (S.world supervisor.old) told living →
+        (h : List Happening) × Acts p h told.list told.list × Comes (left_by p h) (device_view device.now) (S.world supervisor.new) told living }
+{
+    marks_are_least();
+    changes_keep();
+    ready_items_are_counted();
+    let Some(pending) = &device.pending else {
+        unreachable!();
+    };
+    supervisor.change(ready, &pending.failures, Mode::Deployment);
+}
