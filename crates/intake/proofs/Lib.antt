@@ -1,0 +1,4 @@
+pub mod Drafts
+pub mod Sample
+pub mod Staying
+pub mod Taking

@@ -1,0 +1,13 @@
+//! From a document to a plan whose files are there: what a device does before it accepts a deployment.
+//!
+//! It promises that a document is declined exactly where one of its checks fails, by the first that does, and that the plan
+//! of one that is not declined may be accepted as the device stands; and that at no moment, whatever fails, a file is
+//! touched that the device needs, or the journal. It stands on `plan_core` for the checks, on `artifact_store` for the files
+//! and on `deploy_state` for what it means to have the journal in hand.
+#![tactic(auto)]
+
+mod fault;
+mod takes;
+
+pub use fault::Declined;
+pub use takes::take_in;
