@@ -9,7 +9,7 @@ use Rattle.nucleus_top.specs.Answers.{Store, Input, Printed, Told, IsUnchanged, 
 use Rattle.nucleus_top.specs.Deploys.{IsStored, IsRead, Deploys, DeployParts}
 use Rattle.nucleus_top.specs.declared.document.Deployment.{Deployment}
 use Rattle.nucleus_top.specs.declared.answer.Answer.{Answer}
-use Rattle.nucleus_top.specs.declared.answer.Answer.TheVariants.{Stored, Made, Shown, Planned, Unplanned, Refused, DiskFailed, SourceFailed, NoMemory}
+use Rattle.nucleus_top.specs.declared.answer.Answer.TheVariants.{Stored, Made, Shown, Planned, Unplanned, Whole, Refused, DiskFailed, SourceFailed, NoMemory}
 use Rattle.nucleus_top.proofs.Told.{told_of}
 
 -- what is said of an untold value holds of the value that is told
@@ -22,6 +22,7 @@ module _ (store : Store) (input : Input) (printed : Printed) (result : Status) w
   done (Made thing) comes (inl told) is = absurd comes
   done (Shown text) comes (inl told) is = absurd comes
   done (Planned text) comes (inl told) is = absurd comes
+  done Whole comes (inl told) is = absurd comes
   done (Unplanned r text) comes (inl told) is = absurd comes
   done a comes (inl told) is = cc
   done a comes (inr told) is = cc

@@ -7,7 +7,7 @@ use Rattle.nuc_base.specs.Faults.{Rose}
 use Rattle.disk_model.specs.Disk.{Image}
 use Rattle.command_words.specs.Laws.{AsksOnce}
 use Rattle.command_words.specs.declared.order.Order.{Order}
-use Rattle.command_words.specs.declared.order.Order.TheVariants.{Init, Deploy, Status as Show, Plan}
+use Rattle.command_words.specs.declared.order.Order.TheVariants.{Init, Deploy, Status as Show, Plan, Audit}
 use Rattle.nucleus_top.specs.Words.{AsksNothing}
 use Rattle.nucleus_top.specs.Answers.{Store, Input, Shelf, Printed, Told, IsUnchanged, HasRisen, IsQuiet, IsStill, IsCutShort, Prints, Yields, usage_line, library_line, status_of}
 use Rattle.nucleus_top.specs.Leaving.{IsDurable, Keeps}
@@ -15,10 +15,11 @@ use Rattle.nucleus_top.specs.Parts.{Comes, ComesOf, IsSourceFault, Parts}
 use Rattle.nucleus_top.specs.declared.answer.Answer.{Answer}
 use Rattle.nucleus_top.specs.declared.answer.Answer.TheVariants.{Unplanned, WrongWords, DiskFailed, SourceFailed, LibraryFailed, NoMemory}
 use Rattle.nucleus_top.proofs.Orders.{comes_of}
+use Rattle.nucleus_top.proofs.AuditEnds.{audit_parts}
 use Rattle.nucleus_top.proofs.DeployEnds.{deploy_parts}
 use Rattle.nucleus_top.proofs.InitEnds.{init_parts}
 use Rattle.nucleus_top.proofs.PlanEnds.{plan_parts}
-use Rattle.device.proofs.OneDevice.{same_device}
+use Rattle.nucleus_top.proofs.Standing.{same_device}
 use Rattle.nucleus_top.proofs.StatusEnds.{status_parts}
 use Rattle.nucleus_top.proofs.Unrefused.{no_refusal, silent}
 use Rattle.refusal_lines.specs.Lines.{refusal_line}
@@ -31,11 +32,13 @@ risen (Init origin) store input library comes = comes.0
 risen Deploy store input library comes = comes.1
 risen (Show json) store input library comes = comes.1
 risen Plan store input library comes = comes.1
+risen Audit store input library comes = comes.1
 risen _ store input library comes = absurd comes
 
 unread : (order : Order) (store : Store) (input : Input) (library : Shelf) → ComesOf order store input library SourceFailed → Rose input.faults_before input.faults_after
 unread Deploy store input library comes = comes.0
 unread Plan store input library comes = comes.1.2.1
+unread Audit store input library comes = absurd comes
 unread (Init origin) store input library comes = absurd comes
 unread (Show json) store input library comes = absurd comes
 unread _ store input library comes = absurd comes
@@ -43,6 +46,7 @@ unread _ store input library comes = absurd comes
 ungiven : (order : Order) (store : Store) (input : Input) (library : Shelf) → ComesOf order store input library LibraryFailed → Rose library.faults_before library.faults_after
 ungiven Plan store input library comes = comes.1.2.1
 ungiven Deploy store input library comes = absurd comes
+ungiven Audit store input library comes = absurd comes
 ungiven (Init origin) store input library comes = absurd comes
 ungiven (Show json) store input library comes = absurd comes
 ungiven _ store input library comes = absurd comes
@@ -53,6 +57,7 @@ Refuses store r text = IsUnchanged store × (text ≡ refusal_line r) × (status
 
 unplanned : (order : Order) (store : Store) (input : Input) (library : Shelf) (r : Refusal) (text : List ℕ) → ComesOf order store input library (Unplanned r text) → Refuses store r text
 unplanned Plan store input library r text comes = (comes.0, comes.1.2.1, comes.1.2.2)
+unplanned Audit store input library r text comes = absurd comes
 unplanned Deploy store input library r text comes = absurd comes
 unplanned (Init origin) store input library r text comes = absurd comes
 unplanned (Show json) store input library r text comes = absurd comes
@@ -63,6 +68,7 @@ untouched (Init origin) store input library comes = comes
 untouched Deploy store input library comes = comes
 untouched (Show json) store input library comes = comes
 untouched Plan store input library comes = comes
+untouched Audit store input library comes = comes
 untouched _ store input library comes = absurd comes
 
 no_usage : (order : Order) (store : Store) (input : Input) (library : Shelf) → ComesOf order store input library WrongWords → ⊥
@@ -70,6 +76,7 @@ no_usage (Init origin) store input library comes = comes
 no_usage Deploy store input library comes = comes
 no_usage (Show json) store input library comes = comes
 no_usage Plan store input library comes = comes.1.2
+no_usage Audit store input library comes = comes
 no_usage _ store input library comes = absurd comes
 
 module _ (words : List (List ℕ)) (store : Store) (input : Input) (library : Shelf) (printed : Printed) (result : Status) where
@@ -171,6 +178,7 @@ module _ (words : List (List ℕ)) (store : Store) (input : Input) (library : Sh
     init = λ origin is. init_parts origin store printed result a (comes_of once words (Init origin) store input library a is comes) told;
     status = λ json is. status_parts json store printed result a (comes_of once words (Show json) store input library a is comes) told;
     plan = λ is. plan_parts store input library printed result a (comes_of once words Plan store input library a is comes) told;
+    audit = λ is. audit_parts store printed result a (comes_of once words Audit store input library a is comes) told;
   }
 
 -- 0 is answered only where the work is done

@@ -1,68 +1,60 @@
 -- What a crash may leave of the steps of a command.
-use Rattle.std.proofs.Common.{◌≡◌, ◌≢◌, ◌∙◌, inl, inr, ⊎_elim, ℕ, List, [], Bool, IsTrue, ap, sym, subst, refl, Err}
-use Rattle.disk_model.specs.Disk.{Image, After, Leaves, DiskLaws}
-use Rattle.disk_model.specs.Moments.{now, joined, weaker, tells_of}
+use Rattle.std.proofs.Common.{◌≡◌, ◌∙◌, inl, inr, ⊎_elim, ℕ, List, Bool, IsTrue, ap, sym, subst, refl}
+use Rattle.disk_model.specs.Disk.{Image, Leaves, DiskLaws}
+use Rattle.disk_model.specs.Moments.{now, joined, weaker, tells_of, at_start}
 use Rattle.gate_log.specs.Entries.{journal, HoldsNone}
-use Rattle.gate_log.specs.Journal.{Within, AreSettled, BeforeOrAfter, log_files, log_none, log_entries}
-use Rattle.gate_log.specs.declared.log.AppendFault.{AppendFault}
-use Rattle.gate_log.specs.declared.log.AppendFault.TheVariants.{Disk, Full}
-use Rattle.nuc_base.specs.Faults.{Rose}
-use Rattle.std.specs.Result.{IsErrOf}
+use Rattle.gate_log.specs.Journal.{AreSettled}
+use Rattle.checkpoint_log.specs.Beginnings.{second}
+use Rattle.checkpoint_log.specs.Laws.{slots_laws}
+use Rattle.checkpoint_log.specs.Slots.{slots_files, slots_none, slots_entries, slots_stands}
+use Rattle.checkpoint_log.specs.declared.slots.Slots.{Slots}
 use Rattle.records.specs.declared.record.Origin.{Origin}
 use Rattle.command_words.specs.declared.order.Order.{Order}
 use Rattle.command_words.specs.declared.order.Order.TheVariants.{Init}
-use Rattle.nucleus_top.specs.Begun.{IsFirst, IsNoneOrBegun, Begins}
+use Rattle.device.specs.Devices.{Device, no_device}
+use Rattle.deploy_state.specs.Hand.{IsInHand, LeavesEither, StandsForEither}
+use Rattle.nucleus_top.specs.Answers.{store_of}
+use Rattle.nucleus_top.specs.Begun.{IsNoneOrBegun, Begins, begun_device}
 use Rattle.nucleus_top.specs.Leaving.{LeavesOf, MayLeave}
+use Rattle.nucleus_top.specs.Opening.{Stands}
 use Rattle.nucleus_top.specs.Words.{Asks}
-use Rattle.gate_log.specs.Laws.{none_of}
-use Rattle.nucleus_top.proofs.Origins.{first_stands}
+use Rattle.nucleus_top.proofs.Origins.{none_held}
 
--- an append that is not full fails by the disk
-pub append_rose : (before now : ℕ) (fault : AppendFault) → (IsErrOf {T = Unit {0}} (Err fault) Disk → Rose before now) → ((end : ℕ) → IsErrOf {T = Unit {0}} (Err fault) (Full end) → ⊥) → Rose before now
-append_rose before now Disk cause full = cause refl
-append_rose before now (Full end) cause full = absurd (full end refl)
-
-none_or_begun : (o : Origin) (payload : List ℕ) → IsFirst payload o → (c : Image) → BeforeOrAfter log_entries [] payload c → IsNoneOrBegun o c
-none_or_begun o payload first c (inl none) = inl (none_of (c journal) none)
-none_or_begun o payload first c (inr one) = inr (first_stands c payload o first one)
+-- an image of a journal that is begun holds no entry, or stands for the new device
+none_or_begun : (o : Origin) (c : Image) → StandsForEither slots_entries no_device (begun_device o) c → IsNoneOrBegun o c
+none_or_begun o c (inl stands) = inl (none_held c stands)
+none_or_begun o c (inr stands) = inr stands
 
 module _ {D : Type 0} {tells : Bool} {seen : D → Image} {may_leave : D → Image → Type 0} {moment : D → ℕ} {left_since : D → ℕ → Image → Type 0}
     (laws : DiskLaws tells seen may_leave moment left_since) where
   -- a store that is begun, over a journal that holds no entry
-  module _ (o : Origin) (old : D) (none : IsTrue tells → log_none (seen old)) (settled : AreSettled seen may_leave log_files old) where
-    none_left : (c : Image) → may_leave old c → log_none c
-    none_left c left = subst HoldsNone (sym (settled journal refl c left)) (none (tells_of laws old c left))
+  module _ (o : Origin) (old : D) (none : IsTrue tells → slots_none (seen old)) (settled : AreSettled seen may_leave slots_files old) where
+    none_left : (c : Image) → may_leave old c → slots_none c
+    none_left c left =
+        let holds = none (tells_of laws old c left) in
+        (subst HoldsNone (sym (settled journal (inl refl) c left)) holds.0, subst HoldsNone (sym (settled second (inr refl) c left)) holds.1)
 
-    -- a journal is made, and then its first entry is added
-    pub appended : (payload : List ℕ) → IsFirst payload o → (mid new : D)
-        → Leaves moment left_since old mid (After (may_leave old) (Within log_files log_none))
-        → Leaves moment left_since mid new (After (may_leave mid) (Within log_files (BeforeOrAfter log_entries [] payload)))
+    -- a journal is made with its first entry
+    pub created : (new : D) → Leaves moment left_since old new (LeavesEither may_leave slots_files slots_entries old no_device (begun_device o))
         → Leaves moment left_since old new (LeavesOf (Init o) (may_leave old))
-    appended payload first mid new made added =
-        joined laws old mid new _ _ _ made added
-        (λ c was. inr (was.0, was.1, record { none = none_left was.0 was.1; within = record { here = inl was.2.here; others = was.2.others } }))
-        (λ c was.
-        let before = now laws old mid _ made was.0 was.1 in
-        inr (
-          before.0,
-          before.1,
-          record {
-            none = none_left before.0 before.1;
-            within = record { here = none_or_begun o payload first c was.2.here; others = λ name other. was.2.others name other ∙ before.2.others name other };
-          },
-        ))
-
-    pub created : (new : D) → Leaves moment left_since old new (After (may_leave old) (Within log_files log_none)) → Leaves moment left_since old new (LeavesOf (Init o) (may_leave old))
     created new leaves =
-        weaker laws old new _ _ (λ c was. inr (was.0, was.1, record { none = none_left was.0 was.1; within = record { here = inl was.2.here; others = was.2.others } })) leaves
+        weaker laws old new _ _
+        (λ c was. inr (was.0, was.1, record { none = none_left was.0 was.1; within = record { here = none_or_begun o c was.2.here; others = was.2.others } }))
+        leaves
 
     -- what the disk then reads as is one of the images
     pub begun : (new : D) → Leaves moment left_since old new (LeavesOf (Init o) (may_leave old)) → IsTrue tells
-        → ((name : List ℕ) → name ≢ journal → seen new name ≡ seen old name) → Begins o (seen old) (seen new)
+        → ((name : List ℕ) → ¬ (slots_files name) → seen new name ≡ seen old name) → Begins o (seen old) (seen new)
     begun new leaves told others = record {
       none = none told;
       within = record { here = ⊎_elim (λ left. inl (none_left (seen new) left)) (λ was. was.2.within.here) (now laws old new _ leaves (seen new) (laws.reads new told)); others = others };
     }
+
+  -- each image of a journal that is in hand stands for the device
+  pub held_stands : {end : Slots → ℕ} (log : Slots) (disk : D) (d : Device) → IsInHand tells may_leave slots_stands end log disk d → (c : Image) → may_leave disk c → Stands c d
+  held_stands log disk d hand c left =
+      let means = hand.means (tells_of laws disk c left) in
+      record { payloads = hand.payloads; live = slots_laws.holds log c hand.payloads (hand.behind.each c left); means = means.0; room = means.1 }
 
   -- a command that goes on after a call that changes nothing
   pub then_order : (order : Order) (old mid new : D) → Leaves moment left_since old mid (may_leave old)
@@ -76,6 +68,16 @@ module _ {D : Type 0} {tells : Bool} {seen : D → Image} {may_leave : D → Ima
   pub only_allowed : (order : Order) (old new : D) → Leaves moment left_since old new (may_leave old) → Leaves moment left_since old new (LeavesOf order (may_leave old))
   only_allowed order old new leaves = weaker laws old new _ _ (λ c left. inl left) leaves
 
+  -- what a crash leaves of these files stays so
+  pub settled_on : (files : List ℕ → Type 0) (old new : D) → Leaves moment left_since old new (may_leave old) → seen new ≡ seen old
+      → AreSettled seen may_leave files old → AreSettled seen may_leave files new
+  settled_on files old new leaves same settled = λ file is c left.
+      settled file is c (now laws old new _ leaves c left) ∙ ap (λ (s : Image). s file) (sym same)
+
+  -- no call
+  pub not_called : (order : Order) (old new : D) → new ≡ old → Leaves moment left_since old new (LeavesOf order (may_leave old))
+  not_called order old new same = subst (λ (d : D). Leaves moment left_since old d (LeavesOf order (may_leave old))) (sym same) (only_allowed order old old (at_start laws old))
+
   -- by the words that ask the command
   pub by_words : (words : List (List ℕ)) (order : Order) (old new : D) → Asks words order
       → Leaves moment left_since old new (LeavesOf order (may_leave old)) → Leaves moment left_since old new (MayLeave words (may_leave old))
@@ -85,8 +87,7 @@ module _ {D : Type 0} {tells : Bool} {seen : D → Image} {may_leave : D → Ima
   pub by_none : (words : List (List ℕ)) (old new : D) → Leaves moment left_since old new (may_leave old) → Leaves moment left_since old new (MayLeave words (may_leave old))
   by_none words old new leaves = weaker laws old new _ _ (λ c left. inl left) leaves
 
-  -- what a crash leaves of the journal stays so
-  pub settled_on : (old new : D) → Leaves moment left_since old new (may_leave old) → seen new ≡ seen old
-      → AreSettled seen may_leave log_files old → AreSettled seen may_leave log_files new
-  settled_on old new leaves same settled = λ file is c left.
-      settled file is c (now laws old new _ leaves c left) ∙ ap (λ (s : Image). s file) (sym same)
+-- a call after one that changed nothing and counted no fault
+pub store_after : {D : Type 0} (tells : Bool) (seen : D → Image) (faults : D → ℕ) (old mid new : D) → seen mid ≡ seen old → faults mid ≡ faults old
+    → store_of tells seen faults mid new ≡ store_of tells seen faults old new
+store_after tells seen faults old mid new same stays = λ i. record { tells = tells; before = same i; after = seen new; faults_before = stays i; faults_after = faults new }

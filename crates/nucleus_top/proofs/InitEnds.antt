@@ -2,19 +2,18 @@
 use Rattle.std.proofs.Common.{◌≡◌, inl, inr, ℕ, List, IsTrue, subst}
 use Rattle.nuc_base.specs.declared.status.Status.{Status}
 use Rattle.nuc_base.specs.declared.status.Status.TheVariants as status
-use Rattle.gate_log.specs.Journal.{log_none}
+use Rattle.checkpoint_log.specs.Slots.{slots_none}
 use Rattle.records.specs.declared.record.Origin.{Origin}
 use Rattle.device.specs.Devices.{Device, no_device}
-use Rattle.device.specs.Standing.{Stands}
 use Rattle.nucleus_top.specs.Answers.{Store, Printed, Told, IsUnchanged, Prints, Expects, made_line, damaged_line, initialised_line, status_of}
-use Rattle.nucleus_top.specs.Opening.{HasEntry, StandsForNone, IsInitialised}
+use Rattle.nucleus_top.specs.Opening.{Stands, HasEntry, StandsForNone, IsInitialised}
 use Rattle.nucleus_top.specs.Inits.{IsMade, MayBegin, IsRefusedAt, NamesThing, Inits, InitParts}
 use Rattle.command_words.specs.declared.order.Order.{Order}
 use Rattle.nucleus_top.specs.Leaving.{IsDurable}
 use Rattle.disk_model.specs.Disk.{Image}
 use Rattle.nucleus_top.specs.declared.answer.Answer.{Answer}
-use Rattle.nucleus_top.specs.declared.answer.Answer.TheVariants.{Stored, Made, Shown, Planned, Unplanned, DiskFailed, Damaged, Initialised, NoMemory}
-use Rattle.device.proofs.OneDevice.{none_stands}
+use Rattle.nucleus_top.specs.declared.answer.Answer.TheVariants.{Stored, Made, Shown, Planned, Unplanned, Whole, DiskFailed, Damaged, Initialised, NoMemory}
+use Rattle.nucleus_top.proofs.Standing.{none_stands}
 use Rattle.nucleus_top.proofs.Told.{told_of}
 
 module _ (origin : Origin) (store : Store) (printed : Printed) (result : Status) where
@@ -23,11 +22,12 @@ module _ (origin : Origin) (store : Store) (printed : Printed) (result : Status)
   done (Shown text) comes (inl told) is = absurd comes
   done (Made thing) comes (inl told) is = (comes.1, subst (λ (t : List ℕ). Prints printed (made_line t)) comes.0 told.1)
   done (Planned text) comes (inl told) is = absurd comes
+  done Whole comes (inl told) is = absurd comes
   done (Unplanned r text) comes (inl told) is = absurd comes
   done a comes (inl told) is = cc
   done a comes (inr told) is = cc
 
-  done_comes : (a : Answer) → Inits origin store a → Told printed result a → IsTrue store.tells → log_none store.before → Expects result status.Done
+  done_comes : (a : Answer) → Inits origin store a → Told printed result a → IsTrue store.tells → slots_none store.before → Expects result status.Done
   done_comes a comes (inr told) tells none = inr (inr (inl told.0))
   done_comes (Made thing) comes (inl told) tells none = inr (inl told.0)
   done_comes DiskFailed comes (inl told) tells none = inl told.0

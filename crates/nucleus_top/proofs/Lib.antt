@@ -1,5 +1,8 @@
+mod AuditEnds
+mod Comparing
 mod DeployEnds
 mod Ends
+mod Faults
 mod Forms
 mod Images
 mod InitEnds

@@ -1,26 +1,31 @@
--- The device that begins with an origin, by its first entry.
-use Rattle.std.proofs.Common.{◌≡◌, ◌∙◌, ℕ, List, [], ◌∷◌, ap, inl, refl, Option, Some, is_some, false, sym}
+-- A device has an origin exactly where its journal has an entry.
+use Rattle.std.proofs.Common.{◌≡◌, ℕ, List, [], ◌∷◌, refl, Option, None, Some, ap, subst}
 use Rattle.std.proofs.lemmas.Bool.{false≢true}
+use Rattle.std.specs.Option.{IsSome}
 use Rattle.disk_model.specs.Disk.{Image}
-use Rattle.gate_log.specs.Journal.{log_entries}
-use Rattle.gate_log.specs.Turned.{BeginsStore}
+use Rattle.checkpoint_log.specs.Slots.{slots_entries, slots_none}
 use Rattle.records.specs.declared.record.Origin.{Origin}
-use Rattle.records.specs.Layout.{Spelled, origin}
-use Rattle.records.specs.Stored.{Genesis}
-use Rattle.device.specs.Standing.{Stands}
-use Rattle.nucleus_top.specs.Begun.{IsFirst, begun_device}
+use Rattle.device.specs.Devices.{Device, no_device}
+use Rattle.device.specs.Standing.{Means}
+use Rattle.device.proofs.Origins.{has_origin}
+use Rattle.nucleus_top.specs.Opening.{Stands, HasEntry}
+use Rattle.nucleus_top.proofs.Standing.{none_of, same_device, none_stands}
 
-pub first_stands : (image : Image) (payload : List ℕ) (o : Origin) → IsFirst payload o → log_entries image (payload ∷ []) → Stands image (begun_device o)
-first_stands image payload o first entries = record {
-  payloads = payload ∷ [];
-  live = entries;
-  means = inl (begun_device o, record { entry = Genesis o; spelled = first.spelled; lawful = record { allowed = (refl, first.short); leaves = refl } }, refl);
-  room = tt;
-}
+-- what means the device before its first record is no payload
+no_payload : (ps : List (List ℕ)) → Means ps no_device → ps ≡ []
+no_payload [] means = refl
+no_payload (p ∷ ps) means = let origin = has_origin (p ∷ ps) no_device (λ is. cc) means in absurd cc
 
-pub not_none : (x : Option Origin) (o : Origin) → is_some x ≡ false → x ≡ Some o → ⊥
-not_none x o none is = false≢true (sym none ∙ ap is_some is)
+-- a journal that stands for it holds no entry
+pub none_held : (image : Image) → Stands image no_device → slots_none image
+none_held image stands = none_of image (subst (λ (ps : List (List ℕ)). slots_entries image ps) (no_payload stands.payloads stands.means) stands.live)
 
--- its payload begins as that of a store
-pub begins_store : (payload : List ℕ) (o : Origin) → Spelled payload (Genesis o) → BeginsStore payload
-begins_store payload o spelled = record { rest = origin.spell o; is = spelled.same }
+some_origin : (x : Option Origin) → x ≡ None → IsSome x → ⊥
+some_origin None is some = false≢true some
+some_origin (Some o) is some = absurd cc
+
+-- one that stands for a device with an origin holds some
+pub has_entry : (image : Image) (d : Device) → Stands image d → IsSome d.origin → HasEntry image
+has_entry image d stands some = λ none.
+    let same : d ≡ no_device = same_device image d no_device stands (none_stands image none) in
+    some_origin d.origin (ap (λ (x : Device). x.origin) same) some

@@ -4,19 +4,18 @@ use Rattle.nuc_base.specs.declared.kinds.Outcome.TheVariants.{Successful}
 use Rattle.nuc_base.specs.declared.status.Status.{Status}
 use Rattle.nuc_base.specs.declared.status.Status.TheVariants as status
 use Rattle.nuc_base.specs.Faults.{Rose}
-use Rattle.gate_log.specs.Journal.{log_none}
+use Rattle.checkpoint_log.specs.Slots.{slots_none}
 use Rattle.device.specs.Devices.{Device, Pending as PendingPlan, no_device}
-use Rattle.device.specs.Standing.{Stands}
-use Rattle.device.proofs.OneDevice.{none_stands, same_device}
+use Rattle.nucleus_top.proofs.Standing.{none_stands, same_device}
 use Rattle.plan_core.specs.declared.fault.Refusal.{Refusal}
 use Rattle.plan_core.specs.declared.fault.Refusal.TheVariants.{Repeated}
 use Rattle.refusal_lines.specs.Lines.{refusal_line}
 use Rattle.nucleus_top.specs.Answers.{Store, Input, Shelf, Printed, Told, IsUnchanged, Prints, Expects, none_line, damaged_line, pending_line, library_line, status_of, lines_of}
-use Rattle.nucleus_top.specs.Opening.{HasEntry, StandsForNone}
+use Rattle.nucleus_top.specs.Opening.{Stands, HasEntry, StandsForNone}
 use Rattle.nucleus_top.specs.Inits.{IsRefusedAt}
 use Rattle.nucleus_top.specs.Planning.{IsProposed, IsFound, Plans, IsPlanPrinted, IsClosePrinted, IsPending, PlanParts}
 use Rattle.nucleus_top.specs.declared.answer.Answer.{Answer}
-use Rattle.nucleus_top.specs.declared.answer.Answer.TheVariants.{Stored, Made, Shown, Planned, Unplanned, Pending, DiskFailed, SourceFailed, LibraryFailed, NotInitialised, Damaged, NoMemory}
+use Rattle.nucleus_top.specs.declared.answer.Answer.TheVariants.{Stored, Made, Shown, Planned, Unplanned, Whole, Pending, DiskFailed, SourceFailed, LibraryFailed, NotInitialised, Damaged, NoMemory}
 use Rattle.nucleus_top.proofs.Unrefused.{no_refusal, only_successful}
 
 module _ (store : Store) (input : Input) (library : Shelf) (printed : Printed) (result : Status) where
@@ -46,6 +45,7 @@ module _ (store : Store) (input : Input) (library : Shelf) (printed : Printed) (
   done (Stored w) comes (inl told) is = absurd comes.1.2
   done (Made thing) comes (inl told) is = absurd comes.1.2
   done (Shown text) comes (inl told) is = absurd comes.1.2
+  done Whole comes (inl told) is = absurd comes.1.2
   done (Planned text) comes (inl told) is =
       let on = comes.1.2 in
       inl (comes.1.0, on.0, comes.1.1, on.1, subst (λ (t : List ℕ). Prints printed t) on.2 told.1)
@@ -95,13 +95,13 @@ module _ (store : Store) (input : Input) (library : Shelf) (printed : Printed) (
   given a comes (inl told) is = cc
   given a comes (inr told) is = cc
 
-  none : (a : Answer) → Plans store input library a → Told printed result a → result ≡ status.NotInitialised → (IsTrue store.tells → log_none store.before) × Prints printed none_line
+  none : (a : Answer) → Plans store input library a → Told printed result a → result ≡ status.NotInitialised → (IsTrue store.tells → slots_none store.before) × Prints printed none_line
   none NotInitialised comes (inl told) is = (comes.1, told.1)
   none (Unplanned r text) comes (inl told) is = absurd (no_refusal r status.NotInitialised refl (sym told.0 ∙ is))
   none a comes (inl told) is = cc
   none a comes (inr told) is = cc
 
-  none_comes : (a : Answer) → Plans store input library a → Told printed result a → IsTrue store.tells → log_none store.before → Expects result status.NotInitialised
+  none_comes : (a : Answer) → Plans store input library a → Told printed result a → IsTrue store.tells → slots_none store.before → Expects result status.NotInitialised
   none_comes a comes (inr told) tells holds_none = inr (inr (inl told.0))
   none_comes DiskFailed comes (inl told) tells holds_none = inl told.0
   none_comes SourceFailed comes (inl told) tells holds_none = inr (inr (inl told.0))

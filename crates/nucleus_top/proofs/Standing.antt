@@ -1,15 +1,20 @@
--- What stands for a device has entries.
-use Rattle.std.proofs.Common.{◌≡◌, ℕ, List, [], subst}
+-- What the journal in its two slots stands for.
+use Rattle.std.proofs.Common.{◌≡◌, [], inl, inr, length, ap, arith}
 use Rattle.disk_model.specs.Disk.{Image}
-use Rattle.gate_log.specs.Journal.{log_entries, log_stands}
-use Rattle.gate_log.specs.Laws.{log_laws, none_is_empty, none_of}
-use Rattle.gate_log.specs.Entries.{journal}
-use Rattle.gate_log.specs.declared.log.Log.{Log}
-use Rattle.nucleus_top.specs.Opening.{HasEntry}
+use Rattle.checkpoint_log.specs.Slots.{slots_entries, slots_none}
+use Rattle.checkpoint_log.specs.Laws.{slots_laws}
+use Rattle.device.specs.Devices.{Device, no_device}
+use Rattle.device.proofs.OneDevice.{none_stands_for, same_device_for}
+use Rattle.nucleus_top.specs.Opening.{Stands}
 
--- a log has entries exactly where its payloads are some
-pub has_entry : (image : Image) (log : Log) (payloads : List (List ℕ)) → log_stands log image payloads → (payloads ≡ [] → ⊥) → HasEntry image
-has_entry image log payloads on some = λ none. some (none_is_empty (image journal) payloads none (log_laws.holds log image payloads on))
+-- a journal without an entry stands for the device before its first record
+pub none_stands : (image : Image) → slots_none image → Stands image no_device
+none_stands image none = none_stands_for slots_laws image none
 
-pub some_payloads : (image : Image) (log : Log) (payloads : List (List ℕ)) → log_stands log image payloads → HasEntry image → payloads ≡ [] → ⊥
-some_payloads image log payloads on some = λ is. some (none_of (image journal) (subst (λ (ps : List (List ℕ)). log_entries image ps) is (log_laws.holds log image payloads on)))
+pub same_device : (image : Image) (d e : Device) → Stands image d → Stands image e → d ≡ e
+same_device image d e x y = same_device_for slots_laws image d e x y
+
+-- no slot holds an entry where the journal holds no payload
+pub none_of : (image : Image) → slots_entries image [] → slots_none image
+none_of image (inl none) = none.0
+none_of image (inr live) = let says = live.2.says in absurd (omega (arith, ap length says.is))

@@ -2,17 +2,23 @@
 use Rattle.std.proofs.Common.{◌≡◌, inl, inr, ℕ, List, Bool, IsTrue}
 use Rattle.nuc_base.specs.declared.status.Status.{Status}
 use Rattle.nuc_base.specs.declared.status.Status.TheVariants as status
-use Rattle.gate_log.specs.Journal.{log_none}
+use Rattle.checkpoint_log.specs.Slots.{slots_none}
 use Rattle.device.specs.Devices.{Device, no_device}
-use Rattle.device.specs.Standing.{Stands}
 use Rattle.nucleus_top.specs.Answers.{Store, Printed, Told, IsUnchanged, Prints, Expects, none_line, damaged_line}
-use Rattle.nucleus_top.specs.Opening.{HasEntry, StandsForNone}
+use Rattle.nucleus_top.specs.Opening.{Stands, HasEntry, StandsForNone}
 use Rattle.nucleus_top.specs.Inits.{IsRefusedAt}
-use Rattle.nucleus_top.specs.Shows.{IsShown, Shows, StatusParts}
+use Rattle.nucleus_top.specs.Shows.{IsShown, ShowsDevice, Shows, StatusParts}
 use Rattle.nucleus_top.specs.declared.answer.Answer.{Answer}
-use Rattle.nucleus_top.specs.declared.answer.Answer.TheVariants.{Stored, Made, Shown, Planned, Unplanned, DiskFailed, NotInitialised, Damaged, NoMemory}
-use Rattle.device.proofs.OneDevice.{none_stands}
+use Rattle.nucleus_top.specs.declared.answer.Answer.TheVariants.{Stored, Made, Shown, Planned, Unplanned, Whole, DiskFailed, NotInitialised, Damaged, NoMemory}
+use Rattle.nucleus_top.proofs.Standing.{none_stands}
 use Rattle.nucleus_top.proofs.Told.{told_of}
+
+-- the text of the device for which the journal stands
+pub found_shows : (json : Bool) (store : Store) (d : Device) (a : Answer) → ShowsDevice json d a → IsUnchanged store
+    → (IsTrue store.tells → HasEntry store.before × Stands store.before d) → Shows json store a
+found_shows json store d (Shown text) shows same found = (same, λ tells. record { some = (found tells).0; device = d; stands = (found tells).1; text_is = shows })
+found_shows json store d NoMemory shows same found = same
+found_shows json store d a shows same found = absurd shows
 
 module _ (json : Bool) (store : Store) (printed : Printed) (result : Status) where
   reads_only : (a : Answer) → Shows json store a → IsUnchanged store
@@ -28,6 +34,7 @@ module _ (json : Bool) (store : Store) (printed : Printed) (result : Status) whe
   done (Made thing) comes (inl told) is = absurd comes
   done (Shown text) comes (inl told) is = (text, comes.1, told.1)
   done (Planned text) comes (inl told) is = absurd comes
+  done Whole comes (inl told) is = absurd comes
   done (Unplanned r text) comes (inl told) is = absurd comes
   done a comes (inl told) is = cc
   done a comes (inr told) is = cc
@@ -41,13 +48,13 @@ module _ (json : Bool) (store : Store) (printed : Printed) (result : Status) whe
   done_comes NoMemory comes (inl told) tells some d stands = inr (inr (inr told.0))
   done_comes a comes (inl told) tells some d stands = absurd comes
 
-  none : (a : Answer) → Shows json store a → Told printed result a → result ≡ status.NotInitialised → (IsTrue store.tells → log_none store.before) × Prints printed none_line
+  none : (a : Answer) → Shows json store a → Told printed result a → result ≡ status.NotInitialised → (IsTrue store.tells → slots_none store.before) × Prints printed none_line
   none NotInitialised comes (inl told) is = (comes.1, told.1)
   none (Unplanned r text) comes (inl told) is = absurd comes
   none a comes (inl told) is = cc
   none a comes (inr told) is = cc
 
-  none_comes : (a : Answer) → Shows json store a → Told printed result a → IsTrue store.tells → log_none store.before → Expects result status.NotInitialised
+  none_comes : (a : Answer) → Shows json store a → Told printed result a → IsTrue store.tells → slots_none store.before → Expects result status.NotInitialised
   none_comes a comes (inr told) tells holds_none = inr (inr (inl told.0))
   none_comes (Shown text) comes (inl told) tells holds_none = absurd ((comes.1 tells).some holds_none)
   none_comes DiskFailed comes (inl told) tells holds_none = inl told.0

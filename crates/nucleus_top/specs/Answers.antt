@@ -10,7 +10,7 @@ use Rattle.edges.specs.Pieces.{AppendsFront}
 use Rattle.library_core.specs.Library.{Content}
 use Rattle.refusal_lines.specs.Statuses.{status_of_refusal}
 use Rattle.nucleus_top.specs.declared.answer.Answer.{Answer}
-use Rattle.nucleus_top.specs.declared.answer.Answer.TheVariants.{Stored, Made, Shown, Planned, Unplanned, Pending, WrongWords, Refused, DiskFailed, SourceFailed, LibraryFailed, NotInitialised, Damaged, Initialised, NoMemory}
+use Rattle.nucleus_top.specs.declared.answer.Answer.TheVariants.{Stored, Made, Shown, Planned, Unplanned, Whole, Differs, Pending, WrongWords, Refused, DiskFailed, SourceFailed, LibraryFailed, NotInitialised, Damaged, Initialised, NoMemory}
 
 abbrev pub status_of : Answer → Status
 status_of (Stored deployment) = status.Done
@@ -18,6 +18,8 @@ status_of (Made thing) = status.Done
 status_of (Shown text) = status.Done
 status_of (Planned text) = status.Done
 status_of (Unplanned refusal text) = status_of_refusal refusal
+status_of Whole = status.Done
+status_of (Differs text) = status.Differs
 status_of (Pending id) = status.PendingStands
 status_of WrongWords = status.Usage
 status_of Refused = status.BadInput
@@ -44,6 +46,9 @@ made_line thing = codes "initialised " ++ thing ++ codes "\n"
 abbrev pub pending_line : List ℕ → List ℕ
 pending_line id = codes "refused 4 pending " ++ id ++ codes "\n"
 
+abbrev pub whole_line : List ℕ
+whole_line = codes "whole\n"
+
 abbrev pub library_line : List ℕ
 library_line = codes "refused 7 library\n"
 
@@ -63,6 +68,8 @@ lines_of (Made thing) = made_line thing
 lines_of (Shown text) = text
 lines_of (Planned text) = text
 lines_of (Unplanned refusal text) = text
+lines_of Whole = whole_line
+lines_of (Differs text) = text
 lines_of (Pending id) = pending_line id
 lines_of WrongWords = usage_line
 lines_of Refused = refused_line

@@ -1,24 +1,22 @@
 -- What `init` answers.
-use Rattle.std.specs.Prelude.{◌≡◌, ◌≢◌, ◌⊎◌, ℕ, List, IsTrue, Some, ⊤}
+use Rattle.std.specs.Prelude.{◌≡◌, ◌⊎◌, ℕ, List, IsTrue, Some, ⊤}
 use Rattle.std.specs.Fmt.{decimal}
 use Rattle.nuc_base.specs.declared.status.Status.{Status}
 use Rattle.nuc_base.specs.declared.status.Status.TheVariants as status
-use Rattle.gate_log.specs.Entries.{journal}
-use Rattle.gate_log.specs.Journal.{log_none}
+use Rattle.checkpoint_log.specs.Slots.{slots_files, slots_none}
 use Rattle.records.specs.declared.record.Origin.{Origin}
 use Rattle.device.specs.Devices.{Device}
-use Rattle.device.specs.Standing.{Stands}
 use Rattle.nucleus_top.specs.Begun.{begun_device, Begins}
-use Rattle.nucleus_top.specs.Opening.{HasEntry, StandsForNone, IsDamage, IsInitialised}
+use Rattle.nucleus_top.specs.Opening.{Stands, HasEntry, StandsForNone, IsDamage, IsInitialised}
 use Rattle.nucleus_top.specs.Answers.{Store, Printed, IsUnchanged, HasRisen, Prints, Expects, made_line, damaged_line, initialised_line, status_of}
 use Rattle.nucleus_top.specs.declared.answer.Answer.{Answer}
 use Rattle.nucleus_top.specs.declared.answer.Answer.TheVariants.{Made, DiskFailed, Damaged, Initialised, NoMemory}
 
 -- The journal held no entry and stands for the device that begins with this origin; the other files stay.
 pub record IsMade (store : Store) (origin : Origin) : Type 0 where
-  pub none : log_none store.before
+  pub none : slots_none store.before
   pub stands : Stands store.after (begun_device origin)
-  pub others : (name : List ℕ) → name ≢ journal → store.after name ≡ store.before name
+  pub others : (name : List ℕ) → ¬ (slots_files name) → store.after name ≡ store.before name
 
 -- Every file reads as before; or the journal held no entry, and holds none or stands for the device of the origin.
 abbrev pub MayBegin : Store → Origin → Type 0
@@ -54,7 +52,7 @@ pub record InitParts (origin : Origin) (store : Store) (printed : Printed) (resu
   pub which : (result ≡ status.Edge) ⊎ ((answer : Answer) × Inits origin store answer × (result ≡ status_of answer))
   -- 0 comes exactly where the journal held no entry; it then stands for the device of the origin.
   pub done : result ≡ status.Done → (IsTrue store.tells → IsMade store origin) × Prints printed (made_line origin.thing)
-  pub done_comes : IsTrue store.tells → log_none store.before → Expects result status.Done
+  pub done_comes : IsTrue store.tells → slots_none store.before → Expects result status.Done
   -- 5: every file reads as before, or the journal held no entry, and holds none or stands for the device of the origin.
   pub failed : result ≡ status.Disk → IsTrue store.tells → MayBegin store origin
   -- 9 comes exactly where the journal stands for no device.

@@ -2,10 +2,10 @@
 use Rattle.std.specs.Prelude.{◌≡◌, ◌⊎◌, ℕ, List, codes, ⊤}
 use Rattle.nuc_base.specs.declared.status.Status.TheVariants as status
 use Rattle.disk_model.specs.Disk.{Image, Step, After, Settled}
-use Rattle.gate_log.specs.Entries.{journal}
+use Rattle.checkpoint_log.specs.Slots.{slots_files}
 use Rattle.command_words.specs.declared.order.Order.{Order}
 use Rattle.command_words.specs.declared.order.Order.TheVariants.{Init, Deploy}
-use Rattle.device.specs.Standing.{Stands}
+use Rattle.nucleus_top.specs.Opening.{Stands}
 use Rattle.nucleus_top.specs.Answers.{status_of}
 use Rattle.nucleus_top.specs.Begun.{begun_device, Begins}
 use Rattle.nucleus_top.specs.Words.{Asks}
@@ -25,17 +25,17 @@ LeavesOf order allowed image = allowed image ⊎ After allowed (Makes order) ima
 abbrev pub MayLeave : List (List ℕ) → (Image → Type 0) → Image → Type 0
 MayLeave words allowed image = allowed image ⊎ ((order : Order) × Asks words order × After allowed (Makes order) image)
 
--- the one file that a command may change
-abbrev pub file_of : Order → List ℕ
-file_of Deploy = codes "state"
-file_of _ = journal
+-- the files that a command may change
+abbrev pub files_of : Order → List ℕ → Type 0
+files_of Deploy name = name ≡ codes "state"
+files_of _ name = slots_files name
 
 -- A crash does not undo the work of a command that is done: after `init` each image stands for the new device, and
--- after the others the command's file is as it reads.
+-- after the others the command's files are as they read.
 abbrev pub IsDurable : Order → (Image → Type 0) → Image → Type 0
 IsDurable (Init origin) images seen = (c : Image) → images c → Stands c (begun_device origin)
 IsDurable Deploy images seen = Settled images (codes "state") (seen (codes "state"))
-IsDurable _ images seen = Settled images journal (seen journal)
+IsDurable _ images seen = (name : List ℕ) → slots_files name → Settled images name (seen name)
 
 -- where an answer says that the work is done
 abbrev pub Keeps : Order → (Image → Type 0) → Image → Answer → Type 0

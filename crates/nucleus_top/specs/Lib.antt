@@ -1,4 +1,5 @@
 pub mod Answers
+pub mod Audits
 pub mod Begun
 pub mod Deploys
 pub mod First
@@ -8,6 +9,7 @@ pub mod Opening
 pub mod Parts
 pub mod Planning
 pub mod Reading
+pub mod Refusing
 pub mod Shows
 pub mod State
 pub mod Words

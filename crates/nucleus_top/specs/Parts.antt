@@ -5,11 +5,12 @@ use Rattle.nuc_base.specs.declared.status.Status.TheVariants as status
 use Rattle.nuc_base.specs.Faults.{Rose}
 use Rattle.records.specs.declared.record.Origin.{Origin}
 use Rattle.device.specs.Devices.{Device}
-use Rattle.device.specs.Standing.{Stands}
+use Rattle.nucleus_top.specs.Opening.{Stands}
 use Rattle.command_words.specs.declared.order.Order.{Order}
-use Rattle.command_words.specs.declared.order.Order.TheVariants.{Init, Deploy, Status as Show, Plan}
+use Rattle.command_words.specs.declared.order.Order.TheVariants.{Init, Deploy, Status as Show, Plan, Audit}
 use Rattle.nucleus_top.specs.Words.{Asks, AsksNothing}
 use Rattle.nucleus_top.specs.Answers.{Store, Input, Shelf, Printed, IsUnchanged, HasRisen, IsQuiet, IsStill, IsCutShort, Prints, Yields, usage_line, library_line}
+use Rattle.nucleus_top.specs.Audits.{Audits, AuditParts}
 use Rattle.nucleus_top.specs.Deploys.{Deploys, DeployParts}
 use Rattle.nucleus_top.specs.Inits.{Inits, InitParts}
 use Rattle.nucleus_top.specs.Planning.{Plans, PlanParts}
@@ -23,6 +24,7 @@ ComesOf (Init origin) store input library = Inits origin store
 ComesOf Deploy store input library = Deploys store input
 ComesOf (Show json) store input library = Shows json store
 ComesOf Plan store input library = Plans store input library
+ComesOf Audit store input library = Audits store
 ComesOf _ store input library = λ answer. ⊥
 
 -- Why an answer comes: by the command that the words ask, since they ask none that is built, or for want of memory.
@@ -65,3 +67,4 @@ pub record Parts (words : List (List ℕ)) (store : Store) (input : Input) (libr
   pub init : (origin : Origin) → Asks words (Init origin) → InitParts origin store printed result
   pub status : (json : Bool) → Asks words (Show json) → StatusParts json store printed result
   pub plan : Asks words Plan → PlanParts store input library printed result
+  pub audit : Asks words Audit → AuditParts store printed result

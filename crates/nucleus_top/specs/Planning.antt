@@ -5,22 +5,22 @@ use Rattle.nuc_base.specs.declared.kinds.Outcome.TheVariants.{Successful}
 use Rattle.nuc_base.specs.declared.status.Status.{Status}
 use Rattle.nuc_base.specs.declared.status.Status.TheVariants as status
 use Rattle.disk_model.specs.Disk.{Image}
-use Rattle.gate_log.specs.Journal.{log_none}
+use Rattle.checkpoint_log.specs.Slots.{slots_none}
 use Rattle.records.specs.Stored.{draft_view}
 use Rattle.records.specs.declared.record.Origin.{Origin}
 use Rattle.records.specs.declared.record.Draft.{Draft}
 use Rattle.library_core.specs.declared.fault.CandidatesFault.TheVariants as gather
 use Rattle.device.specs.Devices.{Device, Pending as PendingPlan}
-use Rattle.device.specs.Standing.{Stands}
 use Rattle.plan_core.specs.Checks.{ProposesRead}
 use Rattle.plan_core.specs.declared.fault.Refusal.{Refusal}
 use Rattle.plan_core.specs.declared.fault.Refusal.TheVariants.{Repeated, Candidates}
 use Rattle.status_text.specs.Status.{closed_line}
 use Rattle.refusal_lines.specs.Lines.{refusal_line, plan_lines}
 use Rattle.refusal_lines.specs.Statuses.{status_of_refusal}
-use Rattle.nucleus_top.specs.Opening.{HasEntry, StandsForNone}
+use Rattle.nucleus_top.specs.Opening.{Stands, HasEntry, StandsForNone}
 use Rattle.nucleus_top.specs.Inits.{IsRefusedAt}
-use Rattle.nucleus_top.specs.Answers.{Store, Input, Shelf, Printed, IsUnchanged, IsReadUpTo, HasRisen, Prints, Expects, none_line, damaged_line, pending_line, library_line, status_of, lines_of}
+use Rattle.nucleus_top.specs.Refusing.{Refuses}
+use Rattle.nucleus_top.specs.Answers.{Store, Input, Shelf, Printed, IsUnchanged, IsReadUpTo, Prints, Expects, none_line, damaged_line, pending_line, library_line, status_of, lines_of}
 use Rattle.nucleus_top.specs.declared.answer.Answer.{Answer}
 use Rattle.nucleus_top.specs.declared.answer.Answer.TheVariants.{Planned, Unplanned, Pending, DiskFailed, SourceFailed, LibraryFailed, NotInitialised, Damaged, NoMemory}
 
@@ -84,10 +84,10 @@ ComesOn store input library answer = (d : Device) × IsFound store d × PlansOn 
 
 -- Why an answer comes. Every file reads as before.
 abbrev pub Plans : Store → Input → Shelf → Answer → Type 0
-Plans store input library DiskFailed = IsUnchanged store × HasRisen store
-Plans store input library NotInitialised = IsUnchanged store × (IsTrue store.tells → log_none store.before)
-Plans store input library (Damaged place) = IsRefusedAt store place
-Plans store input library NoMemory = IsUnchanged store
+Plans store input library DiskFailed = Refuses store DiskFailed
+Plans store input library NotInitialised = Refuses store NotInitialised
+Plans store input library (Damaged place) = Refuses store (Damaged place)
+Plans store input library NoMemory = Refuses store NoMemory
 Plans store input library answer = IsUnchanged store × ComesOn store input library answer
 
 -- a plan of the document, and its lines were printed
@@ -122,8 +122,8 @@ pub record PlanParts (store : Store) (input : Input) (library : Shelf) (printed 
   -- 7 comes only where the library's count rose.
   pub library_failed : result ≡ status.Library → Rose library.faults_before library.faults_after × Prints printed library_line
   -- 8 comes exactly where the journal holds no entry.
-  pub none : result ≡ status.NotInitialised → (IsTrue store.tells → log_none store.before) × Prints printed none_line
-  pub none_comes : IsTrue store.tells → log_none store.before → Expects result status.NotInitialised
+  pub none : result ≡ status.NotInitialised → (IsTrue store.tells → slots_none store.before) × Prints printed none_line
+  pub none_comes : IsTrue store.tells → slots_none store.before → Expects result status.NotInitialised
   -- 9 comes exactly where the journal stands for no device.
   pub damaged : result ≡ status.Damaged → (place : List ℕ) × IsRefusedAt store place × Prints printed (damaged_line place)
   pub damaged_comes : IsTrue store.tells → StandsForNone store.before → Expects result status.Damaged

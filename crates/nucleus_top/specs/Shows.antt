@@ -4,15 +4,15 @@ use Rattle.serde_json.specs.Written.{compact_text}
 use Rattle.nuc_base.specs.declared.status.Status.{Status}
 use Rattle.nuc_base.specs.declared.status.Status.TheVariants as status
 use Rattle.disk_model.specs.Disk.{Image}
-use Rattle.gate_log.specs.Journal.{log_none}
+use Rattle.checkpoint_log.specs.Slots.{slots_none}
 use Rattle.device.specs.Devices.{Device}
-use Rattle.device.specs.Standing.{Stands}
 use Rattle.status_text.specs.Status.{status_text, status_tree}
-use Rattle.nucleus_top.specs.Opening.{HasEntry, StandsForNone}
+use Rattle.nucleus_top.specs.Opening.{Stands, HasEntry, StandsForNone}
 use Rattle.nucleus_top.specs.Inits.{IsRefusedAt}
-use Rattle.nucleus_top.specs.Answers.{Store, Printed, IsUnchanged, HasRisen, Prints, Expects, none_line, damaged_line, status_of}
+use Rattle.nucleus_top.specs.Refusing.{Refuses}
+use Rattle.nucleus_top.specs.Answers.{Store, Printed, IsUnchanged, Prints, Expects, none_line, damaged_line, status_of}
 use Rattle.nucleus_top.specs.declared.answer.Answer.{Answer}
-use Rattle.nucleus_top.specs.declared.answer.Answer.TheVariants.{Shown, DiskFailed, NotInitialised, Damaged, NoMemory}
+use Rattle.nucleus_top.specs.declared.answer.Answer.TheVariants.{Shown, NoMemory}
 
 -- the lines of a device, or one line of JSON
 abbrev pub shown : Bool → Device → List ℕ
@@ -35,11 +35,7 @@ ShowsDevice json d _ = ⊥
 -- Why an answer comes, and what it leaves on the disk.
 abbrev pub Shows : Bool → Store → Answer → Type 0
 Shows json store (Shown text) = IsUnchanged store × (IsTrue store.tells → IsShown store.before json text)
-Shows json store DiskFailed = IsUnchanged store × HasRisen store
-Shows json store NotInitialised = IsUnchanged store × (IsTrue store.tells → log_none store.before)
-Shows json store (Damaged place) = IsRefusedAt store place
-Shows json store NoMemory = IsUnchanged store
-Shows json store _ = ⊥
+Shows json store answer = Refuses store answer
 
 pub record StatusParts (json : Bool) (store : Store) (printed : Printed) (result : Status) : Type 0 where
   -- The status is that of an answer that comes by its cause, or 6.
@@ -50,8 +46,8 @@ pub record StatusParts (json : Bool) (store : Store) (printed : Printed) (result
   pub done : result ≡ status.Done → (text : List ℕ) × (IsTrue store.tells → IsShown store.before json text) × Prints printed text
   pub done_comes : IsTrue store.tells → HasEntry store.before → (d : Device) → Stands store.before d → Expects result status.Done
   -- 8 comes exactly where the journal holds no entry.
-  pub none : result ≡ status.NotInitialised → (IsTrue store.tells → log_none store.before) × Prints printed none_line
-  pub none_comes : IsTrue store.tells → log_none store.before → Expects result status.NotInitialised
+  pub none : result ≡ status.NotInitialised → (IsTrue store.tells → slots_none store.before) × Prints printed none_line
+  pub none_comes : IsTrue store.tells → slots_none store.before → Expects result status.NotInitialised
   -- 9 comes exactly where the journal stands for no device.
   pub damaged : result ≡ status.Damaged → (place : List ℕ) × IsRefusedAt store place × Prints printed (damaged_line place)
   pub damaged_comes : IsTrue store.tells → StandsForNone store.before → Expects result status.Damaged

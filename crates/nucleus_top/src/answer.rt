@@ -22,6 +22,10 @@ pub enum Answer {
     Planned(Text),
     /// The document comes to no plan, as this text says.
     Unplanned(Refusal, Text),
+    /// Each artifact has its digest.
+    Whole,
+    /// A file of an artifact has another digest, as this text says.
+    Differs(Text),
     /// The deployment of this id is pending.
     Pending(Label),
     WrongWords,
@@ -49,6 +53,8 @@ impl Answer {
             Answer::Shown(_) => Status::Done,
             Answer::Planned(_) => Status::Done,
             Answer::Unplanned(refusal, _) => refusal_status(refusal),
+            Answer::Whole => Status::Done,
+            Answer::Differs(_) => Status::Differs,
             Answer::Pending(_) => Status::PendingStands,
             Answer::WrongWords => Status::Usage,
             Answer::Refused => Status::BadInput,
@@ -77,6 +83,8 @@ impl Answer {
             Answer::Shown(text) => write_pieces(sink, &[text.as_str()]),
             Answer::Planned(text) => write_pieces(sink, &[text.as_str()]),
             Answer::Unplanned(_, text) => write_pieces(sink, &[text.as_str()]),
+            Answer::Whole => write_pieces(sink, &["whole\n"]),
+            Answer::Differs(text) => write_pieces(sink, &[text.as_str()]),
             Answer::Pending(id) => {
                 write_pieces(sink, &["refused 4 pending ", id.as_str(), "\n"])
             }

@@ -2,11 +2,13 @@
 //!
 //! It promises, in the one contract of `nucleus` and over every disk, source and sink, when each status comes, what is
 //! printed, what the disk holds afterwards and what a crash may leave at each moment. It stands on `command_words` for
-//! what words ask, on `device`, `gate_log` and `status_text` for the store, on `plan_core` and `refusal_lines` for plans,
-//! and on `edges`, `disk_model` and `library_core` for the devices.
+//! what words ask, on `deploy_state` over `checkpoint_log` for the store, on `status_text` for its status, on
+//! `artifact_store` for its files, on `plan_core` and `refusal_lines` for plans, and on `edges`, `disk_model` and
+//! `library_core` for the devices.
 #![tactic(auto)]
 
 mod answer;
+mod auditing;
 mod deploy;
 mod document;
 mod init;

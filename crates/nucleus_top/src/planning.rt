@@ -3,6 +3,7 @@ ghost use Rattle.std.specs.Prelude.{◌≡◌, ◌≢◌, ◌≤◌, None};
 ghost use Rattle.std.specs.Option.{IsSome};
 ghost use Rattle.disk_model.specs.Disk.{Leaves};
 ghost use Rattle.command_words.specs.declared.order.Order.TheVariants as order;
+ghost use Rattle.deploy_state.specs.Loading.{IsReady};
 ghost use Rattle.device.specs.Devices.{device_view, IsRegularDevice};
 ghost use Rattle.device.specs.Sound.{IsSound};
 ghost use Rattle.nucleus_top.specs.Answers.{store_of, input_of, shelf_of, IsQuiet, IsStill};
@@ -10,7 +11,7 @@ ghost use Rattle.nucleus_top.specs.Leaving.{Keeps};
 ghost use Rattle.nucleus_top.specs.Planning.{TellsDraft, TellsRefusal, Tells, NamesPending, PlansOn, Plans};
 
 use crate::answer::Answer;
-use crate::opening::{Opening, damaged, open};
+use crate::opening::{HasDevice, open, refused};
 use device::Device;
 use disk_model::Disk;
 use edges::{ReadFault, Source, read_up_to};
@@ -111,6 +112,24 @@ fn plan_on<L: Library, S: Source>(
     }
 }
 
+/// The same of a state's device.
+fn plan_stored<T: HasDevice + Drop, L: Library, S: Source>(
+    alloc: Global,
+    state: T,
+    library: &mut L,
+    source: &mut S,
+) -> Answer
+    requires ready { IsReady (T.stands_for state) }
+    ensures comes { PlansOn (T.stands_for state) (input_of S.left S.faults source.old source.new) (shelf_of L.content L.faults library.old library.new) result }
+    ensures still { IsStill (shelf_of L.content L.faults library.old library.new) result }
+    ensures kept { L.content library.new ≡ L.content library.old }
+    ensures quiet { result ≢ Answer.SourceFailed → S.faults source.new ≡ S.faults source.old }
+    ensures library_later { L.faults library.old ≤ L.faults library.new }
+    ensures source_later { S.faults source.old ≤ S.faults source.new }
+{
+    plan_on(alloc, state.stored(), library, source)
+}
+
 /// What the document of the source would do to the device for which the journal stands, with the recipes of the library.
 /// It writes nothing to the disk, and a pending deployment is refused before the source is read.
 pub fn plan<D: Disk, L: Library, S: Source>(
@@ -131,10 +150,7 @@ pub fn plan<D: Disk, L: Library, S: Source>(
     ensures source_later { S.faults source.old ≤ S.faults source.new }
 {
     match open(alloc, disk) {
-        Opening::Empty => Answer::NotInitialised,
-        Opening::Found(device) => plan_on(alloc, &device, library, source),
-        Opening::Damaged(at) => damaged(alloc, at),
-        Opening::DiskFailed => Answer::DiskFailed,
-        Opening::NoMemory => Answer::NoMemory,
+        Ok(state) => plan_stored(alloc, state, library, source),
+        Err(fault) => refused(alloc, fault),
     }
 }

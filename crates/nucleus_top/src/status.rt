@@ -3,13 +3,14 @@ ghost use Rattle.std.specs.Prelude.{◌≡◌, ◌≢◌, ◌≤◌, IfOk};
 ghost use Rattle.std.specs.Option.{IsSome};
 ghost use Rattle.disk_model.specs.Disk.{Leaves};
 ghost use Rattle.command_words.specs.declared.order.Order.TheVariants as order;
+ghost use Rattle.deploy_state.specs.Loading.{IsReady};
 ghost use Rattle.device.specs.Devices.{device_view, IsRegularDevice};
 ghost use Rattle.nucleus_top.specs.Answers.{store_of};
 ghost use Rattle.nucleus_top.specs.Shows.{Shows, ShowsDevice, shown};
 ghost use Rattle.nucleus_top.specs.Leaving.{Keeps};
 
 use crate::answer::Answer;
-use crate::opening::{Opening, damaged, open};
+use crate::opening::{HasDevice, open, refused};
 use device::Device;
 use disk_model::Disk;
 use nuc_base::{NoMemory, Text};
@@ -30,12 +31,11 @@ fn status_of(alloc: Global, json: bool, device: &Device) -> Result<Text, NoMemor
     Ok(text)
 }
 
-fn show(alloc: Global, json: bool, device: &Device) -> Answer
-    requires origin { IsSome device.now.origin }
-    requires regular { IsRegularDevice (device_view device.now) }
-    ensures { ShowsDevice json (device_view device.now) result }
+fn show<S: HasDevice + Drop>(alloc: Global, json: bool, state: S) -> Answer
+    requires ready { IsReady (S.stands_for state) }
+    ensures { ShowsDevice json (S.stands_for state) result }
 {
-    match status_of(alloc, json, device) {
+    match status_of(alloc, json, state.stored()) {
         Ok(text) => Answer::Shown(text),
         Err(_) => Answer::NoMemory,
     }
@@ -51,10 +51,7 @@ pub fn status<D: Disk>(alloc: Global, json: bool, disk: &mut D) -> Answer
     ensures later { D.faults disk.old ≤ D.faults disk.new }
 {
     match open(alloc, disk) {
-        Opening::Empty => Answer::NotInitialised,
-        Opening::Found(device) => show(alloc, json, &device),
-        Opening::Damaged(at) => damaged(alloc, at),
-        Opening::DiskFailed => Answer::DiskFailed,
-        Opening::NoMemory => Answer::NoMemory,
+        Ok(state) => show(alloc, json, state),
+        Err(fault) => refused(alloc, fault),
     }
 }

@@ -5,10 +5,11 @@ ghost use Rattle.command_words.specs.declared.order.Order.{Order};
 ghost use Rattle.command_words.specs.declared.order.Order.TheVariants as order;
 ghost use Rattle.nucleus_top.specs.Words.{Asks};
 ghost use Rattle.nucleus_top.specs.Answers.{store_of, input_of, shelf_of, printed_of, IsQuiet, IsStill};
-ghost use Rattle.nucleus_top.specs.Leaving.{IsDurable, Keeps, MayLeave, file_of};
+ghost use Rattle.nucleus_top.specs.Leaving.{IsDurable, Keeps, MayLeave, files_of};
 ghost use Rattle.nucleus_top.specs.Parts.{Comes, Parts};
 
 use crate::answer::Answer;
+use crate::auditing::audit;
 use crate::deploy::deploy;
 use crate::init::init;
 use crate::planning::plan;
@@ -37,7 +38,7 @@ fn answer<D: Disk, L: Library, S: Source>(
     ensures moments { Leaves D.moment D.left_since disk.old disk.new (MayLeave (map string_bytes words.now.items) (D.may_leave disk.old)) }
     ensures keeps { (order : Order) → Asks (map string_bytes words.now.items) order → Keeps order (D.may_leave disk.new) (D.seen disk.new) result }
     ensures others { (order : Order) → Asks (map string_bytes words.now.items) order → IsTrue D.tells →
-        (name : List ℕ) → name ≢ file_of order → D.seen disk.new name ≡ D.seen disk.old name }
+        (name : List ℕ) → ¬ (files_of order name) → D.seen disk.new name ≡ D.seen disk.old name }
     ensures disk_later { D.faults disk.old ≤ D.faults disk.new }
     ensures library_later { L.faults library.old ≤ L.faults library.new }
     ensures source_later { S.faults source.old ≤ S.faults source.new }
@@ -53,6 +54,7 @@ fn answer<D: Disk, L: Library, S: Source>(
         Order::Deploy => deploy(alloc, disk, source),
         Order::Status(json) => status(alloc, json, disk),
         Order::Plan => plan(alloc, disk, library, source),
+        Order::Audit => audit(alloc, disk),
         // The other commands are not built yet.
         _ => Answer::WrongWords,
     }
@@ -65,9 +67,10 @@ fn answer<D: Disk, L: Library, S: Source>(
 /// the journal stands. `nucleus --root DIR deploy` reads one document of the first form from the source, stores what it
 /// deploys in the file `state` and prints `accepted ID` and `closed ID SUCCESSFUL`. `nucleus --root DIR plan` reads one
 /// document from the source and prints what it would make of the device with the recipes of the library, `plan NAME
-/// VERSION` for each component and `boot NAME` for each bootstrap, or the first reason why it would not. The other
-/// commands are refused as wrong words are, with status 1. The clause `parts` says when each status comes, what it prints
-/// and what it leaves on the disk.
+/// VERSION` for each component and `boot NAME` for each bootstrap, or the first reason why it would not.
+/// `nucleus --root DIR audit` compares the files of the device's artifacts with the digests that are kept, and prints
+/// `whole` or the first file that differs. The other commands are refused as wrong words are, with status 1. The clause
+/// `parts` says when each status comes, what it prints and what it leaves on the disk.
 pub fn nucleus<D: Disk, L: Library, S: Source, K: Sink>(
     alloc: Global,
     words: &Vec<String>,
@@ -89,7 +92,7 @@ pub fn nucleus<D: Disk, L: Library, S: Source, K: Sink>(
     ensures durable { (order : Order) → Asks (map string_bytes words.now.items) order → result ≡ status.Done →
         IsDurable order (D.may_leave disk.new) (D.seen disk.new) }
     ensures others { (order : Order) → Asks (map string_bytes words.now.items) order → IsTrue D.tells →
-        (name : List ℕ) → name ≢ file_of order → D.seen disk.new name ≡ D.seen disk.old name }
+        (name : List ℕ) → ¬ (files_of order name) → D.seen disk.new name ≡ D.seen disk.old name }
     ensures disk_later { D.faults disk.old ≤ D.faults disk.new }
     ensures library_later { L.faults library.old ≤ L.faults library.new }
     ensures source_later { S.faults source.old ≤ S.faults source.new }

@@ -169,75 +169,123 @@ fn each_journal_has_its_answer(rt: HostRuntime) -> Result<(), Fail> {
     Ok(())
 }
 
-/// `init` over a disk that stops after so many calls.
-fn stopped(alloc: Global, stop: u64) -> Result<FusedDisk, Fail> {
-    let mut disk = FusedDisk::new(MemoryDisk::new(alloc), stop, List::empty(alloc));
-    let _ran = run(alloc, &INIT, &mut disk, &[])?;
-    Ok(disk)
+/// The second slot of a store of the thing `t2` that turned once: one entry of 62 bytes, with its number and without groups,
+/// items and closed deployments, and a closed gate.
+fn turned(alloc: Global) -> Result<Vec<u8>, AllocError> {
+    let mut bytes = Vec::from_slice(
+        alloc,
+        &[0x01, 0, 0, 0, 0x3e, 0x19, 0, 0, 0, 0, 0, 0, 0, 0x01],
+    )?;
+    bytes.extend_from_slice(&NEW[6..18])?;
+    bytes.push(b'2')?;
+    bytes.extend_from_slice(&NEW[19..47])?;
+    bytes.extend_from_slice(&[0; 13])?;
+    Ok(bytes)
 }
 
-/// Whether over that image `status` finds the store or none, and `init` then refuses or makes it.
-fn goes_on(alloc: Global, disk: &FusedDisk, pick: Pick, has_store: bool) -> Result<bool, Fail> {
+/// Whether `status` and `init` over a new store beside this second slot, its first byte changed, have these answers.
+fn have_answers_beside(
+    alloc: Global,
+    second: &[u8],
+    first: u8,
+    show: (Status, &str),
+    init: (Status, &str),
+) -> Result<bool, Fail> {
+    let mut disk = holding(alloc, &NEW, 0x01)?;
+    disk.write_at("journal.b", 0, second)?;
+    disk.write_at("journal.b", 0, &[first])?;
+    disk.sync("journal.b")?;
+    if !answers(alloc, &SHOW, &mut disk, show.0, show.1)? {
+        return Ok(false);
+    }
+    answers(alloc, &INIT, &mut disk, init.0, init.1)
+}
+
+#[test]
+fn the_slot_with_the_greater_number_counts(rt: HostRuntime) -> Result<(), Fail> {
+    let alloc = rt.alloc();
+    let second = turned(alloc)?;
+    let other = (Status::Done, "thing t2\nnucleus 2.12.0\n");
+    let other_stands = (Status::Initialised, "refused 16 Initialised t2\n");
+    assert!(rt; have_answers_beside(alloc, &second, 0x01, other, other_stands)?);
+    // A turn that was not ended leaves the first slot live.
+    let stands = (Status::Initialised, STANDS);
+    assert!(rt; have_answers_beside(alloc, &second, 0x00, (Status::Done, LINES), stands)?);
+    // A second slot begins with a turn of an odd number.
+    let damaged = (Status::Damaged, "refused 9 Damaged 0\n");
+    assert!(rt; have_answers_beside(alloc, &NEW, 0x01, damaged, damaged)?);
+    Ok(())
+}
+
+/// `init` over a disk that stops after so many calls, and whether it said that the store is made.
+fn stopped(alloc: Global, stop: u64) -> Result<(FusedDisk, bool), Fail> {
+    let mut disk = FusedDisk::new(MemoryDisk::new(alloc), stop, List::empty(alloc));
+    let ran = run(alloc, &INIT, &mut disk, &[])?;
+    Ok((disk, ran.status == Status::Done))
+}
+
+/// Whether over that image `status` finds the store, or none where it was not said to be made, and `init` then refuses or
+/// makes it.
+fn goes_on(alloc: Global, disk: &FusedDisk, pick: Pick, is_made: bool) -> Result<bool, Fail> {
     let mut image = disk.disk().image(alloc, pick)?;
-    if has_store {
-        let shown = answers(alloc, &SHOW, &mut image, Status::Done, LINES)?;
-        return Ok(shown && answers(alloc, &INIT, &mut image, Status::Initialised, STANDS)?);
+    if answers(alloc, &SHOW, &mut image, Status::Done, LINES)? {
+        return answers(alloc, &INIT, &mut image, Status::Initialised, STANDS);
     }
     let none = answers(alloc, &SHOW, &mut image, Status::NotInitialised, NONE)?;
-    Ok(none && leaves(alloc, &INIT, &mut image, (Status::Done, MADE), &NEW)?)
+    Ok(none && !is_made && leaves(alloc, &INIT, &mut image, (Status::Done, MADE), &NEW)?)
 }
 
 #[test]
 fn a_stopped_init_leaves_a_store_or_none(rt: HostRuntime) -> Result<(), Fail> {
     let alloc = rt.alloc();
-    // Two calls open the journal, three make it and four stage the entry. The tenth opens the gate and the eleventh
-    // makes that stable.
-    for stop in 0..12u64 {
-        let disk = stopped(alloc, stop)?;
-        assert!(rt;
-            goes_on(alloc, &disk, Pick::Old, stop >= 11)?,
-            "lost after {stop}"
-        );
-        assert!(rt;
-            goes_on(alloc, &disk, Pick::New, stop >= 10)?,
-            "kept after {stop}"
-        );
-        assert!(rt;
-            goes_on(alloc, &disk, Pick::Fill(0x01), stop >= 10)?,
-            "torn after {stop}"
-        );
+    for stop in 0..64u64 {
+        let (disk, is_made) = stopped(alloc, stop)?;
+        for pick in [Pick::Old, Pick::New, Pick::Fill(0x01)] {
+            assert!(rt; goes_on(alloc, &disk, pick, is_made)?, "after {stop} calls");
+        }
+        if is_made {
+            return Ok(());
+        }
     }
+    assert!(rt; false, "init does not end");
     Ok(())
 }
 
-/// Whether the words answer the fault of a disk that holds this journal and fails this call alone.
-fn is_disk_fault(alloc: Global, words: &[&str], bytes: &[u8], failing: u64) -> Result<bool, Fail> {
+/// What the words answer over a disk that holds this journal and fails this call alone.
+fn ran_failing(alloc: Global, words: &[&str], bytes: &[u8], failing: u64) -> Result<Ran, Fail> {
     let calls = List::new(Vec::from_slice(alloc, &[failing])?);
     let mut disk = FusedDisk::new(holding(alloc, bytes, 0x01)?, u64::MAX, calls);
-    answers(alloc, words, &mut disk, Status::Disk, DISK_FAILED)
+    run(alloc, words, &mut disk, &[])
+}
+
+/// Whether each call that fails is the fault of the disk, up to the first number that no call has, and at least so many.
+fn are_disk_faults(
+    alloc: Global,
+    words: &[&str],
+    bytes: &[u8],
+    least: u64,
+    status: Status,
+) -> Result<bool, Fail> {
+    for failing in 0..64u64 {
+        let ran = ran_failing(alloc, words, bytes, failing)?;
+        if ran.status != Status::Disk {
+            return Ok(ran.status == status && failing >= least);
+        }
+        if ran.printed.as_slice() != DISK_FAILED.as_bytes() {
+            return Ok(false);
+        }
+    }
+    Ok(false)
 }
 
 #[test]
 fn a_failing_disk_is_status_5(rt: HostRuntime) -> Result<(), Fail> {
     let alloc = rt.alloc();
-    // Two calls open the journal, two look at its gates, and two read its entry.
-    for failing in 0..6u64 {
-        assert!(rt;
-            is_disk_fault(alloc, &SHOW, &NEW, failing)?,
-            "status, call {failing}"
-        );
-        assert!(rt;
-            is_disk_fault(alloc, &INIT, &NEW, failing)?,
-            "init, call {failing}"
-        );
-    }
-    // Two calls open the journal, three make it, and six add its entry.
-    for failing in 0..11u64 {
-        assert!(rt;
-            is_disk_fault(alloc, &INIT, b"", failing)?,
-            "making, call {failing}"
-        );
-    }
+    // Each slot is synced and looked at, and the entry is read.
+    assert!(rt; are_disk_faults(alloc, &SHOW, &NEW, 6, Status::Done)?);
+    assert!(rt; are_disk_faults(alloc, &INIT, &NEW, 6, Status::Initialised)?);
+    // Behind these a journal is made and one entry is added, with two syncs each at least.
+    assert!(rt; are_disk_faults(alloc, &INIT, b"", 8, Status::Done)?);
     Ok(())
 }
 

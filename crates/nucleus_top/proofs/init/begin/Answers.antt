@@ -1,9 +1,49 @@
-use Rattle.std.proofs.Common.{inr}
-use Rattle.nucleus_top.proofs.Images.{begun}
+use Rattle.std.proofs.Common.{Err, ap, inr, subst}
+use Rattle.command_words.specs.declared.order.Order.TheVariants.{Init}
+use Rattle.device.specs.Devices.{Device}
+use Rattle.deploy_state.specs.States.{idle_device}
+use Rattle.nucleus_top.specs.Opening.{Stands}
+use Rattle.nucleus_top.proofs.Images.{created, begun, held_stands, not_called}
 use Rattle.nucleus_top.proofs.init.begin.Goals as goal
 
-pub returns-in-Err-clause-comes : goal.returns-in-Err-clause-comes
-returns-in-Err-clause-comes g c =
+pub returns-in-Ok-made-clause-comes : goal.returns-in-Ok-made-clause-comes
+returns-in-Ok-made-clause-comes g c =
+    let s = c.in-Ok-made.field-0 in
+    let image = g.D.Disk.seen c.create-made.new.disk in (
+      c.in-Ok.ensures,
+      λ tells. record {
+        none = c.requires.none tells;
+        stands = subst (λ (d : Device). Stands image d) c.in-Ok-made.ensures.made
+            (held_stands g.met.D.Disk.laws s.log c.create-made.new.disk (idle_device s) c.in-Ok-made.ensures.held.0 image (g.met.D.Disk.laws.reads c.create-made.new.disk tells));
+        others = c.create-made.ensures.others tells;
+      },
+    )
+
+pub returns-in-Ok-made-clause-moments : goal.returns-in-Ok-made-clause-moments
+returns-in-Ok-made-clause-moments g c =
+    created g.met.D.Disk.laws c.args.origin c.args.disk.now c.requires.none c.requires.settled c.create-made.new.disk (c.in-Ok-made.ensures.moments (λ is. cc))
+
+pub returns-in-Ok-made-clause-keeps : goal.returns-in-Ok-made-clause-keeps
+returns-in-Ok-made-clause-keeps g c = λ done image left.
+    let s = c.in-Ok-made.field-0 in
+    subst (λ (d : Device). Stands image d) c.in-Ok-made.ensures.made
+    (held_stands g.met.D.Disk.laws s.log c.create-made.new.disk (idle_device s) c.in-Ok-made.ensures.held.0 image left)
+
+pub returns-in-Disk-clause-comes : goal.returns-in-Disk-clause-comes
+returns-in-Disk-clause-comes g c =
     let origin = c.args.origin in
-    let moments = c.in-Err.ensures.moments origin (record { spelled = rw c.as_slice.ensures c.in-Ok-write.ensures; short = c.requires.short }) in
-    (c.in-Err.ensures.cause.failed, λ tells. inr (begun g.met.D.Disk.laws origin c.args.disk.now c.requires.none c.requires.settled c.make.new.disk moments tells (c.in-Err.ensures.others tells)))
+    let moments = created g.met.D.Disk.laws origin c.args.disk.now c.requires.none c.requires.settled c.create-made.new.disk (c.in-Err.ensures.moments (λ is. cc)) in (
+      c.in-Err.ensures.cause (ap Err c.in-Disk.is),
+      λ tells. inr (begun g.met.D.Disk.laws origin c.args.disk.now c.requires.none c.requires.settled c.create-made.new.disk moments tells (c.create-made.ensures.others tells)),
+    )
+
+pub returns-in-Disk-clause-moments : goal.returns-in-Disk-clause-moments
+returns-in-Disk-clause-moments g c =
+    created g.met.D.Disk.laws c.args.origin c.args.disk.now c.requires.none c.requires.settled c.create-made.new.disk (c.in-Err.ensures.moments (λ is. cc))
+
+pub returns-clause-comes : goal.returns-clause-comes
+returns-clause-comes g c = ap g.D.Disk.seen (c.in-Err.ensures.memory (ap Err c.in-NoMemory.is))
+
+pub returns-clause-moments : goal.returns-clause-moments
+returns-clause-moments g c =
+    not_called g.met.D.Disk.laws (Init c.args.origin) c.args.disk.now c.create-made.new.disk (c.in-Err.ensures.memory (ap Err c.in-NoMemory.is))

@@ -1,22 +1,43 @@
-use Rattle.std.proofs.Common.{inl, ℕ, sym, subst, Err}
+use Rattle.std.proofs.Common.{Result, Ok, Err}
 use Rattle.disk_model.specs.Disk.{Image}
-use Rattle.gate_log.specs.Found.{FindsBy}
-use Rattle.gate_log.specs.Journal.{log_damaged, log_none, log_stands}
-use Rattle.gate_log.specs.Laws.{log_laws}
-use Rattle.gate_log.specs.declared.find.FindFault.{FindFault}
-use Rattle.device.proofs.OneDevice.{damage}
-use Rattle.nucleus_top.specs.Opening.{HasEntry, IsDamage}
-use Rattle.nucleus_top.proofs.Standing.{has_entry}
+use Rattle.checkpoint_log.specs.Slots.{slots_entries, slots_none, slots_damaged}
+use Rattle.checkpoint_log.specs.declared.slots.Slots.{Slots}
+use Rattle.deploy_state.specs.Loading.{Loads}
+use Rattle.deploy_state.specs.States.{loaded_device}
+use Rattle.deploy_state.specs.declared.fault.LoadFault.{LoadFault}
+use Rattle.deploy_state.specs.declared.fault.LoadFault.TheVariants as load
+use Rattle.deploy_state.specs.declared.state.Loaded.{Loaded}
+use Rattle.nucleus_top.specs.Opening.{Opens}
+use Rattle.nucleus_top.proofs.Origins.{has_entry}
 use Rattle.nucleus_top.proofs.opening.open.Goals as goal
 
-pub replayed-requires-clause-some : goal.replayed-requires-clause-some
-replayed-requires-clause-some g c = λ tells.
-    let found = c.in-Ok.ensures.told tells in
-    subst (λ (s : Image). HasEntry s) (sym c.find.ensures.seen) (has_entry (g.D.Disk.seen c.args.disk.now) c.in-Ok.log found.0 found.1 found.2)
+opens : (image : Image) (result : Result (Loaded Slots) LoadFault) → Loads slots_entries slots_none slots_damaged image result → Opens image result
+opens image (Ok s) loads = (has_entry image (loaded_device s) loads.0 loads.1, loads.0)
+opens image (Err load.Disk) loads = tt
+opens image (Err load.NotInitialised) loads = loads
+opens image (Err (load.Damaged at)) loads = loads
+opens image (Err load.NoMemory) loads = tt
 
-pub returns-in-Err-Damaged-clause-told : goal.returns-in-Err-Damaged-clause-told
-returns-in-Err-Damaged-clause-told g c = λ tells.
-    let image = g.D.Disk.seen c.args.disk.now in
-    let at = c.in-Err-Damaged.at in
-    let damaged = subst (λ (f : FindFault). FindsBy log_none log_damaged log_stands image (Err f)) c.in-Err-Damaged.field-0-is (c.in-Err-Damaged.ensures.told tells) in
-    subst (λ (n : ℕ). IsDamage image n) (sym c.in-Err-Damaged.at-is) (damage log_laws image at (inl damaged))
+pub returns-clause-told : goal.returns-clause-told
+returns-clause-told g c = λ tells. opens (g.D.Disk.seen c.args.disk.now) c.load.result (c.load.ensures.told tells)
+
+pub returns-clause-ready : goal.returns-clause-ready
+returns-clause-ready g c = c.load.ensures.ready
+
+pub returns-clause-settled : goal.returns-clause-settled
+returns-clause-settled g c = c.load.ensures.settled
+
+pub returns-clause-seen : goal.returns-clause-seen
+returns-clause-seen g c = c.load.ensures.seen
+
+pub returns-clause-moments : goal.returns-clause-moments
+returns-clause-moments g c = c.load.ensures.moments
+
+pub returns-clause-cause : goal.returns-clause-cause
+returns-clause-cause g c = c.load.ensures.cause
+
+pub returns-clause-quiet : goal.returns-clause-quiet
+returns-clause-quiet g c = c.load.ensures.quiet
+
+pub returns-clause-later : goal.returns-clause-later
+returns-clause-later g c = c.load.ensures.later

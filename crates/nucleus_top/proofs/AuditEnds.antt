@@ -1,0 +1,121 @@
+-- What each answer of `audit` amounts to.
+use Rattle.std.proofs.Common.{◌≡◌, inl, inr, ℕ, List, IsTrue, refl, subst}
+use Rattle.nuc_base.specs.declared.status.Status.{Status}
+use Rattle.nuc_base.specs.declared.status.Status.TheVariants as status
+use Rattle.checkpoint_log.specs.Slots.{slots_none}
+use Rattle.device.specs.Devices.{Device, no_device}
+use Rattle.artifact_store.specs.Holding.{HoldsDevice}
+use Rattle.nucleus_top.specs.Answers.{Store, Printed, Told, IsUnchanged, HasRisen, Prints, Expects, whole_line, none_line, damaged_line}
+use Rattle.nucleus_top.specs.Opening.{Stands, HasEntry, StandsForNone}
+use Rattle.nucleus_top.specs.Inits.{IsRefusedAt}
+use Rattle.nucleus_top.specs.Audits.{Compares, IsWhole, IsDifferent, Audits, AuditParts}
+use Rattle.nucleus_top.specs.declared.answer.Answer.{Answer}
+use Rattle.nucleus_top.specs.declared.answer.Answer.TheVariants.{Stored, Made, Shown, Planned, Unplanned, Whole, Differs, DiskFailed, NotInitialised, Damaged, NoMemory}
+use Rattle.nucleus_top.proofs.Standing.{none_stands, same_device}
+use Rattle.nucleus_top.proofs.Told.{told_of}
+
+-- what is found of the device for which the journal stands
+pub found_audits : (store : Store) (d : Device) (a : Answer) → Compares store.tells store.before d a → IsUnchanged store → (a ≡ DiskFailed → HasRisen store)
+    → (IsTrue store.tells → HasEntry store.before × Stands store.before d) → Audits store a
+found_audits store d Whole comes same rose found = (same, λ tells. record { some = (found tells).0; device = d; stands = (found tells).1; holds = comes tells })
+found_audits store d (Differs text) comes same rose found = (same, λ tells. record { some = (found tells).0; device = d; stands = (found tells).1; names = comes tells })
+found_audits store d DiskFailed comes same rose found = (same, rose refl)
+found_audits store d NoMemory comes same rose found = same
+found_audits store d a comes same rose found = absurd comes
+
+module _ (store : Store) (printed : Printed) (result : Status) where
+  reads_only : (a : Answer) → Audits store a → IsUnchanged store
+  reads_only Whole comes = comes.0
+  reads_only (Differs text) comes = comes.0
+  reads_only DiskFailed comes = comes.0
+  reads_only NotInitialised comes = comes.0
+  reads_only (Damaged place) comes = comes.0
+  reads_only NoMemory comes = comes
+  reads_only a comes = absurd comes
+
+  done : (a : Answer) → Audits store a → Told printed result a → result ≡ status.Done → (IsTrue store.tells → IsWhole store.before) × Prints printed whole_line
+  done (Stored w) comes (inl told) is = absurd comes
+  done (Made thing) comes (inl told) is = absurd comes
+  done (Shown text) comes (inl told) is = absurd comes
+  done (Planned text) comes (inl told) is = absurd comes
+  done (Unplanned r text) comes (inl told) is = absurd comes
+  done Whole comes (inl told) is = (comes.1, told.1)
+  done a comes (inl told) is = cc
+  done a comes (inr told) is = cc
+
+  done_comes : (a : Answer) → Audits store a → Told printed result a → IsTrue store.tells → IsWhole store.before → Expects result status.Done
+  done_comes a comes (inr told) tells whole = inr (inr (inl told.0))
+  done_comes Whole comes (inl told) tells whole = inr (inl told.0)
+  done_comes (Differs text) comes (inl told) tells whole =
+      let other = comes.1 tells in
+      absurd (other.names.unlike (subst (λ (d : Device). HoldsDevice store.before d) (same_device store.before whole.device other.device whole.stands other.stands) whole.holds))
+  done_comes DiskFailed comes (inl told) tells whole = inl told.0
+  done_comes NotInitialised comes (inl told) tells whole = absurd (whole.some (comes.1 tells))
+  done_comes (Damaged place) comes (inl told) tells whole = absurd ((comes.1.2 tells).none whole.device whole.stands)
+  done_comes NoMemory comes (inl told) tells whole = inr (inr (inr told.0))
+  done_comes a comes (inl told) tells whole = absurd comes
+
+  differs : (a : Answer) → Audits store a → Told printed result a → result ≡ status.Differs → (text : List ℕ) × (IsTrue store.tells → IsDifferent store.before text) × Prints printed text
+  differs (Differs text) comes (inl told) is = (text, comes.1, told.1)
+  differs (Unplanned r text) comes (inl told) is = absurd comes
+  differs a comes (inl told) is = cc
+  differs a comes (inr told) is = cc
+
+  differs_comes : (a : Answer) → Audits store a → Told printed result a → IsTrue store.tells → HasEntry store.before → (d : Device) → Stands store.before d
+      → (HoldsDevice store.before d → ⊥) → Expects result status.Differs
+  differs_comes a comes (inr told) tells some d stands unlike = inr (inr (inl told.0))
+  differs_comes Whole comes (inl told) tells some d stands unlike =
+      let whole = comes.1 tells in
+      absurd (unlike (subst (λ (e : Device). HoldsDevice store.before e) (same_device store.before whole.device d whole.stands stands) whole.holds))
+  differs_comes (Differs text) comes (inl told) tells some d stands unlike = inr (inl told.0)
+  differs_comes DiskFailed comes (inl told) tells some d stands unlike = inl told.0
+  differs_comes NotInitialised comes (inl told) tells some d stands unlike = absurd (some (comes.1 tells))
+  differs_comes (Damaged place) comes (inl told) tells some d stands unlike = absurd ((comes.1.2 tells).none d stands)
+  differs_comes NoMemory comes (inl told) tells some d stands unlike = inr (inr (inr told.0))
+  differs_comes a comes (inl told) tells some d stands unlike = absurd comes
+
+  none : (a : Answer) → Audits store a → Told printed result a → result ≡ status.NotInitialised → (IsTrue store.tells → slots_none store.before) × Prints printed none_line
+  none NotInitialised comes (inl told) is = (comes.1, told.1)
+  none (Unplanned r text) comes (inl told) is = absurd comes
+  none a comes (inl told) is = cc
+  none a comes (inr told) is = cc
+
+  none_comes : (a : Answer) → Audits store a → Told printed result a → IsTrue store.tells → slots_none store.before → Expects result status.NotInitialised
+  none_comes a comes (inr told) tells holds_none = inr (inr (inl told.0))
+  none_comes Whole comes (inl told) tells holds_none = absurd ((comes.1 tells).some holds_none)
+  none_comes (Differs text) comes (inl told) tells holds_none = absurd ((comes.1 tells).some holds_none)
+  none_comes DiskFailed comes (inl told) tells holds_none = inl told.0
+  none_comes NotInitialised comes (inl told) tells holds_none = inr (inl told.0)
+  none_comes (Damaged place) comes (inl told) tells holds_none = absurd ((comes.1.2 tells).none no_device (none_stands store.before holds_none))
+  none_comes NoMemory comes (inl told) tells holds_none = inr (inr (inr told.0))
+  none_comes a comes (inl told) tells holds_none = absurd comes
+
+  damaged : (a : Answer) → Audits store a → Told printed result a → result ≡ status.Damaged → (place : List ℕ) × IsRefusedAt store place × Prints printed (damaged_line place)
+  damaged (Damaged place) comes (inl told) is = (place, comes, told.1)
+  damaged (Unplanned r text) comes (inl told) is = absurd comes
+  damaged a comes (inl told) is = cc
+  damaged a comes (inr told) is = cc
+
+  damaged_comes : (a : Answer) → Audits store a → Told printed result a → IsTrue store.tells → StandsForNone store.before → Expects result status.Damaged
+  damaged_comes a comes (inr told) tells refuses = inr (inr (inl told.0))
+  damaged_comes Whole comes (inl told) tells refuses = absurd (refuses (comes.1 tells).device (comes.1 tells).stands)
+  damaged_comes (Differs text) comes (inl told) tells refuses = absurd (refuses (comes.1 tells).device (comes.1 tells).stands)
+  damaged_comes DiskFailed comes (inl told) tells refuses = inl told.0
+  damaged_comes NotInitialised comes (inl told) tells refuses = absurd (refuses no_device (none_stands store.before (comes.1 tells)))
+  damaged_comes (Damaged place) comes (inl told) tells refuses = inr (inl told.0)
+  damaged_comes NoMemory comes (inl told) tells refuses = inr (inr (inr told.0))
+  damaged_comes a comes (inl told) tells refuses = absurd comes
+
+  pub audit_parts : (a : Answer) → Audits store a → Told printed result a → AuditParts store printed result
+  audit_parts a comes told = record {
+    which = told_of (Audits store) printed result a comes told;
+    reads_only = reads_only a comes;
+    done = done a comes told;
+    done_comes = done_comes a comes told;
+    differs = differs a comes told;
+    differs_comes = differs_comes a comes told;
+    none = none a comes told;
+    none_comes = none_comes a comes told;
+    damaged = damaged a comes told;
+    damaged_comes = damaged_comes a comes told;
+  }
