@@ -1,11 +1,17 @@
 //! From one stage of a deployment to the next.
 //!
 //! It promises that other items take the place of those that stand as `session` allows it, and that what `activation` asks
-//! of its start holds then. It stands on the contract of a supervisor and on the laws of its components.
+//! of its start holds then; and that a deployment which fails is closed or turned back as its plan wants it, with its one
+//! record, and its line where it closes. It stands on the contract of a supervisor and on the laws of its components.
 #![tactic(auto)]
 
+mod breaking;
+mod failing;
 mod items;
+mod lines;
 mod plan;
 
+pub use breaking::{break_off_activating, break_off_booting};
+pub use failing::{close_backing, is_to_roll_back, keep_activating, keep_booting};
 pub use items::change_items;
 pub use plan::enter_plan;

@@ -1,0 +1,217 @@
+-- The close of a deployment that failed and stays as it is, or on whose way back a bootstrap failed, in a history.
+use Rattle.std.specs.Prelude.{Contains, ℕ, ◌+◌, Bool, true, false, not, ◌&&◌, ◌||◌, List, [], ◌∷◌, ◌++◌, map, Option, Some, None, IsSome}
+use Rattle.std.specs.List.{list_any}
+use Rattle.std.proofs.Common.{◌≡◌, ◌↔◌, ◌⊎◌, ◌∙◌, inl, inr, refl, sym, ap, subst}
+use Rattle.std.proofs.lemmas.Bool.{false≢true}
+use Rattle.disk_model.specs.Disk.{Image, Leaves, DiskLaws}
+use Rattle.nuc_base.specs.declared.kinds.Outcome.{Outcome}
+use Rattle.nuc_base.specs.declared.kinds.Outcome.TheVariants as outcomes
+use Rattle.nuc_base.specs.declared.kinds.Step.{Step}
+use Rattle.records.specs.Stored as stored
+use Rattle.records.specs.Stored.{Record}
+use Rattle.device.specs.Devices.{Device, Pending}
+use Rattle.device.specs.Lawful.{Allowed, applied, close_pending}
+use Rattle.deploy_state.specs.Hand.{LeavesEither}
+use Rattle.step_runner.specs.Entries.{Told}
+use Rattle.step_runner.specs.declared.entries.RunnerEntry.{RunnerEntry}
+use Rattle.supervisor.specs.World.{World, Child, Part, child_of, is_childless, is_over, is_stopped, owner, owner_from}
+use Rattle.supervisor.specs.Turns.{owes}
+use Rattle.supervisor.specs.Answers.{child_numbers, has_answered, living_numbers}
+use Rattle.supervisor.specs.Events.{later}
+use Rattle.supervisor.specs.Changes.{forgetting, steadied}
+use Rattle.session.specs.Phases.{Crew, duty_of, is_closing, is_idle, is_present, leaving, present}
+use Rattle.session.specs.Happenings.{Kept, records_of}
+use Rattle.session.specs.Places.{Place, leaves}
+use Rattle.session.specs.Follows.{IsBootChild, IsClear, Lives, MayClose as MayEnd, MayFollow}
+use Rattle.session.specs.Courses.{IsBare, IsBack, Stands}
+use Rattle.driver.specs.Stands.{IsFront}
+use Rattle.driver.specs.Went.{StandsForMost, Went}
+use Rattle.driver.proofs.Entries.{never}
+use Rattle.driver.proofs.Joins.{kept_one}
+use Rattle.driver.proofs.Records.{doubt_at}
+use Rattle.supervisor_laws.specs.Sound.{Differ}
+use Rattle.activation.specs.Ended.{HasBroken, HasClosed}
+use Rattle.activation.proofs.Answered.{free_is, free_steadied, is_free}
+use Rattle.activation.proofs.Entering.{no_boot, without_boot}
+use Rattle.stage_changes.specs.Fails.{IsGivenUp}
+
+abbrev Unasked : Record
+Unasked = stored.Closed outcomes.RollbackNotRequested
+
+-- ---- components that are steadied
+
+owner_at : (j n : ℕ) (ps : List Part) → owner_from j n (map forgetting ps) ≡ owner_from j n ps
+owner_at j n [] = refl
+owner_at j n (p ∷ ps) = ap (λ (o : Option (ℕ × Step)). elim (child_of n p.children) [ None ↦ o | Some c ↦ Some (j, c.of) ]) (owner_at (j + 1) n ps)
+
+pub owner_steadied : (n : ℕ) (w : World) → owner n (steadied w).parts ≡ owner n w.parts
+owner_steadied n w = owner_at 0 n w.parts
+
+owes_at : (ps : List Part) → list_any owes (map forgetting ps) ≡ list_any owes ps
+owes_at [] = refl
+owes_at (p ∷ ps) = ap (λ (b : Bool). owes p || b) (owes_at ps)
+
+over_at : (ps : List Part) → list_any (λ p. not (is_over p)) (map forgetting ps) ≡ list_any (λ p. not (is_over p)) ps
+over_at [] = refl
+over_at (p ∷ ps) = ap (λ (b : Bool). not (is_over p) || b) (over_at ps)
+
+stopped_steadied : (w : World) → is_stopped (steadied w) ≡ is_stopped w
+stopped_steadied w = ap not (over_at w.parts)
+
+numbers_at : (ps : List Part) → living_numbers (map forgetting ps) ≡ living_numbers ps
+numbers_at [] = refl
+numbers_at (p ∷ ps) = ap (λ (l : List ℕ). child_numbers p.children ++ l) (numbers_at ps)
+
+-- ---- where all are stopped no child lives
+
+abbrev has_some : List Child → Bool
+has_some cs = elim cs [ [] ↦ false | ◌∷◌ c cs ↦ true ]
+
+abbrev has_none : List Child → Bool
+has_none cs = elim cs [ [] ↦ true | ◌∷◌ c cs ↦ false ]
+
+bare_part : (g : Bool) (cs : List Child) (rest : Bool) → not (not (g && has_none cs) || rest) ≡ true → (has_some cs ≡ false) × (not rest ≡ true)
+bare_part true [] rest h = (refl, h)
+bare_part true (c ∷ cs) rest h = absurd (false≢true h)
+bare_part false cs rest h = absurd (false≢true h)
+
+bare_parts : (ps : List Part) → not (list_any (λ p. not (is_over p)) ps) ≡ true → not (list_any (λ p. has_some p.children) ps) ≡ true
+bare_parts [] h = refl
+bare_parts (p ∷ ps) h =
+    let s = bare_part p.life.gone p.children (list_any (λ (q : Part). not (is_over q)) ps) h in
+    rw s.0 (bare_parts ps s.1)
+
+pub childless : (w : World) → is_stopped w ≡ true → is_childless w ≡ true
+childless w h = bare_parts w.parts h
+
+-- ---- the device behind the close
+
+idle_of : (d : Device) (p : Option Pending) (o : Outcome) → IsSome p → is_idle (duty_of (close_pending o d p)).phase ≡ true
+idle_of d None o h = absurd cc
+idle_of d (Some q) o h = refl
+
+-- ---- where it leaves the call
+
+stands_closed : (p : Place) (d e : Device) (o : Outcome) (world : World) (told : Told) (living : List ℕ) → Stands p d world told living → e ≡ applied d (stored.Closed o)
+    → Stands (leaves p (Kept (stored.Closed o))) e (steadied world) told living
+stands_closed p d e o world told living s same = record {
+  device_is = ap (λ (x : Device). applied x (stored.Closed o)) s.device_is ∙ sym same;
+  world_is = ap (λ (w : World). steadied w) s.world_is;
+  answered = free_is (steadied world) (free_steadied world ∙ is_free world s.answered);
+  not_before = s.not_before;
+  asked = s.asked;
+  children = λ n. subst (λ (x : Option (ℕ × Step)). Contains living n ↔ (IsSome x ⊎ IsBootChild n p)) (sym (owner_steadied n p.world)) (s.children n);
+}
+
+present_is : (c : Crew) → c ≡ present → is_present c ≡ true
+present_is c is = rw is refl
+
+going_on : (c : Crew) → c ≡ present → is_closing c ≡ false
+going_on c is = rw is refl
+
+still_on : (c : Crew) → c ≡ leaving → is_closing c ≡ false
+still_on c is = rw is refl
+
+-- ---- from among bootstraps
+
+module _ (p : Place) (d : Device) (world : World) (told : Told) (living : List ℕ) (f : IsFront p d world told living) where
+  pub boot_clear : IsClear p
+  boot_clear = record { told = f.between.still.quiet.told; alone = f.between.boot; no_end = f.between.boot_end; on = still_on p.crew f.between.still.crew }
+
+module _ (p : Place) (d : Device) (o : Outcome) (world : World) (told : Told) (living : List ℕ) (f : IsFront p d world told living) where
+  boot_follows : MayEnd p o → MayFollow p (Kept (stored.Closed o))
+  boot_follows may = ((boot_clear p d world told living f, may), (λ cut. absurd (never p.cut f.between.still.cut cut)), f.over)
+
+  pub boot_closed : (e : Device) → IsSome d.pending → e ≡ applied d (stored.Closed o) → HasClosed o (records_of (Kept (stored.Closed o) ∷ [])) (leaves p (Kept (stored.Closed o))) e (steadied world) told living
+  boot_closed e pending same = record {
+    stands = stands_closed p d e o world told living f.between.stands same;
+    back = record {
+      idle_is = idle_of p.device p.device.pending o (subst (λ (x : Device). IsSome x.pending) (sym f.between.stands.device_is) pending);
+      going = still_on p.crew f.between.still.crew;
+      there = inr (stopped_steadied p.world ∙ f.between.still.stopped);
+      boot = f.between.boot;
+      boot_end = f.between.boot_end;
+      told = owes_at p.world.parts ∙ f.between.still.quiet.told;
+      over = refl;
+      cut = f.between.still.cut;
+    };
+    closed = ([], refl);
+  }
+
+  pub boot_bare : IsBare (leaves p (Kept (stored.Closed o)))
+  boot_bare = record { parts = childless (steadied p.world) (stopped_steadied p.world ∙ f.between.still.stopped); boot = f.between.boot }
+
+-- ---- from among items that come up
+
+pub no_other : (p : Place) (n : ℕ) (living : List ℕ) → p.boot ≡ None → Contains living n ↔ Lives n p → Contains living n ↔ IsSome (owner n p.world.parts)
+no_other p n living boot same = ((λ h. without_boot (no_boot p.boot n boot) (same.0 h)), (λ h. same.1 (inl h)))
+
+module _ (p : Place) (d : Device) (world : World) (told : Told) (living : List ℕ) (b : HasBroken p d world told living) where
+  pub items_clear : IsClear p
+  items_clear = record { told = b.quiet.told; alone = b.comes.on.boot; no_end = b.comes.on.boot_end; on = going_on p.crew b.comes.on.crew }
+
+  items_follow : MayFollow p (Kept Unasked)
+  items_follow = ((items_clear, tt), (λ cut. absurd (never p.cut b.comes.on.cut cut)), b.comes.on.over)
+
+  pub items_closed : (e : Device) → IsSome d.pending → e ≡ applied d Unasked → HasClosed outcomes.RollbackNotRequested (records_of (Kept Unasked ∷ [])) (leaves p (Kept Unasked)) e (steadied world) told living
+  items_closed e pending same = record {
+    stands = stands_closed p d e outcomes.RollbackNotRequested world told living b.comes.stands same;
+    back = record {
+      idle_is = idle_of p.device p.device.pending outcomes.RollbackNotRequested (subst (λ (x : Device). IsSome x.pending) (sym b.comes.stands.device_is) pending);
+      going = going_on p.crew b.comes.on.crew;
+      there = inl (present_is p.crew b.comes.on.crew);
+      boot = b.comes.on.boot;
+      boot_end = b.comes.on.boot_end;
+      told = owes_at p.world.parts ∙ b.quiet.told;
+      over = refl;
+      cut = b.comes.on.cut;
+    };
+    closed = ([], refl);
+  }
+
+  pub owners_now : (n : ℕ) → owner n world.parts ≡ owner n p.world.parts
+  owners_now n = sym (ap (λ (w : World). owner n w.parts) b.comes.stands.world_is)
+
+  pub moment_now : told.moment ≡ p.world.moment
+  moment_now = sym (ap (λ (w : World). w.moment) b.comes.stands.world_is)
+
+  -- where the call gives up behind the close, whether or not the supervisor knows of it
+  pub items_given_up : (now : World) → ((n : ℕ) → owner n now.parts ≡ owner n world.parts) → IsGivenUp (leaves p (Kept Unasked)) now told living
+  items_given_up now same = record {
+    moment = moment_now;
+    asked = b.comes.stands.asked;
+    boot = b.comes.on.boot;
+    boot_end = b.comes.on.boot_end;
+    over = refl;
+    cut = b.comes.on.cut;
+    differ = subst (λ (l : List ℕ). Differ l) (sym (numbers_at p.world.parts)) b.comes.keeps.differ;
+    owners = λ n. same n ∙ owners_now n ∙ sym (owner_steadied n p.world);
+    children = λ n. subst (λ (x : Option (ℕ × Step)). Contains living n ↔ IsSome x) (sym (owner_steadied n p.world)) (no_other p n living b.comes.on.boot (b.comes.stands.children n));
+  }
+
+pub owners_steadied : (world now : World) → now ≡ steadied world → (n : ℕ) → owner n now.parts ≡ owner n world.parts
+owners_steadied world now is n = ap (λ (w : World). owner n w.parts) is ∙ owner_steadied n world
+
+-- ---- over a disk
+
+module _ (entries : Image → List (List ℕ) → Type 0) (files : List ℕ → Type 0) {D : Type 0} {may_leave : D → Image → Type 0} {moment : D → ℕ} {left_since : D → ℕ → Image → Type 0} {tells : Bool} {seen : D → Image}
+    (laws : DiskLaws tells seen may_leave moment left_since) where
+  abbrev pub Notes : D → D → Device → Outcome → Type 0
+  Notes old new d o = Leaves moment left_since old new (LeavesEither may_leave files entries old d (applied d (stored.Closed o)))
+
+  close_went : (old new : D) (list : Option (List RunnerEntry)) (p : Place) (d : Device) (o : Outcome) → p.device ≡ d → MayFollow p (Kept (stored.Closed o)) → Allowed d (stored.Closed o) → Notes old new d o
+      → Went entries files may_leave moment left_since old new list list p (Kept (stored.Closed o) ∷ [])
+  close_went old new list p d o device may allowed notes =
+      let same = sym device in
+      kept_one entries files laws old new list p (stored.Closed o) may (subst (λ (x : Device). Allowed x (stored.Closed o)) same allowed) (subst (λ (x : Device). Notes old new x o) same notes)
+
+  pub boot_went : (old new : D) (list : Option (List RunnerEntry)) (p : Place) (d : Device) (o : Outcome) (world : World) (told : Told) (living : List ℕ) → IsFront p d world told living → MayEnd p o → Allowed d (stored.Closed o) → Notes old new d o
+      → Went entries files may_leave moment left_since old new list list p (Kept (stored.Closed o) ∷ [])
+  boot_went old new list p d o world told living f may allowed notes = close_went old new list p d o f.between.stands.device_is (boot_follows p d o world told living f may) allowed notes
+
+  pub items_went : (old new : D) (list : Option (List RunnerEntry)) (p : Place) (d : Device) (world : World) (told : Told) (living : List ℕ) → HasBroken p d world told living → Allowed d Unasked → Notes old new d outcomes.RollbackNotRequested
+      → Went entries files may_leave moment left_since old new list list p (Kept Unasked ∷ [])
+  items_went old new list p d world told living b allowed notes = close_went old new list p d outcomes.RollbackNotRequested b.comes.stands.device_is (items_follow p d world told living b) allowed notes
+
+  pub close_doubt : (old new : D) (p : Place) (d : Device) (o : Outcome) → p.device ≡ d → Allowed d (stored.Closed o) → Notes old new d o → (c : Image) → may_leave new c → StandsForMost entries p.device ((stored.Closed o) ∷ []) c
+  close_doubt old new p d o same allowed notes c left = doubt_at entries files laws old new p d (stored.Closed o) same allowed notes c left

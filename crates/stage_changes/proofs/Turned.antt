@@ -1,0 +1,216 @@
+-- The record that turns a deployment back, in a history.
+use Rattle.std.specs.Prelude.{Contains, ℕ, Bool, true, false, List, [], ◌∷◌, ◌++◌, Option, Some, None, IsSome, is_some, slice_get, if◌then◌else◌}
+use Rattle.std.specs.List.{AllByRecursion}
+use Rattle.std.specs.Option.{IfSome, IsSomeAnd}
+use Rattle.std.specs.Str.{bytes_eq}
+use Rattle.std.proofs.Common.{◌≡◌, ◌∙◌, refl, sym, ap, subst}
+use Rattle.disk_model.specs.Disk.{Image, Leaves, DiskLaws}
+use Rattle.nuc_base.specs.declared.platform.Platform.{Platform}
+use Rattle.nuc_base.specs.declared.kinds.Policy.TheVariants as policies
+use Rattle.records.specs.Stored as stored
+use Rattle.records.specs.Stored.{Item, Record}
+use Rattle.records.specs.declared.record.Origin.{Origin}
+use Rattle.device.specs.Devices.{Device, Pending}
+use Rattle.device.specs.Lawful.{Allowed, HasBacks, IsReadable, MayBreak, applied, backs, failing_name, item_named, reach_of}
+use Rattle.device.specs.Plans.{HasRecipe, HasSomeRecipe}
+use Rattle.device.specs.Sound.{AreItemsFor, IsPlanFor, IsSound, IsUnderWay}
+use Rattle.deploy_state.specs.Fields.{CanBreakOff, IsBreak, backs_now, break_by}
+use Rattle.deploy_state.specs.Hand.{LeavesEither}
+use Rattle.step_runner.specs.Entries.{Told}
+use Rattle.step_runner.specs.declared.entries.RunnerEntry.{RunnerEntry}
+use Rattle.supervisor.specs.World.{World, is_stopped}
+use Rattle.session.specs.Phases.{Crew, duty_of, earlier, leaving}
+use Rattle.session.specs.Happenings.{Kept, records_of}
+use Rattle.session.specs.Places.{Place, leaves}
+use Rattle.session.specs.Follows.{IsClear, MayFollow, MayStopAll}
+use Rattle.session.specs.Courses.{IsBare, Stands}
+use Rattle.driver.specs.Lines.{lines_of}
+use Rattle.driver.specs.Stands.{IsFront}
+use Rattle.driver.specs.Went.{StandsForMost, Went}
+use Rattle.driver.proofs.Entries.{never}
+use Rattle.driver.proofs.Joins.{kept_one}
+use Rattle.driver.proofs.Records.{doubt_at}
+use Rattle.activation.specs.Ended.{HasBroken}
+use Rattle.stage_changes.specs.Fails.{IsGivenUp, IsTurned, crew_of}
+use Rattle.stage_changes.proofs.Closing.{boot_clear, childless, items_clear, moment_now, no_other, owners_now}
+
+abbrev pends : Device → Option Pending → Device
+pends d o = record d { pending = o }
+
+-- ---- it is lawful
+
+-- an item of a sound set has a recipe
+is_readable : (platform : Platform) (items : List Item) (n : List ℕ) → AllByRecursion (HasRecipe platform) items → IsReadable platform items n
+is_readable platform [] n h = tt
+is_readable platform (i ∷ items) n h = by (bytes_eq n i.name) (is_readable platform items n h.1)
+  where
+    by : (b : Bool) → IsReadable platform items n → IfSome (if b then Some i else item_named n items) (λ (i : Item). HasSomeRecipe platform i.recipe)
+    by true rest = (h.0.0, h.0.1.reads)
+    by false rest = rest
+
+are_readable : (platform : Platform) (items : List Item) (names : List (List ℕ)) → AllByRecursion (HasRecipe platform) items → AllByRecursion (IsReadable platform items) names
+are_readable platform items [] h = tt
+are_readable platform items (n ∷ names) h = (is_readable platform items n h, are_readable platform items names h)
+
+has_backs : (x : Option Origin) (set : List Item) (q : Pending) (b : List ℕ) (l : List (List ℕ)) → AreItemsFor x set → IsPlanFor x q.plan → backs x set q.plan (reach_of q) ≡ b ∷ l → IsSomeAnd x (HasBacks set q)
+has_backs None set q b l items plan is = absurd plan
+has_backs (Some o) set q b l items plan is = (are_readable o.platform set q.plan.boots items.recipes, λ none. let both : b ∷ l ≡ [] = sym is ∙ none in absurd cc)
+
+module _ (d : Device) (sound : IsSound d) where
+  lawful_by : (q : Pending) (n : List ℕ) (l : List (List ℕ)) → backs_now d q ≡ l → IsUnderWay d q → MayBreak n q → Allowed (pends d (Some q)) (break_by l n)
+  lawful_by q n [] is under may = may
+  lawful_by q n (b ∷ l) is under may = (may, has_backs d.origin d.set q b l sound.set under.0.plan_is is)
+
+  pub break_allowed : (r : Record) → CanBreakOff d → IsBreak d r → Allowed d r
+  break_allowed r can is = by d.pending sound.pending can is
+    where
+      by : (o : Option Pending) → IfSome o (IsUnderWay d) → IsSomeAnd o (λ q. IsSome (failing_name q) × (q.plan.policy ≡ policies.Rollback)) → IsSomeAnd o (λ q. (n : List ℕ) × (failing_name q ≡ Some n) × (r ≡ break_by (backs_now d q) n)) → Allowed (pends d o) r
+      by None under can is = absurd is
+      by (Some q) under can is = subst (λ (x : Record). Allowed (pends d (Some q)) x) (sym is.2) (lawful_by q is.0 (backs_now d q) refl under (can.1, is.1))
+
+-- ---- what it is
+
+abbrev IsWay : Record → Type 0
+IsWay r = (l : List (List ℕ)) × (n : List ℕ) × (r ≡ break_by l n)
+
+pub is_way : (d : Device) (r : Record) → IsBreak d r → IsWay r
+is_way d r is = by d.pending is
+  where
+    by : (o : Option Pending) → IsSomeAnd o (λ q. (n : List ℕ) × (failing_name q ≡ Some n) × (r ≡ break_by (backs_now d q) n)) → IsWay r
+    by None is = absurd is
+    by (Some q) is = (backs_now d q, is.0, is.2)
+
+no_line_by : (d : Device) (l : List (List ℕ)) (n : List ℕ) → lines_of d (break_by l n ∷ []) ≡ []
+no_line_by d [] n = refl
+no_line_by d (b ∷ l) n = refl
+
+pub no_line : (d : Device) (r : Record) → IsWay r → lines_of d (r ∷ []) ≡ []
+no_line d r way = subst (λ (x : Record). lines_of d (x ∷ []) ≡ []) (sym way.2) (no_line_by d way.0 way.1)
+
+follows_by : (p : Place) (l : List (List ℕ)) (n : List ℕ) → IsClear p → p.cut ≡ false → p.over ≡ false → MayFollow p (Kept (break_by l n))
+follows_by p [] n clear cut over = (clear, (λ is. absurd (never p.cut cut is)), over)
+follows_by p (b ∷ l) n clear cut over = (clear, (λ is. absurd (never p.cut cut is)), over)
+
+follows : (p : Place) (r : Record) → IsWay r → IsClear p → p.cut ≡ false → p.over ≡ false → MayFollow p (Kept r)
+follows p r way clear cut over = subst (λ (x : Record). MayFollow p (Kept x)) (sym way.2) (follows_by p way.0 way.1 clear cut over)
+
+-- ---- where it leaves the call
+
+abbrev turned_place : Place → Device → Place
+turned_place p e = record p { device = e; crew = crew_of p.world; probed = false; over = false }
+
+place_by : (p : Place) (l : List (List ℕ)) (n : List ℕ) → leaves p (Kept (break_by l n)) ≡ turned_place p (applied p.device (break_by l n))
+place_by p [] n = refl
+place_by p (b ∷ l) n = refl
+
+place_is : (p : Place) (r : Record) → IsWay r → leaves p (Kept r) ≡ turned_place p (applied p.device r)
+place_is p r way = subst (λ (x : Record). leaves p (Kept x) ≡ turned_place p (applied p.device x)) (sym way.2) (place_by p way.0 way.1)
+
+stands_turned : (p : Place) (d e : Device) (r : Record) (world : World) (told : Told) (living : List ℕ) → Stands p d world told living → e ≡ applied d r → Stands (turned_place p (applied p.device r)) e world told living
+stands_turned p d e r world told living s same = record {
+  device_is = ap (λ (x : Device). applied x r) s.device_is ∙ sym same;
+  world_is = s.world_is;
+  answered = s.answered;
+  not_before = s.not_before;
+  asked = s.asked;
+  children = s.children;
+}
+
+crew_is : (w : World) → is_stopped w ≡ true → crew_of w ≡ leaving
+crew_is w stopped = rw stopped refl
+
+-- all may be stopped: before the first of the backs, and where none runs again
+clear_by : (d : Device) (q : Pending) (n : List ℕ) (l : List (List ℕ)) → backs_now d q ≡ l → (c : Bool) (p : Place) → p.boot ≡ None → p.boot_end ≡ None
+    → MayStopAll (duty_of (applied (pends d (Some q)) (break_by l n))) (duty_of (applied (pends d (Some q)) (break_by l n))).phase (if c then leaving else earlier) p
+clear_by d q n [] is true p boot end = tt
+clear_by d q n [] is false p boot end = tt
+clear_by d q n (b ∷ l) is true p boot end = (subst (λ (x : List (List ℕ)). is_some (slice_get x 0) ≡ true) (sym is) refl, boot, end)
+clear_by d q n (b ∷ l) is false p boot end = (subst (λ (x : List (List ℕ)). is_some (slice_get x 0) ≡ true) (sym is) refl, boot, end)
+
+clear_in : (d : Device) (r : Record) → IsBreak d r → (c : Bool) (p : Place) → p.boot ≡ None → p.boot_end ≡ None → MayStopAll (duty_of (applied d r)) (duty_of (applied d r)).phase (if c then leaving else earlier) p
+clear_in d r is c p boot end = by d.pending is
+  where
+    by : (o : Option Pending) → IsSomeAnd o (λ q. (n : List ℕ) × (failing_name q ≡ Some n) × (r ≡ break_by (backs_now d q) n))
+        → MayStopAll (duty_of (applied (pends d o) r)) (duty_of (applied (pends d o) r)).phase (if c then leaving else earlier) p
+    by None is = absurd is
+    by (Some q) is =
+        subst (λ (x : Record). MayStopAll (duty_of (applied (pends d (Some q)) x)) (duty_of (applied (pends d (Some q)) x)).phase (if c then leaving else earlier) p) (sym is.2)
+        (clear_by d q is.0 (backs_now d q) refl c p boot end)
+
+-- ---- from among bootstraps
+
+module _ (p : Place) (d : Device) (world : World) (told : Told) (living : List ℕ) (f : IsFront p d world told living) (r : Record) (way : IsWay r) where
+  boot_follows : MayFollow p (Kept r)
+  boot_follows = follows p r way (boot_clear p d world told living f) f.between.still.cut f.over
+
+  pub boot_front : (e : Device) → e ≡ applied d r → IsFront (leaves p (Kept r)) e world told living
+  boot_front e same = subst (λ (q : Place). IsFront q e world told living) (sym (place_is p r way)) (record {
+    between = record {
+      stands = stands_turned p d e r world told living f.between.stands same;
+      still = record { stopped = f.between.still.stopped; quiet = f.between.still.quiet; crew = crew_is p.world f.between.still.stopped; cut = f.between.still.cut };
+      boot = f.between.boot;
+      boot_end = f.between.boot_end;
+      probed = refl;
+    };
+    over = refl;
+  })
+
+  pub boot_bare : IsBare (leaves p (Kept r))
+  boot_bare = subst IsBare (sym (place_is p r way)) (record { parts = childless p.world f.between.still.stopped; boot = f.between.boot })
+
+-- ---- from among items that come up
+
+module _ (p : Place) (d : Device) (world : World) (told : Told) (living : List ℕ) (b : HasBroken p d world told living) (r : Record) (is : IsBreak d r) where
+  items_follow : MayFollow p (Kept r)
+  items_follow = follows p r (is_way d r is) (items_clear p d world told living b) b.comes.on.cut b.comes.on.over
+
+  pub items_turned : (e : Device) → e ≡ applied d r → IsTurned (leaves p (Kept r)) e world told living
+  items_turned e same = subst (λ (q : Place). IsTurned q e world told living) (sym (place_is p r (is_way d r is))) (record {
+    stands = stands_turned p d e r world told living b.comes.stands same;
+    quiet = b.quiet;
+    orderly = record { sound = b.comes.keeps.sound; differ = b.comes.keeps.differ; names = b.comes.keeps.names };
+    crew = refl;
+    clear = clear_in p.device r (subst (λ (x : Device). IsBreak x r) (sym b.comes.stands.device_is) is) (is_stopped p.world) (turned_place p (applied p.device r)) b.comes.on.boot b.comes.on.boot_end;
+    boot = b.comes.on.boot;
+    boot_end = b.comes.on.boot_end;
+    probed = refl;
+    over = refl;
+    cut = b.comes.on.cut;
+  })
+
+  pub items_given_up : IsGivenUp (leaves p (Kept r)) world told living
+  items_given_up = subst (λ (q : Place). IsGivenUp q world told living) (sym (place_is p r (is_way d r is))) (record {
+    moment = moment_now p d world told living b;
+    asked = b.comes.stands.asked;
+    boot = b.comes.on.boot;
+    boot_end = b.comes.on.boot_end;
+    over = refl;
+    cut = b.comes.on.cut;
+    differ = b.comes.keeps.differ;
+    owners = owners_now p d world told living b;
+    children = λ n. no_other p n living b.comes.on.boot (b.comes.stands.children n);
+  })
+
+-- ---- over a disk
+
+module _ (entries : Image → List (List ℕ) → Type 0) (files : List ℕ → Type 0) {D : Type 0} {may_leave : D → Image → Type 0} {moment : D → ℕ} {left_since : D → ℕ → Image → Type 0} {tells : Bool} {seen : D → Image}
+    (laws : DiskLaws tells seen may_leave moment left_since) where
+  abbrev Notes : D → D → Device → Record → Type 0
+  Notes old new d r = Leaves moment left_since old new (LeavesEither may_leave files entries old d (applied d r))
+
+  turn_went : (old new : D) (list : Option (List RunnerEntry)) (p : Place) (d : Device) (r : Record) → p.device ≡ d → MayFollow p (Kept r) → Allowed d r → Notes old new d r
+      → Went entries files may_leave moment left_since old new list list p (Kept r ∷ [])
+  turn_went old new list p d r device may allowed notes =
+      let same = sym device in
+      kept_one entries files laws old new list p r may (subst (λ (x : Device). Allowed x r) same allowed) (subst (λ (x : Device). Notes old new x r) same notes)
+
+  pub boot_went : (old new : D) (list : Option (List RunnerEntry)) (p : Place) (d : Device) (world : World) (told : Told) (living : List ℕ) → IsFront p d world told living → (r : Record) → IsBreak d r → Allowed d r → Notes old new d r
+      → Went entries files may_leave moment left_since old new list list p (Kept r ∷ [])
+  boot_went old new list p d world told living f r is allowed notes = turn_went old new list p d r f.between.stands.device_is (boot_follows p d world told living f r (is_way d r is)) allowed notes
+
+  pub items_went : (old new : D) (list : Option (List RunnerEntry)) (p : Place) (d : Device) (world : World) (told : Told) (living : List ℕ) → HasBroken p d world told living → (r : Record) → IsBreak d r → Allowed d r → Notes old new d r
+      → Went entries files may_leave moment left_since old new list list p (Kept r ∷ [])
+  items_went old new list p d world told living b r is allowed notes = turn_went old new list p d r b.comes.stands.device_is (items_follow p d world told living b r is) allowed notes
+
+  pub turn_doubt : (old new : D) (p : Place) (d : Device) (r : Record) → p.device ≡ d → Allowed d r → Notes old new d r → (c : Image) → may_leave new c → StandsForMost entries p.device (r ∷ []) c
+  turn_doubt old new p d r same allowed notes c left = doubt_at entries files laws old new p d r same allowed notes c left
