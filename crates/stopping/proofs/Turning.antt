@@ -1,0 +1,85 @@
+-- What a turn in which all are stopped leaves.
+use Rattle.std.specs.Prelude.{ℕ, Bool, true, false, not, List, [], ◌∷◌}
+use Rattle.std.specs.List.{list_any}
+use Rattle.std.proofs.Common.{◌≡◌, ◌∙◌, ◌++◌, refl, sym, ap, subst, arith}
+use Rattle.std.proofs.lemmas.Bool.{and_parts, or_parts}
+use Rattle.device.specs.Devices.{Device}
+use Rattle.step_runner.specs.Entries.{Told}
+use Rattle.supervisor.specs.World.{World, Part, Child, is_childless, is_over, is_stopped}
+use Rattle.session.specs.Places.{Place}
+use Rattle.session.specs.Happenings.{Happening, StopsAll}
+use Rattle.activation.specs.Turns.{moments_in}
+use Rattle.activation.proofs.Turning.{moments_on}
+use Rattle.stopping.specs.declared.stops.Stopped.{Stopped}
+use Rattle.stopping.specs.declared.stops.Stopped.TheVariants as stopped
+use Rattle.stopping.specs.Runs.{ActLeft, Comes, MaySit}
+use Rattle.stopping.specs.Stops.{HasStopped, StopLeft, TurnLeft}
+use Rattle.stopping.proofs.Entering.{comes_of}
+
+-- ---- whoever stands no more has no child
+
+not_false : (b : Bool) → not b ≡ true → b ≡ false
+not_false true h = absurd cc
+not_false false h = refl
+
+not_true : (b : Bool) → not b ≡ false → b ≡ true
+not_true true h = refl
+not_true false h = absurd cc
+
+abbrev has_child : List Child → Bool
+has_child cs = elim cs [ [] ↦ false | ◌∷◌ c ds ↦ true ]
+
+no_child : (cs : List Child) → elim cs as (λ x. Bool) [ [] ↦ true | ◌∷◌ c ds ↦ false ] ≡ true → has_child cs ≡ false
+no_child [] h = refl
+no_child (c ∷ cs) h = absurd cc
+
+none_lives : (ps : List Part) → list_any (λ p. not (is_over p)) ps ≡ false → list_any (λ (p : Part). has_child p.children) ps ≡ false
+none_lives [] h = refl
+none_lives (p ∷ ps) h =
+    let x = or_parts (not (is_over p)) (list_any (λ p. not (is_over p)) ps) h in
+    let over = and_parts p.life.gone (elim p.children [ [] ↦ true | ◌∷◌ c ds ↦ false ]) (not_true (is_over p) x.0) in
+    rw (no_child p.children over.1) (none_lives ps x.1)
+
+pub childless : (w : World) → is_stopped w ≡ true → is_childless w ≡ true
+childless w h = ap not (none_lives w.parts (not_false (list_any (λ p. not (is_over p)) w.parts) h))
+
+-- ---- the end of a turn
+
+pub has_stopped : (q : Place) (d : Device) (world : World) (told : Told) (living : List ℕ) (none stopped : Bool) → ActLeft q none world told living → none ≡ true → q.device ≡ d → stopped ≡ is_stopped world → stopped ≡ true → HasStopped q d world told living
+has_stopped q d world told living none stopped a all device is yes_is =
+    let w = a.runs.within in
+    let done : is_stopped q.world ≡ true = sym (ap (λ (v : World). is_stopped v) a.runs.world_is) ∙ sym is ∙ yes_is in
+    record {
+      stands = (comes_of q d world told living a.runs device).stands;
+      stopped = done;
+      quiet = a.quiet all;
+      going = w.on.going;
+      orderly = w.keeps.orderly;
+      bare = record { parts = childless q.world done; boot = w.on.boot };
+      boot_end = w.on.boot_end;
+      probed = a.runs.probed;
+      over = w.on.over;
+      cut = w.on.cut;
+    }
+
+pub sits : (q : Place) (world : World) (told : Told) (living : List ℕ) (none stopped : Bool) → ActLeft q none world told living → none ≡ true → stopped ≡ is_stopped world → stopped ≡ false → MaySit q world told living
+sits q world told living none stopped a all is no_is = record {
+  runs = a.runs;
+  quiet = a.quiet all;
+  stands = sym (ap (λ (v : World). is_stopped v) a.runs.world_is) ∙ sym is ∙ no_is;
+}
+
+-- ---- whether none stands
+
+pub is_on : (b : Bool) (q : Place) (d : Device) (world : World) (told : Told) (living : List ℕ) → b ≡ false → TurnLeft b q d world told living → Comes q d world told living
+is_on true q d world told living is t = absurd cc
+is_on false q d world told living is t = t
+
+pub is_stopped_left : (b : Bool) (q : Place) (d : Device) (world : World) (told : Told) (living : List ℕ) → b ≡ true → TurnLeft b q d world told living → HasStopped q d world told living
+is_stopped_left true q d world told living is t = t
+is_stopped_left false q d world told living is t = absurd cc
+
+-- the moment of the stop was not asked for
+pub stop_left : (s : Stopped) (h : List Happening) (q r : Place) (d : Device) (world : World) (told : Told) (living : List ℕ) → r ≡ q → StopLeft s (moments_in h) q d world told living → StopLeft s (moments_in (h ++ StopsAll ∷ [])) r d world told living
+stop_left stopped.All h q r d world told living is t = subst (λ (x : Place). HasStopped x d world told living) (sym is) t
+stop_left stopped.More h q r d world told living is t = (subst (λ (x : Place). Comes x d world told living) (sym is) t.0, omega (arith, t.1, moments_on (StopsAll ∷ []) h))

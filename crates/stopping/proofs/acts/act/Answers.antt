@@ -1,0 +1,113 @@
+use Rattle.std.proofs.Common.{◌++◌, Some, false, refl, sym, subst}
+use Rattle.step_runner.specs.Entries.{Listed}
+use Rattle.supervisor.specs.Acts.{HandsOut}
+use Rattle.supervisor.specs.declared.kinds.Act.{Act}
+use Rattle.session.specs.Places.{Place, left_by}
+use Rattle.session.proofs.Joined.{left-append}
+use Rattle.driver.proofs.Acting.{acts_on}
+use Rattle.activation.proofs.Entering.{never}
+use Rattle.stopping.specs.Runs.{Runs}
+use Rattle.stopping.proofs.Handing.{hands_at, moved, none_broke, none_failed, quiet_at, starting_at}
+use Rattle.stopping.proofs.Starting.{kill_lives, kill_runs}
+use Rattle.stopping.proofs.acts.act.Goals as goal
+
+pub returns-in-None-clause-went : goal.returns-in-None-clause-went
+returns-in-None-clause-went g c = λ p runs.
+    let told = Listed g.R.Runner.list g.R.Runner.told g.R.Runner.asked c.args.runner.now in
+    let living = g.R.Runner.living c.args.runner.now in
+    let list = g.R.Runner.list c.args.runner.now in
+    let v = g.S.Supervise.world c.args.supervisor.now in
+    let w = g.S.Supervise.world c.next_act.new.self in
+    let n = c.in-None.ensures.next in
+    let m = moved c.leaving_laws.ensures p v w told living list _ runs n in
+    let q = quiet_at (left_by p m.h) w told living m.within m.probed (hands_at p v w told living list _ n m) in
+    (m.h, m.acts, record { runs = q.0; quiet = λ none. q.1 })
+
+pub start_step-requires-clause-placed : goal.start_step-requires-clause-placed
+start_step-requires-clause-placed g c =
+    let q = c.requires.placed in
+    let told = Listed g.R.Runner.list g.R.Runner.told g.R.Runner.asked c.args.runner.now in
+    let living = g.R.Runner.living c.args.runner.now in
+    let list = g.R.Runner.list c.args.runner.now in
+    let v = g.S.Supervise.world c.args.supervisor.now in
+    let w = g.S.Supervise.world c.next_act.new.self in
+    let n = c.in-Some.ensures.next in
+    let m = moved c.leaving_laws.ensures q.0 v w told living list _ q.1 n in
+    (left_by q.0 m.h, starting_at (left_by q.0 m.h) w told living c.in-Start.who c.in-Start.step m.within m.probed (subst (λ (a : Act). HandsOut (left_by q.0 m.h).world (Some a) w) c.in-Start.is (hands_at q.0 v w told living list _ n m)))
+
+pub returns-in-Start-clause-went : goal.returns-in-Start-clause-went
+returns-in-Start-clause-went g c = λ p runs.
+    let told = Listed g.R.Runner.list g.R.Runner.told g.R.Runner.asked c.args.runner.now in
+    let living = g.R.Runner.living c.args.runner.now in
+    let list = g.R.Runner.list c.args.runner.now in
+    let v = g.S.Supervise.world c.args.supervisor.now in
+    let w = g.S.Supervise.world c.next_act.new.self in
+    let n = c.in-Some.ensures.next in
+    let m = moved c.leaving_laws.ensures p v w told living list _ runs n in
+    let t = c.start_step.ensures.went (left_by p m.h) (starting_at (left_by p m.h) w told living c.in-Start.who c.in-Start.step m.within m.probed (subst (λ (a : Act). HandsOut (left_by p m.h).world (Some a) w) c.in-Start.is (hands_at p v w told living list _ n m))) in
+    let new = Listed g.R.Runner.list g.R.Runner.told g.R.Runner.asked c.start_step.new.runner in (
+      t.0 ++ m.h,
+      acts_on p m.h t.0 list list (g.R.Runner.list c.start_step.new.runner) m.acts t.1,
+      record {
+        runs = subst (λ (x : Place). Runs x (g.S.Supervise.world c.start_step.new.supervisor) new (g.R.Runner.living c.start_step.new.runner)) (sym (left-append p t.0 m.h)) t.2;
+        quiet = λ none. absurd (never false refl none);
+      },
+    )
+
+pub kill-requires : goal.kill-requires
+kill-requires g c =
+    let q = c.requires.placed in
+    let told = Listed g.R.Runner.list g.R.Runner.told g.R.Runner.asked c.args.runner.now in
+    let living = g.R.Runner.living c.args.runner.now in
+    let list = g.R.Runner.list c.args.runner.now in
+    let v = g.S.Supervise.world c.args.supervisor.now in
+    let w = g.S.Supervise.world c.next_act.new.self in
+    let n = c.in-Some.ensures.next in
+    let m = moved c.leaving_laws.ensures q.0 v w told living list _ q.1 n in
+    let h = subst (λ (a : Act). HandsOut (left_by q.0 m.h).world (Some a) w) c.in-Kill.is (hands_at q.0 v w told living list _ n m) in
+    kill_lives (left_by q.0 m.h) told living c.in-Kill.child h.0 h.1 m.within h.3
+
+pub returns-in-Kill-clause-went : goal.returns-in-Kill-clause-went
+returns-in-Kill-clause-went g c = λ p runs.
+    let told = Listed g.R.Runner.list g.R.Runner.told g.R.Runner.asked c.args.runner.now in
+    let new = Listed g.R.Runner.list g.R.Runner.told g.R.Runner.asked c.kill.new.self in
+    let living = g.R.Runner.living c.args.runner.now in
+    let list = g.R.Runner.list c.args.runner.now in
+    let v = g.S.Supervise.world c.args.supervisor.now in
+    let w = g.S.Supervise.world c.next_act.new.self in
+    let n = c.in-Some.ensures.next in
+    let m = moved c.leaving_laws.ensures p v w told living list _ runs n in
+    let h = subst (λ (a : Act). HandsOut (left_by p m.h).world (Some a) w) c.in-Kill.is (hands_at p v w told living list _ n m) in
+    let q = left_by p m.h in
+    let t = kill_runs c.leaving_laws.ensures q c.in-Kill.child h.0 h.1 w told new living (g.R.Runner.living c.kill.new.self) m.within h.2 h.3 h.4 c.kill.ensures.notes c.kill.ensures.lives in (
+      t.h ++ m.h,
+      acts_on p m.h t.h list list (g.R.Runner.list c.kill.new.self) m.acts t.acts,
+      record {
+        runs = subst (λ (x : Place). Runs x w new (g.R.Runner.living c.kill.new.self)) (sym (left-append p t.h m.h)) t.runs;
+        quiet = λ none. absurd (never false refl none);
+      },
+    )
+
+pub unreachable-requires : goal.unreachable-requires
+unreachable-requires g c =
+    let q = c.requires.placed in
+    let told = Listed g.R.Runner.list g.R.Runner.told g.R.Runner.asked c.args.runner.now in
+    let living = g.R.Runner.living c.args.runner.now in
+    let list = g.R.Runner.list c.args.runner.now in
+    let v = g.S.Supervise.world c.args.supervisor.now in
+    let w = g.S.Supervise.world c.next_act.new.self in
+    let n = c.in-Some.ensures.next in
+    let m = moved c.leaving_laws.ensures q.0 v w told living list _ q.1 n in
+    absurd (none_failed (left_by q.0 m.h) w told living c.in-Failed._who c.in-Failed._step c.in-Failed._exit m.within (subst (λ (a : Act). HandsOut (left_by q.0 m.h).world (Some a) w) c.in-Failed.is (hands_at q.0 v w told living list _ n m)))
+
+pub unreachable-requires-in-Broke : goal.unreachable-requires-in-Broke
+unreachable-requires-in-Broke g c =
+    let q = c.requires.placed in
+    let told = Listed g.R.Runner.list g.R.Runner.told g.R.Runner.asked c.args.runner.now in
+    let living = g.R.Runner.living c.args.runner.now in
+    let list = g.R.Runner.list c.args.runner.now in
+    let v = g.S.Supervise.world c.args.supervisor.now in
+    let w = g.S.Supervise.world c.next_act.new.self in
+    let n = c.in-Some.ensures.next in
+    let m = moved c.leaving_laws.ensures q.0 v w told living list _ q.1 n in
+    absurd (none_broke (left_by q.0 m.h) w told living c.in-Broke._who c.in-Broke._step c.in-Broke._exit m.within (subst (λ (a : Act). HandsOut (left_by q.0 m.h).world (Some a) w) c.in-Broke.is (hands_at q.0 v w told living list _ n m)))

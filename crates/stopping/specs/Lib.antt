@@ -1,0 +1,4 @@
+pub mod Leaves
+pub mod Laws
+pub mod Runs
+pub mod Stops

@@ -1,0 +1,60 @@
+// One act, and all that are due.
+ghost use Rattle.std.specs.Prelude.{◌≡◌, ◌<◌, ◌^◌, ℕ, List, true, false};
+ghost use Rattle.step_runner.specs.Entries.{Listed};
+ghost use Rattle.session.specs.Happenings.{Happening};
+ghost use Rattle.session.specs.Places.{Place, left_by};
+ghost use Rattle.driver.specs.Went.{Acts};
+ghost use Rattle.stopping.specs.Runs.{ActLeft, Runs};
+
+use crate::laws::leaving_laws;
+use crate::starts::start_step;
+use step_runner::Runner;
+use supervisor::{Act, Supervise};
+
+/// Takes the next act. Tells whether there was none. A failure is none: who leaves owes none.
+fn act<R: Runner, S: Supervise>(runner: &mut R, supervisor: &mut S, now: u64) -> bool
+    requires now { (R.told runner.old ≡ now) × (now < 2 ^ 62) }
+    requires placed { (p : Place) × Runs p (S.world supervisor.old) (Listed R.list R.told R.asked runner.old) (R.living runner.old) }
+    ensures now { R.told runner.new ≡ now }
+    ensures went { (p : Place) → Runs p (S.world supervisor.old) (Listed R.list R.told R.asked runner.old) (R.living runner.old) →
+        (h : List Happening) × Acts p h (R.list runner.old) (R.list runner.new)
+        × ActLeft (left_by p h) result (S.world supervisor.new) (Listed R.list R.told R.asked runner.new) (R.living runner.new) }
+{
+    leaving_laws();
+    match supervisor.next_act() {
+        None => true,
+        Some(next) => match next {
+            Act::Start(who, step) => {
+                start_step(runner, supervisor, who, step, now);
+                false
+            }
+            Act::Kill(child) => {
+                runner.kill(child);
+                false
+            }
+            Act::Failed(_who, _step, _exit) => unreachable!(),
+            Act::Broke(_who, _step, _exit) => unreachable!(),
+        },
+    }
+}
+
+/// Takes acts until none is left, which it tells.
+pub(crate) fn take_acts<R: Runner, S: Supervise>(
+    runner: &mut R,
+    supervisor: &mut S,
+    now: u64,
+) -> bool
+    requires now { (R.told runner.old ≡ now) × (now < 2 ^ 62) }
+    requires placed { (p : Place) × Runs p (S.world supervisor.old) (Listed R.list R.told R.asked runner.old) (R.living runner.old) }
+    ensures now { R.told runner.new ≡ now }
+    ensures went { (p : Place) → Runs p (S.world supervisor.old) (Listed R.list R.told R.asked runner.old) (R.living runner.old) →
+        (h : List Happening) × Acts p h (R.list runner.old) (R.list runner.new)
+        × ActLeft (left_by p h) result (S.world supervisor.new) (Listed R.list R.told R.asked runner.new) (R.living runner.new) }
+{
+    for _act in 0..u64::MAX {
+        if act(runner, supervisor, now) {
+            return true;
+        }
+    }
+    false
+}

@@ -1,0 +1,104 @@
+// The moment, and the start of one step.
+ghost use Rattle.std.specs.Prelude.{◌≡◌, ◌≤◌, ◌<◌, ◌^◌, ℕ, List, true, false};
+ghost use Rattle.device.specs.Devices.{Device};
+ghost use Rattle.step_runner.specs.Entries.{Listed, Notes};
+ghost use Rattle.supervisor.specs.Events.{skipped};
+ghost use Rattle.session.specs.Happenings.{Happening};
+ghost use Rattle.session.specs.Places.{Place, left_by};
+ghost use Rattle.driver.specs.Steps.{probe_seen};
+ghost use Rattle.driver.specs.Went.{Acts};
+ghost use Rattle.stopping.specs.Runs.{Comes, IsStarting, MayLaunch, Runs};
+ghost use Rattle.activation.specs.Turns.{moments_in};
+
+use crate::laws::leaving_laws;
+use nuc_base::Step;
+use recipe_reader::Skip;
+use step_runner::Runner;
+use supervisor::{Event, Supervise};
+
+/// Asks for the moment and tells it.
+pub(crate) fn pass<R: Runner, S: Supervise>(runner: &mut R, supervisor: &mut S) -> u64
+    requires placed { (p : Place) × (d : Device) × Comes p d (S.world supervisor.old) (Listed R.list R.told R.asked runner.old) (R.living runner.old) }
+    ensures now { (R.told runner.new ≡ result) × (result < 2 ^ 62) }
+    ensures went { (p : Place) → (d : Device) → Comes p d (S.world supervisor.old) (Listed R.list R.told R.asked runner.old) (R.living runner.old) →
+        (h : List Happening) × Acts p h (R.list runner.old) (R.list runner.new)
+        × Runs (left_by p h) (S.world supervisor.new) (Listed R.list R.told R.asked runner.new) (R.living runner.new) × (1 ≤ moments_in h) }
+{
+    leaving_laws();
+    let now = runner.moment();
+    supervisor.event(Event::Passed, now);
+    now
+}
+
+/// What the probe says.
+fn probes<R: Runner>(runner: &mut R, skip: &Skip) -> bool
+    ensures notes { Notes (Listed R.list R.told R.asked runner.old) (Listed R.list R.told R.asked runner.new) (probe_seen skip.now result) }
+    ensures lives { R.living runner.new ≡ R.living runner.old }
+{
+    match skip {
+        Skip::Exists(path) => runner.exists(path),
+        Skip::OnPath(word) => runner.on_path(word),
+    }
+}
+
+/// Whether the step is to be skipped that is to be started, which its probe says.
+fn is_skipped<R: Runner, S: Supervise>(runner: &mut R, supervisor: &S, who: u32, step: Step) -> bool
+    requires placed { (p : Place) × IsStarting p who step (S.world supervisor.now) (Listed R.list R.told R.asked runner.old) (R.living runner.old) }
+    ensures skipped { result ≡ true → (p : Place) → IsStarting p who step (S.world supervisor.now) (Listed R.list R.told R.asked runner.old) (R.living runner.old) →
+        (h : List Happening) × Acts p h (R.list runner.old) (R.list runner.new)
+        × Runs (left_by p h) (skipped who (S.world supervisor.now)) (Listed R.list R.told R.asked runner.new) (R.living runner.new) }
+    ensures starts { result ≡ false → (p : Place) → IsStarting p who step (S.world supervisor.now) (Listed R.list R.told R.asked runner.old) (R.living runner.old) →
+        (h : List Happening) × Acts p h (R.list runner.old) (R.list runner.new)
+        × MayLaunch (left_by p h) who step (S.world supervisor.now) (Listed R.list R.told R.asked runner.new) (R.living runner.new) }
+    ensures told { R.told runner.new ≡ R.told runner.old }
+{
+    leaving_laws();
+    match supervisor.skip(who, step) {
+        Some(skip) => probes(runner, skip),
+        None => false,
+    }
+}
+
+/// Starts the step, and tells what came of it.
+fn launch<R: Runner, S: Supervise>(
+    runner: &mut R,
+    supervisor: &mut S,
+    who: u32,
+    step: Step,
+    now: u64,
+)
+    requires now { (R.told runner.old ≡ now) × (now < 2 ^ 62) }
+    requires placed { (p : Place) × MayLaunch p who step (S.world supervisor.old) (Listed R.list R.told R.asked runner.old) (R.living runner.old) }
+    ensures now { R.told runner.new ≡ now }
+    ensures went { (p : Place) → MayLaunch p who step (S.world supervisor.old) (Listed R.list R.told R.asked runner.old) (R.living runner.old) →
+        (h : List Happening) × Acts p h (R.list runner.old) (R.list runner.new)
+        × Runs (left_by p h) (S.world supervisor.new) (Listed R.list R.told R.asked runner.new) (R.living runner.new) }
+{
+    leaving_laws();
+    match runner.start(supervisor.command(who, step)) {
+        Ok(child) => supervisor.event(Event::Started(who, step, child), now),
+        Err(_) => supervisor.event(Event::Refused(who, step), now),
+    }
+}
+
+/// Starts the step that was handed out, or skips it.
+pub(crate) fn start_step<R: Runner, S: Supervise>(
+    runner: &mut R,
+    supervisor: &mut S,
+    who: u32,
+    step: Step,
+    now: u64,
+)
+    requires now { (R.told runner.old ≡ now) × (now < 2 ^ 62) }
+    requires placed { (p : Place) × IsStarting p who step (S.world supervisor.old) (Listed R.list R.told R.asked runner.old) (R.living runner.old) }
+    ensures now { R.told runner.new ≡ now }
+    ensures went { (p : Place) → IsStarting p who step (S.world supervisor.old) (Listed R.list R.told R.asked runner.old) (R.living runner.old) →
+        (h : List Happening) × Acts p h (R.list runner.old) (R.list runner.new)
+        × Runs (left_by p h) (S.world supervisor.new) (Listed R.list R.told R.asked runner.new) (R.living runner.new) }
+{
+    if is_skipped(runner, supervisor, who, step) {
+        supervisor.event(Event::Skipped(who, step), now);
+        return;
+    }
+    launch(runner, supervisor, who, step, now);
+}
