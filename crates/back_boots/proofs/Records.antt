@@ -1,0 +1,86 @@
+-- The records of a bootstrap that runs again, in a history.
+use Rattle.std.specs.Prelude.{ℕ, Bool, true, false, List, [], ◌∷◌, Option, is_none, is_some, if◌then◌else◌}
+use Rattle.std.proofs.Common.{◌≡◌, ◌∙◌, refl, sym, ap, subst}
+use Rattle.std.proofs.lemmas.List.{append-nil}
+use Rattle.disk_model.specs.Disk.{Image, Leaves, DiskLaws}
+use Rattle.nuc_base.specs.declared.kinds.Exit.{Exit}
+use Rattle.nuc_base.specs.declared.kinds.Step.TheVariants as steps
+use Rattle.records.specs.Stored as stored
+use Rattle.records.specs.Stored.{Record}
+use Rattle.device.specs.Devices.{Device}
+use Rattle.device.specs.Lawful.{Allowed, applied, goes_on}
+use Rattle.device.specs.Standing.{StandsFor}
+use Rattle.deploy_state.specs.Fields.{IsBegun}
+use Rattle.deploy_state.specs.Hand.{LeavesEither}
+use Rattle.deploy_state.specs.States.{IsIn}
+use Rattle.device.specs.declared.staged.Stage.TheVariants as stages
+use Rattle.step_runner.specs.Entries.{Told}
+use Rattle.step_runner.specs.declared.entries.RunnerEntry.{RunnerEntry}
+use Rattle.supervisor.specs.World.{World}
+use Rattle.session.specs.Phases.{Crew, leaving, is_closing, duty_of}
+use Rattle.session.specs.Happenings.{Happening, Kept, records_of}
+use Rattle.session.specs.Places.{Place, leaves, left_by}
+use Rattle.session.specs.Follows.{MayFollow}
+use Rattle.driver.specs.Booted.{restart_of}
+use Rattle.driver.specs.Lines.{failed_line, id_of, line_of, lines_of}
+use Rattle.driver.specs.Stands.{IsBetween, IsFront}
+use Rattle.driver.specs.Steps.{HasEnd}
+use Rattle.driver.specs.Went.{StandsForMost, Went}
+use Rattle.driver.proofs.Records.{begin_went, doubt_at, front_begun}
+use Rattle.back_boots.proofs.Duties.{InTurn, allowed_begun, same_id, was_begun}
+use Rattle.driver.proofs.Entries.{never}
+use Rattle.driver.proofs.Fronts.{none_most}
+use Rattle.driver.proofs.Acting.{acts_none}
+use Rattle.driver.proofs.Joins.{acted}
+
+-- its line
+same_line : (d e : Device) (name : List ℕ) (exit : Exit) → id_of e ≡ id_of d → line_of e (stored.BootEnded name exit) ≡ line_of d (stored.BootEnded name exit)
+same_line d e name exit same = ap (λ (id : List ℕ). if goes_on exit then [] else failed_line id name steps.Bootstrap exit) same
+
+pub line_ended : (p : Place) (d e : Device) (name : List ℕ) (exit : Exit) → p.device ≡ d → e ≡ applied d (stored.BootEnded name exit)
+    → line_of e (stored.BootEnded name exit) ≡ lines_of p.device (records_of (Kept (stored.BootEnded name exit) ∷ []))
+line_ended p d e name exit device same =
+    same_line p.device e name exit (ap id_of same ∙ same_id d name exit ∙ ap id_of (sym device)) ∙ sym (append-nil (line_of p.device (stored.BootEnded name exit)))
+
+-- ---- over a disk
+
+module _ (entries : Image → List (List ℕ) → Type 0) (files : List ℕ → Type 0) {D : Type 0} {may_leave : D → Image → Type 0} {moment : D → ℕ} {left_since : D → ℕ → Image → Type 0} {tells : Bool} {seen : D → Image}
+    (laws : DiskLaws tells seen may_leave moment left_since) where
+  abbrev Notes : D → D → Device → Record → Type 0
+  Notes old new d r = Leaves moment left_since old new (LeavesEither may_leave files entries old d (applied d r))
+
+  none_went : (old new : D) (list : Option (List RunnerEntry)) (p : Place) (d : Device) → ((c : Image) → may_leave old c → StandsFor entries c d) → p.device ≡ d → new ≡ old → Went entries files may_leave moment left_since old new list list p []
+  none_went old new list p d stands device same =
+      subst (λ (x : D). Went entries files may_leave moment left_since old x list list p []) (sym same)
+      (acted entries files laws old list list p [] (λ c left. subst (λ (x : Device). StandsFor entries c x) (sym device) (stands c left)) (acts_none p list list refl))
+
+  -- where it was begun before nothing happens, and else its record is kept
+  pub begun_went : (old new : D) (list : Option (List RunnerEntry)) (p : Place) (d e : Device) (world : World) (told : Told) (living : List ℕ) (name : List ℕ) (t : InTurn d name) → IsFront p d world told living
+      → ((c : Image) → may_leave old c → StandsFor entries c d) → (IsBegun d → new ≡ old) → (IsBegun d → e ≡ d) → Notes old new d (stored.BootBegun name) → e ≡ applied d (stored.BootBegun name)
+      → (h : List Happening) × Went entries files may_leave moment left_since old new list list p h × (lines_of p.device (records_of h) ≡ []) × IsFront (left_by p h) e world told living
+  begun_went old new list p d e world told living name t f stands same_disk same_device notes same = by t.q.begun refl
+    where
+      by : (b : Bool) → t.q.begun ≡ b → (h : List Happening) × Went entries files may_leave moment left_since old new list list p h × (lines_of p.device (records_of h) ≡ []) × IsFront (left_by p h) e world told living
+      by true is =
+          let begun = was_begun d name t is in
+          ([], none_went old new list p d stands f.between.stands.device_is (same_disk begun), refl, subst (λ (x : Device). IsFront p x world told living) (sym (same_device begun)) f)
+      by false is = (Kept (stored.BootBegun name) ∷ [], begin_went entries files laws old new list p d world told living name f (allowed_begun d name t is) notes, refl, front_begun p d e world told living name f same)
+
+  pub begun_doubt : (old new : D) (list : Option (List RunnerEntry)) (p : Place) (d : Device) (world : World) (told : Told) (living : List ℕ) (name : List ℕ) (t : InTurn d name) → IsFront p d world told living
+      → ((c : Image) → may_leave old c → StandsFor entries c d) → (IsBegun d → new ≡ old) → Notes old new d (stored.BootBegun name)
+      → (h : List Happening) × Went entries files may_leave moment left_since old new list list p h × (lines_of p.device (records_of h) ≡ []) × ((c : Image) → may_leave new c → StandsForMost entries p.device (records_of h) c)
+  begun_doubt old new list p d world told living name t f stands same_disk notes = by t.q.begun refl
+    where
+      by : (b : Bool) → t.q.begun ≡ b
+          → (h : List Happening) × Went entries files may_leave moment left_since old new list list p h × (lines_of p.device (records_of h) ≡ []) × ((c : Image) → may_leave new c → StandsForMost entries p.device (records_of h) c)
+      by true is =
+          let begun = was_begun d name t is in
+          let device = f.between.stands.device_is in (
+            [],
+            none_went old new list p d stands device (same_disk begun),
+            refl,
+            (λ c left. none_most entries p.device c (subst (λ (x : Device). StandsFor entries c x) (sym device) (stands c (subst (λ (x : D). may_leave x c) (same_disk begun) left)))),
+          )
+      by false is =
+          let allowed = allowed_begun d name t is in
+          (Kept (stored.BootBegun name) ∷ [], begin_went entries files laws old new list p d world told living name f allowed notes, refl, doubt_at entries files laws old new p d (stored.BootBegun name) f.between.stands.device_is allowed notes)

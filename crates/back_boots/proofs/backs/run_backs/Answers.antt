@@ -1,0 +1,154 @@
+use Rattle.std.proofs.Common.{◌≡◌, ◌∙◌, ◌++◌, [], is_none, refl, sym, ap, subst}
+use Rattle.std.proofs.KnownBytes.{Appends-nil}
+use Rattle.device.specs.Devices.{Device}
+use Rattle.device.specs.Standing.{StandsFor}
+use Rattle.deploy_state.proofs.Steps.{in_hand_stands}
+use Rattle.deploy_state.specs.States.{InBacked, backed_device, backing_device, rolling_device}
+use Rattle.deploy_state.specs.declared.state.Backed.{Backed}
+use Rattle.step_runner.specs.Entries.{Listed}
+use Rattle.session.specs.Happenings.{records_of}
+use Rattle.session.specs.Phases.{duty_of}
+use Rattle.session.specs.Places.{Place, left_by}
+use Rattle.session.proofs.Joined.{left-append}
+use Rattle.driver.specs.Booted.{BootsLeft}
+use Rattle.driver.specs.Stands.{IsFront}
+use Rattle.driver.proofs.Acting.{acts_none}
+use Rattle.driver.proofs.Joins.{acted, ends_on, went_on}
+use Rattle.driver.proofs.Told.{all_told, lines_at_joined, left_joined}
+use Rattle.driver.proofs.Restarts.{ends_call, goes_on, none_is, not_err}
+use Rattle.driver.specs.declared.over.Over.TheVariants as over
+use Rattle.driver.specs.Turns.{Turns}
+use Rattle.back_boots.proofs.Staged.{staged}
+use Rattle.back_boots.proofs.Turning.{fewer, made_on, none_failed, none_left}
+use Rattle.back_boots.proofs.backs.run_backs.Goals as goal
+
+pub steps-init : goal.steps-init
+steps-init g c = record {
+  held = c.requires.held;
+  made = c.requires.made;
+  others = λ tells name other. refl;
+  quiet_disk = refl;
+  quiet_sink = refl;
+  went = λ p world front. (
+    [],
+    acted g.J.Journal.entries g.J.Journal.files g.met.D.Disk.laws c.args.disk.now (g.R.Runner.list c.args.runner.now) (g.R.Runner.list c.args.runner.now) p []
+        (λ i left. subst (λ (d : Device). StandsFor g.J.Journal.entries i d) (sym front.between.stands.device_is)
+        (in_hand_stands g.met.D.Disk.laws g.met.J.Journal.laws _ c.args.disk.now (backing_device c.args.state) c.requires.held.0.0 i left))
+        (acts_none p (g.R.Runner.list c.args.runner.now) (g.R.Runner.list c.args.runner.now) refl),
+    Appends-nil (g.K.Sink.held c.args.sink.now),
+    front,
+  );
+}
+
+pub run_turn-requires-clause-placed : goal.run_turn-requires-clause-placed
+run_turn-requires-clause-placed g c =
+    let q = c.requires.placed in
+    let w = c.steps.invariant.went q.0 q.1 q.2 in
+    (left_by q.0 w.0, q.1, w.3)
+
+pub returns-in-Err-clause-went : goal.returns-in-Err-clause-went
+returns-in-Err-clause-went g c = λ p world front.
+    let w = c.steps.invariant.went p world front in
+    let t = c.in-Err.ensures.went (left_by p w.0) world w.3 in (
+      t.0 ++ w.0,
+      went_on g.J.Journal.entries g.J.Journal.files g.met.D.Disk.laws c.args.disk.now c.steps.disk c.run_turn.new.disk
+          (g.R.Runner.list c.args.runner.now) (g.R.Runner.list c.steps.runner) (g.R.Runner.list c.run_turn.new.runner) p w.0 t.0 w.1 t.1,
+      lines_at_joined (g.K.Sink.held c.args.sink.now) (g.K.Sink.held c.steps.sink) (g.K.Sink.held c.run_turn.new.sink) p w.0 t.0 c.in-Err.over w.1.run w.2 t.2,
+      left_joined g.J.Journal.entries g.D.Disk.may_leave c.run_turn.new.disk p w.0 t.0 c.in-Err.over w.1.run t.3,
+    )
+
+pub is_last-requires : goal.is_last-requires
+is_last-requires g c = staged g.D.Disk.tells g.D.Disk.may_leave g.J.Journal.stands g.J.Journal.end c.run_turn.new.disk c.in-Ok.turned.0 c.in-Ok.ensures.held
+
+pub steps-preserved : goal.steps-preserved
+steps-preserved g c =
+    let d = backing_device c.steps.state in
+    let e = backing_device c.in-Backing.next in
+    let x = c.in-Ok.turned.1 in
+    let same : backed_device c.in-Ok.turned.0 ≡ e = ap (λ (s : Backed _). backed_device s) c.in-Backing.is in
+    let turns : Turns d x e = subst (λ (y : Device). Turns d x y) same c.in-Ok.ensures.turns in
+    record {
+      held = subst (λ (s : Backed _). InBacked g.D.Disk.tells g.D.Disk.may_leave g.J.Journal.stands g.J.Journal.end s c.run_turn.new.disk) c.in-Backing.is c.in-Ok.ensures.held;
+      made = made_on d e x c.args.made.now turns c.steps.invariant.made;
+      others = λ tells name other. c.run_turn.ensures.others tells name other ∙ c.steps.invariant.others tells name other;
+      quiet_disk = c.in-Ok.ensures.quiet_disk (not_err c.in-Ok.turned over.Disk) ∙ c.steps.invariant.quiet_disk;
+      quiet_sink = c.in-Ok.ensures.quiet_sink (not_err c.in-Ok.turned over.Edge) ∙ c.steps.invariant.quiet_sink;
+      went = λ p world front.
+          let w = c.steps.invariant.went p world front in
+          let t = c.in-Ok.ensures.went (left_by p w.0) world w.3 in
+          let told = Listed g.R.Runner.list g.R.Runner.told g.R.Runner.asked c.run_turn.new.runner in (
+            t.0 ++ w.0,
+            went_on g.J.Journal.entries g.J.Journal.files g.met.D.Disk.laws c.args.disk.now c.steps.disk c.run_turn.new.disk
+                (g.R.Runner.list c.args.runner.now) (g.R.Runner.list c.steps.runner) (g.R.Runner.list c.run_turn.new.runner) p w.0 t.0 w.1 t.1,
+            all_told (g.K.Sink.held c.args.sink.now) (g.K.Sink.held c.steps.sink) (g.K.Sink.held c.run_turn.new.sink) p w.0 t.0 w.1.run w.2 t.2,
+            subst (λ (y : Device). IsFront (left_by p (t.0 ++ w.0)) y world told (g.R.Runner.living c.run_turn.new.runner)) same (
+                subst (λ (q : Place). IsFront q (backed_device c.in-Ok.turned.0) world told (g.R.Runner.living c.run_turn.new.runner)) (sym (left-append p t.0 w.0))
+                (record {
+                  between = t.3.0;
+                  over = goes_on (left_by (left_by p w.0) t.0).over x c.is_last.result (is_none (duty_of (backed_device c.in-Ok.turned.0)).turn) c.restart_of.result t.3.1 c.restart_of.ensures c.is_last.ensures (none_is c.restart_of.result c.in_default-restart_of.not-Some);
+                })),
+          );
+    }
+
+pub steps-smaller : goal.steps-smaller
+steps-smaller g c =
+    let d = backing_device c.steps.state in
+    let x = c.in-Ok.turned.1 in
+    fewer d (backing_device c.in-Backing.next) x c.steps.invariant.held.1 (subst (λ (y : Device). Turns d x y) (ap (λ (s : Backed _). backed_device s) c.in-Backing.is) c.in-Ok.ensures.turns)
+
+pub returns-in-Rolling-clause-held : goal.returns-in-Rolling-clause-held
+returns-in-Rolling-clause-held g c = subst (λ (s : Backed _). InBacked g.D.Disk.tells g.D.Disk.may_leave g.J.Journal.stands g.J.Journal.end s c.run_turn.new.disk) c.in-Rolling.is c.in-Ok.ensures.held
+
+pub returns-in-Rolling-clause-went : goal.returns-in-Rolling-clause-went
+returns-in-Rolling-clause-went g c = λ p world front.
+    let w = c.steps.invariant.went p world front in
+    let t = c.in-Ok.ensures.went (left_by p w.0) world w.3 in
+    let d = backing_device c.steps.state in
+    let e = rolling_device c.in-Rolling.next in
+    let x = c.in-Ok.turned.1 in
+    let same : backed_device c.in-Ok.turned.0 ≡ e = ap (λ (s : Backed _). backed_device s) c.in-Rolling.is in
+    let held = subst (λ (s : Backed _). InBacked g.D.Disk.tells g.D.Disk.may_leave g.J.Journal.stands g.J.Journal.end s c.run_turn.new.disk) c.in-Rolling.is c.in-Ok.ensures.held in
+    let told = Listed g.R.Runner.list g.R.Runner.told g.R.Runner.asked c.run_turn.new.runner in
+    let living = g.R.Runner.living c.run_turn.new.runner in (
+      t.0 ++ w.0,
+      went_on g.J.Journal.entries g.J.Journal.files g.met.D.Disk.laws c.args.disk.now c.steps.disk c.run_turn.new.disk
+          (g.R.Runner.list c.args.runner.now) (g.R.Runner.list c.steps.runner) (g.R.Runner.list c.run_turn.new.runner) p w.0 t.0 w.1 t.1,
+      all_told (g.K.Sink.held c.args.sink.now) (g.K.Sink.held c.steps.sink) (g.K.Sink.held c.run_turn.new.sink) p w.0 t.0 w.1.run w.2 t.2,
+      (
+        subst (λ (y : Device). IsFront (left_by p (t.0 ++ w.0)) y world told living) same (
+            subst (λ (q : Place). IsFront q (backed_device c.in-Ok.turned.0) world told living) (sym (left-append p t.0 w.0))
+            (record {
+              between = t.3.0;
+              over = goes_on (left_by (left_by p w.0) t.0).over x c.is_last.result (is_none (duty_of (backed_device c.in-Ok.turned.0)).turn) c.restart_of.result t.3.1 c.restart_of.ensures c.is_last.ensures (none_is c.restart_of.result c.in_default-restart_of.not-Some);
+            })),
+        none_left e held.1,
+        none_failed d e x c.steps.invariant.held.1 (subst (λ (y : Device). Turns d x y) same c.in-Ok.ensures.turns) held.1,
+      ),
+    )
+
+pub returns-in-Some-restart_of-clause-went : goal.returns-in-Some-restart_of-clause-went
+returns-in-Some-restart_of-clause-went g c = λ p world front.
+    let w = c.steps.invariant.went p world front in
+    let t = c.in-Ok.ensures.went (left_by p w.0) world w.3 in
+    let d = backed_device c.in-Ok.turned.0 in
+    let x = c.in-Ok.turned.1 in
+    let end = c.in-Some-restart_of.end in
+    let told = Listed g.R.Runner.list g.R.Runner.told g.R.Runner.asked c.run_turn.new.runner in
+    let living = g.R.Runner.living c.run_turn.new.runner in (
+      t.0 ++ w.0,
+      went_on g.J.Journal.entries g.J.Journal.files g.met.D.Disk.laws c.args.disk.now c.steps.disk c.run_turn.new.disk
+          (g.R.Runner.list c.args.runner.now) (g.R.Runner.list c.steps.runner) (g.R.Runner.list c.run_turn.new.runner) p w.0 t.0 w.1 t.1,
+      all_told (g.K.Sink.held c.args.sink.now) (g.K.Sink.held c.steps.sink) (g.K.Sink.held c.run_turn.new.sink) p w.0 t.0 w.1.run w.2 t.2,
+      subst (λ (q : Place). BootsLeft end (records_of (t.0 ++ w.0)) q d world told living) (sym (left-append p t.0 w.0))
+          (ends_call end (records_of (t.0 ++ w.0)) (left_by (left_by p w.0) t.0) d world told living x c.is_last.result c.restart_of.result t.3.0 t.3.1 (ends_on x w.0 t.0 t.3.2) c.restart_of.ensures c.is_last.ensures c.in-Some-restart_of.is),
+    )
+
+pub returns-then-failed-clause-went : goal.returns-then-failed-clause-went
+returns-then-failed-clause-went g c = λ p world front.
+    let w = c.steps.invariant.went p world front in
+    (w.0, w.1, w.2, (w.3, sym c.failed.ensures ∙ c.if-failed.true))
+
+pub returns-clause-went : goal.returns-clause-went
+returns-clause-went g c = λ p world front.
+    let w = c.steps.invariant.went p world front in
+    (w.0, w.1, w.2, (w.3, c.next_step.ensures.none (none_is c.next_step.result c.in_default.not-Some), sym c.failed.ensures ∙ c.if-failed.false))

@@ -1,0 +1,162 @@
+// One bootstrap step that runs again, with its records and its line.
+ghost use Rattle.std.specs.Prelude.{◌≡◌, ◌≤◌, [], ℕ, List, Bool, true, false, is_none, is_some, IfOk, OnOk, IsErrOf, IsTrue, Some};
+ghost use Rattle.nuc_base.specs.Faults.{HasCause, Rose};
+ghost use Rattle.device.specs.Lawful.{goes_on};
+ghost use Rattle.deploy_state.specs.Fields.{CanBegin, next_name};
+ghost use Rattle.deploy_state.specs.States.{InBacked, InBacking, backed_device, backing_device};
+ghost use Rattle.edges.specs.Pieces.{Writes};
+ghost use Rattle.records.specs.Stored.{BootEnded};
+ghost use Rattle.step_runner.specs.Entries.{Listed, Told};
+ghost use Rattle.supervisor.specs.World.{World};
+ghost use Rattle.session.specs.Happenings.{Happening, records_of};
+ghost use Rattle.session.specs.Phases.{duty_of};
+ghost use Rattle.session.specs.Places.{Place};
+ghost use Rattle.driver.specs.Booted.{EndsWith, restart_of};
+ghost use Rattle.driver.specs.Lines.{line_of, lines_of};
+ghost use Rattle.driver.specs.Made.{IsTurn};
+ghost use Rattle.driver.specs.Over.{Left, Lines};
+ghost use Rattle.driver.specs.Stands.{IsBetween, IsFront};
+ghost use Rattle.driver.specs.Steps.{HasEnd};
+ghost use Rattle.driver.specs.Turns.{Begins, Ends, Turns};
+ghost use Rattle.driver.specs.Went.{Went};
+ghost use Rattle.back_boots.specs.Backs.{IsStillBacking};
+
+use crate::lines::tell_failed_boot;
+use crate::steps::run_step;
+use deploy_state::{Backed, Backing};
+use disk_model::Disk;
+use driver::Over;
+use edges::{EdgeFault, Sink};
+use gate_log::Journal;
+use nuc_base::Exit;
+use recipe_reader::recipe_laws;
+use step_runner::Runner;
+use supervisor::Prepared;
+
+/// Records that the step begins whose turn it is.
+fn begin<D: Disk, J: Journal + Drop>(state: Backing<J>, disk: &mut D) -> Result<Backing<J>, Over>
+    requires held { InBacking D.tells D.may_leave J.stands J.end state disk.old }
+    requires may { CanBegin (backing_device state) }
+    ensures went { (p : Place) → (world : World) → (told : Told) → (living : List ℕ) → IsFront p (backing_device state) world told living →
+        (h : List Happening) × Went J.entries J.files D.may_leave D.moment D.left_since disk.old disk.new told.list told.list p h
+        × (lines_of p.device (records_of h) ≡ [])
+        × Left J.entries D.may_leave disk.new p h (λ s q. IsFront q (backing_device s) world told living) result }
+    ensures begins { IfOk result (λ s. Begins (backing_device state) (backing_device s)) }
+    ensures held { IfOk result (λ s. InBacking D.tells D.may_leave J.stands J.end s disk.new) }
+    ensures others { IsTrue D.tells → (name : List ℕ) → ¬ (J.files name) → D.seen disk.new name ≡ D.seen disk.old name }
+    ensures disk { IsErrOf result Over.Disk → Rose (D.faults disk.old) (D.faults disk.new) }
+    ensures edge { IsErrOf result Over.Edge → ⊥ }
+    ensures quiet { ¬ (IsErrOf result Over.Disk) → D.faults disk.new ≡ D.faults disk.old }
+    ensures later { D.faults disk.old ≤ D.faults disk.new }
+{
+    match state.begin(disk) {
+        Ok(next) => Ok(next),
+        Err(_) => Err(Over::Disk),
+    }
+}
+
+/// Whether the end is no failure.
+fn goes_on(exit: Exit) -> bool
+    ensures { result ≡ goes_on exit }
+{
+    match exit {
+        Exit::Code(code) => code == 0 || code == 100 || code == 101,
+        Exit::Signal | Exit::TimedOut | Exit::NotStarted | Exit::Lost => false,
+    }
+}
+
+/// Prints the line of the end that was recorded, where it is a failure.
+fn tell_end<J: Journal + Drop, K: Sink>(
+    state: &Backed<J>,
+    sink: &mut K,
+    exit: Exit,
+) -> Result<(), EdgeFault>
+    requires stage { goes_on exit ≡ false → IsStillBacking state.now }
+    ensures line { (name : List ℕ) → (goes_on exit ≡ false → next_name (backed_device state.now) ≡ Some name) →
+        Writes (K.held sink.old) (K.held sink.new) (line_of (backed_device state.now) (BootEnded name exit)) result }
+    ensures cause { HasCause (K.faults sink.old) (K.faults sink.new) result }
+    ensures quiet { OnOk result (K.faults sink.new ≡ K.faults sink.old) }
+{
+    if goes_on(exit) {
+        return Ok(());
+    }
+    let Backed::Backing(state) = state else {
+        unreachable!();
+    };
+    let Some(pending) = &state.device().pending else {
+        return Ok(());
+    };
+    match state.next() {
+        Some(name) => tell_failed_boot(sink, &pending.plan.id, name, exit),
+        None => Ok(()),
+    }
+}
+
+/// Records how the step ended that was begun, and prints its line.
+fn end<D: Disk, J: Journal + Drop, K: Sink>(
+    state: Backing<J>,
+    disk: &mut D,
+    sink: &mut K,
+    exit: Exit,
+) -> Result<Backed<J>, Over>
+    requires held { InBacking D.tells D.may_leave J.stands J.end state disk.old }
+    requires turn { is_some (duty_of (backing_device state)).turn ≡ true }
+    requires begun { (duty_of (backing_device state)).begun ≡ true }
+    ensures went { (p : Place) → (world : World) → (told : Told) → (living : List ℕ) → HasEnd p (backing_device state) exit world told living →
+        (h : List Happening) × Went J.entries J.files D.may_leave D.moment D.left_since disk.old disk.new told.list told.list p h
+        × Lines (K.held sink.old) (K.held sink.new) p.device (records_of h) result
+        × Left J.entries D.may_leave disk.new p h (λ s q. IsBetween q (backed_device s) world told living × (q.over ≡ is_some (restart_of exit (is_none (duty_of (backed_device s)).turn))) × EndsWith exit (records_of h)) result }
+    ensures ends { IfOk result (λ s. Ends (backing_device state) exit (backed_device s)) }
+    ensures held { IfOk result (λ s. InBacked D.tells D.may_leave J.stands J.end s disk.new) }
+    ensures others { IsTrue D.tells → (name : List ℕ) → ¬ (J.files name) → D.seen disk.new name ≡ D.seen disk.old name }
+    ensures disk { IsErrOf result Over.Disk → Rose (D.faults disk.old) (D.faults disk.new) }
+    ensures edge { IsErrOf result Over.Edge → Rose (K.faults sink.old) (K.faults sink.new) }
+    ensures quiet_disk { ¬ (IsErrOf result Over.Disk) → D.faults disk.new ≡ D.faults disk.old }
+    ensures quiet_sink { ¬ (IsErrOf result Over.Edge) → K.faults sink.new ≡ K.faults sink.old }
+    ensures later { (D.faults disk.old ≤ D.faults disk.new) × (K.faults sink.old ≤ K.faults sink.new) }
+{
+    match state.ended(disk, exit) {
+        Ok(next) => match tell_end(&next, sink, exit) {
+            Ok(()) => Ok(next),
+            Err(_) => Err(Over::Edge),
+        },
+        Err(_) => Err(Over::Disk),
+    }
+}
+
+/// Runs the bootstrap step whose turn it is to its recorded end.
+pub(crate) fn run_turn<D: Disk, J: Journal + Drop, K: Sink, R: Runner>(
+    state: Backing<J>,
+    step: &Prepared,
+    disk: &mut D,
+    sink: &mut K,
+    runner: &mut R,
+) -> Result<(Backed<J>, Exit), Over>
+    requires held { InBacking D.tells D.may_leave J.stands J.end state disk.old }
+    requires turn { IsTurn (backing_device state) step.now }
+    requires placed { (p : Place) × (world : World) × IsFront p (backing_device state) world (Listed R.list R.told R.asked runner.old) (R.living runner.old) }
+    ensures went { (p : Place) → (world : World) → IsFront p (backing_device state) world (Listed R.list R.told R.asked runner.old) (R.living runner.old) →
+        (h : List Happening) × Went J.entries J.files D.may_leave D.moment D.left_since disk.old disk.new (R.list runner.old) (R.list runner.new) p h
+        × Lines (K.held sink.old) (K.held sink.new) p.device (records_of h) result
+        × Left J.entries D.may_leave disk.new p h (λ x q. IsBetween q (backed_device x.0) world (Listed R.list R.told R.asked runner.new) (R.living runner.new) × (q.over ≡ is_some (restart_of x.1 (is_none (duty_of (backed_device x.0)).turn))) × EndsWith x.1 (records_of h)) result }
+    ensures turns { IfOk result (λ x. Turns (backing_device state) x.1 (backed_device x.0)) }
+    ensures held { IfOk result (λ x. InBacked D.tells D.may_leave J.stands J.end x.0 disk.new) }
+    ensures others { IsTrue D.tells → (name : List ℕ) → ¬ (J.files name) → D.seen disk.new name ≡ D.seen disk.old name }
+    ensures disk { IsErrOf result Over.Disk → Rose (D.faults disk.old) (D.faults disk.new) }
+    ensures edge { IsErrOf result Over.Edge → Rose (K.faults sink.old) (K.faults sink.new) }
+    ensures quiet_disk { ¬ (IsErrOf result Over.Disk) → D.faults disk.new ≡ D.faults disk.old }
+    ensures quiet_sink { ¬ (IsErrOf result Over.Edge) → K.faults sink.new ≡ K.faults sink.old }
+    ensures later { (D.faults disk.old ≤ D.faults disk.new) × (K.faults sink.old ≤ K.faults sink.new) }
+{
+    let begun = match begin(state, disk) {
+        Ok(begun) => begun,
+        Err(over) => return Err(over),
+    };
+    // Each recipe gives its bootstrap step a limit.
+    recipe_laws();
+    let exit = run_step(runner, step);
+    match end(begun, disk, sink, exit) {
+        Ok(next) => Ok((next, exit)),
+        Err(over) => Err(over),
+    }
+}
