@@ -49,9 +49,12 @@ fn is_whole(device: &Device) -> bool
 fn may_count(pending: &Pending, at: Option<usize>) -> bool
     ensures { IsTrue result → MayCount (pending_view pending.now) at }
 {
-    match at {
-        Some(at) if at < 128 => pending.failures[at] < 3,
-        _ => false,
+    let Some(at) = at else {
+        return false;
+    };
+    match pending.failures.get(at) {
+        Some(count) => *count < 3,
+        None => false,
     }
 }
 
@@ -209,19 +212,16 @@ fn activate<D: Disk, J: Journal + Drop>(
 
 /// Takes the back that comes next. It ends so.
 #[tactic(auto, using(crate::proofs::Tested::can_begin, crate::proofs::Tested::can_end))]
-fn go_back<D: Disk, J: Journal + Drop>(
+fn back_next<D: Disk, J: Journal + Drop>(
     disk: &mut D,
     backing: Backing<J>,
     exit: Exit,
 ) -> Option<Loaded<J>>
     requires held { InBacking D.tells D.may_leave J.stands J.end backing disk.old }
+    requires next { IsSome (next_name (backing_device backing)) }
     requires well { has_failed (backing_device backing) ≡ false }
     ensures held { IfSome result (λ s. InLoaded D.tells D.may_leave J.stands J.end s disk.new) }
 {
-    if backing.next().is_none() {
-        drop(backing);
-        return None;
-    }
     if !is_begun(backing.device()) {
         return match backing.begin(disk) {
             Ok(backing) => Some(Loaded::Backing(backing)),
@@ -233,6 +233,23 @@ fn go_back<D: Disk, J: Journal + Drop>(
         Ok(Backed::Rolling(rolling)) => Some(Loaded::Rolling(rolling)),
         Err(_) => None,
     }
+}
+
+/// Takes the back that comes next, where there is one.
+fn go_back<D: Disk, J: Journal + Drop>(
+    disk: &mut D,
+    backing: Backing<J>,
+    exit: Exit,
+) -> Option<Loaded<J>>
+    requires held { InBacking D.tells D.may_leave J.stands J.end backing disk.old }
+    requires well { has_failed (backing_device backing) ≡ false }
+    ensures held { IfSome result (λ s. InLoaded D.tells D.may_leave J.stands J.end s disk.new) }
+{
+    if backing.next().is_some() {
+        return back_next(disk, backing, exit);
+    }
+    drop(backing);
+    None
 }
 
 /// Takes the step that comes next. A back ends so.
