@@ -294,9 +294,6 @@ keeps_one ps p qs t i h = λ f x inf inx same.
       | inr j ↦ absurd (in_nil x j)
     ]
 
-pub keeps_standing : (t : Part → Bool) (fs : List Fitted) (ps : List Part) → KeepSteps fs ps → KeepSteps fs (filter t ps)
-keeps_standing t fs ps h = λ f p inf inp same. h f p inf (in_filter t ps p inp) same
-
 -- ---- those that come begin with their failures
 
 pub set_more : (ts xs ys : List Part) (k : ℕ) (d t : Part) → length ts ≡ length xs → k < length xs → length ys ≡ length xs → t ≡ get_or ts k d → take k ys ≡ take k ts → drop k ys ≡ drop k xs

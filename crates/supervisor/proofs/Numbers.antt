@@ -2,13 +2,13 @@
 use Rattle.std.proofs.Common.{◌≡◌, ◌<◌, ◌≤◌, ◌+◌, ◌==◌, ◌++◌, ℕ, suc, zero, List, [], ◌∷◌, length, get_or, drop, add-one, Bool, true, false, Option, Some, None, refl, sym, ap, ◌∙◌, arith, subst, filter, inl, inr, MatchOption}
 use Rattle.std.specs.Prelude.{◌||◌, nat_lt, min, if◌then◌else◌, IsSome}
 use Rattle.std.specs.List.{AllByRecursion}
-use Rattle.std.proofs.lemmas.Bool.{cases_eq, cases_lt, eq-eqb, ne_eqb, lt-ltb, le-ltb, ltb-true, ltb-false}
+use Rattle.std.proofs.lemmas.Bool.{cases_eq, cases_lt, eq-eqb, eqb-true, ne_eqb, lt-ltb, le-ltb, ltb-true, ltb-false}
 use Rattle.supervisor.specs.Deadlines.{earlier}
 use Rattle.supervisor.specs.Numbers.{among, is_above, number_above, least_above, below, IsNumberAt}
 use Rattle.supervisor.specs.Readied.{AreApart}
 use Rattle.nuc_base.specs.declared.kinds.Step.{Step}
-use Rattle.supervisor.specs.Answers.{living_numbers, child_numbers, IsLivingAt}
-use Rattle.supervisor.specs.World.{World, Part, Child, owner_from, child_of}
+use Rattle.supervisor.specs.Answers.{living_numbers, child_numbers, IsLivingAt, IsNextLiving}
+use Rattle.supervisor.specs.World.{World, Part, Child, owner, owner_from, child_of}
 use Rattle.supervisor.proofs.Apart.{no_child}
 use Rattle.supervisor.proofs.Deadline.{earlier_assoc}
 
@@ -192,3 +192,48 @@ below_filter n (x ∷ xs) = below_at (nat_lt x n) (below_filter n xs) where
 pub living_is : (w : World) (at : ℕ) (r : Option ℕ) → IsNumberAt (living_numbers w.parts) at r → IsLivingAt w at r
 living_is w at None h = h
 living_is w at (Some n) h = (owned 0 n w.parts h.0, below_filter n (living_numbers w.parts) ∙ h.1)
+
+-- ---- and who has an owner stands there
+
+pub has_number : (n : ℕ) (cs : List Child) (c : Child) → child_of n cs ≡ Some c → among n (child_numbers cs) ≡ true
+has_number n [] c e = absurd (cc)
+has_number n (d ∷ ds) c e = has_at (d.number == n) e (has_number n ds c) where
+  has_at : (b : Bool) → (if b then Some d else child_of n ds) ≡ Some c → (child_of n ds ≡ Some c → among n (child_numbers ds) ≡ true) → (b || among n (child_numbers ds)) ≡ true
+  has_at true q i = refl
+  has_at false q i = i q
+
+among_front : (n : ℕ) (xs ys : List ℕ) → among n xs ≡ true → among n (xs ++ ys) ≡ true
+among_front n [] ys e = absurd (cc)
+among_front n (x ∷ xs) ys e = front_at (x == n) e (among_front n xs ys) where
+  front_at : (b : Bool) → (b || among n xs) ≡ true → (among n xs ≡ true → among n (xs ++ ys) ≡ true) → (b || among n (xs ++ ys)) ≡ true
+  front_at true q i = refl
+  front_at false q i = i q
+
+among_back : (n : ℕ) (xs ys : List ℕ) → among n ys ≡ true → among n (xs ++ ys) ≡ true
+among_back n [] ys e = e
+among_back n (x ∷ xs) ys e = or_last (x == n) (among n (xs ++ ys)) (among_back n xs ys e)
+
+owner_stands_at : (k n : ℕ) (p : Part) (ps : List Part) (o : Option Child) → child_of n p.children ≡ o → IsSome (owner_at k n ps o) → (IsSome (owner_from (k + 1) n ps) → among n (living_numbers ps) ≡ true)
+    → among n (child_numbers p.children ++ living_numbers ps) ≡ true
+owner_stands_at k n p ps None q e i = among_back n (child_numbers p.children) (living_numbers ps) (i e)
+owner_stands_at k n p ps (Some c) q e i = among_front n (child_numbers p.children) (living_numbers ps) (has_number n p.children c q)
+
+pub owner_stands : (k n : ℕ) (ps : List Part) → IsSome (owner_from k n ps) → among n (living_numbers ps) ≡ true
+owner_stands k n [] e = absurd (cc)
+owner_stands k n (p ∷ ps) e = owner_stands_at k n p ps (child_of n p.children) refl e (owner_stands (k + 1) n ps)
+
+-- ---- the next one that lives
+
+one_of : (P : ℕ → Type 0) (n : ℕ) (ns : List ℕ) → AllByRecursion P ns → among n ns ≡ true → P n
+one_of P n [] a e = absurd (cc)
+one_of P n (x ∷ xs) a e = one_at (x == n) refl e (one_of P n xs a.1) where
+  one_at : (b : Bool) → (x == n) ≡ b → (b || among n xs) ≡ true → (among n xs ≡ true → P n) → P n
+  one_at true q h i = subst P (eqb-true x n q) a.0
+  one_at false q h i = i h
+
+living_by : (w : World) (last r : Option ℕ) → MatchOption r (NoneAbove last (living_numbers w.parts)) (IsLeastAbove last (living_numbers w.parts)) → IsNextLiving w last r
+living_by w last None h = λ n o. one_of (λ x. is_above last x ≡ false) n (living_numbers w.parts) h (owner_stands 0 n w.parts o)
+living_by w last (Some m) h = (owned 0 m w.parts h.1, h.0, (λ n o above. one_of (λ x. is_above last x ≡ true → m ≤ x) n (living_numbers w.parts) h.2 (owner_stands 0 n w.parts o) above))
+
+pub next_living : (w : World) (last r : Option ℕ) → r ≡ least_above last (living_numbers w.parts) → IsNextLiving w last r
+next_living w last r is = subst (IsNextLiving w last) (sym is) (living_by w last (least_above last (living_numbers w.parts)) (least_is last (living_numbers w.parts)))

@@ -4,6 +4,7 @@ use Rattle.std.specs.List.{find, list_any}
 use Rattle.nuc_base.specs.declared.kinds.Step.{Step}
 use Rattle.supervisor.specs.World.{World, Part, Child, At, part_name, owner, is_broken, is_over}
 use Rattle.supervisor.specs.Turns.{is_begun}
+use Rattle.supervisor.specs.Numbers.{is_above}
 use Rattle.supervisor.specs.declared.kinds.Event.{Event}
 use Rattle.supervisor.specs.declared.kinds.Event.TheVariants.{Started, Refused, Skipped, Ended, Passed}
 use Rattle.supervisor.specs.declared.kinds.Mode.{Mode}
@@ -44,6 +45,11 @@ living_numbers (p ∷ ps) = child_numbers p.children ++ living_numbers ps
 abbrev pub IsLivingAt : World → ℕ → Option ℕ → Type 0
 IsLivingAt w at None = length (living_numbers w.parts) ≤ at
 IsLivingAt w at (Some n) = IsSome (owner n w.parts) × (length (filter (λ m. nat_lt m n) (living_numbers w.parts)) ≡ at)
+
+-- the living child of the least number above the last one
+abbrev pub IsNextLiving : World → Option ℕ → Option ℕ → Type 0
+IsNextLiving w last None = (n : ℕ) → IsSome (owner n w.parts) → is_above last n ≡ false
+IsNextLiving w last (Some m) = IsSome (owner m w.parts) × (is_above last m ≡ true) × ((n : ℕ) → IsSome (owner n w.parts) → is_above last n ≡ true → m ≤ n)
 
 -- how many components stand
 abbrev pub standing_count : World → ℕ

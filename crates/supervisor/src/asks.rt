@@ -150,7 +150,7 @@ fn least_number(children: &[Child], last: Option<u64>, other: Option<u64>) -> Op
 }
 
 /// The least number of a living child that is above the last one.
-fn next_number(slots: &[Slot], last: Option<u64>) -> Option<u64>
+pub(crate) fn next_number(slots: &[Slot], last: Option<u64>) -> Option<u64>
     ensures { result ≡ least_above last (living_numbers slots.now) }
 {
     let mut least = None;

@@ -241,7 +241,7 @@ fn meet_all(slots: &mut Vec<Slot>, coming: &mut Vec<Slot>, flags: &mut Vec<bool>
     requires fresh { AreFresh coming.old.items }
     requires apart { AreNamesApart (map part_name slots.old.items) }
     requires coming_apart { AreNamesApart (map part_name coming.old.items) }
-    requires same { KeepSteps (map (λ (p : Part). p.fitted) coming.old.items) slots.old.items }
+    requires same { KeepSteps (map (λ (p : Part). p.fitted) coming.old.items) (standing slots.old.items) }
     requires empty { flags.old.items ≡ [] }
     requires room { length (standing slots.old.items) ≤ vec_capacity flags.old }
     ensures met { slots.new.items ≡ replanned (map (fate (map coming_of coming.old.items)) (standing slots.old.items)) }
@@ -265,7 +265,7 @@ pub(crate) fn change_in(
     requires room { length (standing slots.old.items) ≤ ready.room }
     requires few { All (λ (n : ℕ). n < 3) failures.now }
     requires apart { AreNamesApart (map part_name slots.old.items) }
-    requires same { KeepSteps ready.coming slots.old.items }
+    requires same { KeepSteps ready.coming (standing slots.old.items) }
     ensures changed { slots.new.items ≡ with_items (counted 0 failures.now ready.coming) (standing slots.old.items) }
     ensures many { length flags.new.items ≡ length slots.new.items }
     ensures few { length slots.new.items < 2 ^ 32 }

@@ -7,8 +7,8 @@ ghost use Rattle.records.specs.Stored.{item_view};
 ghost use Rattle.device.specs.Plans.{Rise, item_name, AreRegularItems, NeedsByName, HasSomeRecipe};
 ghost use Rattle.supervisor.specs.Made.{AreFitted};
 ghost use Rattle.supervisor.specs.Acts.{NextAct};
-ghost use Rattle.supervisor.specs.Answers.{Answers, has_answered, is_steady, broken_name, IsLivingAt, standing_count};
-ghost use Rattle.supervisor.specs.Changes.{changed_to, all_stopped, steadied};
+ghost use Rattle.supervisor.specs.Answers.{Answers, has_answered, is_steady, broken_name, IsLivingAt, IsNextLiving, standing_count};
+ghost use Rattle.supervisor.specs.Changes.{changed_to, all_stopped, standing, steadied};
 ghost use Rattle.supervisor.specs.Deadlines.{least_deadline};
 ghost use Rattle.supervisor.specs.Events.{noticed, later};
 ghost use Rattle.supervisor.specs.Fitted.{Fitted, prepared_of};
@@ -51,13 +51,13 @@ pub trait Supervise {
         ensures made { IfOk result (λ r. AreFitted origin.now (map item_view items.now) (coming r)) }
         ensures room { IfOk result (λ r. standing_count (world self.now) ≤ room r) };
 
-    /// Other items are to run, each with the failures at its place. An item that a component has already has the steps that it
-    /// had, as where both were made ready for one platform.
+    /// Other items are to run, each with the failures at its place. An item that a component that stands has already has the
+    /// steps that it had, as where both were made ready for one platform.
     fn change(&mut self, ready: Self::Ready, failures: &[u8; 128], mode: Mode)
         requires room { standing_count (world self.old) ≤ room ready }
         requires few { All (λ (n : ℕ). n < 3) failures.now }
         requires answered { has_answered (world self.old) ≡ true }
-        requires same { KeepSteps (coming ready) (world self.old).parts }
+        requires same { KeepSteps (coming ready) (standing (world self.old).parts) }
         ensures { world self.new ≡ changed_to (coming ready) failures.now (is_steady mode) (world self.old) };
 
     /// A failure first, else what the component of the least name that may act has to have done.
@@ -99,6 +99,10 @@ pub trait Supervise {
     /// The child that so many living ones come before, by their numbers.
     fn living(&self, at: u32) -> Option<u64>
         ensures { IsLivingAt (world self.now) at result };
+
+    /// The living child of the least number above the last one, or of all where there is no last one.
+    fn next_living(&self, last: Option<u64>) -> Option<u64>
+        ensures { IsNextLiving (world self.now) last result };
 
     /// The name of the component of this number.
     fn name(&self, component: u32) -> &Name

@@ -7,8 +7,8 @@ ghost use Rattle.records.specs.Stored.{item_view};
 ghost use Rattle.device.specs.Plans.{Rise, item_name, AreRegularItems, NeedsByName, HasSomeRecipe};
 ghost use Rattle.supervisor.specs.Made.{AreFitted};
 ghost use Rattle.supervisor.specs.Acts.{NextAct};
-ghost use Rattle.supervisor.specs.Answers.{Answers, has_answered, is_steady, broken_name, IsLivingAt, standing_count};
-ghost use Rattle.supervisor.specs.Changes.{changed_to, all_stopped, steadied};
+ghost use Rattle.supervisor.specs.Answers.{Answers, has_answered, is_steady, broken_name, IsLivingAt, IsNextLiving, standing_count};
+ghost use Rattle.supervisor.specs.Changes.{changed_to, all_stopped, standing, steadied};
 ghost use Rattle.supervisor.specs.Deadlines.{least_deadline};
 ghost use Rattle.supervisor.specs.Events.{noticed, later};
 ghost use Rattle.supervisor.specs.Fitted.{prepared_of};
@@ -116,12 +116,13 @@ impl Supervisor {
     }
 
     /// Other items are to run, each with the failures at its place. Those that go away, and those that are replaced, are stopped
-    /// first. An item that a component has already has the steps that it had, and each start that was handed out is answered.
+    /// first. An item that a component that stands has already has the steps that it had, and each start that was handed out is
+    /// answered.
     pub fn change(&mut self, ready: Ready, failures: &[u8; 128], mode: Mode)
         requires room { standing_count self.old ≤ ready.room }
         requires few { All (λ (n : ℕ). n < 3) failures.now }
         requires answered { has_answered self.old ≡ true }
-        requires same { KeepSteps ready.coming self.old.parts }
+        requires same { KeepSteps ready.coming (standing self.old.parts) }
         ensures { self.new ≡ changed_to ready.coming failures.now (is_steady mode) self.old }
     {
         change_in(&mut self.slots, &mut self.flags, ready, failures);
@@ -178,6 +179,14 @@ impl Supervisor {
         ensures { IsLivingAt self.now at result }
     {
         asks::living_at(self.slots.as_slice(), at)
+    }
+
+    /// The number of the living child that comes after the last one in rising order, or first where there is no last one. So
+    /// all can be gone over, however many they are.
+    pub fn next_living(&self, last: Option<u64>) -> Option<u64>
+        ensures { IsNextLiving self.now last result }
+    {
+        asks::next_number(self.slots.as_slice(), last)
     }
 
     /// The name of the component of this number.
@@ -257,6 +266,10 @@ impl Supervise for Supervisor {
 
     fn living(&self, at: u32) -> Option<u64> {
         Supervisor::living(self, at)
+    }
+
+    fn next_living(&self, last: Option<u64>) -> Option<u64> {
+        Supervisor::next_living(self, last)
     }
 
     fn name(&self, component: u32) -> &Name {

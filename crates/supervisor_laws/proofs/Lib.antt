@@ -22,6 +22,7 @@ mod Gone
 mod Moved
 mod Begun
 mod Told
+pub mod Steadied
 mod Changed
 mod Placed
 mod Small

@@ -8,7 +8,9 @@ ghost use Rattle.device.specs.Lawful.{applied};
 ghost use Rattle.supervisor.specs.World.{World, At, owner, part_name};
 ghost use Rattle.supervisor.specs.Events.{started, refused, skipped, ended, killed, told_at, later};
 ghost use Rattle.supervisor.specs.Acts.{Move, Quietly, OwesAt};
+ghost use Rattle.supervisor.specs.Changes.{steadied};
 ghost use Rattle.supervisor_laws.specs.Keeps.{Keeps, IsTold, Owns};
+ghost use Rattle.supervisor_laws.specs.Sound.{IsOrderly};
 
 /// Moves that leave nothing outside start and take no child.
 pub fn moves_keep()
@@ -58,4 +60,11 @@ pub fn time_keeps()
     ensures keeps { (d : Device) (m : ℕ) (w : World) → Keeps d w → Keeps d (later m w) }
     ensures owners { (n m : ℕ) (w : World) → owner n (later m w).parts ≡ owner n w.parts }
     ensures told { (m : ℕ) (w : World) → IsTold w → IsTold (later m w) }
+{}
+
+/// The end of a deployment leaves what is orderly, the children and the failures that are still to be told.
+pub fn closes_keep()
+    ensures orderly { (w : World) → IsOrderly w → IsOrderly (steadied w) }
+    ensures owners { (n : ℕ) (w : World) → owner n (steadied w).parts ≡ owner n w.parts }
+    ensures told { (w : World) → IsTold w → IsTold (steadied w) }
 {}

@@ -1,7 +1,8 @@
 //! Laws of the components of a device as they run, on functions that do nothing.
 //!
 //! It promises that between the device and the components `Keeps` holds from a change to other items on, whatever
-//! befalls the components, and what becomes of the children's owners. It stands on the definitions of `supervisor`.
+//! befalls the components, that its close leaves what is orderly, and what becomes of the children's owners. It stands on
+//! the definitions of `supervisor`.
 #![tactic(auto)]
 
 mod changing;
@@ -10,7 +11,7 @@ mod rows;
 
 pub use changing::{changes_keep, ready_items_are_counted};
 pub use keeping::{
-    ends_keep, kills_keep, moves_keep, refusals_keep, skips_keep, starts_keep, tellings_keep,
-    time_keeps,
+    closes_keep, ends_keep, kills_keep, moves_keep, refusals_keep, skips_keep, starts_keep,
+    tellings_keep, time_keeps,
 };
 pub use rows::{one_fails_once, one_is_replaced};

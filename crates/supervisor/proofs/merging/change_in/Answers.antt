@@ -28,7 +28,7 @@ pub meet_all-requires-clause-same : goal.meet_all-requires-clause-same
 meet_all-requires-clause-same c =
     let cs : List Part = c.ready.inside.coming.items in
     let e = ap (λ (ps : List Part). fits ps) c.begin_all.ensures ∙ began_fits 0 c.args.failures.now (fits cs) ∙ ap (λ (r : Readied). r.coming) c.ready.view_is in
-    subst (λ (fs : List Fitted). KeepSteps fs c.args.slots.now.items) (sym e) c.requires.same
+    subst (λ (fs : List Fitted). KeepSteps fs (standing c.args.slots.now.items)) (sym e) c.requires.same
 
 pub meet_all-requires-clause-empty : goal.meet_all-requires-clause-empty
 meet_all-requires-clause-empty c = c.ready.invariant.1

@@ -5,7 +5,7 @@ use Rattle.supervisor.specs.Merges.{unmet}
 use Rattle.supervisor.specs.Readied.{AreNamesApart, KeepSteps, coming_of}
 use Rattle.supervisor.specs.World.{Part, is_over}
 use Rattle.supervisor.proofs.Changed.{replanned_length}
-use Rattle.supervisor.proofs.Meets.{apart_filter, fits, keeps_standing}
+use Rattle.supervisor.proofs.Meets.{apart_filter, fits}
 use Rattle.supervisor.proofs.Names.{names}
 use Rattle.supervisor.proofs.merging.meet_all.Goals as goal
 
@@ -15,7 +15,7 @@ meet_in-requires-clause-apart c = subst (λ (ps : List Part). AreNamesApart (nam
 pub meet_in-requires-clause-same : goal.meet_in-requires-clause-same
 meet_in-requires-clause-same c =
     let qs : List Part = c.args.coming.now.items in
-    subst (λ (ps : List Part). KeepSteps (fits qs) ps) (sym c.drop_over.ensures) (keeps_standing (λ (p : Part). not (is_over p)) (fits qs) c.args.slots.now.items c.requires.same)
+    subst (λ (ps : List Part). KeepSteps (fits qs) ps) (sym c.drop_over.ensures) c.requires.same
 
 pub restart_all-requires-clause-room : goal.restart_all-requires-clause-room
 restart_all-requires-clause-room c =
