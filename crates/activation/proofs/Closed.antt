@@ -1,5 +1,5 @@
 -- The close of a deployment in a history.
-use Rattle.std.specs.Prelude.{Contains, ℕ, ◌+◌, ◌==◌, nat_eq, nat_lt, length, Bool, true, false, ◌||◌, List, [], ◌∷◌, ◌++◌, map, Option, Some, None, IsSome, is_some, if◌then◌else◌}
+use Rattle.std.specs.Prelude.{Contains, ℕ, ◌+◌, ◌==◌, nat_eq, nat_lt, length, Bool, true, false, List, [], ◌∷◌, ◌++◌, Option, Some, None, IsSome, is_some, if◌then◌else◌}
 use Rattle.std.specs.List.{list_any, position_or_len}
 use Rattle.std.specs.Option.{IsSomeAnd, option_map_or}
 use Rattle.std.proofs.Common.{◌≡◌, ◌↔◌, ◌∙◌, inl, refl, sym, ap, subst, arith}
@@ -21,11 +21,10 @@ use Rattle.deploy_state.specs.States.{IsIn}
 use Rattle.deploy_state.proofs.Steps.{may_roll}
 use Rattle.step_runner.specs.Entries.{Told}
 use Rattle.step_runner.specs.declared.entries.RunnerEntry.{RunnerEntry}
-use Rattle.supervisor.specs.World.{World, Part, child_of, is_settled, owner, owner_from}
-use Rattle.supervisor.specs.Turns.{owes}
-use Rattle.supervisor.specs.Answers.{child_numbers, has_answered, living_numbers}
+use Rattle.supervisor.specs.World.{World, is_settled, owner}
+use Rattle.supervisor.specs.Answers.{has_answered}
 use Rattle.supervisor.specs.Events.{later}
-use Rattle.supervisor.specs.Changes.{forgetting, steadied}
+use Rattle.supervisor.specs.Changes.{steadied}
 use Rattle.session.specs.Phases.{Crew, duty_in, duty_of, is_closing, is_idle, is_present, present}
 use Rattle.session.specs.Happenings.{Kept, records_of}
 use Rattle.session.specs.Places.{Place, leaves}
@@ -36,6 +35,7 @@ use Rattle.driver.specs.Went.{StandsForMost, Went}
 use Rattle.driver.proofs.Joins.{kept_one}
 use Rattle.driver.proofs.Records.{doubt_at}
 use Rattle.supervisor_laws.specs.Sound.{Differ}
+use Rattle.supervisor_laws.proofs.Steadied.{closed_orderly, living_steadied, owes_steadied, owner_steadied}
 use Rattle.activation.specs.Ended.{HasClosed}
 use Rattle.activation.specs.Runs.{Quits, Rests}
 use Rattle.activation.proofs.Answered.{free_is, free_steadied, is_free}
@@ -130,17 +130,6 @@ idle_of d (Some q) o h = refl
 
 -- ---- the components behind it
 
-owner_at : (j n : ℕ) (ps : List Part) → owner_from j n (map forgetting ps) ≡ owner_from j n ps
-owner_at j n [] = refl
-owner_at j n (p ∷ ps) = ap (λ (o : Option (ℕ × Step)). elim (child_of n p.children) [ None ↦ o | Some c ↦ Some (j, c.of) ]) (owner_at (j + 1) n ps)
-
-owner_steadied : (n : ℕ) (w : World) → owner n (steadied w).parts ≡ owner n w.parts
-owner_steadied n w = owner_at 0 n w.parts
-
-owes_at : (ps : List Part) → list_any owes (map forgetting ps) ≡ list_any owes ps
-owes_at [] = refl
-owes_at (p ∷ ps) = ap (λ (b : Bool). owes p || b) (owes_at ps)
-
 present_is : (c : Crew) → c ≡ present → is_present c ≡ true
 present_is c is = rw is refl
 
@@ -170,16 +159,13 @@ closed_at p d e b o world told living pending r same =
         there = inl (present_is p.crew on.crew);
         boot = on.boot;
         boot_end = on.boot_end;
-        told = owes_at p.world.parts ∙ r.quiet.told;
+        told = owes_steadied p.world ∙ r.quiet.told;
         over = refl;
         cut = on.cut;
       };
+      orderly = closed_orderly p.device p.world w.keeps;
       closed = ([], refl);
     }
-
-numbers_at : (ps : List Part) → living_numbers (map forgetting ps) ≡ living_numbers ps
-numbers_at [] = refl
-numbers_at (p ∷ ps) = ap (λ (l : List ℕ). child_numbers p.children ++ l) (numbers_at ps)
 
 -- where the call gives up behind the close, whether or not the supervisor knows of it
 pub closed_quits : (p : Place) (d : Device) (b : Bool) (o : Outcome) (world now : World) (told : Told) (living : List ℕ) → Rests p d b world told living → ((n : ℕ) → owner n now.parts ≡ owner n p.world.parts) → Quits (leaves p (Kept (stored.Closed o))) now told living
@@ -193,7 +179,7 @@ closed_quits p d b o world now told living r same =
       boot_end = w.on.boot_end;
       over = refl;
       cut = w.on.cut;
-      differ = subst (λ (l : List ℕ). Differ l) (sym (numbers_at p.world.parts)) w.keeps.differ;
+      differ = subst (λ (l : List ℕ). Differ l) (sym (living_steadied p.world)) w.keeps.differ;
       owners = λ n. same n ∙ sym (owner_steadied n p.world);
       children = λ n. subst (λ (x : Option (ℕ × Step)). Contains living n ↔ IsSome x) (sym (owner_steadied n p.world)) (w.children n);
     }

@@ -42,7 +42,7 @@ closes_on : (o : Outcome) (h g : List Happening) → ClosesAs o (records_of g) �
 closes_on o h g e = (records_of h ++ e.0, records-append g h ∙ ap (λ (l : List Record). records_of h ++ l) e.1 ∙ sym (append_assoc (records_of h) e.0 (Closed o ∷ [])))
 
 pub closed_on : (o : Outcome) (p : Place) (h g : List Happening) (d : Device) (world : World) (told : Told) (living : List ℕ) → HasClosed o (records_of g) (left_by (left_by p h) g) d world told living → HasClosed o (records_of (g ++ h)) (left_by p (g ++ h)) d world told living
-closed_on o p h g d world told living c = subst (λ (q : Place). HasClosed o (records_of (g ++ h)) q d world told living) (sym (left-append p g h)) (record { stands = c.stands; back = c.back; closed = closes_on o h g c.closed })
+closed_on o p h g d world told living c = subst (λ (q : Place). HasClosed o (records_of (g ++ h)) q d world told living) (sym (left-append p g h)) (record { stands = c.stands; back = c.back; orderly = c.orderly; closed = closes_on o h g c.closed })
 
 pub broken_of : (q : Place) (d : Device) (world : World) (told : Told) (living : List ℕ) → Rests q d true world told living → HasBroken q d world told living
 broken_of q d world told living r = record { comes = comes_of q d world told living r.runs r.device_is; quiet = r.quiet; counts = r.counts }

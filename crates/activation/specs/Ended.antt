@@ -1,5 +1,5 @@
 -- What the stages leave at their ends.
-use Rattle.std.specs.Prelude.{◌≡◌, ◌≤◌, ℕ, Bool, true, List, [], ◌∷◌, ◌++◌}
+use Rattle.std.specs.Prelude.{◌≡◌, ◌≤◌, ℕ, Bool, true, List, [], ◌∷◌, ◌++◌, ⊤}
 use Rattle.disk_model.specs.Disk.{Image}
 use Rattle.nuc_base.specs.declared.kinds.Outcome.{Outcome}
 use Rattle.nuc_base.specs.declared.kinds.Outcome.TheVariants as outcomes
@@ -9,11 +9,13 @@ use Rattle.deploy_state.specs.States.{InActivating, InIdle, InRolling, activatin
 use Rattle.step_runner.specs.Entries.{Told}
 use Rattle.supervisor.specs.World.{World}
 use Rattle.supervisor.specs.Turns.{IsQuiet}
+use Rattle.supervisor_laws.specs.Sound.{IsOrderly}
 use Rattle.session.specs.Phases.{duty_of}
 use Rattle.session.specs.Happenings.{Happening, records_of}
 use Rattle.session.specs.Places.{Place}
 use Rattle.session.specs.Waits.{has_three}
 use Rattle.session.specs.Courses.{IsBack, Stands}
+use Rattle.driver.specs.Same.{IsSameDeployment}
 use Rattle.activation.specs.Runs.{Comes}
 use Rattle.activation.specs.Turns.{moments_in, most_turns}
 use Rattle.activation.specs.declared.activating.Activated.{Activated}
@@ -29,6 +31,7 @@ ClosesAs outcome records = (front : List Record) × (records ≡ front ++ Closed
 pub record HasClosed (outcome : Outcome) (records : List Record) (q : Place) (d : Device) (world : World) (told : Told) (living : List ℕ) : Type 0 where
   pub stands : Stands q d world told living
   pub back : IsBack q
+  pub orderly : IsOrderly q.world
   pub closed : ClosesAs outcome records
 
 -- No act is left, and a component failed three times.
@@ -45,6 +48,16 @@ ActivatedLeft (activated.More s) h q world told living = Comes q (activating_dev
 abbrev pub RolledLeft : {J : Type 0} → Rolled J → List Happening → Place → World → Told → List ℕ → Type 0
 RolledLeft (rolled.Closed s outcome) h q world told living = HasClosed outcome (records_of h) q (idle_device s) world told living
 RolledLeft (rolled.More s) h q world told living = Comes q (rolling_device s) world told living × (most_turns ≤ moments_in h)
+
+-- where the deployment is pending still, it is the same
+abbrev pub ActivatedSame : {J : Type 0} → Device → Activated J → Type 0
+ActivatedSame d (activated.Closed s) = ⊤
+ActivatedSame d (activated.Broken s) = IsSameDeployment d (activating_device s)
+ActivatedSame d (activated.More s) = IsSameDeployment d (activating_device s)
+
+abbrev pub RolledSame : {J : Type 0} → Device → Rolled J → Type 0
+RolledSame d (rolled.Closed s outcome) = ⊤
+RolledSame d (rolled.More s) = IsSameDeployment d (rolling_device s)
 
 module _ {J D : Type 0} (tells : Bool) (may_leave : D → Image → Type 0) (stands : J → Image → List (List ℕ) → Type 0) (end : J → ℕ) where
   abbrev pub InActivated : Activated J → D → Type 0

@@ -7,7 +7,7 @@ ghost use Rattle.session.specs.Happenings.{Happening, records_of};
 ghost use Rattle.session.specs.Places.{Place, left_by};
 ghost use Rattle.driver.specs.Over.{Left, Lines};
 ghost use Rattle.driver.specs.Went.{Went};
-ghost use Rattle.activation.specs.Ended.{ActivatedLeft, InActivated};
+ghost use Rattle.activation.specs.Ended.{ActivatedLeft, ActivatedSame, InActivated};
 ghost use Rattle.activation.specs.Runs.{Comes, Quits};
 
 use crate::closing::close_plan;
@@ -49,6 +49,7 @@ pub fn activate<D: Disk, J: Journal + Drop, K: Sink, R: Runner, S: Supervise>(
         × Left J.entries D.may_leave disk.new p h (λ x q. ActivatedLeft x h q (S.world supervisor.new) (Listed R.list R.told R.asked runner.new) (R.living runner.new)) result
         × OnErr result (Quits (left_by p h) (S.world supervisor.new) (Listed R.list R.told R.asked runner.new) (R.living runner.new)) }
     ensures held { IfOk result (λ x. InActivated D.tells D.may_leave J.stands J.end x disk.new) }
+    ensures same { IfOk result (λ x. ActivatedSame (activating_device state) x) }
     ensures others { IsTrue D.tells → (name : List ℕ) → ¬ (J.files name) → D.seen disk.new name ≡ D.seen disk.old name }
     ensures disk { IsErrOf result Over.Disk → Rose (D.faults disk.old) (D.faults disk.new) }
     ensures edge { IsErrOf result Over.Edge → Rose (K.faults sink.old) (K.faults sink.new) }

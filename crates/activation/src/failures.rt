@@ -8,6 +8,7 @@ ghost use Rattle.session.specs.Happenings.{Happening, records_of};
 ghost use Rattle.session.specs.Places.{Place, left_by};
 ghost use Rattle.driver.specs.Lines.{line_of};
 ghost use Rattle.driver.specs.Over.{Left, Lines};
+ghost use Rattle.driver.specs.Same.{IsSameDeployment};
 ghost use Rattle.driver.specs.Went.{Went};
 ghost use Rattle.activation.specs.Coming.{InComing, coming_device, is_plan};
 ghost use Rattle.activation.specs.Runs.{HasFailed, Quits, Runs};
@@ -60,6 +61,7 @@ pub(crate) fn note_failure<D: Disk, J: Journal + Drop, K: Sink, S: Supervise>(
         × OnErr result (Quits (left_by p h) (S.world supervisor.now) told living) }
     ensures held { IfOk result (λ s. InComing D.tells D.may_leave J.stands J.end s disk.new) }
     ensures same { IfOk result (λ s. is_plan s ≡ is_plan state) }
+    ensures deployment { IfOk result (λ s. IsSameDeployment (coming_device state) (coming_device s)) }
     ensures others { IsTrue D.tells → (name : List ℕ) → ¬ (J.files name) → D.seen disk.new name ≡ D.seen disk.old name }
     ensures disk { IsErrOf result Over.Disk → Rose (D.faults disk.old) (D.faults disk.new) }
     ensures edge { IsErrOf result Over.Edge → Rose (K.faults sink.old) (K.faults sink.new) }

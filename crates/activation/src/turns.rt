@@ -5,6 +5,7 @@ ghost use Rattle.step_runner.specs.Entries.{Listed};
 ghost use Rattle.session.specs.Happenings.{Happening, records_of};
 ghost use Rattle.session.specs.Places.{Place, left_by};
 ghost use Rattle.driver.specs.Over.{Left, Lines};
+ghost use Rattle.driver.specs.Same.{IsSameDeployment};
 ghost use Rattle.driver.specs.Went.{Went};
 ghost use Rattle.activation.specs.Coming.{InComing, coming_device, is_plan};
 ghost use Rattle.activation.specs.Did.{ActLeft};
@@ -54,6 +55,7 @@ fn take_act<D: Disk, J: Journal + Drop, K: Sink, R: Runner, S: Supervise>(
         × OnErr result (Quits (left_by p h) (S.world supervisor.new) (Listed R.list R.told R.asked runner.new) (R.living runner.new)) }
     ensures held { IfOk result (λ s. InComing D.tells D.may_leave J.stands J.end s.0 disk.new) }
     ensures same { IfOk result (λ s. is_plan s.0 ≡ is_plan state) }
+    ensures deployment { IfOk result (λ s. IsSameDeployment (coming_device state) (coming_device s.0)) }
     ensures others { IsTrue D.tells → (name : List ℕ) → ¬ (J.files name) → D.seen disk.new name ≡ D.seen disk.old name }
     ensures disk { IsErrOf result Over.Disk → Rose (D.faults disk.old) (D.faults disk.new) }
     ensures edge { IsErrOf result Over.Edge → Rose (K.faults sink.old) (K.faults sink.new) }
@@ -93,6 +95,7 @@ fn take_acts<D: Disk, J: Journal + Drop, K: Sink, R: Runner, S: Supervise>(
         × OnErr result (Quits (left_by p h) (S.world supervisor.new) (Listed R.list R.told R.asked runner.new) (R.living runner.new)) }
     ensures held { IfOk result (λ s. InComing D.tells D.may_leave J.stands J.end s.0 disk.new) }
     ensures same { IfOk result (λ s. is_plan s.0 ≡ is_plan state) }
+    ensures deployment { IfOk result (λ s. IsSameDeployment (coming_device state) (coming_device s.0)) }
     ensures others { IsTrue D.tells → (name : List ℕ) → ¬ (J.files name) → D.seen disk.new name ≡ D.seen disk.old name }
     ensures disk { IsErrOf result Over.Disk → Rose (D.faults disk.old) (D.faults disk.new) }
     ensures edge { IsErrOf result Over.Edge → Rose (K.faults sink.old) (K.faults sink.new) }
@@ -132,6 +135,7 @@ fn turn<D: Disk, J: Journal + Drop, K: Sink, R: Runner, S: Supervise>(
         × OnErr result (Quits (left_by p h) (S.world supervisor.new) (Listed R.list R.told R.asked runner.new) (R.living runner.new)) }
     ensures held { IfOk result (λ s. InComing D.tells D.may_leave J.stands J.end s.0 disk.new) }
     ensures same { IfOk result (λ s. is_plan s.0 ≡ is_plan state) }
+    ensures deployment { IfOk result (λ s. IsSameDeployment (coming_device state) (coming_device s.0)) }
     ensures others { IsTrue D.tells → (name : List ℕ) → ¬ (J.files name) → D.seen disk.new name ≡ D.seen disk.old name }
     ensures disk { IsErrOf result Over.Disk → Rose (D.faults disk.old) (D.faults disk.new) }
     ensures edge { IsErrOf result Over.Edge → Rose (K.faults sink.old) (K.faults sink.new) }
@@ -175,6 +179,7 @@ pub(crate) fn come_up<D: Disk, J: Journal + Drop, K: Sink, R: Runner, S: Supervi
         × OnErr result (Quits (left_by p h) (S.world supervisor.new) (Listed R.list R.told R.asked runner.new) (R.living runner.new)) }
     ensures held { IfOk result (λ s. InComing D.tells D.may_leave J.stands J.end s.0 disk.new) }
     ensures same { IfOk result (λ s. is_plan s.0 ≡ is_plan state) }
+    ensures deployment { IfOk result (λ s. IsSameDeployment (coming_device state) (coming_device s.0)) }
     ensures others { IsTrue D.tells → (name : List ℕ) → ¬ (J.files name) → D.seen disk.new name ≡ D.seen disk.old name }
     ensures disk { IsErrOf result Over.Disk → Rose (D.faults disk.old) (D.faults disk.new) }
     ensures edge { IsErrOf result Over.Edge → Rose (K.faults sink.old) (K.faults sink.new) }

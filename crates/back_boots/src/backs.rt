@@ -1,13 +1,14 @@
 //! The bootstrap steps that run again, one after another.
-ghost use Rattle.std.specs.Prelude.{◌≡◌, ◌≤◌, ℕ, List, is_none, None, IfOk, IfSome, IsErrOf, IsTrue, option_map, slice_get};
+ghost use Rattle.std.specs.Prelude.{◌≡◌, ◌≤◌, [], ℕ, List, is_none, None, IfOk, IfSome, IsErrOf, IsTrue, OnErr, option_map, slice_get};
 ghost use Rattle.nuc_base.specs.Faults.{Rose};
 ghost use Rattle.device.specs.declared.staged.Stage.TheVariants as stages;
 ghost use Rattle.deploy_state.specs.States.{InBacked, InBacking, IsIn, backed_device, backing_device};
 ghost use Rattle.step_runner.specs.Entries.{Listed};
 ghost use Rattle.supervisor.specs.World.{World};
+ghost use Rattle.session.specs.Courses.{IsBare};
 ghost use Rattle.session.specs.Happenings.{Happening, records_of};
 ghost use Rattle.session.specs.Phases.{duty_of};
-ghost use Rattle.session.specs.Places.{Place};
+ghost use Rattle.session.specs.Places.{Place, left_by};
 ghost use Rattle.driver.specs.Booted.{BootsLeft, restart_of};
 ghost use Rattle.driver.specs.Made.{IsTurn};
 ghost use Rattle.driver.specs.Over.{Left, Lines};
@@ -104,10 +105,13 @@ pub fn run_backs<D: Disk, J: Journal + Drop, K: Sink, R: Runner>(
     requires held { InBacking D.tells D.may_leave J.stands J.end state disk.old }
     requires made { AreMadeAgain (backing_device state) made.now }
     requires placed { (p : Place) × (world : World) × IsFront p (backing_device state) world (Listed R.list R.told R.asked runner.old) (R.living runner.old) }
+    // Where it gives up, no child lives.
     ensures went { (p : Place) → (world : World) → IsFront p (backing_device state) world (Listed R.list R.told R.asked runner.old) (R.living runner.old) →
         (h : List Happening) × Went J.entries J.files D.may_leave D.moment D.left_since disk.old disk.new (R.list runner.old) (R.list runner.new) p h
         × Lines (K.held sink.old) (K.held sink.new) p.device (records_of h) result
-        × Left J.entries D.may_leave disk.new p h (λ x q. BootsLeft x.1 (records_of h) q (backed_device x.0) world (Listed R.list R.told R.asked runner.new) (R.living runner.new)) result }
+        × Left J.entries D.may_leave disk.new p h (λ x q. BootsLeft x.1 (records_of h) q (backed_device x.0) world (Listed R.list R.told R.asked runner.new) (R.living runner.new)) result
+        × OnErr result (IsBare (left_by p h)) }
+    ensures none { R.living runner.new ≡ [] }
     ensures held { IfOk result (λ x. InBacked D.tells D.may_leave J.stands J.end x.0 disk.new) }
     ensures others { IsTrue D.tells → (name : List ℕ) → ¬ (J.files name) → D.seen disk.new name ≡ D.seen disk.old name }
     ensures disk { IsErrOf result Over.Disk → Rose (D.faults disk.old) (D.faults disk.new) }

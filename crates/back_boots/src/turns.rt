@@ -1,5 +1,5 @@
 // One bootstrap step that runs again, with its records and its line.
-ghost use Rattle.std.specs.Prelude.{◌≡◌, ◌≤◌, [], ℕ, List, Bool, true, false, is_none, is_some, IfOk, OnOk, IsErrOf, IsTrue, Some};
+ghost use Rattle.std.specs.Prelude.{◌≡◌, ◌≤◌, [], ℕ, List, Bool, true, false, is_none, is_some, IfOk, OnOk, OnErr, IsErrOf, IsTrue, Some};
 ghost use Rattle.nuc_base.specs.Faults.{HasCause, Rose};
 ghost use Rattle.device.specs.Lawful.{goes_on};
 ghost use Rattle.deploy_state.specs.Fields.{CanBegin, next_name};
@@ -8,9 +8,10 @@ ghost use Rattle.edges.specs.Pieces.{Writes};
 ghost use Rattle.records.specs.Stored.{BootEnded};
 ghost use Rattle.step_runner.specs.Entries.{Listed, Told};
 ghost use Rattle.supervisor.specs.World.{World};
+ghost use Rattle.session.specs.Courses.{IsBare};
 ghost use Rattle.session.specs.Happenings.{Happening, records_of};
 ghost use Rattle.session.specs.Phases.{duty_of};
-ghost use Rattle.session.specs.Places.{Place};
+ghost use Rattle.session.specs.Places.{Place, left_by};
 ghost use Rattle.driver.specs.Booted.{EndsWith, restart_of};
 ghost use Rattle.driver.specs.Lines.{line_of, lines_of};
 ghost use Rattle.driver.specs.Made.{IsTurn};
@@ -37,10 +38,12 @@ use supervisor::Prepared;
 fn begin<D: Disk, J: Journal + Drop>(state: Backing<J>, disk: &mut D) -> Result<Backing<J>, Over>
     requires held { InBacking D.tells D.may_leave J.stands J.end state disk.old }
     requires may { CanBegin (backing_device state) }
+    // Where it gives up, no child lives.
     ensures went { (p : Place) → (world : World) → (told : Told) → (living : List ℕ) → IsFront p (backing_device state) world told living →
         (h : List Happening) × Went J.entries J.files D.may_leave D.moment D.left_since disk.old disk.new told.list told.list p h
         × (lines_of p.device (records_of h) ≡ [])
-        × Left J.entries D.may_leave disk.new p h (λ s q. IsFront q (backing_device s) world told living) result }
+        × Left J.entries D.may_leave disk.new p h (λ s q. IsFront q (backing_device s) world told living) result
+        × OnErr result (IsBare (left_by p h)) }
     ensures begins { IfOk result (λ s. Begins (backing_device state) (backing_device s)) }
     ensures held { IfOk result (λ s. InBacking D.tells D.may_leave J.stands J.end s disk.new) }
     ensures others { IsTrue D.tells → (name : List ℕ) → ¬ (J.files name) → D.seen disk.new name ≡ D.seen disk.old name }
@@ -102,10 +105,12 @@ fn end<D: Disk, J: Journal + Drop, K: Sink>(
     requires held { InBacking D.tells D.may_leave J.stands J.end state disk.old }
     requires turn { is_some (duty_of (backing_device state)).turn ≡ true }
     requires begun { (duty_of (backing_device state)).begun ≡ true }
+    // Where it gives up, no child lives.
     ensures went { (p : Place) → (world : World) → (told : Told) → (living : List ℕ) → HasEnd p (backing_device state) exit world told living →
         (h : List Happening) × Went J.entries J.files D.may_leave D.moment D.left_since disk.old disk.new told.list told.list p h
         × Lines (K.held sink.old) (K.held sink.new) p.device (records_of h) result
-        × Left J.entries D.may_leave disk.new p h (λ s q. IsBetween q (backed_device s) world told living × (q.over ≡ is_some (restart_of exit (is_none (duty_of (backed_device s)).turn))) × EndsWith exit (records_of h)) result }
+        × Left J.entries D.may_leave disk.new p h (λ s q. IsBetween q (backed_device s) world told living × (q.over ≡ is_some (restart_of exit (is_none (duty_of (backed_device s)).turn))) × EndsWith exit (records_of h)) result
+        × OnErr result (IsBare (left_by p h)) }
     ensures ends { IfOk result (λ s. Ends (backing_device state) exit (backed_device s)) }
     ensures held { IfOk result (λ s. InBacked D.tells D.may_leave J.stands J.end s disk.new) }
     ensures others { IsTrue D.tells → (name : List ℕ) → ¬ (J.files name) → D.seen disk.new name ≡ D.seen disk.old name }
@@ -135,10 +140,13 @@ pub(crate) fn run_turn<D: Disk, J: Journal + Drop, K: Sink, R: Runner>(
     requires held { InBacking D.tells D.may_leave J.stands J.end state disk.old }
     requires turn { IsTurn (backing_device state) step.now }
     requires placed { (p : Place) × (world : World) × IsFront p (backing_device state) world (Listed R.list R.told R.asked runner.old) (R.living runner.old) }
+    // Where it gives up, no child lives.
     ensures went { (p : Place) → (world : World) → IsFront p (backing_device state) world (Listed R.list R.told R.asked runner.old) (R.living runner.old) →
         (h : List Happening) × Went J.entries J.files D.may_leave D.moment D.left_since disk.old disk.new (R.list runner.old) (R.list runner.new) p h
         × Lines (K.held sink.old) (K.held sink.new) p.device (records_of h) result
-        × Left J.entries D.may_leave disk.new p h (λ x q. IsBetween q (backed_device x.0) world (Listed R.list R.told R.asked runner.new) (R.living runner.new) × (q.over ≡ is_some (restart_of x.1 (is_none (duty_of (backed_device x.0)).turn))) × EndsWith x.1 (records_of h)) result }
+        × Left J.entries D.may_leave disk.new p h (λ x q. IsBetween q (backed_device x.0) world (Listed R.list R.told R.asked runner.new) (R.living runner.new) × (q.over ≡ is_some (restart_of x.1 (is_none (duty_of (backed_device x.0)).turn))) × EndsWith x.1 (records_of h)) result
+        × OnErr result (IsBare (left_by p h)) }
+    ensures none { R.living runner.new ≡ [] }
     ensures turns { IfOk result (λ x. Turns (backing_device state) x.1 (backed_device x.0)) }
     ensures held { IfOk result (λ x. InBacked D.tells D.may_leave J.stands J.end x.0 disk.new) }
     ensures others { IsTrue D.tells → (name : List ℕ) → ¬ (J.files name) → D.seen disk.new name ≡ D.seen disk.old name }

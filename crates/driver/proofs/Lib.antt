@@ -14,3 +14,4 @@ pub mod Limits
 pub mod Alone
 pub mod Ending
 pub mod Restarts
+pub mod Same

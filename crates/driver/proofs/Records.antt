@@ -18,6 +18,7 @@ use Rattle.step_runner.specs.Entries.{Told}
 use Rattle.step_runner.specs.declared.entries.RunnerEntry.{RunnerEntry}
 use Rattle.supervisor.specs.World.{World}
 use Rattle.session.specs.Phases.{Crew, leaving, is_closing, duty_of}
+use Rattle.session.specs.Courses.{IsBare}
 use Rattle.session.specs.Happenings.{Happening, Kept, records_of}
 use Rattle.session.specs.Places.{Place, leaves, left_by}
 use Rattle.session.specs.Follows.{MayFollow}
@@ -31,6 +32,7 @@ use Rattle.driver.proofs.Entries.{never}
 use Rattle.driver.proofs.Fronts.{in_doubt, none_most}
 use Rattle.driver.proofs.Acting.{acts_none}
 use Rattle.driver.proofs.Joins.{acted, kept_one}
+use Rattle.driver.proofs.Still.{childless}
 
 -- ---- that it begins
 
@@ -66,6 +68,12 @@ front_begun p d e world told living name f same =
       over = refl;
     }
 
+pub front_bare : (p : Place) (d : Device) (world : World) (told : Told) (living : List ℕ) → IsFront p d world told living → IsBare p
+front_bare p d world told living f = record { parts = childless p.world f.between.still.stopped; boot = f.between.boot }
+
+pub bare_begun : (p : Place) (name : List ℕ) → IsBare p → IsBare (leaves p (Kept (stored.BootBegun name)))
+bare_begun p name b = record { parts = b.parts; boot = b.boot }
+
 -- ---- its end
 
 end_follows : (p : Place) (d : Device) (exit : Exit) (world : World) (told : Told) (living : List ℕ) (name : List ℕ) → HasEnd p d exit world told living → MayFollow p (Kept (stored.BootEnded name exit))
@@ -89,6 +97,9 @@ between_ended p d e exit world told living name h same =
       boot_end = refl;
       probed = refl;
     }
+
+pub bare_ended : (p : Place) (d : Device) (exit : Exit) (world : World) (told : Told) (living : List ℕ) (name : List ℕ) → HasEnd p d exit world told living → IsBare (leaves p (Kept (stored.BootEnded name exit)))
+bare_ended p d exit world told living name h = record { parts = childless p.world h.still.stopped; boot = h.boot }
 
 -- whether the call ends there
 pub over_ended : (p : Place) (d e : Device) (exit : Exit) (name : List ℕ) → p.device ≡ d → e ≡ applied d (stored.BootEnded name exit)
@@ -151,11 +162,11 @@ module _ (entries : Image → List (List ℕ) → Type 0) (files : List ℕ → 
 
   pub begun_doubt : (old new : D) (list : Option (List RunnerEntry)) (p : Place) (d : Device) (world : World) (told : Told) (living : List ℕ) (name : List ℕ) (t : InTurn d name) → IsFront p d world told living
       → ((c : Image) → may_leave old c → StandsFor entries c d) → (IsBegun d → new ≡ old) → Notes old new d (stored.BootBegun name)
-      → (h : List Happening) × Went entries files may_leave moment left_since old new list list p h × (lines_of p.device (records_of h) ≡ []) × ((c : Image) → may_leave new c → StandsForMost entries p.device (records_of h) c)
+      → (h : List Happening) × Went entries files may_leave moment left_since old new list list p h × (lines_of p.device (records_of h) ≡ []) × ((c : Image) → may_leave new c → StandsForMost entries p.device (records_of h) c) × IsBare (left_by p h)
   begun_doubt old new list p d world told living name t f stands same_disk notes = by t.q.begun refl
     where
       by : (b : Bool) → t.q.begun ≡ b
-          → (h : List Happening) × Went entries files may_leave moment left_since old new list list p h × (lines_of p.device (records_of h) ≡ []) × ((c : Image) → may_leave new c → StandsForMost entries p.device (records_of h) c)
+          → (h : List Happening) × Went entries files may_leave moment left_since old new list list p h × (lines_of p.device (records_of h) ≡ []) × ((c : Image) → may_leave new c → StandsForMost entries p.device (records_of h) c) × IsBare (left_by p h)
       by true is =
           let begun = was_begun d name t is in
           let device = f.between.stands.device_is in (
@@ -163,7 +174,8 @@ module _ (entries : Image → List (List ℕ) → Type 0) (files : List ℕ → 
             none_went old new list p d stands device (same_disk begun),
             refl,
             (λ c left. none_most entries p.device c (subst (λ (x : Device). StandsFor entries c x) (sym device) (stands c (subst (λ (x : D). may_leave x c) (same_disk begun) left)))),
+            front_bare p d world told living f,
           )
       by false is =
           let allowed = allowed_begun d name t is in
-          (Kept (stored.BootBegun name) ∷ [], begin_went old new list p d world told living name f allowed notes, refl, doubt_at old new p d (stored.BootBegun name) f.between.stands.device_is allowed notes)
+          (Kept (stored.BootBegun name) ∷ [], begin_went old new list p d world told living name f allowed notes, refl, doubt_at old new p d (stored.BootBegun name) f.between.stands.device_is allowed notes, bare_begun p name (front_bare p d world told living f))

@@ -2,7 +2,7 @@
 use Rattle.std.specs.Prelude.{ℕ, ◌+◌, ◌-◌, Bool, true, false, not, ◌&&◌, ◌||◌, List, [], ◌∷◌, Some, None, is_some}
 use Rattle.std.specs.List.{list_any}
 use Rattle.std.proofs.Common.{◌≡◌, refl, sym, ap}
-use Rattle.supervisor.specs.World.{World, Part, Child, is_over, is_stopped, owner, owner_from}
+use Rattle.supervisor.specs.World.{World, Part, Child, is_childless, is_over, is_stopped, owner, owner_from}
 use Rattle.supervisor.specs.Deadlines.{least_deadline, least_of}
 use Rattle.supervisor.specs.Turns.{IsQuiet, may_act, may_begin, may_retry, may_stop, is_late, is_to_start}
 use Rattle.supervisor.specs.World.{has_orphan}
@@ -61,6 +61,18 @@ no_owner_in k n (p ∷ ps) h =
 
 pub no_owner : (n : ℕ) (w : World) → is_stopped w ≡ true → owner n w.parts ≡ None
 no_owner n w h = no_owner_in 0 n w.parts (not_false (list_any (λ p. not (is_over p)) w.parts) h)
+
+abbrev has_child : List Child → Bool
+has_child cs = elim cs [ [] ↦ false | ◌∷◌ c ds ↦ true ]
+
+none_has_child : (ps : List Part) → AreOver ps → list_any (λ (p : Part). has_child p.children) ps ≡ false
+none_has_child [] h = refl
+none_has_child (p ∷ ps) h =
+    let s = or_parts (not (is_over p)) (list_any (λ p. not (is_over p)) ps) h in
+    or_none (has_child p.children) (list_any (λ (q : Part). has_child q.children) ps) (ap has_child (no_child p s.0)) (none_has_child ps s.1)
+
+pub childless : (w : World) → is_stopped w ≡ true → is_childless w ≡ true
+childless w h = ap not (none_has_child w.parts (not_false (list_any (λ p. not (is_over p)) w.parts) h))
 
 -- ---- the time
 

@@ -6,3 +6,4 @@ pub mod Stands
 pub mod Steps
 pub mod Turns
 pub mod Booted
+pub mod Same

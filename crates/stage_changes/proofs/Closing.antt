@@ -1,8 +1,7 @@
 -- The close of a deployment that failed and stays as it is, or on whose way back a bootstrap failed, in a history.
-use Rattle.std.specs.Prelude.{Contains, ℕ, ◌+◌, Bool, true, false, not, ◌&&◌, ◌||◌, List, [], ◌∷◌, ◌++◌, map, Option, Some, None, IsSome}
+use Rattle.std.specs.Prelude.{Contains, ℕ, Bool, true, false, not, ◌||◌, List, [], ◌∷◌, map, Option, Some, None, IsSome}
 use Rattle.std.specs.List.{list_any}
 use Rattle.std.proofs.Common.{◌≡◌, ◌↔◌, ◌⊎◌, ◌∙◌, inl, inr, refl, sym, ap, subst}
-use Rattle.std.proofs.lemmas.Bool.{false≢true}
 use Rattle.disk_model.specs.Disk.{Image, Leaves, DiskLaws}
 use Rattle.nuc_base.specs.declared.kinds.Outcome.{Outcome}
 use Rattle.nuc_base.specs.declared.kinds.Outcome.TheVariants as outcomes
@@ -14,22 +13,21 @@ use Rattle.device.specs.Lawful.{Allowed, applied, close_pending}
 use Rattle.deploy_state.specs.Hand.{LeavesEither}
 use Rattle.step_runner.specs.Entries.{Told}
 use Rattle.step_runner.specs.declared.entries.RunnerEntry.{RunnerEntry}
-use Rattle.supervisor.specs.World.{World, Child, Part, child_of, is_childless, is_over, is_stopped, owner, owner_from}
-use Rattle.supervisor.specs.Turns.{owes}
-use Rattle.supervisor.specs.Answers.{child_numbers, has_answered, living_numbers}
-use Rattle.supervisor.specs.Events.{later}
+use Rattle.supervisor.specs.World.{World, Part, is_over, is_stopped, owner}
 use Rattle.supervisor.specs.Changes.{forgetting, steadied}
 use Rattle.session.specs.Phases.{Crew, duty_of, is_closing, is_idle, is_present, leaving, present}
 use Rattle.session.specs.Happenings.{Kept, records_of}
 use Rattle.session.specs.Places.{Place, leaves}
 use Rattle.session.specs.Follows.{IsBootChild, IsClear, Lives, MayClose as MayEnd, MayFollow}
-use Rattle.session.specs.Courses.{IsBare, IsBack, Stands}
+use Rattle.session.specs.Courses.{IsBare, Stands}
 use Rattle.driver.specs.Stands.{IsFront}
 use Rattle.driver.specs.Went.{StandsForMost, Went}
 use Rattle.driver.proofs.Entries.{never}
 use Rattle.driver.proofs.Joins.{kept_one}
 use Rattle.driver.proofs.Records.{doubt_at}
-use Rattle.supervisor_laws.specs.Sound.{Differ}
+use Rattle.driver.proofs.Still.{childless}
+use Rattle.supervisor_laws.specs.Sound.{Differ, IsOrderly}
+use Rattle.supervisor_laws.proofs.Steadied.{closed_orderly, living_steadied, owes_steadied, owner_steadied, steadied_orderly}
 use Rattle.activation.specs.Ended.{HasBroken, HasClosed}
 use Rattle.activation.proofs.Answered.{free_is, free_steadied, is_free}
 use Rattle.activation.proofs.Entering.{no_boot, without_boot}
@@ -40,49 +38,12 @@ Unasked = stored.Closed outcomes.RollbackNotRequested
 
 -- ---- components that are steadied
 
-owner_at : (j n : ℕ) (ps : List Part) → owner_from j n (map forgetting ps) ≡ owner_from j n ps
-owner_at j n [] = refl
-owner_at j n (p ∷ ps) = ap (λ (o : Option (ℕ × Step)). elim (child_of n p.children) [ None ↦ o | Some c ↦ Some (j, c.of) ]) (owner_at (j + 1) n ps)
-
-pub owner_steadied : (n : ℕ) (w : World) → owner n (steadied w).parts ≡ owner n w.parts
-owner_steadied n w = owner_at 0 n w.parts
-
-owes_at : (ps : List Part) → list_any owes (map forgetting ps) ≡ list_any owes ps
-owes_at [] = refl
-owes_at (p ∷ ps) = ap (λ (b : Bool). owes p || b) (owes_at ps)
-
 over_at : (ps : List Part) → list_any (λ p. not (is_over p)) (map forgetting ps) ≡ list_any (λ p. not (is_over p)) ps
 over_at [] = refl
 over_at (p ∷ ps) = ap (λ (b : Bool). not (is_over p) || b) (over_at ps)
 
 stopped_steadied : (w : World) → is_stopped (steadied w) ≡ is_stopped w
 stopped_steadied w = ap not (over_at w.parts)
-
-numbers_at : (ps : List Part) → living_numbers (map forgetting ps) ≡ living_numbers ps
-numbers_at [] = refl
-numbers_at (p ∷ ps) = ap (λ (l : List ℕ). child_numbers p.children ++ l) (numbers_at ps)
-
--- ---- where all are stopped no child lives
-
-abbrev has_some : List Child → Bool
-has_some cs = elim cs [ [] ↦ false | ◌∷◌ c cs ↦ true ]
-
-abbrev has_none : List Child → Bool
-has_none cs = elim cs [ [] ↦ true | ◌∷◌ c cs ↦ false ]
-
-bare_part : (g : Bool) (cs : List Child) (rest : Bool) → not (not (g && has_none cs) || rest) ≡ true → (has_some cs ≡ false) × (not rest ≡ true)
-bare_part true [] rest h = (refl, h)
-bare_part true (c ∷ cs) rest h = absurd (false≢true h)
-bare_part false cs rest h = absurd (false≢true h)
-
-bare_parts : (ps : List Part) → not (list_any (λ p. not (is_over p)) ps) ≡ true → not (list_any (λ p. has_some p.children) ps) ≡ true
-bare_parts [] h = refl
-bare_parts (p ∷ ps) h =
-    let s = bare_part p.life.gone p.children (list_any (λ (q : Part). not (is_over q)) ps) h in
-    rw s.0 (bare_parts ps s.1)
-
-pub childless : (w : World) → is_stopped w ≡ true → is_childless w ≡ true
-childless w h = bare_parts w.parts h
 
 -- ---- the device behind the close
 
@@ -122,8 +83,8 @@ module _ (p : Place) (d : Device) (o : Outcome) (world : World) (told : Told) (l
   boot_follows : MayEnd p o → MayFollow p (Kept (stored.Closed o))
   boot_follows may = ((boot_clear p d world told living f, may), (λ cut. absurd (never p.cut f.between.still.cut cut)), f.over)
 
-  pub boot_closed : (e : Device) → IsSome d.pending → e ≡ applied d (stored.Closed o) → HasClosed o (records_of (Kept (stored.Closed o) ∷ [])) (leaves p (Kept (stored.Closed o))) e (steadied world) told living
-  boot_closed e pending same = record {
+  pub boot_closed : (e : Device) → IsOrderly p.world → IsSome d.pending → e ≡ applied d (stored.Closed o) → HasClosed o (records_of (Kept (stored.Closed o) ∷ [])) (leaves p (Kept (stored.Closed o))) e (steadied world) told living
+  boot_closed e orderly pending same = record {
     stands = stands_closed p d e o world told living f.between.stands same;
     back = record {
       idle_is = idle_of p.device p.device.pending o (subst (λ (x : Device). IsSome x.pending) (sym f.between.stands.device_is) pending);
@@ -131,10 +92,11 @@ module _ (p : Place) (d : Device) (o : Outcome) (world : World) (told : Told) (l
       there = inr (stopped_steadied p.world ∙ f.between.still.stopped);
       boot = f.between.boot;
       boot_end = f.between.boot_end;
-      told = owes_at p.world.parts ∙ f.between.still.quiet.told;
+      told = owes_steadied p.world ∙ f.between.still.quiet.told;
       over = refl;
       cut = f.between.still.cut;
     };
+    orderly = steadied_orderly p.world orderly;
     closed = ([], refl);
   }
 
@@ -162,10 +124,11 @@ module _ (p : Place) (d : Device) (world : World) (told : Told) (living : List �
       there = inl (present_is p.crew b.comes.on.crew);
       boot = b.comes.on.boot;
       boot_end = b.comes.on.boot_end;
-      told = owes_at p.world.parts ∙ b.quiet.told;
+      told = owes_steadied p.world ∙ b.quiet.told;
       over = refl;
       cut = b.comes.on.cut;
     };
+    orderly = closed_orderly p.device p.world b.comes.keeps;
     closed = ([], refl);
   }
 
@@ -184,7 +147,7 @@ module _ (p : Place) (d : Device) (world : World) (told : Told) (living : List �
     boot_end = b.comes.on.boot_end;
     over = refl;
     cut = b.comes.on.cut;
-    differ = subst (λ (l : List ℕ). Differ l) (sym (numbers_at p.world.parts)) b.comes.keeps.differ;
+    differ = subst (λ (l : List ℕ). Differ l) (sym (living_steadied p.world)) b.comes.keeps.differ;
     owners = λ n. same n ∙ owners_now n ∙ sym (owner_steadied n p.world);
     children = λ n. subst (λ (x : Option (ℕ × Step)). Contains living n ↔ IsSome x) (sym (owner_steadied n p.world)) (no_other p n living b.comes.on.boot (b.comes.stands.children n));
   }

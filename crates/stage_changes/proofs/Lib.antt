@@ -1,7 +1,9 @@
+pub mod Same
 pub mod Shut
 pub mod Stage
 pub mod Entered
-pub mod Begun
 pub mod Policies
 pub mod Closing
 pub mod Turned
+pub mod Rising
+pub mod Begun

@@ -29,10 +29,10 @@ use Rattle.driver.specs.Stands.{IsFront}
 use Rattle.driver.specs.Went.{StandsForMost, Went}
 use Rattle.driver.proofs.Entries.{never}
 use Rattle.driver.proofs.Joins.{kept_one}
-use Rattle.driver.proofs.Records.{doubt_at}
+use Rattle.driver.proofs.Records.{doubt_at, front_bare}
 use Rattle.activation.specs.Ended.{HasBroken}
 use Rattle.stage_changes.specs.Fails.{IsGivenUp, IsTurned, crew_of}
-use Rattle.stage_changes.proofs.Closing.{boot_clear, childless, items_clear, moment_now, no_other, owners_now}
+use Rattle.stage_changes.proofs.Closing.{boot_clear, items_clear, moment_now, no_other, owners_now}
 
 abbrev pends : Device → Option Pending → Device
 pends d o = record d { pending = o }
@@ -139,24 +139,28 @@ clear_in d r is c p boot end = by d.pending is
 
 -- ---- from among bootstraps
 
+-- where a record leaves it with which another stage begins
+pub front_turned : (p : Place) (d e : Device) (world : World) (told : Told) (living : List ℕ) → IsFront p d world told living → (r : Record) → e ≡ applied d r → IsFront (turned_place p (applied p.device r)) e world told living
+front_turned p d e world told living f r same = record {
+  between = record {
+    stands = stands_turned p d e r world told living f.between.stands same;
+    still = record { stopped = f.between.still.stopped; quiet = f.between.still.quiet; crew = crew_is p.world f.between.still.stopped; cut = f.between.still.cut };
+    boot = f.between.boot;
+    boot_end = f.between.boot_end;
+    probed = refl;
+  };
+  over = refl;
+}
+
 module _ (p : Place) (d : Device) (world : World) (told : Told) (living : List ℕ) (f : IsFront p d world told living) (r : Record) (way : IsWay r) where
   boot_follows : MayFollow p (Kept r)
   boot_follows = follows p r way (boot_clear p d world told living f) f.between.still.cut f.over
 
   pub boot_front : (e : Device) → e ≡ applied d r → IsFront (leaves p (Kept r)) e world told living
-  boot_front e same = subst (λ (q : Place). IsFront q e world told living) (sym (place_is p r way)) (record {
-    between = record {
-      stands = stands_turned p d e r world told living f.between.stands same;
-      still = record { stopped = f.between.still.stopped; quiet = f.between.still.quiet; crew = crew_is p.world f.between.still.stopped; cut = f.between.still.cut };
-      boot = f.between.boot;
-      boot_end = f.between.boot_end;
-      probed = refl;
-    };
-    over = refl;
-  })
+  boot_front e same = subst (λ (q : Place). IsFront q e world told living) (sym (place_is p r way)) (front_turned p d e world told living f r same)
 
   pub boot_bare : IsBare (leaves p (Kept r))
-  boot_bare = subst IsBare (sym (place_is p r way)) (record { parts = childless p.world f.between.still.stopped; boot = f.between.boot })
+  boot_bare = front_bare (leaves p (Kept r)) (applied d r) world told living (boot_front (applied d r) refl)
 
 -- ---- from among items that come up
 
@@ -198,7 +202,7 @@ module _ (entries : Image → List (List ℕ) → Type 0) (files : List ℕ → 
   abbrev Notes : D → D → Device → Record → Type 0
   Notes old new d r = Leaves moment left_since old new (LeavesEither may_leave files entries old d (applied d r))
 
-  turn_went : (old new : D) (list : Option (List RunnerEntry)) (p : Place) (d : Device) (r : Record) → p.device ≡ d → MayFollow p (Kept r) → Allowed d r → Notes old new d r
+  pub turn_went : (old new : D) (list : Option (List RunnerEntry)) (p : Place) (d : Device) (r : Record) → p.device ≡ d → MayFollow p (Kept r) → Allowed d r → Notes old new d r
       → Went entries files may_leave moment left_since old new list list p (Kept r ∷ [])
   turn_went old new list p d r device may allowed notes =
       let same = sym device in

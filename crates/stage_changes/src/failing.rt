@@ -8,6 +8,7 @@ ghost use Rattle.device.specs.Lawful.{applied};
 ghost use Rattle.deploy_state.specs.Fields.{has_failed};
 ghost use Rattle.deploy_state.specs.States.{InActivating, InBacking, InBooting, InIdle, activating_device, backing_device, booting_device, idle_device};
 ghost use Rattle.step_runner.specs.Entries.{Told};
+ghost use Rattle.supervisor_laws.specs.Sound.{IsOrderly};
 ghost use Rattle.session.specs.Courses.{IsBare};
 ghost use Rattle.session.specs.Happenings.{Happening, records_of};
 ghost use Rattle.session.specs.Phases.{duty_of};
@@ -50,7 +51,7 @@ pub fn keep_booting<D: Disk, J: Journal + Drop, K: Sink, S: Supervise>(
     requires failed { has_failed (booting_device state) ≡ true }
     requires policy { is_to_roll_back (booting_device state) ≡ false }
     // Where it gives up, no child lives.
-    ensures went { (p : Place) → (told : Told) → (living : List ℕ) → IsFront p (booting_device state) (S.world supervisor.old) told living →
+    ensures went { (p : Place) → (told : Told) → (living : List ℕ) → IsFront p (booting_device state) (S.world supervisor.old) told living → IsOrderly p.world →
         (h : List Happening) × Went J.entries J.files D.may_leave D.moment D.left_since disk.old disk.new told.list told.list p h
         × Lines (K.held sink.old) (K.held sink.new) p.device (records_of h) result
         × Left J.entries D.may_leave disk.new p h (λ s q. HasClosed outcomes.RollbackNotRequested (records_of h) q (idle_device s) (S.world supervisor.new) told living) result
@@ -123,7 +124,7 @@ pub fn close_backing<D: Disk, J: Journal + Drop, K: Sink, S: Supervise>(
     requires held { InBacking D.tells D.may_leave J.stands J.end state disk.old }
     requires failed { has_failed (backing_device state) ≡ true }
     // Where it gives up, no child lives.
-    ensures went { (p : Place) → (told : Told) → (living : List ℕ) → IsFront p (backing_device state) (S.world supervisor.old) told living →
+    ensures went { (p : Place) → (told : Told) → (living : List ℕ) → IsFront p (backing_device state) (S.world supervisor.old) told living → IsOrderly p.world →
         (h : List Happening) × Went J.entries J.files D.may_leave D.moment D.left_since disk.old disk.new told.list told.list p h
         × Lines (K.held sink.old) (K.held sink.new) p.device (records_of h) result
         × Left J.entries D.may_leave disk.new p h (λ s q. HasClosed outcomes.UnableToRollback (records_of h) q (idle_device s) (S.world supervisor.new) told living) result

@@ -4,6 +4,7 @@ ghost use Rattle.device.specs.Devices.{device_view};
 ghost use Rattle.device.specs.Sound.{IsSound};
 ghost use Rattle.step_runner.specs.Entries.{Told};
 ghost use Rattle.supervisor.specs.Answers.{has_answered, standing_count};
+ghost use Rattle.supervisor.specs.Changes.{standing};
 ghost use Rattle.supervisor.specs.Readied.{KeepSteps};
 ghost use Rattle.session.specs.Happenings.{Happening};
 ghost use Rattle.session.specs.Phases.{duty_of};
@@ -26,7 +27,7 @@ pub fn change_items<S: Supervise>(device: &Device, ready: S::Ready, supervisor: 
     requires few { has_three (duty_of (device_view device.now)).counts ≡ false }
     requires sound { IsSound (device_view device.now) }
     requires answered { has_answered (S.world supervisor.old) ≡ true }
-    requires same { KeepSteps (S.coming ready) (S.world supervisor.old).parts }
+    requires same { KeepSteps (S.coming ready) (standing (S.world supervisor.old).parts) }
     ensures went { (p : Place) → (told : Told) → (living : List ℕ) → MayEnter p (device_view device.now) (S.world supervisor.old) told living →
         (h : List Happening) × Acts p h told.list told.list × Comes (left_by p h) (device_view device.now) (S.world supervisor.new) told living }
 {

@@ -1,47 +1,19 @@
 -- What a turn in which all are stopped leaves.
 use Rattle.std.specs.Prelude.{ℕ, Bool, true, false, not, List, [], ◌∷◌}
-use Rattle.std.specs.List.{list_any}
-use Rattle.std.proofs.Common.{◌≡◌, ◌∙◌, ◌++◌, refl, sym, ap, subst, arith}
-use Rattle.std.proofs.lemmas.Bool.{and_parts, or_parts}
+use Rattle.std.proofs.Common.{◌≡◌, ◌∙◌, ◌++◌, sym, ap, subst, arith}
 use Rattle.device.specs.Devices.{Device}
 use Rattle.step_runner.specs.Entries.{Told}
-use Rattle.supervisor.specs.World.{World, Part, Child, is_childless, is_over, is_stopped}
+use Rattle.supervisor.specs.World.{World, is_stopped}
 use Rattle.session.specs.Places.{Place}
 use Rattle.session.specs.Happenings.{Happening, StopsAll}
 use Rattle.activation.specs.Turns.{moments_in}
 use Rattle.activation.proofs.Turning.{moments_on}
+use Rattle.driver.proofs.Still.{childless}
 use Rattle.stopping.specs.declared.stops.Stopped.{Stopped}
 use Rattle.stopping.specs.declared.stops.Stopped.TheVariants as stopped
 use Rattle.stopping.specs.Runs.{ActLeft, Comes, MaySit}
 use Rattle.stopping.specs.Stops.{HasStopped, StopLeft, TurnLeft}
 use Rattle.stopping.proofs.Entering.{comes_of}
-
--- ---- whoever stands no more has no child
-
-not_false : (b : Bool) → not b ≡ true → b ≡ false
-not_false true h = absurd cc
-not_false false h = refl
-
-not_true : (b : Bool) → not b ≡ false → b ≡ true
-not_true true h = refl
-not_true false h = absurd cc
-
-abbrev has_child : List Child → Bool
-has_child cs = elim cs [ [] ↦ false | ◌∷◌ c ds ↦ true ]
-
-no_child : (cs : List Child) → elim cs as (λ x. Bool) [ [] ↦ true | ◌∷◌ c ds ↦ false ] ≡ true → has_child cs ≡ false
-no_child [] h = refl
-no_child (c ∷ cs) h = absurd cc
-
-none_lives : (ps : List Part) → list_any (λ p. not (is_over p)) ps ≡ false → list_any (λ (p : Part). has_child p.children) ps ≡ false
-none_lives [] h = refl
-none_lives (p ∷ ps) h =
-    let x = or_parts (not (is_over p)) (list_any (λ p. not (is_over p)) ps) h in
-    let over = and_parts p.life.gone (elim p.children [ [] ↦ true | ◌∷◌ c ds ↦ false ]) (not_true (is_over p) x.0) in
-    rw (no_child p.children over.1) (none_lives ps x.1)
-
-pub childless : (w : World) → is_stopped w ≡ true → is_childless w ≡ true
-childless w h = ap not (none_lives w.parts (not_false (list_any (λ p. not (is_over p)) w.parts) h))
 
 -- ---- the end of a turn
 

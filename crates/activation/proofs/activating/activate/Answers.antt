@@ -1,10 +1,13 @@
-use Rattle.std.proofs.Common.{◌++◌}
+use Rattle.std.proofs.Common.{◌++◌, ap, subst}
+use Rattle.device.specs.Devices.{Device}
 use Rattle.step_runner.specs.Entries.{Listed}
 use Rattle.session.specs.Places.{left_by}
 use Rattle.nuc_base.specs.declared.kinds.Outcome.TheVariants as outcomes
 use Rattle.deploy_state.specs.States.{activating_device, idle_device}
+use Rattle.driver.specs.Same.{IsSameDeployment}
 use Rattle.driver.proofs.Joins.{went_on}
 use Rattle.driver.proofs.Told.{all_told, left_joined, lines_at_joined}
+use Rattle.activation.specs.Coming.{coming_device}
 use Rattle.activation.specs.Turns.{moments_in}
 use Rattle.activation.specs.declared.turns.Turned.TheVariants as turned
 use Rattle.activation.proofs.Parting.{broken_of, closed_on, held_plan, left_plan}
@@ -25,6 +28,9 @@ returns-in-On-clause-went g c = λ p comes.
 pub returns-in-On-clause-held : goal.returns-in-On-clause-held
 returns-in-On-clause-held g c = held_plan g.D.Disk.tells g.D.Disk.may_leave g.J.Journal.stands g.J.Journal.end c.in-Ok.coming c.into_plan-state.result c.come_up.new.disk c.into_plan-state.ensures c.in-Ok.ensures.held
 
+pub returns-in-On-clause-same : goal.returns-in-On-clause-same
+returns-in-On-clause-same g c = subst (λ (d : Device). IsSameDeployment (activating_device c.args.state) d) (ap coming_device c.into_plan-state.ensures) c.in-Ok.ensures.deployment
+
 pub returns-in-Broken-clause-went : goal.returns-in-Broken-clause-went
 returns-in-Broken-clause-went g c = λ p comes.
     let t = c.in-Ok.ensures.went p comes in
@@ -36,6 +42,9 @@ returns-in-Broken-clause-went g c = λ p comes.
 
 pub returns-in-Broken-clause-held : goal.returns-in-Broken-clause-held
 returns-in-Broken-clause-held g c = held_plan g.D.Disk.tells g.D.Disk.may_leave g.J.Journal.stands g.J.Journal.end c.in-Ok.coming c.into_plan-state.result c.come_up.new.disk c.into_plan-state.ensures c.in-Ok.ensures.held
+
+pub returns-in-Broken-clause-same : goal.returns-in-Broken-clause-same
+returns-in-Broken-clause-same g c = subst (λ (d : Device). IsSameDeployment (activating_device c.args.state) d) (ap coming_device c.into_plan-state.ensures) c.in-Ok.ensures.deployment
 
 pub close_plan-requires-clause-held : goal.close_plan-requires-clause-held
 close_plan-requires-clause-held g c = held_plan g.D.Disk.tells g.D.Disk.may_leave g.J.Journal.stands g.J.Journal.end c.in-Ok.coming c.into_plan-state.result c.come_up.new.disk c.into_plan-state.ensures c.in-Ok.ensures.held

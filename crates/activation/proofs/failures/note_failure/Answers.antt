@@ -7,6 +7,8 @@ use Rattle.device.specs.Lawful.{Allowed, applied}
 use Rattle.device.specs.Standing.{StandsFor}
 use Rattle.session.specs.Happenings.{Kept}
 use Rattle.session.specs.Places.{left_by}
+use Rattle.driver.specs.Same.{IsSameDeployment}
+use Rattle.driver.proofs.Same.{same_counted}
 use Rattle.driver.proofs.Told.{last_untold}
 use Rattle.activation.specs.Coming.{coming_device}
 use Rattle.activation.proofs.Stages.{coming_stands, is_pending}
@@ -43,6 +45,11 @@ returns-in-Ok-tell_failed-clause-went g c = λ p told living h device.
       (fail_runs c.driving_laws.ensures p c.args.who c.args.step c.args.exit n world told living h can, ap (λ (x : Device). applied x r) device ∙ sym c.in-Ok.ensures.taken),
       tt,
     )
+
+pub returns-in-Ok-tell_failed-clause-deployment : goal.returns-in-Ok-tell_failed-clause-deployment
+returns-in-Ok-tell_failed-clause-deployment g c =
+    let d = coming_device c.args.state in
+    subst (λ (e : Device). IsSameDeployment d e) (sym c.in-Ok.ensures.taken) (same_counted d c.name-name.result.now c.args.step c.args.exit)
 
 pub returns-in-Err-tell_failed-clause-went : goal.returns-in-Err-tell_failed-clause-went
 returns-in-Err-tell_failed-clause-went g c = λ p told living h device.

@@ -1,10 +1,13 @@
-use Rattle.std.proofs.Common.{◌++◌, true, false}
+use Rattle.std.proofs.Common.{◌++◌, true, false, ap, subst}
+use Rattle.device.specs.Devices.{Device}
 use Rattle.step_runner.specs.Entries.{Listed}
 use Rattle.session.specs.Places.{left_by}
 use Rattle.nuc_base.specs.declared.kinds.Outcome.TheVariants as outcomes
-use Rattle.deploy_state.specs.States.{idle_device}
+use Rattle.deploy_state.specs.States.{idle_device, rolling_device}
+use Rattle.driver.specs.Same.{IsSameDeployment}
 use Rattle.driver.proofs.Joins.{went_on}
 use Rattle.driver.proofs.Told.{all_told, left_joined, lines_at_joined}
+use Rattle.activation.specs.Coming.{coming_device}
 use Rattle.activation.specs.Turns.{moments_in}
 use Rattle.activation.specs.declared.turns.Turned.TheVariants as turned
 use Rattle.activation.proofs.Parting.{apart, closed_on, held_set, left_set}
@@ -24,6 +27,9 @@ returns-in-On-clause-went g c = λ p comes.
 
 pub returns-in-On-clause-held : goal.returns-in-On-clause-held
 returns-in-On-clause-held g c = held_set g.D.Disk.tells g.D.Disk.may_leave g.J.Journal.stands g.J.Journal.end c.in-Ok.coming c.into_set-state.result c.come_up.new.disk c.into_set-state.ensures c.in-Ok.ensures.held
+
+pub returns-in-On-clause-same : goal.returns-in-On-clause-same
+returns-in-On-clause-same g c = subst (λ (d : Device). IsSameDeployment (rolling_device c.args.state) d) (ap coming_device c.into_set-state.ensures) c.in-Ok.ensures.deployment
 
 pub close_set-requires-clause-held : goal.close_set-requires-clause-held
 close_set-requires-clause-held g c = held_set g.D.Disk.tells g.D.Disk.may_leave g.J.Journal.stands g.J.Journal.end c.in-Ok.coming c.into_set-state.result c.come_up.new.disk c.into_set-state.ensures c.in-Ok.ensures.held

@@ -9,6 +9,7 @@ use Rattle.driver.specs.declared.over.Over.TheVariants as over
 use Rattle.driver.proofs.Acting.{acts_none}
 use Rattle.driver.proofs.Joins.{acted, went_on}
 use Rattle.driver.proofs.Restarts.{not_err}
+use Rattle.driver.proofs.Same.{same_refl, same_trans}
 use Rattle.driver.proofs.Told.{all_told, left_joined, lines_at_joined}
 use Rattle.activation.specs.Coming.{coming_device}
 use Rattle.activation.specs.Turns.{TurnLeft}
@@ -22,6 +23,7 @@ pub loop-turn-init : goal.loop-turn-init
 loop-turn-init g c = record {
   held = c.requires.held;
   same = refl;
+  deployment = same_refl (coming_device c.args.state);
   others = λ tells name other. refl;
   quiet_disk = refl;
   quiet_sink = refl;
@@ -49,6 +51,7 @@ pub loop-turn-preserved : goal.loop-turn-preserved
 loop-turn-preserved g c = record {
   held = c.in-Ok.ensures.held;
   same = c.in-Ok.ensures.same ∙ c.loop-turn.invariant.same;
+  deployment = same_trans (coming_device c.args.state) (coming_device c.loop-turn.state) (coming_device c.in-Ok.next) c.loop-turn.invariant.deployment c.in-Ok.ensures.deployment;
   others = λ tells name other. c.turn.ensures.others tells name other ∙ c.loop-turn.invariant.others tells name other;
   quiet_disk = c.in-Ok.ensures.quiet_disk (not_err (c.in-Ok.next, c.in-Ok.turned) over.Disk) ∙ c.loop-turn.invariant.quiet_disk;
   quiet_sink = c.in-Ok.ensures.quiet_sink (not_err (c.in-Ok.next, c.in-Ok.turned) over.Edge) ∙ c.loop-turn.invariant.quiet_sink;
@@ -84,6 +87,9 @@ returns-in-Settled-clause-went g c = λ p comes.
       tt,
     )
 
+pub returns-in-Settled-clause-deployment : goal.returns-in-Settled-clause-deployment
+returns-in-Settled-clause-deployment g c = same_trans (coming_device c.args.state) (coming_device c.loop-turn.state) (coming_device c.in-Ok.next) c.loop-turn.invariant.deployment c.in-Ok.ensures.deployment
+
 pub returns-in-Broken-clause-went : goal.returns-in-Broken-clause-went
 returns-in-Broken-clause-went g c = λ p comes.
     let w = c.loop-turn.invariant.went p comes in
@@ -99,6 +105,9 @@ returns-in-Broken-clause-went g c = λ p comes.
       subst (λ (x : Place). TurnLeft turned.Broken x e world new living) (sym (left-append p t.0 w.0)) (subst (λ (k : Turned). TurnLeft k (left_by (left_by p w.0) t.0) e world new living) c.in-Broken.is t.3.0),
       tt,
     )
+
+pub returns-in-Broken-clause-deployment : goal.returns-in-Broken-clause-deployment
+returns-in-Broken-clause-deployment g c = same_trans (coming_device c.args.state) (coming_device c.loop-turn.state) (coming_device c.in-Ok.next) c.loop-turn.invariant.deployment c.in-Ok.ensures.deployment
 
 pub returns-in-Err-clause-went : goal.returns-in-Err-clause-went
 returns-in-Err-clause-went g c = λ p comes.

@@ -4,6 +4,7 @@ use Rattle.step_runner.specs.Entries.{Listed}
 use Rattle.session.specs.Happenings.{Happening, records_of}
 use Rattle.session.specs.Places.{Place, left_by}
 use Rattle.driver.specs.Lines.{lines_of}
+use Rattle.driver.specs.Same.{IsSameDeployment}
 use Rattle.driver.specs.Went.{Went}
 use Rattle.activation.specs.Coming.{InComing, coming_device, is_plan}
 use Rattle.activation.specs.Runs.{Comes}
@@ -14,6 +15,7 @@ abbrev pub invariant-loop-turn : goal.invariant-loop-turn
 invariant-loop-turn g l = record {
   held : InComing g.D.Disk.tells g.D.Disk.may_leave g.J.Journal.stands g.J.Journal.end l.state l.disk;
   same : is_plan l.state ≡ is_plan l.fn.state;
+  deployment : IsSameDeployment (coming_device l.fn.state) (coming_device l.state);
   others : IsTrue g.D.Disk.tells → (name : List ℕ) → ¬ (g.J.Journal.files name) → g.D.Disk.seen l.disk name ≡ g.D.Disk.seen l.fn.disk name;
   quiet_disk : g.D.Disk.faults l.disk ≡ g.D.Disk.faults l.fn.disk;
   quiet_sink : g.K.Sink.faults l.sink ≡ g.K.Sink.faults l.fn.sink;

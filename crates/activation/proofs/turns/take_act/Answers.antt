@@ -5,6 +5,7 @@ use Rattle.step_runner.specs.Entries.{Listed}
 use Rattle.session.specs.Places.{Place, left_by}
 use Rattle.session.proofs.Joined.{left-append}
 use Rattle.driver.proofs.Joins.{acted, went_on}
+use Rattle.driver.proofs.Same.{same_refl}
 use Rattle.driver.proofs.Told.{all_told, left_joined, lines_at_joined}
 use Rattle.activation.specs.Coming.{coming_device}
 use Rattle.activation.specs.Did.{ActLeft}
@@ -33,6 +34,9 @@ returns-in-Nothing-clause-went g c = λ p runs device.
       tt,
     )
 
+pub returns-in-Nothing-clause-deployment : goal.returns-in-Nothing-clause-deployment
+returns-in-Nothing-clause-deployment g c = same_refl (coming_device c.args.state)
+
 pub returns-in-Something-clause-went : goal.returns-in-Something-clause-went
 returns-in-Something-clause-went g c = λ p runs device.
     let w = c.in-Something.ensures.went p runs in (
@@ -43,6 +47,9 @@ returns-in-Something-clause-went g c = λ p runs device.
       record { runs = w.2; device_is = w.1.device ∙ device; quiet = λ none. absurd (never false refl none) },
       tt,
     )
+
+pub returns-in-Something-clause-deployment : goal.returns-in-Something-clause-deployment
+returns-in-Something-clause-deployment g c = same_refl (coming_device c.args.state)
 
 pub returns-in-Ok-clause-went : goal.returns-in-Ok-clause-went
 returns-in-Ok-clause-went g c = λ p runs device.

@@ -9,6 +9,7 @@ use Rattle.driver.specs.declared.over.Over.TheVariants as over
 use Rattle.driver.proofs.Acting.{acts_none}
 use Rattle.driver.proofs.Joins.{acted, went_on}
 use Rattle.driver.proofs.Restarts.{not_err}
+use Rattle.driver.proofs.Same.{same_refl, same_trans}
 use Rattle.driver.proofs.Told.{all_told, left_joined, lines_at_joined}
 use Rattle.activation.specs.Coming.{coming_device}
 use Rattle.activation.specs.Did.{ActLeft}
@@ -22,6 +23,7 @@ loop-act-init g c = record {
   now = c.requires.now.0;
   held = c.requires.held;
   same = refl;
+  deployment = same_refl (coming_device c.args.state);
   others = λ tells name other. refl;
   quiet_disk = refl;
   quiet_sink = refl;
@@ -52,6 +54,7 @@ loop-act-preserved g c = record {
   now = c.take_act.ensures.now;
   held = c.in-Ok.ensures.held;
   same = c.in-Ok.ensures.same ∙ c.loop-act.invariant.same;
+  deployment = same_trans (coming_device c.args.state) (coming_device c.loop-act.state) (coming_device c.in-Ok.next) c.loop-act.invariant.deployment c.in-Ok.ensures.deployment;
   others = λ tells name other. c.take_act.ensures.others tells name other ∙ c.loop-act.invariant.others tells name other;
   quiet_disk = c.in-Ok.ensures.quiet_disk (not_err (c.in-Ok.next, c.in-Ok.none) over.Disk) ∙ c.loop-act.invariant.quiet_disk;
   quiet_sink = c.in-Ok.ensures.quiet_sink (not_err (c.in-Ok.next, c.in-Ok.none) over.Edge) ∙ c.loop-act.invariant.quiet_sink;
@@ -81,6 +84,9 @@ returns-then-none-clause-went g c = λ p runs device.
           (record { runs = t.3.runs; device_is = t.3.device_is; quiet = λ none. t.3.quiet c.if-none.true }),
       tt,
     )
+
+pub returns-then-none-clause-deployment : goal.returns-then-none-clause-deployment
+returns-then-none-clause-deployment g c = same_trans (coming_device c.args.state) (coming_device c.loop-act.state) (coming_device c.in-Ok.next) c.loop-act.invariant.deployment c.in-Ok.ensures.deployment
 
 pub returns-in-Err-clause-went : goal.returns-in-Err-clause-went
 returns-in-Err-clause-went g c = λ p runs device.

@@ -12,7 +12,7 @@ use Rattle.records.specs.Stored as stored
 use Rattle.session.specs.Happenings.{Kept}
 use Rattle.session.specs.Phases.{duty_of}
 use Rattle.back_boots.proofs.Duties.{allowed_ended, in_turn, mark_ended, may_end, named, still_backing, still_named}
-use Rattle.driver.proofs.Records.{between_ended, doubt_at, end_went, over_ended}
+use Rattle.driver.proofs.Records.{bare_ended, between_ended, doubt_at, end_went, over_ended}
 use Rattle.back_boots.proofs.Records.{line_ended}
 use Rattle.back_boots.proofs.Staged.{backed_by, still_by}
 use Rattle.driver.proofs.Told.{last_untold}
@@ -39,6 +39,7 @@ returns-in-Ok-tell_end-clause-went g c = λ p world told living h.
       subst (λ (l : List ℕ). Appends (g.K.Sink.held c.args.sink.now) (g.K.Sink.held c.tell_end.new.sink) l) (line_ended p d e n.0 x h.stands.device_is same)
           (c.in-Ok-tell_end.ensures.line n.0 (λ fails. ap next_name same ∙ still_named d n.0 x t fails)),
       (between_ended p d e x world told living n.0 h same, over_ended p d e x n.0 h.stands.device_is same, ([], n.0, refl)),
+      tt,
     )
 
 pub returns-in-Ok-tell_end-clause-ends : goal.returns-in-Ok-tell_end-clause-ends
@@ -66,6 +67,7 @@ returns-in-Err-tell_end-clause-went g c = λ p world told living h.
       (λ i left. subst (λ (y : Device). StandsFor g.J.Journal.entries i y) back (
           backed_by g.D.Disk.tells g.D.Disk.may_leave g.J.Journal.stands g.J.Journal.end c.ended.new.disk (λ y. StandsFor g.J.Journal.entries i y)
           (λ log y held. in_hand_stands g.met.D.Disk.laws g.met.J.Journal.laws log c.ended.new.disk y held i left) c.in-Ok.next c.in-Ok.ensures.held)),
+      bare_ended p d x world told living n.0 h,
     )
 
 pub returns-in-Err-clause-went : goal.returns-in-Err-clause-went
@@ -81,6 +83,7 @@ returns-in-Err-clause-went g c = λ p world told living h.
       end_went g.J.Journal.entries g.J.Journal.files g.met.D.Disk.laws c.args.disk.now c.ended.new.disk told.list p d x world told living n.0 h allowed notes,
       last_untold (g.K.Sink.held c.args.sink.now) p.device r,
       doubt_at g.J.Journal.entries g.J.Journal.files g.met.D.Disk.laws c.args.disk.now c.ended.new.disk p d r h.stands.device_is allowed notes,
+      bare_ended p d x world told living n.0 h,
     )
 
 pub tell_end-requires : goal.tell_end-requires

@@ -5,6 +5,7 @@ use Rattle.device.specs.Standing.{StandsFor}
 use Rattle.deploy_state.proofs.Steps.{in_hand_stands}
 use Rattle.deploy_state.specs.States.{booting_device}
 use Rattle.step_runner.specs.Entries.{Listed}
+use Rattle.session.specs.Courses.{IsBare}
 use Rattle.session.specs.Happenings.{records_of}
 use Rattle.session.specs.Phases.{duty_of}
 use Rattle.session.specs.Places.{Place, left_by}
@@ -12,6 +13,7 @@ use Rattle.session.proofs.Joined.{left-append}
 use Rattle.driver.specs.Booted.{BootsLeft}
 use Rattle.driver.specs.Stands.{IsFront}
 use Rattle.driver.proofs.Acting.{acts_none}
+use Rattle.driver.proofs.Between.{no_living}
 use Rattle.driver.proofs.Joins.{acted, ends_on, went_on}
 use Rattle.driver.proofs.Told.{all_told, lines_at_joined, left_joined}
 use Rattle.driver.proofs.Restarts.{ends_call, goes_on, none_is, not_err}
@@ -26,6 +28,9 @@ steps-init g c = record {
   others = λ tells name other. refl;
   quiet_disk = refl;
   quiet_sink = refl;
+  none =
+      let q = c.requires.placed in
+      no_living q.0 (booting_device c.args.state) q.1 (Listed g.R.Runner.list g.R.Runner.told g.R.Runner.asked c.args.runner.now) (g.R.Runner.living c.args.runner.now) q.2;
   went = λ p world front. (
     [],
     acted g.J.Journal.entries g.J.Journal.files g.met.D.Disk.laws c.args.disk.now (g.R.Runner.list c.args.runner.now) (g.R.Runner.list c.args.runner.now) p []
@@ -52,6 +57,7 @@ returns-in-Err-clause-went g c = λ p world front.
           (g.R.Runner.list c.args.runner.now) (g.R.Runner.list c.steps.runner) (g.R.Runner.list c.run_turn.new.runner) p w.0 t.0 w.1 t.1,
       lines_at_joined (g.K.Sink.held c.args.sink.now) (g.K.Sink.held c.steps.sink) (g.K.Sink.held c.run_turn.new.sink) p w.0 t.0 c.in-Err.over w.1.run w.2 t.2,
       left_joined g.J.Journal.entries g.D.Disk.may_leave c.run_turn.new.disk p w.0 t.0 c.in-Err.over w.1.run t.3,
+      subst IsBare (sym (left-append p t.0 w.0)) t.4,
     )
 
 pub steps-preserved : goal.steps-preserved
@@ -61,6 +67,7 @@ steps-preserved g c = record {
   others = λ tells name other. c.run_turn.ensures.others tells name other ∙ c.steps.invariant.others tells name other;
   quiet_disk = c.in-Ok.ensures.quiet_disk (not_err c.in-Ok.turned over.Disk) ∙ c.steps.invariant.quiet_disk;
   quiet_sink = c.in-Ok.ensures.quiet_sink (not_err c.in-Ok.turned over.Edge) ∙ c.steps.invariant.quiet_sink;
+  none = c.run_turn.ensures.none;
   went = λ p world front.
       let w = c.steps.invariant.went p world front in
       let t = c.in-Ok.ensures.went (left_by p w.0) world w.3 in
@@ -95,14 +102,15 @@ returns-in-Some-restart_of-clause-went g c = λ p world front.
       all_told (g.K.Sink.held c.args.sink.now) (g.K.Sink.held c.steps.sink) (g.K.Sink.held c.run_turn.new.sink) p w.0 t.0 w.1.run w.2 t.2,
       subst (λ (q : Place). BootsLeft end (records_of (t.0 ++ w.0)) q d world told living) (sym (left-append p t.0 w.0))
           (ends_call end (records_of (t.0 ++ w.0)) (left_by (left_by p w.0) t.0) d world told living x c.is_through.result c.restart_of.result t.3.0 t.3.1 (ends_on x w.0 t.0 t.3.2) c.restart_of.ensures c.is_through.ensures c.in-Some-restart_of.is),
+      tt,
     )
 
 pub returns-then-failed-clause-went : goal.returns-then-failed-clause-went
 returns-then-failed-clause-went g c = λ p world front.
     let w = c.steps.invariant.went p world front in
-    (w.0, w.1, w.2, (w.3, sym c.failed.ensures ∙ c.if-failed.true))
+    (w.0, w.1, w.2, (w.3, sym c.failed.ensures ∙ c.if-failed.true), tt)
 
 pub returns-clause-went : goal.returns-clause-went
 returns-clause-went g c = λ p world front.
     let w = c.steps.invariant.went p world front in
-    (w.0, w.1, w.2, (w.3, c.next_step.ensures.none (none_is c.next_step.result c.in_default.not-Some), sym c.failed.ensures ∙ c.if-failed.false))
+    (w.0, w.1, w.2, (w.3, c.next_step.ensures.none (none_is c.next_step.result c.in_default.not-Some), sym c.failed.ensures ∙ c.if-failed.false), tt)

@@ -1,4 +1,4 @@
-use Rattle.std.proofs.Common.{◌≡◌, List, ℕ, IsTrue}
+use Rattle.std.proofs.Common.{◌≡◌, List, [], ℕ, IsTrue}
 use Rattle.std.specs.Io.KnownBytes.{Appends}
 use Rattle.deploy_state.specs.States.{InBooting, booting_device}
 use Rattle.step_runner.specs.Entries.{Listed}
@@ -19,6 +19,7 @@ invariant-steps g l = record {
   others : IsTrue g.D.Disk.tells → (name : List ℕ) → ¬ (g.J.Journal.files name) → g.D.Disk.seen l.disk name ≡ g.D.Disk.seen l.fn.disk name;
   quiet_disk : g.D.Disk.faults l.disk ≡ g.D.Disk.faults l.fn.disk;
   quiet_sink : g.K.Sink.faults l.sink ≡ g.K.Sink.faults l.fn.sink;
+  none : g.R.Runner.living l.runner ≡ [];
   went : (p : Place) → (world : World) → IsFront p (booting_device l.fn.state) world (Listed g.R.Runner.list g.R.Runner.told g.R.Runner.asked l.fn.runner) (g.R.Runner.living l.fn.runner) →
       (h : List Happening) × Went g.J.Journal.entries g.J.Journal.files g.D.Disk.may_leave g.D.Disk.moment g.D.Disk.left_since l.fn.disk l.disk (g.R.Runner.list l.fn.runner) (g.R.Runner.list l.runner) p h
       × Appends (g.K.Sink.held l.fn.sink) (g.K.Sink.held l.sink) (lines_of p.device (records_of h))

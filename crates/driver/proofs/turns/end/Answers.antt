@@ -11,7 +11,7 @@ use Rattle.records.specs.Stored as stored
 use Rattle.session.specs.Happenings.{Kept}
 use Rattle.session.specs.Phases.{duty_of}
 use Rattle.driver.proofs.Duties.{allowed_ended, in_turn, mark_ended, may_end, named, still_named}
-use Rattle.driver.proofs.Records.{between_ended, doubt_at, end_went, line_ended, over_ended}
+use Rattle.driver.proofs.Records.{bare_ended, between_ended, doubt_at, end_went, line_ended, over_ended}
 use Rattle.driver.proofs.Told.{last_untold}
 use Rattle.driver.proofs.turns.end.Goals as goal
 
@@ -36,6 +36,7 @@ returns-in-Ok-tell_end-clause-went g c = λ p world told living h.
       subst (λ (l : List ℕ). Appends (g.K.Sink.held c.args.sink.now) (g.K.Sink.held c.tell_end.new.sink) l) (line_ended p d e n.0 x c.requires.held.1 h.stands.device_is same)
           (c.in-Ok-tell_end.ensures.line n.0 (λ fails. ap next_name same ∙ still_named d n.0 x t fails)),
       (between_ended p d e x world told living n.0 h same, over_ended p d e x n.0 h.stands.device_is same, ([], n.0, refl)),
+      tt,
     )
 
 pub returns-in-Ok-tell_end-clause-ends : goal.returns-in-Ok-tell_end-clause-ends
@@ -61,6 +62,7 @@ returns-in-Err-tell_end-clause-went g c = λ p world told living h.
       subst (λ (l : List ℕ). AppendsFront (g.K.Sink.held c.args.sink.now) (g.K.Sink.held c.tell_end.new.sink) l) (line_ended p d e n.0 x c.requires.held.1 h.stands.device_is same)
           (c.in-Err-tell_end.ensures.line n.0 (λ fails. ap next_name same ∙ still_named d n.0 x t fails)),
       (λ i left. subst (λ (y : Device). StandsFor g.J.Journal.entries i y) back (in_hand_stands g.met.D.Disk.laws g.met.J.Journal.laws _ c.ended.new.disk e c.in-Ok.ensures.held.0.0 i left)),
+      bare_ended p d x world told living n.0 h,
     )
 
 pub returns-in-Err-clause-went : goal.returns-in-Err-clause-went
@@ -76,4 +78,5 @@ returns-in-Err-clause-went g c = λ p world told living h.
       end_went g.J.Journal.entries g.J.Journal.files g.met.D.Disk.laws c.args.disk.now c.ended.new.disk told.list p d x world told living n.0 h allowed notes,
       last_untold (g.K.Sink.held c.args.sink.now) p.device r,
       doubt_at g.J.Journal.entries g.J.Journal.files g.met.D.Disk.laws c.args.disk.now c.ended.new.disk p d r h.stands.device_is allowed notes,
+      bare_ended p d x world told living n.0 h,
     )

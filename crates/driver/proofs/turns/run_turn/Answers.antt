@@ -2,6 +2,7 @@ use Rattle.std.proofs.Common.{◌≡◌, ◌++◌, List, ℕ, Option, is_none, i
 use Rattle.deploy_state.proofs.Steps.{in_hand_stands}
 use Rattle.deploy_state.specs.States.{booting_device}
 use Rattle.step_runner.specs.Entries.{Listed}
+use Rattle.session.specs.Courses.{IsBare}
 use Rattle.session.specs.Happenings.{records_of}
 use Rattle.session.specs.Phases.{duty_of}
 use Rattle.session.specs.Places.{Place, left_by}
@@ -27,7 +28,12 @@ pub returns-in-Err-clause-went : goal.returns-in-Err-clause-went
 returns-in-Err-clause-went g c = λ p world front.
     let told = Listed g.R.Runner.list g.R.Runner.told g.R.Runner.asked c.args.runner.now in
     let b = c.in-Err.ensures.went p world told (g.R.Runner.living c.args.runner.now) front in
-    (b.0, b.1, none_at (g.K.Sink.held c.args.sink.now) p.device (records_of b.0) c.in-Err.over b.2, b.3)
+    (b.0, b.1, none_at (g.K.Sink.held c.args.sink.now) p.device (records_of b.0) c.in-Err.over b.2, b.3, b.4)
+
+pub returns-in-Err-clause-none : goal.returns-in-Err-clause-none
+returns-in-Err-clause-none g c =
+    let q = c.requires.placed in
+    no_living q.0 (booting_device c.args.state) q.1 (Listed g.R.Runner.list g.R.Runner.told g.R.Runner.asked c.args.runner.now) (g.R.Runner.living c.args.runner.now) q.2
 
 pub run_step-exit-requires-clause-none : goal.run_step-exit-requires-clause-none
 run_step-exit-requires-clause-none g c =
@@ -75,6 +81,7 @@ returns-in-Ok-end-clause-went g c = λ p world front.
       all_told (g.K.Sink.held c.args.sink.now) (g.K.Sink.held c.args.sink.now) (g.K.Sink.held c.end.new.sink) p h three.0 r.went.run (nothing_told (g.K.Sink.held c.args.sink.now) (lines_of p.device (records_of h)) r.none) three.2,
       subst (λ (q : Place). IsBetween q (booting_device c.in-Ok-end.next) world new next × (q.over ≡ is_some (restart_of x (is_none (duty_of (booting_device c.in-Ok-end.next)).turn))) × EndsWith x (records_of (three.0 ++ h))) (sym (left-append p three.0 h))
           (three.3.0, three.3.1, ends_on x h three.0 three.3.2),
+      tt,
     )
 
 pub returns-in-Err-end-clause-went : goal.returns-in-Err-end-clause-went
@@ -100,4 +107,5 @@ returns-in-Err-end-clause-went g c = λ p world front.
       went_on g.J.Journal.entries g.J.Journal.files g.met.D.Disk.laws c.args.disk.now c.begin.new.disk c.end.new.disk told.list new.list new.list p h three.0 r.went three.1,
       lines_at_joined (g.K.Sink.held c.args.sink.now) (g.K.Sink.held c.args.sink.now) (g.K.Sink.held c.end.new.sink) p h three.0 c.in-Err-end.over r.went.run (nothing_told (g.K.Sink.held c.args.sink.now) (lines_of p.device (records_of h)) r.none) three.2,
       left_joined g.J.Journal.entries g.D.Disk.may_leave c.end.new.disk p h three.0 c.in-Err-end.over r.went.run three.3,
+      subst IsBare (sym (left-append p three.0 h)) three.4,
     )

@@ -24,7 +24,7 @@ pub close-requires-clause-may : goal.close-requires-clause-may
 close-requires-clause-may g c = closes_backing (backing_device c.args.state) c.requires.held.1 c.requires.failed
 
 pub returns-in-Ok-tell_close-clause-went : goal.returns-in-Ok-tell_close-clause-went
-returns-in-Ok-tell_close-clause-went g c = λ p told living from.
+returns-in-Ok-tell_close-clause-went g c = λ p told living from orderly.
     let d = backing_device c.args.state in
     let e = idle_device c.in-Ok.idle in
     let o = outcomes.UnableToRollback in
@@ -36,12 +36,12 @@ returns-in-Ok-tell_close-clause-went g c = λ p told living from.
       boot_went g.J.Journal.entries g.J.Journal.files g.met.D.Disk.laws c.args.disk.now c.close.new.disk told.list p d o world told living from tt allowed c.close.ensures.moments,
       subst (λ (l : List ℕ). Appends (g.K.Sink.held c.args.sink.now) (g.K.Sink.held c.tell_close.new.sink) l) (line_closed p d o from.between.stands.device_is)
           (c.in-Ok-tell_close.ensures.line d.closed (id_of d) o (ap (λ (x : Device). x.closed) c.device.ensures ∙ last_closed d e o pending taken)),
-      subst (λ (w : World). HasClosed o (records_of (Kept (stored.Closed o) ∷ [])) (leaves p (Kept (stored.Closed o))) e w told living) (sym c.steady.ensures) (boot_closed p d o world told living from e pending taken),
+      subst (λ (w : World). HasClosed o (records_of (Kept (stored.Closed o) ∷ [])) (leaves p (Kept (stored.Closed o))) e w told living) (sym c.steady.ensures) (boot_closed p d o world told living from e orderly pending taken),
       tt,
     )
 
 pub returns-in-Err-tell_close-clause-went : goal.returns-in-Err-tell_close-clause-went
-returns-in-Err-tell_close-clause-went g c = λ p told living from.
+returns-in-Err-tell_close-clause-went g c = λ p told living from orderly.
     let d = backing_device c.args.state in
     let e = idle_device c.in-Ok.idle in
     let o = outcomes.UnableToRollback in
@@ -59,7 +59,7 @@ returns-in-Err-tell_close-clause-went g c = λ p told living from.
     )
 
 pub returns-in-Err-clause-went : goal.returns-in-Err-clause-went
-returns-in-Err-clause-went g c = λ p told living from.
+returns-in-Err-clause-went g c = λ p told living from orderly.
     let d = backing_device c.args.state in
     let o = outcomes.UnableToRollback in
     let world = g.S.Supervise.world c.args.supervisor.now in
