@@ -110,7 +110,7 @@ has_scope o items n at are is =
     let r = All-contains (HasRecipe o.platform) items p.item (All-from_recursion (HasRecipe o.platform) items are.recipes) p.is_one in
     record { item = p.item; there = p.there; recipe = r.0; reads = r.1.reads }
 
-some_item : (a b : Item) → ◌≡◌ {A = Option Item} (Some a) (Some b) → a ≡ b
+pub some_item : (a b : Item) → ◌≡◌ {A = Option Item} (Some a) (Some b) → a ≡ b
 some_item a b e = cc e
 
 none_made : (scope : Scope) (def : Option StepDef) → IsPrepared scope def None → def ≡ None

@@ -12,7 +12,7 @@ use std::alloc::Global;
 use supervisor::{Prepared, step_of};
 
 /// The place of the first item with this name.
-fn place_of(items: &[Item], name: &Name) -> Option<u32>
+pub(crate) fn place_of(items: &[Item], name: &Name) -> Option<u32>
     requires few { length items.now ≤ 128 }
     ensures { result ≡ place name.now (map item_view items.now) }
 {
@@ -27,7 +27,7 @@ fn place_of(items: &[Item], name: &Name) -> Option<u32>
 }
 
 /// The bootstrap step of the item of this name, which has one.
-fn prepare_boot(
+pub(crate) fn prepare_boot(
     alloc: Global,
     origin: &Origin,
     items: &List<Item>,
