@@ -1,0 +1,40 @@
+-- A part of a course behind which nothing comes but kills.
+use Rattle.std.specs.Prelude.{ℕ, List, [], ◌++◌, Option, Ok}
+use Rattle.std.specs.Io.KnownBytes.{Appends}
+use Rattle.std.proofs.Common.{◌≡◌, ◌≤◌, sym, subst, arith}
+use Rattle.disk_model.specs.Disk.{Image}
+use Rattle.records.specs.Stored.{Record}
+use Rattle.step_runner.specs.declared.entries.RunnerEntry.{RunnerEntry}
+use Rattle.session.specs.Courses.{IsBare}
+use Rattle.session.specs.Happenings.{Happening, records_of}
+use Rattle.session.specs.Places.{Place, left_by}
+use Rattle.session.proofs.Joined.{left-append}
+use Rattle.driver.specs.Lines.{lines_of}
+use Rattle.driver.specs.Went.{Acts, Went}
+use Rattle.driver.proofs.Joins.{records_opened}
+use Rattle.activation.specs.Turns.{moments_in, most_turns}
+use Rattle.activation.proofs.Turning.{moments_on}
+use Rattle.deploying.specs.Driven.{Course}
+use Rattle.deploying.proofs.Joining.{went_acting}
+
+module _ (entries : Image → List (List ℕ) → Type 0) (files : List ℕ → Type 0) {D : Type 0} {may_leave : D → Image → Type 0} {moment : D → ℕ} {left_since : D → ℕ → Image → Type 0} where
+  pub ended : {A : Type 0} (old new : D) (a b : Option (List RunnerEntry)) (u v : Option (List ℕ)) (p : Place) (h : List Happening) (x : A) (is : A → List Happening → Place → Type 0)
+      → Went entries files may_leave moment left_since old new a b p h → Appends u v (lines_of p.device (records_of h)) → is x h (left_by p h)
+      → Course entries files may_leave moment left_since old new a b u v p (Ok x) is
+  ended old new a b u v p h x is went told left = record { history = h; went = went; lines = told; left = left; bare = tt }
+
+  -- its children were killed
+  pub left_off : {A : Type 0} (old new : D) (a b c : Option (List RunnerEntry)) (u v : Option (List ℕ)) (p : Place) (h k : List Happening) (x : A) (is : A → List Happening → Place → Type 0)
+      → Went entries files may_leave moment left_since old new a b p h → Appends u v (lines_of p.device (records_of h)) → Acts (left_by p h) k b c → is x (k ++ h) (left_by (left_by p h) k)
+      → Course entries files may_leave moment left_since old new a c u v p (Ok x) is
+  left_off old new a b c u v p h k x is went told acts left = record {
+    history = k ++ h;
+    went = went_acting entries files old new a b c p h k went acts;
+    lines = subst (λ (l : List Record). Appends u v (lines_of p.device l)) (sym (records_opened h k acts.none)) told;
+    left = subst (λ (q : Place). is x (k ++ h) q) (sym (left-append p k h)) left;
+    bare = tt;
+  }
+
+-- it was left after so many moments
+pub more_left : (q : Place) (living : List ℕ) (h k : List Happening) → IsBare q → living ≡ [] → most_turns ≤ moments_in h → IsBare q × (living ≡ []) × (most_turns ≤ moments_in (k ++ h))
+more_left q living h k bare none most = (bare, none, omega (arith, moments_on h k, most))

@@ -1,0 +1,103 @@
+-- Parts of a course join.
+use Rattle.std.specs.Prelude.{ℕ, Bool, List, [], ◌++◌, Option, Result, Ok, Err, OnErr}
+use Rattle.std.specs.Io.KnownBytes.{Appends}
+use Rattle.std.proofs.Common.{◌≡◌, ◌∙◌, sym, ap, subst}
+use Rattle.disk_model.specs.Disk.{Image, DiskLaws}
+use Rattle.records.specs.Stored.{Record}
+use Rattle.device.specs.Devices.{Device}
+use Rattle.device.specs.Lawful.{Run}
+use Rattle.device.specs.Standing.{StandsFor}
+use Rattle.step_runner.specs.Entries.{Grows}
+use Rattle.step_runner.specs.declared.entries.RunnerEntry.{RunnerEntry}
+use Rattle.session.specs.Courses.{IsBare}
+use Rattle.session.specs.Happenings.{Happening, entries_of, records_of}
+use Rattle.session.specs.Places.{Place, left_by}
+use Rattle.session.proofs.Joined.{left-append, proper-append, entries-append}
+use Rattle.driver.specs.Lines.{lines_of}
+use Rattle.driver.specs.Over.{LeftAt, Left, Lines, LinesAt}
+use Rattle.driver.specs.Went.{Acts, Fronts, StandsForMost, Went}
+use Rattle.driver.specs.declared.over.Over.{Over}
+use Rattle.driver.specs.declared.over.Over.TheVariants as over
+use Rattle.driver.proofs.Acting.{grows_on}
+use Rattle.driver.proofs.Joins.{records_opened, went_on}
+use Rattle.driver.proofs.Told.{all_told, left_joined, lines_at_joined}
+use Rattle.deploying.specs.Driven.{Course}
+
+-- ---- two parts, of which the first one goes on
+
+-- what is said of a value is said of it behind an older history too
+abbrev pub Holds : {A : Type 0} → (A → List Happening → Place → Type 0) → List Happening → Type 0
+Holds {A} is h = (x : A) (g : List Happening) (q : Place) → is x g q → is x (g ++ h) q
+
+lines_of_both : {A : Type 0} (a b c : Option (List ℕ)) (p : Place) (h g : List Happening) (r : Result A Over) → Run p.device (records_of h) (left_by p h).device
+    → Appends a b (lines_of p.device (records_of h)) → Lines b c (left_by p h).device (records_of g) r → Lines a c p.device (records_of (g ++ h)) r
+lines_of_both a b c p h g (Ok x) run one two = all_told a b c p h g run one two
+lines_of_both a b c p h g (Err e) run one two = lines_at_joined a b c p h g e run one two
+
+left_of_both : {A D : Type 0} (entries : Image → List (List ℕ) → Type 0) (may_leave : D → Image → Type 0) (disk : D) (p : Place) (h g : List Happening) (is : A → List Happening → Place → Type 0) (r : Result A Over)
+    → Run p.device (records_of h) (left_by p h).device → Holds is h → Left entries may_leave disk (left_by p h) g (λ x q. is x g q) r → Left entries may_leave disk p (g ++ h) (λ x q. is x (g ++ h) q) r
+left_of_both entries may_leave disk p h g is (Ok x) run holds left = subst (λ (q : Place). is x (g ++ h) q) (sym (left-append p g h)) (holds x g (left_by (left_by p h) g) left)
+left_of_both entries may_leave disk p h g is (Err e) run holds left = left_joined entries may_leave disk p h g e run left
+
+bare_of_both : {A : Type 0} (p : Place) (h g : List Happening) (r : Result A Over) → OnErr r (IsBare (left_by (left_by p h) g)) → OnErr r (IsBare (left_by p (g ++ h)))
+bare_of_both p h g (Ok x) bare = tt
+bare_of_both p h g (Err e) bare = subst (λ (q : Place). IsBare q) (sym (left-append p g h)) bare
+
+module _ (entries : Image → List (List ℕ) → Type 0) (files : List ℕ → Type 0) {D : Type 0} {may_leave : D → Image → Type 0} {moment : D → ℕ} {left_since : D → ℕ → Image → Type 0} {tells : Bool} {seen : D → Image}
+    (laws : DiskLaws tells seen may_leave moment left_since) where
+  pub joined : {A : Type 0} (old mid new : D) (a b c : Option (List RunnerEntry)) (u v w : Option (List ℕ)) (p : Place) (h : List Happening) (r : Result A Over) (is : A → List Happening → Place → Type 0)
+      → Went entries files may_leave moment left_since old mid a b p h → Appends u v (lines_of p.device (records_of h)) → Holds is h
+      → Course entries files may_leave moment left_since mid new b c v w (left_by p h) r is
+      → Course entries files may_leave moment left_since old new a c u w p r is
+  joined old mid new a b c u v w p h r is one told holds two = record {
+    history = two.history ++ h;
+    went = went_on entries files laws old mid new a b c p h two.history one two.went;
+    lines = lines_of_both u v w p h two.history r one.run told two.lines;
+    left = left_of_both entries may_leave new p h two.history is r one.run holds two.left;
+    bare = bare_of_both p h two.history r two.bare;
+  }
+
+-- ---- a part that keeps no record behind another one
+
+module _ (entries : Image → List (List ℕ) → Type 0) (files : List ℕ → Type 0) {D : Type 0} {may_leave : D → Image → Type 0} {moment : D → ℕ} {left_since : D → ℕ → Image → Type 0} where
+  pub went_acting : (old new : D) (a b c : Option (List RunnerEntry)) (p : Place) (h k : List Happening) → Went entries files may_leave moment left_since old new a b p h → Acts (left_by p h) k b c
+      → Went entries files may_leave moment left_since old new a c p (k ++ h)
+  went_acting old new a b c p h k one acts =
+      let same = records_opened h k acts.none in
+      let left = ap (λ (q : Place). q.device) (left-append p k h) ∙ acts.device in
+      record {
+        proper = proper-append p k h acts.proper one.proper;
+        run = subst (λ (l : List Record). Run p.device l (left_by p (k ++ h)).device) (sym same) (subst (λ (x : Device). Run p.device (records_of h) x) (sym left) one.run);
+        course = subst (λ (l : List Record). Fronts entries files may_leave moment left_since old new p.device l) (sym same) one.course;
+        list = subst (λ (l : List RunnerEntry). Grows a c l) (sym (entries-append k h)) (grows_on a b c (entries_of h) (entries_of k) one.list acts.list);
+      }
+
+lines_acting : (u v : Option (List ℕ)) (d : Device) (h k : List Happening) (e : Over) → records_of k ≡ [] → LinesAt u v d (records_of h) e → LinesAt u v d (records_of (k ++ h)) e
+lines_acting u v d h k e none told = subst (λ (l : List Record). LinesAt u v d l e) (sym (records_opened h k none)) told
+
+left_acting : {D : Type 0} (entries : Image → List (List ℕ) → Type 0) (may_leave : D → Image → Type 0) (disk : D) (p : Place) (h k : List Happening) (e : Over) (a b : Option (List RunnerEntry)) → Acts (left_by p h) k a b
+    → LeftAt entries may_leave disk p h e → LeftAt entries may_leave disk p (k ++ h) e
+left_acting entries may_leave disk p h k over.Disk a b acts left = λ c may. subst (λ (l : List Record). StandsForMost entries p.device l c) (sym (records_opened h k acts.none)) (left c may)
+left_acting entries may_leave disk p h k over.Edge a b acts left = λ c may. subst (λ (x : Device). StandsFor entries c x) (sym (ap (λ (q : Place). q.device) (left-append p k h) ∙ acts.device)) (left c may)
+
+-- ---- a part that gives up
+
+module _ (entries : Image → List (List ℕ) → Type 0) (files : List ℕ → Type 0) {D : Type 0} {may_leave : D → Image → Type 0} {moment : D → ℕ} {left_since : D → ℕ → Image → Type 0} where
+  -- no child lived
+  pub given_up : {A : Type 0} (old new : D) (a b : Option (List RunnerEntry)) (u v : Option (List ℕ)) (p : Place) (h : List Happening) (e : Over) (is : A → List Happening → Place → Type 0)
+      → Went entries files may_leave moment left_since old new a b p h → LinesAt u v p.device (records_of h) e → LeftAt entries may_leave new p h e → IsBare (left_by p h)
+      → Course entries files may_leave moment left_since old new a b u v p (Err e) is
+  given_up old new a b u v p h e is went lines left bare = record { history = h; went = went; lines = lines; left = left; bare = bare }
+
+  -- its children were killed
+  pub cut_off : {A : Type 0} (old new : D) (a b c : Option (List RunnerEntry)) (u v : Option (List ℕ)) (p : Place) (h k : List Happening) (e : Over) (is : A → List Happening → Place → Type 0)
+      → Went entries files may_leave moment left_since old new a b p h → LinesAt u v p.device (records_of h) e → LeftAt entries may_leave new p h e
+      → Acts (left_by p h) k b c → IsBare (left_by (left_by p h) k)
+      → Course entries files may_leave moment left_since old new a c u v p (Err e) is
+  cut_off old new a b c u v p h k e is went lines left acts bare = record {
+    history = k ++ h;
+    went = went_acting entries files old new a b c p h k went acts;
+    lines = lines_acting u v p.device h k e acts.none lines;
+    left = left_acting entries may_leave new p h k e b c acts left;
+    bare = subst (λ (q : Place). IsBare q) (sym (left-append p k h)) bare;
+  }

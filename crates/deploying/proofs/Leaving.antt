@@ -1,0 +1,30 @@
+-- How a course ends is said of it behind an older history too.
+use Rattle.std.specs.Prelude.{ℕ, List, ◌++◌, ◌∷◌, []}
+use Rattle.std.proofs.Common.{◌≡◌, ◌∙◌, sym, ap, subst, append_assoc, arith}
+use Rattle.records.specs.Stored.{Record, Closed}
+use Rattle.nuc_base.specs.declared.kinds.Outcome.{Outcome}
+use Rattle.step_runner.specs.Entries.{Told}
+use Rattle.supervisor.specs.World.{World}
+use Rattle.session.specs.Happenings.{Happening, records_of}
+use Rattle.session.specs.Places.{Place}
+use Rattle.session.proofs.Joined.{records-append}
+use Rattle.driver.proofs.Joins.{ends_on}
+use Rattle.activation.specs.Ended.{ClosesAs, RolledLeft}
+use Rattle.activation.specs.declared.rolling.Rolled.{Rolled}
+use Rattle.activation.proofs.Turning.{moments_on}
+use Rattle.deploying.specs.Driven.{DrivenLeft}
+use Rattle.deploying.specs.declared.driven.Driven.{Driven}
+use Rattle.deploying.specs.declared.driven.Driven.TheVariants as driven
+
+closes_on : (o : Outcome) (h g : List Happening) → ClosesAs o (records_of g) → ClosesAs o (records_of (g ++ h))
+closes_on o h g e = (records_of h ++ e.0, records-append g h ∙ ap (λ (l : List Record). records_of h ++ l) e.1 ∙ sym (append_assoc (records_of h) e.0 (Closed o ∷ [])))
+
+pub driven_on : {J : Type 0} (world : World) (told : Told) (living : List ℕ) (h : List Happening) (x : Driven J) (g : List Happening) (q : Place) → DrivenLeft x g q world told living → DrivenLeft x (g ++ h) q world told living
+driven_on world told living h (driven.Closed s o) g q c = record { stands = c.stands; back = c.back; closed = closes_on o h g c.closed; orderly = c.orderly }
+driven_on world told living h (driven.Restart s) g q c = (c.0, c.1, (c.2.0, ends_on c.2.0 h g c.2.1, c.2.2))
+driven_on world told living h (driven.Reboot s) g q c = (c.0, c.1, (c.2.0, ends_on c.2.0 h g c.2.1, c.2.2))
+driven_on world told living h (driven.More s) g q c = (c.0, c.1, omega (arith, moments_on h g, c.2))
+
+-- the answer of the stage, as it was told apart
+pub rolled_as : {J : Type 0} (x y : Rolled J) (h : List Happening) (q : Place) (world : World) (told : Told) (living : List ℕ) → x ≡ y → RolledLeft x h q world told living → RolledLeft y h q world told living
+rolled_as x y h q world told living is left = subst (λ (z : Rolled _). RolledLeft z h q world told living) is left

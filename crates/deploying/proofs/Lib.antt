@@ -1,0 +1,10 @@
+pub mod Joining
+pub mod Leaving
+mod Ways
+mod Hands
+mod Stopping
+mod Endings
+mod Entering
+mod Counts
+mod Deployment
+mod BackBoots

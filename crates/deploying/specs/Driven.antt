@@ -1,0 +1,44 @@
+-- The course of a deployment that is driven, and how it ends.
+use Rattle.std.specs.Prelude.{◌≡◌, ◌≤◌, ℕ, Bool, List, [], Option, Result, OnErr}
+use Rattle.disk_model.specs.Disk.{Image}
+use Rattle.deploy_state.specs.States.{InIdle, InLoaded, idle_device, loaded_device}
+use Rattle.step_runner.specs.Entries.{Told}
+use Rattle.step_runner.specs.declared.entries.RunnerEntry.{RunnerEntry}
+use Rattle.supervisor.specs.World.{World}
+use Rattle.session.specs.Courses.{IsBare}
+use Rattle.session.specs.Happenings.{Happening, records_of}
+use Rattle.session.specs.Places.{Place, left_by}
+use Rattle.driver.specs.Booted.{BootsLeft}
+use Rattle.driver.specs.Over.{Left, Lines}
+use Rattle.driver.specs.Went.{Went}
+use Rattle.driver.specs.declared.over.Over.{Over}
+use Rattle.driver.specs.declared.over.Booted.TheVariants as booted
+use Rattle.activation.specs.Ended.{HasClosed}
+use Rattle.activation.specs.Turns.{moments_in, most_turns}
+use Rattle.deploying.specs.declared.driven.Driven.{Driven}
+use Rattle.deploying.specs.declared.driven.Driven.TheVariants as driven
+
+-- It closed, and the components are as they were; or a bootstrap's end asks that the call ends; or none of both in so many
+-- moments, and then no child lives.
+abbrev pub DrivenLeft : {J : Type 0} → Driven J → List Happening → Place → World → Told → List ℕ → Type 0
+DrivenLeft (driven.Closed s o) h q world told living = HasClosed o (records_of h) q (idle_device s) world told living
+DrivenLeft (driven.Restart s) h q world told living = BootsLeft booted.Restart (records_of h) q (loaded_device s) world told living
+DrivenLeft (driven.Reboot s) h q world told living = BootsLeft booted.Reboot (records_of h) q (loaded_device s) world told living
+DrivenLeft (driven.More s) h q world told living = IsBare q × (living ≡ []) × (most_turns ≤ moments_in h)
+
+module _ {J D : Type 0} (tells : Bool) (may_leave : D → Image → Type 0) (stands : J → Image → List (List ℕ) → Type 0) (end : J → ℕ) where
+  abbrev pub InDriven : Driven J → D → Type 0
+  InDriven (driven.Closed s o) disk = InIdle tells may_leave stands end s disk
+  InDriven (driven.Restart s) disk = InLoaded tells may_leave stands end s disk
+  InDriven (driven.Reboot s) disk = InLoaded tells may_leave stands end s disk
+  InDriven (driven.More s) disk = InLoaded tells may_leave stands end s disk
+
+-- From a place on this happened, its lines were printed, and it leaves what is said of the result. Where it gives up no
+-- child lives.
+module _ (entries : Image → List (List ℕ) → Type 0) (files : List ℕ → Type 0) {D : Type 0} (may_leave : D → Image → Type 0) (moment : D → ℕ) (left_since : D → ℕ → Image → Type 0) where
+  pub record Course {A : Type 0} (old new : D) (old_list new_list : Option (List RunnerEntry)) (old_held new_held : Option (List ℕ)) (p : Place) (result : Result A Over) (is : A → List Happening → Place → Type 0) : Type 0 where
+    pub history : List Happening
+    pub went : Went entries files may_leave moment left_since old new old_list new_list p history
+    pub lines : Lines old_held new_held p.device (records_of history) result
+    pub left : Left entries may_leave new p history (λ x q. is x history q) result
+    pub bare : OnErr result (IsBare (left_by p history))

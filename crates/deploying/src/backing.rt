@@ -1,0 +1,144 @@
+//! The bootstraps of the set run again, and then its items come up.
+ghost use Rattle.std.specs.Prelude.{◌≡◌, [], ℕ, List, IsTrue, IfOk, OnErr, IsErrOf, true};
+ghost use Rattle.nuc_base.specs.Faults.{Rose};
+ghost use Rattle.back_boots.specs.Backs.{IsStillBacking};
+ghost use Rattle.deploy_state.specs.Fields.{has_failed};
+ghost use Rattle.deploy_state.specs.States.{InBacked, InBacking, InBrokeOff, backed_device, backing_device, broken_device};
+ghost use Rattle.deploying.specs.Backwards.{EndsBacks, HasWayBack, paused_of};
+ghost use Rattle.deploying.specs.Driven.{Course, DrivenLeft, InDriven};
+ghost use Rattle.driver.specs.Stands.{IsFront};
+ghost use Rattle.session.specs.Places.{Place};
+ghost use Rattle.step_runner.specs.Entries.{Listed};
+ghost use Rattle.supervisor_laws.specs.Sound.{IsOrderly};
+
+use crate::driven::Driven;
+use crate::rolling::roll_on;
+use back_boots::run_backs;
+use deploy_state::{Backed, Backing, BrokeOff, Loaded};
+use disk_model::Disk;
+use driver::{Booted, Over};
+use edges::Sink;
+use gate_log::Journal;
+use nuc_base::Outcome;
+use stage_changes::close_backing;
+use step_runner::Runner;
+use supervisor::{Prepared, Supervise};
+
+fn paused<J: Journal + Drop>(backed: Backed<J>) -> Loaded<J>
+    ensures { result ≡ paused_of backed }
+{
+    match backed {
+        Backed::Backing(state) => Loaded::Backing(state),
+        Backed::Rolling(state) => Loaded::Rolling(state),
+    }
+}
+
+/// Behind the bootstraps that ran again: the items of the set come up, or the deployment closes where one failed.
+fn end_backs<D: Disk, J: Journal + Drop, K: Sink, R: Runner, S: Supervise>(
+    backed: Backed<J>,
+    ready: S::Ready,
+    disk: &mut D,
+    sink: &mut K,
+    runner: &mut R,
+    supervisor: &mut S,
+) -> Result<Driven<J>, Over>
+where
+    S::Ready: Drop,
+    requires held { InBacked D.tells D.may_leave J.stands J.end backed disk.old }
+    requires failed { IsStillBacking backed → has_failed (backed_device backed) ≡ true }
+    requires ready { EndsBacks backed (S.coming ready) }
+    requires orderly { IsOrderly (S.world supervisor.old) }
+    requires placed { (p : Place) × IsFront p (backed_device backed) (S.world supervisor.old) (Listed R.list R.told R.asked runner.old) (R.living runner.old) }
+    ensures course { (p : Place) → IsFront p (backed_device backed) (S.world supervisor.old) (Listed R.list R.told R.asked runner.old) (R.living runner.old) →
+        Course J.entries J.files D.may_leave D.moment D.left_since disk.old disk.new (R.list runner.old) (R.list runner.new) (K.held sink.old) (K.held sink.new) p result
+        (λ x h q. DrivenLeft x h q (S.world supervisor.new) (Listed R.list R.told R.asked runner.new) (R.living runner.new)) }
+    ensures none { OnErr result (R.living runner.new ≡ []) }
+    ensures held { IfOk result (λ x. InDriven D.tells D.may_leave J.stands J.end x disk.new) }
+    ensures others { IsTrue D.tells → (name : List ℕ) → ¬ (J.files name) → D.seen disk.new name ≡ D.seen disk.old name }
+    ensures disk { IsErrOf result Over.Disk → Rose (D.faults disk.old) (D.faults disk.new) }
+    ensures edge { IsErrOf result Over.Edge → Rose (K.faults sink.old) (K.faults sink.new) }
+    ensures quiet_disk { ¬ (IsErrOf result Over.Disk) → D.faults disk.new ≡ D.faults disk.old }
+    ensures quiet_sink { ¬ (IsErrOf result Over.Edge) → K.faults sink.new ≡ K.faults sink.old }
+{
+    match backed {
+        Backed::Rolling(state) => roll_on(state, ready, disk, sink, runner, supervisor),
+        Backed::Backing(state) => {
+            drop(ready);
+            match close_backing(state, disk, sink, supervisor) {
+                Ok(idle) => Ok(Driven::Closed(idle, Outcome::UnableToRollback)),
+                Err(over) => Err(over),
+            }
+        }
+    }
+}
+
+/// The bootstraps of the set run again, from the first that is not ended, and then its items come up.
+pub(crate) fn back_on<D: Disk, J: Journal + Drop, K: Sink, R: Runner, S: Supervise>(
+    state: Backing<J>,
+    backs: &[Prepared],
+    ready: S::Ready,
+    disk: &mut D,
+    sink: &mut K,
+    runner: &mut R,
+    supervisor: &mut S,
+) -> Result<Driven<J>, Over>
+where
+    S::Ready: Drop,
+    requires held { InBacking D.tells D.may_leave J.stands J.end state disk.old }
+    requires ready { HasWayBack (backing_device state) backs.now (S.coming ready) }
+    requires orderly { IsOrderly (S.world supervisor.old) }
+    requires placed { (p : Place) × IsFront p (backing_device state) (S.world supervisor.old) (Listed R.list R.told R.asked runner.old) (R.living runner.old) }
+    ensures course { (p : Place) → IsFront p (backing_device state) (S.world supervisor.old) (Listed R.list R.told R.asked runner.old) (R.living runner.old) →
+        Course J.entries J.files D.may_leave D.moment D.left_since disk.old disk.new (R.list runner.old) (R.list runner.new) (K.held sink.old) (K.held sink.new) p result
+        (λ x h q. DrivenLeft x h q (S.world supervisor.new) (Listed R.list R.told R.asked runner.new) (R.living runner.new)) }
+    ensures none { OnErr result (R.living runner.new ≡ []) }
+    ensures held { IfOk result (λ x. InDriven D.tells D.may_leave J.stands J.end x disk.new) }
+    ensures others { IsTrue D.tells → (name : List ℕ) → ¬ (J.files name) → D.seen disk.new name ≡ D.seen disk.old name }
+    ensures disk { IsErrOf result Over.Disk → Rose (D.faults disk.old) (D.faults disk.new) }
+    ensures edge { IsErrOf result Over.Edge → Rose (K.faults sink.old) (K.faults sink.new) }
+    ensures quiet_disk { ¬ (IsErrOf result Over.Disk) → D.faults disk.new ≡ D.faults disk.old }
+    ensures quiet_sink { ¬ (IsErrOf result Over.Edge) → K.faults sink.new ≡ K.faults sink.old }
+{
+    match run_backs(state, backs, disk, sink, runner) {
+        Ok((backed, booted)) => match booted {
+            Booted::Restart => Ok(Driven::Restart(paused(backed))),
+            Booted::Reboot => Ok(Driven::Reboot(paused(backed))),
+            Booted::Through => end_backs(backed, ready, disk, sink, runner, supervisor),
+            Booted::Failed => end_backs(backed, ready, disk, sink, runner, supervisor),
+        },
+        Err(over) => Err(over),
+    }
+}
+
+/// The way back begins: by the bootstraps of the set that run again, where there are any.
+pub(crate) fn go_back<D: Disk, J: Journal + Drop, K: Sink, R: Runner, S: Supervise>(
+    broke: BrokeOff<J>,
+    backs: &[Prepared],
+    ready: S::Ready,
+    disk: &mut D,
+    sink: &mut K,
+    runner: &mut R,
+    supervisor: &mut S,
+) -> Result<Driven<J>, Over>
+where
+    S::Ready: Drop,
+    requires held { InBrokeOff D.tells D.may_leave J.stands J.end broke disk.old }
+    requires ready { HasWayBack (broken_device broke) backs.now (S.coming ready) }
+    requires orderly { IsOrderly (S.world supervisor.old) }
+    requires placed { (p : Place) × IsFront p (broken_device broke) (S.world supervisor.old) (Listed R.list R.told R.asked runner.old) (R.living runner.old) }
+    ensures course { (p : Place) → IsFront p (broken_device broke) (S.world supervisor.old) (Listed R.list R.told R.asked runner.old) (R.living runner.old) →
+        Course J.entries J.files D.may_leave D.moment D.left_since disk.old disk.new (R.list runner.old) (R.list runner.new) (K.held sink.old) (K.held sink.new) p result
+        (λ x h q. DrivenLeft x h q (S.world supervisor.new) (Listed R.list R.told R.asked runner.new) (R.living runner.new)) }
+    ensures none { OnErr result (R.living runner.new ≡ []) }
+    ensures held { IfOk result (λ x. InDriven D.tells D.may_leave J.stands J.end x disk.new) }
+    ensures others { IsTrue D.tells → (name : List ℕ) → ¬ (J.files name) → D.seen disk.new name ≡ D.seen disk.old name }
+    ensures disk { IsErrOf result Over.Disk → Rose (D.faults disk.old) (D.faults disk.new) }
+    ensures edge { IsErrOf result Over.Edge → Rose (K.faults sink.old) (K.faults sink.new) }
+    ensures quiet_disk { ¬ (IsErrOf result Over.Disk) → D.faults disk.new ≡ D.faults disk.old }
+    ensures quiet_sink { ¬ (IsErrOf result Over.Edge) → K.faults sink.new ≡ K.faults sink.old }
+{
+    match broke {
+        BrokeOff::Backing(state) => back_on(state, backs, ready, disk, sink, runner, supervisor),
+        BrokeOff::Rolling(state) => roll_on(state, ready, disk, sink, runner, supervisor),
+    }
+}

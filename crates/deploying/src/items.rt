@@ -1,0 +1,140 @@
+//! The plan's items come up.
+ghost use Rattle.std.specs.Prelude.{◌≡◌, [], ℕ, List, IsTrue, IfOk, OnErr, IsErrOf, false};
+ghost use Rattle.nuc_base.specs.Faults.{Rose};
+ghost use Rattle.activation.specs.Runs.{Comes};
+ghost use Rattle.deploy_state.specs.States.{InActivating, activating_device};
+ghost use Rattle.deploying.specs.Backwards.{HasWayBack};
+ghost use Rattle.deploying.specs.Driven.{Course, DrivenLeft, InDriven};
+ghost use Rattle.driver.specs.Stands.{IsFront};
+ghost use Rattle.session.specs.Phases.{duty_of};
+ghost use Rattle.session.specs.Places.{Place};
+ghost use Rattle.session.specs.Waits.{has_three};
+ghost use Rattle.stage_changes.specs.Enters.{AreReady};
+ghost use Rattle.step_runner.specs.Entries.{Listed};
+ghost use Rattle.supervisor_laws.specs.Sound.{IsOrderly};
+
+use crate::driven::Driven;
+use crate::failing::{fail_again, fail_items};
+use activation::{Activated, activate};
+use deploy_state::{Activating, Loaded};
+use disk_model::Disk;
+use driver::Over;
+use edges::Sink;
+use gate_log::Journal;
+use giving_up::kill_all;
+use nuc_base::Outcome;
+use stage_changes::change_items;
+use step_runner::Runner;
+use supervisor::{Prepared, Supervise};
+
+/// Brings the plan's items up, to the close of the deployment, on its way back too.
+fn bring_up<D: Disk, J: Journal + Drop, K: Sink, R: Runner, S: Supervise>(
+    state: Activating<J>,
+    backs: &[Prepared],
+    ready: S::Ready,
+    disk: &mut D,
+    sink: &mut K,
+    runner: &mut R,
+    supervisor: &mut S,
+) -> Result<Driven<J>, Over>
+where
+    S::Ready: Drop,
+    requires held { InActivating D.tells D.may_leave J.stands J.end state disk.old }
+    requires ready { HasWayBack (activating_device state) backs.now (S.coming ready) }
+    requires placed { (p : Place) × Comes p (activating_device state) (S.world supervisor.old) (Listed R.list R.told R.asked runner.old) (R.living runner.old) }
+    ensures course { (p : Place) → Comes p (activating_device state) (S.world supervisor.old) (Listed R.list R.told R.asked runner.old) (R.living runner.old) →
+        Course J.entries J.files D.may_leave D.moment D.left_since disk.old disk.new (R.list runner.old) (R.list runner.new) (K.held sink.old) (K.held sink.new) p result
+        (λ x h q. DrivenLeft x h q (S.world supervisor.new) (Listed R.list R.told R.asked runner.new) (R.living runner.new)) }
+    ensures none { OnErr result (R.living runner.new ≡ []) }
+    ensures held { IfOk result (λ x. InDriven D.tells D.may_leave J.stands J.end x disk.new) }
+    ensures others { IsTrue D.tells → (name : List ℕ) → ¬ (J.files name) → D.seen disk.new name ≡ D.seen disk.old name }
+    ensures disk { IsErrOf result Over.Disk → Rose (D.faults disk.old) (D.faults disk.new) }
+    ensures edge { IsErrOf result Over.Edge → Rose (K.faults sink.old) (K.faults sink.new) }
+    ensures quiet_disk { ¬ (IsErrOf result Over.Disk) → D.faults disk.new ≡ D.faults disk.old }
+    ensures quiet_sink { ¬ (IsErrOf result Over.Edge) → K.faults sink.new ≡ K.faults sink.old }
+{
+    match activate(state, disk, sink, runner, supervisor) {
+        Ok(Activated::Closed(idle)) => Ok(Driven::Closed(idle, Outcome::Successful)),
+        Ok(Activated::Broken(state)) => {
+            fail_items(state, backs, ready, disk, sink, runner, supervisor)
+        }
+        Ok(Activated::More(state)) => {
+            kill_all(runner, supervisor);
+            Ok(Driven::More(Loaded::Activating(state)))
+        }
+        Err(over) => {
+            kill_all(runner, supervisor);
+            Err(over)
+        }
+    }
+}
+
+/// The plan's items, none of which failed three times, take their places and come up.
+fn raise_plan<D: Disk, J: Journal + Drop, K: Sink, R: Runner, S: Supervise>(
+    state: Activating<J>,
+    items: S::Ready,
+    backs: &[Prepared],
+    ready: S::Ready,
+    disk: &mut D,
+    sink: &mut K,
+    runner: &mut R,
+    supervisor: &mut S,
+) -> Result<Driven<J>, Over>
+where
+    S::Ready: Drop,
+    requires held { InActivating D.tells D.may_leave J.stands J.end state disk.old }
+    requires few { has_three (duty_of (activating_device state)).counts ≡ false }
+    requires items { AreReady (activating_device state) (S.coming items) }
+    requires ready { HasWayBack (activating_device state) backs.now (S.coming ready) }
+    requires orderly { IsOrderly (S.world supervisor.old) }
+    requires placed { (p : Place) × IsFront p (activating_device state) (S.world supervisor.old) (Listed R.list R.told R.asked runner.old) (R.living runner.old) }
+    ensures course { (p : Place) → IsFront p (activating_device state) (S.world supervisor.old) (Listed R.list R.told R.asked runner.old) (R.living runner.old) →
+        Course J.entries J.files D.may_leave D.moment D.left_since disk.old disk.new (R.list runner.old) (R.list runner.new) (K.held sink.old) (K.held sink.new) p result
+        (λ x h q. DrivenLeft x h q (S.world supervisor.new) (Listed R.list R.told R.asked runner.new) (R.living runner.new)) }
+    ensures none { OnErr result (R.living runner.new ≡ []) }
+    ensures held { IfOk result (λ x. InDriven D.tells D.may_leave J.stands J.end x disk.new) }
+    ensures others { IsTrue D.tells → (name : List ℕ) → ¬ (J.files name) → D.seen disk.new name ≡ D.seen disk.old name }
+    ensures disk { IsErrOf result Over.Disk → Rose (D.faults disk.old) (D.faults disk.new) }
+    ensures edge { IsErrOf result Over.Edge → Rose (K.faults sink.old) (K.faults sink.new) }
+    ensures quiet_disk { ¬ (IsErrOf result Over.Disk) → D.faults disk.new ≡ D.faults disk.old }
+    ensures quiet_sink { ¬ (IsErrOf result Over.Edge) → K.faults sink.new ≡ K.faults sink.old }
+{
+    change_items(state.device(), items, supervisor);
+    bring_up(state, backs, ready, disk, sink, runner, supervisor)
+}
+
+/// The plan's items come up. Where one of them failed three times before, the deployment fails at once.
+pub(crate) fn activate_on<D: Disk, J: Journal + Drop, K: Sink, R: Runner, S: Supervise>(
+    state: Activating<J>,
+    items: S::Ready,
+    backs: &[Prepared],
+    ready: S::Ready,
+    disk: &mut D,
+    sink: &mut K,
+    runner: &mut R,
+    supervisor: &mut S,
+) -> Result<Driven<J>, Over>
+where
+    S::Ready: Drop,
+    requires held { InActivating D.tells D.may_leave J.stands J.end state disk.old }
+    requires items { AreReady (activating_device state) (S.coming items) }
+    requires ready { HasWayBack (activating_device state) backs.now (S.coming ready) }
+    requires orderly { IsOrderly (S.world supervisor.old) }
+    requires placed { (p : Place) × IsFront p (activating_device state) (S.world supervisor.old) (Listed R.list R.told R.asked runner.old) (R.living runner.old) }
+    ensures course { (p : Place) → IsFront p (activating_device state) (S.world supervisor.old) (Listed R.list R.told R.asked runner.old) (R.living runner.old) →
+        Course J.entries J.files D.may_leave D.moment D.left_since disk.old disk.new (R.list runner.old) (R.list runner.new) (K.held sink.old) (K.held sink.new) p result
+        (λ x h q. DrivenLeft x h q (S.world supervisor.new) (Listed R.list R.told R.asked runner.new) (R.living runner.new)) }
+    ensures none { OnErr result (R.living runner.new ≡ []) }
+    ensures held { IfOk result (λ x. InDriven D.tells D.may_leave J.stands J.end x disk.new) }
+    ensures others { IsTrue D.tells → (name : List ℕ) → ¬ (J.files name) → D.seen disk.new name ≡ D.seen disk.old name }
+    ensures disk { IsErrOf result Over.Disk → Rose (D.faults disk.old) (D.faults disk.new) }
+    ensures edge { IsErrOf result Over.Edge → Rose (K.faults sink.old) (K.faults sink.new) }
+    ensures quiet_disk { ¬ (IsErrOf result Over.Disk) → D.faults disk.new ≡ D.faults disk.old }
+    ensures quiet_sink { ¬ (IsErrOf result Over.Edge) → K.faults sink.new ≡ K.faults sink.old }
+{
+    if state.broken().is_none() {
+        return raise_plan(state, items, backs, ready, disk, sink, runner, supervisor);
+    }
+    drop(items);
+    fail_again(state, backs, ready, disk, sink, runner, supervisor)
+}
