@@ -10,7 +10,7 @@ use Rattle.nucleus_top.specs.Opening.{Stands, HasEntry, StandsForNone}
 use Rattle.nucleus_top.specs.Inits.{IsRefusedAt}
 use Rattle.nucleus_top.specs.Audits.{Compares, IsWhole, IsDifferent, Audits, AuditParts}
 use Rattle.nucleus_top.specs.declared.answer.Answer.{Answer}
-use Rattle.nucleus_top.specs.declared.answer.Answer.TheVariants.{Stored, Made, Shown, Planned, Unplanned, Whole, Differs, DiskFailed, NotInitialised, Damaged, NoMemory}
+use Rattle.nucleus_top.specs.declared.answer.Answer.TheVariants.{Made, Shown, Planned, Unplanned, Whole, Differs, DiskFailed, NotInitialised, Damaged, NoMemory}
 use Rattle.nucleus_top.proofs.Standing.{none_stands, same_device}
 use Rattle.nucleus_top.proofs.Told.{told_of}
 
@@ -34,7 +34,6 @@ module _ (store : Store) (printed : Printed) (result : Status) where
   reads_only a comes = absurd comes
 
   done : (a : Answer) → Audits store a → Told printed result a → result ≡ status.Done → (IsTrue store.tells → IsWhole store.before) × Prints printed whole_line
-  done (Stored w) comes (inl told) is = absurd comes
   done (Made thing) comes (inl told) is = absurd comes
   done (Shown text) comes (inl told) is = absurd comes
   done (Planned text) comes (inl told) is = absurd comes

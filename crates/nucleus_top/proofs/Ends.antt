@@ -7,7 +7,7 @@ use Rattle.nuc_base.specs.Faults.{Rose}
 use Rattle.disk_model.specs.Disk.{Image}
 use Rattle.command_words.specs.Laws.{AsksOnce}
 use Rattle.command_words.specs.declared.order.Order.{Order}
-use Rattle.command_words.specs.declared.order.Order.TheVariants.{Init, Deploy, Status as Show, Plan, Audit}
+use Rattle.command_words.specs.declared.order.Order.TheVariants.{Init, Status as Show, Plan, Audit}
 use Rattle.nucleus_top.specs.Words.{AsksNothing}
 use Rattle.nucleus_top.specs.Answers.{Store, Input, Shelf, Printed, Told, IsUnchanged, HasRisen, IsQuiet, IsStill, IsCutShort, Prints, Yields, usage_line, library_line, status_of}
 use Rattle.nucleus_top.specs.Leaving.{IsDurable, Keeps}
@@ -16,7 +16,6 @@ use Rattle.nucleus_top.specs.declared.answer.Answer.{Answer}
 use Rattle.nucleus_top.specs.declared.answer.Answer.TheVariants.{Unplanned, WrongWords, DiskFailed, SourceFailed, LibraryFailed, NoMemory}
 use Rattle.nucleus_top.proofs.Orders.{comes_of}
 use Rattle.nucleus_top.proofs.AuditEnds.{audit_parts}
-use Rattle.nucleus_top.proofs.DeployEnds.{deploy_parts}
 use Rattle.nucleus_top.proofs.InitEnds.{init_parts}
 use Rattle.nucleus_top.proofs.PlanEnds.{plan_parts}
 use Rattle.nucleus_top.proofs.Standing.{same_device}
@@ -29,14 +28,12 @@ use Rattle.plan_core.specs.declared.fault.Refusal.{Refusal}
 -- what a command's answer says of the disk
 risen : (order : Order) (store : Store) (input : Input) (library : Shelf) → ComesOf order store input library DiskFailed → HasRisen store
 risen (Init origin) store input library comes = comes.0
-risen Deploy store input library comes = comes.1
 risen (Show json) store input library comes = comes.1
 risen Plan store input library comes = comes.1
 risen Audit store input library comes = comes.1
 risen _ store input library comes = absurd comes
 
 unread : (order : Order) (store : Store) (input : Input) (library : Shelf) → ComesOf order store input library SourceFailed → Rose input.faults_before input.faults_after
-unread Deploy store input library comes = comes.0
 unread Plan store input library comes = comes.1.2.1
 unread Audit store input library comes = absurd comes
 unread (Init origin) store input library comes = absurd comes
@@ -45,7 +42,6 @@ unread _ store input library comes = absurd comes
 
 ungiven : (order : Order) (store : Store) (input : Input) (library : Shelf) → ComesOf order store input library LibraryFailed → Rose library.faults_before library.faults_after
 ungiven Plan store input library comes = comes.1.2.1
-ungiven Deploy store input library comes = absurd comes
 ungiven Audit store input library comes = absurd comes
 ungiven (Init origin) store input library comes = absurd comes
 ungiven (Show json) store input library comes = absurd comes
@@ -58,14 +54,12 @@ Refuses store r text = IsUnchanged store × (text ≡ refusal_line r) × (status
 unplanned : (order : Order) (store : Store) (input : Input) (library : Shelf) (r : Refusal) (text : List ℕ) → ComesOf order store input library (Unplanned r text) → Refuses store r text
 unplanned Plan store input library r text comes = (comes.0, comes.1.2.1, comes.1.2.2)
 unplanned Audit store input library r text comes = absurd comes
-unplanned Deploy store input library r text comes = absurd comes
 unplanned (Init origin) store input library r text comes = absurd comes
 unplanned (Show json) store input library r text comes = absurd comes
 unplanned _ store input library r text comes = absurd comes
 
 untouched : (order : Order) (store : Store) (input : Input) (library : Shelf) → ComesOf order store input library NoMemory → IsUnchanged store
 untouched (Init origin) store input library comes = comes
-untouched Deploy store input library comes = comes
 untouched (Show json) store input library comes = comes
 untouched Plan store input library comes = comes
 untouched Audit store input library comes = comes
@@ -73,7 +67,6 @@ untouched _ store input library comes = absurd comes
 
 no_usage : (order : Order) (store : Store) (input : Input) (library : Shelf) → ComesOf order store input library WrongWords → ⊥
 no_usage (Init origin) store input library comes = comes
-no_usage Deploy store input library comes = comes
 no_usage (Show json) store input library comes = comes
 no_usage Plan store input library comes = comes.1.2
 no_usage Audit store input library comes = comes
@@ -174,7 +167,6 @@ module _ (words : List (List ℕ)) (store : Store) (input : Input) (library : Sh
     library_stays = library_stays a still told;
     memory = memory a comes told;
     one_device = same_device store.before;
-    deploy = λ is. deploy_parts store input printed result a (comes_of once words Deploy store input library a is comes) told;
     init = λ origin is. init_parts origin store printed result a (comes_of once words (Init origin) store input library a is comes) told;
     status = λ json is. status_parts json store printed result a (comes_of once words (Show json) store input library a is comes) told;
     plan = λ is. plan_parts store input library printed result a (comes_of once words Plan store input library a is comes) told;

@@ -12,13 +12,12 @@ use Rattle.command_words.specs.declared.order.Order.{Order}
 use Rattle.nucleus_top.specs.Leaving.{IsDurable}
 use Rattle.disk_model.specs.Disk.{Image}
 use Rattle.nucleus_top.specs.declared.answer.Answer.{Answer}
-use Rattle.nucleus_top.specs.declared.answer.Answer.TheVariants.{Stored, Made, Shown, Planned, Unplanned, Whole, DiskFailed, Damaged, Initialised, NoMemory}
+use Rattle.nucleus_top.specs.declared.answer.Answer.TheVariants.{Made, Shown, Planned, Unplanned, Whole, DiskFailed, Damaged, Initialised, NoMemory}
 use Rattle.nucleus_top.proofs.Standing.{none_stands}
 use Rattle.nucleus_top.proofs.Told.{told_of}
 
 module _ (origin : Origin) (store : Store) (printed : Printed) (result : Status) where
   done : (a : Answer) → Inits origin store a → Told printed result a → result ≡ status.Done → (IsTrue store.tells → IsMade store origin) × Prints printed (made_line origin.thing)
-  done (Stored w) comes (inl told) is = absurd comes
   done (Shown text) comes (inl told) is = absurd comes
   done (Made thing) comes (inl told) is = (comes.1, subst (λ (t : List ℕ). Prints printed (made_line t)) comes.0 told.1)
   done (Planned text) comes (inl told) is = absurd comes

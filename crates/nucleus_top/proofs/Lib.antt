@@ -1,6 +1,6 @@
 mod AuditEnds
 mod Comparing
-mod DeployEnds
+mod Driven
 mod Ends
 mod Faults
 mod Forms
@@ -10,10 +10,7 @@ mod Orders
 mod Origins
 mod PlanEnds
 mod Proposals
-pub mod Refusals
 mod Standing
 pub mod Unrefused
-pub mod StateOrder
 mod StatusEnds
 mod Told
-pub mod Versions

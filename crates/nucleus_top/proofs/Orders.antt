@@ -2,7 +2,7 @@
 use Rattle.std.proofs.Common.{◌≡◌, inl, inr, ℕ, List, sym, subst}
 use Rattle.command_words.specs.Laws.{AsksOnce}
 use Rattle.command_words.specs.declared.order.Order.{Order}
-use Rattle.command_words.specs.declared.order.Order.TheVariants.{Init, Deploy, Status, Plan, Audit}
+use Rattle.command_words.specs.declared.order.Order.TheVariants.{Init, Status, Plan, Audit}
 use Rattle.nucleus_top.specs.Words.{Asks, IsBuilt}
 use Rattle.nucleus_top.specs.Answers.{Store, Input, Shelf, IsUnchanged}
 use Rattle.nucleus_top.specs.Parts.{Comes, ComesOf}
@@ -14,7 +14,6 @@ one_order once words a b x y = (once words x.root y.root a b x.is_order y.is_ord
 
 memory_of : (order : Order) (store : Store) (input : Input) (library : Shelf) → IsBuilt order → IsUnchanged store → ComesOf order store input library NoMemory
 memory_of (Init o) store input library built same = same
-memory_of Deploy store input library built same = same
 memory_of (Status json) store input library built same = same
 memory_of Plan store input library built same = same
 memory_of Audit store input library built same = same

@@ -15,7 +15,7 @@ use Rattle.nucleus_top.specs.Opening.{Stands, HasEntry, StandsForNone}
 use Rattle.nucleus_top.specs.Inits.{IsRefusedAt}
 use Rattle.nucleus_top.specs.Planning.{IsProposed, IsFound, Plans, IsPlanPrinted, IsClosePrinted, IsPending, PlanParts}
 use Rattle.nucleus_top.specs.declared.answer.Answer.{Answer}
-use Rattle.nucleus_top.specs.declared.answer.Answer.TheVariants.{Stored, Made, Shown, Planned, Unplanned, Whole, Pending, DiskFailed, SourceFailed, LibraryFailed, NotInitialised, Damaged, NoMemory}
+use Rattle.nucleus_top.specs.declared.answer.Answer.TheVariants.{Made, Shown, Planned, Unplanned, Whole, Pending, DiskFailed, SourceFailed, LibraryFailed, NotInitialised, Damaged, NoMemory}
 use Rattle.nucleus_top.proofs.Unrefused.{no_refusal, only_successful}
 
 module _ (store : Store) (input : Input) (library : Shelf) (printed : Printed) (result : Status) where
@@ -42,7 +42,6 @@ module _ (store : Store) (input : Input) (library : Shelf) (printed : Printed) (
   )
 
   done : (a : Answer) → Plans store input library a → Told printed result a → result ≡ status.Done → IsPlanPrinted store input library printed ⊎ IsClosePrinted store input library printed
-  done (Stored w) comes (inl told) is = absurd comes.1.2
   done (Made thing) comes (inl told) is = absurd comes.1.2
   done (Shown text) comes (inl told) is = absurd comes.1.2
   done Whole comes (inl told) is = absurd comes.1.2

@@ -9,7 +9,7 @@ use Rattle.nucleus_top.specs.Opening.{Stands, HasEntry, StandsForNone}
 use Rattle.nucleus_top.specs.Inits.{IsRefusedAt}
 use Rattle.nucleus_top.specs.Shows.{IsShown, ShowsDevice, Shows, StatusParts}
 use Rattle.nucleus_top.specs.declared.answer.Answer.{Answer}
-use Rattle.nucleus_top.specs.declared.answer.Answer.TheVariants.{Stored, Made, Shown, Planned, Unplanned, Whole, DiskFailed, NotInitialised, Damaged, NoMemory}
+use Rattle.nucleus_top.specs.declared.answer.Answer.TheVariants.{Made, Shown, Planned, Unplanned, Whole, DiskFailed, NotInitialised, Damaged, NoMemory}
 use Rattle.nucleus_top.proofs.Standing.{none_stands}
 use Rattle.nucleus_top.proofs.Told.{told_of}
 
@@ -30,7 +30,6 @@ module _ (json : Bool) (store : Store) (printed : Printed) (result : Status) whe
   reads_only a comes = absurd comes
 
   done : (a : Answer) → Shows json store a → Told printed result a → result ≡ status.Done → (text : List ℕ) × (IsTrue store.tells → IsShown store.before json text) × Prints printed text
-  done (Stored w) comes (inl told) is = absurd comes
   done (Made thing) comes (inl told) is = absurd comes
   done (Shown text) comes (inl told) is = (text, comes.1, told.1)
   done (Planned text) comes (inl told) is = absurd comes

@@ -10,10 +10,9 @@ use Rattle.edges.specs.Pieces.{AppendsFront}
 use Rattle.library_core.specs.Library.{Content}
 use Rattle.refusal_lines.specs.Statuses.{status_of_refusal}
 use Rattle.nucleus_top.specs.declared.answer.Answer.{Answer}
-use Rattle.nucleus_top.specs.declared.answer.Answer.TheVariants.{Stored, Made, Shown, Planned, Unplanned, Whole, Differs, Pending, WrongWords, Refused, DiskFailed, SourceFailed, LibraryFailed, NotInitialised, Damaged, Initialised, NoMemory}
+use Rattle.nucleus_top.specs.declared.answer.Answer.TheVariants.{Made, Shown, Planned, Unplanned, Whole, Differs, Pending, WrongWords, DiskFailed, SourceFailed, LibraryFailed, NotInitialised, Damaged, Initialised, NoMemory}
 
 abbrev pub status_of : Answer → Status
-status_of (Stored deployment) = status.Done
 status_of (Made thing) = status.Done
 status_of (Shown text) = status.Done
 status_of (Planned text) = status.Done
@@ -22,7 +21,6 @@ status_of Whole = status.Done
 status_of (Differs text) = status.Differs
 status_of (Pending id) = status.PendingStands
 status_of WrongWords = status.Usage
-status_of Refused = status.BadInput
 status_of DiskFailed = status.Disk
 status_of SourceFailed = status.Edge
 status_of LibraryFailed = status.Library
@@ -33,12 +31,6 @@ status_of NoMemory = status.Memory
 
 abbrev pub usage_line : List ℕ
 usage_line = codes "usage: nucleus --root DIR COMMAND [OPTIONS]\n"
-
-abbrev pub stored_lines : List ℕ → List ℕ
-stored_lines id = codes "accepted " ++ id ++ codes "\nclosed " ++ id ++ codes " SUCCESSFUL\n"
-
-abbrev pub refused_line : List ℕ
-refused_line = codes "refused 2 document NotYet\n"
 
 abbrev pub made_line : List ℕ → List ℕ
 made_line thing = codes "initialised " ++ thing ++ codes "\n"
@@ -63,7 +55,6 @@ initialised_line thing = codes "refused 16 Initialised " ++ thing ++ codes "\n"
 
 -- what an answer prints
 abbrev pub lines_of : Answer → List ℕ
-lines_of (Stored deployment) = stored_lines deployment.id
 lines_of (Made thing) = made_line thing
 lines_of (Shown text) = text
 lines_of (Planned text) = text
@@ -72,7 +63,6 @@ lines_of Whole = whole_line
 lines_of (Differs text) = text
 lines_of (Pending id) = pending_line id
 lines_of WrongWords = usage_line
-lines_of Refused = refused_line
 lines_of DiskFailed = codes "fault 5 disk\n"
 lines_of SourceFailed = codes "fault 6 source\n"
 lines_of LibraryFailed = library_line

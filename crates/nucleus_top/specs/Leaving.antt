@@ -1,21 +1,20 @@
 -- What a crash may leave of a call.
-use Rattle.std.specs.Prelude.{◌≡◌, ◌⊎◌, ℕ, List, codes, ⊤}
+use Rattle.std.specs.Prelude.{◌≡◌, ◌⊎◌, ℕ, List}
 use Rattle.nuc_base.specs.declared.status.Status.TheVariants as status
-use Rattle.disk_model.specs.Disk.{Image, Step, After, Settled}
+use Rattle.disk_model.specs.Disk.{Image, After, Settled}
 use Rattle.checkpoint_log.specs.Slots.{slots_files}
 use Rattle.command_words.specs.declared.order.Order.{Order}
-use Rattle.command_words.specs.declared.order.Order.TheVariants.{Init, Deploy}
+use Rattle.command_words.specs.declared.order.Order.TheVariants.{Init}
 use Rattle.nucleus_top.specs.Opening.{Stands}
 use Rattle.nucleus_top.specs.Answers.{status_of}
 use Rattle.nucleus_top.specs.Begun.{begun_device, Begins}
 use Rattle.nucleus_top.specs.Words.{Asks}
 use Rattle.nucleus_top.specs.declared.answer.Answer.{Answer}
 
--- What a command may make of an image. `init` touches the journal alone, and only one without an entry; `deploy` touches
--- the file `state`, `status` nothing.
+-- What a command may make of an image. `init` touches the journal alone, and only one without an entry; the others touch
+-- nothing.
 abbrev pub Makes : Order → Image → Image → Type 0
 Makes (Init origin) = Begins origin
-Makes Deploy = Step (codes "state") (λ old new. ⊤)
 Makes _ = λ old new. ⊥
 
 abbrev pub LeavesOf : Order → (Image → Type 0) → Image → Type 0
@@ -27,14 +26,12 @@ MayLeave words allowed image = allowed image ⊎ ((order : Order) × Asks words 
 
 -- the files that a command may change
 abbrev pub files_of : Order → List ℕ → Type 0
-files_of Deploy name = name ≡ codes "state"
-files_of _ name = slots_files name
+files_of order = slots_files
 
 -- A crash does not undo the work of a command that is done: after `init` each image stands for the new device, and
--- after the others the command's files are as they read.
+-- after the others the journal's files are as they read.
 abbrev pub IsDurable : Order → (Image → Type 0) → Image → Type 0
 IsDurable (Init origin) images seen = (c : Image) → images c → Stands c (begun_device origin)
-IsDurable Deploy images seen = Settled images (codes "state") (seen (codes "state"))
 IsDurable _ images seen = (name : List ℕ) → slots_files name → Settled images name (seen name)
 
 -- where an answer says that the work is done

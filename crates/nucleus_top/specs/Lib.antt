@@ -1,15 +1,13 @@
 pub mod Answers
+pub mod Asked
 pub mod Audits
 pub mod Begun
-pub mod Deploys
-pub mod First
+pub mod Drives
 pub mod Inits
 pub mod Leaving
 pub mod Opening
 pub mod Parts
 pub mod Planning
-pub mod Reading
 pub mod Refusing
 pub mod Shows
-pub mod State
 pub mod Words

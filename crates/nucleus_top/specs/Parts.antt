@@ -7,11 +7,10 @@ use Rattle.records.specs.declared.record.Origin.{Origin}
 use Rattle.device.specs.Devices.{Device}
 use Rattle.nucleus_top.specs.Opening.{Stands}
 use Rattle.command_words.specs.declared.order.Order.{Order}
-use Rattle.command_words.specs.declared.order.Order.TheVariants.{Init, Deploy, Status as Show, Plan, Audit}
+use Rattle.command_words.specs.declared.order.Order.TheVariants.{Init, Status as Show, Plan, Audit}
 use Rattle.nucleus_top.specs.Words.{Asks, AsksNothing}
 use Rattle.nucleus_top.specs.Answers.{Store, Input, Shelf, Printed, IsUnchanged, HasRisen, IsQuiet, IsStill, IsCutShort, Prints, Yields, usage_line, library_line}
 use Rattle.nucleus_top.specs.Audits.{Audits, AuditParts}
-use Rattle.nucleus_top.specs.Deploys.{Deploys, DeployParts}
 use Rattle.nucleus_top.specs.Inits.{Inits, InitParts}
 use Rattle.nucleus_top.specs.Planning.{Plans, PlanParts}
 use Rattle.nucleus_top.specs.Shows.{Shows, StatusParts}
@@ -21,7 +20,6 @@ use Rattle.nucleus_top.specs.declared.answer.Answer.TheVariants.{WrongWords, NoM
 -- why an answer of a command comes
 abbrev pub ComesOf : Order → Store → Input → Shelf → Answer → Type 0
 ComesOf (Init origin) store input library = Inits origin store
-ComesOf Deploy store input library = Deploys store input
 ComesOf (Show json) store input library = Shows json store
 ComesOf Plan store input library = Plans store input library
 ComesOf Audit store input library = Audits store
@@ -63,7 +61,6 @@ pub record Parts (words : List (List ℕ)) (store : Store) (input : Input) (libr
   -- The journal stands for one device at most.
   pub one_device : (d e : Device) → Stands store.before d → Stands store.before e → d ≡ e
   -- What each command promises.
-  pub deploy : Asks words Deploy → DeployParts store input printed result
   pub init : (origin : Origin) → Asks words (Init origin) → InitParts origin store printed result
   pub status : (json : Bool) → Asks words (Show json) → StatusParts json store printed result
   pub plan : Asks words Plan → PlanParts store input library printed result

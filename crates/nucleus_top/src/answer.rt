@@ -3,7 +3,6 @@ ghost use Rattle.nuc_base.specs.Faults.{HasCause};
 ghost use Rattle.edges.specs.Pieces.{Writes};
 ghost use Rattle.nucleus_top.specs.Answers.{status_of, lines_of, printed_of, Told};
 
-use crate::document::Deployment;
 use edges::{EdgeFault, Sink, write_pieces};
 use nuc_base::{Label, Status, Text};
 use plan_core::Refusal;
@@ -12,8 +11,6 @@ use refusal_lines::refusal_status;
 /// What a call has come to, with what its lines say.
 #[derive(Drop)]
 pub enum Answer {
-    /// The deployment is stored.
-    Stored(Deployment),
     /// The store of this thing was made.
     Made(Label),
     /// The status is this text.
@@ -29,7 +26,6 @@ pub enum Answer {
     /// The deployment of this id is pending.
     Pending(Label),
     WrongWords,
-    Refused,
     DiskFailed,
     SourceFailed,
     LibraryFailed,
@@ -48,7 +44,6 @@ impl Answer {
         ensures { result ≡ status_of self.now }
     {
         match self {
-            Answer::Stored(_) => Status::Done,
             Answer::Made(_) => Status::Done,
             Answer::Shown(_) => Status::Done,
             Answer::Planned(_) => Status::Done,
@@ -57,7 +52,6 @@ impl Answer {
             Answer::Differs(_) => Status::Differs,
             Answer::Pending(_) => Status::PendingStands,
             Answer::WrongWords => Status::Usage,
-            Answer::Refused => Status::BadInput,
             Answer::DiskFailed => Status::Disk,
             Answer::SourceFailed => Status::Edge,
             Answer::LibraryFailed => Status::Library,
@@ -75,10 +69,6 @@ impl Answer {
         ensures quiet { OnOk result (K.faults sink.new ≡ K.faults sink.old) }
     {
         match self {
-            Answer::Stored(deployment) => {
-                let id = deployment.id.as_str();
-                write_pieces(sink, &["accepted ", id, "\nclosed ", id, " SUCCESSFUL\n"])
-            }
             Answer::Made(thing) => write_pieces(sink, &["initialised ", thing.as_str(), "\n"]),
             Answer::Shown(text) => write_pieces(sink, &[text.as_str()]),
             Answer::Planned(text) => write_pieces(sink, &[text.as_str()]),
@@ -91,7 +81,6 @@ impl Answer {
             Answer::WrongWords => {
                 write_pieces(sink, &["usage: nucleus --root DIR COMMAND [OPTIONS]\n"])
             }
-            Answer::Refused => write_pieces(sink, &["refused 2 document NotYet\n"]),
             Answer::DiskFailed => write_pieces(sink, &["fault 5 disk\n"]),
             Answer::SourceFailed => write_pieces(sink, &["fault 6 source\n"]),
             Answer::LibraryFailed => write_pieces(sink, &["refused 7 library\n"]),

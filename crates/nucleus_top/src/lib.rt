@@ -1,22 +1,22 @@
 //! The top call of the nucleus: what the words of a command line ask, done over the devices that the call is given.
 //!
 //! It promises, in the one contract of `nucleus` and over every disk, source and sink, when each status comes, what is
-//! printed, what the disk holds afterwards and what a crash may leave at each moment. It stands on `command_words` for
-//! what words ask, on `deploy_state` over `checkpoint_log` for the store, on `status_text` for its status, on
-//! `artifact_store` for its files, on `plan_core` and `refusal_lines` for plans, and on `edges`, `disk_model` and
-//! `library_core` for the devices.
+//! printed, what the disk holds afterwards and what a crash may leave at each moment; and of the commands that drive a
+//! deployment, over every runner, what happens in their call. It stands on `command_words` for what words ask, on
+//! `deploy_state` over `checkpoint_log` for the store, on `status_text` for its status, on `artifact_store` for its files,
+//! on `plan_core` and `refusal_lines` for plans, on `deployments` over `supervisor` for what is driven, and on `edges`,
+//! `disk_model`, `library_core` and `step_runner` for the devices.
 #![tactic(auto)]
 
 mod answer;
+mod asking;
 mod auditing;
-mod deploy;
-mod document;
+mod driving;
 mod init;
+mod looking;
 mod opening;
 mod planning;
-mod state;
 mod status;
-mod store;
 mod top;
 
 pub use top::nucleus;

@@ -1,104 +1,89 @@
-ghost use Rattle.std.specs.Prelude.{◌≡◌, ◌≢◌, ◌≤◌, ℕ, List, map, string_bytes, IsTrue};
+ghost use Rattle.std.specs.Prelude.{◌≡◌, ◌⊎◌, ◌≤◌, [], ℕ, List, map, string_bytes, IsTrue};
 ghost use Rattle.disk_model.specs.Disk.{Leaves};
 ghost use Rattle.nuc_base.specs.declared.status.Status.TheVariants as status;
 ghost use Rattle.command_words.specs.declared.order.Order.{Order};
 ghost use Rattle.command_words.specs.declared.order.Order.TheVariants as order;
+ghost use Rattle.deployments.specs.Calls.{Stays};
+ghost use Rattle.nucleus_top.specs.Drives.{DriveParts, Drives, IsDriven, IsTurnedAway};
 ghost use Rattle.nucleus_top.specs.Words.{Asks};
-ghost use Rattle.nucleus_top.specs.Answers.{store_of, input_of, shelf_of, printed_of, IsQuiet, IsStill};
-ghost use Rattle.nucleus_top.specs.Leaving.{IsDurable, Keeps, MayLeave, files_of};
-ghost use Rattle.nucleus_top.specs.Parts.{Comes, Parts};
+ghost use Rattle.nucleus_top.specs.Answers.{store_of, input_of, shelf_of, printed_of};
+ghost use Rattle.nucleus_top.specs.Leaving.{IsDurable, MayLeave, files_of};
+ghost use Rattle.nucleus_top.specs.Parts.{Parts};
 
-use crate::answer::Answer;
-use crate::auditing::audit;
-use crate::deploy::deploy;
-use crate::init::init;
-use crate::planning::plan;
-use crate::status::status;
-use command_words::{Order, WordsFault, read_words, words_ask_one_thing};
+use crate::asking::{Asked, read_asked};
+use crate::driving::{deploy, resume};
+use crate::looking::look;
+use command_words::words_ask_one_thing;
 use disk_model::Disk;
 use edges::{Sink, Source};
 use library_core::Library;
 use nuc_base::Status;
 use std::alloc::Global;
-
-/// Does all but the printing.
-fn answer<D: Disk, L: Library, S: Source>(
-    alloc: Global,
-    words: &Vec<String>,
-    disk: &mut D,
-    library: &mut L,
-    source: &mut S,
-) -> Answer
-    ensures comes { Comes (map string_bytes words.now.items) (store_of D.tells D.seen D.faults disk.old disk.new) (input_of S.left S.faults source.old source.new) (shelf_of L.content L.faults library.old library.new) result }
-    ensures quiet { IsQuiet (store_of D.tells D.seen D.faults disk.old disk.new) (input_of S.left S.faults source.old source.new) result }
-    ensures still { IsStill (shelf_of L.content L.faults library.old library.new) result }
-    ensures unread { (Asks (map string_bytes words.now.items) order.Deploy → ⊥) → (Asks (map string_bytes words.now.items) order.Plan → ⊥) → source.new ≡ source.old }
-    ensures unasked { (Asks (map string_bytes words.now.items) order.Plan → ⊥) → library.new ≡ library.old }
-    ensures kept { L.content library.new ≡ L.content library.old }
-    ensures moments { Leaves D.moment D.left_since disk.old disk.new (MayLeave (map string_bytes words.now.items) (D.may_leave disk.old)) }
-    ensures keeps { (order : Order) → Asks (map string_bytes words.now.items) order → Keeps order (D.may_leave disk.new) (D.seen disk.new) result }
-    ensures others { (order : Order) → Asks (map string_bytes words.now.items) order → IsTrue D.tells →
-        (name : List ℕ) → ¬ (files_of order name) → D.seen disk.new name ≡ D.seen disk.old name }
-    ensures disk_later { D.faults disk.old ≤ D.faults disk.new }
-    ensures library_later { L.faults library.old ≤ L.faults library.new }
-    ensures source_later { S.faults source.old ≤ S.faults source.new }
-{
-    words_ask_one_thing();
-    let order = match read_words(alloc, words) {
-        Ok((_root, order)) => order,
-        Err(WordsFault::Usage) => return Answer::WrongWords,
-        Err(WordsFault::NoMemory) => return Answer::NoMemory,
-    };
-    match order {
-        Order::Init(origin) => init(alloc, origin, disk),
-        Order::Deploy => deploy(alloc, disk, source),
-        Order::Status(json) => status(alloc, json, disk),
-        Order::Plan => plan(alloc, disk, library, source),
-        Order::Audit => audit(alloc, disk),
-        // The other commands are not built yet.
-        _ => Answer::WrongWords,
-    }
-}
+use step_runner::Runner;
 
 /// Does what the words of the command line say over these devices, and answers the status that the program ends with.
 ///
 /// `nucleus --root DIR init --thing NAME --nucleus VERSION --os OS --arch ARCH` makes a store and prints
 /// `initialised NAME`. `nucleus --root DIR status`, with `--json` or without, prints the status of the device for which
-/// the journal stands. `nucleus --root DIR deploy` reads one document of the first form from the source, stores what it
-/// deploys in the file `state` and prints `accepted ID` and `closed ID SUCCESSFUL`. `nucleus --root DIR plan` reads one
-/// document from the source and prints what it would make of the device with the recipes of the library, `plan NAME
-/// VERSION` for each component and `boot NAME` for each bootstrap, or the first reason why it would not.
-/// `nucleus --root DIR audit` compares the files of the device's artifacts with the digests that are kept, and prints
-/// `whole` or the first file that differs. The other commands are refused as wrong words are, with status 1. The clause
-/// `parts` says when each status comes, what it prints and what it leaves on the disk.
-pub fn nucleus<D: Disk, L: Library, S: Source, K: Sink>(
+/// the journal stands. `nucleus --root DIR plan` reads one document from the source and prints what it would make of the
+/// device with the recipes of the library, `plan NAME VERSION` for each component and `boot NAME` for each bootstrap, or
+/// the first reason why it would not. `nucleus --root DIR audit` compares the files of the device's artifacts with the
+/// digests that are kept, and prints `whole` or the first file that differs. The clause `parts` says of these when each
+/// status comes, what it prints and what it leaves on the disk.
+///
+/// `nucleus --root DIR deploy` reads one document from the source and deploys it: it prints `accepted ID` once the plan is
+/// stable, a line for each failure, and `closed ID OUTCOME`; or the first reason why the document is not taken.
+/// `nucleus --root DIR resume` goes on with a deployment that an earlier call left pending, and prints `resumed ID` first;
+/// where none is, it prints `idle`. The clauses `ran` and `driven` say what these do. The other commands are refused as
+/// wrong words are, with status 1.
+pub fn nucleus<D: Disk, L: Library, S: Source, K: Sink, R: Runner>(
     alloc: Global,
     words: &Vec<String>,
     disk: &mut D,
     library: &mut L,
     source: &mut S,
     sink: &mut K,
+    runner: &mut R,
 ) -> Status
-    ensures parts { Parts (map string_bytes words.now.items) (store_of D.tells D.seen D.faults disk.old disk.new)
+    // No child lives yet.
+    requires none { R.living runner.old ≡ [] }
+    ensures parts { (Drives (map string_bytes words.now.items) → ⊥) → Parts (map string_bytes words.now.items) (store_of D.tells D.seen D.faults disk.old disk.new)
         (input_of S.left S.faults source.old source.new) (shelf_of L.content L.faults library.old library.new)
         (printed_of K.held K.faults sink.old sink.new) result }
-    // `deploy` and `plan` alone read from the source, and `plan` alone asks the library.
-    ensures unread { (Asks (map string_bytes words.now.items) order.Deploy → ⊥) → (Asks (map string_bytes words.now.items) order.Plan → ⊥) → source.new ≡ source.old }
-    ensures unasked { (Asks (map string_bytes words.now.items) order.Plan → ⊥) → library.new ≡ library.old }
+    // Beside those that drive, `plan` alone reads from the source and asks the library.
+    ensures unread { (Drives (map string_bytes words.now.items) → ⊥) → (Asks (map string_bytes words.now.items) order.Plan → ⊥) → source.new ≡ source.old }
+    ensures unasked { (Drives (map string_bytes words.now.items) → ⊥) → (Asks (map string_bytes words.now.items) order.Plan → ⊥) → library.new ≡ library.old }
     ensures library_kept { L.content library.new ≡ L.content library.old }
     // Whenever a crash comes during the call, it leaves an image that the start allowed, or what the command may make of one.
-    ensures moments { Leaves D.moment D.left_since disk.old disk.new (MayLeave (map string_bytes words.now.items) (D.may_leave disk.old)) }
+    ensures moments { (Drives (map string_bytes words.now.items) → ⊥) → Leaves D.moment D.left_since disk.old disk.new (MayLeave (map string_bytes words.now.items) (D.may_leave disk.old)) }
     // Once the lines of finished work are printed, a crash does not undo it.
     ensures durable { (order : Order) → Asks (map string_bytes words.now.items) order → result ≡ status.Done →
         IsDurable order (D.may_leave disk.new) (D.seen disk.new) }
     ensures others { (order : Order) → Asks (map string_bytes words.now.items) order → IsTrue D.tells →
         (name : List ℕ) → ¬ (files_of order name) → D.seen disk.new name ≡ D.seen disk.old name }
-    ensures disk_later { D.faults disk.old ≤ D.faults disk.new }
+    // `deploy` and `resume`: turned away before anything begins, or one deployment goes on from the start of the call.
+    ensures ran { Drives (map string_bytes words.now.items) →
+        (IsTurnedAway D.may_leave D.moment D.left_since disk.old disk.new (K.held sink.old) (K.held sink.new) result × (runner.new ≡ runner.old))
+        ⊎ IsDriven D.tells D.seen D.may_leave D.moment D.left_since disk.old disk.new (R.list runner.old) (R.list runner.new) (K.held sink.old) (K.held sink.new) result }
+    ensures driven { Drives (map string_bytes words.now.items) → DriveParts (store_of D.tells D.seen D.faults disk.old disk.new)
+        (input_of S.left S.faults source.old source.new) (shelf_of L.content L.faults library.old library.new)
+        (printed_of K.held K.faults sink.old sink.new) result }
+    // No other command runs a child, and none lives at the end.
+    ensures still { (Drives (map string_bytes words.now.items) → ⊥) → runner.new ≡ runner.old }
+    ensures none { R.living runner.new ≡ [] }
+    // No count falls: those of the disk and the sink up to their type's end where a deployment is driven.
+    ensures disk_later { Stays (D.faults disk.old) (D.faults disk.new) }
+    ensures disk_grows { (Drives (map string_bytes words.now.items) → ⊥) → D.faults disk.old ≤ D.faults disk.new }
     ensures library_later { L.faults library.old ≤ L.faults library.new }
     ensures source_later { S.faults source.old ≤ S.faults source.new }
-    ensures sink_later { K.faults sink.old ≤ K.faults sink.new }
+    ensures sink_later { Stays (K.faults sink.old) (K.faults sink.new) }
+    ensures sink_grows { (Drives (map string_bytes words.now.items) → ⊥) → K.faults sink.old ≤ K.faults sink.new }
 {
     words_ask_one_thing();
-    let answer = answer(alloc, words, disk, library, source);
-    answer.tell(sink)
+    match read_asked(alloc, words) {
+        Asked::Deploy => deploy(alloc, disk, library, source, sink, runner),
+        Asked::Resume => resume(alloc, disk, sink, runner),
+        Asked::Other => look(alloc, words, disk, library, source, sink),
+        Asked::NoMemory => Status::Memory,
+    }
 }

@@ -6,6 +6,7 @@ use nuc_base::{Bytes, List};
 use nucleus_top::nucleus;
 use std::alloc::{AllocError, Global};
 use std::test::Fail;
+use step_runner::ScriptedRunner;
 
 const AUDIT: [&str; 4] = ["nucleus", "--root", "/gg", "audit"];
 
@@ -52,7 +53,15 @@ fn answer(alloc: Global, disk: &mut MemoryDisk) -> Result<String, Fail> {
         List::empty(alloc),
     );
     let words = words(alloc)?;
-    let status = nucleus(alloc, &words, disk, &mut library, &mut source, &mut sink);
+    let mut runner = ScriptedRunner::new(
+        alloc,
+        List::empty(alloc),
+        List::empty(alloc),
+        List::empty(alloc),
+    );
+    let status = nucleus(
+        alloc, &words, disk, &mut library, &mut source, &mut sink, &mut runner,
+    );
     let mut text = format!(in alloc; "{}|", status.number())?;
     for byte in sink.bytes() {
         text.push(if *byte == b'\n' {

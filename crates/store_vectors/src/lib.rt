@@ -9,6 +9,4 @@ mod audits;
 #[cfg(test)]
 mod plans;
 #[cfg(test)]
-mod runs;
-#[cfg(test)]
 mod stores;

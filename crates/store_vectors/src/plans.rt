@@ -6,6 +6,7 @@ use nuc_base::{Bytes, List};
 use nucleus_top::nucleus;
 use std::alloc::{AllocError, Global};
 use std::test::Fail;
+use step_runner::ScriptedRunner;
 
 const PLAN: [&str; 4] = ["nucleus", "--root", "/gg", "plan"];
 
@@ -131,6 +132,13 @@ fn library_of(alloc: Global, components: &str, failing: &[u64]) -> Result<Memory
     Ok(MemoryLibrary::new(recipes, List::empty(alloc), failing))
 }
 
+/// A source of this document, whose calls with these numbers fail.
+fn source_of(alloc: Global, document: &str, failing: &[u64]) -> Result<MemorySource, Fail> {
+    let bytes = Bytes::from_slice(alloc, document.as_bytes())?;
+    let failing = List::new(Vec::from_slice(alloc, failing)?);
+    Ok(MemorySource::new(bytes, failing))
+}
+
 fn words(alloc: Global) -> Result<Vec<String>, AllocError> {
     let mut all = Vec::new(alloc);
     for word in PLAN {
@@ -152,14 +160,20 @@ fn answer(
     alloc: Global,
     journal: &[u8],
     library: &mut MemoryLibrary,
-    document: &str,
+    source: &mut MemorySource,
 ) -> Result<(String, bool), Fail> {
     let mut disk = holding(alloc, journal)?;
-    let bytes = Bytes::from_slice(alloc, document.as_bytes())?;
-    let mut source = MemorySource::new(bytes, List::empty(alloc));
     let mut sink = MemorySink::new(alloc, List::empty(alloc));
     let words = words(alloc)?;
-    let status = nucleus(alloc, &words, &mut disk, library, &mut source, &mut sink);
+    let mut runner = ScriptedRunner::new(
+        alloc,
+        List::empty(alloc),
+        List::empty(alloc),
+        List::empty(alloc),
+    );
+    let status = nucleus(
+        alloc, &words, &mut disk, library, source, &mut sink, &mut runner,
+    );
     let mut text = format!(in alloc; "{}|", status.number())?;
     for byte in sink.bytes() {
         text.push(if *byte == b'\n' {
@@ -176,11 +190,11 @@ fn answers(
     alloc: Global,
     history: &str,
     library: &mut MemoryLibrary,
-    document: &str,
+    source: &mut MemorySource,
     want: &str,
 ) -> Result<bool, Fail> {
     let journal = journal_of(alloc, history)?;
-    let (text, is_kept) = answer(alloc, &journal, library, document)?;
+    let (text, is_kept) = answer(alloc, &journal, library, source)?;
     Ok(is_kept && text.as_str() == want)
 }
 
@@ -188,9 +202,9 @@ fn is_row(alloc: Global, row: &str) -> Result<bool, Fail> {
     let mut fields = row.splitn(4, '|');
     let history = fields.next().unwrap_or("");
     let mut library = library_of(alloc, fields.next().unwrap_or(""), &[])?;
-    let document = fields.next().unwrap_or("");
+    let mut source = source_of(alloc, fields.next().unwrap_or(""), &[])?;
     let want = fields.next().unwrap_or("?");
-    answers(alloc, history, &mut library, document, want)
+    answers(alloc, history, &mut library, &mut source, want)
 }
 
 /// The first line of which something else comes, or none.
@@ -216,14 +230,34 @@ fn a_failing_library_is_status_7(rt: HostRuntime) -> Result<(), Fail> {
     let alloc = rt.alloc();
     for failing in 0..2u64 {
         let mut library = library_of(alloc, "A 1.0.0", &[failing])?;
+        let mut source = source_of(alloc, DOCUMENT, &[])?;
         assert!(rt;
             answers(
                 alloc,
                 "genesis",
                 &mut library,
-                DOCUMENT,
+                &mut source,
                 "7|refused 7 library;"
             )?,
+            "call {failing}"
+        );
+    }
+    Ok(())
+}
+
+#[test]
+fn a_failing_source_is_status_6(rt: HostRuntime) -> Result<(), Fail> {
+    let alloc = rt.alloc();
+    // The document is read, then its end, and no more.
+    for (failing, want) in [
+        (0, "6|fault 6 source;"),
+        (1, "6|fault 6 source;"),
+        (2, "0|"),
+    ] {
+        let mut library = library_of(alloc, "A 1.0.0", &[])?;
+        let mut source = source_of(alloc, DOCUMENT, &[failing])?;
+        assert!(rt;
+            answers(alloc, "genesis", &mut library, &mut source, want)?,
             "call {failing}"
         );
     }

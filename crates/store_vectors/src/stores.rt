@@ -7,6 +7,7 @@ use nuc_base::{Bytes, List, Status};
 use nucleus_top::nucleus;
 use std::alloc::{AllocError, Global};
 use std::test::Fail;
+use step_runner::ScriptedRunner;
 
 const INIT: [&str; 12] = [
     "nucleus",
@@ -75,7 +76,15 @@ fn run<D: Disk>(alloc: Global, words: &[&str], disk: &mut D, failing: &[u64]) ->
     let mut sink = MemorySink::new(alloc, failing);
     let recipes = List::empty(alloc);
     let mut library = MemoryLibrary::new(recipes, List::empty(alloc), List::empty(alloc));
-    let status = nucleus(alloc, &words, disk, &mut library, &mut source, &mut sink);
+    let mut runner = ScriptedRunner::new(
+        alloc,
+        List::empty(alloc),
+        List::empty(alloc),
+        List::empty(alloc),
+    );
+    let status = nucleus(
+        alloc, &words, disk, &mut library, &mut source, &mut sink, &mut runner,
+    );
     Ok(Ran {
         status,
         printed: sink.bytes().to_vec(alloc)?,
@@ -289,6 +298,22 @@ fn a_failing_disk_is_status_5(rt: HostRuntime) -> Result<(), Fail> {
     Ok(())
 }
 
+/// Words that ask nothing: an unknown command, and none for a folder.
+const NOTHING: [&[&str]; 2] = [
+    &["nucleus", "--root", "/gg", "deploys"],
+    &["nucleus", "deploy"],
+];
+
+#[test]
+fn other_words_are_usage(rt: HostRuntime) -> Result<(), Fail> {
+    let alloc = rt.alloc();
+    let mut disk = holding(alloc, &NEW, 0x01)?;
+    for words in NOTHING {
+        assert!(rt; leaves(alloc, words, &mut disk, (Status::Usage, USAGE), &NEW)?);
+    }
+    Ok(())
+}
+
 /// The words of `status` in another order and spelling.
 const SHOW_TURNED: [&str; 4] = ["nucleus", "status", "--json", "--root=/gg"];
 
@@ -323,6 +348,8 @@ fn lines_that_cannot_be_written_are_status_6(rt: HostRuntime) -> Result<(), Fail
     for (failing, front) in [(0, ""), (1, "initialised "), (2, "initialised t1")] {
         assert!(rt; is_cut_off(alloc, &INIT, &mut MemoryDisk::new(alloc), failing, front)?);
     }
+    let beyond = run(alloc, &INIT, &mut MemoryDisk::new(alloc), &[3])?;
+    assert!(rt; beyond.status == Status::Done && beyond.printed.as_slice() == MADE.as_bytes());
     for (failing, front) in [
         (0, ""),
         (1, "refused 16 Initialised "),

@@ -21,6 +21,9 @@ opens image (Err load.NoMemory) loads = tt
 pub returns-clause-told : goal.returns-clause-told
 returns-clause-told g c = λ tells. opens (g.D.Disk.seen c.args.disk.now) c.load.result (c.load.ensures.told tells)
 
+pub returns-clause-held : goal.returns-clause-held
+returns-clause-held g c = c.load.ensures.held
+
 pub returns-clause-ready : goal.returns-clause-ready
 returns-clause-ready g c = c.load.ensures.ready
 

@@ -1,8 +1,251 @@
-use Rattle.nucleus_top.proofs.Ends.{parts, durable}
+use Rattle.std.proofs.Common.{◌≡◌, List, ℕ, map, string_bytes, inl, inr, refl, arith}
+use Rattle.std.proofs.KnownBytes.{Appends-nil}
+use Rattle.command_words.specs.declared.order.Order.TheVariants as orders
+use Rattle.nucleus_top.specs.Asked.{AsksFor}
+use Rattle.nucleus_top.specs.declared.asking.Asked.TheVariants as asked
+use Rattle.nucleus_top.specs.Answers.{Input, Printed, Shelf, Store, input_of, printed_of, shelf_of, store_of}
+use Rattle.nucleus_top.proofs.Driven.{no_quiet, says_none, start_spared, stays, unread_drives, unread_parts}
+use Rattle.nucleus_top.proofs.Images.{by_none}
+use Rattle.disk_model.specs.Moments.{at_start}
 use Rattle.nucleus_top.proofs.top.nucleus.Goals as goal
 
-pub returns-clause-parts : goal.returns-clause-parts
-returns-clause-parts g c = parts _ _ _ _ _ _ c.words_ask_one_thing.ensures c.answer-answer.result c.answer-answer.ensures.comes c.answer-answer.ensures.quiet c.answer-answer.ensures.still c.tell.ensures.told
+-- ---- want of memory
 
-pub returns-clause-durable : goal.returns-clause-durable
-returns-clause-durable g c = λ order asks is. durable order (g.D.Disk.may_leave c.answer-answer.new.disk) (g.D.Disk.seen c.answer-answer.new.disk) _ _ c.answer-answer.result c.tell.ensures.told (c.answer-answer.ensures.keeps order asks) is
+pub returns-in-NoMemory-clause-parts : goal.returns-in-NoMemory-clause-parts
+returns-in-NoMemory-clause-parts g c = λ other.
+    let words : List (List ℕ) = map string_bytes c.args.words.now.items in
+    let store : Store = store_of g.D.Disk.tells g.D.Disk.seen g.D.Disk.faults c.args.disk.now c.args.disk.now in
+    let input : Input = input_of g.S.Source.left g.S.Source.faults c.args.source.now c.args.source.now in
+    let library : Shelf = shelf_of g.L.Library.content g.L.Library.faults c.args.library.now c.args.library.now in
+    let printed : Printed = printed_of g.K.Sink.held g.K.Sink.faults c.args.sink.now c.args.sink.now in
+    unread_parts words store input library printed refl refl refl refl refl c.words_ask_one_thing.ensures (Appends-nil (g.K.Sink.held c.args.sink.now))
+
+pub returns-in-NoMemory-clause-moments : goal.returns-in-NoMemory-clause-moments
+returns-in-NoMemory-clause-moments g c = λ other. by_none g.met.D.Disk.laws (map string_bytes c.args.words.now.items) c.args.disk.now c.args.disk.now (at_start g.met.D.Disk.laws c.args.disk.now)
+
+pub returns-in-NoMemory-clause-durable : goal.returns-in-NoMemory-clause-durable
+returns-in-NoMemory-clause-durable g c = λ order asks is. cc
+
+pub returns-in-NoMemory-clause-others : goal.returns-in-NoMemory-clause-others
+returns-in-NoMemory-clause-others g c = λ order asks told name outside. refl
+
+pub returns-in-NoMemory-clause-ran : goal.returns-in-NoMemory-clause-ran
+returns-in-NoMemory-clause-ran g c = λ drives. inl (record { spared = start_spared g.met.D.Disk.laws c.args.disk.now; says = says_none (g.K.Sink.held c.args.sink.now) _ }, refl {a = c.args.runner.now})
+
+pub returns-in-NoMemory-clause-driven : goal.returns-in-NoMemory-clause-driven
+returns-in-NoMemory-clause-driven g c = λ drives.
+    let words : List (List ℕ) = map string_bytes c.args.words.now.items in
+    let store : Store = store_of g.D.Disk.tells g.D.Disk.seen g.D.Disk.faults c.args.disk.now c.args.disk.now in
+    let input : Input = input_of g.S.Source.left g.S.Source.faults c.args.source.now c.args.source.now in
+    let library : Shelf = shelf_of g.L.Library.content g.L.Library.faults c.args.library.now c.args.library.now in
+    let printed : Printed = printed_of g.K.Sink.held g.K.Sink.faults c.args.sink.now c.args.sink.now in
+    unread_drives words store input library printed refl refl refl refl refl
+
+-- ---- deploy
+
+pub returns-in-Deploy-clause-parts : goal.returns-in-Deploy-clause-parts
+returns-in-Deploy-clause-parts g c = λ other.
+    let words : List (List ℕ) = map string_bytes c.args.words.now.items in
+    let asks : AsksFor words asked.Deploy = c.in-Deploy.ensures in
+    absurd (other (asks.0, inl asks.1))
+
+pub returns-in-Deploy-clause-unread : goal.returns-in-Deploy-clause-unread
+returns-in-Deploy-clause-unread g c = λ other.
+    let words : List (List ℕ) = map string_bytes c.args.words.now.items in
+    let asks : AsksFor words asked.Deploy = c.in-Deploy.ensures in
+    absurd (other (asks.0, inl asks.1))
+
+pub returns-in-Deploy-clause-unasked : goal.returns-in-Deploy-clause-unasked
+returns-in-Deploy-clause-unasked g c = λ other.
+    let words : List (List ℕ) = map string_bytes c.args.words.now.items in
+    let asks : AsksFor words asked.Deploy = c.in-Deploy.ensures in
+    absurd (other (asks.0, inl asks.1))
+
+pub returns-in-Deploy-clause-moments : goal.returns-in-Deploy-clause-moments
+returns-in-Deploy-clause-moments g c = λ other.
+    let words : List (List ℕ) = map string_bytes c.args.words.now.items in
+    let asks : AsksFor words asked.Deploy = c.in-Deploy.ensures in
+    absurd (other (asks.0, inl asks.1))
+
+pub returns-in-Deploy-clause-still : goal.returns-in-Deploy-clause-still
+returns-in-Deploy-clause-still g c = λ other.
+    let words : List (List ℕ) = map string_bytes c.args.words.now.items in
+    let asks : AsksFor words asked.Deploy = c.in-Deploy.ensures in
+    absurd (other (asks.0, inl asks.1))
+
+pub returns-in-Deploy-clause-durable : goal.returns-in-Deploy-clause-durable
+returns-in-Deploy-clause-durable g c = λ order quiet is.
+    let words : List (List ℕ) = map string_bytes c.args.words.now.items in
+    let asks : AsksFor words asked.Deploy = c.in-Deploy.ensures in
+    absurd (no_quiet c.words_ask_one_thing.ensures words asks.0 order orders.Deploy (λ built. built) asks.1 quiet)
+
+pub returns-in-Deploy-clause-others : goal.returns-in-Deploy-clause-others
+returns-in-Deploy-clause-others g c = λ order quiet told name outside.
+    let words : List (List ℕ) = map string_bytes c.args.words.now.items in
+    let asks : AsksFor words asked.Deploy = c.in-Deploy.ensures in
+    absurd (no_quiet c.words_ask_one_thing.ensures words asks.0 order orders.Deploy (λ built. built) asks.1 quiet)
+
+pub returns-in-Deploy-clause-ran : goal.returns-in-Deploy-clause-ran
+returns-in-Deploy-clause-ran g c = λ drives. c.deploy.ensures.ran
+
+pub returns-in-Deploy-clause-driven : goal.returns-in-Deploy-clause-driven
+returns-in-Deploy-clause-driven g c = λ drives. record {
+  disk = c.deploy.ensures.disk;
+  disk_stays = c.deploy.ensures.quiet_disk;
+  edge = c.deploy.ensures.edge;
+  edges_stay = λ other. (c.deploy.ensures.quiet_source other, c.deploy.ensures.quiet_sink other);
+  library_failed = c.deploy.ensures.library;
+  library_stays = c.deploy.ensures.library_quiet;
+  others = c.deploy.ensures.others;
+}
+
+pub returns-in-Deploy-clause-library_kept : goal.returns-in-Deploy-clause-library_kept
+returns-in-Deploy-clause-library_kept g c = c.deploy.ensures.kept
+
+pub returns-in-Deploy-clause-library_later : goal.returns-in-Deploy-clause-library_later
+returns-in-Deploy-clause-library_later g c = c.deploy.ensures.library_later
+
+pub returns-in-Deploy-clause-source_later : goal.returns-in-Deploy-clause-source_later
+returns-in-Deploy-clause-source_later g c = c.deploy.ensures.source_later
+
+pub returns-in-Deploy-clause-none : goal.returns-in-Deploy-clause-none
+returns-in-Deploy-clause-none g c = c.deploy.ensures.none
+
+pub returns-in-Deploy-clause-disk_later : goal.returns-in-Deploy-clause-disk_later
+returns-in-Deploy-clause-disk_later g c = c.deploy.ensures.later.0
+
+pub returns-in-Deploy-clause-sink_later : goal.returns-in-Deploy-clause-sink_later
+returns-in-Deploy-clause-sink_later g c = c.deploy.ensures.later.1
+
+-- ---- resume
+
+pub returns-in-Resume-clause-parts : goal.returns-in-Resume-clause-parts
+returns-in-Resume-clause-parts g c = λ other.
+    let words : List (List ℕ) = map string_bytes c.args.words.now.items in
+    let asks : AsksFor words asked.Resume = c.in-Resume.ensures in
+    absurd (other (asks.0, inr asks.1))
+
+pub returns-in-Resume-clause-unread : goal.returns-in-Resume-clause-unread
+returns-in-Resume-clause-unread g c = λ other.
+    let words : List (List ℕ) = map string_bytes c.args.words.now.items in
+    let asks : AsksFor words asked.Resume = c.in-Resume.ensures in
+    absurd (other (asks.0, inr asks.1))
+
+pub returns-in-Resume-clause-unasked : goal.returns-in-Resume-clause-unasked
+returns-in-Resume-clause-unasked g c = λ other.
+    let words : List (List ℕ) = map string_bytes c.args.words.now.items in
+    let asks : AsksFor words asked.Resume = c.in-Resume.ensures in
+    absurd (other (asks.0, inr asks.1))
+
+pub returns-in-Resume-clause-moments : goal.returns-in-Resume-clause-moments
+returns-in-Resume-clause-moments g c = λ other.
+    let words : List (List ℕ) = map string_bytes c.args.words.now.items in
+    let asks : AsksFor words asked.Resume = c.in-Resume.ensures in
+    absurd (other (asks.0, inr asks.1))
+
+pub returns-in-Resume-clause-still : goal.returns-in-Resume-clause-still
+returns-in-Resume-clause-still g c = λ other.
+    let words : List (List ℕ) = map string_bytes c.args.words.now.items in
+    let asks : AsksFor words asked.Resume = c.in-Resume.ensures in
+    absurd (other (asks.0, inr asks.1))
+
+pub returns-in-Resume-clause-durable : goal.returns-in-Resume-clause-durable
+returns-in-Resume-clause-durable g c = λ order quiet is.
+    let words : List (List ℕ) = map string_bytes c.args.words.now.items in
+    let asks : AsksFor words asked.Resume = c.in-Resume.ensures in
+    absurd (no_quiet c.words_ask_one_thing.ensures words asks.0 order orders.Resume (λ built. built) asks.1 quiet)
+
+pub returns-in-Resume-clause-others : goal.returns-in-Resume-clause-others
+returns-in-Resume-clause-others g c = λ order quiet told name outside.
+    let words : List (List ℕ) = map string_bytes c.args.words.now.items in
+    let asks : AsksFor words asked.Resume = c.in-Resume.ensures in
+    absurd (no_quiet c.words_ask_one_thing.ensures words asks.0 order orders.Resume (λ built. built) asks.1 quiet)
+
+pub returns-in-Resume-clause-ran : goal.returns-in-Resume-clause-ran
+returns-in-Resume-clause-ran g c = λ drives. c.resume.ensures.ran
+
+pub returns-in-Resume-clause-driven : goal.returns-in-Resume-clause-driven
+returns-in-Resume-clause-driven g c = λ drives. record {
+  disk = c.resume.ensures.disk;
+  disk_stays = c.resume.ensures.quiet_disk;
+  edge = λ is. inr (c.resume.ensures.edge is);
+  edges_stay = λ other. (refl, c.resume.ensures.quiet_sink other);
+  library_failed = λ is. absurd (c.resume.ensures.own is);
+  library_stays = λ other more. refl;
+  others = c.resume.ensures.others;
+}
+
+pub returns-in-Resume-clause-none : goal.returns-in-Resume-clause-none
+returns-in-Resume-clause-none g c = c.resume.ensures.none
+
+pub returns-in-Resume-clause-disk_later : goal.returns-in-Resume-clause-disk_later
+returns-in-Resume-clause-disk_later g c = c.resume.ensures.later.0
+
+pub returns-in-Resume-clause-sink_later : goal.returns-in-Resume-clause-sink_later
+returns-in-Resume-clause-sink_later g c = c.resume.ensures.later.1
+
+-- ---- another command
+
+pub returns-in-Other-clause-parts : goal.returns-in-Other-clause-parts
+returns-in-Other-clause-parts g c = λ other. c.look.ensures.parts
+
+pub returns-in-Other-clause-unread : goal.returns-in-Other-clause-unread
+returns-in-Other-clause-unread g c = λ other. c.look.ensures.unread
+
+pub returns-in-Other-clause-unasked : goal.returns-in-Other-clause-unasked
+returns-in-Other-clause-unasked g c = λ other. c.look.ensures.unasked
+
+pub returns-in-Other-clause-moments : goal.returns-in-Other-clause-moments
+returns-in-Other-clause-moments g c = λ other. c.look.ensures.moments
+
+pub returns-in-Other-clause-durable : goal.returns-in-Other-clause-durable
+returns-in-Other-clause-durable g c = c.look.ensures.durable
+
+pub returns-in-Other-clause-others : goal.returns-in-Other-clause-others
+returns-in-Other-clause-others g c = c.look.ensures.others
+
+pub returns-in-Other-clause-ran : goal.returns-in-Other-clause-ran
+returns-in-Other-clause-ran g c = λ drives.
+    let asks : AsksFor (map string_bytes c.args.words.now.items) asked.Other = c.in-Other.ensures in
+    absurd (asks drives)
+
+pub returns-in-Other-clause-driven : goal.returns-in-Other-clause-driven
+returns-in-Other-clause-driven g c = λ drives.
+    let asks : AsksFor (map string_bytes c.args.words.now.items) asked.Other = c.in-Other.ensures in
+    absurd (asks drives)
+
+pub returns-in-Other-clause-disk_later : goal.returns-in-Other-clause-disk_later
+returns-in-Other-clause-disk_later g c = stays (g.D.Disk.faults c.args.disk.now) (g.D.Disk.faults c.look.new.disk) c.look.ensures.disk_later
+
+pub returns-in-Other-clause-sink_later : goal.returns-in-Other-clause-sink_later
+returns-in-Other-clause-sink_later g c = stays (g.K.Sink.faults c.args.sink.now) (g.K.Sink.faults c.look.new.sink) c.look.ensures.sink_later
+
+pub returns-in-Deploy-clause-disk_grows : goal.returns-in-Deploy-clause-disk_grows
+returns-in-Deploy-clause-disk_grows g c = λ other.
+    let words : List (List ℕ) = map string_bytes c.args.words.now.items in
+    let asks : AsksFor words asked.Deploy = c.in-Deploy.ensures in
+    absurd (other (asks.0, inl asks.1))
+
+pub returns-in-Deploy-clause-sink_grows : goal.returns-in-Deploy-clause-sink_grows
+returns-in-Deploy-clause-sink_grows g c = λ other.
+    let words : List (List ℕ) = map string_bytes c.args.words.now.items in
+    let asks : AsksFor words asked.Deploy = c.in-Deploy.ensures in
+    absurd (other (asks.0, inl asks.1))
+
+pub returns-in-Resume-clause-disk_grows : goal.returns-in-Resume-clause-disk_grows
+returns-in-Resume-clause-disk_grows g c = λ other.
+    let words : List (List ℕ) = map string_bytes c.args.words.now.items in
+    let asks : AsksFor words asked.Resume = c.in-Resume.ensures in
+    absurd (other (asks.0, inr asks.1))
+
+pub returns-in-Resume-clause-sink_grows : goal.returns-in-Resume-clause-sink_grows
+returns-in-Resume-clause-sink_grows g c = λ other.
+    let words : List (List ℕ) = map string_bytes c.args.words.now.items in
+    let asks : AsksFor words asked.Resume = c.in-Resume.ensures in
+    absurd (other (asks.0, inr asks.1))
+
+pub returns-in-NoMemory-clause-disk_later : goal.returns-in-NoMemory-clause-disk_later
+returns-in-NoMemory-clause-disk_later g c = stays (g.D.Disk.faults c.args.disk.now) (g.D.Disk.faults c.args.disk.now) (omega arith)
+
+pub returns-in-NoMemory-clause-sink_later : goal.returns-in-NoMemory-clause-sink_later
+returns-in-NoMemory-clause-sink_later g c = stays (g.K.Sink.faults c.args.sink.now) (g.K.Sink.faults c.args.sink.now) (omega arith)

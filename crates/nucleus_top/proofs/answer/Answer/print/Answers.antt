@@ -1,11 +1,8 @@
-use Rattle.nucleus_top.proofs.Forms.{stored_joined, made_joined, pending_joined, damaged_joined, initialised_joined}
+use Rattle.nucleus_top.proofs.Forms.{made_joined, pending_joined, damaged_joined, initialised_joined}
 use Rattle.nucleus_top.proofs.answer.Answer.print.Goals as goal
 
 pub returns-in-WrongWords-clause-lines : goal.returns-in-WrongWords-clause-lines
 returns-in-WrongWords-clause-lines g c = rw c.in-WrongWords.is c.write_pieces-in-WrongWords.ensures.bytes
-
-pub returns-in-Refused-clause-lines : goal.returns-in-Refused-clause-lines
-returns-in-Refused-clause-lines g c = rw c.in-Refused.is c.write_pieces-in-Refused.ensures.bytes
 
 pub returns-in-DiskFailed-clause-lines : goal.returns-in-DiskFailed-clause-lines
 returns-in-DiskFailed-clause-lines g c = rw c.in-DiskFailed.is c.write_pieces-in-DiskFailed.ensures.bytes
@@ -19,11 +16,8 @@ returns-in-LibraryFailed-clause-lines g c = rw c.in-LibraryFailed.is c.write_pie
 pub returns-in-NotInitialised-clause-lines : goal.returns-in-NotInitialised-clause-lines
 returns-in-NotInitialised-clause-lines g c = rw c.in-NotInitialised.is c.write_pieces-in-NotInitialised.ensures.bytes
 
-pub returns-in-Stored-clause-lines : goal.returns-in-Stored-clause-lines
-returns-in-Stored-clause-lines g c = rw (c.in-Stored.is, ← stored_joined c.in-Stored.deployment.id, ← c.as_str-id.ensures.value) c.write_pieces.ensures.bytes
-
 pub returns-in-Made-clause-lines : goal.returns-in-Made-clause-lines
-returns-in-Made-clause-lines g c = rw (c.in-Made.is, ← made_joined c.in-Made.thing, ← c.as_str.ensures.value) c.write_pieces-in-Made.ensures.bytes
+returns-in-Made-clause-lines g c = rw (c.in-Made.is, ← made_joined c.in-Made.thing, ← c.as_str.ensures.value) c.write_pieces.ensures.bytes
 
 pub returns-in-Pending-clause-lines : goal.returns-in-Pending-clause-lines
 returns-in-Pending-clause-lines g c = rw (c.in-Pending.is, ← pending_joined c.in-Pending.id, ← c.as_str-in-Pending.ensures.value) c.write_pieces-in-Pending.ensures.bytes

@@ -1,0 +1,8 @@
+mod Statuses
+mod Results
+mod Places
+mod Faults
+mod Printing
+mod Ending
+mod Taken
+mod Resuming

@@ -1,0 +1,200 @@
+-- Where a call is that drives one deployment: from its start, and behind its close.
+use Rattle.std.specs.Prelude.{ℕ, ◌+◌, zero, Bool, true, false, not, ◌||◌, List, [], ◌∷◌, Option, Some, None, Contains, if◌then◌else◌}
+use Rattle.std.specs.List.{list_any}
+use Rattle.std.specs.Option.{IsSome, IsSomeAnd}
+use Rattle.std.proofs.Common.{◌≡◌, ◌↔◌, ◌⊎◌, ◌∙◌, inl, inr, refl, sym, ap, subst, arith}
+use Rattle.std.proofs.lemmas.Bool.{false≢true}
+use Rattle.nuc_base.specs.declared.kinds.Outcome.{Outcome}
+use Rattle.nuc_base.specs.declared.kinds.Step.{Step}
+use Rattle.records.specs.Stored.{Record}
+use Rattle.device.specs.Devices.{Device}
+use Rattle.step_runner.specs.Entries.{Told}
+use Rattle.step_runner.specs.declared.entries.Seen.{Seen}
+use Rattle.step_runner.specs.declared.entries.Seen.TheVariants as seen
+use Rattle.supervisor.specs.World.{World, Child, Part, is_childless, is_over, is_stopped, owner, owner_from}
+use Rattle.supervisor.specs.Answers.{living_numbers}
+use Rattle.supervisor.specs.declared.kinds.Prepared.{Prepared}
+use Rattle.supervisor_laws.specs.Sound.{AreSound, Differ, HaveOwnNames, IsOrderly}
+use Rattle.session.specs.Phases.{Crew, Phase, activating, backing, booting, duty_of, earlier, idle, is_idle, leaving, rolling}
+use Rattle.session.specs.Happenings.{Happening, Ran, Booted, Slept, Cut, Kept, Moved, Asked, Heard, Questioned, Changed, StopsAll}
+use Rattle.session.specs.Places.{Place, booted, cut_off, leaves, left_by}
+use Rattle.session.specs.Follows.{IsBootChild, Lives, MayStopAll}
+use Rattle.session.specs.Courses.{IsBare, Stands}
+use Rattle.driver.specs.Stands.{IsBetween, IsFront}
+use Rattle.driver.proofs.Entries.{never}
+use Rattle.driver.proofs.Still.{childless}
+use Rattle.activation.specs.Ended.{HasClosed}
+use Rattle.stopping.specs.Stops.{MayStop, StopLeft}
+use Rattle.stopping.specs.declared.stops.Stopped.{Stopped}
+use Rattle.stage_changes.specs.Fails.{IsGivenUp}
+use Rattle.stage_changes.proofs.Closing.{no_other}
+use Rattle.acceptance.specs.Accepts.{IsOpen, IsOpened, crew_of}
+
+-- ---- whether the call serves an inbox
+
+booted_serves : (s : Seen) (m : Prepared) (p : Place) → (booted s m p).serves ≡ p.serves
+booted_serves (seen.Started n c) m p = refl
+booted_serves (seen.Refused c) m p = refl
+booted_serves (seen.Killed n) m p = refl
+booted_serves (seen.Exists x true) m p = refl
+booted_serves (seen.Exists x false) m p = refl
+booted_serves (seen.OnPath x true) m p = refl
+booted_serves (seen.OnPath x false) m p = refl
+booted_serves (seen.Ended n e l) m p = refl
+booted_serves (seen.Elapsed l) m p = refl
+
+cut_serves : (s : Seen) (p : Place) → (cut_off s p).serves ≡ p.serves
+cut_serves (seen.Started n c) p = refl
+cut_serves (seen.Refused c) p = refl
+cut_serves (seen.Killed n) p = refl
+cut_serves (seen.Exists x b) p = refl
+cut_serves (seen.OnPath x b) p = refl
+cut_serves (seen.Ended n e l) p = refl
+cut_serves (seen.Elapsed l) p = refl
+
+still_serves : (p : Place) (e : Happening) → (leaves p e).serves ≡ p.serves
+still_serves p (Ran e k s) = refl
+still_serves p (Booted e m) = booted_serves e.seen m p
+still_serves p (Slept e) = refl
+still_serves p (Cut e) = cut_serves e.seen p
+still_serves p (Kept r) = refl
+still_serves p (Moved k e) = refl
+still_serves p (Asked m) = refl
+still_serves p (Heard k) = refl
+still_serves p (Questioned a) = refl
+still_serves p (Changed f c b) = refl
+still_serves p StopsAll = refl
+
+-- it is not changed by what happens
+pub serves_on : (p : Place) (h : List Happening) → p.serves ≡ false → (left_by p h).serves ≡ false
+serves_on p [] is = is
+serves_on p (e ∷ h) is = still_serves (left_by p h) e ∙ serves_on p h is
+
+-- ---- no child lives
+
+empty : (xs : List ℕ) → ((n : ℕ) → Contains xs n → ⊥) → xs ≡ []
+empty [] none = refl
+empty (x ∷ xs) none = absurd (none x (zero, omega arith, refl))
+
+either_none : (a b : Bool) → (a || b) ≡ false → (a ≡ false) × (b ≡ false)
+either_none true b h = absurd cc
+either_none false b h = (refl, h)
+
+abbrev has_child : List Child → Bool
+has_child cs = elim cs [ [] ↦ false | ◌∷◌ c ds ↦ true ]
+
+without_child : (cs : List Child) → has_child cs ≡ false → cs ≡ []
+without_child [] h = refl
+without_child (c ∷ cs) h = absurd cc
+
+no_owner_in : (k n : ℕ) (ps : List Part) → list_any (λ (p : Part). has_child p.children) ps ≡ false → owner_from k n ps ≡ None
+no_owner_in k n [] h = refl
+no_owner_in k n (p ∷ ps) h =
+    let s = either_none (has_child p.children) (list_any (λ (q : Part). has_child q.children) ps) h in
+    rw (without_child p.children s.0) (no_owner_in (k + 1) n ps s.1)
+
+not_false : (a : Bool) → not a ≡ true → a ≡ false
+not_false true h = absurd cc
+not_false false h = refl
+
+no_part : (o : Option (ℕ × Step)) → o ≡ None → IsSome o → ⊥
+no_part None is h = absurd cc
+no_part (Some x) is h = absurd cc
+
+no_boot : (o : Option Child) (n : ℕ) → o ≡ None → IsSomeAnd o (λ (c : Child). c.number ≡ n) → ⊥
+no_boot o n is h = subst (λ (x : Option Child). IsSomeAnd x (λ (c : Child). c.number ≡ n)) is h
+
+none_lives : (p : Place) (n : ℕ) → IsBare p → Lives n p → ⊥
+none_lives p n bare (inl h) = no_part (owner n p.world.parts) (no_owner_in 0 n p.world.parts (not_false (list_any (λ (q : Part). has_child q.children) p.world.parts) bare.parts)) h
+none_lives p n bare (inr h) = no_boot p.boot n bare.boot h
+
+pub bare_none : (p : Place) (d : Device) (world : World) (told : Told) (living : List ℕ) → Stands p d world told living → IsBare p → living ≡ []
+bare_none p d world told living s bare = empty living (λ n h. none_lives p n bare ((s.children n).0 h))
+
+pub between_bare : (p : Place) (d : Device) (world : World) (told : Told) (living : List ℕ) → IsBetween p d world told living → IsBare p
+between_bare p d world told living b = record { parts = childless p.world b.still.stopped; boot = b.boot }
+
+-- ---- no component stands
+
+stopped_none : (w : World) → w.parts ≡ [] → is_stopped w ≡ true
+stopped_none w none = ap (λ (ps : List Part). not (list_any (λ p. not (is_over p)) ps)) none
+
+pub orderly_none : (w : World) → w.parts ≡ [] → IsOrderly w
+orderly_none w none = record {
+  sound = subst (λ (ps : List Part). AreSound ps) (sym none) (λ k p there. absurd cc);
+  differ = subst (λ (ps : List Part). Differ (living_numbers ps)) (sym none) tt;
+  names = subst (λ (ps : List Part). HaveOwnNames ps) (sym none) (λ j k p q at_first at_last same. absurd cc);
+}
+
+-- a moment brings none
+none_there : (p : Place) (d : Device) (world : World) (told : Told) (living : List ℕ) → Stands p d world told living → world.parts ≡ [] → p.world.parts ≡ []
+none_there p d world told living s none = ap (λ (w : World). w.parts) s.world_is ∙ none
+
+pub open_bare : (p : Place) (d : Device) (world : World) (told : Told) (living : List ℕ) → world.parts ≡ [] → IsOpen p d world told living → IsBare p
+open_bare p d world told living none o = record {
+  parts = childless p.world (stopped_none p.world (none_there p d world told living o.stands none));
+  boot = o.boot;
+}
+
+pub open_none : (p : Place) (d : Device) (world : World) (told : Told) (living : List ℕ) → world.parts ≡ [] → IsOpen p d world told living → living ≡ []
+open_none p d world told living none o = bare_none p d world told living o.stands (open_bare p d world told living none o)
+
+leaving_is : (w : World) → is_stopped w ≡ true → crew_of w ≡ leaving
+leaving_is w stopped = ap (λ (b : Bool). if b then leaving else earlier) stopped
+
+-- a deployment that was accepted is at its front
+pub opened_front : (p : Place) (d : Device) (world : World) (told : Told) (living : List ℕ) → world.parts ≡ [] → IsOpened p d world told living → IsFront p d world told living
+opened_front p d world told living none o =
+    let stopped = stopped_none p.world (none_there p d world told living o.stands none) in
+    record {
+      between = record {
+        stands = o.stands;
+        still = record { stopped = stopped; quiet = o.quiet; crew = o.crew ∙ leaving_is p.world stopped; cut = o.cut };
+        boot = o.boot;
+        boot_end = o.boot_end;
+        probed = o.probed;
+      };
+      over = o.over;
+    }
+
+-- ---- behind a close
+
+idle_phase : (f : Phase) → is_idle f ≡ true → f ≡ idle
+idle_phase idle is = refl
+idle_phase booting is = absurd (false≢true is)
+idle_phase activating is = absurd (false≢true is)
+idle_phase backing is = absurd (false≢true is)
+idle_phase rolling is = absurd (false≢true is)
+
+module _ (o : Outcome) (records : List Record) (p : Place) (d : Device) (world : World) (told : Told) (living : List ℕ) (c : HasClosed o records p d world told living) where
+  -- all may be stopped
+  pub closed_stops : p.serves ≡ false → MayStop p d world told living
+  closed_stops serves = record {
+    stands = c.stands;
+    may = subst (λ (f : Phase). MayStopAll (duty_of p.device) f p.crew p) (sym (idle_phase (duty_of p.device).phase c.back.idle_is)) (λ on. absurd (never p.serves serves on));
+    orderly = c.orderly;
+    owed = c.back.told;
+    boot = c.back.boot;
+    boot_end = c.back.boot_end;
+    over = c.back.over;
+    cut = c.back.cut;
+  }
+
+  -- or their children killed
+  pub closed_given_up : IsGivenUp p world told living
+  closed_given_up = record {
+    moment = sym (ap (λ (w : World). w.moment) c.stands.world_is);
+    asked = c.stands.asked;
+    boot = c.back.boot;
+    boot_end = c.back.boot_end;
+    over = c.back.over;
+    cut = c.back.cut;
+    differ = c.orderly.differ;
+    owners = λ n. sym (ap (λ (w : World). owner n w.parts) c.stands.world_is);
+    children = λ n. no_other p n living c.back.boot (c.stands.children n);
+  }
+
+-- ---- behind the stop of all
+
+pub stop_left : (k t : Stopped) (n : ℕ) (q : Place) (d : Device) (world : World) (told : Told) (living : List ℕ) → k ≡ t → StopLeft k n q d world told living → StopLeft t n q d world told living
+stop_left k t n q d world told living is left = subst (λ (x : Stopped). StopLeft x n q d world told living) is left

@@ -1,0 +1,61 @@
+-- What became of a plan, at the value that is answered.
+use Rattle.std.specs.Prelude.{ℕ, Bool, List, Ok, Err}
+use Rattle.std.proofs.Common.{◌≡◌, refl, sym, subst}
+use Rattle.disk_model.specs.Disk.{Image}
+use Rattle.records.specs.Stored.{Plan, Accepted}
+use Rattle.device.specs.Devices.{Device}
+use Rattle.device.specs.Lawful.{applied}
+use Rattle.deploy_state.specs.States.{InBooting, InIdle, booting_device, idle_device}
+use Rattle.deploy_state.specs.declared.state.Booting.{Booting}
+use Rattle.deploy_state.specs.declared.state.Idle.{Idle}
+use Rattle.step_runner.specs.Entries.{Told}
+use Rattle.supervisor.specs.World.{World}
+use Rattle.supervisor.specs.Fitted.{Fitted}
+use Rattle.supervisor.specs.declared.kinds.Prepared.{Prepared}
+use Rattle.session.specs.Places.{Place}
+use Rattle.acceptance.specs.Accepts.{HasTaken, InTaken, IsFullAt, IsOpened, IsTakenOf, Opened}
+use Rattle.acceptance.specs.declared.accepting.Taken.{Taken}
+use Rattle.acceptance.specs.declared.accepting.Taken.TheVariants as taken
+use Rattle.preparation.specs.Readied.{AreReadiedFor}
+use Rattle.preparation.proofs.Serving.{accepted_ready}
+use Rattle.deployments.specs.Calls.{IsReadiedOn}
+
+module _ {J : Type 0} (x : Taken J) where
+  -- ---- it is accepted
+
+  module _ (s : Booting J) (is : x ≡ taken.Accepted s) where
+    pub has_taken : HasTaken {J = J} (Ok x)
+    has_taken = subst (λ (y : Taken J). HasTaken {J = J} (Ok y)) (sym is) tt
+
+    pub opened_at : (q : Place) (world : World) (told : Told) (living : List ℕ) → Opened x q world told living → IsOpened q (booting_device s) world told living
+    opened_at q world told living opened = subst (λ (y : Taken J). Opened y q world told living) is opened
+
+    pub booting_of : (d : Device) (plan : Plan) → IsTakenOf d plan x → booting_device s ≡ applied d (Accepted plan)
+    booting_of d plan of = subst (λ (y : Taken J). IsTakenOf d plan y) is of
+
+    -- what was made ready for it serves it
+    pub taken_ready : (boots backs : List Prepared) (items earlier : List Fitted) (d : Device) (plan : Plan) → IsTakenOf d plan x → IsReadiedOn d plan boots backs items earlier → AreReadiedFor (booting_device s) boots backs items earlier
+    taken_ready boots backs items earlier d plan of ready =
+        subst (λ (e : Device). AreReadiedFor e boots backs items earlier) (sym (booting_of d plan of)) (accepted_ready boots backs items earlier d ready.0 plan ready.1 ready.2)
+
+    pub booting_held : {D : Type 0} (tells : Bool) (may_leave : D → Image → Type 0) (stands : J → Image → List (List ℕ) → Type 0) (end : J → ℕ) (disk : D) → InTaken tells may_leave stands end x disk → InBooting tells may_leave stands end s disk
+    booting_held tells may_leave stands end disk held = subst (λ (y : Taken J). InTaken tells may_leave stands end y disk) is held
+
+  -- ---- it is given back
+
+  module _ (s : Idle J) (at : ℕ) (is : x ≡ taken.Full s at) where
+    pub full_back : HasTaken {J = J} (Ok x) → ⊥
+    full_back has = subst (λ (y : Taken J). HasTaken {J = J} (Ok y)) is has
+
+    pub full_at : IsFullAt {J = J} (Ok x) at
+    full_at = subst (λ (y : Taken J). IsFullAt {J = J} (Ok y) at) (sym is) refl
+
+  module _ (s : Idle J) (is : x ≡ taken.NoMemory s) where
+    pub short_back : HasTaken {J = J} (Ok x) → ⊥
+    short_back has = subst (λ (y : Taken J). HasTaken {J = J} (Ok y)) is has
+
+    pub short_device : (d : Device) (plan : Plan) → IsTakenOf d plan x → idle_device s ≡ d
+    short_device d plan of = subst (λ (y : Taken J). IsTakenOf d plan y) is of
+
+    pub short_held : {D : Type 0} (tells : Bool) (may_leave : D → Image → Type 0) (stands : J → Image → List (List ℕ) → Type 0) (end : J → ℕ) (disk : D) → InTaken tells may_leave stands end x disk → InIdle tells may_leave stands end s disk
+    short_held tells may_leave stands end disk held = subst (λ (y : Taken J). InTaken tells may_leave stands end y disk) is held

@@ -1,0 +1,117 @@
+use Rattle.std.proofs.Common.{inl, inr, refl}
+use Rattle.step_runner.specs.Entries.{Listed}
+use Rattle.disk_model.specs.Listing.{artifacts, IsBelow}
+use Rattle.nuc_base.specs.declared.status.Status.TheVariants as statuses
+use Rattle.device.specs.Devices.{device_view}
+use Rattle.artifact_store.specs.Swept.{IsStray, items_of}
+use Rattle.artifact_store.proofs.Walking.{wider_spares}
+use Rattle.deploy_state.specs.States.{idle_device}
+use Rattle.deployments.proofs.Places.{closed_given_up, closed_stops}
+use Rattle.deployments.proofs.Printing.{says_none}
+use Rattle.deployments.proofs.Statuses.{stops_answer, stops_never}
+use Rattle.deployments.proofs.closes.end_closed.Goals as goal
+
+-- ---- stray files are swept
+
+pub stop-requires : goal.stop-requires
+stop-requires g c =
+    let q = c.requires.placed in
+    let d = idle_device c.args.idle.now in
+    let world = g.S.Supervise.world c.args.supervisor.now in
+    let told = Listed g.R.Runner.list g.R.Runner.told g.R.Runner.asked c.args.runner.now in
+    record { placed = (q.0, d, closed_stops c.args.outcome q.1 q.0 d world told (g.R.Runner.living c.args.runner.now) q.2 q.3) }
+
+pub returns-in-Ok-clause-went : goal.returns-in-Ok-clause-went
+returns-in-Ok-clause-went g c = λ p records closed serves.
+    let d = idle_device c.args.idle.now in
+    let world = g.S.Supervise.world c.args.supervisor.now in
+    let told = Listed g.R.Runner.list g.R.Runner.told g.R.Runner.asked c.args.runner.now in
+    let t = c.stop.ensures.went p d (closed_stops c.args.outcome records p d world told (g.R.Runner.living c.args.runner.now) closed serves) in
+    (t.0, t.1, t.2)
+
+pub returns-in-Ok-clause-spared : goal.returns-in-Ok-clause-spared
+returns-in-Ok-clause-spared g c = wider_spares g.met.D.Disk.laws (IsStray (items_of (device_view c.device.result.now))) (IsBelow artifacts) c.args.disk.now c.sweep.new.disk (λ name stray. stray.0) c.sweep.ensures.moments
+
+pub returns-in-Ok-clause-others : goal.returns-in-Ok-clause-others
+returns-in-Ok-clause-others g c = λ told name spared. c.sweep.ensures.others told name (λ stray. spared stray.0)
+
+pub returns-in-Ok-clause-says : goal.returns-in-Ok-clause-says
+returns-in-Ok-clause-says g c = says_none (g.K.Sink.held c.args.sink.now) (g.K.Sink.held c.args.sink.now) c.stop.result refl
+
+pub returns-in-Ok-clause-answers : goal.returns-in-Ok-clause-answers
+returns-in-Ok-clause-answers g c =
+    let q = c.requires.placed in
+    let d = idle_device c.args.idle.now in
+    let world = g.S.Supervise.world c.args.supervisor.now in
+    let told = Listed g.R.Runner.list g.R.Runner.told g.R.Runner.asked c.args.runner.now in
+    let t = c.stop.ensures.went q.0 d (closed_stops c.args.outcome q.1 q.0 d world told (g.R.Runner.living c.args.runner.now) q.2 q.3) in
+    stops_answer c.args.outcome c.stop.result t.3
+
+pub returns-in-Ok-clause-disk : goal.returns-in-Ok-clause-disk
+returns-in-Ok-clause-disk g c = λ is.
+    let q = c.requires.placed in
+    let d = idle_device c.args.idle.now in
+    let world = g.S.Supervise.world c.args.supervisor.now in
+    let told = Listed g.R.Runner.list g.R.Runner.told g.R.Runner.asked c.args.runner.now in
+    let t = c.stop.ensures.went q.0 d (closed_stops c.args.outcome q.1 q.0 d world told (g.R.Runner.living c.args.runner.now) q.2 q.3) in
+    absurd (stops_never c.args.outcome c.stop.result statuses.Disk refl (λ e. cc) t.3 is)
+
+pub returns-in-Ok-clause-edge : goal.returns-in-Ok-clause-edge
+returns-in-Ok-clause-edge g c = λ is.
+    let q = c.requires.placed in
+    let d = idle_device c.args.idle.now in
+    let world = g.S.Supervise.world c.args.supervisor.now in
+    let told = Listed g.R.Runner.list g.R.Runner.told g.R.Runner.asked c.args.runner.now in
+    let t = c.stop.ensures.went q.0 d (closed_stops c.args.outcome q.1 q.0 d world told (g.R.Runner.living c.args.runner.now) q.2 q.3) in
+    absurd (stops_never c.args.outcome c.stop.result statuses.Edge refl (λ e. cc) t.3 is)
+
+-- ---- the disk failed
+
+pub kill_all-requires : goal.kill_all-requires
+kill_all-requires g c =
+    let q = c.requires.placed in
+    let d = idle_device c.args.idle.now in
+    let world = g.S.Supervise.world c.args.supervisor.now in
+    let told = Listed g.R.Runner.list g.R.Runner.told g.R.Runner.asked c.args.runner.now in
+    record { placed = (q.0, closed_given_up c.args.outcome q.1 q.0 d world told (g.R.Runner.living c.args.runner.now) q.2) }
+
+pub returns-in-Err-Disk-clause-went : goal.returns-in-Err-Disk-clause-went
+returns-in-Err-Disk-clause-went g c = λ p records closed serves.
+    let d = idle_device c.args.idle.now in
+    let world = g.S.Supervise.world c.args.supervisor.now in
+    let told = Listed g.R.Runner.list g.R.Runner.told g.R.Runner.asked c.args.runner.now in
+    let t = c.kill_all.ensures.went p (closed_given_up c.args.outcome records p d world told (g.R.Runner.living c.args.runner.now) closed) in
+    (t.0, t.1, t.3)
+
+pub returns-in-Err-Disk-clause-spared : goal.returns-in-Err-Disk-clause-spared
+returns-in-Err-Disk-clause-spared g c = wider_spares g.met.D.Disk.laws (IsStray (items_of (device_view c.device.result.now))) (IsBelow artifacts) c.args.disk.now c.sweep.new.disk (λ name stray. stray.0) c.sweep.ensures.moments
+
+pub returns-in-Err-Disk-clause-others : goal.returns-in-Err-Disk-clause-others
+returns-in-Err-Disk-clause-others g c = λ told name spared. c.sweep.ensures.others told name (λ stray. spared stray.0)
+
+-- ---- there was no memory
+
+pub kill_all-requires-in-Err-NoMemory : goal.kill_all-requires-in-Err-NoMemory
+kill_all-requires-in-Err-NoMemory g c =
+    let q = c.requires.placed in
+    let d = idle_device c.args.idle.now in
+    let world = g.S.Supervise.world c.args.supervisor.now in
+    let told = Listed g.R.Runner.list g.R.Runner.told g.R.Runner.asked c.args.runner.now in
+    record { placed = (q.0, closed_given_up c.args.outcome q.1 q.0 d world told (g.R.Runner.living c.args.runner.now) q.2) }
+
+pub returns-in-Err-NoMemory-clause-went : goal.returns-in-Err-NoMemory-clause-went
+returns-in-Err-NoMemory-clause-went g c = λ p records closed serves.
+    let d = idle_device c.args.idle.now in
+    let world = g.S.Supervise.world c.args.supervisor.now in
+    let told = Listed g.R.Runner.list g.R.Runner.told g.R.Runner.asked c.args.runner.now in
+    let t = c.kill_all-in-Err-NoMemory.ensures.went p (closed_given_up c.args.outcome records p d world told (g.R.Runner.living c.args.runner.now) closed) in
+    (t.0, t.1, t.3)
+
+pub returns-in-Err-NoMemory-clause-spared : goal.returns-in-Err-NoMemory-clause-spared
+returns-in-Err-NoMemory-clause-spared g c = wider_spares g.met.D.Disk.laws (IsStray (items_of (device_view c.device.result.now))) (IsBelow artifacts) c.args.disk.now c.sweep.new.disk (λ name stray. stray.0) c.sweep.ensures.moments
+
+pub returns-in-Err-NoMemory-clause-others : goal.returns-in-Err-NoMemory-clause-others
+returns-in-Err-NoMemory-clause-others g c = λ told name spared. c.sweep.ensures.others told name (λ stray. spared stray.0)
+
+pub returns-in-Err-NoMemory-clause-says : goal.returns-in-Err-NoMemory-clause-says
+returns-in-Err-NoMemory-clause-says g c = says_none (g.K.Sink.held c.args.sink.now) (g.K.Sink.held c.args.sink.now) statuses.Memory refl

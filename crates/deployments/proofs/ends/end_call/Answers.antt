@@ -1,0 +1,150 @@
+use Rattle.std.proofs.Common.{[], inl, inr, refl, sym, ◌∙◌}
+use Rattle.disk_model.specs.Listing.{artifacts, IsBelow}
+use Rattle.nuc_base.specs.declared.status.Status.TheVariants as statuses
+use Rattle.artifact_store.proofs.Walking.{start_spares}
+use Rattle.deploy_state.specs.States.{loaded_device}
+use Rattle.step_runner.specs.Entries.{Listed}
+use Rattle.session.specs.Happenings.{records_of}
+use Rattle.driver.proofs.Acting.{acts_none}
+use Rattle.driver.specs.declared.over.Over.TheVariants as over
+use Rattle.deploying.specs.declared.driven.Driven.TheVariants as driven
+use Rattle.deployments.proofs.Places.{bare_none, between_bare}
+use Rattle.deployments.proofs.Printing.{says_none}
+use Rattle.deployments.proofs.Results.{answers_err, answers_ok, err_if, err_on, if_ok, not_edge, ok_if, ok_on, on_err}
+use Rattle.deployments.proofs.ends.end_call.Goals as goal
+
+-- ---- it closed
+
+pub end_closed-requires : goal.end_closed-requires
+end_closed-requires g c =
+    let q = if_ok _ c.args.driven c.in-Ok-Closed.field-0 (driven.Closed c.in-Ok-Closed.idle c.in-Ok-Closed.outcome) c.in-Ok-Closed.is c.in-Ok-Closed.field-0-is c.requires.placed in
+    record { placed = (q.0, records_of q.1, q.2, q.3) }
+
+pub returns-in-Ok-Closed-clause-went : goal.returns-in-Ok-Closed-clause-went
+returns-in-Ok-Closed-clause-went g c =
+    ok_if _ c.args.driven c.in-Ok-Closed.field-0 (driven.Closed c.in-Ok-Closed.idle c.in-Ok-Closed.outcome) c.in-Ok-Closed.is c.in-Ok-Closed.field-0-is
+    (λ p h left serves. c.end_closed.ensures.went p (records_of h) left serves)
+
+pub returns-in-Ok-Closed-clause-still : goal.returns-in-Ok-Closed-clause-still
+returns-in-Ok-Closed-clause-still g c = ok_on _ c.args.driven c.in-Ok-Closed.field-0 c.in-Ok-Closed.is
+
+pub returns-in-Ok-Closed-clause-silent : goal.returns-in-Ok-Closed-clause-silent
+returns-in-Ok-Closed-clause-silent g c = λ is. let both = sym c.in-Ok-Closed.is ∙ is in absurd cc
+
+pub returns-in-Ok-Closed-clause-answers : goal.returns-in-Ok-Closed-clause-answers
+returns-in-Ok-Closed-clause-answers g c =
+    answers_ok c.end_closed.result c.args.driven c.in-Ok-Closed.field-0 (driven.Closed c.in-Ok-Closed.idle c.in-Ok-Closed.outcome) c.in-Ok-Closed.is c.in-Ok-Closed.field-0-is c.end_closed.ensures.answers
+
+pub returns-in-Ok-Closed-clause-disk : goal.returns-in-Ok-Closed-clause-disk
+returns-in-Ok-Closed-clause-disk g c = λ is. inr (c.end_closed.ensures.disk is)
+
+pub returns-in-Ok-Closed-clause-edge : goal.returns-in-Ok-Closed-clause-edge
+returns-in-Ok-Closed-clause-edge g c = λ is. inr (c.end_closed.ensures.edge is)
+
+-- ---- it ends for a restart
+
+pub returns-in-Ok-Restart-clause-went : goal.returns-in-Ok-Restart-clause-went
+returns-in-Ok-Restart-clause-went g c =
+    let list = g.R.Runner.list c.args.runner.now in
+    let told = Listed g.R.Runner.list g.R.Runner.told g.R.Runner.asked c.args.runner.now in
+    ok_if _ c.args.driven c.in-Ok-Restart.field-0 (driven.Restart c.in-Ok-Restart.state) c.in-Ok-Restart.is c.in-Ok-Restart.field-0-is
+    (λ p h left serves. ([], acts_none p list list refl, between_bare p (loaded_device c.in-Ok-Restart.state) (g.S.Supervise.world c.args.supervisor.now) told (g.R.Runner.living c.args.runner.now) left.0))
+
+pub returns-in-Ok-Restart-clause-still : goal.returns-in-Ok-Restart-clause-still
+returns-in-Ok-Restart-clause-still g c = ok_on _ c.args.driven c.in-Ok-Restart.field-0 c.in-Ok-Restart.is
+
+pub returns-in-Ok-Restart-clause-none : goal.returns-in-Ok-Restart-clause-none
+returns-in-Ok-Restart-clause-none g c =
+    let q = if_ok _ c.args.driven c.in-Ok-Restart.field-0 (driven.Restart c.in-Ok-Restart.state) c.in-Ok-Restart.is c.in-Ok-Restart.field-0-is c.requires.placed in
+    let d = loaded_device c.in-Ok-Restart.state in
+    let world = g.S.Supervise.world c.args.supervisor.now in
+    let told = Listed g.R.Runner.list g.R.Runner.told g.R.Runner.asked c.args.runner.now in
+    let living = g.R.Runner.living c.args.runner.now in
+    bare_none q.0 d world told living q.2.0.stands (between_bare q.0 d world told living q.2.0)
+
+pub returns-in-Ok-Restart-clause-spared : goal.returns-in-Ok-Restart-clause-spared
+returns-in-Ok-Restart-clause-spared g c = start_spares g.met.D.Disk.laws (IsBelow artifacts) c.args.disk.now
+
+pub returns-in-Ok-Restart-clause-silent : goal.returns-in-Ok-Restart-clause-silent
+returns-in-Ok-Restart-clause-silent g c = λ is. let both = sym c.in-Ok-Restart.is ∙ is in absurd cc
+
+pub returns-in-Ok-Restart-clause-answers : goal.returns-in-Ok-Restart-clause-answers
+returns-in-Ok-Restart-clause-answers g c =
+    answers_ok c.say_again.result c.args.driven c.in-Ok-Restart.field-0 (driven.Restart c.in-Ok-Restart.state) c.in-Ok-Restart.is c.in-Ok-Restart.field-0-is c.say_again.ensures.answers
+
+-- ---- for a reboot
+
+pub returns-in-Ok-Reboot-clause-went : goal.returns-in-Ok-Reboot-clause-went
+returns-in-Ok-Reboot-clause-went g c =
+    let list = g.R.Runner.list c.args.runner.now in
+    let told = Listed g.R.Runner.list g.R.Runner.told g.R.Runner.asked c.args.runner.now in
+    ok_if _ c.args.driven c.in-Ok-Reboot.field-0 (driven.Reboot c.in-Ok-Reboot.state) c.in-Ok-Reboot.is c.in-Ok-Reboot.field-0-is
+    (λ p h left serves. ([], acts_none p list list refl, between_bare p (loaded_device c.in-Ok-Reboot.state) (g.S.Supervise.world c.args.supervisor.now) told (g.R.Runner.living c.args.runner.now) left.0))
+
+pub returns-in-Ok-Reboot-clause-still : goal.returns-in-Ok-Reboot-clause-still
+returns-in-Ok-Reboot-clause-still g c = ok_on _ c.args.driven c.in-Ok-Reboot.field-0 c.in-Ok-Reboot.is
+
+pub returns-in-Ok-Reboot-clause-none : goal.returns-in-Ok-Reboot-clause-none
+returns-in-Ok-Reboot-clause-none g c =
+    let q = if_ok _ c.args.driven c.in-Ok-Reboot.field-0 (driven.Reboot c.in-Ok-Reboot.state) c.in-Ok-Reboot.is c.in-Ok-Reboot.field-0-is c.requires.placed in
+    let d = loaded_device c.in-Ok-Reboot.state in
+    let world = g.S.Supervise.world c.args.supervisor.now in
+    let told = Listed g.R.Runner.list g.R.Runner.told g.R.Runner.asked c.args.runner.now in
+    let living = g.R.Runner.living c.args.runner.now in
+    bare_none q.0 d world told living q.2.0.stands (between_bare q.0 d world told living q.2.0)
+
+pub returns-in-Ok-Reboot-clause-spared : goal.returns-in-Ok-Reboot-clause-spared
+returns-in-Ok-Reboot-clause-spared g c = start_spares g.met.D.Disk.laws (IsBelow artifacts) c.args.disk.now
+
+pub returns-in-Ok-Reboot-clause-silent : goal.returns-in-Ok-Reboot-clause-silent
+returns-in-Ok-Reboot-clause-silent g c = λ is. let both = sym c.in-Ok-Reboot.is ∙ is in absurd cc
+
+pub returns-in-Ok-Reboot-clause-answers : goal.returns-in-Ok-Reboot-clause-answers
+returns-in-Ok-Reboot-clause-answers g c =
+    answers_ok c.say_again-in-Ok-Reboot.result c.args.driven c.in-Ok-Reboot.field-0 (driven.Reboot c.in-Ok-Reboot.state) c.in-Ok-Reboot.is c.in-Ok-Reboot.field-0-is c.say_again-in-Ok-Reboot.ensures.answers
+
+-- ---- a stage did not end
+
+pub returns-in-Ok-More-clause-went : goal.returns-in-Ok-More-clause-went
+returns-in-Ok-More-clause-went g c =
+    let list = g.R.Runner.list c.args.runner.now in
+    ok_if _ c.args.driven c.in-Ok-More.field-0 (driven.More _) c.in-Ok-More.is c.in-Ok-More.field-0-is
+    (λ p h left serves. ([], acts_none p list list refl, left.0))
+
+pub returns-in-Ok-More-clause-still : goal.returns-in-Ok-More-clause-still
+returns-in-Ok-More-clause-still g c = ok_on _ c.args.driven c.in-Ok-More.field-0 c.in-Ok-More.is
+
+pub returns-in-Ok-More-clause-none : goal.returns-in-Ok-More-clause-none
+returns-in-Ok-More-clause-none g c = (if_ok _ c.args.driven c.in-Ok-More.field-0 (driven.More _) c.in-Ok-More.is c.in-Ok-More.field-0-is c.requires.placed).2.1
+
+pub returns-in-Ok-More-clause-spared : goal.returns-in-Ok-More-clause-spared
+returns-in-Ok-More-clause-spared g c = start_spares g.met.D.Disk.laws (IsBelow artifacts) c.args.disk.now
+
+pub returns-in-Ok-More-clause-says : goal.returns-in-Ok-More-clause-says
+returns-in-Ok-More-clause-says g c = says_none (g.K.Sink.held c.args.sink.now) (g.K.Sink.held c.args.sink.now) statuses.Memory refl
+
+pub returns-in-Ok-More-clause-silent : goal.returns-in-Ok-More-clause-silent
+returns-in-Ok-More-clause-silent g c = λ is. refl
+
+pub returns-in-Ok-More-clause-answers : goal.returns-in-Ok-More-clause-answers
+returns-in-Ok-More-clause-answers g c = answers_ok statuses.Memory c.args.driven c.in-Ok-More.field-0 (driven.More _) c.in-Ok-More.is c.in-Ok-More.field-0-is refl
+
+-- ---- it was given up
+
+pub returns-in-Err-Disk-clause-went : goal.returns-in-Err-Disk-clause-went
+returns-in-Err-Disk-clause-went g c = err_if _ c.args.driven c.in-Err-Disk.field-0 c.in-Err-Disk.is
+
+pub returns-in-Err-Disk-clause-still : goal.returns-in-Err-Disk-clause-still
+returns-in-Err-Disk-clause-still g c = err_on _ c.args.driven c.in-Err-Disk.field-0 c.in-Err-Disk.is refl
+
+pub returns-in-Err-Disk-clause-none : goal.returns-in-Err-Disk-clause-none
+returns-in-Err-Disk-clause-none g c = on_err _ c.args.driven c.in-Err-Disk.field-0 c.in-Err-Disk.is c.requires.none
+
+pub returns-in-Err-Disk-clause-spared : goal.returns-in-Err-Disk-clause-spared
+returns-in-Err-Disk-clause-spared g c = start_spares g.met.D.Disk.laws (IsBelow artifacts) c.args.disk.now
+
+pub returns-in-Err-Disk-clause-silent : goal.returns-in-Err-Disk-clause-silent
+returns-in-Err-Disk-clause-silent g c = λ is. absurd (not_edge c.args.driven c.in-Err-Disk.field-0 c.in-Err-Disk.is (rw c.in-Err-Disk.is at c.in-Err-Disk.field-0-is) is)
+
+pub returns-in-Err-Disk-clause-answers : goal.returns-in-Err-Disk-clause-answers
+returns-in-Err-Disk-clause-answers g c = answers_err c.say_disk.result c.args.driven c.in-Err-Disk.field-0 over.Disk c.in-Err-Disk.is (rw c.in-Err-Disk.is at c.in-Err-Disk.field-0-is) c.say_disk.ensures.answers

@@ -1,0 +1,184 @@
+use Rattle.std.proofs.Common.{refl, sym, ap, subst, ◌∙◌, arith}
+use Rattle.disk_model.specs.Listing.{artifacts, IsBelow}
+use Rattle.nuc_base.specs.declared.status.Status.TheVariants as statuses
+use Rattle.device.specs.Devices.{Device, IsRegularDevice, Pending, device_view, pending_view}
+use Rattle.device.specs.Sound.{IsSound}
+use Rattle.device.specs.Standing.{StandsFor}
+use Rattle.artifact_store.proofs.Walking.{start_spares}
+use Rattle.deploy_state.proofs.Steps.{in_hand_stands}
+use Rattle.deploy_state.specs.States.{loaded_device}
+use Rattle.preparation.specs.Readied.{AreReadiedFor}
+use Rattle.step_runner.specs.Entries.{Listed}
+use Rattle.driver.proofs.Between.{no_living}
+use Rattle.driver.proofs.Records.{front_bare}
+use Rattle.driver.specs.declared.over.Over.TheVariants as over
+use Rattle.deployments.proofs.Ending.{called, nothing_called, placed_at}
+use Rattle.deployments.proofs.Faults.{rose_by, rose_on, stays_by, stays_later, stays_on}
+use Rattle.deployments.proofs.Places.{orderly_none}
+use Rattle.deployments.proofs.Printing.{says_none}
+use Rattle.deployments.proofs.Results.{answers_disk, answers_edge, answers_own}
+use Rattle.deployments.proofs.Resuming.{loaded_hand, loaded_pending, loaded_stands, some_mapped}
+use Rattle.deployments.proofs.Statuses.{done_no_edge, memory_no_reboot, memory_no_restart, two_never}
+use Rattle.deployments.proofs.resumes.resume.Goals as goal
+
+-- ---- none is pending
+
+pub returns-in-Idle-clause-call : goal.returns-in-Idle-clause-call
+returns-in-Idle-clause-call g c = λ p front serves.
+    let d = loaded_device c.args.state in
+    let told = Listed g.R.Runner.list g.R.Runner.told g.R.Runner.asked c.args.runner.now in
+    nothing_called g.J.Journal.entries g.J.Journal.files g.met.D.Disk.laws c.args.disk.now c.args.disk.now c.args.disk.now told.list (g.K.Sink.held c.args.sink.now) (g.K.Sink.held c.say.new.sink) p c.say.result
+    (start_spares g.met.D.Disk.laws (IsBelow artifacts) c.args.disk.now)
+    (loaded_stands g.met.D.Disk.laws g.met.J.Journal.laws c.args.state c.args.disk.now c.requires.held p.device front.between.stands.device_is)
+    (start_spares g.met.D.Disk.laws (IsBelow artifacts) c.args.disk.now)
+    (front_bare p d (g.S.Supervise.world c.args.supervisor.now) told (g.R.Runner.living c.args.runner.now) front)
+    c.say.ensures.says
+    (two_never c.say.result statuses.Done statuses.Edge statuses.Restart c.say.ensures.answers (λ e. cc) (λ e. cc))
+    (two_never c.say.result statuses.Done statuses.Edge statuses.Reboot c.say.ensures.answers (λ e. cc) (λ e. cc))
+
+pub returns-in-Idle-clause-own : goal.returns-in-Idle-clause-own
+returns-in-Idle-clause-own g c = two_never c.say.result statuses.Done statuses.Edge statuses.Library c.say.ensures.answers (λ e. cc) (λ e. cc)
+
+pub returns-in-Idle-clause-none : goal.returns-in-Idle-clause-none
+returns-in-Idle-clause-none g c =
+    let q = c.requires.placed in
+    let told = Listed g.R.Runner.list g.R.Runner.told g.R.Runner.asked c.args.runner.now in
+    no_living q.0 (loaded_device c.args.state) (g.S.Supervise.world c.args.supervisor.now) told (g.R.Runner.living c.args.runner.now) q.1
+
+pub returns-in-Idle-clause-disk : goal.returns-in-Idle-clause-disk
+returns-in-Idle-clause-disk g c = λ is. absurd (two_never c.say.result statuses.Done statuses.Edge statuses.Disk c.say.ensures.answers (λ e. cc) (λ e. cc) is)
+
+pub returns-in-Idle-clause-later : goal.returns-in-Idle-clause-later
+returns-in-Idle-clause-later g c = (
+  stays_later (g.D.Disk.faults c.args.disk.now) (g.D.Disk.faults c.args.disk.now) (omega arith),
+  stays_later (g.K.Sink.faults c.args.sink.now) (g.K.Sink.faults c.say.new.sink) c.say.ensures.later,
+)
+
+-- ---- what making ready asks
+
+pub ready_again-requires-clause-sound : goal.ready_again-requires-clause-sound
+ready_again-requires-clause-sound g c =
+    subst IsSound (sym c.device.ensures) (loaded_hand g.D.Disk.tells g.D.Disk.may_leave g.J.Journal.stands g.J.Journal.end c.args.state c.args.disk.now c.requires.held).1.sound
+
+pub ready_again-requires-clause-regular : goal.ready_again-requires-clause-regular
+ready_again-requires-clause-regular g c =
+    subst IsRegularDevice (sym c.device.ensures) (loaded_hand g.D.Disk.tells g.D.Disk.may_leave g.J.Journal.stands g.J.Journal.end c.args.state c.args.disk.now c.requires.held).1.regular
+
+-- ---- there is no memory for it
+
+pub returns-in_default-ready_again-clause-call : goal.returns-in_default-ready_again-clause-call
+returns-in_default-ready_again-clause-call g c = λ p front serves.
+    let told = Listed g.R.Runner.list g.R.Runner.told g.R.Runner.asked c.args.runner.now in
+    let held = g.K.Sink.held c.args.sink.now in
+    nothing_called g.J.Journal.entries g.J.Journal.files g.met.D.Disk.laws c.args.disk.now c.args.disk.now c.args.disk.now told.list held held p statuses.Memory
+    (start_spares g.met.D.Disk.laws (IsBelow artifacts) c.args.disk.now)
+    (loaded_stands g.met.D.Disk.laws g.met.J.Journal.laws c.args.state c.args.disk.now c.requires.held p.device front.between.stands.device_is)
+    (start_spares g.met.D.Disk.laws (IsBelow artifacts) c.args.disk.now)
+    (front_bare p (loaded_device c.args.state) (g.S.Supervise.world c.args.supervisor.now) told (g.R.Runner.living c.args.runner.now) front)
+    (says_none held held statuses.Memory refl)
+    memory_no_restart
+    memory_no_reboot
+
+pub returns-in_default-ready_again-clause-none : goal.returns-in_default-ready_again-clause-none
+returns-in_default-ready_again-clause-none g c =
+    let q = c.requires.placed in
+    let told = Listed g.R.Runner.list g.R.Runner.told g.R.Runner.asked c.args.runner.now in
+    no_living q.0 (loaded_device c.args.state) (g.S.Supervise.world c.args.supervisor.now) told (g.R.Runner.living c.args.runner.now) q.1
+
+pub returns-in_default-ready_again-clause-later : goal.returns-in_default-ready_again-clause-later
+returns-in_default-ready_again-clause-later g c = (
+  stays_later (g.D.Disk.faults c.args.disk.now) (g.D.Disk.faults c.args.disk.now) (omega arith),
+  stays_later (g.K.Sink.faults c.args.sink.now) (g.K.Sink.faults c.args.sink.now) (omega arith),
+)
+
+-- ---- its line was not printed
+
+pub returns-in_default-say_resumed-clause-call : goal.returns-in_default-say_resumed-clause-call
+returns-in_default-say_resumed-clause-call g c = λ p front serves.
+    let told = Listed g.R.Runner.list g.R.Runner.told g.R.Runner.asked c.args.runner.now in
+    nothing_called g.J.Journal.entries g.J.Journal.files g.met.D.Disk.laws c.args.disk.now c.args.disk.now c.args.disk.now told.list (g.K.Sink.held c.args.sink.now) (g.K.Sink.held c.say_resumed.new.sink) p c.say_resumed.result
+    (start_spares g.met.D.Disk.laws (IsBelow artifacts) c.args.disk.now)
+    (loaded_stands g.met.D.Disk.laws g.met.J.Journal.laws c.args.state c.args.disk.now c.requires.held p.device front.between.stands.device_is)
+    (start_spares g.met.D.Disk.laws (IsBelow artifacts) c.args.disk.now)
+    (front_bare p (loaded_device c.args.state) (g.S.Supervise.world c.args.supervisor.now) told (g.R.Runner.living c.args.runner.now) front)
+    c.say_resumed.ensures.says
+    (two_never c.say_resumed.result statuses.Done statuses.Edge statuses.Restart c.say_resumed.ensures.answers (λ e. cc) (λ e. cc))
+    (two_never c.say_resumed.result statuses.Done statuses.Edge statuses.Reboot c.say_resumed.ensures.answers (λ e. cc) (λ e. cc))
+
+pub returns-in_default-say_resumed-clause-own : goal.returns-in_default-say_resumed-clause-own
+returns-in_default-say_resumed-clause-own g c = two_never c.say_resumed.result statuses.Done statuses.Edge statuses.Library c.say_resumed.ensures.answers (λ e. cc) (λ e. cc)
+
+pub returns-in_default-say_resumed-clause-none : goal.returns-in_default-say_resumed-clause-none
+returns-in_default-say_resumed-clause-none g c =
+    let q = c.requires.placed in
+    let told = Listed g.R.Runner.list g.R.Runner.told g.R.Runner.asked c.args.runner.now in
+    no_living q.0 (loaded_device c.args.state) (g.S.Supervise.world c.args.supervisor.now) told (g.R.Runner.living c.args.runner.now) q.1
+
+pub returns-in_default-say_resumed-clause-disk : goal.returns-in_default-say_resumed-clause-disk
+returns-in_default-say_resumed-clause-disk g c = λ is. absurd (two_never c.say_resumed.result statuses.Done statuses.Edge statuses.Disk c.say_resumed.ensures.answers (λ e. cc) (λ e. cc) is)
+
+pub returns-in_default-say_resumed-clause-later : goal.returns-in_default-say_resumed-clause-later
+returns-in_default-say_resumed-clause-later g c = (
+  stays_later (g.D.Disk.faults c.args.disk.now) (g.D.Disk.faults c.args.disk.now) (omega arith),
+  stays_later (g.K.Sink.faults c.args.sink.now) (g.K.Sink.faults c.say_resumed.new.sink) c.say_resumed.ensures.later,
+)
+
+-- ---- it goes on
+
+pub drive-driven-requires-clause-orderly : goal.drive-driven-requires-clause-orderly
+drive-driven-requires-clause-orderly g c = orderly_none (g.S.Supervise.world c.args.supervisor.now) c.requires.empty
+
+pub drive-driven-requires-clause-placed : goal.drive-driven-requires-clause-placed
+drive-driven-requires-clause-placed g c = let q = c.requires.placed in (q.0, q.1)
+
+pub end_call-requires-clause-placed : goal.end_call-requires-clause-placed
+end_call-requires-clause-placed g c =
+    let q = c.requires.placed in
+    let told = Listed g.R.Runner.list g.R.Runner.told g.R.Runner.asked c.args.runner.now in
+    let last = Listed g.R.Runner.list g.R.Runner.told g.R.Runner.asked c.drive-driven.new.runner in
+    placed_at g.J.Journal.entries g.J.Journal.files (g.S.Supervise.world c.drive-driven.new.supervisor) last (g.R.Runner.living c.drive-driven.new.runner) c.args.disk.now c.drive-driven.new.disk told.list last.list
+    (g.K.Sink.held c.say_resumed.new.sink) (g.K.Sink.held c.drive-driven.new.sink) q.0 c.drive-driven.result (c.drive-driven.ensures.course q.0 q.1) q.2
+
+pub returns-in-Done-clause-call : goal.returns-in-Done-clause-call
+returns-in-Done-clause-call g c = λ p front serves.
+    let told = Listed g.R.Runner.list g.R.Runner.told g.R.Runner.asked c.args.runner.now in
+    let last = Listed g.R.Runner.list g.R.Runner.told g.R.Runner.asked c.drive-driven.new.runner in
+    let said = c.say_resumed.ensures.says in
+    called g.J.Journal.entries g.J.Journal.files (g.S.Supervise.world c.drive-driven.new.supervisor) last (g.R.Runner.living c.drive-driven.new.runner)
+    c.args.disk.now c.args.disk.now c.drive-driven.new.disk c.end_call.new.disk told.list last.list (g.R.Runner.list c.end_call.new.runner)
+    (g.K.Sink.held c.args.sink.now) (g.K.Sink.held c.say_resumed.new.sink) (g.K.Sink.held c.drive-driven.new.sink) (g.K.Sink.held c.end_call.new.sink) said.0 p c.drive-driven.result c.end_call.result
+    (start_spares g.met.D.Disk.laws (IsBelow artifacts) c.args.disk.now)
+    (said.2 (done_no_edge c.say_resumed.result c.in-Done.is))
+    (c.drive-driven.ensures.course p front)
+    serves c.end_call.ensures.went c.end_call.ensures.still c.end_call.ensures.spared c.end_call.ensures.says c.end_call.ensures.silent c.end_call.ensures.answers
+
+pub returns-in-Done-clause-own : goal.returns-in-Done-clause-own
+returns-in-Done-clause-own g c = answers_own c.end_call.result c.drive-driven.result c.end_call.ensures.answers
+
+pub returns-in-Done-clause-others : goal.returns-in-Done-clause-others
+returns-in-Done-clause-others g c = λ told name apart below. c.end_call.ensures.others told name below ∙ c.drive-driven.ensures.others told name apart
+
+pub returns-in-Done-clause-disk : goal.returns-in-Done-clause-disk
+returns-in-Done-clause-disk g c = λ is.
+    rose_by c.drive-driven.result over.Disk (g.D.Disk.faults c.args.disk.now) (g.D.Disk.faults c.drive-driven.new.disk) (g.D.Disk.faults c.end_call.new.disk) c.drive-driven.ensures.disk c.drive-driven.ensures.quiet_disk c.end_call.ensures.later.0 (c.end_call.ensures.disk is)
+
+pub returns-in-Done-clause-edge : goal.returns-in-Done-clause-edge
+returns-in-Done-clause-edge g c = λ is.
+    rose_on (g.K.Sink.faults c.args.sink.now) (g.K.Sink.faults c.say_resumed.new.sink) (g.K.Sink.faults c.end_call.new.sink) c.say_resumed.ensures.later
+    (rose_by c.drive-driven.result over.Edge (g.K.Sink.faults c.say_resumed.new.sink) (g.K.Sink.faults c.drive-driven.new.sink) (g.K.Sink.faults c.end_call.new.sink) c.drive-driven.ensures.edge c.drive-driven.ensures.quiet_sink c.end_call.ensures.later.1 (c.end_call.ensures.edge is))
+
+pub returns-in-Done-clause-quiet_disk : goal.returns-in-Done-clause-quiet_disk
+returns-in-Done-clause-quiet_disk g c = λ disk edge.
+    c.end_call.ensures.quiet_disk disk edge ∙ c.drive-driven.ensures.quiet_disk (answers_disk c.end_call.result c.drive-driven.result c.end_call.ensures.answers disk edge)
+
+pub returns-in-Done-clause-quiet_sink : goal.returns-in-Done-clause-quiet_sink
+returns-in-Done-clause-quiet_sink g c = λ edge.
+    c.end_call.ensures.quiet_sink edge ∙ c.drive-driven.ensures.quiet_sink (answers_edge c.end_call.result c.drive-driven.result c.end_call.ensures.answers edge) ∙ c.say_resumed.ensures.quiet (done_no_edge c.say_resumed.result c.in-Done.is)
+
+pub returns-in-Done-clause-later : goal.returns-in-Done-clause-later
+returns-in-Done-clause-later g c = (
+  stays_on (g.D.Disk.faults c.args.disk.now) (g.D.Disk.faults c.args.disk.now) (g.D.Disk.faults c.drive-driven.new.disk) (g.D.Disk.faults c.end_call.new.disk) (omega arith)
+      (stays_by c.drive-driven.result over.Disk (g.D.Disk.faults c.args.disk.now) (g.D.Disk.faults c.drive-driven.new.disk) c.drive-driven.ensures.disk c.drive-driven.ensures.quiet_disk) c.end_call.ensures.later.0,
+  stays_on (g.K.Sink.faults c.args.sink.now) (g.K.Sink.faults c.say_resumed.new.sink) (g.K.Sink.faults c.drive-driven.new.sink) (g.K.Sink.faults c.end_call.new.sink) c.say_resumed.ensures.later
+      (stays_by c.drive-driven.result over.Edge (g.K.Sink.faults c.say_resumed.new.sink) (g.K.Sink.faults c.drive-driven.new.sink) c.drive-driven.ensures.edge c.drive-driven.ensures.quiet_sink) c.end_call.ensures.later.1,
+)

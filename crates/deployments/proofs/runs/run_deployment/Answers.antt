@@ -1,0 +1,139 @@
+use Rattle.std.proofs.Common.{inl, inr, refl, sym, subst, ◌∙◌, arith}
+use Rattle.disk_model.specs.Listing.{artifacts, IsBelow}
+use Rattle.nuc_base.specs.declared.status.Status.TheVariants as statuses
+use Rattle.device.specs.Devices.{Device}
+use Rattle.device.specs.Standing.{StandsFor}
+use Rattle.artifact_store.proofs.Walking.{start_spares}
+use Rattle.deploy_state.proofs.Steps.{in_hand_stands}
+use Rattle.deploy_state.specs.States.{idle_device}
+use Rattle.step_runner.specs.Entries.{Listed}
+use Rattle.deployments.proofs.Ending.{either_behind, nothing_called}
+use Rattle.deployments.proofs.Faults.{rose_on, stays_later, stays_on}
+use Rattle.deployments.proofs.Places.{open_bare, open_none}
+use Rattle.deployments.proofs.Printing.{says_none}
+use Rattle.deployments.proofs.Statuses.{declined_disk, declined_library, declined_never, disk_declined, library_declined, told_is, told_said}
+use Rattle.deployments.proofs.Statuses.{memory_no_reboot, memory_no_restart}
+use Rattle.deployments.proofs.runs.run_deployment.Goals as goal
+
+-- ---- the document is not taken
+
+pub returns-in-Err-clause-call : goal.returns-in-Err-clause-call
+returns-in-Err-clause-call g c = λ p opens serves.
+    let d = idle_device c.args.idle in
+    let told = Listed g.R.Runner.list g.R.Runner.told g.R.Runner.asked c.args.runner.now in
+    let status = c.say_declined.result in
+    inl (nothing_called g.J.Journal.entries g.J.Journal.files g.met.D.Disk.laws c.args.disk.now c.take_in.new.disk c.take_in.new.disk told.list (g.K.Sink.held c.args.sink.now) (g.K.Sink.held c.say_declined.new.sink) p status
+    c.take_in.ensures.moments
+    (λ i left. subst (λ (e : Device). StandsFor g.J.Journal.entries i e) (sym opens.stands.device_is) (in_hand_stands g.met.D.Disk.laws g.met.J.Journal.laws c.args.idle.log c.take_in.new.disk d c.take_in.ensures.held.0 i left))
+    (start_spares g.met.D.Disk.laws (IsBelow artifacts) c.take_in.new.disk)
+    (open_bare p d (g.S.Supervise.world c.args.supervisor.now) told (g.R.Runner.living c.args.runner.now) c.requires.empty opens)
+    c.say_declined.ensures.says
+    (declined_never c.in-Err.declined status statuses.Restart c.say_declined.ensures.answers refl (λ e. cc) (λ e. cc) (λ e. cc))
+    (declined_never c.in-Err.declined status statuses.Reboot c.say_declined.ensures.answers refl (λ e. cc) (λ e. cc) (λ e. cc)))
+
+pub returns-in-Err-clause-none : goal.returns-in-Err-clause-none
+returns-in-Err-clause-none g c =
+    let q = c.requires.placed in
+    let told = Listed g.R.Runner.list g.R.Runner.told g.R.Runner.asked c.args.runner.now in
+    open_none q.0 (idle_device c.args.idle) (g.S.Supervise.world c.args.supervisor.now) told (g.R.Runner.living c.args.runner.now) c.requires.empty q.1
+
+pub returns-in-Err-clause-others : goal.returns-in-Err-clause-others
+returns-in-Err-clause-others g c = λ told name apart below. c.take_in.ensures.others told name below
+
+pub returns-in-Err-clause-disk : goal.returns-in-Err-clause-disk
+returns-in-Err-clause-disk g c = λ is.
+    c.in-Err.ensures.disk_cause (declined_disk c.in-Err.declined (told_is c.say_declined.result _ statuses.Disk c.say_declined.ensures.answers (λ e. cc) (λ e. cc) is))
+
+pub returns-in-Err-clause-library : goal.returns-in-Err-clause-library
+returns-in-Err-clause-library g c = λ is.
+    c.in-Err.ensures.library_cause (declined_library c.in-Err.declined (told_is c.say_declined.result _ statuses.Library c.say_declined.ensures.answers (λ e. cc) (λ e. cc) is))
+
+pub returns-in-Err-clause-quiet_disk : goal.returns-in-Err-clause-quiet_disk
+returns-in-Err-clause-quiet_disk g c = λ disk edge.
+    c.in-Err.ensures.disk_quiet (λ failed.
+    let is = disk_declined c.in-Err.declined failed in
+    told_said c.say_declined.result _ statuses.Disk c.say_declined.ensures.answers is (c.say_declined.ensures.outside (inl is)) disk edge)
+
+pub returns-in-Err-clause-library_quiet : goal.returns-in-Err-clause-library_quiet
+returns-in-Err-clause-library_quiet g c = λ library edge.
+    c.in-Err.ensures.library_quiet (λ failed.
+    let is = library_declined c.in-Err.declined failed in
+    told_said c.say_declined.result _ statuses.Library c.say_declined.ensures.answers is (c.say_declined.ensures.outside (inr is)) library edge)
+
+pub returns-in-Err-clause-later : goal.returns-in-Err-clause-later
+returns-in-Err-clause-later g c = (
+  stays_later (g.D.Disk.faults c.args.disk.now) (g.D.Disk.faults c.take_in.new.disk) c.take_in.ensures.disk_later,
+  stays_later (g.K.Sink.faults c.args.sink.now) (g.K.Sink.faults c.say_declined.new.sink) c.say_declined.ensures.later,
+)
+
+-- ---- what making ready asks
+
+pub ready_for-requires-clause-sound : goal.ready_for-requires-clause-sound
+ready_for-requires-clause-sound g c = c.take_in.ensures.held.0.sound
+
+pub ready_for-requires-clause-regular_device : goal.ready_for-requires-clause-regular_device
+ready_for-requires-clause-regular_device g c = c.take_in.ensures.held.0.regular
+
+-- ---- it is deployed
+
+pub returns-in-Ok-ready_for-clause-call : goal.returns-in-Ok-ready_for-clause-call
+returns-in-Ok-ready_for-clause-call g c = λ p opens serves.
+    either_behind g.J.Journal.entries g.J.Journal.files g.met.D.Disk.laws c.args.disk.now c.take_in.new.disk c.run_plan.new.disk (g.R.Runner.list c.args.runner.now) (g.R.Runner.list c.run_plan.new.runner)
+    (g.K.Sink.held c.args.sink.now) (g.K.Sink.held c.run_plan.new.sink) p c.run_plan.result c.take_in.ensures.moments (c.run_plan.ensures.call p opens serves)
+
+pub returns-in-Ok-ready_for-clause-others : goal.returns-in-Ok-ready_for-clause-others
+returns-in-Ok-ready_for-clause-others g c = λ told name apart below. c.run_plan.ensures.others told name apart below ∙ c.take_in.ensures.others told name below
+
+pub returns-in-Ok-ready_for-clause-disk : goal.returns-in-Ok-ready_for-clause-disk
+returns-in-Ok-ready_for-clause-disk g c = λ is.
+    rose_on (g.D.Disk.faults c.args.disk.now) (g.D.Disk.faults c.take_in.new.disk) (g.D.Disk.faults c.run_plan.new.disk) c.take_in.ensures.disk_later (c.run_plan.ensures.disk is)
+
+pub returns-in-Ok-ready_for-clause-quiet_disk : goal.returns-in-Ok-ready_for-clause-quiet_disk
+returns-in-Ok-ready_for-clause-quiet_disk g c = λ disk edge. c.run_plan.ensures.quiet_disk disk edge ∙ c.in-Ok.ensures.disk_quiet (λ failed. failed)
+
+pub returns-in-Ok-ready_for-clause-library : goal.returns-in-Ok-ready_for-clause-library
+returns-in-Ok-ready_for-clause-library g c = λ is. absurd (c.run_plan.ensures.own is)
+
+pub returns-in-Ok-ready_for-clause-library_quiet : goal.returns-in-Ok-ready_for-clause-library_quiet
+returns-in-Ok-ready_for-clause-library_quiet g c = λ library edge. c.in-Ok.ensures.library_quiet (λ failed. failed)
+
+pub returns-in-Ok-ready_for-clause-later : goal.returns-in-Ok-ready_for-clause-later
+returns-in-Ok-ready_for-clause-later g c = (
+  stays_on (g.D.Disk.faults c.args.disk.now) (g.D.Disk.faults c.take_in.new.disk) (g.D.Disk.faults c.run_plan.new.disk) (g.D.Disk.faults c.run_plan.new.disk) c.take_in.ensures.disk_later c.run_plan.ensures.later.0 (omega arith),
+  c.run_plan.ensures.later.1,
+)
+
+-- ---- there is no memory for it
+
+pub returns-in-Err-ready_for-clause-call : goal.returns-in-Err-ready_for-clause-call
+returns-in-Err-ready_for-clause-call g c = λ p opens serves.
+    let d = idle_device c.args.idle in
+    let told = Listed g.R.Runner.list g.R.Runner.told g.R.Runner.asked c.args.runner.now in
+    let held = g.K.Sink.held c.args.sink.now in
+    inl (nothing_called g.J.Journal.entries g.J.Journal.files g.met.D.Disk.laws c.args.disk.now c.take_in.new.disk c.take_in.new.disk told.list held held p statuses.Memory
+    c.take_in.ensures.moments
+    (λ i left. subst (λ (e : Device). StandsFor g.J.Journal.entries i e) (sym opens.stands.device_is) (in_hand_stands g.met.D.Disk.laws g.met.J.Journal.laws c.args.idle.log c.take_in.new.disk d c.take_in.ensures.held.0 i left))
+    (start_spares g.met.D.Disk.laws (IsBelow artifacts) c.take_in.new.disk)
+    (open_bare p d (g.S.Supervise.world c.args.supervisor.now) told (g.R.Runner.living c.args.runner.now) c.requires.empty opens)
+    (says_none held held statuses.Memory refl) memory_no_restart memory_no_reboot)
+
+pub returns-in-Err-ready_for-clause-none : goal.returns-in-Err-ready_for-clause-none
+returns-in-Err-ready_for-clause-none g c =
+    let q = c.requires.placed in
+    let told = Listed g.R.Runner.list g.R.Runner.told g.R.Runner.asked c.args.runner.now in
+    open_none q.0 (idle_device c.args.idle) (g.S.Supervise.world c.args.supervisor.now) told (g.R.Runner.living c.args.runner.now) c.requires.empty q.1
+
+pub returns-in-Err-ready_for-clause-others : goal.returns-in-Err-ready_for-clause-others
+returns-in-Err-ready_for-clause-others g c = λ told name apart below. c.take_in.ensures.others told name below
+
+pub returns-in-Err-ready_for-clause-quiet_disk : goal.returns-in-Err-ready_for-clause-quiet_disk
+returns-in-Err-ready_for-clause-quiet_disk g c = λ disk edge. c.in-Ok.ensures.disk_quiet (λ failed. failed)
+
+pub returns-in-Err-ready_for-clause-library_quiet : goal.returns-in-Err-ready_for-clause-library_quiet
+returns-in-Err-ready_for-clause-library_quiet g c = λ library edge. c.in-Ok.ensures.library_quiet (λ failed. failed)
+
+pub returns-in-Err-ready_for-clause-later : goal.returns-in-Err-ready_for-clause-later
+returns-in-Err-ready_for-clause-later g c = (
+  stays_later (g.D.Disk.faults c.args.disk.now) (g.D.Disk.faults c.take_in.new.disk) c.take_in.ensures.disk_later,
+  stays_later (g.K.Sink.faults c.args.sink.now) (g.K.Sink.faults c.args.sink.now) (omega arith),
+)

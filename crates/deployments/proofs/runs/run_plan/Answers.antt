@@ -1,0 +1,239 @@
+use Rattle.std.proofs.Common.{[], inl, inr, refl, sym, ap, subst, ◌∙◌}
+use Rattle.std.proofs.KnownBytes.{Appends-nil}
+use Rattle.disk_model.specs.Disk.{Image, Leaves}
+use Rattle.disk_model.specs.Listing.{artifacts, IsBelow}
+use Rattle.nuc_base.specs.declared.status.Status.TheVariants as statuses
+use Rattle.records.specs.Stored.{Accepted, plan_view}
+use Rattle.device.specs.Devices.{Device}
+use Rattle.device.specs.Lawful.{applied}
+use Rattle.device.specs.Standing.{StandsFor}
+use Rattle.artifact_store.proofs.Walking.{start_spares}
+use Rattle.deploy_state.proofs.Steps.{in_hand_stands}
+use Rattle.deploy_state.specs.Hand.{LeavesEither}
+use Rattle.deploy_state.specs.States.{booting_device, idle_device}
+use Rattle.step_runner.specs.Entries.{Listed}
+use Rattle.session.specs.Happenings.{records_of}
+use Rattle.session.specs.Places.{left_by}
+use Rattle.driver.specs.Over.{LinesAt}
+use Rattle.driver.specs.declared.over.Over.{Over}
+use Rattle.driver.specs.declared.over.Over.TheVariants as over
+use Rattle.deploying.specs.Driven.{DrivenLeft}
+use Rattle.deploying.proofs.Joining.{joined}
+use Rattle.deploying.proofs.Leaving.{driven_on}
+use Rattle.deployments.specs.Calls.{Says, Spared}
+use Rattle.deployments.proofs.Ending.{called, doubt_called, nothing_called, placed_at}
+use Rattle.deployments.proofs.Faults.{rose_by, rose_on, stays_by, stays_on}
+use Rattle.deployments.proofs.Places.{open_bare, open_none, opened_front, orderly_none}
+use Rattle.deployments.proofs.Printing.{says_none}
+use Rattle.deployments.proofs.Results.{answers_disk, answers_edge, answers_own}
+use Rattle.deployments.proofs.Statuses.{two_never}
+use Rattle.deployments.proofs.Taken.{booting_held, full_at, full_back, has_taken, opened_at, short_back, short_device, short_held, taken_ready}
+use Rattle.deployments.proofs.runs.run_plan.Goals as goal
+
+-- ---- what its course asks
+
+pub boot-driven-requires-clause-held : goal.boot-driven-requires-clause-held
+boot-driven-requires-clause-held g c =
+    booting_held c.in-Ok-Accepted.field-0 c.in-Ok-Accepted.state c.in-Ok-Accepted.field-0-is g.D.Disk.tells g.D.Disk.may_leave g.J.Journal.stands g.J.Journal.end c.accept_plan.new.disk c.in-Ok-Accepted.ensures.held
+
+pub boot-driven-requires-clause-ready : goal.boot-driven-requires-clause-ready
+boot-driven-requires-clause-ready g c =
+    taken_ready c.in-Ok-Accepted.field-0 c.in-Ok-Accepted.state c.in-Ok-Accepted.field-0-is c.args.ready.boots c.args.ready.backs (g.S.Supervise.coming c.args.ready.items) (g.S.Supervise.coming c.args.ready.earlier)
+    (idle_device c.args.idle) (plan_view c.args.plan) c.in-Ok-Accepted.ensures.taken c.requires.ready
+
+pub boot-driven-requires-clause-orderly : goal.boot-driven-requires-clause-orderly
+boot-driven-requires-clause-orderly g c = orderly_none (g.S.Supervise.world c.args.supervisor.now) c.requires.empty
+
+pub boot-driven-requires-clause-placed : goal.boot-driven-requires-clause-placed
+boot-driven-requires-clause-placed g c =
+    let q = c.requires.placed in
+    let world = g.S.Supervise.world c.args.supervisor.now in
+    let told = Listed g.R.Runner.list g.R.Runner.told g.R.Runner.asked c.args.runner.now in
+    let living = g.R.Runner.living c.args.runner.now in
+    let s = c.in-Ok-Accepted.state in
+    let x = c.in-Ok-Accepted.field-0 in
+    let t = c.in-Ok-Accepted.ensures.went (has_taken x s c.in-Ok-Accepted.field-0-is) q.0 world told living q.1 in
+    (left_by q.0 t.0, opened_front (left_by q.0 t.0) (booting_device s) world told living c.requires.empty (opened_at x s c.in-Ok-Accepted.field-0-is (left_by q.0 t.0) world told living t.3))
+
+-- ---- what its end asks
+
+pub end_call-requires-clause-placed : goal.end_call-requires-clause-placed
+end_call-requires-clause-placed g c =
+    let q = c.requires.placed in
+    let world = g.S.Supervise.world c.args.supervisor.now in
+    let told = Listed g.R.Runner.list g.R.Runner.told g.R.Runner.asked c.args.runner.now in
+    let living = g.R.Runner.living c.args.runner.now in
+    let s = c.in-Ok-Accepted.state in
+    let x = c.in-Ok-Accepted.field-0 in
+    let t = c.in-Ok-Accepted.ensures.went (has_taken x s c.in-Ok-Accepted.field-0-is) q.0 world told living q.1 in
+    let front = opened_front (left_by q.0 t.0) (booting_device s) world told living c.requires.empty (opened_at x s c.in-Ok-Accepted.field-0-is (left_by q.0 t.0) world told living t.3) in
+    let next = g.S.Supervise.world c.boot-driven.new.supervisor in
+    let last = Listed g.R.Runner.list g.R.Runner.told g.R.Runner.asked c.boot-driven.new.runner in
+    let lives = g.R.Runner.living c.boot-driven.new.runner in
+    placed_at g.J.Journal.entries g.J.Journal.files next last lives c.args.disk.now c.boot-driven.new.disk told.list last.list (g.K.Sink.held c.args.sink.now) (g.K.Sink.held c.boot-driven.new.sink) q.0 c.boot-driven.result
+    (joined g.J.Journal.entries g.J.Journal.files g.met.D.Disk.laws c.args.disk.now c.accept_plan.new.disk c.boot-driven.new.disk told.list told.list last.list
+    (g.K.Sink.held c.args.sink.now) (g.K.Sink.held c.accept_plan.new.sink) (g.K.Sink.held c.boot-driven.new.sink) q.0 t.0 c.boot-driven.result _
+    t.1 t.2 (driven_on next last lives t.0) (c.boot-driven.ensures.course (left_by q.0 t.0) front))
+    q.2
+
+-- ---- it is accepted
+
+pub returns-in-Ok-Accepted-clause-call : goal.returns-in-Ok-Accepted-clause-call
+returns-in-Ok-Accepted-clause-call g c = λ p opens serves.
+    let world = g.S.Supervise.world c.args.supervisor.now in
+    let told = Listed g.R.Runner.list g.R.Runner.told g.R.Runner.asked c.args.runner.now in
+    let living = g.R.Runner.living c.args.runner.now in
+    let s = c.in-Ok-Accepted.state in
+    let x = c.in-Ok-Accepted.field-0 in
+    let t = c.in-Ok-Accepted.ensures.went (has_taken x s c.in-Ok-Accepted.field-0-is) p world told living opens in
+    let front = opened_front (left_by p t.0) (booting_device s) world told living c.requires.empty (opened_at x s c.in-Ok-Accepted.field-0-is (left_by p t.0) world told living t.3) in
+    let next = g.S.Supervise.world c.boot-driven.new.supervisor in
+    let last = Listed g.R.Runner.list g.R.Runner.told g.R.Runner.asked c.boot-driven.new.runner in
+    let lives = g.R.Runner.living c.boot-driven.new.runner in
+    let held = g.K.Sink.held c.args.sink.now in
+    inl (called g.J.Journal.entries g.J.Journal.files next last lives c.args.disk.now c.args.disk.now c.boot-driven.new.disk c.end_call.new.disk told.list last.list (g.R.Runner.list c.end_call.new.runner)
+    held held (g.K.Sink.held c.boot-driven.new.sink) (g.K.Sink.held c.end_call.new.sink) [] p c.boot-driven.result c.end_call.result
+    (start_spares g.met.D.Disk.laws (IsBelow artifacts) c.args.disk.now)
+    (Appends-nil held)
+    (joined g.J.Journal.entries g.J.Journal.files g.met.D.Disk.laws c.args.disk.now c.accept_plan.new.disk c.boot-driven.new.disk told.list told.list last.list
+    held (g.K.Sink.held c.accept_plan.new.sink) (g.K.Sink.held c.boot-driven.new.sink) p t.0 c.boot-driven.result _
+    t.1 t.2 (driven_on next last lives t.0) (c.boot-driven.ensures.course (left_by p t.0) front))
+    serves c.end_call.ensures.went c.end_call.ensures.still c.end_call.ensures.spared c.end_call.ensures.says c.end_call.ensures.silent c.end_call.ensures.answers)
+
+pub returns-in-Ok-Accepted-clause-own : goal.returns-in-Ok-Accepted-clause-own
+returns-in-Ok-Accepted-clause-own g c = answers_own c.end_call.result c.boot-driven.result c.end_call.ensures.answers
+
+pub returns-in-Ok-Accepted-clause-others : goal.returns-in-Ok-Accepted-clause-others
+returns-in-Ok-Accepted-clause-others g c = λ told name apart below.
+    c.end_call.ensures.others told name below ∙ c.boot-driven.ensures.others told name apart ∙ c.accept_plan.ensures.others told name apart
+
+pub returns-in-Ok-Accepted-clause-disk : goal.returns-in-Ok-Accepted-clause-disk
+returns-in-Ok-Accepted-clause-disk g c = λ is.
+    rose_on (g.D.Disk.faults c.args.disk.now) (g.D.Disk.faults c.accept_plan.new.disk) (g.D.Disk.faults c.end_call.new.disk) c.accept_plan.ensures.later.0
+    (rose_by c.boot-driven.result over.Disk (g.D.Disk.faults c.accept_plan.new.disk) (g.D.Disk.faults c.boot-driven.new.disk) (g.D.Disk.faults c.end_call.new.disk) c.boot-driven.ensures.disk c.boot-driven.ensures.quiet_disk c.end_call.ensures.later.0 (c.end_call.ensures.disk is))
+
+pub returns-in-Ok-Accepted-clause-edge : goal.returns-in-Ok-Accepted-clause-edge
+returns-in-Ok-Accepted-clause-edge g c = λ is.
+    rose_on (g.K.Sink.faults c.args.sink.now) (g.K.Sink.faults c.accept_plan.new.sink) (g.K.Sink.faults c.end_call.new.sink) c.accept_plan.ensures.later.1
+    (rose_by c.boot-driven.result over.Edge (g.K.Sink.faults c.accept_plan.new.sink) (g.K.Sink.faults c.boot-driven.new.sink) (g.K.Sink.faults c.end_call.new.sink) c.boot-driven.ensures.edge c.boot-driven.ensures.quiet_sink c.end_call.ensures.later.1 (c.end_call.ensures.edge is))
+
+pub returns-in-Ok-Accepted-clause-quiet_disk : goal.returns-in-Ok-Accepted-clause-quiet_disk
+returns-in-Ok-Accepted-clause-quiet_disk g c = λ disk edge.
+    c.end_call.ensures.quiet_disk disk edge ∙ c.boot-driven.ensures.quiet_disk (answers_disk c.end_call.result c.boot-driven.result c.end_call.ensures.answers disk edge) ∙ c.in-Ok-Accepted.ensures.quiet_disk (λ is. cc)
+
+pub returns-in-Ok-Accepted-clause-quiet_sink : goal.returns-in-Ok-Accepted-clause-quiet_sink
+returns-in-Ok-Accepted-clause-quiet_sink g c = λ edge.
+    c.end_call.ensures.quiet_sink edge ∙ c.boot-driven.ensures.quiet_sink (answers_edge c.end_call.result c.boot-driven.result c.end_call.ensures.answers edge) ∙ c.in-Ok-Accepted.ensures.quiet_sink (λ is. cc)
+
+pub returns-in-Ok-Accepted-clause-later : goal.returns-in-Ok-Accepted-clause-later
+returns-in-Ok-Accepted-clause-later g c = (
+  stays_on (g.D.Disk.faults c.args.disk.now) (g.D.Disk.faults c.accept_plan.new.disk) (g.D.Disk.faults c.boot-driven.new.disk) (g.D.Disk.faults c.end_call.new.disk) c.accept_plan.ensures.later.0
+      (stays_by c.boot-driven.result over.Disk (g.D.Disk.faults c.accept_plan.new.disk) (g.D.Disk.faults c.boot-driven.new.disk) c.boot-driven.ensures.disk c.boot-driven.ensures.quiet_disk) c.end_call.ensures.later.0,
+  stays_on (g.K.Sink.faults c.args.sink.now) (g.K.Sink.faults c.accept_plan.new.sink) (g.K.Sink.faults c.boot-driven.new.sink) (g.K.Sink.faults c.end_call.new.sink) c.accept_plan.ensures.later.1
+      (stays_by c.boot-driven.result over.Edge (g.K.Sink.faults c.accept_plan.new.sink) (g.K.Sink.faults c.boot-driven.new.sink) c.boot-driven.ensures.edge c.boot-driven.ensures.quiet_sink) c.end_call.ensures.later.1,
+)
+
+-- ---- it has no room
+
+pub returns-in-Ok-Full-clause-call : goal.returns-in-Ok-Full-clause-call
+returns-in-Ok-Full-clause-call g c = λ p opens serves.
+    let d = idle_device c.args.idle in
+    let world = g.S.Supervise.world c.args.supervisor.now in
+    let told = Listed g.R.Runner.list g.R.Runner.told g.R.Runner.asked c.args.runner.now in
+    let living = g.R.Runner.living c.args.runner.now in
+    let x = c.in-Ok-Full.field-0 in
+    let same = (c.in-Ok-Full.ensures.full c.in-Ok-Full.at (full_at x _ c.in-Ok-Full.at c.in-Ok-Full.field-0-is)).2 in
+    let silent = ap g.K.Sink.held (c.in-Ok-Full.ensures.silent (full_back x _ c.in-Ok-Full.at c.in-Ok-Full.field-0-is)) in
+    inl (nothing_called g.J.Journal.entries g.J.Journal.files g.met.D.Disk.laws c.args.disk.now c.args.disk.now c.accept_plan.new.disk told.list (g.K.Sink.held c.args.sink.now) (g.K.Sink.held c.say_full.new.sink) p c.say_full.result
+    (start_spares g.met.D.Disk.laws (IsBelow artifacts) c.args.disk.now)
+    (λ i left. subst (λ (e : Device). StandsFor g.J.Journal.entries i e) (sym opens.stands.device_is) (in_hand_stands g.met.D.Disk.laws g.met.J.Journal.laws c.args.idle.log c.args.disk.now d c.requires.held.0 i left))
+    (subst (λ (z : _). Spared g.D.Disk.may_leave g.D.Disk.moment g.D.Disk.left_since c.args.disk.now z) (sym same) (start_spares g.met.D.Disk.laws (IsBelow artifacts) c.args.disk.now))
+    (open_bare p d world told living c.requires.empty opens)
+    (subst (λ (h : _). Says h (g.K.Sink.held c.say_full.new.sink) c.say_full.result) silent c.say_full.ensures.says)
+    (two_never c.say_full.result statuses.Limit statuses.Edge statuses.Restart c.say_full.ensures.answers (λ e. cc) (λ e. cc))
+    (two_never c.say_full.result statuses.Limit statuses.Edge statuses.Reboot c.say_full.ensures.answers (λ e. cc) (λ e. cc)))
+
+pub returns-in-Ok-Full-clause-none : goal.returns-in-Ok-Full-clause-none
+returns-in-Ok-Full-clause-none g c =
+    let q = c.requires.placed in
+    let told = Listed g.R.Runner.list g.R.Runner.told g.R.Runner.asked c.args.runner.now in
+    open_none q.0 (idle_device c.args.idle) (g.S.Supervise.world c.args.supervisor.now) told (g.R.Runner.living c.args.runner.now) c.requires.empty q.1
+
+pub returns-in-Ok-Full-clause-own : goal.returns-in-Ok-Full-clause-own
+returns-in-Ok-Full-clause-own g c = two_never c.say_full.result statuses.Limit statuses.Edge statuses.Library c.say_full.ensures.answers (λ e. cc) (λ e. cc)
+
+-- ---- it is given back for want of memory
+
+pub returns-in-Ok-NoMemory-clause-call : goal.returns-in-Ok-NoMemory-clause-call
+returns-in-Ok-NoMemory-clause-call g c = λ p opens serves.
+    let d = idle_device c.args.idle in
+    let plan = plan_view c.args.plan in
+    let world = g.S.Supervise.world c.args.supervisor.now in
+    let told = Listed g.R.Runner.list g.R.Runner.told g.R.Runner.asked c.args.runner.now in
+    let living = g.R.Runner.living c.args.runner.now in
+    let x = c.in-Ok-NoMemory.field-0 in
+    let s = c.in-Ok-NoMemory.field-0-is in
+    let same = short_device x _ s d plan c.in-Ok-NoMemory.ensures.taken in
+    let held = short_held x _ s g.D.Disk.tells g.D.Disk.may_leave g.J.Journal.stands g.J.Journal.end c.accept_plan.new.disk c.in-Ok-NoMemory.ensures.held in
+    inr (record {
+      memory = refl;
+      from = c.args.disk.now;
+      before = start_spares g.met.D.Disk.laws (IsBelow artifacts) c.args.disk.now;
+      plan = plan;
+      moments = subst (λ (e : Device). Leaves g.D.Disk.moment g.D.Disk.left_since c.args.disk.now c.accept_plan.new.disk (LeavesEither g.D.Disk.may_leave g.J.Journal.files g.J.Journal.entries c.args.disk.now e (applied e (Accepted plan)))) (sym opens.stands.device_is) c.accept_plan.ensures.moments;
+      stands = λ i left. subst (λ (e : Device). StandsFor g.J.Journal.entries i e) (same ∙ sym opens.stands.device_is) (in_hand_stands g.met.D.Disk.laws g.met.J.Journal.laws _ c.accept_plan.new.disk _ held.0 i left);
+      list = refl;
+      held = ap g.K.Sink.held (c.in-Ok-NoMemory.ensures.silent (short_back x _ s));
+      bare = open_bare p d world told living c.requires.empty opens;
+    })
+
+pub returns-in-Ok-NoMemory-clause-none : goal.returns-in-Ok-NoMemory-clause-none
+returns-in-Ok-NoMemory-clause-none g c =
+    let q = c.requires.placed in
+    let told = Listed g.R.Runner.list g.R.Runner.told g.R.Runner.asked c.args.runner.now in
+    open_none q.0 (idle_device c.args.idle) (g.S.Supervise.world c.args.supervisor.now) told (g.R.Runner.living c.args.runner.now) c.requires.empty q.1
+
+-- ---- the disk failed
+
+pub returns-in-Err-Disk-clause-call : goal.returns-in-Err-Disk-clause-call
+returns-in-Err-Disk-clause-call g c = λ p opens serves.
+    let d = idle_device c.args.idle in
+    let world = g.S.Supervise.world c.args.supervisor.now in
+    let told = Listed g.R.Runner.list g.R.Runner.told g.R.Runner.asked c.args.runner.now in
+    let living = g.R.Runner.living c.args.runner.now in
+    let t = c.in-Err-Disk.ensures.went tt p world told living opens in
+    let held = g.K.Sink.held c.args.sink.now in
+    let mid = g.K.Sink.held c.accept_plan.new.sink in
+    inl (doubt_called g.J.Journal.entries g.J.Journal.files g.met.D.Disk.laws over.Disk c.args.disk.now c.accept_plan.new.disk told.list held mid (g.K.Sink.held c.say_disk.new.sink) p d world told living (plan_view c.args.plan) (records_of t.0) c.say_disk.result
+    opens (open_bare p d world told living c.requires.empty opens) c.requires.lawful c.accept_plan.ensures.moments
+    (subst (λ (e : Over). LinesAt held mid p.device (records_of t.0) e) c.in-Err-Disk.field-0-is t.2) c.say_disk.ensures.says (λ is. absurd cc) c.say_disk.ensures.answers)
+
+pub returns-in-Err-Disk-clause-none : goal.returns-in-Err-Disk-clause-none
+returns-in-Err-Disk-clause-none g c =
+    let q = c.requires.placed in
+    let told = Listed g.R.Runner.list g.R.Runner.told g.R.Runner.asked c.args.runner.now in
+    open_none q.0 (idle_device c.args.idle) (g.S.Supervise.world c.args.supervisor.now) told (g.R.Runner.living c.args.runner.now) c.requires.empty q.1
+
+pub returns-in-Err-Disk-clause-own : goal.returns-in-Err-Disk-clause-own
+returns-in-Err-Disk-clause-own g c = two_never c.say_disk.result statuses.Disk statuses.Edge statuses.Library c.say_disk.ensures.answers (λ e. cc) (λ e. cc)
+
+-- ---- its line was not printed
+
+pub returns-clause-call : goal.returns-clause-call
+returns-clause-call g c = λ p opens serves.
+    let d = idle_device c.args.idle in
+    let world = g.S.Supervise.world c.args.supervisor.now in
+    let told = Listed g.R.Runner.list g.R.Runner.told g.R.Runner.asked c.args.runner.now in
+    let living = g.R.Runner.living c.args.runner.now in
+    let t = c.in-Err-Edge.ensures.went tt p world told living opens in
+    let held = g.K.Sink.held c.args.sink.now in
+    let mid = g.K.Sink.held c.accept_plan.new.sink in
+    inl (doubt_called g.J.Journal.entries g.J.Journal.files g.met.D.Disk.laws over.Edge c.args.disk.now c.accept_plan.new.disk told.list held mid mid p d world told living (plan_view c.args.plan) (records_of t.0) statuses.Edge
+    opens (open_bare p d world told living c.requires.empty opens) c.requires.lawful c.accept_plan.ensures.moments
+    (subst (λ (e : Over). LinesAt held mid p.device (records_of t.0) e) c.in-Err-Edge.field-0-is t.2) (says_none mid mid statuses.Edge refl) (λ is. refl) refl)
+
+pub returns-clause-none : goal.returns-clause-none
+returns-clause-none g c =
+    let q = c.requires.placed in
+    let told = Listed g.R.Runner.list g.R.Runner.told g.R.Runner.asked c.args.runner.now in
+    open_none q.0 (idle_device c.args.idle) (g.S.Supervise.world c.args.supervisor.now) told (g.R.Runner.living c.args.runner.now) c.requires.empty q.1

@@ -1,0 +1,87 @@
+// Behind a close.
+ghost use Rattle.std.specs.Prelude.{◌≡◌, ◌≢◌, ◌⊎◌, ◌≤◌, [], ℕ, List, false, IsTrue};
+ghost use Rattle.nuc_base.specs.Faults.{Rose};
+ghost use Rattle.nuc_base.specs.declared.status.Status.TheVariants as statuses;
+ghost use Rattle.disk_model.specs.Listing.{artifacts, IsBelow};
+ghost use Rattle.disk_model.specs.Spares.{Spares};
+ghost use Rattle.records.specs.Stored.{Record};
+ghost use Rattle.device.specs.Devices.{Device};
+ghost use Rattle.deploy_state.specs.States.{idle_device};
+ghost use Rattle.step_runner.specs.Entries.{Listed};
+ghost use Rattle.session.specs.Courses.{IsBare};
+ghost use Rattle.session.specs.Happenings.{Happening};
+ghost use Rattle.session.specs.Places.{Place, left_by};
+ghost use Rattle.driver.specs.Went.{Acts};
+ghost use Rattle.activation.specs.Ended.{HasClosed};
+ghost use Rattle.activation.specs.Turns.{moments_in, most_turns};
+ghost use Rattle.stopping.specs.Stops.{MayStop};
+ghost use Rattle.refusal_lines.specs.Statuses.{status_of_outcome};
+ghost use Rattle.deployments.specs.Calls.{Says, Spared};
+
+use crate::lines::say_disk;
+use artifact_store::{SweepFault, sweep};
+use deploy_state::Idle;
+use disk_model::Disk;
+use edges::Sink;
+use gate_log::Journal;
+use giving_up::kill_all;
+use nuc_base::{Outcome, Status};
+use refusal_lines::outcome_status;
+use std::alloc::Global;
+use step_runner::Runner;
+use stopping::{Stopped, stop_all_components};
+use supervisor::Supervise;
+
+/// Stops all components, and answers how the deployment closed.
+fn stop<R: Runner, S: Supervise>(outcome: Outcome, runner: &mut R, supervisor: &mut S) -> Status
+    requires placed { (p : Place) × (d : Device) × MayStop p d (S.world supervisor.old) (Listed R.list R.told R.asked runner.old) (R.living runner.old) }
+    ensures went { (p : Place) → (d : Device) → MayStop p d (S.world supervisor.old) (Listed R.list R.told R.asked runner.old) (R.living runner.old) →
+        (h : List Happening) × Acts p h (R.list runner.old) (R.list runner.new) × IsBare (left_by p h) × ((result ≡ status_of_outcome outcome) ⊎ ((result ≡ statuses.Memory) × (most_turns ≤ moments_in h))) }
+    ensures none { R.living runner.new ≡ [] }
+{
+    match stop_all_components(runner, supervisor) {
+        Stopped::All => outcome_status(outcome),
+        Stopped::More => {
+            kill_all(runner, supervisor);
+            Status::Memory
+        }
+    }
+}
+
+/// Sweeps stray files, stops all components, and answers how the deployment closed. Where the sweep fails all children are
+/// killed.
+pub(crate) fn end_closed<D: Disk, J: Journal + Drop, K: Sink, R: Runner, S: Supervise>(
+    alloc: Global,
+    idle: &Idle<J>,
+    outcome: Outcome,
+    disk: &mut D,
+    sink: &mut K,
+    runner: &mut R,
+    supervisor: &mut S,
+) -> Status
+    requires placed { (p : Place) × (records : List Record) × HasClosed outcome records p (idle_device idle.now) (S.world supervisor.old) (Listed R.list R.told R.asked runner.old) (R.living runner.old) × (p.serves ≡ false) }
+    ensures went { (p : Place) → (records : List Record) → HasClosed outcome records p (idle_device idle.now) (S.world supervisor.old) (Listed R.list R.told R.asked runner.old) (R.living runner.old) → (p.serves ≡ false) →
+        (h : List Happening) × Acts p h (R.list runner.old) (R.list runner.new) × IsBare (left_by p h) }
+    ensures none { R.living runner.new ≡ [] }
+    ensures spared { Spared D.may_leave D.moment D.left_since disk.old disk.new }
+    ensures others { IsTrue D.tells → Spares (IsBelow artifacts) (D.seen disk.old) (D.seen disk.new) }
+    ensures says { Says (K.held sink.old) (K.held sink.new) result }
+    ensures answers { (result ≡ status_of_outcome outcome) ⊎ (result ≡ statuses.Memory) ⊎ (result ≡ statuses.Disk) ⊎ (result ≡ statuses.Edge) }
+    ensures disk { result ≡ statuses.Disk → Rose (D.faults disk.old) (D.faults disk.new) }
+    ensures edge { result ≡ statuses.Edge → Rose (K.faults sink.old) (K.faults sink.new) }
+    ensures quiet_disk { result ≢ statuses.Disk → result ≢ statuses.Edge → D.faults disk.new ≡ D.faults disk.old }
+    ensures quiet_sink { result ≢ statuses.Edge → K.faults sink.new ≡ K.faults sink.old }
+    ensures later { (D.faults disk.old ≤ D.faults disk.new) × (K.faults sink.old ≤ K.faults sink.new) }
+{
+    match sweep(alloc, disk, idle.device()) {
+        Ok(()) => stop(outcome, runner, supervisor),
+        Err(SweepFault::Disk) => {
+            kill_all(runner, supervisor);
+            say_disk(sink)
+        }
+        Err(SweepFault::NoMemory) => {
+            kill_all(runner, supervisor);
+            Status::Memory
+        }
+    }
+}

@@ -1,0 +1,84 @@
+// How a call ends behind the course of its deployment.
+ghost use Rattle.std.specs.Prelude.{◌≡◌, ◌≢◌, ◌⊎◌, ◌≤◌, [], ℕ, List, false, IsTrue, IfOk, OnOk, OnErr, IsErrOf};
+ghost use Rattle.nuc_base.specs.Faults.{Rose};
+ghost use Rattle.nuc_base.specs.declared.status.Status.TheVariants as statuses;
+ghost use Rattle.disk_model.specs.Listing.{artifacts, IsBelow};
+ghost use Rattle.disk_model.specs.Spares.{Spares};
+ghost use Rattle.step_runner.specs.Entries.{Listed};
+ghost use Rattle.session.specs.Courses.{IsBare};
+ghost use Rattle.session.specs.Happenings.{Happening};
+ghost use Rattle.session.specs.Places.{Place, left_by};
+ghost use Rattle.driver.specs.Went.{Acts};
+ghost use Rattle.deploying.specs.Driven.{DrivenLeft};
+ghost use Rattle.deployments.specs.Calls.{AnswersFor, Says, Spared};
+
+use crate::closes::end_closed;
+use crate::lines::{say, say_disk};
+use deploy_state::Loaded;
+use deploying::Driven;
+use disk_model::Disk;
+use driver::Over;
+use edges::Sink;
+use gate_log::Journal;
+use nuc_base::Status;
+use std::alloc::Global;
+use step_runner::Runner;
+use supervisor::Supervise;
+
+/// Prints that the call ends for a restart or a reboot.
+fn say_again<J: Journal + Drop, K: Sink>(
+    state: &Loaded<J>,
+    sink: &mut K,
+    word: &str,
+    status: Status,
+) -> Status
+    requires other { status ≢ statuses.Edge }
+    ensures says { Says (K.held sink.old) (K.held sink.new) result }
+    ensures answers { (result ≡ status) ⊎ (result ≡ statuses.Edge) }
+    ensures edge { result ≡ statuses.Edge → Rose (K.faults sink.old) (K.faults sink.new) }
+    ensures quiet { result ≢ statuses.Edge → K.faults sink.new ≡ K.faults sink.old }
+    ensures later { K.faults sink.old ≤ K.faults sink.new }
+{
+    match &state.device().pending {
+        Some(pending) => say(sink, &[word, pending.plan.id.as_str(), "\n"], status),
+        None => status,
+    }
+}
+
+/// Ends the call: behind a close as `end_closed`, and else at once.
+pub(crate) fn end_call<D: Disk, J: Journal + Drop, K: Sink, R: Runner, S: Supervise>(
+    alloc: Global,
+    driven: Result<Driven<J>, Over>,
+    disk: &mut D,
+    sink: &mut K,
+    runner: &mut R,
+    supervisor: &mut S,
+) -> Status
+    requires placed { IfOk driven (λ x. (p : Place) × (h : List Happening) × DrivenLeft x h p (S.world supervisor.old) (Listed R.list R.told R.asked runner.old) (R.living runner.old) × (p.serves ≡ false)) }
+    requires none { OnErr driven (R.living runner.old ≡ []) }
+    ensures went { IfOk driven (λ x. (p : Place) → (h : List Happening) → DrivenLeft x h p (S.world supervisor.old) (Listed R.list R.told R.asked runner.old) (R.living runner.old) → (p.serves ≡ false) →
+        (k : List Happening) × Acts p k (R.list runner.old) (R.list runner.new) × IsBare (left_by p k)) }
+    ensures still { OnErr driven (R.list runner.new ≡ R.list runner.old) }
+    ensures none { R.living runner.new ≡ [] }
+    ensures spared { Spared D.may_leave D.moment D.left_since disk.old disk.new }
+    ensures others { IsTrue D.tells → Spares (IsBelow artifacts) (D.seen disk.old) (D.seen disk.new) }
+    ensures says { Says (K.held sink.old) (K.held sink.new) result }
+    ensures silent { IsErrOf driven Over.Edge → K.held sink.new ≡ K.held sink.old }
+    ensures answers { AnswersFor driven result }
+    ensures disk { result ≡ statuses.Disk → (IsErrOf driven Over.Disk) ⊎ Rose (D.faults disk.old) (D.faults disk.new) }
+    ensures edge { result ≡ statuses.Edge → (IsErrOf driven Over.Edge) ⊎ Rose (K.faults sink.old) (K.faults sink.new) }
+    ensures quiet_disk { result ≢ statuses.Disk → result ≢ statuses.Edge → D.faults disk.new ≡ D.faults disk.old }
+    ensures quiet_sink { result ≢ statuses.Edge → K.faults sink.new ≡ K.faults sink.old }
+    ensures later { (D.faults disk.old ≤ D.faults disk.new) × (K.faults sink.old ≤ K.faults sink.new) }
+{
+    match driven {
+        Ok(Driven::Closed(idle, outcome)) => {
+            end_closed(alloc, &idle, outcome, disk, sink, runner, supervisor)
+        }
+        Ok(Driven::Restart(state)) => say_again(&state, sink, "restart ", Status::Restart),
+        Ok(Driven::Reboot(state)) => say_again(&state, sink, "reboot ", Status::Reboot),
+        Ok(Driven::More(_)) => Status::Memory,
+        Err(Over::Disk) => say_disk(sink),
+        Err(Over::Edge) => Status::Edge,
+    }
+}

@@ -1,0 +1,16 @@
+//! One deployment in one call: from its document, or from where a call before left it, to the end of the call.
+//!
+//! It joins the checks and files of a document (`intake`), what is made ready (`preparation`), its acceptance
+//! (`acceptance`), its course (`deploying`), and what follows its close: the sweep of stray files and the stop of all
+//! components.
+#![tactic(auto)]
+
+mod closes;
+mod declines;
+mod ends;
+mod lines;
+mod resumes;
+mod runs;
+
+pub use resumes::resume;
+pub use runs::{run_deployment, run_document};

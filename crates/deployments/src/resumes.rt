@@ -1,0 +1,107 @@
+//! A pending deployment is driven on.
+ghost use Rattle.std.specs.Prelude.{◌≡◌, ◌≢◌, ◌⊎◌, ◌≤◌, [], ℕ, List, false, None, IsSome, IsTrue, IfOk, map};
+ghost use Rattle.nuc_base.specs.Faults.{Rose};
+ghost use Rattle.nuc_base.specs.declared.status.Status.TheVariants as statuses;
+ghost use Rattle.device.specs.Devices.{IsRegularDevice, device_view};
+ghost use Rattle.device.specs.Sound.{IsSound};
+ghost use Rattle.deploy_state.specs.States.{InLoaded, loaded_device};
+ghost use Rattle.driver.specs.Stands.{IsFront};
+ghost use Rattle.step_runner.specs.Entries.{Listed};
+ghost use Rattle.session.specs.Places.{Place};
+ghost use Rattle.preparation.specs.Readied.{AreReadiedFor};
+ghost use Rattle.intake.specs.Takes.{LieElsewhere};
+ghost use Rattle.deployments.specs.Calls.{Call, Elsewhere, Says, Stays};
+
+use crate::ends::end_call;
+use crate::lines::say;
+use deploy_state::Loaded;
+use deploying::drive;
+use device::Device;
+use disk_model::Disk;
+use edges::Sink;
+use gate_log::Journal;
+use nuc_base::{NoMemory, Status};
+use preparation::{Readied, prepare};
+use std::alloc::Global;
+use step_runner::Runner;
+use supervisor::Supervise;
+
+/// All that the pending deployment needs up to its close.
+fn ready_again<S: Supervise>(
+    alloc: Global,
+    device: &Device,
+    supervisor: &S,
+) -> Result<Readied<S::Ready>, NoMemory>
+where
+    S::Ready: Drop,
+    requires sound { IsSound (device_view device.now) }
+    requires regular { IsRegularDevice (device_view device.now) }
+    requires pending { IsSome device.now.pending }
+    ensures { IfOk result (λ r. AreReadiedFor (device_view device.now) r.boots r.backs (S.coming r.items) (S.coming r.earlier)) }
+{
+    let (Some(origin), Some(pending)) = (&device.origin, &device.pending) else {
+        unreachable!();
+    };
+    prepare(alloc, supervisor, origin, &device.set, &pending.plan)
+}
+
+/// Prints that the pending deployment is resumed.
+fn say_resumed<J: Journal + Drop, K: Sink>(state: &Loaded<J>, sink: &mut K) -> Status
+    ensures says { Says (K.held sink.old) (K.held sink.new) result }
+    ensures answers { (result ≡ statuses.Done) ⊎ (result ≡ statuses.Edge) }
+    ensures edge { result ≡ statuses.Edge → Rose (K.faults sink.old) (K.faults sink.new) }
+    ensures quiet { result ≢ statuses.Edge → K.faults sink.new ≡ K.faults sink.old }
+    ensures later { K.faults sink.old ≤ K.faults sink.new }
+{
+    match &state.device().pending {
+        Some(pending) => say(
+            sink,
+            &["resumed ", pending.plan.id.as_str(), "\n"],
+            Status::Done,
+        ),
+        None => Status::Done,
+    }
+}
+
+/// Drives the pending deployment on, from its recorded stage to the end of the call. Where none is pending nothing is done.
+pub fn resume<D: Disk, J: Journal + Drop, K: Sink, R: Runner, S: Supervise>(
+    alloc: Global,
+    state: Loaded<J>,
+    disk: &mut D,
+    sink: &mut K,
+    runner: &mut R,
+    supervisor: &mut S,
+) -> Status
+where
+    S::Ready: Drop,
+    requires held { InLoaded D.tells D.may_leave J.stands J.end state disk.old }
+    // The journal does not lie among the files of artifacts.
+    requires apart { LieElsewhere J.files }
+    // No component stands.
+    requires empty { (S.world supervisor.old).parts ≡ [] }
+    requires placed { (p : Place) × IsFront p (loaded_device state) (S.world supervisor.old) (Listed R.list R.told R.asked runner.old) (R.living runner.old) × (p.serves ≡ false) }
+    ensures call { (p : Place) → IsFront p (loaded_device state) (S.world supervisor.old) (Listed R.list R.told R.asked runner.old) (R.living runner.old) → (p.serves ≡ false) →
+        Call J.entries J.files D.may_leave D.moment D.left_since disk.old disk.new (R.list runner.old) (R.list runner.new) (K.held sink.old) (K.held sink.new) p result }
+    ensures own { result ≢ statuses.Library }
+    ensures none { R.living runner.new ≡ [] }
+    ensures others { IsTrue D.tells → Elsewhere J.files (D.seen disk.old) (D.seen disk.new) }
+    ensures disk { result ≡ statuses.Disk → Rose (D.faults disk.old) (D.faults disk.new) }
+    ensures edge { result ≡ statuses.Edge → Rose (K.faults sink.old) (K.faults sink.new) }
+    ensures quiet_disk { result ≢ statuses.Disk → result ≢ statuses.Edge → D.faults disk.new ≡ D.faults disk.old }
+    ensures quiet_sink { result ≢ statuses.Edge → K.faults sink.new ≡ K.faults sink.old }
+    ensures later { Stays (D.faults disk.old) (D.faults disk.new) × Stays (K.faults sink.old) (K.faults sink.new) }
+{
+    if let Loaded::Idle(_) = &state {
+        return say(sink, &["idle\n"], Status::Done);
+    }
+    let Ok(ready) = ready_again(alloc, state.device(), supervisor) else {
+        return Status::Memory;
+    };
+    match say_resumed(&state, sink) {
+        Status::Done => {
+            let driven = drive(state, ready, disk, sink, runner, supervisor);
+            end_call(alloc, driven, disk, sink, runner, supervisor)
+        }
+        status => status,
+    }
+}

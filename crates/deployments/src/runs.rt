@@ -1,0 +1,204 @@
+//! A document is deployed.
+ghost use Rattle.std.specs.Prelude.{◌≡◌, ◌≢◌, ◌⊎◌, ◌≤◌, [], ℕ, List, false, None, IsSome, IsTrue, IfOk, map};
+ghost use Rattle.nuc_base.specs.Faults.{Rose};
+ghost use Rattle.nuc_base.specs.declared.status.Status.TheVariants as statuses;
+ghost use Rattle.records.specs.Stored as stored;
+ghost use Rattle.records.specs.Stored.{plan_view};
+ghost use Rattle.device.specs.Devices.{IsRegularDevice};
+ghost use Rattle.device.specs.Lawful.{Allowed};
+ghost use Rattle.device.specs.Regularity.{IsRegularRecord};
+ghost use Rattle.device.specs.Sound.{IsSound};
+ghost use Rattle.deploy_state.specs.States.{InIdle, idle_device};
+ghost use Rattle.deployment_doc.specs.Sound.{AreSound};
+ghost use Rattle.step_runner.specs.Entries.{Listed};
+ghost use Rattle.session.specs.Places.{Place};
+ghost use Rattle.acceptance.specs.Accepts.{IsOpen};
+ghost use Rattle.intake.specs.Takes.{LieElsewhere};
+ghost use Rattle.deployments.specs.Calls.{Call, Elsewhere, GivenBack, IsReadiedOn, Stays};
+
+use crate::declines::{say_declined, say_full, say_refusal};
+use crate::ends::end_call;
+use crate::lines::say_disk;
+use acceptance::{Taken, accept_plan};
+use deploy_state::Idle;
+use deploying::boot;
+use deployment_doc::Document;
+use disk_model::Disk;
+use driver::Over;
+use edges::Sink;
+use gate_log::Journal;
+use intake::take_in;
+use library_core::Library;
+use nuc_base::{NoMemory, Status};
+use plan_core::Refusal;
+use preparation::{Readied, prepare};
+use records::Plan;
+use std::alloc::Global;
+use step_runner::Runner;
+use supervisor::Supervise;
+
+/// All that the plan needs, made ready before it is accepted.
+fn ready_for<J: Journal + Drop, S: Supervise>(
+    alloc: Global,
+    idle: &Idle<J>,
+    plan: &Plan,
+    supervisor: &S,
+) -> Result<Readied<S::Ready>, NoMemory>
+where
+    S::Ready: Drop,
+    requires sound { IsSound (idle_device idle.now) }
+    requires regular_device { IsRegularDevice (idle_device idle.now) }
+    requires lawful { Allowed (idle_device idle.now) (stored.Accepted (plan_view plan.now)) }
+    requires regular { IsRegularRecord (stored.Accepted (plan_view plan.now)) }
+    ensures { IfOk result (λ r. IsReadiedOn (idle_device idle.now) (plan_view plan.now) r.boots r.backs (S.coming r.items) (S.coming r.earlier)) }
+{
+    let device = idle.device();
+    let Some(origin) = &device.origin else {
+        unreachable!();
+    };
+    prepare(alloc, supervisor, origin, &device.set, plan)
+}
+
+/// Accepts the plan, and drives its deployment to the end of the call. For want of memory the plan may be given back.
+fn run_plan<D: Disk, J: Journal + Drop, K: Sink, R: Runner, S: Supervise>(
+    alloc: Global,
+    idle: Idle<J>,
+    plan: Plan,
+    ready: Readied<S::Ready>,
+    disk: &mut D,
+    sink: &mut K,
+    runner: &mut R,
+    supervisor: &mut S,
+) -> Status
+where
+    S::Ready: Drop,
+    requires held { InIdle D.tells D.may_leave J.stands J.end idle disk.old }
+    requires lawful { Allowed (idle_device idle) (stored.Accepted (plan_view plan)) }
+    requires regular { IsRegularRecord (stored.Accepted (plan_view plan)) }
+    requires ready { IsReadiedOn (idle_device idle) (plan_view plan) ready.boots ready.backs (S.coming ready.items) (S.coming ready.earlier) }
+    requires empty { (S.world supervisor.old).parts ≡ [] }
+    requires placed { (p : Place) × IsOpen p (idle_device idle) (S.world supervisor.old) (Listed R.list R.told R.asked runner.old) (R.living runner.old) × (p.serves ≡ false) }
+    ensures call { (p : Place) → IsOpen p (idle_device idle) (S.world supervisor.old) (Listed R.list R.told R.asked runner.old) (R.living runner.old) → (p.serves ≡ false) →
+        Call J.entries J.files D.may_leave D.moment D.left_since disk.old disk.new (R.list runner.old) (R.list runner.new) (K.held sink.old) (K.held sink.new) p result
+        ⊎ GivenBack J.entries J.files D.may_leave D.moment D.left_since disk.old disk.new (R.list runner.old) (R.list runner.new) (K.held sink.old) (K.held sink.new) p result }
+    ensures own { result ≢ statuses.Library }
+    ensures none { R.living runner.new ≡ [] }
+    ensures others { IsTrue D.tells → Elsewhere J.files (D.seen disk.old) (D.seen disk.new) }
+    ensures disk { result ≡ statuses.Disk → Rose (D.faults disk.old) (D.faults disk.new) }
+    ensures edge { result ≡ statuses.Edge → Rose (K.faults sink.old) (K.faults sink.new) }
+    ensures quiet_disk { result ≢ statuses.Disk → result ≢ statuses.Edge → D.faults disk.new ≡ D.faults disk.old }
+    ensures quiet_sink { result ≢ statuses.Edge → K.faults sink.new ≡ K.faults sink.old }
+    ensures later { Stays (D.faults disk.old) (D.faults disk.new) × Stays (K.faults sink.old) (K.faults sink.new) }
+{
+    match accept_plan(alloc, idle, plan, disk, sink) {
+        Ok(Taken::Accepted(state)) => {
+            let driven = boot(state, ready, disk, sink, runner, supervisor);
+            end_call(alloc, driven, disk, sink, runner, supervisor)
+        }
+        Ok(Taken::Full(_, at)) => say_full(at, sink),
+        Ok(Taken::NoMemory(_)) => Status::Memory,
+        Err(Over::Disk) => say_disk(sink),
+        Err(Over::Edge) => Status::Edge,
+    }
+}
+
+/// Takes a document in, and deploys it. It is refused by name where a check fails, and then the device is as before.
+pub fn run_deployment<
+    D: Disk,
+    J: Journal + Drop,
+    L: Library,
+    K: Sink,
+    R: Runner,
+    S: Supervise,
+>(
+    alloc: Global,
+    idle: Idle<J>,
+    document: &Document,
+    disk: &mut D,
+    library: &mut L,
+    sink: &mut K,
+    runner: &mut R,
+    supervisor: &mut S,
+) -> Status
+where
+    S::Ready: Drop,
+    requires held { InIdle D.tells D.may_leave J.stands J.end idle disk.old }
+    // The journal does not lie among the files of artifacts.
+    requires apart { LieElsewhere J.files }
+    requires roots { AreSound document.now.roots }
+    // No component stands.
+    requires empty { (S.world supervisor.old).parts ≡ [] }
+    requires placed { (p : Place) × IsOpen p (idle_device idle) (S.world supervisor.old) (Listed R.list R.told R.asked runner.old) (R.living runner.old) × (p.serves ≡ false) }
+    ensures call { (p : Place) → IsOpen p (idle_device idle) (S.world supervisor.old) (Listed R.list R.told R.asked runner.old) (R.living runner.old) → (p.serves ≡ false) →
+        Call J.entries J.files D.may_leave D.moment D.left_since disk.old disk.new (R.list runner.old) (R.list runner.new) (K.held sink.old) (K.held sink.new) p result
+        ⊎ GivenBack J.entries J.files D.may_leave D.moment D.left_since disk.old disk.new (R.list runner.old) (R.list runner.new) (K.held sink.old) (K.held sink.new) p result }
+    ensures none { R.living runner.new ≡ [] }
+    ensures others { IsTrue D.tells → Elsewhere J.files (D.seen disk.old) (D.seen disk.new) }
+    ensures disk { result ≡ statuses.Disk → Rose (D.faults disk.old) (D.faults disk.new) }
+    ensures edge { result ≡ statuses.Edge → Rose (K.faults sink.old) (K.faults sink.new) }
+    ensures quiet_disk { result ≢ statuses.Disk → result ≢ statuses.Edge → D.faults disk.new ≡ D.faults disk.old }
+    ensures quiet_sink { result ≢ statuses.Edge → K.faults sink.new ≡ K.faults sink.old }
+    ensures later { Stays (D.faults disk.old) (D.faults disk.new) × Stays (K.faults sink.old) (K.faults sink.new) }
+    ensures library { result ≡ statuses.Library → Rose (L.faults library.old) (L.faults library.new) }
+    ensures kept { L.content library.new ≡ L.content library.old }
+    ensures library_quiet { result ≢ statuses.Library → result ≢ statuses.Edge → L.faults library.new ≡ L.faults library.old }
+    ensures library_later { L.faults library.old ≤ L.faults library.new }
+{
+    let plan = match take_in(alloc, &idle, document, disk, library) {
+        Ok(plan) => plan,
+        Err(declined) => return say_declined(alloc, &declined, sink),
+    };
+    match ready_for(alloc, &idle, &plan, supervisor) {
+        Ok(ready) => run_plan(alloc, idle, plan, ready, disk, sink, runner, supervisor),
+        Err(_) => Status::Memory,
+    }
+}
+
+/// The same of a document in these bytes, which is refused by name where it cannot be read.
+pub fn run_document<
+    D: Disk,
+    J: Journal + Drop,
+    L: Library,
+    K: Sink,
+    R: Runner,
+    S: Supervise,
+>(
+    alloc: Global,
+    idle: Idle<J>,
+    document: &[u8],
+    disk: &mut D,
+    library: &mut L,
+    sink: &mut K,
+    runner: &mut R,
+    supervisor: &mut S,
+) -> Status
+where
+    S::Ready: Drop,
+    requires held { InIdle D.tells D.may_leave J.stands J.end idle disk.old }
+    // The journal does not lie among the files of artifacts.
+    requires apart { LieElsewhere J.files }
+    // No component stands.
+    requires empty { (S.world supervisor.old).parts ≡ [] }
+    requires placed { (p : Place) × IsOpen p (idle_device idle) (S.world supervisor.old) (Listed R.list R.told R.asked runner.old) (R.living runner.old) × (p.serves ≡ false) }
+    ensures call { (p : Place) → IsOpen p (idle_device idle) (S.world supervisor.old) (Listed R.list R.told R.asked runner.old) (R.living runner.old) → (p.serves ≡ false) →
+        Call J.entries J.files D.may_leave D.moment D.left_since disk.old disk.new (R.list runner.old) (R.list runner.new) (K.held sink.old) (K.held sink.new) p result
+        ⊎ GivenBack J.entries J.files D.may_leave D.moment D.left_since disk.old disk.new (R.list runner.old) (R.list runner.new) (K.held sink.old) (K.held sink.new) p result }
+    ensures none { R.living runner.new ≡ [] }
+    ensures others { IsTrue D.tells → Elsewhere J.files (D.seen disk.old) (D.seen disk.new) }
+    ensures disk { result ≡ statuses.Disk → Rose (D.faults disk.old) (D.faults disk.new) }
+    ensures edge { result ≡ statuses.Edge → Rose (K.faults sink.old) (K.faults sink.new) }
+    ensures quiet_disk { result ≢ statuses.Disk → result ≢ statuses.Edge → D.faults disk.new ≡ D.faults disk.old }
+    ensures quiet_sink { result ≢ statuses.Edge → K.faults sink.new ≡ K.faults sink.old }
+    ensures later { Stays (D.faults disk.old) (D.faults disk.new) × Stays (K.faults sink.old) (K.faults sink.new) }
+    ensures library { result ≡ statuses.Library → Rose (L.faults library.old) (L.faults library.new) }
+    ensures kept { L.content library.new ≡ L.content library.old }
+    ensures library_quiet { result ≢ statuses.Library → result ≢ statuses.Edge → L.faults library.new ≡ L.faults library.old }
+    ensures library_later { L.faults library.old ≤ L.faults library.new }
+{
+    match Document::read(alloc, document) {
+        Ok(document) => run_deployment(
+            alloc, idle, &document, disk, library, sink, runner, supervisor,
+        ),
+        Err(fault) => say_refusal(alloc, &Refusal::from(fault), sink),
+    }
+}

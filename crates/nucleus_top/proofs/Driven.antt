@@ -1,0 +1,382 @@
+-- What the steps of `deploy` and `resume` come to.
+use Rattle.std.proofs.Common.{◌≡◌, ◌≢◌, ◌∙◌, ◌⊎◌, inl, inr, ℕ, List, [], ◌++◌, refl, sym, ap, subst, append-nil, arith}
+use Rattle.std.specs.Prelude.{◌≤◌, Bool, false, IsTrue, Option, Result, Ok, Err, true, IfOk, IfErr, IsErrOf, Contains}
+use Rattle.std.proofs.lemmas.Bool.{false≢true}
+use Rattle.nuc_base.proofs.Lists.{in_nil}
+use Rattle.nuc_base.specs.Faults.{Rose}
+use Rattle.nuc_base.specs.declared.status.Status.{Status}
+use Rattle.nuc_base.specs.declared.status.Status.TheVariants as status
+use Rattle.std.proofs.KnownBytes.{Appends-nil}
+use Rattle.command_words.specs.Laws.{AsksOnce}
+use Rattle.command_words.specs.Words.{IsOrder}
+use Rattle.command_words.specs.declared.order.Order.{Order}
+use Rattle.command_words.specs.declared.order.Order.TheVariants as orders
+use Rattle.edges.specs.declared.source.ReadFault.{ReadFault}
+use Rattle.edges.specs.declared.source.ReadFault.TheVariants as reading
+use Rattle.disk_model.specs.Disk.{Image, After, DiskLaws, Leaves}
+use Rattle.disk_model.specs.Listing.{artifacts, IsBelow}
+use Rattle.disk_model.specs.Moments.{at_start, none_spares, then_spares, weaker}
+use Rattle.disk_model.specs.Spares.{Spares}
+use Rattle.gate_log.specs.Journal.{JournalLaws}
+use Rattle.checkpoint_log.specs.Slots.{slots_entries, slots_files}
+use Rattle.device.specs.Devices.{Device}
+use Rattle.deploy_state.specs.States.{InLoaded, activating_device, backing_device, booting_device, idle_device, rolling_device}
+use Rattle.deploy_state.specs.declared.fault.LoadFault.{LoadFault}
+use Rattle.deploy_state.specs.declared.fault.LoadFault.TheVariants as load
+use Rattle.deploy_state.specs.declared.state.Loaded.{Loaded}
+use Rattle.deploy_state.specs.declared.state.Loaded.TheVariants as loaded
+use Rattle.artifact_store.specs.Laws.{JournalsLieElsewhere}
+use Rattle.artifact_store.specs.declared.fault.SweepFault.{SweepFault}
+use Rattle.artifact_store.specs.declared.fault.SweepFault.TheVariants as sweep
+use Rattle.step_runner.specs.Entries.{Told as Heard}
+use Rattle.step_runner.specs.declared.entries.RunnerEntry.{RunnerEntry}
+use Rattle.supervisor.specs.World.{World}
+use Rattle.session.specs.Courses.{IsStart, Stands}
+use Rattle.session.specs.Follows.{Lives}
+use Rattle.session.specs.Places.{Place, beginning}
+use Rattle.driver.specs.Stands.{IsFront}
+use Rattle.intake.specs.Takes.{LieElsewhere}
+use Rattle.intake.proofs.Staying.{hand_stays}
+use Rattle.acceptance.specs.Accepts.{IsOpen}
+use Rattle.deployments.specs.Calls.{Call, GivenBack, Says, Spared, Stays}
+use Rattle.nucleus_top.specs.Answers.{Input, IsUnchanged, Printed, Prints, Shelf, Store, Told, lines_of, status_of}
+use Rattle.nucleus_top.specs.Asked.{AsksFor, asked_of}
+use Rattle.nucleus_top.specs.Drives.{DriveParts, Drives, IsDriven, IsDrivenFrom, IsFirst, IsPending, IsTurnedAway, TellsSweep, TellsUnread}
+use Rattle.nucleus_top.specs.Opening.{Stands as StandsFor}
+use Rattle.nucleus_top.specs.Parts.{Parts}
+use Rattle.nucleus_top.specs.Refusing.{TellsFault}
+use Rattle.nucleus_top.specs.Words.{Asks, IsBuilt}
+use Rattle.nucleus_top.specs.declared.answer.Answer.{Answer}
+use Rattle.nucleus_top.specs.declared.asking.Asked.{Asked}
+use Rattle.nucleus_top.specs.declared.answer.Answer.TheVariants.{Damaged, DiskFailed, NoMemory, NotInitialised, Pending, SourceFailed}
+use Rattle.nucleus_top.proofs.Ends.{parts}
+
+-- ---- answers
+
+-- an answer that is told is one line at most, and a front of it where the sink failed
+pub says_of : (printed : Printed) (result : Status) (a : Answer) → Told printed result a → Says printed.before printed.after result
+says_of printed result a (inl told) = (lines_of a, (lines_of a, [], sym (append-nil (lines_of a)), told.1), λ other. told.1)
+says_of printed result a (inr told) = (lines_of a, told.1.front, λ other. absurd (other told.0))
+
+-- a journal that gives no device
+pub first_of : (fault : LoadFault) (a : Answer) → TellsFault fault a → IsFirst a
+first_of load.Disk DiskFailed tells = tt
+first_of load.NotInitialised NotInitialised tells = tt
+first_of (load.Damaged at) (Damaged place) tells = tt
+first_of (load.Damaged at) NoMemory tells = tt
+first_of load.NoMemory NoMemory tells = tt
+first_of fault a tells = absurd tells
+
+pub disk_of : (fault : LoadFault) (a : Answer) → TellsFault fault a → a ≡ DiskFailed → fault ≡ load.Disk
+disk_of load.Disk a tells is = refl
+disk_of load.NotInitialised a tells is = absurd (subst (TellsFault load.NotInitialised) is tells)
+disk_of (load.Damaged at) a tells is = absurd (subst (TellsFault (load.Damaged at)) is tells)
+disk_of load.NoMemory a tells is = absurd (subst (TellsFault load.NoMemory) is tells)
+
+-- stray files that are not swept
+pub swept_first : (fault : SweepFault) (a : Answer) → TellsSweep fault a → IsFirst a
+swept_first sweep.Disk DiskFailed tells = tt
+swept_first sweep.NoMemory NoMemory tells = tt
+swept_first fault a tells = absurd tells
+
+pub swept_disk : (fault : SweepFault) (a : Answer) → TellsSweep fault a → a ≡ DiskFailed → fault ≡ sweep.Disk
+swept_disk sweep.Disk a tells is = refl
+swept_disk sweep.NoMemory a tells is = absurd (subst (TellsSweep sweep.NoMemory) is tells)
+
+pub disk_swept : (fault : SweepFault) (a : Answer) → TellsSweep fault a → fault ≡ sweep.Disk → a ≡ DiskFailed
+disk_swept sweep.Disk DiskFailed tells is = refl
+disk_swept sweep.NoMemory a tells is = cc
+disk_swept sweep.Disk a tells is = absurd tells
+
+-- a pending deployment
+pub pending_no_disk : {S : Type 0} (result : Result S Answer) → IfErr result (λ a. IsPending a) → IsErrOf result DiskFailed → ⊥
+pending_no_disk {S} result pends is = subst (λ (r : Result S Answer). IfErr r (λ a. IsPending a)) is pends
+
+pub pending_too : {S : Type 0} (result : Result S Answer) → IfErr result (λ a. IsPending a) → IfErr result (λ a. IsFirst a ⊎ IsPending a)
+pending_too (Ok s) pends = tt
+pending_too (Err a) pends = inr pends
+
+pub first_by : {A B C : Type 0} → (A → C) → A ⊎ B → C ⊎ B
+first_by gives (inl a) = inl (gives a)
+first_by gives (inr b) = inr b
+
+-- ---- counts
+
+pub stays : (old new : ℕ) → old ≤ new → Stays old new
+stays old new later = omega (arith, later)
+
+pub stays_on : (old mid new : ℕ) → old ≤ mid → Stays mid new → Stays old new
+stays_on old mid new first second = omega (arith, first, second)
+
+-- ---- such an answer told
+
+abbrev IsRefusal : Answer → Type 0
+IsRefusal a = IsFirst a ⊎ IsPending a
+
+refusal_disk : (a : Answer) → IsRefusal a → status_of a ≡ status.Disk → a ≡ DiskFailed
+refusal_disk DiskFailed is same = refl
+refusal_disk NotInitialised is same = cc
+refusal_disk (Damaged place) is same = cc
+refusal_disk (Pending id) is same = cc
+refusal_disk NoMemory is same = cc
+refusal_disk a (inl is) same = absurd is
+refusal_disk a (inr is) same = absurd is
+
+refusal_edge : (a : Answer) → IsRefusal a → status_of a ≡ status.Edge → ⊥
+refusal_edge DiskFailed is same = cc
+refusal_edge NotInitialised is same = cc
+refusal_edge (Damaged place) is same = cc
+refusal_edge (Pending id) is same = cc
+refusal_edge NoMemory is same = cc
+refusal_edge a (inl is) same = absurd is
+refusal_edge a (inr is) same = absurd is
+
+refusal_library : (a : Answer) → IsRefusal a → status_of a ≡ status.Library → ⊥
+refusal_library DiskFailed is same = cc
+refusal_library NotInitialised is same = cc
+refusal_library (Damaged place) is same = cc
+refusal_library (Pending id) is same = cc
+refusal_library NoMemory is same = cc
+refusal_library a (inl is) same = absurd is
+refusal_library a (inr is) same = absurd is
+
+-- what a refusal that is told says of the faults
+pub record Tells (printed : Printed) (result : Status) (a : Answer) : Type 0 where
+  pub disk : result ≡ status.Disk → a ≡ DiskFailed
+  pub edge : result ≡ status.Edge → Rose printed.faults_before printed.faults_after
+  pub library : result ≡ status.Library → ⊥
+  pub quiet : result ≢ status.Disk → result ≢ status.Edge → a ≢ DiskFailed
+  pub quiet_sink : result ≢ status.Edge → printed.faults_after ≡ printed.faults_before
+
+pub tells : (printed : Printed) (result : Status) (a : Answer) → IsFirst a ⊎ IsPending a → Told printed result a → Tells printed result a
+tells printed result a is (inl told) = record {
+  disk = λ same. refusal_disk a is (sym told.0 ∙ same);
+  edge = λ same. absurd (refusal_edge a is (sym told.0 ∙ same));
+  library = λ same. refusal_library a is (sym told.0 ∙ same);
+  quiet = λ other more fails. other (told.0 ∙ ap status_of fails);
+  quiet_sink = λ other. told.2;
+}
+tells printed result a is (inr told) = record {
+  disk = λ same. cc;
+  edge = λ same. told.1.rose;
+  library = λ same. cc;
+  quiet = λ other more. absurd (more told.0);
+  quiet_sink = λ other. absurd (other told.0);
+}
+
+-- and so of a document that is not read
+pub record TellsNone (f : ReadFault) (printed : Printed) (result : Status) : Type 0 where
+  pub disk : result ≡ status.Disk → ⊥
+  pub edge : result ≡ status.Edge → (f ≡ reading.Edge) ⊎ Rose printed.faults_before printed.faults_after
+  pub library : result ≡ status.Library → ⊥
+  pub quiet : result ≢ status.Edge → f ≢ reading.Edge
+  pub quiet_sink : result ≢ status.Edge → printed.faults_after ≡ printed.faults_before
+
+pub tells_none : (printed : Printed) (result : Status) (f : ReadFault) (a : Answer) → TellsUnread f a → Told printed result a → TellsNone f printed result
+tells_none printed result f a is (inr told) = record {
+  disk = λ same. cc;
+  edge = λ same. inr told.1.rose;
+  library = λ same. cc;
+  quiet = λ other. absurd (other told.0);
+  quiet_sink = λ other. absurd (other told.0);
+}
+tells_none printed result reading.Edge SourceFailed is (inl told) = record {
+  disk = λ same. cc;
+  edge = λ same. inl refl;
+  library = λ same. cc;
+  quiet = λ other. absurd (other told.0);
+  quiet_sink = λ other. absurd (other told.0);
+}
+tells_none printed result reading.NoMemory NoMemory is (inl told) = record {
+  disk = λ same. cc;
+  edge = λ same. cc;
+  library = λ same. cc;
+  quiet = λ other same. cc;
+  quiet_sink = λ other. told.2;
+}
+tells_none printed result f a is (inl told) = absurd is
+
+-- ---- states
+
+pub kept_ok : {T E : Type 0} (P : T → Type 0) (state : T) (result : Result T E) → IfOk result (λ s. s ≡ state) → P state → IfOk result P
+kept_ok P state (Ok s) is holds = subst P (sym is) holds
+kept_ok P state (Err e) is holds = tt
+
+pub idle_ok : {T S E : Type 0} (P : T → Type 0) (of : S → T) (state : T) (result : Result S E) → IfOk result (λ s. state ≡ of s) → P state → IfOk result (λ s. P (of s))
+idle_ok P of state (Ok s) is holds = subst P is holds
+idle_ok P of state (Err e) is holds = tt
+
+-- the journal's slots do not lie in the folder of the artifacts
+pub slots_elsewhere : JournalsLieElsewhere → LieElsewhere slots_files
+slots_elsewhere law name (inl is) below = law.0 (subst (IsBelow artifacts) is below)
+slots_elsewhere law name (inr is) below = law.1 (subst (IsBelow artifacts) is below)
+
+module _ {D J : Type 0} {tells : Bool} {seen : D → Image} {may_leave : D → Image → Type 0} {moment : D → ℕ} {left_since : D → ℕ → Image → Type 0}
+    (laws : DiskLaws tells seen may_leave moment left_since)
+    {files : List ℕ → Type 0} {entries : Image → List (List ℕ) → Type 0} {holds_none : Image → Type 0} {is_damaged : Image → ℕ → Type 0}
+    {stands : J → Image → List (List ℕ) → Type 0} {end : J → ℕ} (journal : JournalLaws files entries holds_none is_damaged stands end) (apart : LieElsewhere files) where
+  -- whatever becomes of the files of artifacts, a state stays one of the disk
+  pub loaded_stays : (s : Loaded J) (old new : D) → Spared may_leave moment left_since old new → InLoaded tells may_leave stands end s old → InLoaded tells may_leave stands end s new
+  loaded_stays (loaded.Idle s) old new leaves held = (hand_stays laws journal apart s.log (idle_device s) old new leaves held.0, held.1)
+  loaded_stays (loaded.Booting s) old new leaves held = ((hand_stays laws journal apart s.hand.log (booting_device s) old new leaves held.0.0, held.0.1), held.1)
+  loaded_stays (loaded.Activating s) old new leaves held = ((hand_stays laws journal apart s.hand.log (activating_device s) old new leaves held.0.0, held.0.1), held.1)
+  loaded_stays (loaded.Backing s) old new leaves held = ((hand_stays laws journal apart s.hand.log (backing_device s) old new leaves held.0.0, held.0.1), held.1)
+  loaded_stays (loaded.Rolling s) old new leaves held = ((hand_stays laws journal apart s.hand.log (rolling_device s) old new leaves held.0.0, held.0.1), held.1)
+
+-- ---- a call begins
+
+-- no component from before
+abbrev pub no_world : World
+no_world = record { parts = []; moment = 0; steady = true }
+
+-- the place of a call that begins with this device and this runner
+abbrev pub begun : Device → Heard → Place
+begun d told = beginning false 0 d told.moment told.asked
+
+no_lives : (d : Device) (told : Heard) (n : ℕ) → Lives n (begun d told) → ⊥
+no_lives d told n (inl some) = absurd (false≢true some)
+no_lives d told n (inr boot) = absurd boot
+
+stands_begun : (d : Device) (told : Heard) (living : List ℕ) → living ≡ [] → Stands (begun d told) d no_world told living
+stands_begun d told living none = record {
+  device_is = refl;
+  world_is = refl;
+  answered = refl;
+  not_before = omega arith;
+  asked = refl;
+  children = λ n. (λ has. absurd (in_nil n (subst (λ (xs : List ℕ). Contains xs n) none has)), λ lives. absurd (no_lives d told n lives));
+}
+
+pub open_begun : (d : Device) (world : World) (told : Heard) (living : List ℕ) → world ≡ no_world → living ≡ [] → IsOpen (begun d told) d world told living
+open_begun d world told living is none = subst (λ (w : World). IsOpen (begun d told) d w told living) (sym is) (record {
+  stands = stands_begun d told living none;
+  quiet = record { told = refl; none = refl };
+  going = refl;
+  boot = refl;
+  boot_end = refl;
+  takes = λ serves. absurd (false≢true serves);
+  over = refl;
+  cut = refl;
+})
+
+pub front_begun : (d : Device) (world : World) (told : Heard) (living : List ℕ) → world ≡ no_world → living ≡ [] → IsFront (begun d told) d world told living
+front_begun d world told living is none = subst (λ (w : World). IsFront (begun d told) d w told living) (sym is) (record {
+  between = record {
+    stands = stands_begun d told living none;
+    still = record { stopped = refl; quiet = record { told = refl; none = refl }; crew = refl; cut = refl };
+    boot = refl;
+    boot_end = refl;
+    probed = refl;
+  };
+  over = refl;
+})
+
+-- ---- calls one after another
+
+module _ {D : Type 0} {tells : Bool} {seen : D → Image} {may_leave : D → Image → Type 0} {moment : D → ℕ} {left_since : D → ℕ → Image → Type 0}
+    (laws : DiskLaws tells seen may_leave moment left_since) where
+  -- a call that changes nothing
+  pub same_spared : (old new : D) → Leaves moment left_since old new (may_leave old) → Spared may_leave moment left_since old new
+  same_spared old new leaves = weaker laws old new _ _ (none_spares (may_leave old) (IsBelow artifacts)) leaves
+
+  -- no call
+  pub start_spared : (d : D) → Spared may_leave moment left_since d d
+  start_spared d = same_spared d d (at_start laws d)
+
+  pub then_spared : (old mid new : D) → Spared may_leave moment left_since old mid → Spared may_leave moment left_since mid new → Spared may_leave moment left_since old new
+  then_spared old mid new first second = then_spares laws (IsBelow artifacts) old mid new first second
+
+  -- behind a call that changes files of artifacts alone
+  module _ (old mid new : D) (first : Spared may_leave moment left_since old mid) (old_list new_list : Option (List RunnerEntry)) (old_held new_held : Option (List ℕ)) (result : Status) where
+    call_on : (p : Place) → Call slots_entries slots_files may_leave moment left_since mid new old_list new_list old_held new_held p result
+        → Call slots_entries slots_files may_leave moment left_since old new old_list new_list old_held new_held p result
+    call_on p call = record {
+      from = call.from;
+      to = call.to;
+      before = then_spared old mid call.from first call.before;
+      history = call.history;
+      went = call.went;
+      after = call.after;
+      bare = call.bare;
+      prints = call.prints;
+      ends = call.ends;
+    }
+
+    given_on : (p : Place) → GivenBack slots_entries slots_files may_leave moment left_since mid new old_list new_list old_held new_held p result
+        → GivenBack slots_entries slots_files may_leave moment left_since old new old_list new_list old_held new_held p result
+    given_on p given = record {
+      memory = given.memory;
+      from = given.from;
+      before = then_spared old mid given.from first given.before;
+      plan = given.plan;
+      moments = given.moments;
+      stands = given.stands;
+      list = given.list;
+      held = given.held;
+      bare = given.bare;
+    }
+
+    either_on : (p : Place)
+        → Call slots_entries slots_files may_leave moment left_since mid new old_list new_list old_held new_held p result ⊎ GivenBack slots_entries slots_files may_leave moment left_since mid new old_list new_list old_held new_held p result
+        → Call slots_entries slots_files may_leave moment left_since old new old_list new_list old_held new_held p result ⊎ GivenBack slots_entries slots_files may_leave moment left_since old new old_list new_list old_held new_held p result
+    either_on p (inl call) = inl (call_on p call)
+    either_on p (inr given) = inr (given_on p given)
+
+    pub driven_on : (d : Device) → IsDrivenFrom d may_leave moment left_since mid new old_list new_list old_held new_held result
+        → IsDrivenFrom d may_leave moment left_since old new old_list new_list old_held new_held result
+    driven_on d driven = record {
+      place = driven.place;
+      start = driven.start;
+      serves = driven.serves;
+      device_is = driven.device_is;
+      call = either_on driven.place driven.call;
+    }
+
+    pub ran_on : (d : Device) (Same : Type 0) → (IsTrue tells → StandsFor (seen old) d)
+        → (IsTurnedAway may_leave moment left_since mid new old_held new_held result × Same) ⊎ IsDrivenFrom d may_leave moment left_since mid new old_list new_list old_held new_held result
+        → (IsTurnedAway may_leave moment left_since old new old_held new_held result × Same) ⊎ IsDriven tells seen may_leave moment left_since old new old_list new_list old_held new_held result
+    ran_on d Same stands (inl away) = inl (record { spared = then_spared old mid new first away.0.spared; says = away.0.says }, away.1)
+    ran_on d Same stands (inr driven) = inr (d, stands, driven_on d driven)
+
+-- ---- words
+
+-- words that ask this command ask no other that is built
+pub no_quiet : AsksOnce → (words : List (List ℕ)) (root : List ℕ) (order other : Order) → (IsBuilt other → ⊥) → IsOrder words root other → Asks words order → ⊥
+no_quiet once words root order other unbuilt is asks = unbuilt (subst IsBuilt (once words asks.root root order other asks.is_order is).1 asks.is_built)
+
+-- nor do words that ask another command ask to drive
+pub no_drive : AsksOnce → (words : List (List ℕ)) (root : List ℕ) (order : Order) → IsOrder words root order → order ≢ orders.Deploy → order ≢ orders.Resume → Drives words → ⊥
+no_drive once words root order is deploys resumes (other, inl drives) = deploys (once words root other order orders.Deploy is drives).1
+no_drive once words root order is deploys resumes (other, inr drives) = resumes (once words root other order orders.Resume is drives).1
+
+asks_by : AsksOnce → (words : List (List ℕ)) (root : List ℕ) (order : Order) → IsOrder words root order → AsksFor words (asked_of order)
+asks_by once words root orders.Deploy is = (root, is)
+asks_by once words root orders.Resume is = (root, is)
+asks_by once words root order is = no_drive once words root order is (λ same. cc) (λ same. cc)
+
+-- what the words ask by the command that is read from them
+pub asks_for : AsksOnce → (words : List (List ℕ)) (root : List ℕ) (order : Order) (a : Asked) → IsOrder words root order → a ≡ asked_of order → AsksFor words a
+asks_for once words root order a is same = subst (λ (x : Asked). AsksFor words x) (sym same) (asks_by once words root order is)
+
+-- Nothing is done where memory for the words is refused.
+module _ (words : List (List ℕ)) (store : Store) (input : Input) (library : Shelf) (printed : Printed) (same : IsUnchanged store)
+    (disk : store.faults_after ≡ store.faults_before) (source : input.faults_after ≡ input.faults_before) (shelf : library.faults_after ≡ library.faults_before)
+    (sink : printed.faults_after ≡ printed.faults_before) where
+  pub unread_parts : AsksOnce → Prints printed [] → Parts words store input library printed status.Memory
+  unread_parts once prints =
+      parts words store input library printed status.Memory once NoMemory (inr (inr (refl, same))) (record { disk = λ other. disk; source = λ other. source }) (λ other. shelf) (inl (refl, prints, sink))
+
+  pub unread_drives : DriveParts store input library printed status.Memory
+  unread_drives = record {
+    disk = λ is. cc;
+    disk_stays = λ other more. disk;
+    edge = λ is. cc;
+    edges_stay = λ other. (source, sink);
+    library_failed = λ is. cc;
+    library_stays = λ other more. shelf;
+    others = λ told name apart outside. ap (λ (i : Image). i name) same;
+  }
+
+-- and nothing said
+pub says_none : (held : Option (List ℕ)) (result : Status) → Says held held result
+says_none held result = ([], ([], [], refl, Appends-nil held), λ other. Appends-nil held)

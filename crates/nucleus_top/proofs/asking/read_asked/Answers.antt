@@ -1,0 +1,19 @@
+use Rattle.std.proofs.Common.{List, ℕ, map, string_bytes, inl, inr, arith}
+use Rattle.command_words.specs.Words.{IsOrder}
+use Rattle.command_words.specs.declared.order.Order.TheVariants as orders
+use Rattle.nucleus_top.proofs.Driven.{asks_for}
+use Rattle.nucleus_top.proofs.asking.read_asked.Goals as goal
+
+pub returns-in-Ok : goal.returns-in-Ok
+returns-in-Ok c =
+    let words : List (List ℕ) = map string_bytes c.args.words.now.items in
+    let was : IsOrder words c.in-Ok._root c.in-Ok.order = grind (arith, c.in-Ok.ensures, c.in-Ok._root-is, c.in-Ok.order-is) in
+    asks_for c.words_ask_one_thing.ensures words c.in-Ok._root c.in-Ok.order c.asked_by.result was c.asked_by.ensures
+
+pub returns-in-Err-Usage : goal.returns-in-Err-Usage
+returns-in-Err-Usage c = λ drives.
+    let refuses = rw c.in-Err-Usage.field-0-is at c.in-Err-Usage.ensures in
+    elim drives.1 [
+      | inl is ↦ refuses (drives.0, orders.Deploy) is
+      | inr is ↦ refuses (drives.0, orders.Resume) is
+    ]

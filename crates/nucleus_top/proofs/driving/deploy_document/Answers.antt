@@ -1,0 +1,65 @@
+use Rattle.std.proofs.Common.{refl, ap}
+use Rattle.deploy_state.specs.States.{idle_device}
+use Rattle.step_runner.specs.Entries.{Listed}
+use Rattle.supervisor.specs.World.{World}
+use Rattle.nucleus_top.proofs.Driven.{begun, open_begun, slots_elsewhere}
+use Rattle.nucleus_top.proofs.driving.deploy_document.Goals as goal
+
+pub run_document-requires-clause-held : goal.run_document-requires-clause-held
+run_document-requires-clause-held g c = c.requires.held
+
+pub run_document-requires-clause-apart : goal.run_document-requires-clause-apart
+run_document-requires-clause-apart g c = slots_elsewhere c.needed_files_stay.ensures.journals
+
+pub run_document-requires-clause-empty : goal.run_document-requires-clause-empty
+run_document-requires-clause-empty g c = ap (λ (w : World). w.parts) c.new-supervisor.ensures
+
+pub run_document-requires-clause-placed : goal.run_document-requires-clause-placed
+run_document-requires-clause-placed g c =
+    let told = Listed g.R.Runner.list g.R.Runner.told g.R.Runner.asked c.args.runner.now in
+    (begun (idle_device c.args.idle) told, open_begun (idle_device c.args.idle) c.new-supervisor.result told (g.R.Runner.living c.args.runner.now) c.new-supervisor.ensures c.requires.none, refl)
+
+pub returns-clause-driven : goal.returns-clause-driven
+returns-clause-driven g c =
+    let told = Listed g.R.Runner.list g.R.Runner.told g.R.Runner.asked c.args.runner.now in
+    let place = begun (idle_device c.args.idle) told in
+    record {
+      place = place;
+      start = refl;
+      serves = refl;
+      device_is = refl;
+      call = c.run_document.ensures.call place (open_begun (idle_device c.args.idle) c.new-supervisor.result told (g.R.Runner.living c.args.runner.now) c.new-supervisor.ensures c.requires.none) refl;
+    }
+
+pub returns-clause-none : goal.returns-clause-none
+returns-clause-none g c = c.run_document.ensures.none
+
+pub returns-clause-others : goal.returns-clause-others
+returns-clause-others g c = c.run_document.ensures.others
+
+pub returns-clause-disk : goal.returns-clause-disk
+returns-clause-disk g c = c.run_document.ensures.disk
+
+pub returns-clause-edge : goal.returns-clause-edge
+returns-clause-edge g c = c.run_document.ensures.edge
+
+pub returns-clause-quiet_disk : goal.returns-clause-quiet_disk
+returns-clause-quiet_disk g c = c.run_document.ensures.quiet_disk
+
+pub returns-clause-quiet_sink : goal.returns-clause-quiet_sink
+returns-clause-quiet_sink g c = c.run_document.ensures.quiet_sink
+
+pub returns-clause-later : goal.returns-clause-later
+returns-clause-later g c = c.run_document.ensures.later
+
+pub returns-clause-library : goal.returns-clause-library
+returns-clause-library g c = c.run_document.ensures.library
+
+pub returns-clause-library_quiet : goal.returns-clause-library_quiet
+returns-clause-library_quiet g c = c.run_document.ensures.library_quiet
+
+pub returns-clause-library_later : goal.returns-clause-library_later
+returns-clause-library_later g c = c.run_document.ensures.library_later
+
+pub returns-clause-kept : goal.returns-clause-kept
+returns-clause-kept g c = c.run_document.ensures.kept

@@ -1,0 +1,85 @@
+use Rattle.std.proofs.Common.{inl, inr, refl, ap, arith}
+use Rattle.std.specs.Prelude.{Err}
+use Rattle.nucleus_top.specs.Answers.{Printed, printed_of}
+use Rattle.nucleus_top.proofs.Driven.{first_by, says_of, start_spared, stays, tells_none}
+use Rattle.nucleus_top.proofs.driving.deploy_read.Goals as goal
+
+-- ---- the document is read
+
+pub deploy_document-requires-clause-held : goal.deploy_document-requires-clause-held
+deploy_document-requires-clause-held g c = c.requires.held
+
+pub deploy_document-requires-clause-none : goal.deploy_document-requires-clause-none
+deploy_document-requires-clause-none g c = c.requires.none
+
+pub returns-in-Ok-clause-ran : goal.returns-in-Ok-clause-ran
+returns-in-Ok-clause-ran g c = inr c.deploy_document.ensures.driven
+
+pub returns-in-Ok-clause-none : goal.returns-in-Ok-clause-none
+returns-in-Ok-clause-none g c = c.deploy_document.ensures.none
+
+pub returns-in-Ok-clause-others : goal.returns-in-Ok-clause-others
+returns-in-Ok-clause-others g c = c.deploy_document.ensures.others
+
+pub returns-in-Ok-clause-disk : goal.returns-in-Ok-clause-disk
+returns-in-Ok-clause-disk g c = c.deploy_document.ensures.disk
+
+pub returns-in-Ok-clause-quiet_disk : goal.returns-in-Ok-clause-quiet_disk
+returns-in-Ok-clause-quiet_disk g c = c.deploy_document.ensures.quiet_disk
+
+pub returns-in-Ok-clause-quiet_sink : goal.returns-in-Ok-clause-quiet_sink
+returns-in-Ok-clause-quiet_sink g c = c.deploy_document.ensures.quiet_sink
+
+pub returns-in-Ok-clause-later : goal.returns-in-Ok-clause-later
+returns-in-Ok-clause-later g c = c.deploy_document.ensures.later
+
+pub returns-in-Ok-clause-library : goal.returns-in-Ok-clause-library
+returns-in-Ok-clause-library g c = c.deploy_document.ensures.library
+
+pub returns-in-Ok-clause-library_quiet : goal.returns-in-Ok-clause-library_quiet
+returns-in-Ok-clause-library_quiet g c = c.deploy_document.ensures.library_quiet
+
+pub returns-in-Ok-clause-edge : goal.returns-in-Ok-clause-edge
+returns-in-Ok-clause-edge g c = λ is. inr (c.deploy_document.ensures.edge is)
+
+pub returns-in-Ok-clause-quiet_source : goal.returns-in-Ok-clause-quiet_source
+returns-in-Ok-clause-quiet_source g c = λ other. c.in-Ok.ensures.quiet (λ is. cc)
+
+-- ---- it is not
+
+pub returns-in-Err-clause-ran : goal.returns-in-Err-clause-ran
+returns-in-Err-clause-ran g c =
+    let printed : Printed = printed_of g.K.Sink.held g.K.Sink.faults c.args.sink.now c.tell.new.sink in
+    inl (record { spared = start_spared g.met.D.Disk.laws c.args.disk.now; says = says_of printed c.tell.result c.unread.result c.tell.ensures.told }, refl {a = c.args.runner.now})
+
+pub returns-in-Err-clause-others : goal.returns-in-Err-clause-others
+returns-in-Err-clause-others g c = λ told name apart outside. refl
+
+pub returns-in-Err-clause-disk : goal.returns-in-Err-clause-disk
+returns-in-Err-clause-disk g c = λ is.
+    let printed : Printed = printed_of g.K.Sink.held g.K.Sink.faults c.args.sink.now c.tell.new.sink in
+    absurd ((tells_none printed c.tell.result c.in-Err.fault c.unread.result c.unread.ensures c.tell.ensures.told).disk is)
+
+pub returns-in-Err-clause-quiet_sink : goal.returns-in-Err-clause-quiet_sink
+returns-in-Err-clause-quiet_sink g c =
+    let printed : Printed = printed_of g.K.Sink.held g.K.Sink.faults c.args.sink.now c.tell.new.sink in
+    (tells_none printed c.tell.result c.in-Err.fault c.unread.result c.unread.ensures c.tell.ensures.told).quiet_sink
+
+pub returns-in-Err-clause-library : goal.returns-in-Err-clause-library
+returns-in-Err-clause-library g c = λ is.
+    let printed : Printed = printed_of g.K.Sink.held g.K.Sink.faults c.args.sink.now c.tell.new.sink in
+    absurd ((tells_none printed c.tell.result c.in-Err.fault c.unread.result c.unread.ensures c.tell.ensures.told).library is)
+
+pub returns-in-Err-clause-edge : goal.returns-in-Err-clause-edge
+returns-in-Err-clause-edge g c = λ is.
+    let printed : Printed = printed_of g.K.Sink.held g.K.Sink.faults c.args.sink.now c.tell.new.sink in
+    first_by (λ same. c.in-Err.ensures.cause (ap Err same)) ((tells_none printed c.tell.result c.in-Err.fault c.unread.result c.unread.ensures c.tell.ensures.told).edge is)
+
+pub returns-in-Err-clause-quiet_source : goal.returns-in-Err-clause-quiet_source
+returns-in-Err-clause-quiet_source g c = λ other.
+    let printed : Printed = printed_of g.K.Sink.held g.K.Sink.faults c.args.sink.now c.tell.new.sink in
+    c.in-Err.ensures.quiet (λ is. (tells_none printed c.tell.result c.in-Err.fault c.unread.result c.unread.ensures c.tell.ensures.told).quiet other (cc))
+
+pub returns-in-Err-clause-later : goal.returns-in-Err-clause-later
+returns-in-Err-clause-later g c =
+    (stays (g.D.Disk.faults c.args.disk.now) (g.D.Disk.faults c.args.disk.now) (omega arith), stays (g.K.Sink.faults c.args.sink.now) (g.K.Sink.faults c.tell.new.sink) c.tell.ensures.later)

@@ -1,0 +1,51 @@
+use Rattle.std.proofs.Common.{◌≡◌, inl, ap}
+use Rattle.std.specs.Prelude.{Err}
+use Rattle.checkpoint_log.specs.Slots.{slots_stands}
+use Rattle.checkpoint_log.specs.declared.slots.Slots.{Slots}
+use Rattle.deploy_state.specs.States.{InLoaded, loaded_device}
+use Rattle.deploy_state.specs.declared.state.Idle.{Idle}
+use Rattle.deploy_state.specs.declared.state.Loaded.{Loaded}
+use Rattle.deploy_state.specs.declared.state.Loaded.TheVariants as loaded
+use Rattle.nucleus_top.specs.Opening.{Stands}
+use Rattle.nucleus_top.specs.declared.answer.Answer.TheVariants.{DiskFailed}
+use Rattle.nucleus_top.proofs.Driven.{idle_ok, pending_no_disk, pending_too}
+use Rattle.nucleus_top.proofs.driving.open_idle.Goals as goal
+
+pub returns-in-Ok-clause-opened : goal.returns-in-Ok-clause-opened
+returns-in-Ok-clause-opened g c = λ told.
+    idle_ok (λ (s : Loaded Slots). Stands (g.D.Disk.seen c.args.disk.now) (loaded_device s)) (λ (s : Idle Slots). loaded.Idle s) c.in-Ok.state c.idle_of.result c.idle_of.ensures.idle (c.in-Ok.ensures.opened told)
+
+pub returns-in-Ok-clause-held : goal.returns-in-Ok-clause-held
+returns-in-Ok-clause-held g c =
+    idle_ok (λ (s : Loaded Slots). InLoaded g.D.Disk.tells g.D.Disk.may_leave slots_stands (λ (log : Slots). log.live.end) s c.open_swept.new.disk) (λ (s : Idle Slots). loaded.Idle s) c.in-Ok.state c.idle_of.result
+    c.idle_of.ensures.idle c.in-Ok.ensures.held
+
+pub returns-in-Ok-clause-spared : goal.returns-in-Ok-clause-spared
+returns-in-Ok-clause-spared g c = c.open_swept.ensures.spared
+
+pub returns-in-Ok-clause-others : goal.returns-in-Ok-clause-others
+returns-in-Ok-clause-others g c = c.open_swept.ensures.others
+
+pub returns-in-Ok-clause-disk : goal.returns-in-Ok-clause-disk
+returns-in-Ok-clause-disk g c = λ is. absurd (pending_no_disk c.idle_of.result c.idle_of.ensures.answers is)
+
+pub returns-in-Ok-clause-quiet : goal.returns-in-Ok-clause-quiet
+returns-in-Ok-clause-quiet g c = λ other. c.in-Ok.ensures.quiet (λ is. cc)
+
+pub returns-in-Ok-clause-answers : goal.returns-in-Ok-clause-answers
+returns-in-Ok-clause-answers g c = pending_too c.idle_of.result c.idle_of.ensures.answers
+
+pub returns-in-Err-clause-spared : goal.returns-in-Err-clause-spared
+returns-in-Err-clause-spared g c = c.open_swept.ensures.spared
+
+pub returns-in-Err-clause-others : goal.returns-in-Err-clause-others
+returns-in-Err-clause-others g c = c.open_swept.ensures.others
+
+pub returns-in-Err-clause-disk : goal.returns-in-Err-clause-disk
+returns-in-Err-clause-disk g c = λ is. c.in-Err.ensures.disk (ap Err (let same : c.in-Err.answer ≡ DiskFailed = cc in same))
+
+pub returns-in-Err-clause-quiet : goal.returns-in-Err-clause-quiet
+returns-in-Err-clause-quiet g c = λ other. c.in-Err.ensures.quiet (λ is. other (ap Err (let same : c.in-Err.answer ≡ DiskFailed = cc in same)))
+
+pub returns-in-Err-clause-answers : goal.returns-in-Err-clause-answers
+returns-in-Err-clause-answers g c = inl c.in-Err.ensures.answers

@@ -1,0 +1,51 @@
+use Rattle.std.proofs.Common.{◌∙◌, List, ℕ, ap, arith}
+use Rattle.std.specs.Prelude.{Err}
+use Rattle.nuc_base.specs.Faults.{Rose}
+use Rattle.disk_model.specs.Disk.{Image}
+use Rattle.checkpoint_log.specs.Laws.{slots_laws}
+use Rattle.checkpoint_log.specs.Slots.{slots_stands}
+use Rattle.checkpoint_log.specs.declared.slots.Slots.{Slots}
+use Rattle.deploy_state.specs.States.{InLoaded, loaded_device}
+use Rattle.deploy_state.specs.declared.state.Loaded.{Loaded}
+use Rattle.nucleus_top.specs.Opening.{Stands}
+use Rattle.nucleus_top.proofs.Driven.{disk_of, first_of, kept_ok, loaded_stays, same_spared, slots_elsewhere, then_spared}
+use Rattle.nucleus_top.proofs.Faults.{other_fault}
+use Rattle.nucleus_top.proofs.driving.open_swept.Goals as goal
+
+pub returns-in-Ok-clause-opened : goal.returns-in-Ok-clause-opened
+returns-in-Ok-clause-opened g c = λ told.
+    kept_ok (λ (s : Loaded Slots). Stands (g.D.Disk.seen c.args.disk.now) (loaded_device s)) c.in-Ok.state c.swept.result c.swept.ensures.kept (c.in-Ok.ensures.told told).1
+
+pub returns-in-Ok-clause-held : goal.returns-in-Ok-clause-held
+returns-in-Ok-clause-held g c =
+    kept_ok (λ (s : Loaded Slots). InLoaded g.D.Disk.tells g.D.Disk.may_leave slots_stands (λ (log : Slots). log.live.end) s c.swept.new.disk) c.in-Ok.state c.swept.result c.swept.ensures.kept
+    (loaded_stays g.met.D.Disk.laws slots_laws (slots_elsewhere c.needed_files_stay.ensures.journals) c.in-Ok.state c.open.new.disk c.swept.new.disk c.swept.ensures.spared c.in-Ok.ensures.held)
+
+pub returns-in-Ok-clause-spared : goal.returns-in-Ok-clause-spared
+returns-in-Ok-clause-spared g c =
+    then_spared g.met.D.Disk.laws c.args.disk.now c.open.new.disk c.swept.new.disk (same_spared g.met.D.Disk.laws c.args.disk.now c.open.new.disk c.open.ensures.moments) c.swept.ensures.spared
+
+pub returns-in-Ok-clause-others : goal.returns-in-Ok-clause-others
+returns-in-Ok-clause-others g c = λ told name apart outside. c.swept.ensures.others told name apart outside ∙ ap (λ (i : Image). i name) c.open.ensures.seen
+
+pub returns-in-Ok-clause-disk : goal.returns-in-Ok-clause-disk
+returns-in-Ok-clause-disk g c = λ is.
+    let rose : Rose (g.D.Disk.faults c.args.disk.now) (g.D.Disk.faults c.swept.new.disk) = omega (arith, c.swept.ensures.disk is, c.open.ensures.later) in rose
+
+pub returns-in-Ok-clause-quiet : goal.returns-in-Ok-clause-quiet
+returns-in-Ok-clause-quiet g c = λ other. c.swept.ensures.quiet other ∙ c.in-Ok.ensures.quiet (λ is. cc)
+
+pub returns-in-Err-clause-spared : goal.returns-in-Err-clause-spared
+returns-in-Err-clause-spared g c = same_spared g.met.D.Disk.laws c.args.disk.now c.open.new.disk c.open.ensures.moments
+
+pub returns-in-Err-clause-others : goal.returns-in-Err-clause-others
+returns-in-Err-clause-others g c = λ told name apart outside. ap (λ (i : Image). i name) c.open.ensures.seen
+
+pub returns-in-Err-clause-disk : goal.returns-in-Err-clause-disk
+returns-in-Err-clause-disk g c = λ is. c.in-Err.ensures.cause (ap Err (disk_of c.in-Err.fault c.refused.result c.refused.ensures (cc)))
+
+pub returns-in-Err-clause-quiet : goal.returns-in-Err-clause-quiet
+returns-in-Err-clause-quiet g c = λ other. c.in-Err.ensures.quiet (λ is. other_fault c.in-Err.fault c.refused.result c.refused.ensures (λ same. other (ap Err same)) (cc))
+
+pub returns-in-Err-clause-answers : goal.returns-in-Err-clause-answers
+returns-in-Err-clause-answers g c = first_of c.in-Err.fault c.refused.result c.refused.ensures

@@ -1,0 +1,109 @@
+use Rattle.std.proofs.Common.{◌∙◌, inl, inr, refl, ap, arith}
+use Rattle.std.specs.Prelude.{Err}
+use Rattle.nuc_base.specs.Faults.{Rose}
+use Rattle.deploy_state.specs.States.{loaded_device}
+use Rattle.step_runner.specs.Entries.{Listed}
+use Rattle.supervisor.specs.World.{World}
+use Rattle.nucleus_top.specs.Answers.{Printed, printed_of}
+use Rattle.nucleus_top.proofs.Driven.{begun, driven_on, front_begun, says_of, slots_elsewhere, stays, stays_on, tells}
+use Rattle.nucleus_top.proofs.driving.resume.Goals as goal
+
+-- ---- the device is there
+
+pub resume-requires-clause-held : goal.resume-requires-clause-held
+resume-requires-clause-held g c = c.in-Ok.ensures.held
+
+pub resume-requires-clause-apart : goal.resume-requires-clause-apart
+resume-requires-clause-apart g c = slots_elsewhere c.needed_files_stay.ensures.journals
+
+pub resume-requires-clause-empty : goal.resume-requires-clause-empty
+resume-requires-clause-empty g c = ap (λ (w : World). w.parts) c.new-supervisor.ensures
+
+pub resume-requires-clause-placed : goal.resume-requires-clause-placed
+resume-requires-clause-placed g c =
+    let told = Listed g.R.Runner.list g.R.Runner.told g.R.Runner.asked c.args.runner.now in
+    let d = loaded_device c.in-Ok.state in
+    (begun d told, front_begun d c.new-supervisor.result told (g.R.Runner.living c.args.runner.now) c.new-supervisor.ensures c.requires.none, refl)
+
+pub returns-in-Ok-clause-ran : goal.returns-in-Ok-clause-ran
+returns-in-Ok-clause-ran g c =
+    let told = Listed g.R.Runner.list g.R.Runner.told g.R.Runner.asked c.args.runner.now in
+    let d = loaded_device c.in-Ok.state in
+    inr (
+      d,
+      c.in-Ok.ensures.opened,
+      driven_on g.met.D.Disk.laws c.args.disk.now c.open_swept.new.disk c.resume.new.disk c.open_swept.ensures.spared
+          (g.R.Runner.list c.args.runner.now) (g.R.Runner.list c.resume.new.runner) (g.K.Sink.held c.args.sink.now) (g.K.Sink.held c.resume.new.sink) c.resume.result d
+          (record {
+            place = begun d told;
+            start = refl;
+            serves = refl;
+            device_is = refl;
+            call = inl (c.resume.ensures.call (begun d told) (front_begun d c.new-supervisor.result told (g.R.Runner.living c.args.runner.now) c.new-supervisor.ensures c.requires.none) refl);
+          }),
+    )
+
+pub returns-in-Ok-clause-none : goal.returns-in-Ok-clause-none
+returns-in-Ok-clause-none g c = c.resume.ensures.none
+
+pub returns-in-Ok-clause-others : goal.returns-in-Ok-clause-others
+returns-in-Ok-clause-others g c = λ told name apart outside. c.resume.ensures.others told name apart outside ∙ c.open_swept.ensures.others told name apart outside
+
+pub returns-in-Ok-clause-disk : goal.returns-in-Ok-clause-disk
+returns-in-Ok-clause-disk g c = λ is.
+    let rose : Rose (g.D.Disk.faults c.args.disk.now) (g.D.Disk.faults c.resume.new.disk) = omega (arith, c.resume.ensures.disk is, c.open_swept.ensures.later) in rose
+
+pub returns-in-Ok-clause-edge : goal.returns-in-Ok-clause-edge
+returns-in-Ok-clause-edge g c = c.resume.ensures.edge
+
+pub returns-in-Ok-clause-own : goal.returns-in-Ok-clause-own
+returns-in-Ok-clause-own g c = c.resume.ensures.own
+
+pub returns-in-Ok-clause-quiet_disk : goal.returns-in-Ok-clause-quiet_disk
+returns-in-Ok-clause-quiet_disk g c = λ other more. c.resume.ensures.quiet_disk other more ∙ c.in-Ok.ensures.quiet (λ is. cc)
+
+pub returns-in-Ok-clause-quiet_sink : goal.returns-in-Ok-clause-quiet_sink
+returns-in-Ok-clause-quiet_sink g c = c.resume.ensures.quiet_sink
+
+pub returns-in-Ok-clause-later : goal.returns-in-Ok-clause-later
+returns-in-Ok-clause-later g c =
+    (stays_on (g.D.Disk.faults c.args.disk.now) (g.D.Disk.faults c.open_swept.new.disk) (g.D.Disk.faults c.resume.new.disk) c.open_swept.ensures.later c.resume.ensures.later.0, c.resume.ensures.later.1)
+
+-- ---- the journal gives no device
+
+pub returns-in-Err-clause-ran : goal.returns-in-Err-clause-ran
+returns-in-Err-clause-ran g c =
+    let printed : Printed = printed_of g.K.Sink.held g.K.Sink.faults c.args.sink.now c.tell.new.sink in
+    inl (record { spared = c.open_swept.ensures.spared; says = says_of printed c.tell.result c.in-Err.answer c.tell.ensures.told }, refl {a = c.args.runner.now})
+
+pub returns-in-Err-clause-others : goal.returns-in-Err-clause-others
+returns-in-Err-clause-others g c = c.open_swept.ensures.others
+
+pub returns-in-Err-clause-disk : goal.returns-in-Err-clause-disk
+returns-in-Err-clause-disk g c = λ is.
+    let printed : Printed = printed_of g.K.Sink.held g.K.Sink.faults c.args.sink.now c.tell.new.sink in
+    c.in-Err.ensures.disk (ap Err ((tells printed c.tell.result c.in-Err.answer (inl c.in-Err.ensures.answers) c.tell.ensures.told).disk is))
+
+pub returns-in-Err-clause-edge : goal.returns-in-Err-clause-edge
+returns-in-Err-clause-edge g c =
+    let printed : Printed = printed_of g.K.Sink.held g.K.Sink.faults c.args.sink.now c.tell.new.sink in
+    (tells printed c.tell.result c.in-Err.answer (inl c.in-Err.ensures.answers) c.tell.ensures.told).edge
+
+pub returns-in-Err-clause-quiet_disk : goal.returns-in-Err-clause-quiet_disk
+returns-in-Err-clause-quiet_disk g c = λ other more.
+    let printed : Printed = printed_of g.K.Sink.held g.K.Sink.faults c.args.sink.now c.tell.new.sink in
+    c.in-Err.ensures.quiet (λ is. (tells printed c.tell.result c.in-Err.answer (inl c.in-Err.ensures.answers) c.tell.ensures.told).quiet other more (cc))
+
+pub returns-in-Err-clause-quiet_sink : goal.returns-in-Err-clause-quiet_sink
+returns-in-Err-clause-quiet_sink g c =
+    let printed : Printed = printed_of g.K.Sink.held g.K.Sink.faults c.args.sink.now c.tell.new.sink in
+    (tells printed c.tell.result c.in-Err.answer (inl c.in-Err.ensures.answers) c.tell.ensures.told).quiet_sink
+
+pub returns-in-Err-clause-own : goal.returns-in-Err-clause-own
+returns-in-Err-clause-own g c =
+    let printed : Printed = printed_of g.K.Sink.held g.K.Sink.faults c.args.sink.now c.tell.new.sink in
+    (tells printed c.tell.result c.in-Err.answer (inl c.in-Err.ensures.answers) c.tell.ensures.told).library
+
+pub returns-in-Err-clause-later : goal.returns-in-Err-clause-later
+returns-in-Err-clause-later g c =
+    (stays (g.D.Disk.faults c.args.disk.now) (g.D.Disk.faults c.open_swept.new.disk) c.open_swept.ensures.later, stays (g.K.Sink.faults c.args.sink.now) (g.K.Sink.faults c.tell.new.sink) c.tell.ensures.later)

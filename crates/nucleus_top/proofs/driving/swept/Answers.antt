@@ -1,0 +1,34 @@
+use Rattle.std.proofs.Common.{refl, ap}
+use Rattle.std.specs.Prelude.{Err}
+use Rattle.disk_model.specs.Listing.{artifacts, IsBelow}
+use Rattle.device.specs.Devices.{device_view}
+use Rattle.artifact_store.specs.Swept.{items_of, IsStray}
+use Rattle.artifact_store.proofs.Walking.{wider_spares}
+use Rattle.nucleus_top.proofs.Driven.{disk_swept, swept_disk, swept_first}
+use Rattle.nucleus_top.proofs.driving.swept.Goals as goal
+
+pub returns-in-Ok-clause-spared : goal.returns-in-Ok-clause-spared
+returns-in-Ok-clause-spared g c =
+    wider_spares g.met.D.Disk.laws (IsStray (items_of (device_view c.stored.result.now))) (IsBelow artifacts) c.args.disk.now c.sweep.new.disk (λ name is. is.0) c.sweep.ensures.moments
+
+pub returns-in-Ok-clause-others : goal.returns-in-Ok-clause-others
+returns-in-Ok-clause-others g c = λ told name apart outside. c.sweep.ensures.others told name (λ is. outside is.0)
+
+pub returns-in-Ok-clause-quiet : goal.returns-in-Ok-clause-quiet
+returns-in-Ok-clause-quiet g c = λ other. c.in-Ok.ensures.quiet (λ is. cc)
+
+pub returns-in-Err-clause-spared : goal.returns-in-Err-clause-spared
+returns-in-Err-clause-spared g c =
+    wider_spares g.met.D.Disk.laws (IsStray (items_of (device_view c.stored.result.now))) (IsBelow artifacts) c.args.disk.now c.sweep.new.disk (λ name is. is.0) c.sweep.ensures.moments
+
+pub returns-in-Err-clause-others : goal.returns-in-Err-clause-others
+returns-in-Err-clause-others g c = λ told name apart outside. c.sweep.ensures.others told name (λ is. outside is.0)
+
+pub returns-in-Err-clause-disk : goal.returns-in-Err-clause-disk
+returns-in-Err-clause-disk g c = λ is. c.in-Err.ensures.cause (ap Err (swept_disk c.in-Err.fault c.unswept.result c.unswept.ensures (cc)))
+
+pub returns-in-Err-clause-quiet : goal.returns-in-Err-clause-quiet
+returns-in-Err-clause-quiet g c = λ other. c.in-Err.ensures.quiet (λ is. other (ap Err (disk_swept c.in-Err.fault c.unswept.result c.unswept.ensures (cc))))
+
+pub returns-in-Err-clause-answers : goal.returns-in-Err-clause-answers
+returns-in-Err-clause-answers g c = swept_first c.in-Err.fault c.unswept.result c.unswept.ensures

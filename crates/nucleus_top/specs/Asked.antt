@@ -1,0 +1,19 @@
+-- What words ask, as far as it drives a deployment.
+use Rattle.std.specs.Prelude.{ℕ, List, ⊤}
+use Rattle.command_words.specs.Words.{IsOrder}
+use Rattle.command_words.specs.declared.order.Order.{Order}
+use Rattle.command_words.specs.declared.order.Order.TheVariants as orders
+use Rattle.nucleus_top.specs.Drives.{Drives}
+use Rattle.nucleus_top.specs.declared.asking.Asked.{Asked}
+use Rattle.nucleus_top.specs.declared.asking.Asked.TheVariants.{Deploy, Resume, Other, NoMemory}
+
+abbrev pub asked_of : Order → Asked
+asked_of orders.Deploy = Deploy
+asked_of orders.Resume = Resume
+asked_of _ = Other
+
+abbrev pub AsksFor : List (List ℕ) → Asked → Type 0
+AsksFor words Deploy = (root : List ℕ) × IsOrder words root orders.Deploy
+AsksFor words Resume = (root : List ℕ) × IsOrder words root orders.Resume
+AsksFor words Other = Drives words → ⊥
+AsksFor words NoMemory = ⊤

@@ -1,0 +1,39 @@
+// Whether the words ask a command that drives a deployment.
+ghost use Rattle.std.specs.Prelude.{◌≡◌, map, string_bytes};
+ghost use Rattle.nucleus_top.specs.Asked.{AsksFor, asked_of};
+
+use command_words::{Order, WordsFault, read_words, words_ask_one_thing};
+use std::alloc::Global;
+
+/// What the words ask.
+#[derive(Clone, Copy, Debug, PartialEq, Eq)]
+pub enum Asked {
+    Deploy,
+    Resume,
+    /// Another command, or nothing.
+    Other,
+    /// There is no memory to read them.
+    NoMemory,
+}
+
+fn asked_by(order: &Order) -> Asked
+    ensures { result ≡ asked_of order.now }
+{
+    match order {
+        Order::Deploy => Asked::Deploy,
+        Order::Resume => Asked::Resume,
+        _ => Asked::Other,
+    }
+}
+
+/// What the words of the command line ask.
+pub(crate) fn read_asked(alloc: Global, words: &Vec<String>) -> Asked
+    ensures { AsksFor (map string_bytes words.now.items) result }
+{
+    words_ask_one_thing();
+    match read_words(alloc, words) {
+        Ok((_root, order)) => asked_by(&order),
+        Err(WordsFault::Usage) => Asked::Other,
+        Err(WordsFault::NoMemory) => Asked::NoMemory,
+    }
+}

@@ -1,0 +1,257 @@
+// The commands that drive a deployment: `deploy` and `resume`.
+ghost use Rattle.std.specs.Prelude.{◌≡◌, ◌≢◌, ◌⊎◌, ◌≤◌, [], IsTrue, IfOk, IfErr, IsErrOf};
+ghost use Rattle.nuc_base.specs.Faults.{Rose};
+ghost use Rattle.nuc_base.specs.declared.status.Status.TheVariants as statuses;
+ghost use Rattle.checkpoint_log.specs.Slots.{slots_files, slots_stands};
+ghost use Rattle.deploy_state.specs.States.{InIdle, InLoaded, idle_device, loaded_device};
+ghost use Rattle.deployments.specs.Calls.{Elsewhere, Spared, Stays};
+ghost use Rattle.nucleus_top.specs.Opening.{Stands};
+ghost use Rattle.nucleus_top.specs.Drives.{IsDriven, IsDrivenFrom, IsFirst, IsPending, IsTurnedAway, TellsSweep, TellsUnread};
+
+use crate::answer::Answer;
+use crate::opening::{HasDevice, open, refused};
+use artifact_store::{SweepFault, needed_files_stay, sweep};
+use checkpoint_log::Slots;
+use deploy_state::{Idle, Loaded};
+use deployments::{resume as resume_on, run_document};
+use disk_model::Disk;
+use edges::{ReadFault, Sink, Source, read_up_to};
+use library_core::Library;
+use nuc_base::{Copied, DOCUMENT_LIMIT, Status};
+use std::alloc::Global;
+use step_runner::Runner;
+use supervisor::Supervisor;
+
+/// What is answered where stray files are not swept.
+fn unswept(fault: SweepFault) -> Answer
+    ensures { TellsSweep fault result }
+{
+    match fault {
+        SweepFault::Disk => Answer::DiskFailed,
+        SweepFault::NoMemory => Answer::NoMemory,
+    }
+}
+
+/// The state, once files are swept that are strays of its device.
+fn swept<T: HasDevice + Drop, D: Disk>(alloc: Global, state: T, disk: &mut D) -> Result<T, Answer>
+    ensures kept { IfOk result (λ s. s ≡ state) }
+    ensures spared { Spared D.may_leave D.moment D.left_since disk.old disk.new }
+    ensures others { IsTrue D.tells → Elsewhere slots_files (D.seen disk.old) (D.seen disk.new) }
+    ensures disk { IsErrOf result Answer.DiskFailed → Rose (D.faults disk.old) (D.faults disk.new) }
+    ensures quiet { ¬ (IsErrOf result Answer.DiskFailed) → D.faults disk.new ≡ D.faults disk.old }
+    ensures later { D.faults disk.old ≤ D.faults disk.new }
+    ensures answers { IfErr result (λ a. IsFirst a) }
+{
+    match sweep(alloc, disk, state.stored()) {
+        Ok(()) => Ok(state),
+        Err(fault) => Err(unswept(fault)),
+    }
+}
+
+/// The device for which the journal stands, once stray files are swept.
+fn open_swept<D: Disk>(alloc: Global, disk: &mut D) -> Result<Loaded<Slots>, Answer>
+    ensures opened { IsTrue D.tells → IfOk result (λ s. Stands (D.seen disk.old) (loaded_device s)) }
+    ensures held { IfOk result (λ s. InLoaded D.tells D.may_leave slots_stands (λ log. log.live.end) s disk.new) }
+    ensures spared { Spared D.may_leave D.moment D.left_since disk.old disk.new }
+    ensures others { IsTrue D.tells → Elsewhere slots_files (D.seen disk.old) (D.seen disk.new) }
+    ensures disk { IsErrOf result Answer.DiskFailed → Rose (D.faults disk.old) (D.faults disk.new) }
+    ensures quiet { ¬ (IsErrOf result Answer.DiskFailed) → D.faults disk.new ≡ D.faults disk.old }
+    ensures later { D.faults disk.old ≤ D.faults disk.new }
+    ensures answers { IfErr result (λ a. IsFirst a) }
+{
+    // The journal does not lie among the files of artifacts.
+    needed_files_stay();
+    match open(alloc, disk) {
+        Ok(state) => swept(alloc, state, disk),
+        Err(fault) => Err(refused(alloc, fault)),
+    }
+}
+
+/// The refusal that names the pending deployment.
+fn pending<T: HasDevice + Drop>(alloc: Global, state: T) -> Answer
+    ensures { IsPending result }
+{
+    let Some(pending) = &state.stored().pending else {
+        return Answer::NoMemory;
+    };
+    match pending.plan.id.copy(alloc) {
+        Ok(id) => Answer::Pending(id),
+        Err(_) => Answer::NoMemory,
+    }
+}
+
+fn idle_of(alloc: Global, state: Loaded<Slots>) -> Result<Idle<Slots>, Answer>
+    ensures idle { IfOk result (λ s. state ≡ Loaded.Idle s) }
+    ensures answers { IfErr result (λ a. IsPending a) }
+{
+    match state {
+        Loaded::Idle(idle) => Ok(idle),
+        state => Err(pending(alloc, state)),
+    }
+}
+
+/// The same of a device without a pending deployment. One with a pending deployment is refused.
+fn open_idle<D: Disk>(alloc: Global, disk: &mut D) -> Result<Idle<Slots>, Answer>
+    ensures opened { IsTrue D.tells → IfOk result (λ s. Stands (D.seen disk.old) (idle_device s)) }
+    ensures held { IfOk result (λ s. InIdle D.tells D.may_leave slots_stands (λ log. log.live.end) s disk.new) }
+    ensures spared { Spared D.may_leave D.moment D.left_since disk.old disk.new }
+    ensures others { IsTrue D.tells → Elsewhere slots_files (D.seen disk.old) (D.seen disk.new) }
+    ensures disk { IsErrOf result Answer.DiskFailed → Rose (D.faults disk.old) (D.faults disk.new) }
+    ensures quiet { ¬ (IsErrOf result Answer.DiskFailed) → D.faults disk.new ≡ D.faults disk.old }
+    ensures later { D.faults disk.old ≤ D.faults disk.new }
+    ensures answers { IfErr result (λ a. IsFirst a ⊎ IsPending a) }
+{
+    match open_swept(alloc, disk) {
+        Ok(state) => idle_of(alloc, state),
+        Err(answer) => Err(answer),
+    }
+}
+
+/// What is answered where the document cannot be read.
+fn unread(fault: ReadFault) -> Answer
+    ensures { TellsUnread fault result }
+{
+    match fault {
+        ReadFault::Edge => Answer::SourceFailed,
+        ReadFault::NoMemory => Answer::NoMemory,
+    }
+}
+
+/// Deploys the document in these bytes, with no component from before.
+fn deploy_document<D: Disk, L: Library, K: Sink, R: Runner>(
+    alloc: Global,
+    idle: Idle<Slots>,
+    document: &[u8],
+    disk: &mut D,
+    library: &mut L,
+    sink: &mut K,
+    runner: &mut R,
+) -> Status
+    requires held { InIdle D.tells D.may_leave slots_stands (λ log. log.live.end) idle disk.old }
+    requires none { R.living runner.old ≡ [] }
+    ensures driven { IsDrivenFrom (idle_device idle) D.may_leave D.moment D.left_since disk.old disk.new (R.list runner.old) (R.list runner.new) (K.held sink.old) (K.held sink.new) result }
+    ensures none { R.living runner.new ≡ [] }
+    ensures others { IsTrue D.tells → Elsewhere slots_files (D.seen disk.old) (D.seen disk.new) }
+    ensures disk { result ≡ statuses.Disk → Rose (D.faults disk.old) (D.faults disk.new) }
+    ensures edge { result ≡ statuses.Edge → Rose (K.faults sink.old) (K.faults sink.new) }
+    ensures quiet_disk { result ≢ statuses.Disk → result ≢ statuses.Edge → D.faults disk.new ≡ D.faults disk.old }
+    ensures quiet_sink { result ≢ statuses.Edge → K.faults sink.new ≡ K.faults sink.old }
+    ensures later { Stays (D.faults disk.old) (D.faults disk.new) × Stays (K.faults sink.old) (K.faults sink.new) }
+    ensures library { result ≡ statuses.Library → Rose (L.faults library.old) (L.faults library.new) }
+    ensures library_quiet { result ≢ statuses.Library → result ≢ statuses.Edge → L.faults library.new ≡ L.faults library.old }
+    ensures library_later { L.faults library.old ≤ L.faults library.new }
+    ensures kept { L.content library.new ≡ L.content library.old }
+{
+    // The journal does not lie among the files of artifacts.
+    needed_files_stay();
+    let mut supervisor = Supervisor::new(alloc);
+    run_document(
+        alloc,
+        idle,
+        document,
+        disk,
+        library,
+        sink,
+        runner,
+        &mut supervisor,
+    )
+}
+
+/// Deploys the document that the source has.
+fn deploy_read<D: Disk, L: Library, S: Source, K: Sink, R: Runner>(
+    alloc: Global,
+    idle: Idle<Slots>,
+    disk: &mut D,
+    library: &mut L,
+    source: &mut S,
+    sink: &mut K,
+    runner: &mut R,
+) -> Status
+    requires held { InIdle D.tells D.may_leave slots_stands (λ log. log.live.end) idle disk.old }
+    requires none { R.living runner.old ≡ [] }
+    ensures ran { (IsTurnedAway D.may_leave D.moment D.left_since disk.old disk.new (K.held sink.old) (K.held sink.new) result × (runner.new ≡ runner.old))
+        ⊎ IsDrivenFrom (idle_device idle) D.may_leave D.moment D.left_since disk.old disk.new (R.list runner.old) (R.list runner.new) (K.held sink.old) (K.held sink.new) result }
+    ensures none { R.living runner.new ≡ [] }
+    ensures others { IsTrue D.tells → Elsewhere slots_files (D.seen disk.old) (D.seen disk.new) }
+    ensures disk { result ≡ statuses.Disk → Rose (D.faults disk.old) (D.faults disk.new) }
+    ensures quiet_disk { result ≢ statuses.Disk → result ≢ statuses.Edge → D.faults disk.new ≡ D.faults disk.old }
+    ensures quiet_sink { result ≢ statuses.Edge → K.faults sink.new ≡ K.faults sink.old }
+    ensures later { Stays (D.faults disk.old) (D.faults disk.new) × Stays (K.faults sink.old) (K.faults sink.new) }
+    ensures library { result ≡ statuses.Library → Rose (L.faults library.old) (L.faults library.new) }
+    ensures library_quiet { result ≢ statuses.Library → result ≢ statuses.Edge → L.faults library.new ≡ L.faults library.old }
+    ensures library_later { L.faults library.old ≤ L.faults library.new }
+    ensures kept { L.content library.new ≡ L.content library.old }
+    ensures edge { result ≡ statuses.Edge → Rose (S.faults source.old) (S.faults source.new) ⊎ Rose (K.faults sink.old) (K.faults sink.new) }
+    ensures quiet_source { result ≢ statuses.Edge → S.faults source.new ≡ S.faults source.old }
+    ensures source_later { S.faults source.old ≤ S.faults source.new }
+{
+    match read_up_to(alloc, source, DOCUMENT_LIMIT + 1) {
+        Ok(bytes) => deploy_document(alloc, idle, bytes.as_slice(), disk, library, sink, runner),
+        Err(fault) => {
+            drop(idle);
+            unread(fault).tell(sink)
+        }
+    }
+}
+
+/// Deploys one document. A pending deployment is refused before the source is read.
+pub(crate) fn deploy<D: Disk, L: Library, S: Source, K: Sink, R: Runner>(
+    alloc: Global,
+    disk: &mut D,
+    library: &mut L,
+    source: &mut S,
+    sink: &mut K,
+    runner: &mut R,
+) -> Status
+    requires none { R.living runner.old ≡ [] }
+    ensures ran { (IsTurnedAway D.may_leave D.moment D.left_since disk.old disk.new (K.held sink.old) (K.held sink.new) result × (runner.new ≡ runner.old))
+        ⊎ IsDriven D.tells D.seen D.may_leave D.moment D.left_since disk.old disk.new (R.list runner.old) (R.list runner.new) (K.held sink.old) (K.held sink.new) result }
+    ensures none { R.living runner.new ≡ [] }
+    ensures others { IsTrue D.tells → Elsewhere slots_files (D.seen disk.old) (D.seen disk.new) }
+    ensures disk { result ≡ statuses.Disk → Rose (D.faults disk.old) (D.faults disk.new) }
+    ensures quiet_disk { result ≢ statuses.Disk → result ≢ statuses.Edge → D.faults disk.new ≡ D.faults disk.old }
+    ensures quiet_sink { result ≢ statuses.Edge → K.faults sink.new ≡ K.faults sink.old }
+    ensures later { Stays (D.faults disk.old) (D.faults disk.new) × Stays (K.faults sink.old) (K.faults sink.new) }
+    ensures library { result ≡ statuses.Library → Rose (L.faults library.old) (L.faults library.new) }
+    ensures library_quiet { result ≢ statuses.Library → result ≢ statuses.Edge → L.faults library.new ≡ L.faults library.old }
+    ensures library_later { L.faults library.old ≤ L.faults library.new }
+    ensures kept { L.content library.new ≡ L.content library.old }
+    ensures edge { result ≡ statuses.Edge → Rose (S.faults source.old) (S.faults source.new) ⊎ Rose (K.faults sink.old) (K.faults sink.new) }
+    ensures quiet_source { result ≢ statuses.Edge → S.faults source.new ≡ S.faults source.old }
+    ensures source_later { S.faults source.old ≤ S.faults source.new }
+{
+    match open_idle(alloc, disk) {
+        Ok(idle) => deploy_read(alloc, idle, disk, library, source, sink, runner),
+        Err(answer) => answer.tell(sink),
+    }
+}
+
+/// Drives the pending deployment on, and where none is pending says so.
+pub(crate) fn resume<D: Disk, K: Sink, R: Runner>(
+    alloc: Global,
+    disk: &mut D,
+    sink: &mut K,
+    runner: &mut R,
+) -> Status
+    requires none { R.living runner.old ≡ [] }
+    ensures ran { (IsTurnedAway D.may_leave D.moment D.left_since disk.old disk.new (K.held sink.old) (K.held sink.new) result × (runner.new ≡ runner.old))
+        ⊎ IsDriven D.tells D.seen D.may_leave D.moment D.left_since disk.old disk.new (R.list runner.old) (R.list runner.new) (K.held sink.old) (K.held sink.new) result }
+    ensures none { R.living runner.new ≡ [] }
+    ensures others { IsTrue D.tells → Elsewhere slots_files (D.seen disk.old) (D.seen disk.new) }
+    ensures disk { result ≡ statuses.Disk → Rose (D.faults disk.old) (D.faults disk.new) }
+    ensures edge { result ≡ statuses.Edge → Rose (K.faults sink.old) (K.faults sink.new) }
+    ensures own { result ≢ statuses.Library }
+    ensures quiet_disk { result ≢ statuses.Disk → result ≢ statuses.Edge → D.faults disk.new ≡ D.faults disk.old }
+    ensures quiet_sink { result ≢ statuses.Edge → K.faults sink.new ≡ K.faults sink.old }
+    ensures later { Stays (D.faults disk.old) (D.faults disk.new) × Stays (K.faults sink.old) (K.faults sink.new) }
+{
+    match open_swept(alloc, disk) {
+        Ok(state) => {
+            // The journal does not lie among the files of artifacts.
+            needed_files_stay();
+            let mut supervisor = Supervisor::new(alloc);
+            resume_on(alloc, state, disk, sink, runner, &mut supervisor)
+        }
+        Err(answer) => answer.tell(sink),
+    }
+}

@@ -1,0 +1,94 @@
+// The commands that drive no component: `init`, `status`, `plan` and `audit`.
+ghost use Rattle.std.specs.Prelude.{◌≡◌, ◌≢◌, ◌≤◌, ℕ, List, map, string_bytes, IsTrue};
+ghost use Rattle.disk_model.specs.Disk.{Leaves};
+ghost use Rattle.nuc_base.specs.declared.status.Status.TheVariants as status;
+ghost use Rattle.command_words.specs.declared.order.Order.{Order};
+ghost use Rattle.command_words.specs.declared.order.Order.TheVariants as order;
+ghost use Rattle.nucleus_top.specs.Words.{Asks};
+ghost use Rattle.nucleus_top.specs.Answers.{store_of, input_of, shelf_of, printed_of, IsQuiet, IsStill};
+ghost use Rattle.nucleus_top.specs.Leaving.{IsDurable, Keeps, MayLeave, files_of};
+ghost use Rattle.nucleus_top.specs.Parts.{Comes, Parts};
+
+use crate::answer::Answer;
+use crate::auditing::audit;
+use crate::init::init;
+use crate::planning::plan;
+use crate::status::status;
+use command_words::{Order, WordsFault, read_words, words_ask_one_thing};
+use disk_model::Disk;
+use edges::{Sink, Source};
+use library_core::Library;
+use nuc_base::Status;
+use std::alloc::Global;
+
+/// Does all but the printing.
+fn answer<D: Disk, L: Library, S: Source>(
+    alloc: Global,
+    words: &Vec<String>,
+    disk: &mut D,
+    library: &mut L,
+    source: &mut S,
+) -> Answer
+    ensures comes { Comes (map string_bytes words.now.items) (store_of D.tells D.seen D.faults disk.old disk.new) (input_of S.left S.faults source.old source.new) (shelf_of L.content L.faults library.old library.new) result }
+    ensures quiet { IsQuiet (store_of D.tells D.seen D.faults disk.old disk.new) (input_of S.left S.faults source.old source.new) result }
+    ensures still { IsStill (shelf_of L.content L.faults library.old library.new) result }
+    ensures unread { (Asks (map string_bytes words.now.items) order.Plan → ⊥) → source.new ≡ source.old }
+    ensures unasked { (Asks (map string_bytes words.now.items) order.Plan → ⊥) → library.new ≡ library.old }
+    ensures kept { L.content library.new ≡ L.content library.old }
+    ensures moments { Leaves D.moment D.left_since disk.old disk.new (MayLeave (map string_bytes words.now.items) (D.may_leave disk.old)) }
+    ensures keeps { (order : Order) → Asks (map string_bytes words.now.items) order → Keeps order (D.may_leave disk.new) (D.seen disk.new) result }
+    ensures others { (order : Order) → Asks (map string_bytes words.now.items) order → IsTrue D.tells →
+        (name : List ℕ) → ¬ (files_of order name) → D.seen disk.new name ≡ D.seen disk.old name }
+    ensures disk_later { D.faults disk.old ≤ D.faults disk.new }
+    ensures library_later { L.faults library.old ≤ L.faults library.new }
+    ensures source_later { S.faults source.old ≤ S.faults source.new }
+{
+    words_ask_one_thing();
+    let order = match read_words(alloc, words) {
+        Ok((_root, order)) => order,
+        Err(WordsFault::Usage) => return Answer::WrongWords,
+        Err(WordsFault::NoMemory) => return Answer::NoMemory,
+    };
+    match order {
+        Order::Init(origin) => init(alloc, origin, disk),
+        Order::Status(json) => status(alloc, json, disk),
+        Order::Plan => plan(alloc, disk, library, source),
+        Order::Audit => audit(alloc, disk),
+        // The other commands are not built yet.
+        _ => Answer::WrongWords,
+    }
+}
+
+/// Does what the words of the command line ask where that drives no component, and answers the status that the program
+/// ends with. Words that ask another command are wrong words here.
+pub(crate) fn look<D: Disk, L: Library, S: Source, K: Sink>(
+    alloc: Global,
+    words: &Vec<String>,
+    disk: &mut D,
+    library: &mut L,
+    source: &mut S,
+    sink: &mut K,
+) -> Status
+    ensures parts { Parts (map string_bytes words.now.items) (store_of D.tells D.seen D.faults disk.old disk.new)
+        (input_of S.left S.faults source.old source.new) (shelf_of L.content L.faults library.old library.new)
+        (printed_of K.held K.faults sink.old sink.new) result }
+    // `plan` alone reads from the source and asks the library.
+    ensures unread { (Asks (map string_bytes words.now.items) order.Plan → ⊥) → source.new ≡ source.old }
+    ensures unasked { (Asks (map string_bytes words.now.items) order.Plan → ⊥) → library.new ≡ library.old }
+    ensures library_kept { L.content library.new ≡ L.content library.old }
+    // Whenever a crash comes during the call, it leaves an image that the start allowed, or what the command may make of one.
+    ensures moments { Leaves D.moment D.left_since disk.old disk.new (MayLeave (map string_bytes words.now.items) (D.may_leave disk.old)) }
+    // Once the lines of finished work are printed, a crash does not undo it.
+    ensures durable { (order : Order) → Asks (map string_bytes words.now.items) order → result ≡ status.Done →
+        IsDurable order (D.may_leave disk.new) (D.seen disk.new) }
+    ensures others { (order : Order) → Asks (map string_bytes words.now.items) order → IsTrue D.tells →
+        (name : List ℕ) → ¬ (files_of order name) → D.seen disk.new name ≡ D.seen disk.old name }
+    ensures disk_later { D.faults disk.old ≤ D.faults disk.new }
+    ensures library_later { L.faults library.old ≤ L.faults library.new }
+    ensures source_later { S.faults source.old ≤ S.faults source.new }
+    ensures sink_later { K.faults sink.old ≤ K.faults sink.new }
+{
+    words_ask_one_thing();
+    let answer = answer(alloc, words, disk, library, source);
+    answer.tell(sink)
+}

@@ -1,0 +1,152 @@
+// Calls of the top call over disks, libraries, documents and children in memory, which are written in a few words.
+use disk_model::{Disk, MemoryDisk};
+use edges::{MemorySink, MemorySource};
+use library_core::MemoryLibrary;
+use nuc_base::{Bytes, Exit, List};
+use nucleus_top::nucleus;
+use std::alloc::{AllocError, Global};
+use std::test::Fail;
+use step_runner::{ScriptedEnd, ScriptedRunner};
+
+/// A recipe of these words: a name, a version, and then a step and its script, any number of times. The step `again` is a
+/// bootstrap that runs again on the way back.
+fn recipe_of(alloc: Global, component: &str) -> Result<String, AllocError> {
+    let mut words = component.split(' ');
+    let name = words.next().unwrap_or("");
+    let version = words.next().unwrap_or("");
+    let mut recipe = format!(in alloc;
+        r#"{{"RecipeFormatVersion":"2020-01-25","ComponentName":"{name}","ComponentVersion":"{version}","Manifests":[{{"Lifecycle":{{"#
+    )?;
+    let mut comma = "";
+    while let Some(step) = words.next() {
+        let script = words.next().unwrap_or("");
+        match step {
+            "again" => recipe.push_str(&format!(in alloc;
+                r#"{comma}"bootstrap":{{"Script":"{script}","BootstrapOnRollback":true}}"#
+            )?)?,
+            step => recipe.push_str(&format!(in alloc; r#"{comma}"{step}":"{script}""#)?)?,
+        }
+        comma = ",";
+    }
+    recipe.push_str("}}]}")?;
+    Ok(recipe)
+}
+
+fn library_of(alloc: Global, components: &str) -> Result<MemoryLibrary, Fail> {
+    let mut recipes = List::empty(alloc);
+    for component in components.split(';') {
+        recipes.push(Bytes::from_slice(alloc, recipe_of(alloc, component)?.as_bytes())?)?;
+    }
+    Ok(MemoryLibrary::new(recipes, List::empty(alloc), List::empty(alloc)))
+}
+
+/// The document of these words.
+fn document_of(alloc: Global, words: &str) -> Result<String, AllocError> {
+    let mut words = words.split_whitespace();
+    let id = words.next().unwrap_or("");
+    let policy = words.next().unwrap_or("");
+    let mut document = format!(in alloc;
+        r#"{{"deploymentId":"{id}","targetArn":"g","deploymentPolicies":{{"failureHandlingPolicy":"{policy}"}},"components":{{"#
+    )?;
+    let mut comma = "";
+    while let Some(name) = words.next() {
+        let version = words.next().unwrap_or("");
+        document.push_str(&format!(in alloc;
+            r#"{comma}"{name}":{{"componentVersion":"{version}"}}"#
+        )?)?;
+        comma = ",";
+    }
+    document.push_str("}}")?;
+    Ok(document)
+}
+
+fn number_in<'a, I: Iterator<Item = &'a str>>(words: &mut I) -> u64 {
+    match words.next() {
+        Some(word) => word.parse::<u64>().unwrap_or(0),
+        None => 0,
+    }
+}
+
+/// The ends that are played.
+fn runner_of(alloc: Global, ends: &str) -> Result<ScriptedRunner, Fail> {
+    let mut played = List::empty(alloc);
+    for end in ends.split(',') {
+        let mut words = end.split_whitespace();
+        let child = number_in(&mut words);
+        let code = number_in(&mut words).min(255) as i32;
+        let at = number_in(&mut words);
+        if !end.is_empty() {
+            played.push(ScriptedEnd {
+                child,
+                exit: Exit::Code(code),
+                at,
+            })?;
+        }
+    }
+    Ok(ScriptedRunner::new(alloc, played, List::empty(alloc), List::empty(alloc)))
+}
+
+/// The words of a call.
+fn words_of(alloc: Global, command: &str) -> Result<Vec<String>, AllocError> {
+    let mut all = Vec::new(alloc);
+    for word in ["nucleus", "--root", "/gg"] {
+        all.push(String::from_str(alloc, word)?)?;
+    }
+    for word in command.split(' ') {
+        all.push(String::from_str(alloc, word)?)?;
+    }
+    Ok(all)
+}
+
+/// A call over some disk.
+#[derive(Clone, Copy, Drop)]
+pub(crate) struct Asked<'a> {
+    pub(crate) recipes: &'static str,
+    pub(crate) command: &'a str,
+    pub(crate) document: &'a str,
+    pub(crate) ends: &'a str,
+}
+
+/// What is printed, with `;` for each line feed, behind the status.
+pub(crate) fn call<D: Disk>(alloc: Global, disk: &mut D, asked: Asked<'_>) -> Result<String, Fail> {
+    let words = words_of(alloc, asked.command)?;
+    let mut library = library_of(alloc, asked.recipes)?;
+    let bytes = Bytes::from_slice(alloc, document_of(alloc, asked.document)?.as_bytes())?;
+    let mut source = MemorySource::new(bytes, List::empty(alloc));
+    let mut sink = MemorySink::new(alloc, List::empty(alloc));
+    let mut runner = runner_of(alloc, asked.ends)?;
+    let status = nucleus(
+        alloc,
+        &words,
+        disk,
+        &mut library,
+        &mut source,
+        &mut sink,
+        &mut runner,
+    );
+    let mut text = format!(in alloc; "{}|", status.number())?;
+    for byte in sink.bytes() {
+        text.push(if *byte == b'\n' {
+            ';'
+        } else {
+            char::from(*byte)
+        })?;
+    }
+    Ok(text)
+}
+
+/// A disk with a new store.
+pub(crate) fn begin(alloc: Global) -> Result<MemoryDisk, Fail> {
+    let mut disk = MemoryDisk::new(alloc);
+    call(
+        alloc,
+        &mut disk,
+        Asked {
+            recipes: "",
+            command: "init --thing t1 --nucleus 2.12.0 --os linux --arch amd64",
+            document: "",
+            ends: "",
+        },
+    )?;
+    Ok(disk)
+}

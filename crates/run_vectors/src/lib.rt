@@ -1,0 +1,12 @@
+//! Whole calls that run steps, against the top call: deployments that close, fail, go back, are cut off and go on.
+//!
+//! It promises nothing of its own: it holds tests. It stands on the top call and on the disks, libraries, sources, sinks
+//! and runners in memory.
+#![tactic(auto)]
+
+#[cfg(test)]
+mod calls;
+#[cfg(test)]
+mod rows;
+#[cfg(test)]
+mod stops;

@@ -1,0 +1,85 @@
+// Rows: stores that are made, documents that are deployed to them, and what is printed.
+use crate::calls::{Asked, begin, call};
+use disk_model::MemoryDisk;
+use std::alloc::Global;
+use std::test::Fail;
+
+/// Calls, one after another. A line `store` begins a store whose library has recipes of these words: a name, a version, and
+/// then a step and its script, any number of times. Every other line is a call: its command; the document's id and policy and
+/// the versions that it wants by name; how children end, each by its number, its code and the moment; the status; and the
+/// lines that are printed, with `;` for each line feed.
+const ROWS: &str = "store|A 1.0.0 startup s1;A 2.0.0 startup s2 recover r2
+deploy|d1 ROLLBACK A 1.0.0|0 0 0|0|accepted d1;closed d1 SUCCESSFUL;
+deploy|d1 ROLLBACK A 1.0.0||0|closed d1 SUCCESSFUL;
+resume|||0|idle;
+deploy|d2 ROLLBACK A 2.0.0|0 1 0,1 0 0,2 1 0,3 0 0,4 1 0,5 0 0|10|accepted d2;failed d2 A startup code 1;failed d2 A startup code 1;failed d2 A startup code 1;closed d2 FAILED_ROLLBACK_COMPLETE;
+deploy|d3 ROLLBACK A 2.0.0|0 1 0,1 0 0,2 1 0,3 0 0,4 1 0,5 1 0,6 1 0,7 1 0|12|accepted d3;failed d3 A startup code 1;failed d3 A startup code 1;failed d3 A startup code 1;failed d3 A startup code 1;failed d3 A startup code 1;failed d3 A startup code 1;closed d3 FAILED_UNABLE_TO_ROLLBACK;
+deploy|d4 DO_NOTHING A 2.0.0|0 1 0,1 0 0,2 1 0,3 0 0,4 1 0|11|accepted d4;failed d4 A startup code 1;failed d4 A startup code 1;failed d4 A startup code 1;closed d4 FAILED_ROLLBACK_NOT_REQUESTED;
+deploy|d2 ROLLBACK A 2.0.0||10|closed d2 FAILED_ROLLBACK_COMPLETE;
+deploy|d5 ROLLBACK||0|accepted d5;closed d5 SUCCESSFUL;
+deploy|d6 ROLLBACK A 3.0.0||3|refused 3 NoVersion;
+store|A 1.0.0 bootstrap a;B 1.0.0 bootstrap b;C 1.0.0 bootstrap c
+deploy|d5 ROLLBACK A 1.0.0 B 1.0.0|0 100 0|100|accepted d5;restart d5;
+deploy|d6 ROLLBACK||4|refused 4 pending d5;
+resume||0 0 0|100|resumed d5;restart d5;
+resume|||0|resumed d5;closed d5 SUCCESSFUL;
+deploy|d7 ROLLBACK C 1.0.0|0 7 0|10|accepted d7;failed d7 C bootstrap code 7;closed d7 FAILED_ROLLBACK_COMPLETE;
+deploy|d8 DO_NOTHING C 1.0.0|0 7 0|11|accepted d8;failed d8 C bootstrap code 7;closed d8 FAILED_ROLLBACK_NOT_REQUESTED;
+store|A 1.0.0 startup s
+deploy|d1 ROLLBACK A 1.0.0||10|accepted d1;failed d1 A startup timeout;failed d1 A startup timeout;failed d1 A startup timeout;closed d1 FAILED_ROLLBACK_COMPLETE;
+store|A 1.0.0 run r shutdown q
+deploy|d1 ROLLBACK A 1.0.0|1 0 5|0|accepted d1;closed d1 SUCCESSFUL;
+";
+
+/// What the calls go to.
+#[derive(Drop)]
+struct Store {
+    disk: MemoryDisk,
+    recipes: &'static str,
+}
+
+/// Whether the call of the row comes to what it says.
+fn is_row(alloc: Global, store: &mut Store, row: &'static str) -> Result<bool, Fail> {
+    let mut fields = row.splitn(4, '|');
+    let command = fields.next().unwrap_or("");
+    let document = fields.next().unwrap_or("");
+    let ends = fields.next().unwrap_or("");
+    let want = fields.next().unwrap_or("?");
+    let asked = Asked {
+        recipes: store.recipes,
+        command,
+        document,
+        ends,
+    };
+    Ok(call(alloc, &mut store.disk, asked)?.as_str() == want)
+}
+
+/// The first line of which something else comes, or none.
+fn first_wrong(alloc: Global) -> Result<&'static str, Fail> {
+    let mut store = Store {
+        disk: begin(alloc)?,
+        recipes: "",
+    };
+    for row in ROWS.lines() {
+        match row.strip_prefix("store|") {
+            Some(recipes) => {
+                store = Store {
+                    disk: begin(alloc)?,
+                    recipes,
+                }
+            }
+            None => {
+                if !is_row(alloc, &mut store, row)? {
+                    return Ok(row);
+                }
+            }
+        }
+    }
+    Ok("")
+}
+
+#[test]
+fn deployments_run_their_steps(rt: HostRuntime) -> Result<(), Fail> {
+    assert_eq!(rt; first_wrong(rt.alloc())?, "");
+    Ok(())
+}

@@ -1,0 +1,151 @@
+// Deployments that are cut off: a disk that stops after each count of its calls, each image that a crash may leave then, and
+// what `resume` makes of it.
+use crate::calls::{Asked, begin, call};
+use disk_model::{FusedDisk, MemoryDisk, Pick};
+use nuc_base::List;
+use std::alloc::{AllocError, Global};
+use std::test::Fail;
+
+/// Deployments to be cut off: the recipes of the library; the code with which every child ends; the versions of a deployment
+/// `d1` that closed before, and the policy and the versions of a deployment `d2`; and what `status` prints of the components
+/// and closed deployments before `d2` and behind its close, with `;` for each line feed.
+const SCENES: &str =
+    "A 1.0.0 startup s1;A 2.0.0 startup s2 shutdown q2|0|A 1.0.0|d2 ROLLBACK A 2.0.0|require A 1.0.0;component A 1.0.0 {};closed d1 SUCCESSFUL;|require A 2.0.0;component A 2.0.0 {};closed d1 SUCCESSFUL;closed d2 SUCCESSFUL;
+A 1.0.0;A 2.0.0 startup s2 recover r2|1|A 1.0.0|d2 ROLLBACK A 2.0.0|require A 1.0.0;component A 1.0.0 {};closed d1 SUCCESSFUL;|require A 1.0.0;component A 1.0.0 {};closed d1 SUCCESSFUL;closed d2 FAILED_ROLLBACK_COMPLETE;
+A 1.0.0;A 2.0.0 startup s2|1|A 1.0.0|d2 DO_NOTHING A 2.0.0|require A 1.0.0;component A 1.0.0 {};closed d1 SUCCESSFUL;|require A 2.0.0;component A 2.0.0 {};closed d1 SUCCESSFUL;closed d2 FAILED_ROLLBACK_NOT_REQUESTED;
+A 1.0.0;A 2.0.0 bootstrap a;B 1.0.0 bootstrap b|0|A 1.0.0|d2 ROLLBACK A 2.0.0 B 1.0.0|require A 1.0.0;component A 1.0.0 {};closed d1 SUCCESSFUL;|require A 2.0.0;require B 1.0.0;component A 2.0.0 {};component B 1.0.0 {};closed d1 SUCCESSFUL;closed d2 SUCCESSFUL;
+";
+
+/// A deployment to be cut off.
+#[derive(Clone, Copy, Drop)]
+struct Scene {
+    recipes: &'static str,
+    ends: &'static str,
+    document: &'static str,
+    before: &'static str,
+    behind: &'static str,
+}
+
+const ALL_WELL: &str = "0 0 0,1 0 0,2 0 0,3 0 0,4 0 0,5 0 0,6 0 0,7 0 0,8 0 0,9 0 0";
+
+const ALL_FAIL: &str = "0 1 0,1 1 0,2 1 0,3 1 0,4 1 0,5 1 0,6 1 0,7 1 0,8 1 0,9 1 0";
+
+fn asked_of(scene: Scene, command: &str) -> Asked<'_> {
+    Asked {
+        recipes: scene.recipes,
+        command,
+        document: scene.document,
+        ends: scene.ends,
+    }
+}
+
+/// The disk behind `d1`.
+fn first(alloc: Global, scene: Scene, document: &str) -> Result<MemoryDisk, Fail> {
+    let mut disk = begin(alloc)?;
+    let asked = Asked {
+        recipes: scene.recipes,
+        command: "deploy",
+        document,
+        ends: ALL_WELL,
+    };
+    call(alloc, &mut disk, asked)?;
+    Ok(disk)
+}
+
+/// Gives `resume` until the device does not ask to be restarted, and then `status`.
+fn resumed(alloc: Global, scene: Scene, disk: &mut MemoryDisk) -> Result<String, Fail> {
+    for _call in 0..4u8 {
+        let answer = call(alloc, disk, asked_of(scene, "resume"))?;
+        if !answer.as_str().starts_with("100|") {
+            break;
+        }
+    }
+    call(alloc, disk, asked_of(scene, "status"))
+}
+
+/// Whether `status` has these lines behind those of the device and its group.
+fn shows(alloc: Global, status: &str, lines: &str) -> Result<bool, AllocError> {
+    let whole = format!(in alloc; "0|thing t1;nucleus 2.12.0;group g;{lines}")?;
+    Ok(status == whole.as_str())
+}
+
+/// Whether each image that the stop may leave is resumed to the device of before or of behind, and to the latter where the
+/// deployment was acknowledged.
+fn goes_on(alloc: Global, scene: Scene, disk: &FusedDisk, said: bool) -> Result<bool, Fail> {
+    for pick in [Pick::Old, Pick::New, Pick::Fill(0x01), Pick::Fill(0xff)] {
+        let mut image = disk.disk().image(alloc, pick)?;
+        let status = resumed(alloc, scene, &mut image)?;
+        let is_behind = shows(alloc, status.as_str(), scene.behind)?;
+        let is_before = shows(alloc, status.as_str(), scene.before)?;
+        if !is_behind && (said || !is_before) {
+            return Ok(false);
+        }
+    }
+    Ok(true)
+}
+
+/// Stops the deployment after each count of calls of the disk. The first count of which a device is lost, or none; the calls
+/// that it makes in all are fewer than these.
+fn first_lost(alloc: Global, scene: Scene, disk: &MemoryDisk) -> Result<Option<u64>, Fail> {
+    for stop in 0..400u64 {
+        let stable = disk.image(alloc, Pick::New)?;
+        let mut fused = FusedDisk::new(stable, stop, List::empty(alloc));
+        let answer = call(alloc, &mut fused, asked_of(scene, "deploy"))?;
+        if !goes_on(
+            alloc,
+            scene,
+            &fused,
+            answer.as_str().contains("|accepted d2;"),
+        )? {
+            return Ok(Some(stop));
+        }
+        if !answer.as_str().starts_with("5|") {
+            return Ok(None);
+        }
+    }
+    Ok(Some(400))
+}
+
+/// The scene of a line, and the deployment before it.
+fn scene_of(line: &'static str) -> (Scene, &'static str) {
+    let mut fields = line.splitn(6, '|');
+    let recipes = fields.next().unwrap_or("");
+    let ends = if fields.next() == Some("0") {
+        ALL_WELL
+    } else {
+        ALL_FAIL
+    };
+    let earlier = fields.next().unwrap_or("");
+    let document = fields.next().unwrap_or("");
+    let before = fields.next().unwrap_or("");
+    let behind = fields.next().unwrap_or("?");
+    (
+        Scene {
+            recipes,
+            ends,
+            document,
+            before,
+            behind,
+        },
+        earlier,
+    )
+}
+
+/// The first scene of which a device is lost, with the count of calls, or none.
+fn first_wrong(alloc: Global) -> Result<Option<(&'static str, u64)>, Fail> {
+    for line in SCENES.lines() {
+        let (scene, earlier) = scene_of(line);
+        let named = format!(in alloc; "d1 ROLLBACK {earlier}")?;
+        let disk = first(alloc, scene, named.as_str())?;
+        if let Some(stop) = first_lost(alloc, scene, &disk)? {
+            return Ok(Some((line, stop)));
+        }
+    }
+    Ok(None)
+}
+
+#[test]
+fn no_stop_strands_a_device(rt: HostRuntime) -> Result<(), Fail> {
+    assert_eq!(rt; first_wrong(rt.alloc())?, None);
+    Ok(())
+}
