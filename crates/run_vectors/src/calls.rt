@@ -1,15 +1,33 @@
 // Calls of the top call over disks, libraries, documents and children in memory, which are written in a few words.
+ghost use Rattle.std.specs.Prelude.{◌≡◌, true, IfOk};
+ghost use Rattle.std.specs.List.{list_all};
+ghost use Rattle.step_runner.specs.Waits.{is_own};
+ghost use Rattle.step_runner.specs.declared.ends.ScriptedEnd.{ScriptedEnd};
+
 use disk_model::{Disk, MemoryDisk};
 use edges::{MemorySink, MemorySource};
 use library_core::MemoryLibrary;
-use nuc_base::{Bytes, Exit, List};
+use nuc_base::{Bytes, Exit, List, NoMemory, Text};
 use nucleus_top::nucleus;
 use std::alloc::{AllocError, Global};
 use std::test::Fail;
 use step_runner::{ScriptedEnd, ScriptedRunner};
 
-/// A recipe of these words: a name, a version, and then a step and its script, any number of times. The step `again` is a
-/// bootstrap that runs again on the way back.
+/// A step and its script, as a recipe has them. The step `again` is a bootstrap that runs again on the way back, and `skip` an
+/// install step that is skipped where the file `/opt/x` is there.
+fn step_of(alloc: Global, step: &str, script: &str) -> Result<String, AllocError> {
+    match step {
+        "again" => format!(in alloc;
+            r#""bootstrap":{{"Script":"{script}","BootstrapOnRollback":true}}"#
+        ),
+        "skip" => format!(in alloc;
+            r#""install":{{"Script":"{script}","Skipif":"exists /opt/x"}}"#
+        ),
+        step => format!(in alloc; r#""{step}":"{script}""#),
+    }
+}
+
+/// A recipe of these words: a name, a version, and then a step and its script, any number of times.
 fn recipe_of(alloc: Global, component: &str) -> Result<String, AllocError> {
     let mut words = component.split(' ');
     let name = words.next().unwrap_or("");
@@ -20,12 +38,8 @@ fn recipe_of(alloc: Global, component: &str) -> Result<String, AllocError> {
     let mut comma = "";
     while let Some(step) = words.next() {
         let script = words.next().unwrap_or("");
-        match step {
-            "again" => recipe.push_str(&format!(in alloc;
-                r#"{comma}"bootstrap":{{"Script":"{script}","BootstrapOnRollback":true}}"#
-            )?)?,
-            step => recipe.push_str(&format!(in alloc; r#"{comma}"{step}":"{script}""#)?)?,
-        }
+        recipe.push_str(comma)?;
+        recipe.push_str(step_of(alloc, step, script)?.as_str())?;
         comma = ",";
     }
     recipe.push_str("}}]}")?;
@@ -34,19 +48,22 @@ fn recipe_of(alloc: Global, component: &str) -> Result<String, AllocError> {
 
 fn library_of(alloc: Global, components: &str) -> Result<MemoryLibrary, Fail> {
     let mut recipes = List::empty(alloc);
-    for component in components.split(';') {
+    for component in components.split_terminator(';') {
         recipes.push(Bytes::from_slice(alloc, recipe_of(alloc, component)?.as_bytes())?)?;
     }
     Ok(MemoryLibrary::new(recipes, List::empty(alloc), List::empty(alloc)))
 }
 
-/// The document of these words.
+/// The document of these words: an id, with `@` and a revision behind it or without; a policy; and then a component and its
+/// range, any number of times.
 fn document_of(alloc: Global, words: &str) -> Result<String, AllocError> {
     let mut words = words.split_whitespace();
-    let id = words.next().unwrap_or("");
+    let mut named = words.next().unwrap_or("").splitn(2, '@');
+    let id = named.next().unwrap_or("");
+    let revision = named.next().unwrap_or("null");
     let policy = words.next().unwrap_or("");
     let mut document = format!(in alloc;
-        r#"{{"deploymentId":"{id}","targetArn":"g","deploymentPolicies":{{"failureHandlingPolicy":"{policy}"}},"components":{{"#
+        r#"{{"deploymentId":"{id}","revision":{revision},"targetArn":"g","deploymentPolicies":{{"failureHandlingPolicy":"{policy}"}},"components":{{"#
     )?;
     let mut comma = "";
     while let Some(name) = words.next() {
@@ -67,23 +84,53 @@ fn number_in<'a, I: Iterator<Item = &'a str>>(words: &mut I) -> u64 {
     }
 }
 
-/// The ends that are played.
-fn runner_of(alloc: Global, ends: &str) -> Result<ScriptedRunner, Fail> {
+/// The starts that are refused: those with the word `refuse` before their number.
+fn refused_of(alloc: Global, ends: &str) -> Result<List<u64>, Fail> {
+    let mut refused = List::empty(alloc);
+    for end in ends.split(',') {
+        let mut words = end.split_whitespace();
+        if words.next() == Some("refuse") {
+            refused.push(number_in(&mut words))?;
+        }
+    }
+    Ok(refused)
+}
+
+/// Adds the end of a child with this code.
+fn add_end(played: &mut List<ScriptedEnd>, child: u64, code: i32, at: u64) -> Result<(), NoMemory>
+    requires { list_all (λ (e : ScriptedEnd). is_own e.exit) played.old ≡ true }
+    ensures { list_all (λ (e : ScriptedEnd). is_own e.exit) played.new ≡ true }
+{
+    let end = ScriptedEnd {
+        child,
+        exit: Exit::Code(code),
+        at,
+    };
+    Ok(played.push(end)?)
+}
+
+/// The ends that are played: each the number of a child, its code and the moment.
+fn played_of(alloc: Global, ends: &str) -> Result<List<ScriptedEnd>, Fail>
+    ensures { IfOk result (λ l. list_all (λ (e : ScriptedEnd). is_own e.exit) l ≡ true) }
+{
     let mut played = List::empty(alloc);
     for end in ends.split(',') {
         let mut words = end.split_whitespace();
         let child = number_in(&mut words);
         let code = number_in(&mut words).min(255) as i32;
         let at = number_in(&mut words);
-        if !end.is_empty() {
-            played.push(ScriptedEnd {
-                child,
-                exit: Exit::Code(code),
-                at,
-            })?;
+        if !end.is_empty() && !end.starts_with("refuse") {
+            add_end(&mut played, child, code, at)?;
         }
     }
-    Ok(ScriptedRunner::new(alloc, played, List::empty(alloc), List::empty(alloc)))
+    Ok(played)
+}
+
+fn runner_of(alloc: Global, ends: &str) -> Result<ScriptedRunner, Fail> {
+    let mut present = List::empty(alloc);
+    present.push(Text::from_str(alloc, "/opt/x")?)?;
+    let played = played_of(alloc, ends)?;
+    Ok(ScriptedRunner::new(alloc, played, refused_of(alloc, ends)?, present))
 }
 
 /// The words of a call.

@@ -6,8 +6,8 @@ use std::test::Fail;
 
 /// Calls, one after another. A line `store` begins a store whose library has recipes of these words: a name, a version, and
 /// then a step and its script, any number of times. Every other line is a call: its command; the document's id and policy and
-/// the versions that it wants by name; how children end, each by its number, its code and the moment; the status; and the
-/// lines that are printed, with `;` for each line feed.
+/// the versions that it wants by name; how children end, each by its number, its code and the moment, and which starts are
+/// refused; the status; and the lines that are printed, with `;` for each line feed.
 const ROWS: &str = "store|A 1.0.0 startup s1;A 2.0.0 startup s2 recover r2
 deploy|d1 ROLLBACK A 1.0.0|0 0 0|0|accepted d1;closed d1 SUCCESSFUL;
 deploy|d1 ROLLBACK A 1.0.0||0|closed d1 SUCCESSFUL;
@@ -27,8 +27,24 @@ deploy|d7 ROLLBACK C 1.0.0|0 7 0|10|accepted d7;failed d7 C bootstrap code 7;clo
 deploy|d8 DO_NOTHING C 1.0.0|0 7 0|11|accepted d8;failed d8 C bootstrap code 7;closed d8 FAILED_ROLLBACK_NOT_REQUESTED;
 store|A 1.0.0 startup s
 deploy|d1 ROLLBACK A 1.0.0||10|accepted d1;failed d1 A startup timeout;failed d1 A startup timeout;failed d1 A startup timeout;closed d1 FAILED_ROLLBACK_COMPLETE;
+deploy|d2 ROLLBACK A 1.0.0|0 0 120000|0|accepted d2;closed d2 SUCCESSFUL;
 store|A 1.0.0 run r shutdown q
 deploy|d1 ROLLBACK A 1.0.0|1 0 5|0|accepted d1;closed d1 SUCCESSFUL;
+store|A 1.0.0 install i
+deploy|d1 ROLLBACK A 1.0.0|refuse 0,refuse 1,refuse 2|10|accepted d1;failed d1 A install notstarted;failed d1 A install notstarted;failed d1 A install notstarted;closed d1 FAILED_ROLLBACK_COMPLETE;
+store|A 1.0.0 skip i
+deploy|d1 ROLLBACK A 1.0.0|refuse 0|0|accepted d1;closed d1 SUCCESSFUL;
+store|A 1.0.0 startup s1 again b1;A 2.0.0 bootstrap b2
+deploy|d1 ROLLBACK A 1.0.0|0 0 0|100|accepted d1;restart d1;
+resume||0 0 0|0|resumed d1;closed d1 SUCCESSFUL;
+deploy|d2 ROLLBACK A 2.0.0|0 7 0,1 0 0|100|accepted d2;failed d2 A bootstrap code 7;restart d2;
+resume||0 0 0|10|resumed d2;closed d2 FAILED_ROLLBACK_COMPLETE;
+deploy|d3 ROLLBACK A 2.0.0|0 7 0,1 7 0|12|accepted d3;failed d3 A bootstrap code 7;failed d3 A bootstrap code 7;closed d3 FAILED_UNABLE_TO_ROLLBACK;
+store|
+deploy|r5@5 ROLLBACK||0|accepted r5;closed r5 SUCCESSFUL;
+deploy|r4@4 ROLLBACK||18|refused 18 Stale r4 5;
+deploy|r0 ROLLBACK||0|accepted r0;closed r0 SUCCESSFUL;
+status|||0|thing t1;nucleus 2.12.0;group g;revision 5;closed r5 SUCCESSFUL;closed r0 SUCCESSFUL;
 ";
 
 /// What the calls go to.

@@ -14,6 +14,7 @@ const SCENES: &str =
 A 1.0.0;A 2.0.0 startup s2 recover r2|1|A 1.0.0|d2 ROLLBACK A 2.0.0|require A 1.0.0;component A 1.0.0 {};closed d1 SUCCESSFUL;|require A 1.0.0;component A 1.0.0 {};closed d1 SUCCESSFUL;closed d2 FAILED_ROLLBACK_COMPLETE;
 A 1.0.0;A 2.0.0 startup s2|1|A 1.0.0|d2 DO_NOTHING A 2.0.0|require A 1.0.0;component A 1.0.0 {};closed d1 SUCCESSFUL;|require A 2.0.0;component A 2.0.0 {};closed d1 SUCCESSFUL;closed d2 FAILED_ROLLBACK_NOT_REQUESTED;
 A 1.0.0;A 2.0.0 bootstrap a;B 1.0.0 bootstrap b|0|A 1.0.0|d2 ROLLBACK A 2.0.0 B 1.0.0|require A 1.0.0;component A 1.0.0 {};closed d1 SUCCESSFUL;|require A 2.0.0;require B 1.0.0;component A 2.0.0 {};component B 1.0.0 {};closed d1 SUCCESSFUL;closed d2 SUCCESSFUL;
+A 1.0.0 again b1;A 2.0.0 bootstrap b2|1|A 1.0.0|d2 ROLLBACK A 2.0.0|require A 1.0.0;component A 1.0.0 {};closed d1 SUCCESSFUL;|require A 1.0.0;component A 1.0.0 {};closed d1 SUCCESSFUL;closed d2 FAILED_UNABLE_TO_ROLLBACK;
 ";
 
 /// A deployment to be cut off.
@@ -39,16 +40,18 @@ fn asked_of(scene: Scene, command: &str) -> Asked<'_> {
     }
 }
 
-/// The disk behind `d1`.
+/// The disk behind `d1`, with a restart where its bootstraps ask for one.
 fn first(alloc: Global, scene: Scene, document: &str) -> Result<MemoryDisk, Fail> {
     let mut disk = begin(alloc)?;
-    let asked = Asked {
-        recipes: scene.recipes,
-        command: "deploy",
-        document,
-        ends: ALL_WELL,
-    };
-    call(alloc, &mut disk, asked)?;
+    for command in ["deploy", "resume"] {
+        let asked = Asked {
+            recipes: scene.recipes,
+            command,
+            document,
+            ends: ALL_WELL,
+        };
+        call(alloc, &mut disk, asked)?;
+    }
     Ok(disk)
 }
 
