@@ -84,6 +84,7 @@ module _ (entries : Image → List (List ℕ) → Type 0) (files : List ℕ → 
       → (h : List Happening) × Went entries files may_leave moment left_since old new told.list told.list p h
       × Lines held held p.device (records_of h) (answer_of refusal)
       × Left entries may_leave new p h (λ x q. Opened x q world told living) (answer_of refusal)
+      × (records_of h ≡ Accepted plan ∷ [])
   stopped_went (refused.Full s at) old new held p d world told living plan taken o allowed notes = absurd taken
   stopped_went (refused.NoMemory s) old new held p d world told living plan taken o allowed notes = absurd taken
   stopped_went (refused.Stopped s) old new held p d world told living plan taken o allowed notes = (
@@ -91,6 +92,7 @@ module _ (entries : Image → List (List ℕ) → Type 0) (files : List ℕ → 
     accept_went old new told.list p d world told living plan o allowed notes,
     last_untold held p.device (Accepted plan),
     doubt_at entries files laws old new p d (Accepted plan) o.stands.device_is allowed notes,
+    refl,
   )
 
   pub stopped_answer : {J : Type 0} (refusal : AcceptRefusal J) (r : Answer J) → r ≡ answer_of refusal → (old new : D) (held : Option (List ℕ)) (p : Place) (d : Device) (world : World) (told : Told) (living : List ℕ) (plan : Plan)
@@ -98,9 +100,10 @@ module _ (entries : Image → List (List ℕ) → Type 0) (files : List ℕ → 
       → (h : List Happening) × Went entries files may_leave moment left_since old new told.list told.list p h
       × Lines held held p.device (records_of h) r
       × Left entries may_leave new p h (λ x q. Opened x q world told living) r
+      × (records_of h ≡ Accepted plan ∷ [])
   stopped_answer {J = J} refusal r is old new held p d world told living plan taken o allowed notes =
       subst (λ (x : Answer J). (h : List Happening) × Went entries files may_leave moment left_since old new told.list told.list p h
-      × Lines held held p.device (records_of h) x × Left entries may_leave new p h (λ y q. Opened y q world told living) x) (sym is)
+      × Lines held held p.device (records_of h) x × Left entries may_leave new p h (λ y q. Opened y q world told living) x × (records_of h ≡ Accepted plan ∷ [])) (sym is)
       (stopped_went refusal old new held p d world told living plan (subst HasTaken is taken) o allowed notes)
 
 -- ---- the refusals one by one

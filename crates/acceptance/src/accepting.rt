@@ -1,5 +1,5 @@
 //! Accepting a plan.
-ghost use Rattle.std.specs.Prelude.{◌≡◌, ◌≤◌, ℕ, List, IfOk, IsErrOf, IsTrue};
+ghost use Rattle.std.specs.Prelude.{◌≡◌, ◌≤◌, ℕ, List, [], ◌∷◌, IfOk, IsErrOf, IsTrue};
 ghost use Rattle.nuc_base.specs.Faults.{Rose};
 ghost use Rattle.disk_model.specs.Disk.{Leaves};
 ghost use Rattle.records.specs.Stored as stored;
@@ -65,7 +65,8 @@ pub fn accept_plan<D: Disk, J: Journal + Drop, K: Sink>(
     ensures went { HasTaken result → (p : Place) → (world : World) → (told : Told) → (living : List ℕ) → IsOpen p (idle_device idle) world told living →
         (h : List Happening) × Went J.entries J.files D.may_leave D.moment D.left_since disk.old disk.new told.list told.list p h
         × Lines (K.held sink.old) (K.held sink.new) p.device (records_of h) result
-        × Left J.entries D.may_leave disk.new p h (λ x q. Opened x q world told living) result }
+        × Left J.entries D.may_leave disk.new p h (λ x q. Opened x q world told living) result
+        × (records_of h ≡ stored.Accepted (plan_view plan) ∷ []) }
     // Whatever becomes of it, a crash at any moment leaves the device with it or without.
     ensures moments { Leaves D.moment D.left_since disk.old disk.new
         (LeavesEither D.may_leave J.files J.entries disk.old (idle_device idle) (applied (idle_device idle) (stored.Accepted (plan_view plan)))) }

@@ -1,4 +1,4 @@
-use Rattle.std.proofs.Common.{◌≡◌, ◌∙◌, List, ℕ, [], ◌∷◌, sym, ap, subst}
+use Rattle.std.proofs.Common.{◌≡◌, ◌∙◌, List, ℕ, [], ◌∷◌, sym, ap, refl, subst}
 use Rattle.std.specs.Prelude.{IfOk}
 use Rattle.std.specs.Io.KnownBytes.{Appends}
 use Rattle.edges.specs.Pieces.{AppendsFront}
@@ -26,6 +26,7 @@ returns-in-Ok-acknowledge-clause-went g c = λ taken p world told living opens.
       accept_went g.J.Journal.entries g.J.Journal.files g.met.D.Disk.laws c.args.disk.now c.accept.new.disk told.list p d world told living plan opens c.requires.lawful c.accept.ensures.moments,
       subst (λ (l : List ℕ). Appends (g.K.Sink.held c.args.sink.now) (g.K.Sink.held c.acknowledge.new.sink) l) (ap accepted_line c.in-Ok.ensures.receipt ∙ line_is p.device plan) c.in-Ok-acknowledge.ensures.line,
       opened_by p d (booting_device c.in-Ok.accepted.0) world told living plan opens c.in-Ok.ensures.taken,
+      refl,
     )
 
 -- ---- it is accepted, and the line is not written
@@ -40,6 +41,7 @@ returns-in-Err-acknowledge-clause-went g c = λ taken p world told living opens.
       accept_went g.J.Journal.entries g.J.Journal.files g.met.D.Disk.laws c.args.disk.now c.accept.new.disk told.list p d world told living plan opens c.requires.lawful c.accept.ensures.moments,
       subst (λ (l : List ℕ). AppendsFront (g.K.Sink.held c.args.sink.now) (g.K.Sink.held c.acknowledge.new.sink) l) (ap accepted_line c.in-Ok.ensures.receipt ∙ line_is p.device plan) c.in-Err-acknowledge.ensures.line,
       (λ i left. subst (λ (y : Device). StandsFor g.J.Journal.entries i y) back (in_hand_stands g.met.D.Disk.laws g.met.J.Journal.laws _ c.accept.new.disk e c.in-Ok.ensures.held.0.0 i left)),
+      refl,
     )
 
 -- ---- it is refused
