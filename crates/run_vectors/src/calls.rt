@@ -77,8 +77,8 @@ fn document_of(alloc: Global, words: &str) -> Result<String, AllocError> {
     Ok(document)
 }
 
-fn number_in<'a, I: Iterator<Item = &'a str>>(words: &mut I) -> u64 {
-    match words.next() {
+fn number_of(word: Option<&str>) -> u64 {
+    match word {
         Some(word) => word.parse::<u64>().unwrap_or(0),
         None => 0,
     }
@@ -90,7 +90,7 @@ fn refused_of(alloc: Global, ends: &str) -> Result<List<u64>, Fail> {
     for end in ends.split(',') {
         let mut words = end.split_whitespace();
         if words.next() == Some("refuse") {
-            refused.push(number_in(&mut words))?;
+            refused.push(number_of(words.next()))?;
         }
     }
     Ok(refused)
@@ -116,9 +116,9 @@ fn played_of(alloc: Global, ends: &str) -> Result<List<ScriptedEnd>, Fail>
     let mut played = List::empty(alloc);
     for end in ends.split(',') {
         let mut words = end.split_whitespace();
-        let child = number_in(&mut words);
-        let code = number_in(&mut words).min(255) as i32;
-        let at = number_in(&mut words);
+        let child = number_of(words.next());
+        let code = number_of(words.next()).min(255) as i32;
+        let at = number_of(words.next());
         if !end.is_empty() && !end.starts_with("refuse") {
             add_end(&mut played, child, code, at)?;
         }
