@@ -85,7 +85,11 @@ fn say_large<K: Sink>(file: &FileName, bytes: u64, sink: &mut K) -> Status
 fn differs_text(alloc: Global, file: &FileName, digest: &[u8; 32]) -> Result<Text, NoMemory> {
     let digits = hex::encode(alloc, digest.as_slice())?;
     let mut out = Text::empty(alloc);
-    put_line(&mut out, "refused 13 Mismatch", &[shown(file), digits.as_str()])?;
+    put_line(
+        &mut out,
+        "refused 13 Mismatch",
+        &[shown(file), digits.as_str()],
+    )?;
     Ok(out)
 }
 

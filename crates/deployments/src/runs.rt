@@ -103,14 +103,7 @@ where
 }
 
 /// Takes a document in, and deploys it. It is refused by name where a check fails, and then the device is as before.
-pub fn run_deployment<
-    D: Disk,
-    J: Journal + Drop,
-    L: Library,
-    K: Sink,
-    R: Runner,
-    S: Supervise,
->(
+pub fn run_deployment<D: Disk, J: Journal + Drop, L: Library, K: Sink, R: Runner, S: Supervise>(
     alloc: Global,
     idle: Idle<J>,
     document: &Document,
@@ -155,14 +148,7 @@ where
 }
 
 /// The same of a document in these bytes, which is refused by name where it cannot be read.
-pub fn run_document<
-    D: Disk,
-    J: Journal + Drop,
-    L: Library,
-    K: Sink,
-    R: Runner,
-    S: Supervise,
->(
+pub fn run_document<D: Disk, J: Journal + Drop, L: Library, K: Sink, R: Runner, S: Supervise>(
     alloc: Global,
     idle: Idle<J>,
     document: &[u8],

@@ -60,7 +60,13 @@ fn answer(alloc: Global, disk: &mut MemoryDisk) -> Result<String, Fail> {
         List::empty(alloc),
     );
     let status = nucleus(
-        alloc, &words, disk, &mut library, &mut source, &mut sink, &mut runner,
+        alloc,
+        &words,
+        disk,
+        &mut library,
+        &mut source,
+        &mut sink,
+        &mut runner,
     );
     let mut text = format!(in alloc; "{}|", status.number())?;
     for byte in sink.bytes() {

@@ -172,7 +172,13 @@ fn answer(
         List::empty(alloc),
     );
     let status = nucleus(
-        alloc, &words, &mut disk, library, source, &mut sink, &mut runner,
+        alloc,
+        &words,
+        &mut disk,
+        library,
+        source,
+        &mut sink,
+        &mut runner,
     );
     let mut text = format!(in alloc; "{}|", status.number())?;
     for byte in sink.bytes() {

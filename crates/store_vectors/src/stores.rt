@@ -83,7 +83,13 @@ fn run<D: Disk>(alloc: Global, words: &[&str], disk: &mut D, failing: &[u64]) ->
         List::empty(alloc),
     );
     let status = nucleus(
-        alloc, &words, disk, &mut library, &mut source, &mut sink, &mut runner,
+        alloc,
+        &words,
+        disk,
+        &mut library,
+        &mut source,
+        &mut sink,
+        &mut runner,
     );
     Ok(Ran {
         status,
