@@ -1,5 +1,5 @@
 -- What the steps of `deploy` and `resume` come to.
-use Rattle.std.proofs.Common.{◌≡◌, ◌≢◌, ◌∙◌, ◌⊎◌, inl, inr, ℕ, List, [], ◌++◌, refl, sym, ap, subst, append-nil, arith}
+use Rattle.std.proofs.Common.{◌≡◌, ◌≢◌, ◌∙◌, ◌⊎◌, inl, inr, ℕ, List, [], ◌∷◌, ◌++◌, refl, sym, ap, subst, append-nil, arith}
 use Rattle.std.specs.Prelude.{◌≤◌, Bool, false, IsTrue, Option, Result, Ok, Err, true, IfOk, IfErr, IsErrOf, Contains}
 use Rattle.std.proofs.lemmas.Bool.{false≢true}
 use Rattle.nuc_base.proofs.Lists.{in_nil}
@@ -19,6 +19,7 @@ use Rattle.disk_model.specs.Moments.{at_start, none_spares, then_spares, weaker}
 use Rattle.disk_model.specs.Spares.{Spares}
 use Rattle.gate_log.specs.Journal.{JournalLaws}
 use Rattle.checkpoint_log.specs.Slots.{slots_entries, slots_files}
+use Rattle.records.specs.Stored.{Accepted}
 use Rattle.device.specs.Devices.{Device}
 use Rattle.deploy_state.specs.States.{InLoaded, activating_device, backing_device, booting_device, idle_device, rolling_device}
 use Rattle.deploy_state.specs.declared.fault.LoadFault.{LoadFault}
@@ -32,6 +33,7 @@ use Rattle.step_runner.specs.Entries.{Told as Heard}
 use Rattle.step_runner.specs.declared.entries.RunnerEntry.{RunnerEntry}
 use Rattle.supervisor.specs.World.{World}
 use Rattle.session.specs.Courses.{IsStart, Stands}
+use Rattle.session.specs.Happenings.{records_of}
 use Rattle.session.specs.Follows.{Lives}
 use Rattle.session.specs.Places.{Place, beginning}
 use Rattle.driver.specs.Stands.{IsFront}
@@ -41,6 +43,7 @@ use Rattle.acceptance.specs.Accepts.{IsOpen}
 use Rattle.deployments.specs.Calls.{Call, GivenBack, Says, Spared, Stays}
 use Rattle.nucleus_top.specs.Answers.{Input, IsUnchanged, Printed, Prints, Shelf, Store, Told, lines_of, status_of}
 use Rattle.nucleus_top.specs.Asked.{AsksFor, asked_of}
+use Rattle.nucleus_top.specs.Crashes.{LeavesFronts, LeavesSame}
 use Rattle.nucleus_top.specs.Drives.{DriveParts, Drives, IsDriven, IsDrivenFrom, IsFirst, IsPending, IsTurnedAway, TellsSweep, TellsUnread}
 use Rattle.nucleus_top.specs.Opening.{Stands as StandsFor}
 use Rattle.nucleus_top.specs.Parts.{Parts}
@@ -49,6 +52,7 @@ use Rattle.nucleus_top.specs.Words.{Asks, IsBuilt}
 use Rattle.nucleus_top.specs.declared.answer.Answer.{Answer}
 use Rattle.nucleus_top.specs.declared.asking.Asked.{Asked}
 use Rattle.nucleus_top.specs.declared.answer.Answer.TheVariants.{Damaged, DiskFailed, NoMemory, NotInitialised, Pending, SourceFailed}
+use Rattle.nucleus_top.proofs.Crashes.{fronts_on, same_fronts, same_on}
 use Rattle.nucleus_top.proofs.Ends.{parts}
 
 -- ---- answers
@@ -322,21 +326,33 @@ module _ {D : Type 0} {tells : Bool} {seen : D → Image} {may_leave : D → Ima
     either_on p (inl call) = inl (call_on p call)
     either_on p (inr given) = inr (given_on p given)
 
-    pub driven_on : (d : Device) → IsDrivenFrom d may_leave moment left_since mid new old_list new_list old_held new_held result
+    images_on : (p : Place) (d : Device) → LeavesFronts may_leave moment left_since old mid d []
+        → (call : Call slots_entries slots_files may_leave moment left_since mid new old_list new_list old_held new_held p result ⊎ GivenBack slots_entries slots_files may_leave moment left_since mid new old_list new_list old_held new_held p result)
+        → LeavesFronts may_leave moment left_since mid new d (elim call [ inl c ↦ records_of c.history | inr given ↦ Accepted given.plan ∷ [] ])
+        → LeavesFronts may_leave moment left_since old new d (elim (either_on p call) [ inl c ↦ records_of c.history | inr given ↦ Accepted given.plan ∷ [] ])
+    unfolding either_on call_on given_on
+    images_on p d images (inl call) then = fronts_on laws old mid new d (records_of call.history) images then
+    images_on p d images (inr given) then = fronts_on laws old mid new d (Accepted given.plan ∷ []) images then
+
+    pub driven_on : (d : Device) → LeavesFronts may_leave moment left_since old mid d [] → IsDrivenFrom d may_leave moment left_since mid new old_list new_list old_held new_held result
         → IsDrivenFrom d may_leave moment left_since old new old_list new_list old_held new_held result
-    driven_on d driven = record {
+    driven_on d images driven = record {
       place = driven.place;
       start = driven.start;
       serves = driven.serves;
       device_is = driven.device_is;
       call = either_on driven.place driven.call;
+      images = images_on driven.place d images driven.call driven.images;
     }
 
-    pub ran_on : (d : Device) (Same : Type 0) → (IsTrue tells → StandsFor (seen old) d)
-        → (IsTurnedAway may_leave moment left_since mid new old_held new_held result × Same) ⊎ IsDrivenFrom d may_leave moment left_since mid new old_list new_list old_held new_held result
-        → (IsTurnedAway may_leave moment left_since old new old_held new_held result × Same) ⊎ IsDriven tells seen may_leave moment left_since old new old_list new_list old_held new_held result
-    ran_on d Same stands (inl away) = inl (record { spared = then_spared old mid new first away.0.spared; says = away.0.says }, away.1)
-    ran_on d Same stands (inr driven) = inr (d, stands, driven_on d driven)
+    pub ran_on : (d : Device) (Same : Type 0) → (IsTrue tells → StandsFor (seen old) d) → (IsTrue tells → StandsFor (seen mid) d) → LeavesSame may_leave moment left_since seen old mid
+        → (IsTurnedAway seen may_leave moment left_since mid new old_held new_held result × Same) ⊎ IsDrivenFrom d may_leave moment left_since mid new old_list new_list old_held new_held result
+        → (IsTurnedAway seen may_leave moment left_since old new old_held new_held result × Same) ⊎ IsDriven tells seen may_leave moment left_since old new old_list new_list old_held new_held result
+    ran_on d Same stands then_stands images (inl away) = inl (
+      record { spared = then_spared old mid new first away.0.spared; images = same_on laws old mid new d stands then_stands images away.0.images; says = away.0.says },
+      away.1,
+    )
+    ran_on d Same stands then_stands images (inr driven) = inr (d, stands, driven_on d (same_fronts laws old mid d stands images) driven)
 
 -- ---- words
 

@@ -1,5 +1,6 @@
 mod AuditEnds
 mod Comparing
+mod Crashes
 mod Driven
 mod Ends
 mod Faults

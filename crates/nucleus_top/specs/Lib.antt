@@ -2,6 +2,7 @@ pub mod Answers
 pub mod Asked
 pub mod Audits
 pub mod Begun
+pub mod Crashes
 pub mod Drives
 pub mod Inits
 pub mod Leaving

@@ -5,6 +5,7 @@ ghost use Rattle.nuc_base.specs.declared.status.Status.TheVariants as statuses;
 ghost use Rattle.checkpoint_log.specs.Slots.{slots_files, slots_stands};
 ghost use Rattle.deploy_state.specs.States.{InIdle, InLoaded, idle_device, loaded_device};
 ghost use Rattle.deployments.specs.Calls.{Elsewhere, Spared, Stays};
+ghost use Rattle.nucleus_top.specs.Crashes.{LeavesSame};
 ghost use Rattle.nucleus_top.specs.Opening.{Stands};
 ghost use Rattle.nucleus_top.specs.Drives.{IsDriven, IsDrivenFrom, IsFirst, IsPending, IsTurnedAway, TellsSweep, TellsUnread};
 
@@ -52,6 +53,7 @@ fn swept<T: HasDevice + Drop, D: Disk>(alloc: Global, state: T, disk: &mut D) ->
 fn open_swept<D: Disk>(alloc: Global, disk: &mut D) -> Result<Loaded<Slots>, Answer>
     ensures opened { IsTrue D.tells → IfOk result (λ s. Stands (D.seen disk.old) (loaded_device s)) }
     ensures held { IfOk result (λ s. InLoaded D.tells D.may_leave slots_stands (λ log. log.live.end) s disk.new) }
+    ensures images { LeavesSame D.may_leave D.moment D.left_since D.seen disk.old disk.new }
     ensures spared { Spared D.may_leave D.moment D.left_since disk.old disk.new }
     ensures others { IsTrue D.tells → Elsewhere slots_files (D.seen disk.old) (D.seen disk.new) }
     ensures disk { IsErrOf result Answer.DiskFailed → Rose (D.faults disk.old) (D.faults disk.new) }
@@ -94,6 +96,7 @@ fn idle_of(alloc: Global, state: Loaded<Slots>) -> Result<Idle<Slots>, Answer>
 fn open_idle<D: Disk>(alloc: Global, disk: &mut D) -> Result<Idle<Slots>, Answer>
     ensures opened { IsTrue D.tells → IfOk result (λ s. Stands (D.seen disk.old) (idle_device s)) }
     ensures held { IfOk result (λ s. InIdle D.tells D.may_leave slots_stands (λ log. log.live.end) s disk.new) }
+    ensures images { LeavesSame D.may_leave D.moment D.left_since D.seen disk.old disk.new }
     ensures spared { Spared D.may_leave D.moment D.left_since disk.old disk.new }
     ensures others { IsTrue D.tells → Elsewhere slots_files (D.seen disk.old) (D.seen disk.new) }
     ensures disk { IsErrOf result Answer.DiskFailed → Rose (D.faults disk.old) (D.faults disk.new) }
@@ -169,7 +172,7 @@ fn deploy_read<D: Disk, L: Library, S: Source, K: Sink, R: Runner>(
 ) -> Status
     requires held { InIdle D.tells D.may_leave slots_stands (λ log. log.live.end) idle disk.old }
     requires none { R.living runner.old ≡ [] }
-    ensures ran { (IsTurnedAway D.may_leave D.moment D.left_since disk.old disk.new (K.held sink.old) (K.held sink.new) result × (runner.new ≡ runner.old))
+    ensures ran { (IsTurnedAway D.seen D.may_leave D.moment D.left_since disk.old disk.new (K.held sink.old) (K.held sink.new) result × (runner.new ≡ runner.old))
         ⊎ IsDrivenFrom (idle_device idle) D.may_leave D.moment D.left_since disk.old disk.new (R.list runner.old) (R.list runner.new) (K.held sink.old) (K.held sink.new) result }
     ensures none { R.living runner.new ≡ [] }
     ensures others { IsTrue D.tells → Elsewhere slots_files (D.seen disk.old) (D.seen disk.new) }
@@ -204,7 +207,7 @@ pub(crate) fn deploy<D: Disk, L: Library, S: Source, K: Sink, R: Runner>(
     runner: &mut R,
 ) -> Status
     requires none { R.living runner.old ≡ [] }
-    ensures ran { (IsTurnedAway D.may_leave D.moment D.left_since disk.old disk.new (K.held sink.old) (K.held sink.new) result × (runner.new ≡ runner.old))
+    ensures ran { (IsTurnedAway D.seen D.may_leave D.moment D.left_since disk.old disk.new (K.held sink.old) (K.held sink.new) result × (runner.new ≡ runner.old))
         ⊎ IsDriven D.tells D.seen D.may_leave D.moment D.left_since disk.old disk.new (R.list runner.old) (R.list runner.new) (K.held sink.old) (K.held sink.new) result }
     ensures none { R.living runner.new ≡ [] }
     ensures others { IsTrue D.tells → Elsewhere slots_files (D.seen disk.old) (D.seen disk.new) }
@@ -234,7 +237,7 @@ pub(crate) fn resume<D: Disk, K: Sink, R: Runner>(
     runner: &mut R,
 ) -> Status
     requires none { R.living runner.old ≡ [] }
-    ensures ran { (IsTurnedAway D.may_leave D.moment D.left_since disk.old disk.new (K.held sink.old) (K.held sink.new) result × (runner.new ≡ runner.old))
+    ensures ran { (IsTurnedAway D.seen D.may_leave D.moment D.left_since disk.old disk.new (K.held sink.old) (K.held sink.new) result × (runner.new ≡ runner.old))
         ⊎ IsDriven D.tells D.seen D.may_leave D.moment D.left_since disk.old disk.new (R.list runner.old) (R.list runner.new) (K.held sink.old) (K.held sink.new) result }
     ensures none { R.living runner.new ≡ [] }
     ensures others { IsTrue D.tells → Elsewhere slots_files (D.seen disk.old) (D.seen disk.new) }

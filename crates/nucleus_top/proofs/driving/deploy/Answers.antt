@@ -4,6 +4,7 @@ use Rattle.nuc_base.specs.Faults.{Rose}
 use Rattle.deploy_state.specs.States.{idle_device}
 use Rattle.nucleus_top.specs.Answers.{Printed, printed_of}
 use Rattle.nucleus_top.proofs.Driven.{ran_on, says_of, stays, stays_on, tells}
+use Rattle.nucleus_top.proofs.Images.{held_stands}
 use Rattle.nucleus_top.proofs.driving.deploy.Goals as goal
 
 -- ---- no deployment is pending
@@ -18,7 +19,9 @@ pub returns-in-Ok-clause-ran : goal.returns-in-Ok-clause-ran
 returns-in-Ok-clause-ran g c =
     ran_on g.met.D.Disk.laws c.args.disk.now c.open_idle.new.disk c.deploy_read.new.disk c.open_idle.ensures.spared
     (g.R.Runner.list c.args.runner.now) (g.R.Runner.list c.deploy_read.new.runner) (g.K.Sink.held c.args.sink.now) (g.K.Sink.held c.deploy_read.new.sink) c.deploy_read.result
-    (idle_device c.in-Ok.idle) (c.deploy_read.new.runner ≡ c.args.runner.now) c.in-Ok.ensures.opened c.deploy_read.ensures.ran
+    (idle_device c.in-Ok.idle) (c.deploy_read.new.runner ≡ c.args.runner.now) c.in-Ok.ensures.opened
+    (λ told. held_stands g.met.D.Disk.laws c.in-Ok.idle.log c.open_idle.new.disk (idle_device c.in-Ok.idle) c.in-Ok.ensures.held.0 (g.D.Disk.seen c.open_idle.new.disk) (g.met.D.Disk.laws.reads c.open_idle.new.disk told))
+    c.open_idle.ensures.images c.deploy_read.ensures.ran
 
 pub returns-in-Ok-clause-none : goal.returns-in-Ok-clause-none
 returns-in-Ok-clause-none g c = c.deploy_read.ensures.none
@@ -57,7 +60,7 @@ returns-in-Ok-clause-quiet_source g c = c.deploy_read.ensures.quiet_source
 pub returns-in-Err-clause-ran : goal.returns-in-Err-clause-ran
 returns-in-Err-clause-ran g c =
     let printed : Printed = printed_of g.K.Sink.held g.K.Sink.faults c.args.sink.now c.tell.new.sink in
-    inl (record { spared = c.open_idle.ensures.spared; says = says_of printed c.tell.result c.in-Err.answer c.tell.ensures.told }, refl {a = c.args.runner.now})
+    inl (record { spared = c.open_idle.ensures.spared; images = c.open_idle.ensures.images; says = says_of printed c.tell.result c.in-Err.answer c.tell.ensures.told }, refl {a = c.args.runner.now})
 
 pub returns-in-Err-clause-others : goal.returns-in-Err-clause-others
 returns-in-Err-clause-others g c = c.open_idle.ensures.others

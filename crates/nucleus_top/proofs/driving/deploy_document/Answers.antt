@@ -2,7 +2,9 @@ use Rattle.std.proofs.Common.{refl, ap}
 use Rattle.deploy_state.specs.States.{idle_device}
 use Rattle.step_runner.specs.Entries.{Listed}
 use Rattle.supervisor.specs.World.{World}
+use Rattle.nucleus_top.proofs.Crashes.{drive_fronts}
 use Rattle.nucleus_top.proofs.Driven.{begun, open_begun, slots_elsewhere}
+use Rattle.nucleus_top.proofs.Images.{held_stands}
 use Rattle.nucleus_top.proofs.driving.deploy_document.Goals as goal
 
 pub run_document-requires-clause-held : goal.run_document-requires-clause-held
@@ -22,13 +24,18 @@ run_document-requires-clause-placed g c =
 pub returns-clause-driven : goal.returns-clause-driven
 returns-clause-driven g c =
     let told = Listed g.R.Runner.list g.R.Runner.told g.R.Runner.asked c.args.runner.now in
-    let place = begun (idle_device c.args.idle) told in
+    let d = idle_device c.args.idle in
+    let place = begun d told in
+    let call = c.run_document.ensures.call place (open_begun d c.new-supervisor.result told (g.R.Runner.living c.args.runner.now) c.new-supervisor.ensures c.requires.none) refl in
     record {
       place = place;
       start = refl;
       serves = refl;
       device_is = refl;
-      call = c.run_document.ensures.call place (open_begun (idle_device c.args.idle) c.new-supervisor.result told (g.R.Runner.living c.args.runner.now) c.new-supervisor.ensures c.requires.none) refl;
+      call = call;
+      images = drive_fronts g.met.D.Disk.laws (slots_elsewhere c.needed_files_stay.ensures.journals) c.args.disk.now c.run_document.new.disk
+          (g.R.Runner.list c.args.runner.now) (g.R.Runner.list c.run_document.new.runner) (g.K.Sink.held c.args.sink.now) (g.K.Sink.held c.run_document.new.sink) place c.run_document.result
+          (held_stands g.met.D.Disk.laws c.args.idle.log c.args.disk.now d c.requires.held.0) c.requires.held.1 call;
     }
 
 pub returns-clause-none : goal.returns-clause-none

@@ -1,6 +1,8 @@
 use Rattle.std.proofs.Common.{inl, inr, refl, ap, arith}
 use Rattle.std.specs.Prelude.{Err}
+use Rattle.disk_model.specs.Moments.{at_start}
 use Rattle.nucleus_top.specs.Answers.{Printed, printed_of}
+use Rattle.nucleus_top.proofs.Crashes.{same_left}
 use Rattle.nucleus_top.proofs.Driven.{first_by, says_of, start_spared, stays, tells_none}
 use Rattle.nucleus_top.proofs.driving.deploy_read.Goals as goal
 
@@ -50,7 +52,14 @@ returns-in-Ok-clause-quiet_source g c = λ other. c.in-Ok.ensures.quiet (λ is. 
 pub returns-in-Err-clause-ran : goal.returns-in-Err-clause-ran
 returns-in-Err-clause-ran g c =
     let printed : Printed = printed_of g.K.Sink.held g.K.Sink.faults c.args.sink.now c.tell.new.sink in
-    inl (record { spared = start_spared g.met.D.Disk.laws c.args.disk.now; says = says_of printed c.tell.result c.unread.result c.tell.ensures.told }, refl {a = c.args.runner.now})
+    inl (
+      record {
+        spared = start_spared g.met.D.Disk.laws c.args.disk.now;
+        images = same_left g.met.D.Disk.laws c.args.disk.now c.args.disk.now (at_start g.met.D.Disk.laws c.args.disk.now);
+        says = says_of printed c.tell.result c.unread.result c.tell.ensures.told;
+      },
+      refl {a = c.args.runner.now},
+    )
 
 pub returns-in-Err-clause-others : goal.returns-in-Err-clause-others
 returns-in-Err-clause-others g c = λ told name apart outside. refl

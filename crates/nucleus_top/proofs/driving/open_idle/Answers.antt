@@ -20,6 +20,9 @@ returns-in-Ok-clause-held g c =
     idle_ok (λ (s : Loaded Slots). InLoaded g.D.Disk.tells g.D.Disk.may_leave slots_stands (λ (log : Slots). log.live.end) s c.open_swept.new.disk) (λ (s : Idle Slots). loaded.Idle s) c.in-Ok.state c.idle_of.result
     c.idle_of.ensures.idle c.in-Ok.ensures.held
 
+pub returns-in-Ok-clause-images : goal.returns-in-Ok-clause-images
+returns-in-Ok-clause-images g c = c.open_swept.ensures.images
+
 pub returns-in-Ok-clause-spared : goal.returns-in-Ok-clause-spared
 returns-in-Ok-clause-spared g c = c.open_swept.ensures.spared
 
@@ -34,6 +37,9 @@ returns-in-Ok-clause-quiet g c = λ other. c.in-Ok.ensures.quiet (λ is. cc)
 
 pub returns-in-Ok-clause-answers : goal.returns-in-Ok-clause-answers
 returns-in-Ok-clause-answers g c = pending_too c.idle_of.result c.idle_of.ensures.answers
+
+pub returns-in-Err-clause-images : goal.returns-in-Err-clause-images
+returns-in-Err-clause-images g c = c.open_swept.ensures.images
 
 pub returns-in-Err-clause-spared : goal.returns-in-Err-clause-spared
 returns-in-Err-clause-spared g c = c.open_swept.ensures.spared

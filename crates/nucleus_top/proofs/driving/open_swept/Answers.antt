@@ -8,6 +8,7 @@ use Rattle.checkpoint_log.specs.declared.slots.Slots.{Slots}
 use Rattle.deploy_state.specs.States.{InLoaded, loaded_device}
 use Rattle.deploy_state.specs.declared.state.Loaded.{Loaded}
 use Rattle.nucleus_top.specs.Opening.{Stands}
+use Rattle.nucleus_top.proofs.Crashes.{opened_same, same_left}
 use Rattle.nucleus_top.proofs.Driven.{disk_of, first_of, kept_ok, loaded_stays, same_spared, slots_elsewhere, then_spared}
 use Rattle.nucleus_top.proofs.Faults.{other_fault}
 use Rattle.nucleus_top.proofs.driving.open_swept.Goals as goal
@@ -20,6 +21,11 @@ pub returns-in-Ok-clause-held : goal.returns-in-Ok-clause-held
 returns-in-Ok-clause-held g c =
     kept_ok (λ (s : Loaded Slots). InLoaded g.D.Disk.tells g.D.Disk.may_leave slots_stands (λ (log : Slots). log.live.end) s c.swept.new.disk) c.in-Ok.state c.swept.result c.swept.ensures.kept
     (loaded_stays g.met.D.Disk.laws slots_laws (slots_elsewhere c.needed_files_stay.ensures.journals) c.in-Ok.state c.open.new.disk c.swept.new.disk c.swept.ensures.spared c.in-Ok.ensures.held)
+
+pub returns-in-Ok-clause-images : goal.returns-in-Ok-clause-images
+returns-in-Ok-clause-images g c =
+    opened_same g.met.D.Disk.laws (slots_elsewhere c.needed_files_stay.ensures.journals) c.args.disk.now c.open.new.disk c.swept.new.disk c.in-Ok.state
+    c.open.ensures.moments (λ told. (c.in-Ok.ensures.told told).1) c.in-Ok.ensures.held c.swept.ensures.spared
 
 pub returns-in-Ok-clause-spared : goal.returns-in-Ok-clause-spared
 returns-in-Ok-clause-spared g c =
@@ -34,6 +40,9 @@ returns-in-Ok-clause-disk g c = λ is.
 
 pub returns-in-Ok-clause-quiet : goal.returns-in-Ok-clause-quiet
 returns-in-Ok-clause-quiet g c = λ other. c.swept.ensures.quiet other ∙ c.in-Ok.ensures.quiet (λ is. cc)
+
+pub returns-in-Err-clause-images : goal.returns-in-Err-clause-images
+returns-in-Err-clause-images g c = same_left g.met.D.Disk.laws c.args.disk.now c.open.new.disk c.open.ensures.moments
 
 pub returns-in-Err-clause-spared : goal.returns-in-Err-clause-spared
 returns-in-Err-clause-spared g c = same_spared g.met.D.Disk.laws c.args.disk.now c.open.new.disk c.open.ensures.moments

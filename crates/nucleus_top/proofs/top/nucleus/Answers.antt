@@ -4,6 +4,7 @@ use Rattle.command_words.specs.declared.order.Order.TheVariants as orders
 use Rattle.nucleus_top.specs.Asked.{AsksFor}
 use Rattle.nucleus_top.specs.declared.asking.Asked.TheVariants as asked
 use Rattle.nucleus_top.specs.Answers.{Input, Printed, Shelf, Store, input_of, printed_of, shelf_of, store_of}
+use Rattle.nucleus_top.proofs.Crashes.{same_left}
 use Rattle.nucleus_top.proofs.Driven.{no_quiet, says_none, start_spared, stays, unread_drives, unread_parts}
 use Rattle.nucleus_top.proofs.Images.{by_none}
 use Rattle.disk_model.specs.Moments.{at_start}
@@ -30,7 +31,14 @@ pub returns-in-NoMemory-clause-others : goal.returns-in-NoMemory-clause-others
 returns-in-NoMemory-clause-others g c = λ order asks told name outside. refl
 
 pub returns-in-NoMemory-clause-ran : goal.returns-in-NoMemory-clause-ran
-returns-in-NoMemory-clause-ran g c = λ drives. inl (record { spared = start_spared g.met.D.Disk.laws c.args.disk.now; says = says_none (g.K.Sink.held c.args.sink.now) _ }, refl {a = c.args.runner.now})
+returns-in-NoMemory-clause-ran g c = λ drives. inl (
+  record {
+    spared = start_spared g.met.D.Disk.laws c.args.disk.now;
+    images = same_left g.met.D.Disk.laws c.args.disk.now c.args.disk.now (at_start g.met.D.Disk.laws c.args.disk.now);
+    says = says_none (g.K.Sink.held c.args.sink.now) _;
+  },
+  refl {a = c.args.runner.now},
+)
 
 pub returns-in-NoMemory-clause-driven : goal.returns-in-NoMemory-clause-driven
 returns-in-NoMemory-clause-driven g c = λ drives.

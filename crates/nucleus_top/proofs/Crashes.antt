@@ -1,0 +1,213 @@
+-- What a crash leaves of a call that drives a deployment.
+use Rattle.std.proofs.Common.{◌≡◌, ◌⊎◌, ⊎_elim, inl, inr, ℕ, ◌+◌, List, [], ◌∷◌, ◌++◌, Option, Some, None, refl, sym, subst}
+use Rattle.std.specs.Prelude.{Bool, IsTrue}
+use Rattle.std.specs.Option.{IsSomeAnd}
+use Rattle.disk_model.specs.Disk.{Image, After, DiskLaws, Leaves}
+use Rattle.disk_model.specs.Listing.{artifacts, IsBelow}
+use Rattle.disk_model.specs.Moments.{joined, now, tells_of, weaker}
+use Rattle.disk_model.specs.Spares.{Spares}
+use Rattle.gate_log.specs.Entries.{journal, ClosedAt, HoldsNone}
+use Rattle.checkpoint_log.specs.Beginnings.{second, slot, IsOlder}
+use Rattle.checkpoint_log.specs.Laws.{of_slots}
+use Rattle.checkpoint_log.specs.Slots.{slots_entries, slots_files, slots_stands}
+use Rattle.checkpoint_log.specs.declared.slots.Slots.{Slots}
+use Rattle.nuc_base.specs.declared.status.Status.{Status}
+use Rattle.records.specs.Stored.{Plan, Record, Accepted}
+use Rattle.records.specs.declared.record.Origin.{Origin}
+use Rattle.device.specs.Devices.{Device, no_device}
+use Rattle.device.specs.Lawful.{Allowed, MayAccept, Run, applied}
+use Rattle.device.specs.Sound.{IsAccepted, IsSound}
+use Rattle.device.specs.Standing.{Means, Plays}
+use Rattle.device.proofs.Sounding.{none_sound, stays_sound}
+use Rattle.deploy_state.specs.Hand.{StandsForEither}
+use Rattle.deploy_state.specs.States.{InLoaded, activating_device, backing_device, booting_device, idle_device, loaded_device, rolling_device}
+use Rattle.deploy_state.specs.declared.state.Loaded.{Loaded}
+use Rattle.deploy_state.specs.declared.state.Loaded.TheVariants as loaded
+use Rattle.step_runner.specs.declared.entries.RunnerEntry.{RunnerEntry}
+use Rattle.session.specs.Happenings.{records_of}
+use Rattle.session.specs.Places.{Place}
+use Rattle.driver.specs.Went.{StandsForFront}
+use Rattle.intake.specs.Takes.{LieElsewhere}
+use Rattle.deployments.specs.Calls.{Call, GivenBack, Spared}
+use Rattle.nucleus_top.specs.Crashes.{AllowedOrFront, AllowedOrSame, LeavesFronts, LeavesSame}
+use Rattle.nucleus_top.specs.Opening.{Stands}
+use Rattle.nucleus_top.proofs.Images.{held_stands}
+use Rattle.nucleus_top.proofs.Standing.{same_device}
+
+-- ---- only the journal's two files matter
+
+entries_stay : (a b : Image) (payloads : List (List ℕ)) → ((name : List ℕ) → slots_files name → b name ≡ a name) → slots_entries a payloads → slots_entries b payloads
+entries_stay a b payloads same (inl none) = inl (
+  (subst HoldsNone (sym (same journal (inl refl))) none.0.0, subst HoldsNone (sym (same second (inr refl))) none.0.1),
+  none.1,
+)
+entries_stay a b payloads same (inr live) = inr (
+  live.0,
+  live.1,
+  record {
+    closed = subst (λ (l : List ℕ). ClosedAt l live.1 payloads) (sym (same (slot live.0) (of_slots live.0))) live.2.closed;
+    says = live.2.says;
+    older = subst (λ (l : List ℕ). IsOlder (slot (live.0 + 1)) l live.0) (sym (same (slot (live.0 + 1)) (of_slots (live.0 + 1)))) live.2.older;
+  },
+)
+
+pub stands_stays : (d : Device) (a b : Image) → ((name : List ℕ) → slots_files name → b name ≡ a name) → Stands a d → Stands b d
+stands_stays d a b same h = record { payloads = h.payloads; live = entries_stay a b h.payloads same h.live; means = h.means; room = h.room }
+
+-- ---- fronts of records
+
+-- no record
+pub none_front : (d : Device) (records : List Record) (c : Image) → Stands c d → StandsForFront slots_entries d records c
+none_front d records c h = record { front = []; rest = records; split = refl; device = d; run = refl; stands = h }
+
+-- one, or none
+either_front : (d : Device) (r : Record) (c : Image) → (Stands c (applied d r) → Allowed d r) → StandsForEither slots_entries d (applied d r) c → StandsForFront slots_entries d (r ∷ []) c
+either_front d r c allowed (inl h) = none_front d (r ∷ []) c h
+either_front d r c allowed (inr h) = record {
+  front = r ∷ [];
+  rest = [];
+  split = refl;
+  device = applied d r;
+  run = (applied d r, record { allowed = allowed h; leaves = refl }, refl);
+  stands = h;
+}
+
+-- ---- a journal that holds a plan shows that it could be taken
+
+plays_sound : (payloads : List (List ℕ)) (d e : Device) → IsSound d → Plays d payloads e → IsSound e
+plays_sound [] d e sound plays = subst IsSound (sym plays) sound
+plays_sound (p ∷ payloads) d e sound plays = plays_sound payloads plays.0 e (stays_sound d plays.0 plays.1.entry sound plays.1.lawful) plays.2
+
+pub means_sound : (payloads : List (List ℕ)) (e : Device) → Means payloads e → IsSound e
+means_sound payloads e (inl plays) = plays_sound payloads no_device e none_sound plays
+means_sound payloads e (inr anew) = plays_sound anew.after anew.begun e anew.is.has.sound anew.plays
+
+may_accept : (d : Device) (plan : Plan) (origin : Option Origin) → d.pending ≡ None → IsAccepted origin d.groups d.closed plan → IsSomeAnd origin (MayAccept d plan)
+may_accept d plan None idle taken = absurd taken.plan_is
+may_accept d plan (Some o) idle taken = ((idle, taken.fresh, taken.closes, taken.joins), taken.young, taken.plan_is)
+
+could_accept : (d : Device) (plan : Plan) (c : Image) → d.pending ≡ None → Stands c (applied d (Accepted plan)) → Allowed d (Accepted plan)
+could_accept d plan c idle h =
+    let sound = means_sound h.payloads (applied d (Accepted plan)) h.means in
+    may_accept d plan d.origin idle sound.pending.0
+
+-- ---- at each moment
+
+module _ {D : Type 0} {tells : Bool} {seen : D → Image} {may_leave : D → Image → Type 0} {moment : D → ℕ} {left_since : D → ℕ → Image → Type 0}
+    (laws : DiskLaws tells seen may_leave moment left_since) where
+  -- each image of a state that is in hand stands for its device
+  pub loaded_stands : (s : Loaded Slots) (disk : D) → InLoaded tells may_leave slots_stands (λ log. log.live.end) s disk → (c : Image) → may_leave disk c → Stands c (loaded_device s)
+  loaded_stands (loaded.Idle s) disk held c left = held_stands laws s.log disk (idle_device s) held.0 c left
+  loaded_stands (loaded.Booting s) disk held c left = held_stands laws s.hand.log disk (booting_device s) held.0.0 c left
+  loaded_stands (loaded.Activating s) disk held c left = held_stands laws s.hand.log disk (activating_device s) held.0.0 c left
+  loaded_stands (loaded.Backing s) disk held c left = held_stands laws s.hand.log disk (backing_device s) held.0.0 c left
+  loaded_stands (loaded.Rolling s) disk held c left = held_stands laws s.hand.log disk (rolling_device s) held.0.0 c left
+
+  -- what is allowed more where the disk tells
+  told_weaker : (old new : D) (P Q : Image → Type 0) → (IsTrue tells → (c : Image) → P c → Q c) → Leaves moment left_since old new P → Leaves moment left_since old new Q
+  told_weaker old new P Q more leaves = record {
+    later = leaves.later;
+    each = λ c left. more (laws.told new (moment old) c left) c (leaves.each c left);
+    joins = leaves.joins;
+    keeps = leaves.keeps;
+  }
+
+  -- ---- a call that keeps no record
+
+  pub same_left : (old new : D) → Leaves moment left_since old new (may_leave old) → LeavesSame may_leave moment left_since seen old new
+  same_left old new leaves = weaker laws old new _ _ (λ c left. inl left) leaves
+
+  -- one behind another
+  pub same_on : (old mid new : D) (d : Device) → (IsTrue tells → Stands (seen old) d) → (IsTrue tells → Stands (seen mid) d)
+      → LeavesSame may_leave moment left_since seen old mid → LeavesSame may_leave moment left_since seen mid new → LeavesSame may_leave moment left_since seen old new
+  same_on old mid new d first_stands then_stands first second =
+      joined laws old mid new _ (AllowedOrSame (may_leave mid) (seen old)) _ first
+      (told_weaker mid new (AllowedOrSame (may_leave mid) (seen mid)) (AllowedOrSame (may_leave mid) (seen old))
+      (λ told c was. ⊎_elim (λ left. inl left) (λ stands. inr (stands.0, subst (λ (e : Device). Stands (seen old) e) (same_device (seen mid) d stands.0 (then_stands told) stands.1) (first_stands told), stands.2)) was)
+      second)
+      (λ c was. was)
+      (λ c was. ⊎_elim (λ left. now laws old mid _ first c left) (λ stands. inr stands) was)
+
+  -- it keeps no record of the device for which the journal stood
+  pub same_fronts : (old new : D) (d : Device) → (IsTrue tells → Stands (seen old) d) → LeavesSame may_leave moment left_since seen old new → LeavesFronts may_leave moment left_since old new d []
+  same_fronts old new d stands leaves =
+      told_weaker old new (AllowedOrSame (may_leave old) (seen old)) (AllowedOrFront (may_leave old) d [])
+      (λ told c was. ⊎_elim (λ left. inl left) (λ other. inr (none_front d [] c (subst (λ (e : Device). Stands c e) (same_device (seen old) other.0 d other.1 (stands told)) other.2))) was)
+      leaves
+
+  -- ---- a call that keeps records
+
+  -- behind one that keeps none
+  pub fronts_on : (old mid new : D) (d : Device) (records : List Record) → LeavesFronts may_leave moment left_since old mid d [] → LeavesFronts may_leave moment left_since mid new d records
+      → LeavesFronts may_leave moment left_since old new d records
+  fronts_on old mid new d records first second =
+      joined laws old mid new (AllowedOrFront (may_leave old) d []) (AllowedOrFront (may_leave mid) d records) (AllowedOrFront (may_leave old) d records) first second more
+      (λ c was. ⊎_elim (λ left. more c (now laws old mid (AllowedOrFront (may_leave old) d []) first c left)) (λ front. inr front) was)
+    where
+      longer : (c : Image) → StandsForFront slots_entries d [] c → StandsForFront slots_entries d records c
+      longer c h = by h.front h.split h.run
+        where
+          by : (front : List Record) → [] ≡ front ++ h.rest → Run d front h.device → StandsForFront slots_entries d records c
+          by [] is run = none_front d records c (subst (λ (e : Device). Stands c e) run h.stands)
+          by (r ∷ front) is run = cc
+
+      more : (c : Image) → AllowedOrFront (may_leave old) d [] c → AllowedOrFront (may_leave old) d records c
+      more c was = ⊎_elim (λ left. inl left) (λ front. inr (longer c front)) was
+
+  -- the journal does not lie among the files of artifacts
+  module _ (apart : LieElsewhere slots_files) where
+    journal_stays : (a b : Image) → Spares (IsBelow artifacts) a b → (name : List ℕ) → slots_files name → b name ≡ a name
+    journal_stays a b spares name is = spares name (λ below. apart name is below)
+
+    front_stays : (d : Device) (records : List Record) (a b : Image) → Spares (IsBelow artifacts) a b → StandsForFront slots_entries d records a → StandsForFront slots_entries d records b
+    front_stays d records a b spares h = record { front = h.front; rest = h.rest; split = h.split; device = h.device; run = h.run; stands = stands_stays h.device a b (journal_stays a b spares) h.stands }
+
+    -- the journal is opened, and stray files are swept
+    pub opened_same : (old opened new : D) (s : Loaded Slots) → Leaves moment left_since old opened (may_leave old) → (IsTrue tells → Stands (seen old) (loaded_device s))
+        → InLoaded tells may_leave slots_stands (λ log. log.live.end) s opened → Spared may_leave moment left_since opened new → LeavesSame may_leave moment left_since seen old new
+    opened_same old opened new s opening stands held spared =
+        joined laws old opened new (may_leave old) (After (may_leave opened) (Spares (IsBelow artifacts))) (AllowedOrSame (may_leave old) (seen old)) opening spared
+        (λ c left. inl left)
+        (λ c was. inr (loaded_device s, stands (tells_of laws opened was.0 was.1), stands_stays (loaded_device s) was.0 c (journal_stays was.0 c was.2) (loaded_stands s opened held was.0 was.1)))
+
+    -- a call that changes files of artifacts alone, where each image stands for a front already
+    spared_fronts : (old new : D) (d : Device) (records : List Record) → ((c : Image) → may_leave old c → StandsForFront slots_entries d records c) → Spared may_leave moment left_since old new
+        → Leaves moment left_since old new (StandsForFront slots_entries d records)
+    spared_fronts old new d records stands spared =
+        weaker laws old new (After (may_leave old) (Spares (IsBelow artifacts))) (StandsForFront slots_entries d records) (λ c was. front_stays d records was.0 c was.2 (stands was.0 was.1)) spared
+
+    -- one deployment, in a call that begins with the device in hand
+    module _ (old new : D) (old_list new_list : Option (List RunnerEntry)) (old_held new_held : Option (List ℕ)) (p : Place) (status : Status) (stands : (c : Image) → may_leave old c → Stands c p.device) where
+      abbrev IsCall : Type 0
+      IsCall = Call slots_entries slots_files may_leave moment left_since old new old_list new_list old_held new_held p status
+
+      abbrev IsGivenBack : Type 0
+      IsGivenBack = GivenBack slots_entries slots_files may_leave moment left_since old new old_list new_list old_held new_held p status
+
+      before_fronts : (records : List Record) (from : D) → Spared may_leave moment left_since old from → Leaves moment left_since old from (StandsForFront slots_entries p.device records)
+      before_fronts records from spared = spared_fronts old from p.device records (λ c left. none_front p.device records c (stands c left)) spared
+
+      call_fronts : (call : IsCall) → Leaves moment left_since old new (StandsForFront slots_entries p.device (records_of call.history))
+      call_fronts call =
+          let records = records_of call.history in
+          let front = StandsForFront slots_entries p.device records in
+          let before : Leaves moment left_since old call.from front = before_fronts records call.from call.before in
+          let went : Leaves moment left_since call.from call.to front = weaker laws call.from call.to _ front (λ c was. was.2.here) call.went.course in
+          let after : Leaves moment left_since call.to new front = spared_fronts call.to new p.device records (now laws call.from call.to front went) call.after in
+          joined laws old call.to new front front front (joined laws old call.from call.to front front front before went (λ c h. h) (λ c h. h)) after (λ c h. h) (λ c h. h)
+
+      given_fronts : p.device.pending ≡ None → (given : IsGivenBack) → Leaves moment left_since old new (StandsForFront slots_entries p.device (Accepted given.plan ∷ []))
+      given_fronts idle given =
+          let records = Accepted given.plan ∷ [] in
+          let front = StandsForFront slots_entries p.device records in
+          let before : Leaves moment left_since old given.from front = before_fronts records given.from given.before in
+          let after : Leaves moment left_since given.from new front = weaker laws given.from new _ front (λ c was. either_front p.device (Accepted given.plan) c (could_accept p.device given.plan c idle) was.2.here) given.moments in
+          joined laws old given.from new front front front before after (λ c h. h) (λ c h. h)
+
+      pub kept_fronts : (call : IsCall) → LeavesFronts may_leave moment left_since old new p.device (records_of call.history)
+      kept_fronts call = weaker laws old new _ _ (λ c h. inr h) (call_fronts call)
+
+      pub drive_fronts : p.device.pending ≡ None → (call : IsCall ⊎ IsGivenBack)
+          → LeavesFronts may_leave moment left_since old new p.device (elim call [ inl c ↦ records_of c.history | inr given ↦ Accepted given.plan ∷ [] ])
+      drive_fronts idle (inl call) = kept_fronts call
+      drive_fronts idle (inr given) = weaker laws old new _ _ (λ c h. inr h) (given_fronts idle given)

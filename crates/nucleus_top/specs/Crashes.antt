@@ -1,0 +1,25 @@
+-- What a crash leaves of a call that drives a deployment, at each of its moments.
+use Rattle.std.specs.Prelude.{◌⊎◌, ℕ, List}
+use Rattle.disk_model.specs.Disk.{Image, Leaves}
+use Rattle.checkpoint_log.specs.Slots.{slots_entries}
+use Rattle.records.specs.Stored.{Record}
+use Rattle.device.specs.Devices.{Device}
+use Rattle.driver.specs.Went.{StandsForFront}
+use Rattle.nucleus_top.specs.Opening.{Stands}
+
+-- an image that the call's start allowed, or one that stands for what a front of these records makes of the device
+abbrev pub AllowedOrFront : (Image → Type 0) → Device → List Record → Image → Type 0
+AllowedOrFront allowed d records image = allowed image ⊎ StandsForFront slots_entries d records image
+
+-- an image that the start allowed, or one that stands for the device for which the journal stands as it read at the start
+abbrev pub AllowedOrSame : (Image → Type 0) → Image → Image → Type 0
+AllowedOrSame allowed seen image = allowed image ⊎ ((d : Device) × Stands seen d × Stands image d)
+
+module _ {D : Type 0} (may_leave : D → Image → Type 0) (moment : D → ℕ) (left_since : D → ℕ → Image → Type 0) where
+  -- so it is at each moment of a call that keeps these records
+  abbrev pub LeavesFronts : D → D → Device → List Record → Type 0
+  LeavesFronts old new d records = Leaves moment left_since old new (AllowedOrFront (may_leave old) d records)
+
+  -- and of one that keeps none
+  abbrev pub LeavesSame : (D → Image) → D → D → Type 0
+  LeavesSame seen old new = Leaves moment left_since old new (AllowedOrSame (may_leave old) (seen old))
