@@ -7,10 +7,12 @@ mod Faults
 mod Forms
 mod Images
 mod InitEnds
+mod Lasting
 mod Orders
 mod Origins
 mod PlanEnds
 mod Proposals
+mod Series
 mod Standing
 pub mod Unrefused
 mod StatusEnds

@@ -5,10 +5,12 @@ pub mod Begun
 pub mod Crashes
 pub mod Drives
 pub mod Inits
+pub mod Lasting
 pub mod Leaving
 pub mod Opening
 pub mod Parts
 pub mod Planning
 pub mod Refusing
+pub mod Series
 pub mod Shows
 pub mod Words

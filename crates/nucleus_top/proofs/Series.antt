@@ -1,0 +1,65 @@
+-- Calls one after another reach the device that the records kept so far make of none.
+use Rattle.std.proofs.Common.{◌≡◌, inl, inr, ℕ, List, [], ◌∷◌, ◌++◌, refl, sym, subst, append-nil}
+use Rattle.disk_model.specs.Disk.{Image}
+use Rattle.checkpoint_log.specs.Slots.{slots_entries}
+use Rattle.records.specs.Stored.{Record, Genesis}
+use Rattle.records.specs.declared.record.Origin.{Origin}
+use Rattle.device.specs.Devices.{Device, no_device}
+use Rattle.device.specs.Lawful.{Run}
+use Rattle.device.specs.Met.{Met}
+use Rattle.device.proofs.Course.{run}
+use Rattle.device.proofs.Meeting.{after_run}
+use Rattle.driver.specs.Went.{StandsForFront}
+use Rattle.driver.proofs.Fronts.{run_on}
+use Rattle.nucleus_top.specs.Begun.{Begins, IsNoneOrBegun, begun_device}
+use Rattle.nucleus_top.specs.Opening.{Stands}
+use Rattle.nucleus_top.specs.Series.{AreKept, Follow, IsReached, LeftBy, Made}
+use Rattle.nucleus_top.proofs.Crashes.{means_sound, none_front}
+use Rattle.nucleus_top.proofs.Standing.{none_stands, same_device}
+
+-- ---- the first record
+
+begun_front : (o : Origin) (image : Image) → IsNoneOrBegun o image → StandsForFront slots_entries no_device (Genesis o ∷ []) image
+begun_front o image (inl none) = none_front no_device (Genesis o ∷ []) image (none_stands image none)
+begun_front o image (inr stands) = record {
+  front = Genesis o ∷ [];
+  rest = [];
+  split = refl;
+  device = begun_device o;
+  run = (begun_device o, record { allowed = (refl, (means_sound stands.payloads (begun_device o) stands.means).root); leaves = refl }, refl);
+  stands = stands;
+}
+
+pub inits_begin : (o : Origin) (old new : Image) → Begins o old new → StandsForFront slots_entries no_device (Genesis o ∷ []) new
+inits_begin o old new begins = begun_front o new begins.within.here
+
+-- ---- lists of calls
+
+pub others_go_on : (before : List Made) (old new : Image) (d : Device) → Follow before → LeftBy before old → Stands old d → Stands new d
+    → Follow (record { device = d; records = [] } ∷ before) × LeftBy (record { device = d; records = [] } ∷ before) new
+others_go_on before old new d follow left first then = ((follow, (old, left, first)), inr (none_front d [] new then))
+
+none_met : Met no_device
+none_met = record { groups = tt; items = refl; pending = tt }
+
+reached : (calls : List Made) (image : Image) (kept : List Record) (device : Device) → AreKept calls kept → Stands image device → Run no_device kept device → IsReached calls image
+reached calls image kept device are stands along = record {
+  kept = kept;
+  are = are;
+  device = device;
+  stands = stands;
+  run = along;
+  course_is = run kept no_device device along;
+  met = λ brings. after_run kept no_device device none_met along brings;
+}
+
+pub calls_reach : (calls : List Made) (image : Image) → Follow calls → LeftBy calls image → IsReached calls image
+calls_reach [] image follow left = reached [] image [] no_device refl (none_stands image left) refl
+calls_reach (c ∷ before) image follow (inl left) =
+    let was = calls_reach before image follow.0 left in
+    reached (c ∷ before) image was.kept was.device (was.kept, [], c.records, was.are, refl, sym (append-nil was.kept)) was.stands was.run
+calls_reach (c ∷ before) image follow (inr left) =
+    let was = calls_reach before follow.1.0 follow.0 follow.1.1 in
+    let same : was.device ≡ c.device = same_device follow.1.0 was.device c.device was.stands follow.1.2 in
+    reached (c ∷ before) image (was.kept ++ left.front) left.device (was.kept, left.front, left.rest, was.are, left.split, refl) left.stands
+    (run_on no_device was.kept c.device left.front left.device (subst (λ (d : Device). Run no_device was.kept d) same was.run) left.run)

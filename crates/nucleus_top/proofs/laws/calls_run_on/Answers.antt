@@ -1,0 +1,11 @@
+use Rattle.nucleus_top.proofs.Series.{calls_reach, inits_begin, others_go_on}
+use Rattle.nucleus_top.proofs.laws.calls_run_on.Goals as goal
+
+pub returns-clause-init : goal.returns-clause-init
+returns-clause-init c = inits_begin
+
+pub returns-clause-others : goal.returns-clause-others
+returns-clause-others c = others_go_on
+
+pub returns-clause-reached : goal.returns-clause-reached
+returns-clause-reached c = calls_reach

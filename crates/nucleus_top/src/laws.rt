@@ -1,0 +1,20 @@
+ghost use Rattle.nucleus_top.specs.Lasting.{RunsLoseNothing, RunsTake};
+ghost use Rattle.nucleus_top.specs.Series.{CallsReach, InitsBegin, OthersGoOn};
+
+/// Along a run the closed list only grows, at its end, and a deployment that was accepted is pending or closed afterwards.
+/// It does nothing.
+pub fn nothing_is_lost()
+    ensures kept { RunsLoseNothing }
+    ensures taken { RunsTake }
+{}
+
+/// However calls are stopped, each image that they leave stands for the device that the records kept so far make of none,
+/// where each call begins with an image that a crash inside the call before it, or its end, may have left. Its set, groups
+/// and closed list are those that the closed deployments give in order. What is said of the images of `deploy` and `resume`
+/// makes them such calls; so is `init`, with the first record of a device, and what leaves the device as it is. It does
+/// nothing.
+pub fn calls_run_on()
+    ensures init { InitsBegin }
+    ensures others { OthersGoOn }
+    ensures reached { CallsReach }
+{}
