@@ -1,4 +1,4 @@
--- Calls one after another reach the device that the records kept so far make of none.
+-- Calls one after another reach the device that the records kept so far make.
 use Rattle.std.proofs.Common.{◌≡◌, inl, inr, ℕ, List, [], ◌∷◌, ◌++◌, refl, sym, subst, append-nil}
 use Rattle.disk_model.specs.Disk.{Image}
 use Rattle.checkpoint_log.specs.Slots.{slots_entries}
@@ -15,6 +15,7 @@ use Rattle.nucleus_top.specs.Begun.{Begins, IsNoneOrBegun, begun_device}
 use Rattle.nucleus_top.specs.Opening.{Stands}
 use Rattle.nucleus_top.specs.Series.{AreKept, Follow, IsReached, LeftBy, Made}
 use Rattle.nucleus_top.proofs.Crashes.{means_sound, none_front}
+use Rattle.nucleus_top.proofs.Lasting.{runs_lose_nothing}
 use Rattle.nucleus_top.proofs.Standing.{none_stands, same_device}
 
 -- ---- the first record
@@ -30,36 +31,37 @@ begun_front o image (inr stands) = record {
   stands = stands;
 }
 
-pub inits_begin : (o : Origin) (old new : Image) → Begins o old new → StandsForFront slots_entries no_device (Genesis o ∷ []) new
-inits_begin o old new begins = begun_front o new begins.within.here
+pub inits_begin : (o : Origin) (old new : Image) → Begins o old new → Stands old no_device × StandsForFront slots_entries no_device (Genesis o ∷ []) new
+inits_begin o old new begins = (none_stands old begins.none, begun_front o new begins.within.here)
+
+pub none_met : Met no_device
+none_met = record { groups = tt; items = refl; pending = tt }
 
 -- ---- lists of calls
 
-pub others_go_on : (before : List Made) (old new : Image) (d : Device) → Follow before → LeftBy before old → Stands old d → Stands new d
-    → Follow (record { device = d; records = [] } ∷ before) × LeftBy (record { device = d; records = [] } ∷ before) new
-others_go_on before old new d follow left first then = ((follow, (old, left, first)), inr (none_front d [] new then))
+pub others_go_on : (d e : Device) (before : List Made) (old new : Image) → Follow d before → LeftBy d before old → Stands old e → Stands new e
+    → Follow d (record { device = e; records = [] } ∷ before) × LeftBy d (record { device = e; records = [] } ∷ before) new
+others_go_on d e before old new follow left first then = ((follow, (old, left, first)), inr (none_front e [] new then))
 
-none_met : Met no_device
-none_met = record { groups = tt; items = refl; pending = tt }
-
-reached : (calls : List Made) (image : Image) (kept : List Record) (device : Device) → AreKept calls kept → Stands image device → Run no_device kept device → IsReached calls image
-reached calls image kept device are stands along = record {
+reached : (d : Device) (calls : List Made) (image : Image) (kept : List Record) (device : Device) → AreKept calls kept → Stands image device → Run d kept device → IsReached d calls image
+reached d calls image kept device are stands along = record {
   kept = kept;
   are = are;
   device = device;
   stands = stands;
   run = along;
-  course_is = run kept no_device device along;
-  met = λ brings. after_run kept no_device device none_met along brings;
+  course_is = run kept d device along;
+  loses = runs_lose_nothing d device kept along;
+  met = λ first brings. after_run kept d device first along brings;
 }
 
-pub calls_reach : (calls : List Made) (image : Image) → Follow calls → LeftBy calls image → IsReached calls image
-calls_reach [] image follow left = reached [] image [] no_device refl (none_stands image left) refl
-calls_reach (c ∷ before) image follow (inl left) =
-    let was = calls_reach before image follow.0 left in
-    reached (c ∷ before) image was.kept was.device (was.kept, [], c.records, was.are, refl, sym (append-nil was.kept)) was.stands was.run
-calls_reach (c ∷ before) image follow (inr left) =
-    let was = calls_reach before follow.1.0 follow.0 follow.1.1 in
+pub calls_reach : (d : Device) (calls : List Made) (image : Image) → Follow d calls → LeftBy d calls image → IsReached d calls image
+calls_reach d [] image follow left = reached d [] image [] d refl left refl
+calls_reach d (c ∷ before) image follow (inl left) =
+    let was = calls_reach d before image follow.0 left in
+    reached d (c ∷ before) image was.kept was.device (was.kept, [], c.records, was.are, refl, sym (append-nil was.kept)) was.stands was.run
+calls_reach d (c ∷ before) image follow (inr left) =
+    let was = calls_reach d before follow.1.0 follow.0 follow.1.1 in
     let same : was.device ≡ c.device = same_device follow.1.0 was.device c.device was.stands follow.1.2 in
-    reached (c ∷ before) image (was.kept ++ left.front) left.device (was.kept, left.front, left.rest, was.are, left.split, refl) left.stands
-    (run_on no_device was.kept c.device left.front left.device (subst (λ (d : Device). Run no_device was.kept d) same was.run) left.run)
+    reached d (c ∷ before) image (was.kept ++ left.front) left.device (was.kept, left.front, left.rest, was.are, left.split, refl) left.stands
+    (run_on d was.kept c.device left.front left.device (subst (λ (e : Device). Run d was.kept e) same was.run) left.run)

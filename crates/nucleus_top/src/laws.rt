@@ -1,3 +1,5 @@
+ghost use Rattle.device.specs.Devices.{no_device};
+ghost use Rattle.device.specs.Met.{Met};
 ghost use Rattle.nucleus_top.specs.Lasting.{RunsLoseNothing, RunsTake};
 ghost use Rattle.nucleus_top.specs.Series.{CallsReach, InitsBegin, OthersGoOn};
 
@@ -8,12 +10,13 @@ pub fn nothing_is_lost()
     ensures taken { RunsTake }
 {}
 
-/// However calls are stopped, each image that they leave stands for the device that the records kept so far make of none,
-/// where each call begins with an image that a crash inside the call before it, or its end, may have left. Its set, groups
-/// and closed list are those that the closed deployments give in order. What is said of the images of `deploy` and `resume`
-/// makes them such calls; so is `init`, with the first record of a device, and what leaves the device as it is. It does
-/// nothing.
+/// However calls are stopped, each image that they leave stands for the device that the records kept so far make of the one
+/// at their start, where each call begins with an image that a crash inside the call before it, or its end, may have left.
+/// Its set, groups and closed list are those that the closed deployments give in order, and no deployment is lost that was
+/// accepted before. What is said of the images of `deploy` and `resume` makes them such calls; so is `init`, which begins
+/// without a device and keeps its first record, and what leaves the device as it is. It does nothing.
 pub fn calls_run_on()
+    ensures none { Met no_device }
     ensures init { InitsBegin }
     ensures others { OthersGoOn }
     ensures reached { CallsReach }
