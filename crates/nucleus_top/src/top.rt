@@ -61,9 +61,9 @@ pub fn nucleus<D: Disk, L: Library, S: Source, K: Sink, R: Runner>(
         IsDurable order (D.may_leave disk.new) (D.seen disk.new) }
     ensures others { (order : Order) → Asks (map string_bytes words.now.items) order → IsTrue D.tells →
         (name : List ℕ) → ¬ (files_of order name) → D.seen disk.new name ≡ D.seen disk.old name }
-    // `deploy` and `resume`: turned away before anything begins, or one deployment goes on from the start of the call.
-    // Whenever the power fails during it, the disk then holds what the start allowed, or its journal stands for what the
-    // records of this call make of the device, up to one of them: with none of them where the call is turned away.
+    // `deploy` and `resume`: turned away before anything begins, or one deployment goes on from the start of the call. Whenever
+    // a crash comes during it, it leaves an image that the start allowed, or one whose journal stands for what the call's
+    // records, up to one of them, make of the device: with none of them where the call is turned away.
     ensures ran { Drives (map string_bytes words.now.items) →
         (IsTurnedAway D.seen D.may_leave D.moment D.left_since disk.old disk.new (K.held sink.old) (K.held sink.new) result × (runner.new ≡ runner.old))
         ⊎ IsDriven D.tells D.seen D.may_leave D.moment D.left_since disk.old disk.new (R.list runner.old) (R.list runner.new) (K.held sink.old) (K.held sink.new) result }
