@@ -35,12 +35,14 @@ fn recipe_of(alloc: Global, component: &str) -> Result<String, AllocError> {
     let mut recipe = format!(in alloc;
         r#"{{"RecipeFormatVersion":"2020-01-25","ComponentName":"{name}","ComponentVersion":"{version}","Manifests":[{{"Lifecycle":{{"#
     )?;
-    let mut comma = "";
+    let mut is_first = true;
     while let Some(step) = words.next() {
         let script = words.next().unwrap_or("");
-        recipe.push_str(comma)?;
+        if !is_first {
+            recipe.push_str(",")?;
+        }
         recipe.push_str(step_of(alloc, step, script)?.as_str())?;
-        comma = ",";
+        is_first = false;
     }
     recipe.push_str("}}]}")?;
     Ok(recipe)
@@ -65,13 +67,14 @@ fn document_of(alloc: Global, words: &str) -> Result<String, AllocError> {
     let mut document = format!(in alloc;
         r#"{{"deploymentId":"{id}","revision":{revision},"targetArn":"g","deploymentPolicies":{{"failureHandlingPolicy":"{policy}"}},"components":{{"#
     )?;
-    let mut comma = "";
+    let mut is_first = true;
     while let Some(name) = words.next() {
-        let version = words.next().unwrap_or("");
-        document.push_str(&format!(in alloc;
-            r#"{comma}"{name}":{{"componentVersion":"{version}"}}"#
-        )?)?;
-        comma = ",";
+        let range = words.next().unwrap_or("");
+        if !is_first {
+            document.push_str(",")?;
+        }
+        document.push_str(&format!(in alloc; r#""{name}":{{"componentVersion":"{range}"}}"#)?)?;
+        is_first = false;
     }
     document.push_str("}}")?;
     Ok(document)
