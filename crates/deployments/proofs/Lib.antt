@@ -1,3 +1,4 @@
+mod Files
 mod Statuses
 mod Results
 mod Places

@@ -1,19 +1,27 @@
 -- What a call prints: the lines of its records, and those before and behind them.
-use Rattle.std.specs.Prelude.{ℕ, List, [], ◌∷◌, ◌++◌, length, Option}
+use Rattle.std.specs.Prelude.{ℕ, List, [], ◌∷◌, ◌++◌, length, Option, Some, None}
 use Rattle.std.specs.Io.KnownBytes.{Appends}
+use Rattle.std.specs.Option.{IsSome}
 use Rattle.std.proofs.Common.{◌≡◌, ◌≢◌, ◌≤◌, ◌⊎◌, ◌∙◌, inl, inr, refl, sym, ap, subst, append_assoc, arith}
 use Rattle.std.proofs.KnownBytes.{Appends-nil, Appends-trans}
 use Rattle.std.proofs.lemmas.List.{append-nil}
+use Rattle.nuc_base.specs.declared.kinds.Outcome.{Outcome}
 use Rattle.nuc_base.specs.declared.status.Status.{Status}
 use Rattle.nuc_base.specs.declared.status.Status.TheVariants as statuses
 use Rattle.edges.specs.Pieces.{AppendsFront}
 use Rattle.records.specs.Stored.{Record}
-use Rattle.device.specs.Devices.{Device}
-use Rattle.driver.specs.Lines.{lines_of}
+use Rattle.device.specs.Devices.{Device, Pending}
+use Rattle.driver.specs.Lines.{id_of, lines_of}
 use Rattle.driver.specs.Over.{LinesAt}
 use Rattle.driver.specs.declared.over.Over.{Over}
 use Rattle.driver.specs.declared.over.Over.TheVariants as over
-use Rattle.deployments.specs.Calls.{AnswersOver, Prints, Says}
+use Rattle.artifact_store.specs.declared.fault.StageFault.TheVariants as stage
+use Rattle.intake.specs.declared.fault.Declined.{Declined}
+use Rattle.intake.specs.declared.fault.Declined.TheVariants.{Unstaged}
+use Rattle.deployments.specs.Calls.{AnswersOver, EndsClosed, IsOrEdge, Prints, SaysEnding, SaysLine, SaysRefusal, call_lines, opening_line, resumed_line}
+use Rattle.deployments.specs.Declines.{large_line, line_of_declined, mismatch_line, status_of_declined}
+use Rattle.deployments.specs.Endings.{Ending, Closes, Restarts, Reboots, Fails, Breaks, Forgets, Starves, Declines, Full, Idle, line_of_ending}
+use Rattle.deployments.proofs.Statuses.{StopsAs}
 
 front_joined : (a b c : Option (List ℕ)) (x y : List ℕ) → Appends a b x → AppendsFront b c y → AppendsFront a c (x ++ y)
 front_joined a b c x y one two = (
@@ -23,90 +31,142 @@ front_joined a b c x y one two = (
   Appends-trans a b c x two.0 one two.3,
 )
 
+front_longer : (a b : Option (List ℕ)) (x y : List ℕ) → AppendsFront a b x → AppendsFront a b (x ++ y)
+front_longer a b x y one = (one.0, one.1 ++ y, ap (λ (l : List ℕ). l ++ y) one.2 ∙ append_assoc one.0 one.1 y, one.3)
+
+-- ---- one line
+
 -- nothing at all
-pub says_none : (a b : Option (List ℕ)) (status : Status) → b ≡ a → Says a b status
+pub says_none : (a b : Option (List ℕ)) (status : Status) → b ≡ a → SaysLine a b status []
 says_none a b status same =
     let none : Appends a b [] = subst (λ (x : Option (List ℕ)). Appends a x []) (sym same) (Appends-nil a) in
-    ([], ([], [], refl, none), λ well. none)
+    (([], [], refl, none), λ well. none)
 
--- no record was kept
-pub said_prints : (a b : Option (List ℕ)) (d : Device) (status : Status) → Says a b status → Prints a b d [] status
-said_prints a b d status says = record {
+-- the same line
+pub says_as : (a b : Option (List ℕ)) (status : Status) (x y : List ℕ) → x ≡ y → SaysLine a b status x → SaysLine a b status y
+says_as a b status x y same says = subst (λ (l : List ℕ). SaysLine a b status l) same says
+
+-- that of a file with another digest
+pub mismatch_says : {x y : List ℕ} (d : Declined) (a b : Option (List ℕ)) (status : Status) → SaysRefusal a b status statuses.Artifact (mismatch_line x y) → d ≡ Unstaged (stage.Mismatch x y)
+    → SaysRefusal a b status (status_of_declined d) (line_of_declined d)
+mismatch_says d a b status says is = subst (λ (e : Declined). SaysRefusal a b status (status_of_declined e) (line_of_declined e)) (sym is) says
+
+-- that of a file with too many bytes
+pub large_says : {x : List ℕ} {y : ℕ} (d : Declined) (a b : Option (List ℕ)) (status : Status) → SaysLine a b status (large_line x y) → IsOrEdge status statuses.Limit → d ≡ Unstaged (stage.TooLarge x y)
+    → SaysRefusal a b status (status_of_declined d) (line_of_declined d)
+large_says d a b status says answers is = subst (λ (e : Declined). SaysRefusal a b status (status_of_declined e) (line_of_declined e)) (sym is) (inl (says, answers))
+
+-- ---- before the records
+
+opened_as : (o : Option Pending) → IsSome o → resumed_line (elim o [ None ↦ [] | Some q ↦ q.plan.id ]) ≡ elim o [ None ↦ [] | Some q ↦ resumed_line q.plan.id ]
+opened_as None h = absurd cc
+opened_as (Some q) h = refl
+
+-- a pending deployment is resumed
+opening_is : (d : Device) → IsSome d.pending → resumed_line (id_of d) ≡ opening_line d
+opening_is d pending = opened_as d.pending pending
+
+pub opening_at : (d e : Device) → d ≡ e → IsSome e.pending → resumed_line (id_of e) ≡ opening_line d
+opening_at d e same pending = opening_is e pending ∙ ap opening_line (sym same)
+
+-- none is
+pub opening_none : (a : Option (List ℕ)) (d : Device) → d.pending ≡ None → Appends a a (opening_line d)
+opening_none a d none = subst (λ (o : Option Pending). Appends a a (elim o [ None ↦ [] | Some q ↦ resumed_line q.plan.id ])) (sym none) (Appends-nil a)
+
+-- ---- the lines of a call
+
+lines_are : (d : Device) (records : List Record) (ending : Ending) → ending ≢ Starves → opening_line d ++ (lines_of d records ++ line_of_ending ending) ≡ call_lines d records ending
+lines_are d records (Closes o) fed = refl
+lines_are d records (Restarts id) fed = refl
+lines_are d records (Reboots id) fed = refl
+lines_are d records Fails fed = refl
+lines_are d records Breaks fed = refl
+lines_are d records Forgets fed = refl
+lines_are d records Starves fed = absurd (fed refl)
+lines_are d records (Declines x) fed = refl
+lines_are d records (Full at) fed = refl
+lines_are d records Idle fed = refl
+
+-- the lines of some of the records, and one behind them
+told_prints : (a b c e : Option (List ℕ)) (d : Device) (records told rest : List Record) (ending : Ending) (status : Status) → ending ≢ Starves → Appends a b (opening_line d) → Appends b c (lines_of d told)
+    → records ≡ told ++ rest → length rest ≤ 1 → (ending ≢ Fails → rest ≡ []) → SaysLine c e status (line_of_ending ending) → Prints a e d records ending status
+told_prints a b c e d records told rest ending status fed before lines split few all says =
+    let line = line_of_ending ending in
+    let same = lines_are d told ending fed in
+    record {
+      told = told;
+      rest = rest;
+      split = split;
+      few = few;
+      all = all;
+      front = subst (λ (l : List ℕ). AppendsFront a e l) same (front_joined a b e (opening_line d) (lines_of d told ++ line) before (front_joined b c e (lines_of d told) line lines says.0));
+      whole = λ well. subst (λ (l : List ℕ). Appends a e l) same (Appends-trans a b e (opening_line d) (lines_of d told ++ line) before (Appends-trans b c e (lines_of d told) line lines (says.1 well)));
+    }
+
+-- those of all
+pub all_prints : (a b c e : Option (List ℕ)) (d : Device) (records : List Record) (ending : Ending) (status : Status) → ending ≢ Starves → Appends a b (opening_line d) → Appends b c (lines_of d records)
+    → SaysLine c e status (line_of_ending ending) → Prints a e d records ending status
+all_prints a b c e d records ending status fed before lines says =
+    told_prints a b c e d records records [] ending status fed before lines (sym (append-nil records)) (omega arith) (λ other. refl) says
+
+-- no record was kept, and none was pending
+pub said_prints : (a b : Option (List ℕ)) (d : Device) (ending : Ending) (status : Status) → ending ≢ Starves → d.pending ≡ None → SaysLine a b status (line_of_ending ending) → Prints a b d [] ending status
+said_prints a b d ending status fed none says = all_prints a a a b d [] ending status fed (opening_none a d none) (Appends-nil a) says
+
+-- there was no memory to begin
+pub starved_prints : (a b : Option (List ℕ)) (d : Device) (status : Status) → b ≡ a → Prints a b d [] Starves status
+starved_prints a b d status same =
+    let says = says_none a b status same in
+    record {
+      told = [];
+      rest = [];
+      split = refl;
+      few = omega arith;
+      all = λ other. refl;
+      front = says.0;
+      whole = says.1;
+    }
+
+-- the line of a deployment that is resumed was not written
+pub unopened_prints : (a b : Option (List ℕ)) (d : Device) (status : Status) → AppendsFront a b (opening_line d) → status ≡ statuses.Edge → Prints a b d [] Breaks status
+unopened_prints a b d status front is = record {
   told = [];
   rest = [];
   split = refl;
   few = omega arith;
-  all = λ disk edge. refl;
-  first = [];
-  last = says.0;
-  front = says.1;
-  whole = says.2;
+  all = λ other. refl;
+  front = front_longer a b (opening_line d) ([] ++ []) front;
+  whole = λ well. absurd (well is);
 }
-
--- the lines of some of the records, and one behind them
-pub told_prints : (a b c e : Option (List ℕ)) (d : Device) (first : List ℕ) (records told rest : List Record) (status : Status) → Appends a b first → Appends b c (lines_of d told)
-    → records ≡ told ++ rest → length rest ≤ 1 → (status ≢ statuses.Disk → status ≢ statuses.Edge → rest ≡ []) → Says c e status → Prints a e d records status
-told_prints a b c e d first records told rest status before lines split few all says = record {
-  told = told;
-  rest = rest;
-  split = split;
-  few = few;
-  all = all;
-  first = first;
-  last = says.0;
-  front = front_joined a b e first (lines_of d told ++ says.0) before (front_joined b c e (lines_of d told) says.0 lines says.1);
-  whole = λ well. Appends-trans a b e first (lines_of d told ++ says.0) before (Appends-trans b c e (lines_of d told) says.0 lines (says.2 well));
-}
-
--- those of all
-pub all_prints : (a b c e : Option (List ℕ)) (d : Device) (first : List ℕ) (records : List Record) (status : Status) → Appends a b first → Appends b c (lines_of d records) → Says c e status → Prints a e d records status
-all_prints a b c e d first records status before lines says =
-    told_prints a b c e d first records records [] status before lines (sym (append-nil records)) (omega arith) (λ disk edge. refl) says
 
 -- a front of them, where the sink failed
-edge_prints : (a b c : Option (List ℕ)) (d : Device) (first : List ℕ) (records : List Record) (status : Status) → Appends a b first → AppendsFront b c (lines_of d records) → status ≡ statuses.Edge → Prints a c d records status
-edge_prints a b c d first records status before lines is = record {
+edge_prints : (a b c : Option (List ℕ)) (d : Device) (records : List Record) (status : Status) → Appends a b (opening_line d) → AppendsFront b c (lines_of d records) → status ≡ statuses.Edge → Prints a c d records Breaks status
+edge_prints a b c d records status before lines is = record {
   told = records;
   rest = [];
   split = sym (append-nil records);
   few = omega arith;
-  all = λ disk edge. refl;
-  first = first;
-  last = [];
-  front = subst (λ (l : List ℕ). AppendsFront a c (first ++ l)) (sym (append-nil (lines_of d records))) (front_joined a b c first (lines_of d records) before lines);
+  all = λ other. refl;
+  front = front_joined a b c (opening_line d) (lines_of d records ++ []) before (front_longer b c (lines_of d records) [] lines);
   whole = λ well. absurd (well is);
 }
 
+-- how a call ends whose deployment was given up
+abbrev pub ending_over : Over → Ending
+ending_over over.Disk = Fails
+ending_over over.Edge = Breaks
+
 -- a deployment that was given up
-pub over_prints : (e : Over) (a b c f : Option (List ℕ)) (d : Device) (first : List ℕ) (records : List Record) (status : Status) → Appends a b first → LinesAt b c d records e → Says c f status
-    → (e ≡ over.Edge → f ≡ c) → AnswersOver e status → Prints a f d records status
-over_prints over.Disk a b c f d first records status before lines says silent answers =
-    told_prints a b c f d first records lines.0 lines.1 status before lines.4 lines.2 lines.3 (λ disk edge. no_other disk edge answers) says
-  where
-    no_other : status ≢ statuses.Disk → status ≢ statuses.Edge → (status ≡ statuses.Disk) ⊎ (status ≡ statuses.Edge) → lines.1 ≡ []
-    no_other disk edge (inl is) = absurd (disk is)
-    no_other disk edge (inr is) = absurd (edge is)
-over_prints over.Edge a b c f d first records status before lines says silent answers =
-    subst (λ (x : Option (List ℕ)). Prints a x d records status) (sym (silent refl)) (edge_prints a b c d first records status before lines answers)
+pub over_prints : (e : Over) (a b c f : Option (List ℕ)) (d : Device) (records : List Record) (status : Status) → Appends a b (opening_line d) → LinesAt b c d records e
+    → SaysLine c f status (line_of_ending (ending_over e)) → (e ≡ over.Edge → f ≡ c) → AnswersOver e status → Prints a f d records (ending_over e) status
+over_prints over.Disk a b c f d records status before lines says silent answers =
+    told_prints a b c f d records lines.0 lines.1 Fails status (λ is. cc) before lines.4 lines.2 lines.3 (λ other. absurd (other refl)) says
+over_prints over.Edge a b c f d records status before lines says silent answers =
+    subst (λ (x : Option (List ℕ)). Prints a x d records Breaks status) (sym (silent refl)) (edge_prints a b c d records status before lines answers)
 
--- ---- an acceptance that is in doubt, of which no more is told than a front of some lines
+-- ---- behind a close
 
-pub doubt_prints : (e : Over) (a b c : Option (List ℕ)) (d : Device) (records : List Record) (r : Record) (status : Status) → LinesAt a b d records e → Says b c status
-    → (e ≡ over.Edge → c ≡ b) → AnswersOver e status → Prints a c d (r ∷ []) status
-doubt_prints over.Disk a b c d records r status lines says silent answers =
-    told_prints a b b c d (lines_of d lines.0) (r ∷ []) [] (r ∷ []) status lines.4 (Appends-nil b) refl (omega arith) (λ disk edge. no_other disk edge answers) says
-  where
-    no_other : status ≢ statuses.Disk → status ≢ statuses.Edge → (status ≡ statuses.Disk) ⊎ (status ≡ statuses.Edge) → r ∷ [] ≡ []
-    no_other disk edge (inl is) = absurd (disk is)
-    no_other disk edge (inr is) = absurd (edge is)
-doubt_prints over.Edge a b c d records r status lines says silent answers = record {
-  told = r ∷ [];
-  rest = [];
-  split = refl;
-  few = omega arith;
-  all = λ disk edge. refl;
-  first = lines.0;
-  last = [];
-  front = subst (λ (x : Option (List ℕ)). AppendsFront a x (lines.0 ++ (lines_of d (r ∷ []) ++ []))) (sym (silent refl)) (lines.0, lines_of d (r ∷ []) ++ [], refl, lines.3);
-  whole = λ well. absurd (well answers);
-}
+-- all components were stopped, or there was no memory for that
+pub stops_ends : {X : Type 0} (o : Outcome) (status : Status) (held : Option (List ℕ)) → StopsAs o status X → SaysEnding held held status (EndsClosed o)
+stops_ends o status held (inl is) = (Closes o, inl refl, says_none held held status refl, inl is)
+stops_ends o status held (inr more) = (Forgets, inr (inl refl), says_none held held status refl, inl more.0)

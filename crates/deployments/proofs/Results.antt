@@ -1,5 +1,5 @@
 -- What is said of a result, at the value that it has.
-use Rattle.std.specs.Prelude.{Result, Ok, Err, IfOk, OnErr, IsErrOf}
+use Rattle.std.specs.Prelude.{ℕ, List, Option, Result, Ok, Err, IfOk, OnErr, IsErrOf}
 use Rattle.std.proofs.Common.{◌≡◌, ◌≢◌, ◌⊎◌, ◌∙◌, inl, inr, refl, sym, subst}
 use Rattle.nuc_base.specs.declared.status.Status.{Status}
 use Rattle.nuc_base.specs.declared.status.Status.TheVariants as statuses
@@ -7,7 +7,7 @@ use Rattle.driver.specs.declared.over.Over.{Over}
 use Rattle.driver.specs.declared.over.Over.TheVariants as over
 use Rattle.deploying.specs.declared.driven.Driven.{Driven}
 use Rattle.deploying.specs.declared.driven.Driven.TheVariants as driven
-use Rattle.deployments.specs.Calls.{AnswersFor}
+use Rattle.deployments.specs.Calls.{AnswersFor, EndsFor, SaysEnding}
 use Rattle.deployments.proofs.Statuses.{no_outcome}
 
 module _ {A E : Type 0} where
@@ -37,6 +37,15 @@ module _ {J : Type 0} (status : Status) where
   pub answers_err : (r : Result (Driven J) Over) (e f : Over) → r ≡ Err e → e ≡ f → AnswersFor {J = J} (Err f) status → AnswersFor r status
   answers_err r e f is same answers =
       subst (λ (z : Result (Driven J) Over). AnswersFor z status) (sym is) (subst (λ (z : Over). AnswersFor {J = J} (Err z) status) (sym same) answers)
+
+  module _ (old new : Option (List ℕ)) where
+    pub ends_ok : (r : Result (Driven J) Over) (x y : Driven J) → r ≡ Ok x → x ≡ y → SaysEnding old new status (EndsFor (Ok y)) → SaysEnding old new status (EndsFor r)
+    ends_ok r x y is same says =
+        subst (λ (z : Result (Driven J) Over). SaysEnding old new status (EndsFor z)) (sym is) (subst (λ (z : Driven J). SaysEnding old new status (EndsFor (Ok z))) (sym same) says)
+
+    pub ends_err : (r : Result (Driven J) Over) (e f : Over) → r ≡ Err e → e ≡ f → SaysEnding old new status (EndsFor {J = J} (Err f)) → SaysEnding old new status (EndsFor r)
+    ends_err r e f is same says =
+        subst (λ (z : Result (Driven J) Over). SaysEnding old new status (EndsFor z)) (sym is) (subst (λ (z : Over). SaysEnding old new status (EndsFor {J = J} (Err z))) (sym same) says)
 
 -- it failed, and not at the sink
 pub not_edge : {A : Type 0} (r : Result A Over) (e : Over) → r ≡ Err e → e ≡ over.Disk → IsErrOf r over.Edge → ⊥

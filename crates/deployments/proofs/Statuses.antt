@@ -21,6 +21,7 @@ use Rattle.artifact_store.specs.declared.fault.StageFault.TheVariants as stage
 use Rattle.intake.specs.Takes.{HasDiskFailed, HasLibraryFailed}
 use Rattle.intake.specs.declared.fault.Declined.{Declined}
 use Rattle.intake.specs.declared.fault.Declined.TheVariants.{Refused, Unstaged}
+use Rattle.deployments.specs.Calls.{IsOrEdge}
 use Rattle.deployments.specs.Declines.{status_of_declined}
 
 -- ---- one of two
@@ -29,16 +30,13 @@ pub two_never : (status a b s : Status) → (status ≡ a) ⊎ (status ≡ b) �
 two_never status a b s (inl given) first second is = first (sym given ∙ is)
 two_never status a b s (inr given) first second is = second (sym given ∙ is)
 
--- want of memory is none of these
-pub memory_no_restart : statuses.Memory ≡ statuses.Restart → ⊥
-memory_no_restart is = cc
-
-pub memory_no_reboot : statuses.Memory ≡ statuses.Reboot → ⊥
-memory_no_reboot is = cc
-
--- nor is what is done a fault of an edge
+-- what is done is no fault of an edge
 pub done_no_edge : (status : Status) → status ≡ statuses.Done → status ≡ statuses.Edge → ⊥
 done_no_edge status done edge = absurd cc
+
+pub not_done : (status : Status) → IsOrEdge status statuses.Done → (status ≡ statuses.Done → ⊥) → status ≡ statuses.Edge
+not_done status (inl done) other = absurd (other done)
+not_done status (inr edge) other = edge
 
 -- ---- of an outcome
 
@@ -76,7 +74,7 @@ pub same_outcome : (a b : Outcome) → status_of_outcome a ≡ status_of_outcome
 same_outcome a b is = sym (back_again a) ∙ ap outcome_of is ∙ back_again b
 
 -- the status of a close that all components were stopped behind, or want of memory
-abbrev StopsAs : Outcome → Status → Type 0 → Type 0
+abbrev pub StopsAs : Outcome → Status → Type 0 → Type 0
 StopsAs o status X = (status ≡ status_of_outcome o) ⊎ ((status ≡ statuses.Memory) × X)
 
 pub stops_answer : {X : Type 0} (o : Outcome) (status : Status) → StopsAs o status X → (status ≡ status_of_outcome o) ⊎ (status ≡ statuses.Memory) ⊎ (status ≡ statuses.Disk) ⊎ (status ≡ statuses.Edge)
@@ -231,11 +229,6 @@ pub unread_never : (f : DocFault) (status : Status) → Told status (status_of_r
 unread_never f status (inl given) is = unread_library f (sym given ∙ is)
 unread_never f status (inr (inl given)) is = absurd cc
 unread_never f status (inr (inr given)) is = absurd cc
-
-pub declined_never : (d : Declined) (status s : Status) → Told status (status_of_declined d) → may_refuse s ≡ false → s ≢ statuses.Disk → s ≢ statuses.Artifact → s ≢ statuses.Edge → status ≡ s → ⊥
-declined_never d status s (inl given) never disk artifact edge is = no_declined d s never disk artifact (sym given ∙ is)
-declined_never d status s (inr (inl given)) never disk artifact edge is = true≢false (ap may_refuse (sym given ∙ is) ∙ never)
-declined_never d status s (inr (inr given)) never disk artifact edge is = edge (sym is ∙ given)
 
 -- it is the document's status
 pub told_is : (status given s : Status) → Told status given → s ≢ statuses.Memory → s ≢ statuses.Edge → status ≡ s → given ≡ s

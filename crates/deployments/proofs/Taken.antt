@@ -1,8 +1,15 @@
 -- What became of a plan, at the value that is answered.
-use Rattle.std.specs.Prelude.{ℕ, Bool, List, Ok, Err}
-use Rattle.std.proofs.Common.{◌≡◌, refl, sym, subst}
+use Rattle.std.specs.Prelude.{ℕ, Bool, List, Option, Ok, Err}
+use Rattle.std.proofs.Common.{◌≡◌, ◌⊎◌, inl, inr, refl, sym, ap, subst}
 use Rattle.disk_model.specs.Disk.{Image}
 use Rattle.records.specs.Stored.{Plan, Accepted}
+use Rattle.records.specs.declared.record.Origin.{Origin}
+use Rattle.library_core.specs.Library.{Content}
+use Rattle.deployment_doc.specs.Reads.{IsFault}
+use Rattle.deployment_doc.specs.declared.fault.DocFault.{DocFault}
+use Rattle.deployment_doc.specs.declared.fault.DocFault.TheVariants as doc
+use Rattle.plan_core.specs.Checks.{document_refusal}
+use Rattle.intake.specs.declared.fault.Declined.TheVariants.{Refused}
 use Rattle.device.specs.Devices.{Device}
 use Rattle.device.specs.Lawful.{applied}
 use Rattle.deploy_state.specs.States.{InBooting, InIdle, booting_device, idle_device}
@@ -13,12 +20,13 @@ use Rattle.supervisor.specs.World.{World}
 use Rattle.supervisor.specs.Fitted.{Fitted}
 use Rattle.supervisor.specs.declared.kinds.Prepared.{Prepared}
 use Rattle.session.specs.Places.{Place}
-use Rattle.acceptance.specs.Accepts.{HasTaken, InTaken, IsFullAt, IsOpened, IsTakenOf, Opened}
+use Rattle.acceptance.specs.Accepts.{HasTaken, InTaken, IsFullAt, IsFullOrShort, IsOpened, IsTakenOf, Opened}
 use Rattle.acceptance.specs.declared.accepting.Taken.{Taken}
 use Rattle.acceptance.specs.declared.accepting.Taken.TheVariants as taken
 use Rattle.preparation.specs.Readied.{AreReadiedFor}
 use Rattle.preparation.proofs.Serving.{accepted_ready}
 use Rattle.deployments.specs.Calls.{IsReadiedOn}
+use Rattle.deployments.specs.Documents.{TakesRead}
 
 module _ {J : Type 0} (x : Taken J) where
   -- ---- it is accepted
@@ -26,6 +34,9 @@ module _ {J : Type 0} (x : Taken J) where
   module _ (s : Booting J) (is : x ≡ taken.Accepted s) where
     pub has_taken : HasTaken {J = J} (Ok x)
     has_taken = subst (λ (y : Taken J). HasTaken {J = J} (Ok y)) (sym is) tt
+
+    pub fits_taken : (at : ℕ) → IsFullOrShort {J = J} (Ok x) at → ⊥
+    fits_taken at short = subst (λ (y : Taken J). IsFullOrShort {J = J} (Ok y) at) is short
 
     pub opened_at : (q : Place) (world : World) (told : Told) (living : List ℕ) → Opened x q world told living → IsOpened q (booting_device s) world told living
     opened_at q world told living opened = subst (λ (y : Taken J). Opened y q world told living) is opened
@@ -59,3 +70,10 @@ module _ {J : Type 0} (x : Taken J) where
 
     pub short_held : {D : Type 0} (tells : Bool) (may_leave : D → Image → Type 0) (stands : J → Image → List (List ℕ) → Type 0) (end : J → ℕ) (disk : D) → InTaken tells may_leave stands end x disk → InIdle tells may_leave stands end s disk
     short_held tells may_leave stands end disk held = subst (λ (y : Taken J). InTaken tells may_leave stands end y disk) is held
+
+-- ---- the bytes are no document
+
+pub unread_taken : (d : Device) (o : Origin) (content : Option Content) (before after : ℕ) (bytes : List ℕ) (fault : DocFault) → (fault ≡ doc.NoMemory) ⊎ IsFault bytes fault
+    → TakesRead d o content before after bytes (Err (Refused (document_refusal fault)))
+unread_taken d o content before after bytes fault (inl none) = inl (ap (λ (f : DocFault). Err (Refused (document_refusal f))) none)
+unread_taken d o content before after bytes fault (inr is) = inr (inl (fault, is, refl))

@@ -1,5 +1,6 @@
 -- One deployment in one call: what happens, what is printed, and how the call ends.
-use Rattle.std.specs.Prelude.{◌≡◌, ◌≢◌, ◌⊎◌, ◌≤◌, ◌-◌, ◌^◌, min, ℕ, List, [], ◌++◌, length, Option, Some, Result, Ok, Err}
+use Rattle.std.specs.Prelude.{◌≡◌, ◌≢◌, ◌⊎◌, ◌≤◌, ◌-◌, ◌^◌, min, ℕ, List, [], ◌++◌, length, Option, Some, None, Result, Ok, Err, ⊤, codes}
+use Rattle.std.specs.Option.{IsSomeAnd}
 use Rattle.std.specs.Io.KnownBytes.{Appends}
 use Rattle.disk_model.specs.Disk.{Image, After, Leaves}
 use Rattle.disk_model.specs.Listing.{artifacts, IsBelow}
@@ -14,14 +15,15 @@ use Rattle.device.specs.Devices.{Device}
 use Rattle.device.specs.Lawful.{applied}
 use Rattle.device.specs.Standing.{StandsFor}
 use Rattle.deploy_state.specs.Hand.{LeavesEither}
+use Rattle.deploy_state.specs.States.{loaded_device}
 use Rattle.step_runner.specs.declared.entries.RunnerEntry.{RunnerEntry}
 use Rattle.session.specs.Courses.{IsBare}
 use Rattle.session.specs.Happenings.{Happening, records_of}
 use Rattle.session.specs.Phases.{duty_of}
 use Rattle.session.specs.Places.{Place, left_by}
 use Rattle.driver.specs.Booted.{AsksFor}
-use Rattle.driver.specs.Lines.{lines_of}
-use Rattle.driver.specs.Went.{Went}
+use Rattle.driver.specs.Lines.{id_of, lines_of}
+use Rattle.driver.specs.Went.{StandsForMost, Went}
 use Rattle.driver.specs.declared.over.Booted.TheVariants as booted
 use Rattle.driver.specs.declared.over.Over.{Over}
 use Rattle.driver.specs.declared.over.Over.TheVariants as over
@@ -33,6 +35,7 @@ use Rattle.preparation.specs.Readied.{IsReadied}
 use Rattle.deploying.specs.declared.driven.Driven.{Driven}
 use Rattle.deploying.specs.declared.driven.Driven.TheVariants as driven
 use Rattle.refusal_lines.specs.Statuses.{status_of_outcome}
+use Rattle.deployments.specs.Endings.{Ending, Closes, Restarts, Reboots, Fails, Breaks, Forgets, Starves, Declines, Full, Idle, line_of_ending, status_of_ending}
 
 -- ---- lines
 
@@ -40,29 +43,75 @@ use Rattle.refusal_lines.specs.Statuses.{status_of_outcome}
 abbrev pub Says : Option (List ℕ) → Option (List ℕ) → Status → Type 0
 Says old new status = (last : List ℕ) × AppendsFront old new last × (status ≢ statuses.Edge → Appends old new last)
 
--- The lines of the records, with one before them and one behind at most. Where the disk failed that of the last record may be
--- missing, also where the line that says so was not written. Where the sink failed there is a front of them.
-pub record Prints (old new : Option (List ℕ)) (d : Device) (records : List Record) (status : Status) : Type 0 where
+-- This line; where the sink failed a front of it.
+abbrev pub SaysLine : Option (List ℕ) → Option (List ℕ) → Status → List ℕ → Type 0
+SaysLine old new status line = AppendsFront old new line × (status ≢ statuses.Edge → Appends old new line)
+
+-- the status, or that of a line that could not be written
+abbrev pub IsOrEdge : Status → Status → Type 0
+IsOrEdge status given = (status ≡ given) ⊎ (status ≡ statuses.Edge)
+
+-- The line of a refusal with its status; or there is no memory for it, and nothing is printed.
+abbrev pub SaysRefusal : Option (List ℕ) → Option (List ℕ) → Status → Status → List ℕ → Type 0
+SaysRefusal old new status given line = (SaysLine old new status line × IsOrEdge status given) ⊎ ((status ≡ statuses.Memory) × (new ≡ old))
+
+-- that the pending deployment is resumed
+abbrev pub resumed_line : List ℕ → List ℕ
+resumed_line id = codes "resumed " ++ id ++ codes "\n"
+
+-- the line before those of the records, where a deployment is pending as the call begins
+abbrev pub opening_line : Device → List ℕ
+opening_line d = elim d.pending [ None ↦ [] | Some q ↦ resumed_line q.plan.id ]
+
+-- The lines of a call: that of a deployment that is resumed, those of the records, and that of the ending. Where there was no
+-- memory to begin there is none.
+abbrev pub call_lines : Device → List Record → Ending → List ℕ
+call_lines d records Starves = []
+call_lines d records ending = opening_line d ++ (lines_of d records ++ line_of_ending ending)
+
+-- The lines of the call. Where the disk failed that of the last record may be missing, also where the line that says so was not
+-- written. Where the sink failed there is a front of them.
+pub record Prints (old new : Option (List ℕ)) (d : Device) (records : List Record) (ending : Ending) (status : Status) : Type 0 where
   pub told : List Record
   pub rest : List Record
   pub split : records ≡ told ++ rest
   pub few : length rest ≤ 1
-  pub all : status ≢ statuses.Disk → status ≢ statuses.Edge → rest ≡ []
-  pub first : List ℕ
-  pub last : List ℕ
-  pub front : AppendsFront old new (first ++ (lines_of d told ++ last))
-  pub whole : status ≢ statuses.Edge → Appends old new (first ++ (lines_of d told ++ last))
+  pub all : ending ≢ Fails → rest ≡ []
+  pub front : AppendsFront old new (call_lines d told ending)
+  pub whole : status ≢ statuses.Edge → Appends old new (call_lines d told ending)
 
 -- ---- the end
 
--- With the status of an outcome the deployment closed so as the last record, or none was kept: it had closed so before. With
--- those of a restart or a reboot the last record asks for it. Want of memory leaves no deployment unfinished that this call
--- began or drove on, unless a stage did not end in so many moments.
-pub record Ends (status : Status) (history : List Happening) (q : Place) : Type 0 where
-  pub closed : (o : Outcome) → status ≡ status_of_outcome o → (records_of history ≡ []) ⊎ ClosesAs o (records_of history)
-  pub restart : status ≡ statuses.Restart → AsksFor booted.Restart (records_of history) q.device
-  pub reboot : status ≡ statuses.Reboot → AsksFor booted.Reboot (records_of history) q.device
-  pub memory : status ≡ statuses.Memory → (records_of history ≡ []) ⊎ ((o : Outcome) × ClosesAs o (records_of history)) ⊎ (most_turns ≤ moments_in history)
+-- the deployment of this id is pending
+abbrev pub IsPendingAs : List ℕ → Device → Type 0
+IsPendingAs id d = IsSomeAnd d.pending (λ q. q.plan.id ≡ id)
+
+-- The last record is that the deployment closed so, and nothing is pending; or it asks for the restart or the reboot of the
+-- pending deployment. Want of memory leaves no deployment unfinished that this call began or drove on, unless a stage did not
+-- end in so many moments. Where none is begun or driven on there is no record.
+abbrev pub Ends : Ending → List Happening → Place → Type 0
+Ends (Closes o) h q = ClosesAs o (records_of h) × (q.device.pending ≡ None)
+Ends (Restarts id) h q = AsksFor booted.Restart (records_of h) q.device × IsPendingAs id q.device
+Ends (Reboots id) h q = AsksFor booted.Reboot (records_of h) q.device × IsPendingAs id q.device
+Ends Fails h q = ⊤
+Ends Breaks h q = ⊤
+Ends Forgets h q = ((o : Outcome) × ClosesAs o (records_of h)) ⊎ (most_turns ≤ moments_in h)
+Ends Starves h q = records_of h ≡ []
+Ends (Declines d) h q = records_of h ≡ []
+Ends (Full at) h q = records_of h ≡ []
+Ends Idle h q = (records_of h ≡ []) × (q.device.pending ≡ None)
+
+module _ (entries : Image → List (List ℕ) → Type 0) {D : Type 0} (may_leave : D → Image → Type 0) where
+  -- each image that a crash may leave now stands for the device that the history leaves
+  abbrev pub StandsBehind : D → Place → List Happening → Type 0
+  StandsBehind disk p h = (c : Image) → may_leave disk c → StandsFor entries c (left_by p h).device
+
+  -- So it does at the end of a call. Where the disk failed the last record is in doubt, and where a stage did not end in so many
+  -- moments this does not say it.
+  abbrev pub StandsAtEnd : D → Place → List Happening → Ending → Type 0
+  StandsAtEnd disk p h Fails = (c : Image) → may_leave disk c → StandsForMost entries p.device (records_of h) c
+  StandsAtEnd disk p h Forgets = StandsBehind disk p h ⊎ (most_turns ≤ moments_in h)
+  StandsAtEnd disk p h ending = StandsBehind disk p h
 
 -- ---- the whole
 
@@ -72,7 +121,7 @@ Spared may_leave moment left_since old new = Leaves moment left_since old new (A
 
 module _ (entries : Image → List (List ℕ) → Type 0) (files : List ℕ → Type 0) {D : Type 0} (may_leave : D → Image → Type 0) (moment : D → ℕ) (left_since : D → ℕ → Image → Type 0) where
   -- Files are taken in, then the history goes on from its first record to its last, and then stray files are swept. At the end
-  -- no child lives.
+  -- no child lives. How the call ends gives its status, its lines, its last record, and what the disk holds.
   pub record Call (old new : D) (old_list new_list : Option (List RunnerEntry)) (old_held new_held : Option (List ℕ)) (p : Place) (status : Status) : Type 0 where
     pub from : D
     pub to : D
@@ -81,8 +130,11 @@ module _ (entries : Image → List (List ℕ) → Type 0) (files : List ℕ → 
     pub went : Went entries files may_leave moment left_since from to old_list new_list p history
     pub after : Spared may_leave moment left_since to new
     pub bare : IsBare (left_by p history)
-    pub prints : Prints old_held new_held p.device (records_of history) status
-    pub ends : Ends status history (left_by p history)
+    pub ending : Ending
+    pub answers : IsOrEdge status (status_of_ending ending)
+    pub prints : Prints old_held new_held p.device (records_of history) ending status
+    pub ends : Ends ending history (left_by p history)
+    pub stands : StandsAtEnd entries may_leave new p history ending
 
 -- A plan is given back for want of memory before its entry was written: the device is as it was. A crash in the call leaves it
 -- with the plan or without. The runner is not asked, and nothing is printed.
@@ -109,6 +161,23 @@ Stays before now = min before (2 ^ 64 - 1) ≤ now
 -- every file but the journal's and those of artifacts is as before
 abbrev pub Elsewhere : (List ℕ → Type 0) → Image → Image → Type 0
 Elsewhere files old new = (name : List ℕ) → ¬ (files name) → ¬ (IsBelow artifacts name) → new name ≡ old name
+
+-- how a call ends behind the close of its deployment
+abbrev pub EndsClosed : Outcome → Ending → Type 0
+EndsClosed o ending = (ending ≡ Closes o) ⊎ (ending ≡ Forgets) ⊎ (ending ≡ Fails)
+
+-- how a call ends whose deployment was driven so
+abbrev pub EndsFor : {J : Type 0} → Result (Driven J) Over → Ending → Type 0
+EndsFor (Ok (driven.Closed s o)) ending = EndsClosed o ending
+EndsFor (Ok (driven.Restart s)) ending = ending ≡ Restarts (id_of (loaded_device s))
+EndsFor (Ok (driven.Reboot s)) ending = ending ≡ Reboots (id_of (loaded_device s))
+EndsFor (Ok (driven.More s)) ending = ending ≡ Forgets
+EndsFor (Err over.Disk) ending = ending ≡ Fails
+EndsFor (Err over.Edge) ending = ending ≡ Breaks
+
+-- by some ending its line is said with its status
+abbrev pub SaysEnding : Option (List ℕ) → Option (List ℕ) → Status → (Ending → Type 0) → Type 0
+SaysEnding old new status is = (ending : Ending) × is ending × SaysLine old new status (line_of_ending ending) × IsOrEdge status (status_of_ending ending)
 
 -- with which status a call ends whose deployment was given up
 abbrev pub AnswersOver : Over → Status → Type 0

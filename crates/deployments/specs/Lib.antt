@@ -1,2 +1,4 @@
-pub mod Calls
 pub mod Declines
+pub mod Endings
+pub mod Calls
+pub mod Documents

@@ -16,7 +16,7 @@ ghost use Rattle.activation.specs.Ended.{HasClosed};
 ghost use Rattle.activation.specs.Turns.{moments_in, most_turns};
 ghost use Rattle.stopping.specs.Stops.{MayStop};
 ghost use Rattle.refusal_lines.specs.Statuses.{status_of_outcome};
-ghost use Rattle.deployments.specs.Calls.{Says, Spared};
+ghost use Rattle.deployments.specs.Calls.{EndsClosed, SaysEnding, Spared};
 
 use crate::lines::say_disk;
 use artifact_store::{SweepFault, sweep};
@@ -65,7 +65,7 @@ pub(crate) fn end_closed<D: Disk, J: Journal + Drop, K: Sink, R: Runner, S: Supe
     ensures none { R.living runner.new ≡ [] }
     ensures spared { Spared D.may_leave D.moment D.left_since disk.old disk.new }
     ensures others { IsTrue D.tells → Spares (IsBelow artifacts) (D.seen disk.old) (D.seen disk.new) }
-    ensures says { Says (K.held sink.old) (K.held sink.new) result }
+    ensures ends { SaysEnding (K.held sink.old) (K.held sink.new) result (EndsClosed outcome) }
     ensures answers { (result ≡ status_of_outcome outcome) ⊎ (result ≡ statuses.Memory) ⊎ (result ≡ statuses.Disk) ⊎ (result ≡ statuses.Edge) }
     ensures disk { result ≡ statuses.Disk → Rose (D.faults disk.old) (D.faults disk.new) }
     ensures edge { result ≡ statuses.Edge → Rose (K.faults sink.old) (K.faults sink.new) }

@@ -3,22 +3,25 @@ ghost use Rattle.std.specs.Prelude.{◌≡◌, ◌≢◌, ◌⊎◌, ◌≤◌};
 ghost use Rattle.nuc_base.specs.Faults.{Rose};
 ghost use Rattle.nuc_base.specs.declared.status.Status.TheVariants as statuses;
 ghost use Rattle.refusal_lines.specs.Statuses.{status_of_refusal};
-ghost use Rattle.deployments.specs.Calls.{Says};
-ghost use Rattle.deployments.specs.Declines.{status_of_declined};
+ghost use Rattle.refusal_lines.specs.Lines.{refusal_line};
+ghost use Rattle.deployments.specs.Calls.{IsOrEdge, SaysLine, SaysRefusal};
+ghost use Rattle.deployments.specs.Declines.{file_text, large_line, line_of_declined, mismatch_line, missing_line, status_of_declined};
+ghost use Rattle.deployments.specs.Endings.{full_line};
 
 use crate::lines::{say, say_disk};
 use artifact_store::StageFault;
 use edges::Sink;
 use intake::Declined;
 use itoa::Buffer;
-use nuc_base::{FileName, NoMemory, Status, Text};
+use nuc_base::{FileName, Status};
 use plan_core::Refusal;
 use refusal_lines::{refusal_status, refusal_text};
-use status_text::put_line;
 use std::alloc::Global;
 
 /// The file without the folder of the artifacts.
-fn shown(file: &FileName) -> &str {
+fn shown(file: &FileName) -> &str
+    ensures { result.now ≡ file_text file.now }
+{
     let name = file.as_str();
     match name.strip_prefix("packages/artifacts/") {
         Some(rest) => rest,
@@ -28,7 +31,7 @@ fn shown(file: &FileName) -> &str {
 
 /// Prints that the document is refused by this check.
 pub(crate) fn say_refusal<K: Sink>(alloc: Global, refusal: &Refusal, sink: &mut K) -> Status
-    ensures says { Says (K.held sink.old) (K.held sink.new) result }
+    ensures says { SaysRefusal (K.held sink.old) (K.held sink.new) result (status_of_refusal refusal.now) (refusal_line refusal.now) }
     ensures edge { result ≡ statuses.Edge → Rose (K.faults sink.old) (K.faults sink.new) }
     ensures quiet { result ≢ statuses.Edge → K.faults sink.new ≡ K.faults sink.old }
     ensures later { K.faults sink.old ≤ K.faults sink.new }
@@ -47,11 +50,11 @@ pub(crate) fn say_refusal<K: Sink>(alloc: Global, refusal: &Refusal, sink: &mut 
 
 /// Prints that the library lacks the file.
 fn say_missing<K: Sink>(file: &FileName, sink: &mut K) -> Status
-    ensures says { Says (K.held sink.old) (K.held sink.new) result }
+    ensures says { SaysLine (K.held sink.old) (K.held sink.new) result (missing_line file.now) }
     ensures edge { result ≡ statuses.Edge → Rose (K.faults sink.old) (K.faults sink.new) }
     ensures quiet { result ≢ statuses.Edge → K.faults sink.new ≡ K.faults sink.old }
     ensures later { K.faults sink.old ≤ K.faults sink.new }
-    ensures answers { (result ≡ statuses.Artifact) ⊎ (result ≡ statuses.Edge) }
+    ensures answers { IsOrEdge result statuses.Artifact }
 {
     say(
         sink,
@@ -62,11 +65,11 @@ fn say_missing<K: Sink>(file: &FileName, sink: &mut K) -> Status
 
 /// Prints that the file has more bytes than this.
 fn say_large<K: Sink>(file: &FileName, bytes: u64, sink: &mut K) -> Status
-    ensures says { Says (K.held sink.old) (K.held sink.new) result }
+    ensures says { SaysLine (K.held sink.old) (K.held sink.new) result (large_line file.now bytes) }
     ensures edge { result ≡ statuses.Edge → Rose (K.faults sink.old) (K.faults sink.new) }
     ensures quiet { result ≢ statuses.Edge → K.faults sink.new ≡ K.faults sink.old }
     ensures later { K.faults sink.old ≤ K.faults sink.new }
-    ensures answers { (result ≡ statuses.Limit) ⊎ (result ≡ statuses.Edge) }
+    ensures answers { IsOrEdge result statuses.Limit }
 {
     let mut digits = Buffer::new();
     say(
@@ -82,34 +85,33 @@ fn say_large<K: Sink>(file: &FileName, bytes: u64, sink: &mut K) -> Status
     )
 }
 
-fn differs_text(alloc: Global, file: &FileName, digest: &[u8; 32]) -> Result<Text, NoMemory> {
-    let digits = hex::encode(alloc, digest.as_slice())?;
-    let mut out = Text::empty(alloc);
-    put_line(
-        &mut out,
-        "refused 13 Mismatch",
-        &[shown(file), digits.as_str()],
-    )?;
-    Ok(out)
-}
-
 /// Prints that the file has this digest, and not the one that its recipe gives.
 fn say_differs<K: Sink>(alloc: Global, file: &FileName, digest: &[u8; 32], sink: &mut K) -> Status
-    ensures says { Says (K.held sink.old) (K.held sink.new) result }
+    ensures says { SaysRefusal (K.held sink.old) (K.held sink.new) result statuses.Artifact (mismatch_line file.now digest.now) }
     ensures edge { result ≡ statuses.Edge → Rose (K.faults sink.old) (K.faults sink.new) }
     ensures quiet { result ≢ statuses.Edge → K.faults sink.new ≡ K.faults sink.old }
     ensures later { K.faults sink.old ≤ K.faults sink.new }
     ensures answers { (result ≡ statuses.Artifact) ⊎ (result ≡ statuses.Memory) ⊎ (result ≡ statuses.Edge) }
 {
-    match differs_text(alloc, file, digest) {
-        Ok(text) => say(sink, &[text.as_str()], Status::Artifact),
-        Err(_) => Status::Memory,
-    }
+    let Ok(digits) = hex::encode(alloc, digest.as_slice()) else {
+        return Status::Memory;
+    };
+    say(
+        sink,
+        &[
+            "refused 13 Mismatch ",
+            shown(file),
+            " ",
+            digits.as_str(),
+            "\n",
+        ],
+        Status::Artifact,
+    )
 }
 
 /// Prints why a document is not taken in.
 pub(crate) fn say_declined<K: Sink>(alloc: Global, declined: &Declined, sink: &mut K) -> Status
-    ensures says { Says (K.held sink.old) (K.held sink.new) result }
+    ensures says { SaysRefusal (K.held sink.old) (K.held sink.new) result (status_of_declined declined.now) (line_of_declined declined.now) }
     ensures edge { result ≡ statuses.Edge → Rose (K.faults sink.old) (K.faults sink.new) }
     ensures quiet { result ≢ statuses.Edge → K.faults sink.new ≡ K.faults sink.old }
     ensures later { K.faults sink.old ≤ K.faults sink.new }
@@ -134,11 +136,11 @@ pub(crate) fn say_declined<K: Sink>(alloc: Global, declined: &Declined, sink: &m
 
 /// Prints that the journal has no room for the deployment from this place on.
 pub(crate) fn say_full<K: Sink>(at: u64, sink: &mut K) -> Status
-    ensures says { Says (K.held sink.old) (K.held sink.new) result }
+    ensures says { SaysLine (K.held sink.old) (K.held sink.new) result (full_line at) }
     ensures edge { result ≡ statuses.Edge → Rose (K.faults sink.old) (K.faults sink.new) }
     ensures quiet { result ≢ statuses.Edge → K.faults sink.new ≡ K.faults sink.old }
     ensures later { K.faults sink.old ≤ K.faults sink.new }
-    ensures answers { (result ≡ statuses.Limit) ⊎ (result ≡ statuses.Edge) }
+    ensures answers { IsOrEdge result statuses.Limit }
 {
     let mut digits = Buffer::new();
     say(

@@ -1,5 +1,5 @@
 // How a call ends behind the course of its deployment.
-ghost use Rattle.std.specs.Prelude.{◌≡◌, ◌≢◌, ◌⊎◌, ◌≤◌, [], ℕ, List, false, IsTrue, IfOk, OnOk, OnErr, IsErrOf};
+ghost use Rattle.std.specs.Prelude.{◌≡◌, ◌≢◌, ◌⊎◌, ◌≤◌, [], ◌++◌, ℕ, List, false, IsTrue, IfOk, OnOk, OnErr, IsErrOf, codes};
 ghost use Rattle.nuc_base.specs.Faults.{Rose};
 ghost use Rattle.nuc_base.specs.declared.status.Status.TheVariants as statuses;
 ghost use Rattle.disk_model.specs.Listing.{artifacts, IsBelow};
@@ -8,12 +8,14 @@ ghost use Rattle.step_runner.specs.Entries.{Listed};
 ghost use Rattle.session.specs.Courses.{IsBare};
 ghost use Rattle.session.specs.Happenings.{Happening};
 ghost use Rattle.session.specs.Places.{Place, left_by};
+ghost use Rattle.deploy_state.specs.States.{loaded_device};
+ghost use Rattle.driver.specs.Lines.{id_of};
 ghost use Rattle.driver.specs.Went.{Acts};
 ghost use Rattle.deploying.specs.Driven.{DrivenLeft};
-ghost use Rattle.deployments.specs.Calls.{AnswersFor, Says, Spared};
+ghost use Rattle.deployments.specs.Calls.{AnswersFor, EndsFor, IsOrEdge, SaysEnding, SaysLine, Spared};
 
 use crate::closes::end_closed;
-use crate::lines::{say, say_disk};
+use crate::lines::{pending_id, say, say_disk};
 use deploy_state::Loaded;
 use deploying::Driven;
 use disk_model::Disk;
@@ -33,16 +35,13 @@ fn say_again<J: Journal + Drop, K: Sink>(
     status: Status,
 ) -> Status
     requires other { status ≢ statuses.Edge }
-    ensures says { Says (K.held sink.old) (K.held sink.new) result }
-    ensures answers { (result ≡ status) ⊎ (result ≡ statuses.Edge) }
+    ensures says { SaysLine (K.held sink.old) (K.held sink.new) result (word.now ++ (id_of (loaded_device state.now) ++ codes "\n")) }
+    ensures answers { IsOrEdge result status }
     ensures edge { result ≡ statuses.Edge → Rose (K.faults sink.old) (K.faults sink.new) }
     ensures quiet { result ≢ statuses.Edge → K.faults sink.new ≡ K.faults sink.old }
     ensures later { K.faults sink.old ≤ K.faults sink.new }
 {
-    match &state.device().pending {
-        Some(pending) => say(sink, &[word, pending.plan.id.as_str(), "\n"], status),
-        None => status,
-    }
+    say(sink, &[word, pending_id(state), "\n"], status)
 }
 
 /// Ends the call: behind a close as `end_closed`, and else at once.
@@ -62,7 +61,8 @@ pub(crate) fn end_call<D: Disk, J: Journal + Drop, K: Sink, R: Runner, S: Superv
     ensures none { R.living runner.new ≡ [] }
     ensures spared { Spared D.may_leave D.moment D.left_since disk.old disk.new }
     ensures others { IsTrue D.tells → Spares (IsBelow artifacts) (D.seen disk.old) (D.seen disk.new) }
-    ensures says { Says (K.held sink.old) (K.held sink.new) result }
+    ensures ends { SaysEnding (K.held sink.old) (K.held sink.new) result (EndsFor driven) }
+    ensures unswept { OnErr driven (disk.new ≡ disk.old) }
     ensures silent { IsErrOf driven Over.Edge → K.held sink.new ≡ K.held sink.old }
     ensures answers { AnswersFor driven result }
     ensures disk { result ≡ statuses.Disk → (IsErrOf driven Over.Disk) ⊎ Rose (D.faults disk.old) (D.faults disk.new) }

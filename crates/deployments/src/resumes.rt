@@ -5,15 +5,17 @@ ghost use Rattle.nuc_base.specs.declared.status.Status.TheVariants as statuses;
 ghost use Rattle.device.specs.Devices.{IsRegularDevice, device_view};
 ghost use Rattle.device.specs.Sound.{IsSound};
 ghost use Rattle.deploy_state.specs.States.{InLoaded, loaded_device};
+ghost use Rattle.driver.specs.Lines.{id_of};
 ghost use Rattle.driver.specs.Stands.{IsFront};
 ghost use Rattle.step_runner.specs.Entries.{Listed};
 ghost use Rattle.session.specs.Places.{Place};
 ghost use Rattle.preparation.specs.Readied.{AreReadiedFor};
 ghost use Rattle.intake.specs.Takes.{LieElsewhere};
-ghost use Rattle.deployments.specs.Calls.{Call, Elsewhere, Says, Stays};
+ghost use Rattle.deployments.specs.Calls.{Call, Elsewhere, IsOrEdge, SaysLine, Stays, resumed_line};
+ghost use Rattle.deployments.specs.Endings.{Resumes};
 
 use crate::ends::end_call;
-use crate::lines::say;
+use crate::lines::{pending_id, say};
 use deploy_state::Loaded;
 use deploying::drive;
 use device::Device;
@@ -47,20 +49,13 @@ where
 
 /// Prints that the pending deployment is resumed.
 fn say_resumed<J: Journal + Drop, K: Sink>(state: &Loaded<J>, sink: &mut K) -> Status
-    ensures says { Says (K.held sink.old) (K.held sink.new) result }
-    ensures answers { (result ≡ statuses.Done) ⊎ (result ≡ statuses.Edge) }
+    ensures says { SaysLine (K.held sink.old) (K.held sink.new) result (resumed_line (id_of (loaded_device state.now))) }
+    ensures answers { IsOrEdge result statuses.Done }
     ensures edge { result ≡ statuses.Edge → Rose (K.faults sink.old) (K.faults sink.new) }
     ensures quiet { result ≢ statuses.Edge → K.faults sink.new ≡ K.faults sink.old }
     ensures later { K.faults sink.old ≤ K.faults sink.new }
 {
-    match &state.device().pending {
-        Some(pending) => say(
-            sink,
-            &["resumed ", pending.plan.id.as_str(), "\n"],
-            Status::Done,
-        ),
-        None => Status::Done,
-    }
+    say(sink, &["resumed ", pending_id(state), "\n"], Status::Done)
 }
 
 /// Drives the pending deployment on, from its recorded stage to the end of the call. Where none is pending nothing is done.
@@ -81,7 +76,7 @@ where
     requires empty { (S.world supervisor.old).parts ≡ [] }
     requires placed { (p : Place) × IsFront p (loaded_device state) (S.world supervisor.old) (Listed R.list R.told R.asked runner.old) (R.living runner.old) × (p.serves ≡ false) }
     ensures call { (p : Place) → IsFront p (loaded_device state) (S.world supervisor.old) (Listed R.list R.told R.asked runner.old) (R.living runner.old) → (p.serves ≡ false) →
-        Call J.entries J.files D.may_leave D.moment D.left_since disk.old disk.new (R.list runner.old) (R.list runner.new) (K.held sink.old) (K.held sink.new) p result }
+        (c : Call J.entries J.files D.may_leave D.moment D.left_since disk.old disk.new (R.list runner.old) (R.list runner.new) (K.held sink.old) (K.held sink.new) p result) × Resumes (loaded_device state) c.ending }
     ensures own { result ≢ statuses.Library }
     ensures none { R.living runner.new ≡ [] }
     ensures others { IsTrue D.tells → Elsewhere J.files (D.seen disk.old) (D.seen disk.new) }

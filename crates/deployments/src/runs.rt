@@ -1,20 +1,26 @@
 //! A document is deployed.
-ghost use Rattle.std.specs.Prelude.{◌≡◌, ◌≢◌, ◌⊎◌, ◌≤◌, [], ℕ, List, false, None, IsSome, IsTrue, IfOk, map};
+ghost use Rattle.std.specs.Prelude.{◌≡◌, ◌≢◌, ◌⊎◌, ◌≤◌, [], ℕ, List, false, None, Some, IsSome, IsTrue, IfOk, Result, map};
 ghost use Rattle.nuc_base.specs.Faults.{Rose};
 ghost use Rattle.nuc_base.specs.declared.status.Status.TheVariants as statuses;
 ghost use Rattle.records.specs.Stored as stored;
 ghost use Rattle.records.specs.Stored.{plan_view};
+ghost use Rattle.records.specs.declared.record.Plan as code;
+ghost use Rattle.records.specs.declared.record.Origin.{Origin};
 ghost use Rattle.device.specs.Devices.{IsRegularDevice};
 ghost use Rattle.device.specs.Lawful.{Allowed};
 ghost use Rattle.device.specs.Regularity.{IsRegularRecord};
 ghost use Rattle.device.specs.Sound.{IsSound};
+ghost use Rattle.deploy_state.specs.Accepting.{idle_log};
 ghost use Rattle.deploy_state.specs.States.{InIdle, idle_device};
+ghost use Rattle.deploy_state.specs.Turning.{start_of};
 ghost use Rattle.deployment_doc.specs.Sound.{AreSound};
 ghost use Rattle.step_runner.specs.Entries.{Listed};
 ghost use Rattle.session.specs.Places.{Place};
 ghost use Rattle.acceptance.specs.Accepts.{IsOpen};
-ghost use Rattle.intake.specs.Takes.{LieElsewhere};
-ghost use Rattle.deployments.specs.Calls.{Call, Elsewhere, GivenBack, IsReadiedOn, Stays};
+ghost use Rattle.intake.specs.Takes.{LieElsewhere, TakesIn};
+ghost use Rattle.intake.specs.declared.fault.Declined.{Declined};
+ghost use Rattle.deployments.specs.Calls.{Elsewhere, IsReadiedOn, Stays};
+ghost use Rattle.deployments.specs.Documents.{DrivesPlan, DrivesTaken, TakesRead};
 
 use crate::declines::{say_declined, say_full, say_refusal};
 use crate::ends::end_call;
@@ -73,14 +79,14 @@ fn run_plan<D: Disk, J: Journal + Drop, K: Sink, R: Runner, S: Supervise>(
 where
     S::Ready: Drop,
     requires held { InIdle D.tells D.may_leave J.stands J.end idle disk.old }
+    requires apart { LieElsewhere J.files }
     requires lawful { Allowed (idle_device idle) (stored.Accepted (plan_view plan)) }
     requires regular { IsRegularRecord (stored.Accepted (plan_view plan)) }
     requires ready { IsReadiedOn (idle_device idle) (plan_view plan) ready.boots ready.backs (S.coming ready.items) (S.coming ready.earlier) }
     requires empty { (S.world supervisor.old).parts ≡ [] }
     requires placed { (p : Place) × IsOpen p (idle_device idle) (S.world supervisor.old) (Listed R.list R.told R.asked runner.old) (R.living runner.old) × (p.serves ≡ false) }
     ensures call { (p : Place) → IsOpen p (idle_device idle) (S.world supervisor.old) (Listed R.list R.told R.asked runner.old) (R.living runner.old) → (p.serves ≡ false) →
-        Call J.entries J.files D.may_leave D.moment D.left_since disk.old disk.new (R.list runner.old) (R.list runner.new) (K.held sink.old) (K.held sink.new) p result
-        ⊎ GivenBack J.entries J.files D.may_leave D.moment D.left_since disk.old disk.new (R.list runner.old) (R.list runner.new) (K.held sink.old) (K.held sink.new) p result }
+        DrivesPlan J.entries J.files D.may_leave D.moment D.left_since disk.old disk.new (R.list runner.old) (R.list runner.new) (K.held sink.old) (K.held sink.new) p result (start_of J.end J.number J.turns (idle_log idle) (idle_device idle)) (plan_view plan) }
     ensures own { result ≢ statuses.Library }
     ensures none { R.living runner.new ≡ [] }
     ensures others { IsTrue D.tells → Elsewhere J.files (D.seen disk.old) (D.seen disk.new) }
@@ -123,8 +129,8 @@ where
     requires empty { (S.world supervisor.old).parts ≡ [] }
     requires placed { (p : Place) × IsOpen p (idle_device idle) (S.world supervisor.old) (Listed R.list R.told R.asked runner.old) (R.living runner.old) × (p.serves ≡ false) }
     ensures call { (p : Place) → IsOpen p (idle_device idle) (S.world supervisor.old) (Listed R.list R.told R.asked runner.old) (R.living runner.old) → (p.serves ≡ false) →
-        Call J.entries J.files D.may_leave D.moment D.left_since disk.old disk.new (R.list runner.old) (R.list runner.new) (K.held sink.old) (K.held sink.new) p result
-        ⊎ GivenBack J.entries J.files D.may_leave D.moment D.left_since disk.old disk.new (R.list runner.old) (R.list runner.new) (K.held sink.old) (K.held sink.new) p result }
+        (taken : Result code.Plan Declined) × ((o : Origin) → (idle_device idle).origin ≡ Some o → TakesIn (idle_device idle) o (L.content library.old) (L.faults library.old) (L.faults library.new) document.now taken)
+        × DrivesTaken J.entries J.files D.may_leave D.moment D.left_since disk.old disk.new (R.list runner.old) (R.list runner.new) (K.held sink.old) (K.held sink.new) p result (start_of J.end J.number J.turns (idle_log idle) (idle_device idle)) taken }
     ensures none { R.living runner.new ≡ [] }
     ensures others { IsTrue D.tells → Elsewhere J.files (D.seen disk.old) (D.seen disk.new) }
     ensures disk { result ≡ statuses.Disk → Rose (D.faults disk.old) (D.faults disk.new) }
@@ -167,8 +173,8 @@ where
     requires empty { (S.world supervisor.old).parts ≡ [] }
     requires placed { (p : Place) × IsOpen p (idle_device idle) (S.world supervisor.old) (Listed R.list R.told R.asked runner.old) (R.living runner.old) × (p.serves ≡ false) }
     ensures call { (p : Place) → IsOpen p (idle_device idle) (S.world supervisor.old) (Listed R.list R.told R.asked runner.old) (R.living runner.old) → (p.serves ≡ false) →
-        Call J.entries J.files D.may_leave D.moment D.left_since disk.old disk.new (R.list runner.old) (R.list runner.new) (K.held sink.old) (K.held sink.new) p result
-        ⊎ GivenBack J.entries J.files D.may_leave D.moment D.left_since disk.old disk.new (R.list runner.old) (R.list runner.new) (K.held sink.old) (K.held sink.new) p result }
+        (taken : Result code.Plan Declined) × ((o : Origin) → (idle_device idle).origin ≡ Some o → TakesRead (idle_device idle) o (L.content library.old) (L.faults library.old) (L.faults library.new) document.now taken)
+        × DrivesTaken J.entries J.files D.may_leave D.moment D.left_since disk.old disk.new (R.list runner.old) (R.list runner.new) (K.held sink.old) (K.held sink.new) p result (start_of J.end J.number J.turns (idle_log idle) (idle_device idle)) taken }
     ensures none { R.living runner.new ≡ [] }
     ensures others { IsTrue D.tells → Elsewhere J.files (D.seen disk.old) (D.seen disk.new) }
     ensures disk { result ≡ statuses.Disk → Rose (D.faults disk.old) (D.faults disk.new) }

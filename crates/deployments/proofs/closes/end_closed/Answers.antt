@@ -7,7 +7,8 @@ use Rattle.artifact_store.specs.Swept.{IsStray, items_of}
 use Rattle.artifact_store.proofs.Walking.{wider_spares}
 use Rattle.deploy_state.specs.States.{idle_device}
 use Rattle.deployments.proofs.Places.{closed_given_up, closed_stops}
-use Rattle.deployments.proofs.Printing.{says_none}
+use Rattle.deployments.specs.Endings.{Fails, Forgets}
+use Rattle.deployments.proofs.Printing.{says_none, stops_ends}
 use Rattle.deployments.proofs.Statuses.{stops_answer, stops_never}
 use Rattle.deployments.proofs.closes.end_closed.Goals as goal
 
@@ -35,8 +36,14 @@ returns-in-Ok-clause-spared g c = wider_spares g.met.D.Disk.laws (IsStray (items
 pub returns-in-Ok-clause-others : goal.returns-in-Ok-clause-others
 returns-in-Ok-clause-others g c = λ told name spared. c.sweep.ensures.others told name (λ stray. spared stray.0)
 
-pub returns-in-Ok-clause-says : goal.returns-in-Ok-clause-says
-returns-in-Ok-clause-says g c = says_none (g.K.Sink.held c.args.sink.now) (g.K.Sink.held c.args.sink.now) c.stop.result refl
+pub returns-in-Ok-clause-ends : goal.returns-in-Ok-clause-ends
+returns-in-Ok-clause-ends g c =
+    let q = c.requires.placed in
+    let d = idle_device c.args.idle.now in
+    let world = g.S.Supervise.world c.args.supervisor.now in
+    let told = Listed g.R.Runner.list g.R.Runner.told g.R.Runner.asked c.args.runner.now in
+    let t = c.stop.ensures.went q.0 d (closed_stops c.args.outcome q.1 q.0 d world told (g.R.Runner.living c.args.runner.now) q.2 q.3) in
+    stops_ends c.args.outcome c.stop.result (g.K.Sink.held c.args.sink.now) t.3
 
 pub returns-in-Ok-clause-answers : goal.returns-in-Ok-clause-answers
 returns-in-Ok-clause-answers g c =
@@ -89,6 +96,9 @@ returns-in-Err-Disk-clause-spared g c = wider_spares g.met.D.Disk.laws (IsStray 
 pub returns-in-Err-Disk-clause-others : goal.returns-in-Err-Disk-clause-others
 returns-in-Err-Disk-clause-others g c = λ told name spared. c.sweep.ensures.others told name (λ stray. spared stray.0)
 
+pub returns-in-Err-Disk-clause-ends : goal.returns-in-Err-Disk-clause-ends
+returns-in-Err-Disk-clause-ends g c = (Fails, inr (inr refl), c.say_disk.ensures.says, c.say_disk.ensures.answers)
+
 -- ---- there was no memory
 
 pub kill_all-requires-in-Err-NoMemory : goal.kill_all-requires-in-Err-NoMemory
@@ -113,5 +123,6 @@ returns-in-Err-NoMemory-clause-spared g c = wider_spares g.met.D.Disk.laws (IsSt
 pub returns-in-Err-NoMemory-clause-others : goal.returns-in-Err-NoMemory-clause-others
 returns-in-Err-NoMemory-clause-others g c = λ told name spared. c.sweep.ensures.others told name (λ stray. spared stray.0)
 
-pub returns-in-Err-NoMemory-clause-says : goal.returns-in-Err-NoMemory-clause-says
-returns-in-Err-NoMemory-clause-says g c = says_none (g.K.Sink.held c.args.sink.now) (g.K.Sink.held c.args.sink.now) statuses.Memory refl
+pub returns-in-Err-NoMemory-clause-ends : goal.returns-in-Err-NoMemory-clause-ends
+returns-in-Err-NoMemory-clause-ends g c =
+    (Forgets, inr (inl refl), says_none (g.K.Sink.held c.args.sink.now) (g.K.Sink.held c.args.sink.now) statuses.Memory refl, inl refl)

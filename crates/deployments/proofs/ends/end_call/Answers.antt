@@ -6,11 +6,13 @@ use Rattle.deploy_state.specs.States.{loaded_device}
 use Rattle.step_runner.specs.Entries.{Listed}
 use Rattle.session.specs.Happenings.{records_of}
 use Rattle.driver.proofs.Acting.{acts_none}
+use Rattle.driver.specs.Lines.{id_of}
 use Rattle.driver.specs.declared.over.Over.TheVariants as over
 use Rattle.deploying.specs.declared.driven.Driven.TheVariants as driven
 use Rattle.deployments.proofs.Places.{bare_none, between_bare}
 use Rattle.deployments.proofs.Printing.{says_none}
-use Rattle.deployments.proofs.Results.{answers_err, answers_ok, err_if, err_on, if_ok, not_edge, ok_if, ok_on, on_err}
+use Rattle.deployments.specs.Endings.{Breaks, Fails, Forgets, Reboots, Restarts}
+use Rattle.deployments.proofs.Results.{answers_err, answers_ok, ends_err, ends_ok, err_if, err_on, if_ok, not_edge, ok_if, ok_on, on_err}
 use Rattle.deployments.proofs.ends.end_call.Goals as goal
 
 -- ---- it closed
@@ -40,6 +42,14 @@ returns-in-Ok-Closed-clause-disk g c = λ is. inr (c.end_closed.ensures.disk is)
 
 pub returns-in-Ok-Closed-clause-edge : goal.returns-in-Ok-Closed-clause-edge
 returns-in-Ok-Closed-clause-edge g c = λ is. inr (c.end_closed.ensures.edge is)
+
+pub returns-in-Ok-Closed-clause-ends : goal.returns-in-Ok-Closed-clause-ends
+returns-in-Ok-Closed-clause-ends g c =
+    ends_ok c.end_closed.result (g.K.Sink.held c.args.sink.now) (g.K.Sink.held c.end_closed.new.sink) c.args.driven c.in-Ok-Closed.field-0 (driven.Closed c.in-Ok-Closed.idle c.in-Ok-Closed.outcome)
+    c.in-Ok-Closed.is c.in-Ok-Closed.field-0-is c.end_closed.ensures.ends
+
+pub returns-in-Ok-Closed-clause-unswept : goal.returns-in-Ok-Closed-clause-unswept
+returns-in-Ok-Closed-clause-unswept g c = ok_on _ c.args.driven c.in-Ok-Closed.field-0 c.in-Ok-Closed.is
 
 -- ---- it ends for a restart
 
@@ -72,6 +82,14 @@ pub returns-in-Ok-Restart-clause-answers : goal.returns-in-Ok-Restart-clause-ans
 returns-in-Ok-Restart-clause-answers g c =
     answers_ok c.say_again.result c.args.driven c.in-Ok-Restart.field-0 (driven.Restart c.in-Ok-Restart.state) c.in-Ok-Restart.is c.in-Ok-Restart.field-0-is c.say_again.ensures.answers
 
+pub returns-in-Ok-Restart-clause-ends : goal.returns-in-Ok-Restart-clause-ends
+returns-in-Ok-Restart-clause-ends g c =
+    ends_ok c.say_again.result (g.K.Sink.held c.args.sink.now) (g.K.Sink.held c.say_again.new.sink) c.args.driven c.in-Ok-Restart.field-0 (driven.Restart c.in-Ok-Restart.state)
+    c.in-Ok-Restart.is c.in-Ok-Restart.field-0-is (Restarts (id_of (loaded_device c.in-Ok-Restart.state)), refl, c.say_again.ensures.says, c.say_again.ensures.answers)
+
+pub returns-in-Ok-Restart-clause-unswept : goal.returns-in-Ok-Restart-clause-unswept
+returns-in-Ok-Restart-clause-unswept g c = ok_on _ c.args.driven c.in-Ok-Restart.field-0 c.in-Ok-Restart.is
+
 -- ---- for a reboot
 
 pub returns-in-Ok-Reboot-clause-went : goal.returns-in-Ok-Reboot-clause-went
@@ -103,6 +121,14 @@ pub returns-in-Ok-Reboot-clause-answers : goal.returns-in-Ok-Reboot-clause-answe
 returns-in-Ok-Reboot-clause-answers g c =
     answers_ok c.say_again-in-Ok-Reboot.result c.args.driven c.in-Ok-Reboot.field-0 (driven.Reboot c.in-Ok-Reboot.state) c.in-Ok-Reboot.is c.in-Ok-Reboot.field-0-is c.say_again-in-Ok-Reboot.ensures.answers
 
+pub returns-in-Ok-Reboot-clause-ends : goal.returns-in-Ok-Reboot-clause-ends
+returns-in-Ok-Reboot-clause-ends g c =
+    ends_ok c.say_again-in-Ok-Reboot.result (g.K.Sink.held c.args.sink.now) (g.K.Sink.held c.say_again-in-Ok-Reboot.new.sink) c.args.driven c.in-Ok-Reboot.field-0 (driven.Reboot c.in-Ok-Reboot.state)
+    c.in-Ok-Reboot.is c.in-Ok-Reboot.field-0-is (Reboots (id_of (loaded_device c.in-Ok-Reboot.state)), refl, c.say_again-in-Ok-Reboot.ensures.says, c.say_again-in-Ok-Reboot.ensures.answers)
+
+pub returns-in-Ok-Reboot-clause-unswept : goal.returns-in-Ok-Reboot-clause-unswept
+returns-in-Ok-Reboot-clause-unswept g c = ok_on _ c.args.driven c.in-Ok-Reboot.field-0 c.in-Ok-Reboot.is
+
 -- ---- a stage did not end
 
 pub returns-in-Ok-More-clause-went : goal.returns-in-Ok-More-clause-went
@@ -120,8 +146,13 @@ returns-in-Ok-More-clause-none g c = (if_ok _ c.args.driven c.in-Ok-More.field-0
 pub returns-in-Ok-More-clause-spared : goal.returns-in-Ok-More-clause-spared
 returns-in-Ok-More-clause-spared g c = start_spares g.met.D.Disk.laws (IsBelow artifacts) c.args.disk.now
 
-pub returns-in-Ok-More-clause-says : goal.returns-in-Ok-More-clause-says
-returns-in-Ok-More-clause-says g c = says_none (g.K.Sink.held c.args.sink.now) (g.K.Sink.held c.args.sink.now) statuses.Memory refl
+pub returns-in-Ok-More-clause-ends : goal.returns-in-Ok-More-clause-ends
+returns-in-Ok-More-clause-ends g c =
+    let held = g.K.Sink.held c.args.sink.now in
+    ends_ok statuses.Memory held held c.args.driven c.in-Ok-More.field-0 (driven.More _) c.in-Ok-More.is c.in-Ok-More.field-0-is (Forgets, refl, says_none held held statuses.Memory refl, inl refl)
+
+pub returns-in-Ok-More-clause-unswept : goal.returns-in-Ok-More-clause-unswept
+returns-in-Ok-More-clause-unswept g c = ok_on _ c.args.driven c.in-Ok-More.field-0 c.in-Ok-More.is
 
 pub returns-in-Ok-More-clause-silent : goal.returns-in-Ok-More-clause-silent
 returns-in-Ok-More-clause-silent g c = λ is. refl
@@ -148,3 +179,18 @@ returns-in-Err-Disk-clause-silent g c = λ is. absurd (not_edge c.args.driven c.
 
 pub returns-in-Err-Disk-clause-answers : goal.returns-in-Err-Disk-clause-answers
 returns-in-Err-Disk-clause-answers g c = answers_err c.say_disk.result c.args.driven c.in-Err-Disk.field-0 over.Disk c.in-Err-Disk.is (rw c.in-Err-Disk.is at c.in-Err-Disk.field-0-is) c.say_disk.ensures.answers
+
+pub returns-in-Err-Disk-clause-ends : goal.returns-in-Err-Disk-clause-ends
+returns-in-Err-Disk-clause-ends g c =
+    ends_err c.say_disk.result (g.K.Sink.held c.args.sink.now) (g.K.Sink.held c.say_disk.new.sink) c.args.driven c.in-Err-Disk.field-0 over.Disk c.in-Err-Disk.is (rw c.in-Err-Disk.is at c.in-Err-Disk.field-0-is)
+    (Fails, refl, c.say_disk.ensures.says, c.say_disk.ensures.answers)
+
+pub returns-in-Err-Disk-clause-unswept : goal.returns-in-Err-Disk-clause-unswept
+returns-in-Err-Disk-clause-unswept g c = err_on _ c.args.driven c.in-Err-Disk.field-0 c.in-Err-Disk.is refl
+
+-- ---- a line was not written
+
+pub returns-clause-ends : goal.returns-clause-ends
+returns-clause-ends g c =
+    let held = g.K.Sink.held c.args.sink.now in
+    ends_err statuses.Edge held held c.args.driven c.in-Err-Edge.field-0 over.Edge c.in-Err-Edge.is (rw c.in-Err-Edge.is at c.in-Err-Edge.field-0-is) (Breaks, refl, says_none held held statuses.Edge refl, inl refl)

@@ -1,6 +1,12 @@
-use Rattle.std.proofs.Common.{refl}
-use Rattle.deployments.proofs.Printing.{says_none}
+use Rattle.std.specs.Prelude.{ℕ, List, ◌++◌, codes}
+use Rattle.std.proofs.Common.{ap}
+use Rattle.deploy_state.specs.States.{loaded_device}
+use Rattle.driver.specs.Lines.{id_of}
+use Rattle.deployments.proofs.Printing.{says_as}
 use Rattle.deployments.proofs.ends.say_again.Goals as goal
 
-pub returns-in-None-clause-says : goal.returns-in-None-clause-says
-returns-in-None-clause-says g c = says_none (g.K.Sink.held c.args.sink.now) (g.K.Sink.held c.args.sink.now) c.args.status refl
+pub returns-clause-says : goal.returns-clause-says
+returns-clause-says g c =
+    let word = c.args.word.now in
+    says_as (g.K.Sink.held c.args.sink.now) (g.K.Sink.held c.say.new.sink) c.say.result (word ++ (c.pending_id.result.now ++ codes "\n")) (word ++ (id_of (loaded_device c.args.state.now) ++ codes "\n"))
+    (ap (λ (l : List ℕ). word ++ (l ++ codes "\n")) c.pending_id.ensures) c.say.ensures.says

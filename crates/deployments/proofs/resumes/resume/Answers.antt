@@ -1,4 +1,6 @@
-use Rattle.std.proofs.Common.{refl, sym, ap, subst, ◌∙◌, arith}
+use Rattle.std.proofs.Common.{ℕ, List, inl, inr, refl, sym, ap, subst, ◌∙◌, arith}
+use Rattle.std.specs.Io.KnownBytes.{Appends}
+use Rattle.edges.specs.Pieces.{AppendsFront}
 use Rattle.disk_model.specs.Listing.{artifacts, IsBelow}
 use Rattle.nuc_base.specs.declared.status.Status.TheVariants as statuses
 use Rattle.device.specs.Devices.{Device, IsRegularDevice, Pending, device_view, pending_view}
@@ -15,10 +17,11 @@ use Rattle.driver.specs.declared.over.Over.TheVariants as over
 use Rattle.deployments.proofs.Ending.{called, nothing_called, placed_at}
 use Rattle.deployments.proofs.Faults.{rose_by, rose_on, stays_by, stays_later, stays_on}
 use Rattle.deployments.proofs.Places.{orderly_none}
-use Rattle.deployments.proofs.Printing.{says_none}
+use Rattle.deployments.specs.Endings.{Breaks, Idle, Starves}
+use Rattle.deployments.proofs.Printing.{opening_at, said_prints, starved_prints, unopened_prints}
 use Rattle.deployments.proofs.Results.{answers_disk, answers_edge, answers_own}
-use Rattle.deployments.proofs.Resuming.{loaded_hand, loaded_pending, loaded_stands, some_mapped}
-use Rattle.deployments.proofs.Statuses.{done_no_edge, memory_no_reboot, memory_no_restart, two_never}
+use Rattle.deployments.proofs.Resuming.{loaded_hand, loaded_idle, loaded_pending, loaded_stands, resumes_none, resumes_some, some_mapped}
+use Rattle.deployments.proofs.Statuses.{done_no_edge, not_done, two_never}
 use Rattle.deployments.proofs.resumes.resume.Goals as goal
 
 -- ---- none is pending
@@ -27,14 +30,18 @@ pub returns-in-Idle-clause-call : goal.returns-in-Idle-clause-call
 returns-in-Idle-clause-call g c = λ p front serves.
     let d = loaded_device c.args.state in
     let told = Listed g.R.Runner.list g.R.Runner.told g.R.Runner.asked c.args.runner.now in
-    nothing_called g.J.Journal.entries g.J.Journal.files g.met.D.Disk.laws c.args.disk.now c.args.disk.now c.args.disk.now told.list (g.K.Sink.held c.args.sink.now) (g.K.Sink.held c.say.new.sink) p c.say.result
-    (start_spares g.met.D.Disk.laws (IsBelow artifacts) c.args.disk.now)
-    (loaded_stands g.met.D.Disk.laws g.met.J.Journal.laws c.args.state c.args.disk.now c.requires.held p.device front.between.stands.device_is)
-    (start_spares g.met.D.Disk.laws (IsBelow artifacts) c.args.disk.now)
-    (front_bare p d (g.S.Supervise.world c.args.supervisor.now) told (g.R.Runner.living c.args.runner.now) front)
-    c.say.ensures.says
-    (two_never c.say.result statuses.Done statuses.Edge statuses.Restart c.say.ensures.answers (λ e. cc) (λ e. cc))
-    (two_never c.say.result statuses.Done statuses.Edge statuses.Reboot c.say.ensures.answers (λ e. cc) (λ e. cc))
+    let none = loaded_idle g.D.Disk.tells g.D.Disk.may_leave g.J.Journal.stands g.J.Journal.end c.args.state _ c.args.disk.now c.in-Idle.is c.requires.held in
+    let before = ap (λ (e : Device). e.pending) front.between.stands.device_is ∙ none in
+    let held = g.K.Sink.held c.args.sink.now in (
+      nothing_called g.J.Journal.entries g.J.Journal.files g.met.D.Disk.laws c.args.disk.now c.args.disk.now told.list held (g.K.Sink.held c.say.new.sink) p Idle c.say.result
+          (start_spares g.met.D.Disk.laws (IsBelow artifacts) c.args.disk.now)
+          (loaded_stands g.met.D.Disk.laws g.met.J.Journal.laws c.args.state c.args.disk.now c.requires.held p.device front.between.stands.device_is)
+          (front_bare p d (g.S.Supervise.world c.args.supervisor.now) told (g.R.Runner.living c.args.runner.now) front)
+          c.say.ensures.answers
+          (said_prints held (g.K.Sink.held c.say.new.sink) p.device Idle c.say.result (λ is. cc) before c.say.ensures.says)
+          (refl, before),
+      resumes_none d Idle none refl,
+    )
 
 pub returns-in-Idle-clause-own : goal.returns-in-Idle-clause-own
 returns-in-Idle-clause-own g c = two_never c.say.result statuses.Done statuses.Edge statuses.Library c.say.ensures.answers (λ e. cc) (λ e. cc)
@@ -68,16 +75,18 @@ ready_again-requires-clause-regular g c =
 
 pub returns-in_default-ready_again-clause-call : goal.returns-in_default-ready_again-clause-call
 returns-in_default-ready_again-clause-call g c = λ p front serves.
+    let d = loaded_device c.args.state in
     let told = Listed g.R.Runner.list g.R.Runner.told g.R.Runner.asked c.args.runner.now in
-    let held = g.K.Sink.held c.args.sink.now in
-    nothing_called g.J.Journal.entries g.J.Journal.files g.met.D.Disk.laws c.args.disk.now c.args.disk.now c.args.disk.now told.list held held p statuses.Memory
-    (start_spares g.met.D.Disk.laws (IsBelow artifacts) c.args.disk.now)
-    (loaded_stands g.met.D.Disk.laws g.met.J.Journal.laws c.args.state c.args.disk.now c.requires.held p.device front.between.stands.device_is)
-    (start_spares g.met.D.Disk.laws (IsBelow artifacts) c.args.disk.now)
-    (front_bare p (loaded_device c.args.state) (g.S.Supervise.world c.args.supervisor.now) told (g.R.Runner.living c.args.runner.now) front)
-    (says_none held held statuses.Memory refl)
-    memory_no_restart
-    memory_no_reboot
+    let held = g.K.Sink.held c.args.sink.now in (
+      nothing_called g.J.Journal.entries g.J.Journal.files g.met.D.Disk.laws c.args.disk.now c.args.disk.now told.list held held p Starves statuses.Memory
+          (start_spares g.met.D.Disk.laws (IsBelow artifacts) c.args.disk.now)
+          (loaded_stands g.met.D.Disk.laws g.met.J.Journal.laws c.args.state c.args.disk.now c.requires.held p.device front.between.stands.device_is)
+          (front_bare p d (g.S.Supervise.world c.args.supervisor.now) told (g.R.Runner.living c.args.runner.now) front)
+          (inl refl)
+          (starved_prints held held p.device statuses.Memory refl)
+          refl,
+      resumes_some d Starves (loaded_pending g.D.Disk.tells g.D.Disk.may_leave g.J.Journal.stands g.J.Journal.end c.args.state c.args.disk.now c.requires.held c.in_default.not-Idle) (inr refl),
+    )
 
 pub returns-in_default-ready_again-clause-none : goal.returns-in_default-ready_again-clause-none
 returns-in_default-ready_again-clause-none g c =
@@ -95,15 +104,22 @@ returns-in_default-ready_again-clause-later g c = (
 
 pub returns-in_default-say_resumed-clause-call : goal.returns-in_default-say_resumed-clause-call
 returns-in_default-say_resumed-clause-call g c = λ p front serves.
+    let d = loaded_device c.args.state in
     let told = Listed g.R.Runner.list g.R.Runner.told g.R.Runner.asked c.args.runner.now in
-    nothing_called g.J.Journal.entries g.J.Journal.files g.met.D.Disk.laws c.args.disk.now c.args.disk.now c.args.disk.now told.list (g.K.Sink.held c.args.sink.now) (g.K.Sink.held c.say_resumed.new.sink) p c.say_resumed.result
-    (start_spares g.met.D.Disk.laws (IsBelow artifacts) c.args.disk.now)
-    (loaded_stands g.met.D.Disk.laws g.met.J.Journal.laws c.args.state c.args.disk.now c.requires.held p.device front.between.stands.device_is)
-    (start_spares g.met.D.Disk.laws (IsBelow artifacts) c.args.disk.now)
-    (front_bare p (loaded_device c.args.state) (g.S.Supervise.world c.args.supervisor.now) told (g.R.Runner.living c.args.runner.now) front)
-    c.say_resumed.ensures.says
-    (two_never c.say_resumed.result statuses.Done statuses.Edge statuses.Restart c.say_resumed.ensures.answers (λ e. cc) (λ e. cc))
-    (two_never c.say_resumed.result statuses.Done statuses.Edge statuses.Reboot c.say_resumed.ensures.answers (λ e. cc) (λ e. cc))
+    let pending = loaded_pending g.D.Disk.tells g.D.Disk.may_leave g.J.Journal.stands g.J.Journal.end c.args.state c.args.disk.now c.requires.held c.in_default.not-Idle in
+    let opening = opening_at p.device d front.between.stands.device_is pending in
+    let edge = not_done c.say_resumed.result c.say_resumed.ensures.answers c.in_default-say_resumed.not-Done in
+    let held = g.K.Sink.held c.args.sink.now in
+    let last = g.K.Sink.held c.say_resumed.new.sink in (
+      nothing_called g.J.Journal.entries g.J.Journal.files g.met.D.Disk.laws c.args.disk.now c.args.disk.now told.list held last p Breaks c.say_resumed.result
+          (start_spares g.met.D.Disk.laws (IsBelow artifacts) c.args.disk.now)
+          (loaded_stands g.met.D.Disk.laws g.met.J.Journal.laws c.args.state c.args.disk.now c.requires.held p.device front.between.stands.device_is)
+          (front_bare p d (g.S.Supervise.world c.args.supervisor.now) told (g.R.Runner.living c.args.runner.now) front)
+          (inr edge)
+          (unopened_prints held last p.device c.say_resumed.result (subst (λ (l : List ℕ). AppendsFront held last l) opening c.say_resumed.ensures.says.0) edge)
+          tt,
+      resumes_some d Breaks pending (inl tt),
+    )
 
 pub returns-in_default-say_resumed-clause-own : goal.returns-in_default-say_resumed-clause-own
 returns-in_default-say_resumed-clause-own g c = two_never c.say_resumed.result statuses.Done statuses.Edge statuses.Library c.say_resumed.ensures.answers (λ e. cc) (λ e. cc)
@@ -136,21 +152,25 @@ end_call-requires-clause-placed g c =
     let q = c.requires.placed in
     let told = Listed g.R.Runner.list g.R.Runner.told g.R.Runner.asked c.args.runner.now in
     let last = Listed g.R.Runner.list g.R.Runner.told g.R.Runner.asked c.drive-driven.new.runner in
-    placed_at g.J.Journal.entries g.J.Journal.files (g.S.Supervise.world c.drive-driven.new.supervisor) last (g.R.Runner.living c.drive-driven.new.runner) c.args.disk.now c.drive-driven.new.disk told.list last.list
+    placed_at g.met.D.Disk.laws g.met.J.Journal.laws c.requires.apart (g.S.Supervise.world c.drive-driven.new.supervisor) last (g.R.Runner.living c.drive-driven.new.runner) c.args.disk.now c.drive-driven.new.disk told.list last.list
     (g.K.Sink.held c.say_resumed.new.sink) (g.K.Sink.held c.drive-driven.new.sink) q.0 c.drive-driven.result (c.drive-driven.ensures.course q.0 q.1) q.2
 
 pub returns-in-Done-clause-call : goal.returns-in-Done-clause-call
 returns-in-Done-clause-call g c = λ p front serves.
+    let d = loaded_device c.args.state in
     let told = Listed g.R.Runner.list g.R.Runner.told g.R.Runner.asked c.args.runner.now in
     let last = Listed g.R.Runner.list g.R.Runner.told g.R.Runner.asked c.drive-driven.new.runner in
-    let said = c.say_resumed.ensures.says in
-    called g.J.Journal.entries g.J.Journal.files (g.S.Supervise.world c.drive-driven.new.supervisor) last (g.R.Runner.living c.drive-driven.new.runner)
-    c.args.disk.now c.args.disk.now c.drive-driven.new.disk c.end_call.new.disk told.list last.list (g.R.Runner.list c.end_call.new.runner)
-    (g.K.Sink.held c.args.sink.now) (g.K.Sink.held c.say_resumed.new.sink) (g.K.Sink.held c.drive-driven.new.sink) (g.K.Sink.held c.end_call.new.sink) said.0 p c.drive-driven.result c.end_call.result
-    (start_spares g.met.D.Disk.laws (IsBelow artifacts) c.args.disk.now)
-    (said.2 (done_no_edge c.say_resumed.result c.in-Done.is))
+    let pending = loaded_pending g.D.Disk.tells g.D.Disk.may_leave g.J.Journal.stands g.J.Journal.end c.args.state c.args.disk.now c.requires.held c.in_default.not-Idle in
+    let opening = opening_at p.device d front.between.stands.device_is pending in
+    let held = g.K.Sink.held c.args.sink.now in
+    let mid = g.K.Sink.held c.say_resumed.new.sink in
+    let call = called g.met.D.Disk.laws g.met.J.Journal.laws c.requires.apart (g.S.Supervise.world c.drive-driven.new.supervisor) last (g.R.Runner.living c.drive-driven.new.runner)
+    c.args.disk.now c.drive-driven.new.disk c.end_call.new.disk told.list last.list (g.R.Runner.list c.end_call.new.runner)
+    held mid (g.K.Sink.held c.drive-driven.new.sink) (g.K.Sink.held c.end_call.new.sink) p c.drive-driven.result c.end_call.result
+    (subst (λ (l : List ℕ). Appends held mid l) opening (c.say_resumed.ensures.says.1 (done_no_edge c.say_resumed.result c.in-Done.is)))
     (c.drive-driven.ensures.course p front)
-    serves c.end_call.ensures.went c.end_call.ensures.still c.end_call.ensures.spared c.end_call.ensures.says c.end_call.ensures.silent c.end_call.ensures.answers
+    serves c.drive-driven.ensures.held c.end_call.ensures.went c.end_call.ensures.still c.end_call.ensures.spared c.end_call.ensures.unswept c.end_call.ensures.ends c.end_call.ensures.silent c.end_call.ensures.answers in
+    (call.0, resumes_some d call.0.ending pending (inl call.1))
 
 pub returns-in-Done-clause-own : goal.returns-in-Done-clause-own
 returns-in-Done-clause-own g c = answers_own c.end_call.result c.drive-driven.result c.end_call.ensures.answers

@@ -1,15 +1,23 @@
-use Rattle.std.proofs.Common.{◌≡◌, ◌⊎◌, inl, refl, sym, subst, arith}
+use Rattle.std.proofs.Common.{◌≡◌, ◌⊎◌, ◌∙◌, inl, inr, refl, sym, ap, subst, arith}
+use Rattle.std.specs.Prelude.{Err}
 use Rattle.disk_model.specs.Listing.{artifacts, IsBelow}
 use Rattle.nuc_base.specs.declared.status.Status.TheVariants as statuses
 use Rattle.device.specs.Devices.{Device}
 use Rattle.device.specs.Standing.{StandsFor}
 use Rattle.plan_core.specs.declared.fault.Refusal.{Refusal}
+use Rattle.plan_core.specs.Checks.{document_refusal}
+use Rattle.refusal_lines.specs.Lines.{refusal_line}
 use Rattle.refusal_lines.specs.Statuses.{status_of_refusal}
+use Rattle.intake.specs.declared.fault.Declined.TheVariants.{Refused}
 use Rattle.artifact_store.proofs.Walking.{start_spares}
 use Rattle.deploy_state.proofs.Steps.{in_hand_stands}
+use Rattle.deploy_state.specs.Accepting.{idle_log}
 use Rattle.deploy_state.specs.States.{idle_device}
+use Rattle.deploy_state.specs.Turning.{start_of}
 use Rattle.step_runner.specs.Entries.{Listed}
-use Rattle.deployments.proofs.Ending.{nothing_called}
+use Rattle.deployments.specs.Calls.{SaysRefusal}
+use Rattle.deployments.proofs.Ending.{declined_called}
+use Rattle.deployments.proofs.Taken.{unread_taken}
 use Rattle.deployments.proofs.Faults.{stays_later}
 use Rattle.deployments.proofs.Places.{open_bare, open_none}
 use Rattle.deployments.proofs.Statuses.{refusal_never, unread_never}
@@ -19,15 +27,24 @@ pub returns-in-Err-clause-call : goal.returns-in-Err-clause-call
 returns-in-Err-clause-call g c = λ p opens serves.
     let d = idle_device c.args.idle in
     let told = Listed g.R.Runner.list g.R.Runner.told g.R.Runner.asked c.args.runner.now in
-    let status = c.say_refusal.result in
-    inl (nothing_called g.J.Journal.entries g.J.Journal.files g.met.D.Disk.laws c.args.disk.now c.args.disk.now c.args.disk.now told.list (g.K.Sink.held c.args.sink.now) (g.K.Sink.held c.say_refusal.new.sink) p status
-    (start_spares g.met.D.Disk.laws (IsBelow artifacts) c.args.disk.now)
-    (λ i left. subst (λ (e : Device). StandsFor g.J.Journal.entries i e) (sym opens.stands.device_is) (in_hand_stands g.met.D.Disk.laws g.met.J.Journal.laws c.args.idle.log c.args.disk.now d c.requires.held.0 i left))
-    (start_spares g.met.D.Disk.laws (IsBelow artifacts) c.args.disk.now)
-    (open_bare p d (g.S.Supervise.world c.args.supervisor.now) told (g.R.Runner.living c.args.runner.now) c.requires.empty opens)
-    c.say_refusal.ensures.says
-    (refusal_never _ status statuses.Restart c.say_refusal.ensures.answers refl (λ e. cc))
-    (refusal_never _ status statuses.Reboot c.say_refusal.ensures.answers refl (λ e. cc)))
+    let declined = Refused (document_refusal c.in-Err.fault) in (
+      Err declined,
+      (λ o is. unread_taken d o (g.L.Library.content c.args.library.now) (g.L.Library.faults c.args.library.now) (g.L.Library.faults c.args.library.now) c.args.document.now c.in-Err.fault c.in-Err.ensures.exact),
+      inl (declined_called g.J.Journal.entries g.J.Journal.files g.met.D.Disk.laws (start_of g.J.Journal.end g.J.Journal.number g.J.Journal.turns (idle_log c.args.idle) (idle_device c.args.idle)) c.args.disk.now c.args.disk.now told.list (g.K.Sink.held c.args.sink.now) (g.K.Sink.held c.say_refusal.new.sink) p declined c.say_refusal.result
+          (start_spares g.met.D.Disk.laws (IsBelow artifacts) c.args.disk.now)
+          (λ i left. subst (λ (e : Device). StandsFor g.J.Journal.entries i e) (sym opens.stands.device_is) (in_hand_stands g.met.D.Disk.laws g.met.J.Journal.laws c.args.idle.log c.args.disk.now d c.requires.held.0 i left))
+          (open_bare p d (g.S.Supervise.world c.args.supervisor.now) told (g.R.Runner.living c.args.runner.now) c.requires.empty opens)
+          (ap (λ (e : Device). e.pending) opens.stands.device_is ∙ c.requires.held.1)
+          (subst (λ (r : Refusal). SaysRefusal (g.K.Sink.held c.args.sink.now) (g.K.Sink.held c.say_refusal.new.sink) c.say_refusal.result (status_of_refusal r) (refusal_line r)) c.from.ensures c.say_refusal.ensures.says)),
+    )
+
+pub returns-in-Ok-clause-call : goal.returns-in-Ok-clause-call
+returns-in-Ok-clause-call g c = λ p opens serves.
+    let t = c.run_deployment.ensures.call p opens serves in (
+      t.0,
+      (λ o is. inr (inr (c.in-Ok.document, c.in-Ok.ensures.exact, t.1 o is))),
+      t.2,
+    )
 
 pub returns-in-Err-clause-none : goal.returns-in-Err-clause-none
 returns-in-Err-clause-none g c =
