@@ -1,6 +1,6 @@
 -- What a crash leaves of a call that drives a deployment.
 use Rattle.std.proofs.Common.{◌≡◌, ◌⊎◌, ⊎_elim, inl, inr, ℕ, ◌+◌, List, [], ◌∷◌, ◌++◌, Option, Some, None, refl, sym, subst}
-use Rattle.std.specs.Prelude.{Bool, IsTrue}
+use Rattle.std.specs.Prelude.{Bool, IsTrue, Result}
 use Rattle.std.specs.Option.{IsSomeAnd}
 use Rattle.disk_model.specs.Disk.{Image, After, DiskLaws, Leaves}
 use Rattle.disk_model.specs.Listing.{artifacts, IsBelow}
@@ -14,6 +14,7 @@ use Rattle.checkpoint_log.specs.declared.slots.Slots.{Slots}
 use Rattle.nuc_base.specs.declared.status.Status.{Status}
 use Rattle.records.specs.Stored.{Plan, Record, Accepted}
 use Rattle.records.specs.declared.record.Origin.{Origin}
+use Rattle.records.specs.declared.record.Plan as code
 use Rattle.device.specs.Devices.{Device, no_device}
 use Rattle.device.specs.Lawful.{Allowed, MayAccept, Run, applied}
 use Rattle.device.specs.Sound.{IsAccepted, IsSound}
@@ -28,7 +29,9 @@ use Rattle.session.specs.Happenings.{records_of}
 use Rattle.session.specs.Places.{Place}
 use Rattle.driver.specs.Went.{StandsForFront}
 use Rattle.intake.specs.Takes.{LieElsewhere}
+use Rattle.intake.specs.declared.fault.Declined.{Declined}
 use Rattle.deployments.specs.Calls.{Call, GivenBack, Spared}
+use Rattle.deployments.specs.Documents.{DrivesTaken}
 use Rattle.nucleus_top.specs.Crashes.{AllowedOrFront, AllowedOrSame, LeavesFronts, LeavesSame}
 use Rattle.nucleus_top.specs.Opening.{Stands}
 use Rattle.nucleus_top.proofs.Images.{held_stands}
@@ -207,7 +210,8 @@ module _ {D : Type 0} {tells : Bool} {seen : D → Image} {may_leave : D → Ima
       pub kept_fronts : (call : IsCall) → LeavesFronts may_leave moment left_since old new p.device (records_of call.history)
       kept_fronts call = weaker laws old new _ _ (λ c h. inr h) (call_fronts call)
 
-      pub drive_fronts : p.device.pending ≡ None → (call : IsCall ⊎ IsGivenBack)
-          → LeavesFronts may_leave moment left_since old new p.device (elim call [ inl c ↦ records_of c.history | inr given ↦ Accepted given.plan ∷ [] ])
-      drive_fronts idle (inl call) = kept_fronts call
-      drive_fronts idle (inr given) = weaker laws old new _ _ (λ c h. inr h) (given_fronts idle given)
+      pub taken_fronts : p.device.pending ≡ None → (start : ℕ → ℕ) (taken : Result code.Plan Declined)
+          → (call : DrivesTaken slots_entries slots_files may_leave moment left_since old new old_list new_list old_held new_held p status start taken)
+          → LeavesFronts may_leave moment left_since old new p.device (elim call [ inl c ↦ records_of c.0.history | inr given ↦ Accepted given.0.plan ∷ [] ])
+      taken_fronts idle start taken (inl call) = kept_fronts call.0
+      taken_fronts idle start taken (inr given) = weaker laws old new _ _ (λ c h. inr h) (given_fronts idle given.0)

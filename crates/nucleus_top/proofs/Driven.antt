@@ -1,7 +1,9 @@
 -- What the steps of `deploy` and `resume` come to.
-use Rattle.std.proofs.Common.{◌≡◌, ◌≢◌, ◌∙◌, ◌⊎◌, inl, inr, ℕ, List, [], ◌∷◌, ◌++◌, refl, sym, ap, subst, append-nil, arith}
+use Rattle.std.proofs.Common.{◌≡◌, ◌≢◌, ◌∙◌, ◌⊎◌, inl, inr, ℕ, ◌<◌, List, [], ◌∷◌, ◌++◌, length, take, refl, sym, ap, subst, append-nil, arith, Some, None, IfSome}
 use Rattle.std.specs.Prelude.{◌≤◌, Bool, false, IsTrue, Option, Result, Ok, Err, true, IfOk, IfErr, IsErrOf, Contains}
-use Rattle.std.proofs.lemmas.Bool.{false≢true}
+use Rattle.std.proofs.lemmas.Bool.{cases_lt, false≢true}
+use Rattle.std.proofs.lemmas.List.{take_all}
+use Rattle.std.specs.Io.KnownBytes.{Consumes}
 use Rattle.nuc_base.proofs.Lists.{in_nil}
 use Rattle.nuc_base.specs.Faults.{Rose}
 use Rattle.nuc_base.specs.declared.status.Status.{Status}
@@ -18,12 +20,19 @@ use Rattle.disk_model.specs.Listing.{artifacts, IsBelow}
 use Rattle.disk_model.specs.Moments.{at_start, none_spares, then_spares, weaker}
 use Rattle.disk_model.specs.Spares.{Spares}
 use Rattle.gate_log.specs.Journal.{JournalLaws}
-use Rattle.checkpoint_log.specs.Slots.{slots_entries, slots_files}
+use Rattle.checkpoint_log.specs.Beginnings.{FirstSays}
+use Rattle.checkpoint_log.specs.Laws.{slots_laws}
+use Rattle.checkpoint_log.specs.Slots.{IsLive, SlotsStand, slots_entries, slots_files, slots_stands}
+use Rattle.checkpoint_log.specs.declared.slots.Slots.{Slots}
+use Rattle.library_core.specs.Library.{Content}
 use Rattle.records.specs.Stored.{Accepted}
+use Rattle.records.specs.declared.record.Origin.{Origin}
+use Rattle.records.specs.declared.record.Plan as code
 use Rattle.device.specs.Devices.{Device}
-use Rattle.deploy_state.specs.States.{InLoaded, activating_device, backing_device, booting_device, idle_device, rolling_device}
+use Rattle.deploy_state.specs.States.{InIdle, InLoaded, activating_device, backing_device, booting_device, idle_device, rolling_device}
 use Rattle.deploy_state.specs.declared.fault.LoadFault.{LoadFault}
 use Rattle.deploy_state.specs.declared.fault.LoadFault.TheVariants as load
+use Rattle.deploy_state.specs.declared.state.Idle.{Idle}
 use Rattle.deploy_state.specs.declared.state.Loaded.{Loaded}
 use Rattle.deploy_state.specs.declared.state.Loaded.TheVariants as loaded
 use Rattle.artifact_store.specs.Laws.{JournalsLieElsewhere}
@@ -38,15 +47,18 @@ use Rattle.session.specs.Follows.{Lives}
 use Rattle.session.specs.Places.{Place, beginning}
 use Rattle.driver.specs.Stands.{IsFront}
 use Rattle.intake.specs.Takes.{LieElsewhere}
+use Rattle.intake.specs.declared.fault.Declined.{Declined}
 use Rattle.intake.proofs.Staying.{hand_stays}
 use Rattle.acceptance.specs.Accepts.{IsOpen}
 use Rattle.deployments.specs.Calls.{Call, GivenBack, Says, Spared, Stays}
+use Rattle.deployments.specs.Documents.{DrivesTaken, TakesRead}
 use Rattle.nucleus_top.specs.Answers.{Input, IsUnchanged, Printed, Prints, Shelf, Store, Told, lines_of, status_of}
 use Rattle.nucleus_top.specs.Asked.{AsksFor, asked_of}
 use Rattle.nucleus_top.specs.Crashes.{LeavesFronts, LeavesSame}
-use Rattle.nucleus_top.specs.Drives.{DriveParts, Drives, IsDriven, IsDrivenFrom, IsFirst, IsPending, IsTurnedAway, TellsSweep, TellsUnread}
-use Rattle.nucleus_top.specs.Opening.{Stands as StandsFor}
+use Rattle.nucleus_top.specs.Drives.{DeploysOn, DriveParts, Drives, IsDeployed, IsDeployedOn, IsFirst, IsPending, IsResumedOn, IsTurnedAway, StartsFrom, TellsSweep, TellsUnread, slots_start}
+use Rattle.nucleus_top.specs.Opening.{HasEntry, Stands as StandsFor}
 use Rattle.nucleus_top.specs.Parts.{Parts}
+use Rattle.nucleus_top.specs.Planning.{IsFound}
 use Rattle.nucleus_top.specs.Refusing.{TellsFault}
 use Rattle.nucleus_top.specs.Words.{Asks, IsBuilt}
 use Rattle.nucleus_top.specs.declared.answer.Answer.{Answer}
@@ -54,6 +66,8 @@ use Rattle.nucleus_top.specs.declared.asking.Asked.{Asked}
 use Rattle.nucleus_top.specs.declared.answer.Answer.TheVariants.{Damaged, DiskFailed, NoMemory, NotInitialised, Pending, SourceFailed}
 use Rattle.nucleus_top.proofs.Crashes.{fronts_on, same_fronts, same_on}
 use Rattle.nucleus_top.proofs.Ends.{parts}
+use Rattle.nucleus_top.proofs.Proposals.{front_is_long, too_long}
+use Rattle.nucleus_top.proofs.Standing.{none_of}
 
 -- ---- answers
 
@@ -210,6 +224,10 @@ pub idle_ok : {T S E : Type 0} (P : T → Type 0) (of : S → T) (state : T) (re
 idle_ok P of state (Ok s) is holds = subst P is holds
 idle_ok P of state (Err e) is holds = tt
 
+pub ok_by : {T E : Type 0} (P Q : T → Type 0) (result : Result T E) → IfOk result P → ((s : T) → P s → Q s) → IfOk result Q
+ok_by P Q (Ok s) holds gives = gives s holds
+ok_by P Q (Err e) holds gives = tt
+
 -- the journal's slots do not lie in the folder of the artifacts
 pub slots_elsewhere : JournalsLieElsewhere → LieElsewhere slots_files
 slots_elsewhere law name (inl is) below = law.0 (subst (IsBelow artifacts) is below)
@@ -226,6 +244,71 @@ module _ {D J : Type 0} {tells : Bool} {seen : D → Image} {may_leave : D → I
   loaded_stays (loaded.Activating s) old new leaves held = ((hand_stays laws journal apart s.hand.log (activating_device s) old new leaves held.0.0, held.0.1), held.1)
   loaded_stays (loaded.Backing s) old new leaves held = ((hand_stays laws journal apart s.hand.log (backing_device s) old new leaves held.0.0, held.0.1), held.1)
   loaded_stays (loaded.Rolling s) old new leaves held = ((hand_stays laws journal apart s.hand.log (rolling_device s) old new leaves held.0.0, held.0.1), held.1)
+
+-- ---- where an entry begins
+
+-- a slot that stands behind entries is the live one
+live_of : (log : Slots) (image : Image) (payloads : List (List ℕ)) → HasEntry image → SlotsStand log image payloads → IsLive image log.number log.live.end payloads
+live_of log image payloads some h = by h.says
+  where
+    by : FirstSays payloads log.number ⊎ ((payloads ≡ []) × (log.number ≡ 0)) → IsLive image log.number log.live.end payloads
+    by (inl says) = record { closed = h.closed; says = says; older = h.older }
+    by (inr none) = absurd (some (none_of image (subst (λ (ps : List (List ℕ)). slots_entries image ps) none.0 (slots_laws.holds log image payloads h))))
+
+pub starts_from : {D : Type 0} {tells : Bool} {may_leave : D → Image → Type 0} {end : Slots → ℕ} (s : Idle Slots) (disk : D) (image : Image) → InIdle tells may_leave slots_stands end s disk
+    → may_leave disk image → HasEntry image → StartsFrom image (idle_device s) (slots_start s.log (idle_device s))
+starts_from s disk image held left some = record {
+  number = s.log.number;
+  end = s.log.live.end;
+  payloads = held.0.payloads;
+  live = live_of s.log image held.0.payloads some (held.0.behind.each image left);
+  start_is = refl;
+}
+
+-- ---- the document
+
+module _ (d : Device) (origin : Origin) (content : Option Content) (before after : ℕ) (taken : Result code.Plan Declined) where
+  -- the first 524,289 bytes are enough
+  whole_takes : (whole front : List ℕ) → front ≡ take 524289 whole → TakesRead d origin content before after front taken → TakesRead d origin content before after whole taken
+  whole_takes whole front is takes =
+      elim (cases_lt 524288 (length whole)) [
+        | inl long ↦ by long takes
+        | inr short ↦ subst (λ (bytes : List ℕ). TakesRead d origin content before after bytes taken) (is ∙ take_all 524289 whole (omega (arith, short))) takes
+      ]
+    where
+      by : 524288 < length whole → TakesRead d origin content before after front taken → TakesRead d origin content before after whole taken
+      by long (inl memory) = inl memory
+      by long (inr (inl fails)) = inr (inl (fails.0, too_long whole front is long fails.0 fails.1, fails.2))
+      by long (inr (inr reads)) = absurd (omega (arith, front_is_long whole front is long, reads.1.1.within))
+
+  pub document_takes : (left : Option (List ℕ)) (front : List ℕ) → IfSome left (λ whole. front ≡ take 524289 whole) → TakesRead d origin content before after front taken
+      → (bytes : List ℕ) × ((whole : List ℕ) → left ≡ Some whole → bytes ≡ whole) × TakesRead d origin content before after bytes taken
+  document_takes None front is takes = (front, λ whole told. cc, takes)
+  document_takes (Some document) front is takes = (document, λ whole told. cc, whole_takes document front is takes)
+
+module _ {D : Type 0} (may_leave : D → Image → Type 0) (moment : D → ℕ) (left_since : D → ℕ → Image → Type 0) (old new : D) (old_list new_list : Option (List RunnerEntry)) (printed : Printed) (result : Status)
+    (d : Device) (start : ℕ → ℕ) (input : Input) (library : Shelf) where
+  -- the document of the source, where its front was deployed
+  pub document_deploys : (front : List ℕ) → IfSome input.document (λ whole. front ≡ take 524289 whole) → Consumes input.document input.rest front → length front ≤ 524289
+      → IsDeployedOn may_leave moment left_since old new old_list new_list printed result d start library front
+      → DeploysOn may_leave moment left_since old new old_list new_list printed result d start input library
+  document_deploys front is consumed short h =
+      let document = document_takes d h.origin library.content library.faults_before library.faults_after h.taken input.document front is h.takes in (
+        document.0,
+        record { whole = document.1; read = record { bytes = front; consumed = consumed; short = short } },
+        record {
+          place = h.place;
+          begins = h.begins;
+          serves = h.serves;
+          device_is = h.device_is;
+          origin = h.origin;
+          origin_is = h.origin_is;
+          taken = h.taken;
+          takes = document.2;
+          call = h.call;
+          images = h.images;
+        },
+      )
 
 -- ---- a call begins
 
@@ -302,8 +385,11 @@ module _ {D : Type 0} {tells : Bool} {seen : D → Image} {may_leave : D → Ima
       went = call.went;
       after = call.after;
       bare = call.bare;
+      ending = call.ending;
+      answers = call.answers;
       prints = call.prints;
       ends = call.ends;
+      stands = call.stands;
     }
 
     given_on : (p : Place) → GivenBack slots_entries slots_files may_leave moment left_since mid new old_list new_list old_held new_held p result
@@ -320,45 +406,78 @@ module _ {D : Type 0} {tells : Bool} {seen : D → Image} {may_leave : D → Ima
       bare = given.bare;
     }
 
-    either_on : (p : Place)
-        → Call slots_entries slots_files may_leave moment left_since mid new old_list new_list old_held new_held p result ⊎ GivenBack slots_entries slots_files may_leave moment left_since mid new old_list new_list old_held new_held p result
-        → Call slots_entries slots_files may_leave moment left_since old new old_list new_list old_held new_held p result ⊎ GivenBack slots_entries slots_files may_leave moment left_since old new old_list new_list old_held new_held p result
-    either_on p (inl call) = inl (call_on p call)
-    either_on p (inr given) = inr (given_on p given)
+    module _ (p : Place) (start : ℕ → ℕ) (taken : Result code.Plan Declined) where
+      taken_on : DrivesTaken slots_entries slots_files may_leave moment left_since mid new old_list new_list old_held new_held p result start taken
+          → DrivesTaken slots_entries slots_files may_leave moment left_since old new old_list new_list old_held new_held p result start taken
+      unfolding call_on given_on
+      taken_on (inl call) = inl (call_on p call.0, call.1)
+      taken_on (inr given) = inr (given_on p given.0, given.1)
 
-    images_on : (p : Place) (d : Device) → LeavesFronts may_leave moment left_since old mid d []
-        → (call : Call slots_entries slots_files may_leave moment left_since mid new old_list new_list old_held new_held p result ⊎ GivenBack slots_entries slots_files may_leave moment left_since mid new old_list new_list old_held new_held p result)
-        → LeavesFronts may_leave moment left_since mid new d (elim call [ inl c ↦ records_of c.history | inr given ↦ Accepted given.plan ∷ [] ])
-        → LeavesFronts may_leave moment left_since old new d (elim (either_on p call) [ inl c ↦ records_of c.history | inr given ↦ Accepted given.plan ∷ [] ])
-    unfolding either_on call_on given_on
-    images_on p d images (inl call) then = fronts_on laws old mid new d (records_of call.history) images then
-    images_on p d images (inr given) then = fronts_on laws old mid new d (Accepted given.plan ∷ []) images then
+      taken_images : (d : Device) → LeavesFronts may_leave moment left_since old mid d []
+          → (call : DrivesTaken slots_entries slots_files may_leave moment left_since mid new old_list new_list old_held new_held p result start taken)
+          → LeavesFronts may_leave moment left_since mid new d (elim call [ inl c ↦ records_of c.0.history | inr given ↦ Accepted given.0.plan ∷ [] ])
+          → LeavesFronts may_leave moment left_since old new d (elim (taken_on call) [ inl c ↦ records_of c.0.history | inr given ↦ Accepted given.0.plan ∷ [] ])
+      unfolding taken_on call_on given_on
+      taken_images d images (inl call) then = fronts_on laws old mid new d (records_of call.0.history) images then
+      taken_images d images (inr given) then = fronts_on laws old mid new d (Accepted given.0.plan ∷ []) images then
 
-    pub driven_on : (d : Device) → LeavesFronts may_leave moment left_since old mid d [] → IsDrivenFrom d may_leave moment left_since mid new old_list new_list old_held new_held result
-        → IsDrivenFrom d may_leave moment left_since old new old_list new_list old_held new_held result
-    driven_on d images driven = record {
-      place = driven.place;
-      start = driven.start;
-      serves = driven.serves;
-      device_is = driven.device_is;
-      call = either_on driven.place driven.call;
-      images = images_on driven.place d images driven.call driven.images;
+  module _ (old mid new : D) (first : Spared may_leave moment left_since old mid) (old_list new_list : Option (List RunnerEntry)) (printed : Printed) (result : Status) (d : Device)
+      (images : LeavesFronts may_leave moment left_since old mid d []) where
+    pub deployed_on : (start : ℕ → ℕ) (library : Shelf) (bytes : List ℕ) → IsDeployedOn may_leave moment left_since mid new old_list new_list printed result d start library bytes
+        → IsDeployedOn may_leave moment left_since old new old_list new_list printed result d start library bytes
+    deployed_on start library bytes h = record {
+      place = h.place;
+      begins = h.begins;
+      serves = h.serves;
+      device_is = h.device_is;
+      origin = h.origin;
+      origin_is = h.origin_is;
+      taken = h.taken;
+      takes = h.takes;
+      call = taken_on old mid new first old_list new_list printed.before printed.after result h.place start h.taken h.call;
+      images = taken_images old mid new first old_list new_list printed.before printed.after result h.place start h.taken d images h.call h.images;
     }
 
-    pub ran_on : (d : Device) (Same : Type 0) → (IsTrue tells → StandsFor (seen old) d) → (IsTrue tells → StandsFor (seen mid) d) → LeavesSame may_leave moment left_since seen old mid
-        → (IsTurnedAway seen may_leave moment left_since mid new old_held new_held result × Same) ⊎ IsDrivenFrom d may_leave moment left_since mid new old_list new_list old_held new_held result
-        → (IsTurnedAway seen may_leave moment left_since old new old_held new_held result × Same) ⊎ IsDriven tells seen may_leave moment left_since old new old_list new_list old_held new_held result
-    ran_on d Same stands then_stands images (inl away) = inl (
-      record { spared = then_spared old mid new first away.0.spared; images = same_on laws old mid new d stands then_stands images away.0.images; says = away.0.says },
-      away.1,
-    )
-    ran_on d Same stands then_stands images (inr driven) = inr (d, stands, driven_on d (same_fronts laws old mid d stands images) driven)
+    pub resumed_on : IsResumedOn may_leave moment left_since mid new old_list new_list printed result d → IsResumedOn may_leave moment left_since old new old_list new_list printed result d
+    unfolding call_on
+    resumed_on h = record {
+      place = h.place;
+      begins = h.begins;
+      serves = h.serves;
+      device_is = h.device_is;
+      call = call_on old mid new first old_list new_list printed.before printed.after result h.place h.call;
+      resumes = h.resumes;
+      images = fronts_on laws old mid new d (records_of h.call.history) images h.images;
+    }
+
+  -- it is turned away behind such a call, or goes on with the device for which the journal stood
+  pub ran_on : (old mid new : D) (first : Spared may_leave moment left_since old mid) (old_list new_list : Option (List RunnerEntry)) (printed : Printed) (result : Status)
+      (store : Store) (input : Input) (library : Shelf) (d : Device) (start : ℕ → ℕ) (Same : Type 0)
+      → IsFound store d → (IsTrue store.tells → StartsFrom store.before d start) → (IsTrue tells → StandsFor (seen old) d) → (IsTrue tells → StandsFor (seen mid) d)
+      → LeavesSame may_leave moment left_since seen old mid
+      → (IsTurnedAway seen may_leave moment left_since mid new printed.before printed.after result × Same) ⊎ DeploysOn may_leave moment left_since mid new old_list new_list printed result d start input library
+      → (IsTurnedAway seen may_leave moment left_since old new printed.before printed.after result × Same) ⊎ IsDeployed may_leave moment left_since old new old_list new_list printed result store input library
+  ran_on old mid new first old_list new_list printed result store input library d start Same found starts stands then_stands images (inl away) = inl (
+    record { spared = then_spared old mid new first away.0.spared; images = same_on laws old mid new d stands then_stands images away.0.images; says = away.0.says },
+    away.1,
+  )
+  ran_on old mid new first old_list new_list printed result store input library d start Same found starts stands then_stands images (inr went) = inr (
+    d,
+    start,
+    found,
+    starts,
+    (went.0, went.1, deployed_on old mid new first old_list new_list printed result d (same_fronts laws old mid d stands images) start library went.0 went.2),
+  )
 
 -- ---- words
 
 -- words that ask this command ask no other that is built
 pub no_quiet : AsksOnce → (words : List (List ℕ)) (root : List ℕ) (order other : Order) → (IsBuilt other → ⊥) → IsOrder words root other → Asks words order → ⊥
 no_quiet once words root order other unbuilt is asks = unbuilt (subst IsBuilt (once words asks.root root order other asks.is_order is).1 asks.is_built)
+
+-- nor do words that ask to deploy ask to resume
+pub not_both : AsksOnce → (words : List (List ℕ)) (root other : List ℕ) → IsOrder words root orders.Deploy → IsOrder words other orders.Resume → ⊥
+not_both once words root other deploys resumes = let same : orders.Deploy ≡ orders.Resume = (once words root other orders.Deploy orders.Resume deploys resumes).1 in cc
 
 -- nor do words that ask another command ask to drive
 pub no_drive : AsksOnce → (words : List (List ℕ)) (root : List ℕ) (order : Order) → IsOrder words root order → order ≢ orders.Deploy → order ≢ orders.Resume → Drives words → ⊥

@@ -31,7 +31,7 @@ use Rattle.nucleus_top.proofs.Unrefused.{only_library}
 -- ---- a longer text reads as its front
 
 module _ (whole front : List ℕ) (is : front ≡ take 524289 whole) (long : 524288 < length whole) where
-  front_is_long : 524288 < length front
+  pub front_is_long : 524288 < length front
   front_is_long = omega (arith, ap length is, length-take 524289 whole)
 
   tree_too_long : (t : TreeFault) → (t ≡ tree.NoMemory → ⊥) → IsFirstFault front 524288 t → IsFirstFault whole 524288 t
@@ -41,7 +41,7 @@ module _ (whole front : List ℕ) (is : front ≡ take 524289 whole) (long : 524
   tree_too_long tree.NotWhole other fault = absurd (omega (arith, front_is_long, fault.0))
   tree_too_long tree.NoMemory other fault = absurd (other refl)
 
-  too_long : (f : DocFault) → IsFault front f → IsFault whole f
+  pub too_long : (f : DocFault) → IsFault front f → IsFault whole f
   too_long f (inl fault) = inl (fault.0, fault.1, tree_too_long fault.0 fault.3 fault.2, fault.3)
   too_long f (inr fault) = absurd (omega (arith, front_is_long, fault.1.within))
 
@@ -68,7 +68,7 @@ module _ (d : Device) (origin : Origin) (content : Option Content) (before after
 
 -- ---- a device without a pending deployment
 
-some_of : (x : Option Origin) → IsSome x → (o : Origin) × (x ≡ Some o)
+pub some_of : (x : Option Origin) → IsSome x → (o : Origin) × (x ≡ Some o)
 some_of None some = absurd (false≢true some)
 some_of (Some o) some = (o, refl)
 

@@ -1,15 +1,20 @@
 -- The commands that drive a deployment, `deploy` and `resume`, and what such a call promises.
-use Rattle.std.specs.Prelude.{◌≡◌, ◌≢◌, ◌⊎◌, ℕ, Bool, false, IsTrue, List, [], ◌∷◌, Option, ⊤}
+use Rattle.std.specs.Prelude.{◌≡◌, ◌≢◌, ◌⊎◌, ℕ, ◌+◌, false, IsTrue, List, [], ◌∷◌, Option, Some, Result, ⊤}
+use Rattle.std.specs.Ordering.{is_lt, nat_cmp}
 use Rattle.std.proofs.Common.{inl, inr}
 use Rattle.disk_model.specs.Disk.{Image}
 use Rattle.nuc_base.specs.Faults.{Rose}
 use Rattle.nuc_base.specs.declared.status.Status.{Status}
 use Rattle.nuc_base.specs.declared.status.Status.TheVariants as status
-use Rattle.checkpoint_log.specs.Slots.{slots_entries, slots_files}
+use Rattle.checkpoint_log.specs.Slots.{IsLive, slots_entries, slots_files, slots_turn}
+use Rattle.checkpoint_log.specs.declared.slots.Slots.{Slots}
 use Rattle.command_words.specs.Words.{IsOrder}
 use Rattle.command_words.specs.declared.order.Order.TheVariants.{Deploy, Resume}
 use Rattle.records.specs.Stored.{Accepted}
+use Rattle.records.specs.declared.record.Origin.{Origin}
+use Rattle.records.specs.declared.record.Plan as code
 use Rattle.device.specs.Devices.{Device}
+use Rattle.deploy_state.specs.Turning.{can_turn, front_bytes, start_of, starts_at}
 use Rattle.artifact_store.specs.declared.fault.SweepFault.{SweepFault}
 use Rattle.artifact_store.specs.declared.fault.SweepFault.TheVariants as sweep
 use Rattle.edges.specs.declared.source.ReadFault.{ReadFault}
@@ -18,10 +23,13 @@ use Rattle.step_runner.specs.declared.entries.RunnerEntry.{RunnerEntry}
 use Rattle.session.specs.Courses.{IsStart}
 use Rattle.session.specs.Happenings.{records_of}
 use Rattle.session.specs.Places.{Place}
-use Rattle.deployments.specs.Calls.{Call, Elsewhere, GivenBack, Says, Spared}
-use Rattle.nucleus_top.specs.Answers.{HasRisen, Input, Printed, Shelf, Store}
+use Rattle.intake.specs.declared.fault.Declined.{Declined}
+use Rattle.deployments.specs.Calls.{Call, Elsewhere, Says, Spared}
+use Rattle.deployments.specs.Documents.{DrivesTaken, TakesRead}
+use Rattle.deployments.specs.Endings.{Resumes}
+use Rattle.nucleus_top.specs.Answers.{HasRisen, Input, IsReadUpTo, Printed, Shelf, Store}
 use Rattle.nucleus_top.specs.Crashes.{LeavesFronts, LeavesSame}
-use Rattle.nucleus_top.specs.Opening.{Stands}
+use Rattle.nucleus_top.specs.Planning.{IsFound}
 use Rattle.nucleus_top.specs.declared.answer.Answer.{Answer}
 use Rattle.nucleus_top.specs.declared.answer.Answer.TheVariants.{Damaged, DiskFailed, NoMemory, NotInitialised, Pending, SourceFailed}
 
@@ -67,21 +75,67 @@ module _ {D : Type 0} (seen : D → Image) (may_leave : D → Image → Type 0) 
     pub images : LeavesSame may_leave moment left_since seen old new
     pub says : Says old_held new_held result
 
--- From the start of a call with this device one deployment goes on, or its plan is given back for want of memory. A crash
--- leaves what a front of the records makes of the device: of those of the history, or of the one that takes the plan.
-pub record IsDrivenFrom (d : Device) {D : Type 0} (may_leave : D → Image → Type 0) (moment : D → ℕ) (left_since : D → ℕ → Image → Type 0) (old new : D) (old_list new_list : Option (List RunnerEntry)) (old_held new_held : Option (List ℕ)) (result : Status) : Type 0 where
-  pub place : Place
-  pub start : IsStart place
-  pub serves : place.serves ≡ false
-  pub device_is : place.device ≡ d
-  pub call : Call slots_entries slots_files may_leave moment left_since old new old_list new_list old_held new_held place result
-      ⊎ GivenBack slots_entries slots_files may_leave moment left_since old new old_list new_list old_held new_held place result
-  pub images : LeavesFronts may_leave moment left_since old new d (elim call [ inl c ↦ records_of c.history | inr given ↦ Accepted given.plan ∷ [] ])
+-- ---- `deploy`
 
--- So it does with the device for which the journal stands, where the disk tells it.
-abbrev pub IsDriven : {D : Type 0} → Bool → (D → Image) → (D → Image → Type 0) → (D → ℕ) → (D → ℕ → Image → Type 0) → D → D → Option (List RunnerEntry) → Option (List RunnerEntry) → Option (List ℕ) → Option (List ℕ) → Status → Type 0
-IsDriven tells seen may_leave moment left_since old new old_list new_list old_held new_held result =
-    (d : Device) × (IsTrue tells → Stands (seen old) d) × IsDrivenFrom d may_leave moment left_since old new old_list new_list old_held new_held result
+-- from where an entry of so many bytes would be written in the journal that is in hand
+abbrev pub slots_start : Slots → Device → ℕ → ℕ
+slots_start log d = start_of (λ (l : Slots). l.live.end) (λ (l : Slots). l.number) slots_turn log d
+
+-- So it is in a journal whose live slot has this number and ends here: behind its entries, or where it is begun anew first,
+-- behind those of the device.
+pub record StartsFrom (image : Image) (d : Device) (start : ℕ → ℕ) : Type 0 where
+  pub number : ℕ
+  pub end : ℕ
+  pub payloads : List (List ℕ)
+  pub live : IsLive image number end payloads
+  pub start_is : start ≡ starts_at (can_turn (is_lt (nat_cmp number 18446744073709551615)) number) end (front_bytes (number + 1) d)
+
+-- The document is all that the source had left, where it tells that, and at most one byte past the limit of a document was
+-- read of it.
+pub record IsDocument (input : Input) (bytes : List ℕ) : Type 0 where
+  pub whole : (document : List ℕ) → input.document ≡ Some document → bytes ≡ document
+  pub read : IsReadUpTo 524289 input
+
+module _ {D : Type 0} (may_leave : D → Image → Type 0) (moment : D → ℕ) (left_since : D → ℕ → Image → Type 0) (old new : D) (old_list new_list : Option (List RunnerEntry)) (printed : Printed) (result : Status) where
+  -- The document is taken in on this device or not, by the checks in their order, and then from the start of the call one
+  -- deployment goes on by its plan, or the plan is given back for want of memory. A crash leaves what a front of the records
+  -- makes of the device: of those of the history, or of the one that takes the plan.
+  pub record IsDeployedOn (d : Device) (start : ℕ → ℕ) (library : Shelf) (bytes : List ℕ) : Type 0 where
+    pub place : Place
+    pub begins : IsStart place
+    pub serves : place.serves ≡ false
+    pub device_is : place.device ≡ d
+    pub origin : Origin
+    pub origin_is : d.origin ≡ Some origin
+    pub taken : Result code.Plan Declined
+    pub takes : TakesRead d origin library.content library.faults_before library.faults_after bytes taken
+    pub call : DrivesTaken slots_entries slots_files may_leave moment left_since old new old_list new_list printed.before printed.after place result start taken
+    pub images : LeavesFronts may_leave moment left_since old new d (elim call [ inl c ↦ records_of c.0.history | inr given ↦ Accepted given.0.plan ∷ [] ])
+
+  -- so it is with the document of the source
+  abbrev pub DeploysOn : Device → (ℕ → ℕ) → Input → Shelf → Type 0
+  DeploysOn d start input library = (bytes : List ℕ) × IsDocument input bytes × IsDeployedOn d start library bytes
+
+  -- and with the device for which the journal stands, where the disk tells it
+  abbrev pub IsDeployed : Store → Input → Shelf → Type 0
+  IsDeployed store input library = (d : Device) × (start : ℕ → ℕ) × IsFound store d × (IsTrue store.tells → StartsFrom store.before d start) × DeploysOn d start input library
+
+  -- ---- `resume`
+
+  -- From the start of a call with this device its pending deployment goes on, where it has one. A crash leaves what a front of
+  -- the records makes of the device.
+  pub record IsResumedOn (d : Device) : Type 0 where
+    pub place : Place
+    pub begins : IsStart place
+    pub serves : place.serves ≡ false
+    pub device_is : place.device ≡ d
+    pub call : Call slots_entries slots_files may_leave moment left_since old new old_list new_list printed.before printed.after place result
+    pub resumes : Resumes d call.ending
+    pub images : LeavesFronts may_leave moment left_since old new d (records_of call.history)
+
+  -- so it is with the device for which the journal stands, where the disk tells it
+  abbrev pub IsResumed : Store → Type 0
+  IsResumed store = (d : Device) × IsFound store d × IsResumedOn d
 
 -- ---- faults, and files
 

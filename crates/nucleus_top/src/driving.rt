@@ -3,11 +3,15 @@ ghost use Rattle.std.specs.Prelude.{◌≡◌, ◌≢◌, ◌⊎◌, ◌≤◌, 
 ghost use Rattle.nuc_base.specs.Faults.{Rose};
 ghost use Rattle.nuc_base.specs.declared.status.Status.TheVariants as statuses;
 ghost use Rattle.checkpoint_log.specs.Slots.{slots_files, slots_stands};
+ghost use Rattle.deploy_state.specs.Accepting.{idle_log};
 ghost use Rattle.deploy_state.specs.States.{InIdle, InLoaded, idle_device, loaded_device};
 ghost use Rattle.deployments.specs.Calls.{Elsewhere, Spared, Stays};
+ghost use Rattle.checkpoint_log.specs.declared.slots.Slots.{Slots as Journal};
+ghost use Rattle.deploy_state.specs.declared.state.Idle as idles;
+ghost use Rattle.nucleus_top.specs.Answers.{input_of, printed_of, shelf_of, store_of};
 ghost use Rattle.nucleus_top.specs.Crashes.{LeavesSame};
-ghost use Rattle.nucleus_top.specs.Opening.{Stands};
-ghost use Rattle.nucleus_top.specs.Drives.{IsDriven, IsDrivenFrom, IsFirst, IsPending, IsTurnedAway, TellsSweep, TellsUnread};
+ghost use Rattle.nucleus_top.specs.Opening.{HasEntry, Stands};
+ghost use Rattle.nucleus_top.specs.Drives.{DeploysOn, IsDeployed, IsDeployedOn, IsFirst, IsPending, IsResumed, IsTurnedAway, StartsFrom, TellsSweep, TellsUnread, slots_start};
 
 use crate::answer::Answer;
 use crate::opening::{HasDevice, open, refused};
@@ -51,7 +55,8 @@ fn swept<T: HasDevice + Drop, D: Disk>(alloc: Global, state: T, disk: &mut D) ->
 
 /// The device for which the journal stands, once stray files are swept.
 fn open_swept<D: Disk>(alloc: Global, disk: &mut D) -> Result<Loaded<Slots>, Answer>
-    ensures opened { IsTrue D.tells → IfOk result (λ s. Stands (D.seen disk.old) (loaded_device s)) }
+    ensures opened { IsTrue D.tells → IfOk result (λ s. HasEntry (D.seen disk.old) × Stands (D.seen disk.old) (loaded_device s)) }
+    ensures start { IsTrue D.tells → IfOk result (λ s. (idle : idles.Idle Journal) → s ≡ Loaded.Idle idle → StartsFrom (D.seen disk.old) (idle_device idle) (slots_start (idle_log idle) (idle_device idle))) }
     ensures held { IfOk result (λ s. InLoaded D.tells D.may_leave slots_stands (λ log. log.live.end) s disk.new) }
     ensures images { LeavesSame D.may_leave D.moment D.left_since D.seen disk.old disk.new }
     ensures spared { Spared D.may_leave D.moment D.left_since disk.old disk.new }
@@ -94,7 +99,8 @@ fn idle_of(alloc: Global, state: Loaded<Slots>) -> Result<Idle<Slots>, Answer>
 
 /// The same of a device without a pending deployment. One with a pending deployment is refused.
 fn open_idle<D: Disk>(alloc: Global, disk: &mut D) -> Result<Idle<Slots>, Answer>
-    ensures opened { IsTrue D.tells → IfOk result (λ s. Stands (D.seen disk.old) (idle_device s)) }
+    ensures opened { IsTrue D.tells → IfOk result (λ s. HasEntry (D.seen disk.old) × Stands (D.seen disk.old) (idle_device s)) }
+    ensures start { IsTrue D.tells → IfOk result (λ s. StartsFrom (D.seen disk.old) (idle_device s) (slots_start (idle_log s) (idle_device s))) }
     ensures held { IfOk result (λ s. InIdle D.tells D.may_leave slots_stands (λ log. log.live.end) s disk.new) }
     ensures images { LeavesSame D.may_leave D.moment D.left_since D.seen disk.old disk.new }
     ensures spared { Spared D.may_leave D.moment D.left_since disk.old disk.new }
@@ -132,7 +138,8 @@ fn deploy_document<D: Disk, L: Library, K: Sink, R: Runner>(
 ) -> Status
     requires held { InIdle D.tells D.may_leave slots_stands (λ log. log.live.end) idle disk.old }
     requires none { R.living runner.old ≡ [] }
-    ensures driven { IsDrivenFrom (idle_device idle) D.may_leave D.moment D.left_since disk.old disk.new (R.list runner.old) (R.list runner.new) (K.held sink.old) (K.held sink.new) result }
+    ensures driven { IsDeployedOn D.may_leave D.moment D.left_since disk.old disk.new (R.list runner.old) (R.list runner.new) (printed_of K.held K.faults sink.old sink.new) result
+        (idle_device idle) (slots_start (idle_log idle) (idle_device idle)) (shelf_of L.content L.faults library.old library.new) document.now }
     ensures none { R.living runner.new ≡ [] }
     ensures others { IsTrue D.tells → Elsewhere slots_files (D.seen disk.old) (D.seen disk.new) }
     ensures disk { result ≡ statuses.Disk → Rose (D.faults disk.old) (D.faults disk.new) }
@@ -173,7 +180,8 @@ fn deploy_read<D: Disk, L: Library, S: Source, K: Sink, R: Runner>(
     requires held { InIdle D.tells D.may_leave slots_stands (λ log. log.live.end) idle disk.old }
     requires none { R.living runner.old ≡ [] }
     ensures ran { (IsTurnedAway D.seen D.may_leave D.moment D.left_since disk.old disk.new (K.held sink.old) (K.held sink.new) result × (runner.new ≡ runner.old))
-        ⊎ IsDrivenFrom (idle_device idle) D.may_leave D.moment D.left_since disk.old disk.new (R.list runner.old) (R.list runner.new) (K.held sink.old) (K.held sink.new) result }
+        ⊎ DeploysOn D.may_leave D.moment D.left_since disk.old disk.new (R.list runner.old) (R.list runner.new) (printed_of K.held K.faults sink.old sink.new) result
+        (idle_device idle) (slots_start (idle_log idle) (idle_device idle)) (input_of S.left S.faults source.old source.new) (shelf_of L.content L.faults library.old library.new) }
     ensures none { R.living runner.new ≡ [] }
     ensures others { IsTrue D.tells → Elsewhere slots_files (D.seen disk.old) (D.seen disk.new) }
     ensures disk { result ≡ statuses.Disk → Rose (D.faults disk.old) (D.faults disk.new) }
@@ -208,7 +216,8 @@ pub(crate) fn deploy<D: Disk, L: Library, S: Source, K: Sink, R: Runner>(
 ) -> Status
     requires none { R.living runner.old ≡ [] }
     ensures ran { (IsTurnedAway D.seen D.may_leave D.moment D.left_since disk.old disk.new (K.held sink.old) (K.held sink.new) result × (runner.new ≡ runner.old))
-        ⊎ IsDriven D.tells D.seen D.may_leave D.moment D.left_since disk.old disk.new (R.list runner.old) (R.list runner.new) (K.held sink.old) (K.held sink.new) result }
+        ⊎ IsDeployed D.may_leave D.moment D.left_since disk.old disk.new (R.list runner.old) (R.list runner.new) (printed_of K.held K.faults sink.old sink.new) result
+        (store_of D.tells D.seen D.faults disk.old disk.new) (input_of S.left S.faults source.old source.new) (shelf_of L.content L.faults library.old library.new) }
     ensures none { R.living runner.new ≡ [] }
     ensures others { IsTrue D.tells → Elsewhere slots_files (D.seen disk.old) (D.seen disk.new) }
     ensures disk { result ≡ statuses.Disk → Rose (D.faults disk.old) (D.faults disk.new) }
@@ -238,7 +247,8 @@ pub(crate) fn resume<D: Disk, K: Sink, R: Runner>(
 ) -> Status
     requires none { R.living runner.old ≡ [] }
     ensures ran { (IsTurnedAway D.seen D.may_leave D.moment D.left_since disk.old disk.new (K.held sink.old) (K.held sink.new) result × (runner.new ≡ runner.old))
-        ⊎ IsDriven D.tells D.seen D.may_leave D.moment D.left_since disk.old disk.new (R.list runner.old) (R.list runner.new) (K.held sink.old) (K.held sink.new) result }
+        ⊎ IsResumed D.may_leave D.moment D.left_since disk.old disk.new (R.list runner.old) (R.list runner.new) (printed_of K.held K.faults sink.old sink.new) result
+        (store_of D.tells D.seen D.faults disk.old disk.new) }
     ensures none { R.living runner.new ≡ [] }
     ensures others { IsTrue D.tells → Elsewhere slots_files (D.seen disk.old) (D.seen disk.new) }
     ensures disk { result ≡ statuses.Disk → Rose (D.faults disk.old) (D.faults disk.new) }

@@ -2,7 +2,8 @@ use Rattle.std.proofs.Common.{◌≡◌, ◌∙◌, inl, inr, refl, ap, arith}
 use Rattle.std.specs.Prelude.{Err}
 use Rattle.nuc_base.specs.Faults.{Rose}
 use Rattle.deploy_state.specs.States.{idle_device}
-use Rattle.nucleus_top.specs.Answers.{Printed, printed_of}
+use Rattle.nucleus_top.specs.Answers.{Input, Printed, Shelf, Store, input_of, printed_of, shelf_of, store_of}
+use Rattle.nucleus_top.specs.Drives.{slots_start}
 use Rattle.nucleus_top.proofs.Driven.{ran_on, says_of, stays, stays_on, tells}
 use Rattle.nucleus_top.proofs.Images.{held_stands}
 use Rattle.nucleus_top.proofs.driving.deploy.Goals as goal
@@ -17,10 +18,16 @@ deploy_read-requires-clause-none g c = c.requires.none
 
 pub returns-in-Ok-clause-ran : goal.returns-in-Ok-clause-ran
 returns-in-Ok-clause-ran g c =
+    let d = idle_device c.in-Ok.idle in
+    let store : Store = store_of g.D.Disk.tells g.D.Disk.seen g.D.Disk.faults c.args.disk.now c.deploy_read.new.disk in
+    let input : Input = input_of g.S.Source.left g.S.Source.faults c.args.source.now c.deploy_read.new.source in
+    let library : Shelf = shelf_of g.L.Library.content g.L.Library.faults c.args.library.now c.deploy_read.new.library in
+    let printed : Printed = printed_of g.K.Sink.held g.K.Sink.faults c.args.sink.now c.deploy_read.new.sink in
     ran_on g.met.D.Disk.laws c.args.disk.now c.open_idle.new.disk c.deploy_read.new.disk c.open_idle.ensures.spared
-    (g.R.Runner.list c.args.runner.now) (g.R.Runner.list c.deploy_read.new.runner) (g.K.Sink.held c.args.sink.now) (g.K.Sink.held c.deploy_read.new.sink) c.deploy_read.result
-    (idle_device c.in-Ok.idle) (c.deploy_read.new.runner ≡ c.args.runner.now) c.in-Ok.ensures.opened
-    (λ told. held_stands g.met.D.Disk.laws c.in-Ok.idle.log c.open_idle.new.disk (idle_device c.in-Ok.idle) c.in-Ok.ensures.held.0 (g.D.Disk.seen c.open_idle.new.disk) (g.met.D.Disk.laws.reads c.open_idle.new.disk told))
+    (g.R.Runner.list c.args.runner.now) (g.R.Runner.list c.deploy_read.new.runner) printed c.deploy_read.result
+    store input library d (slots_start c.in-Ok.idle.log d) (c.deploy_read.new.runner ≡ c.args.runner.now)
+    c.in-Ok.ensures.opened c.in-Ok.ensures.start (λ told. (c.in-Ok.ensures.opened told).1)
+    (λ told. held_stands g.met.D.Disk.laws c.in-Ok.idle.log c.open_idle.new.disk d c.in-Ok.ensures.held.0 (g.D.Disk.seen c.open_idle.new.disk) (g.met.D.Disk.laws.reads c.open_idle.new.disk told))
     c.open_idle.ensures.images c.deploy_read.ensures.ran
 
 pub returns-in-Ok-clause-none : goal.returns-in-Ok-clause-none

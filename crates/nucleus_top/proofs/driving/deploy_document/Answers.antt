@@ -2,9 +2,11 @@ use Rattle.std.proofs.Common.{refl, ap}
 use Rattle.deploy_state.specs.States.{idle_device}
 use Rattle.step_runner.specs.Entries.{Listed}
 use Rattle.supervisor.specs.World.{World}
-use Rattle.nucleus_top.proofs.Crashes.{drive_fronts}
+use Rattle.nucleus_top.specs.Drives.{slots_start}
+use Rattle.nucleus_top.proofs.Crashes.{taken_fronts}
 use Rattle.nucleus_top.proofs.Driven.{begun, open_begun, slots_elsewhere}
 use Rattle.nucleus_top.proofs.Images.{held_stands}
+use Rattle.nucleus_top.proofs.Proposals.{some_of}
 use Rattle.nucleus_top.proofs.driving.deploy_document.Goals as goal
 
 pub run_document-requires-clause-held : goal.run_document-requires-clause-held
@@ -26,16 +28,21 @@ returns-clause-driven g c =
     let told = Listed g.R.Runner.list g.R.Runner.told g.R.Runner.asked c.args.runner.now in
     let d = idle_device c.args.idle in
     let place = begun d told in
-    let call = c.run_document.ensures.call place (open_begun d c.new-supervisor.result told (g.R.Runner.living c.args.runner.now) c.new-supervisor.ensures c.requires.none) refl in
+    let run = c.run_document.ensures.call place (open_begun d c.new-supervisor.result told (g.R.Runner.living c.args.runner.now) c.new-supervisor.ensures c.requires.none) refl in
+    let origin = some_of d.origin c.requires.held.0.origin in
     record {
       place = place;
-      start = refl;
+      begins = refl;
       serves = refl;
       device_is = refl;
-      call = call;
-      images = drive_fronts g.met.D.Disk.laws (slots_elsewhere c.needed_files_stay.ensures.journals) c.args.disk.now c.run_document.new.disk
+      origin = origin.0;
+      origin_is = origin.1;
+      taken = run.0;
+      takes = run.1 origin.0 origin.1;
+      call = run.2;
+      images = taken_fronts g.met.D.Disk.laws (slots_elsewhere c.needed_files_stay.ensures.journals) c.args.disk.now c.run_document.new.disk
           (g.R.Runner.list c.args.runner.now) (g.R.Runner.list c.run_document.new.runner) (g.K.Sink.held c.args.sink.now) (g.K.Sink.held c.run_document.new.sink) place c.run_document.result
-          (held_stands g.met.D.Disk.laws c.args.idle.log c.args.disk.now d c.requires.held.0) c.requires.held.1 call;
+          (held_stands g.met.D.Disk.laws c.args.idle.log c.args.disk.now d c.requires.held.0) c.requires.held.1 (slots_start c.args.idle.log d) run.0 run.2;
     }
 
 pub returns-clause-none : goal.returns-clause-none

@@ -1,9 +1,11 @@
-use Rattle.std.proofs.Common.{inl, inr, refl, ap, arith}
+use Rattle.std.proofs.Common.{ℕ, List, inl, inr, refl, ap, arith, subst}
 use Rattle.std.specs.Prelude.{Err}
 use Rattle.disk_model.specs.Moments.{at_start}
-use Rattle.nucleus_top.specs.Answers.{Printed, printed_of}
+use Rattle.deploy_state.specs.States.{idle_device}
+use Rattle.nucleus_top.specs.Answers.{Input, Printed, Shelf, input_of, printed_of, shelf_of}
+use Rattle.nucleus_top.specs.Drives.{IsDeployedOn, slots_start}
 use Rattle.nucleus_top.proofs.Crashes.{same_left}
-use Rattle.nucleus_top.proofs.Driven.{first_by, says_of, start_spared, stays, tells_none}
+use Rattle.nucleus_top.proofs.Driven.{document_deploys, first_by, says_of, start_spared, stays, tells_none}
 use Rattle.nucleus_top.proofs.driving.deploy_read.Goals as goal
 
 -- ---- the document is read
@@ -15,7 +17,17 @@ pub deploy_document-requires-clause-none : goal.deploy_document-requires-clause-
 deploy_document-requires-clause-none g c = c.requires.none
 
 pub returns-in-Ok-clause-ran : goal.returns-in-Ok-clause-ran
-returns-in-Ok-clause-ran g c = inr c.deploy_document.ensures.driven
+returns-in-Ok-clause-ran g c =
+    let d = idle_device c.args.idle in
+    let start = slots_start c.args.idle.log d in
+    let input : Input = input_of g.S.Source.left g.S.Source.faults c.args.source.now c.read_up_to.new.source in
+    let library : Shelf = shelf_of g.L.Library.content g.L.Library.faults c.args.library.now c.deploy_document.new.library in
+    let printed : Printed = printed_of g.K.Sink.held g.K.Sink.faults c.args.sink.now c.deploy_document.new.sink in
+    inr (document_deploys g.D.Disk.may_leave g.D.Disk.moment g.D.Disk.left_since c.args.disk.now c.deploy_document.new.disk
+    (g.R.Runner.list c.args.runner.now) (g.R.Runner.list c.deploy_document.new.runner) printed c.deploy_document.result d start input library
+    c.in-Ok.bytes c.in-Ok.ensures.bytes c.in-Ok.ensures.consumed c.in-Ok.ensures.short
+    (subst (λ (bytes : List ℕ). IsDeployedOn g.D.Disk.may_leave g.D.Disk.moment g.D.Disk.left_since c.args.disk.now c.deploy_document.new.disk
+    (g.R.Runner.list c.args.runner.now) (g.R.Runner.list c.deploy_document.new.runner) printed c.deploy_document.result d start library bytes) c.as_slice.ensures c.deploy_document.ensures.driven))
 
 pub returns-in-Ok-clause-none : goal.returns-in-Ok-clause-none
 returns-in-Ok-clause-none g c = c.deploy_document.ensures.none

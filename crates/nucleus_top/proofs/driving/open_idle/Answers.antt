@@ -2,18 +2,24 @@ use Rattle.std.proofs.Common.{◌≡◌, inl, ap}
 use Rattle.std.specs.Prelude.{Err}
 use Rattle.checkpoint_log.specs.Slots.{slots_stands}
 use Rattle.checkpoint_log.specs.declared.slots.Slots.{Slots}
-use Rattle.deploy_state.specs.States.{InLoaded, loaded_device}
+use Rattle.deploy_state.specs.States.{InLoaded, idle_device, loaded_device}
 use Rattle.deploy_state.specs.declared.state.Idle.{Idle}
 use Rattle.deploy_state.specs.declared.state.Loaded.{Loaded}
 use Rattle.deploy_state.specs.declared.state.Loaded.TheVariants as loaded
-use Rattle.nucleus_top.specs.Opening.{Stands}
+use Rattle.nucleus_top.specs.Drives.{StartsFrom, slots_start}
+use Rattle.nucleus_top.specs.Opening.{HasEntry, Stands}
 use Rattle.nucleus_top.specs.declared.answer.Answer.TheVariants.{DiskFailed}
-use Rattle.nucleus_top.proofs.Driven.{idle_ok, pending_no_disk, pending_too}
+use Rattle.nucleus_top.proofs.Driven.{idle_ok, ok_by, pending_no_disk, pending_too}
 use Rattle.nucleus_top.proofs.driving.open_idle.Goals as goal
 
 pub returns-in-Ok-clause-opened : goal.returns-in-Ok-clause-opened
 returns-in-Ok-clause-opened g c = λ told.
-    idle_ok (λ (s : Loaded Slots). Stands (g.D.Disk.seen c.args.disk.now) (loaded_device s)) (λ (s : Idle Slots). loaded.Idle s) c.in-Ok.state c.idle_of.result c.idle_of.ensures.idle (c.in-Ok.ensures.opened told)
+    idle_ok (λ (s : Loaded Slots). HasEntry (g.D.Disk.seen c.args.disk.now) × Stands (g.D.Disk.seen c.args.disk.now) (loaded_device s)) (λ (s : Idle Slots). loaded.Idle s) c.in-Ok.state c.idle_of.result c.idle_of.ensures.idle (c.in-Ok.ensures.opened told)
+
+pub returns-in-Ok-clause-start : goal.returns-in-Ok-clause-start
+returns-in-Ok-clause-start g c = λ told.
+    ok_by (λ (s : Idle Slots). c.in-Ok.state ≡ loaded.Idle s) (λ (s : Idle Slots). StartsFrom (g.D.Disk.seen c.args.disk.now) (idle_device s) (slots_start s.log (idle_device s))) c.idle_of.result
+    c.idle_of.ensures.idle (λ s is. c.in-Ok.ensures.start told s is)
 
 pub returns-in-Ok-clause-held : goal.returns-in-Ok-clause-held
 returns-in-Ok-clause-held g c =

@@ -1,21 +1,33 @@
-use Rattle.std.proofs.Common.{◌∙◌, List, ℕ, ap, arith}
+use Rattle.std.proofs.Common.{◌≡◌, ◌∙◌, List, ℕ, ap, arith, subst, sym}
 use Rattle.std.specs.Prelude.{Err}
 use Rattle.nuc_base.specs.Faults.{Rose}
 use Rattle.disk_model.specs.Disk.{Image}
 use Rattle.checkpoint_log.specs.Laws.{slots_laws}
 use Rattle.checkpoint_log.specs.Slots.{slots_stands}
 use Rattle.checkpoint_log.specs.declared.slots.Slots.{Slots}
-use Rattle.deploy_state.specs.States.{InLoaded, loaded_device}
+use Rattle.deploy_state.specs.States.{InLoaded, idle_device, loaded_device}
+use Rattle.deploy_state.specs.declared.state.Idle.{Idle}
 use Rattle.deploy_state.specs.declared.state.Loaded.{Loaded}
-use Rattle.nucleus_top.specs.Opening.{Stands}
+use Rattle.deploy_state.specs.declared.state.Loaded.TheVariants as loaded
+use Rattle.nucleus_top.specs.Drives.{StartsFrom, slots_start}
+use Rattle.nucleus_top.specs.Opening.{HasEntry, Stands}
 use Rattle.nucleus_top.proofs.Crashes.{opened_same, same_left}
-use Rattle.nucleus_top.proofs.Driven.{disk_of, first_of, kept_ok, loaded_stays, same_spared, slots_elsewhere, then_spared}
+use Rattle.nucleus_top.proofs.Driven.{disk_of, first_of, kept_ok, loaded_stays, same_spared, slots_elsewhere, starts_from, then_spared}
 use Rattle.nucleus_top.proofs.Faults.{other_fault}
 use Rattle.nucleus_top.proofs.driving.open_swept.Goals as goal
 
 pub returns-in-Ok-clause-opened : goal.returns-in-Ok-clause-opened
 returns-in-Ok-clause-opened g c = λ told.
-    kept_ok (λ (s : Loaded Slots). Stands (g.D.Disk.seen c.args.disk.now) (loaded_device s)) c.in-Ok.state c.swept.result c.swept.ensures.kept (c.in-Ok.ensures.told told).1
+    kept_ok (λ (s : Loaded Slots). HasEntry (g.D.Disk.seen c.args.disk.now) × Stands (g.D.Disk.seen c.args.disk.now) (loaded_device s)) c.in-Ok.state c.swept.result c.swept.ensures.kept (c.in-Ok.ensures.told told)
+
+pub returns-in-Ok-clause-start : goal.returns-in-Ok-clause-start
+returns-in-Ok-clause-start g c = λ told.
+    kept_ok (λ (s : Loaded Slots). (idle : Idle Slots) → s ≡ loaded.Idle idle → StartsFrom (g.D.Disk.seen c.args.disk.now) (idle_device idle) (slots_start idle.log (idle_device idle))) c.in-Ok.state c.swept.result c.swept.ensures.kept
+    (λ idle is. subst (λ (image : Image). StartsFrom image (idle_device idle) (slots_start idle.log (idle_device idle))) c.open.ensures.seen
+    (starts_from idle c.open.new.disk (g.D.Disk.seen c.open.new.disk)
+    (subst (λ (s : Loaded Slots). InLoaded g.D.Disk.tells g.D.Disk.may_leave slots_stands (λ (log : Slots). log.live.end) s c.open.new.disk) is c.in-Ok.ensures.held)
+    (g.met.D.Disk.laws.reads c.open.new.disk told)
+    (subst HasEntry (sym c.open.ensures.seen) (c.in-Ok.ensures.told told).0)))
 
 pub returns-in-Ok-clause-held : goal.returns-in-Ok-clause-held
 returns-in-Ok-clause-held g c =

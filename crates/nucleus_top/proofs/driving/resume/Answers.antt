@@ -6,7 +6,7 @@ use Rattle.step_runner.specs.Entries.{Listed}
 use Rattle.supervisor.specs.World.{World}
 use Rattle.nucleus_top.specs.Answers.{Printed, printed_of}
 use Rattle.nucleus_top.proofs.Crashes.{kept_fronts, loaded_stands, same_fronts}
-use Rattle.nucleus_top.proofs.Driven.{begun, driven_on, front_begun, says_of, slots_elsewhere, stays, stays_on, tells}
+use Rattle.nucleus_top.proofs.Driven.{begun, front_begun, resumed_on, says_of, slots_elsewhere, stays, stays_on, tells}
 use Rattle.nucleus_top.proofs.driving.resume.Goals as goal
 
 -- ---- the device is there
@@ -30,22 +30,24 @@ pub returns-in-Ok-clause-ran : goal.returns-in-Ok-clause-ran
 returns-in-Ok-clause-ran g c =
     let told = Listed g.R.Runner.list g.R.Runner.told g.R.Runner.asked c.args.runner.now in
     let d = loaded_device c.in-Ok.state in
+    let printed : Printed = printed_of g.K.Sink.held g.K.Sink.faults c.args.sink.now c.resume.new.sink in
     let call = c.resume.ensures.call (begun d told) (front_begun d c.new-supervisor.result told (g.R.Runner.living c.args.runner.now) c.new-supervisor.ensures c.requires.none) refl in
     inr (
       d,
       c.in-Ok.ensures.opened,
-      driven_on g.met.D.Disk.laws c.args.disk.now c.open_swept.new.disk c.resume.new.disk c.open_swept.ensures.spared
-          (g.R.Runner.list c.args.runner.now) (g.R.Runner.list c.resume.new.runner) (g.K.Sink.held c.args.sink.now) (g.K.Sink.held c.resume.new.sink) c.resume.result d
-          (same_fronts g.met.D.Disk.laws c.args.disk.now c.open_swept.new.disk d c.in-Ok.ensures.opened c.open_swept.ensures.images)
+      resumed_on g.met.D.Disk.laws c.args.disk.now c.open_swept.new.disk c.resume.new.disk c.open_swept.ensures.spared
+          (g.R.Runner.list c.args.runner.now) (g.R.Runner.list c.resume.new.runner) printed c.resume.result d
+          (same_fronts g.met.D.Disk.laws c.args.disk.now c.open_swept.new.disk d (λ tells. (c.in-Ok.ensures.opened tells).1) c.open_swept.ensures.images)
           (record {
             place = begun d told;
-            start = refl;
+            begins = refl;
             serves = refl;
             device_is = refl;
-            call = inl call;
+            call = call.0;
+            resumes = call.1;
             images = kept_fronts g.met.D.Disk.laws (slots_elsewhere c.needed_files_stay.ensures.journals) c.open_swept.new.disk c.resume.new.disk
                 (g.R.Runner.list c.args.runner.now) (g.R.Runner.list c.resume.new.runner) (g.K.Sink.held c.args.sink.now) (g.K.Sink.held c.resume.new.sink) (begun d told) c.resume.result
-                (loaded_stands g.met.D.Disk.laws c.in-Ok.state c.open_swept.new.disk c.in-Ok.ensures.held) call;
+                (loaded_stands g.met.D.Disk.laws c.in-Ok.state c.open_swept.new.disk c.in-Ok.ensures.held) call.0;
           }),
     )
 

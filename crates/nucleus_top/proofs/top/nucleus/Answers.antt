@@ -5,7 +5,7 @@ use Rattle.nucleus_top.specs.Asked.{AsksFor}
 use Rattle.nucleus_top.specs.declared.asking.Asked.TheVariants as asked
 use Rattle.nucleus_top.specs.Answers.{Input, Printed, Shelf, Store, input_of, printed_of, shelf_of, store_of}
 use Rattle.nucleus_top.proofs.Crashes.{same_left}
-use Rattle.nucleus_top.proofs.Driven.{no_quiet, says_none, start_spared, stays, unread_drives, unread_parts}
+use Rattle.nucleus_top.proofs.Driven.{no_quiet, not_both, says_none, start_spared, stays, unread_drives, unread_parts}
 use Rattle.nucleus_top.proofs.Images.{by_none}
 use Rattle.disk_model.specs.Moments.{at_start}
 use Rattle.nucleus_top.proofs.top.nucleus.Goals as goal
@@ -30,8 +30,18 @@ returns-in-NoMemory-clause-durable g c = λ order asks is. cc
 pub returns-in-NoMemory-clause-others : goal.returns-in-NoMemory-clause-others
 returns-in-NoMemory-clause-others g c = λ order asks told name outside. refl
 
-pub returns-in-NoMemory-clause-ran : goal.returns-in-NoMemory-clause-ran
-returns-in-NoMemory-clause-ran g c = λ drives. inl (
+pub returns-in-NoMemory-clause-deploys : goal.returns-in-NoMemory-clause-deploys
+returns-in-NoMemory-clause-deploys g c = λ root asks. inl (
+  record {
+    spared = start_spared g.met.D.Disk.laws c.args.disk.now;
+    images = same_left g.met.D.Disk.laws c.args.disk.now c.args.disk.now (at_start g.met.D.Disk.laws c.args.disk.now);
+    says = says_none (g.K.Sink.held c.args.sink.now) _;
+  },
+  refl {a = c.args.runner.now},
+)
+
+pub returns-in-NoMemory-clause-resumes : goal.returns-in-NoMemory-clause-resumes
+returns-in-NoMemory-clause-resumes g c = λ root asks. inl (
   record {
     spared = start_spared g.met.D.Disk.laws c.args.disk.now;
     images = same_left g.met.D.Disk.laws c.args.disk.now c.args.disk.now (at_start g.met.D.Disk.laws c.args.disk.now);
@@ -93,8 +103,14 @@ returns-in-Deploy-clause-others g c = λ order quiet told name outside.
     let asks : AsksFor words asked.Deploy = c.in-Deploy.ensures in
     absurd (no_quiet c.words_ask_one_thing.ensures words asks.0 order orders.Deploy (λ built. built) asks.1 quiet)
 
-pub returns-in-Deploy-clause-ran : goal.returns-in-Deploy-clause-ran
-returns-in-Deploy-clause-ran g c = λ drives. c.deploy.ensures.ran
+pub returns-in-Deploy-clause-deploys : goal.returns-in-Deploy-clause-deploys
+returns-in-Deploy-clause-deploys g c = λ root is. c.deploy.ensures.ran
+
+pub returns-in-Deploy-clause-resumes : goal.returns-in-Deploy-clause-resumes
+returns-in-Deploy-clause-resumes g c = λ root is.
+    let words : List (List ℕ) = map string_bytes c.args.words.now.items in
+    let asks : AsksFor words asked.Deploy = c.in-Deploy.ensures in
+    absurd (not_both c.words_ask_one_thing.ensures words asks.0 root asks.1 is)
 
 pub returns-in-Deploy-clause-driven : goal.returns-in-Deploy-clause-driven
 returns-in-Deploy-clause-driven g c = λ drives. record {
@@ -169,8 +185,14 @@ returns-in-Resume-clause-others g c = λ order quiet told name outside.
     let asks : AsksFor words asked.Resume = c.in-Resume.ensures in
     absurd (no_quiet c.words_ask_one_thing.ensures words asks.0 order orders.Resume (λ built. built) asks.1 quiet)
 
-pub returns-in-Resume-clause-ran : goal.returns-in-Resume-clause-ran
-returns-in-Resume-clause-ran g c = λ drives. c.resume.ensures.ran
+pub returns-in-Resume-clause-resumes : goal.returns-in-Resume-clause-resumes
+returns-in-Resume-clause-resumes g c = λ root is. c.resume.ensures.ran
+
+pub returns-in-Resume-clause-deploys : goal.returns-in-Resume-clause-deploys
+returns-in-Resume-clause-deploys g c = λ root is.
+    let words : List (List ℕ) = map string_bytes c.args.words.now.items in
+    let asks : AsksFor words asked.Resume = c.in-Resume.ensures in
+    absurd (not_both c.words_ask_one_thing.ensures words root asks.0 is asks.1)
 
 pub returns-in-Resume-clause-driven : goal.returns-in-Resume-clause-driven
 returns-in-Resume-clause-driven g c = λ drives. record {
@@ -212,10 +234,15 @@ returns-in-Other-clause-durable g c = c.look.ensures.durable
 pub returns-in-Other-clause-others : goal.returns-in-Other-clause-others
 returns-in-Other-clause-others g c = c.look.ensures.others
 
-pub returns-in-Other-clause-ran : goal.returns-in-Other-clause-ran
-returns-in-Other-clause-ran g c = λ drives.
+pub returns-in-Other-clause-deploys : goal.returns-in-Other-clause-deploys
+returns-in-Other-clause-deploys g c = λ root is.
     let asks : AsksFor (map string_bytes c.args.words.now.items) asked.Other = c.in-Other.ensures in
-    absurd (asks drives)
+    absurd (asks (root, inl is))
+
+pub returns-in-Other-clause-resumes : goal.returns-in-Other-clause-resumes
+returns-in-Other-clause-resumes g c = λ root is.
+    let asks : AsksFor (map string_bytes c.args.words.now.items) asked.Other = c.in-Other.ensures in
+    absurd (asks (root, inr is))
 
 pub returns-in-Other-clause-driven : goal.returns-in-Other-clause-driven
 returns-in-Other-clause-driven g c = λ drives.
