@@ -1,6 +1,7 @@
 -- What the steps of `deploy` and `resume` come to.
-use Rattle.std.proofs.Common.{◌≡◌, ◌≢◌, ◌∙◌, ◌⊎◌, inl, inr, ℕ, ◌<◌, List, [], ◌∷◌, ◌++◌, length, take, refl, sym, ap, subst, append-nil, arith, Some, None, IfSome}
-use Rattle.std.specs.Prelude.{◌≤◌, Bool, false, IsTrue, Option, Result, Ok, Err, true, IfOk, IfErr, IsErrOf, Contains}
+use Rattle.std.proofs.Common.{◌≡◌, ◌≢◌, ◌∙◌, ◌⊎◌, inl, inr, ℕ, ◌<◌, List, [], ◌∷◌, ◌++◌, length, take, refl, sym, ap, subst, arith, Some, None, IfSome}
+use Rattle.std.specs.Option.{IsSomeAnd}
+use Rattle.std.specs.Prelude.{◌≤◌, ⊤, Bool, false, IsTrue, Option, Result, Ok, Err, true, IfOk, IfErr, IsErrOf, Contains}
 use Rattle.std.proofs.lemmas.Bool.{cases_lt, false≢true}
 use Rattle.std.proofs.lemmas.List.{take_all}
 use Rattle.std.specs.Io.KnownBytes.{Consumes}
@@ -8,7 +9,6 @@ use Rattle.nuc_base.proofs.Lists.{in_nil}
 use Rattle.nuc_base.specs.Faults.{Rose}
 use Rattle.nuc_base.specs.declared.status.Status.{Status}
 use Rattle.nuc_base.specs.declared.status.Status.TheVariants as status
-use Rattle.std.proofs.KnownBytes.{Appends-nil}
 use Rattle.command_words.specs.Laws.{AsksOnce}
 use Rattle.command_words.specs.Words.{IsOrder}
 use Rattle.command_words.specs.declared.order.Order.{Order}
@@ -28,7 +28,7 @@ use Rattle.library_core.specs.Library.{Content}
 use Rattle.records.specs.Stored.{Accepted}
 use Rattle.records.specs.declared.record.Origin.{Origin}
 use Rattle.records.specs.declared.record.Plan as code
-use Rattle.device.specs.Devices.{Device}
+use Rattle.device.specs.Devices.{Device, Pending as PendingPlan}
 use Rattle.deploy_state.specs.States.{InIdle, InLoaded, activating_device, backing_device, booting_device, idle_device, rolling_device}
 use Rattle.deploy_state.specs.declared.fault.LoadFault.{LoadFault}
 use Rattle.deploy_state.specs.declared.fault.LoadFault.TheVariants as load
@@ -50,41 +50,101 @@ use Rattle.intake.specs.Takes.{LieElsewhere}
 use Rattle.intake.specs.declared.fault.Declined.{Declined}
 use Rattle.intake.proofs.Staying.{hand_stays}
 use Rattle.acceptance.specs.Accepts.{IsOpen}
-use Rattle.deployments.specs.Calls.{Call, GivenBack, Says, Spared, Stays}
+use Rattle.deployments.specs.Calls.{Call, GivenBack, Spared, Stays}
 use Rattle.deployments.specs.Documents.{DrivesTaken, TakesRead}
-use Rattle.nucleus_top.specs.Answers.{Input, IsUnchanged, Printed, Prints, Shelf, Store, Told, lines_of, status_of}
+use Rattle.nucleus_top.specs.Answers.{HasRisen, Input, IsUnchanged, Printed, Prints, Shelf, Store, Told, status_of}
 use Rattle.nucleus_top.specs.Asked.{AsksFor, asked_of}
 use Rattle.nucleus_top.specs.Crashes.{LeavesFronts, LeavesSame}
-use Rattle.nucleus_top.specs.Drives.{DeploysOn, DriveParts, Drives, IsDeployed, IsDeployedOn, IsFirst, IsPending, IsResumedOn, IsTurnedAway, StartsFrom, TellsSweep, TellsUnread, slots_start}
+use Rattle.nucleus_top.specs.Drives.{DeploysOn, DriveParts, Drives, GoesUnread, IsDeployed, IsDeployedOn, IsResumedOn, IsTurnedAway, IsUnread, IsUnswept, NamesPendingOf, StartsFrom, TellsSweep, TellsUnread, TurnsAway, Withholds, WithholdsIdle, slots_start}
 use Rattle.nucleus_top.specs.Opening.{HasEntry, Stands as StandsFor}
 use Rattle.nucleus_top.specs.Parts.{Parts}
-use Rattle.nucleus_top.specs.Planning.{IsFound}
-use Rattle.nucleus_top.specs.Refusing.{TellsFault}
+use Rattle.nucleus_top.specs.Planning.{IsFound, NamesPending}
+use Rattle.nucleus_top.specs.Refusing.{Refuses, TellsFault}
 use Rattle.nucleus_top.specs.Words.{Asks, IsBuilt}
 use Rattle.nucleus_top.specs.declared.answer.Answer.{Answer}
 use Rattle.nucleus_top.specs.declared.asking.Asked.{Asked}
 use Rattle.nucleus_top.specs.declared.answer.Answer.TheVariants.{Damaged, DiskFailed, NoMemory, NotInitialised, Pending, SourceFailed}
-use Rattle.nucleus_top.proofs.Crashes.{fronts_on, same_fronts, same_on}
+use Rattle.nucleus_top.proofs.Crashes.{fronts_on, same_fronts}
 use Rattle.nucleus_top.proofs.Ends.{parts}
 use Rattle.nucleus_top.proofs.Proposals.{front_is_long, too_long}
 use Rattle.nucleus_top.proofs.Standing.{none_of}
 
 -- ---- answers
 
--- an answer that is told is one line at most, and a front of it where the sink failed
-pub says_of : (printed : Printed) (result : Status) (a : Answer) → Told printed result a → Says printed.before printed.after result
-says_of printed result a (inl told) = (lines_of a, (lines_of a, [], sym (append-nil (lines_of a)), told.1), λ other. told.1)
-says_of printed result a (inr told) = (lines_of a, told.1.front, λ other. absurd (other told.0))
+-- the journal gives no device, a fault, or want of memory
+abbrev pub IsFirst : Answer → Type 0
+IsFirst DiskFailed = ⊤
+IsFirst NotInitialised = ⊤
+IsFirst (Damaged place) = ⊤
+IsFirst NoMemory = ⊤
+IsFirst _ = ⊥
 
--- a journal that gives no device
-pub first_of : (fault : LoadFault) (a : Answer) → TellsFault fault a → IsFirst a
-first_of load.Disk DiskFailed tells = tt
-first_of load.NotInitialised NotInitialised tells = tt
-first_of (load.Damaged at) (Damaged place) tells = tt
-first_of (load.Damaged at) NoMemory tells = tt
-first_of load.NoMemory NoMemory tells = tt
-first_of fault a tells = absurd tells
+-- a deployment is pending
+abbrev pub IsPending : Answer → Type 0
+IsPending (Pending id) = ⊤
+IsPending NoMemory = ⊤
+IsPending _ = ⊥
 
+module _ (store : Store) where
+  pub withheld_first : (a : Answer) → Withholds store a → IsFirst a
+  withheld_first DiskFailed why = tt
+  withheld_first NotInitialised why = tt
+  withheld_first (Damaged place) why = tt
+  withheld_first NoMemory why = tt
+  withheld_first a why = absurd why
+
+  pub idle_refusal : (a : Answer) → WithholdsIdle store a → IsFirst a ⊎ IsPending a
+  idle_refusal (Pending id) why = inr tt
+  idle_refusal a why = inl (withheld_first a why)
+
+  -- a journal that gives no device
+  pub refused_withholds : (a : Answer) → Refuses store a → Withholds store a
+  refused_withholds DiskFailed why = inl why
+  refused_withholds NotInitialised why = why
+  refused_withholds (Damaged place) why = why
+  refused_withholds NoMemory why = inl why
+  refused_withholds a why = absurd why
+
+  pub withholds_idle : (a : Answer) → Withholds store a → WithholdsIdle store a
+  withholds_idle (Pending id) why = absurd why
+  withholds_idle a why = why
+
+  pub idle_turns : (input : Input) (a : Answer) → input.rest ≡ input.document → WithholdsIdle store a → TurnsAway store input a
+  idle_turns input (Pending id) same why = (why, same)
+  idle_turns input SourceFailed same why = absurd why
+  idle_turns input a same why = why
+
+  -- of a device that is there
+  module _ (d : Device) (found : IsFound store d) where
+    pub unswept_withholds : {S : Type 0} (result : Result S Answer) → IfErr result (λ a. IsUnswept a) → (IsErrOf result DiskFailed → HasRisen store) → IfErr result (λ a. Withholds store a)
+    unswept_withholds (Ok s) is rose = tt
+    unswept_withholds (Err DiskFailed) is rose = inr ((d, found), rose refl)
+    unswept_withholds (Err NoMemory) is rose = inr (d, found)
+    unswept_withholds (Err a) is rose = absurd is
+
+    pub pending_withholds : {S : Type 0} (result : Result S Answer) → IfErr result (λ a. NamesPendingOf d a) → IfErr result (λ a. WithholdsIdle store a)
+    pending_withholds (Ok s) names = tt
+    pending_withholds (Err (Pending id)) names = (d, found, names)
+    pending_withholds (Err NoMemory) names = inr (d, found)
+    pending_withholds (Err a) names = absurd names
+
+    pub unread_turns : (input : Input) (a : Answer) → d.pending ≡ None → GoesUnread input a → TurnsAway store input a
+    unread_turns input SourceFailed idle why = ((d, found, idle), why)
+    unread_turns input NoMemory idle why = inr (d, found)
+    unread_turns input a idle why = absurd why
+
+-- the deployment that is pending
+pub names_pending : (d : Device) (q : PendingPlan) (a : Answer) → d.pending ≡ Some q → NamesPending q.plan.id a → NamesPendingOf d a
+names_pending d q (Pending id) is names = subst (λ (x : Option PendingPlan). IsSomeAnd x (λ p. p.plan.id ≡ id)) (sym is) (sym names)
+names_pending d q NoMemory is names = tt
+names_pending d q a is names = absurd names
+
+pub unread_goes : (input : Input) (f : ReadFault) (a : Answer) → TellsUnread f a → (f ≡ reading.Edge → Rose input.faults_before input.faults_after) → GoesUnread input a
+unread_goes input reading.Edge SourceFailed tells rose = rose refl
+unread_goes input reading.NoMemory NoMemory tells rose = tt
+unread_goes input f a tells rose = absurd tells
+
+-- a disk that failed
 pub disk_of : (fault : LoadFault) (a : Answer) → TellsFault fault a → a ≡ DiskFailed → fault ≡ load.Disk
 disk_of load.Disk a tells is = refl
 disk_of load.NotInitialised a tells is = absurd (subst (TellsFault load.NotInitialised) is tells)
@@ -92,10 +152,10 @@ disk_of (load.Damaged at) a tells is = absurd (subst (TellsFault (load.Damaged a
 disk_of load.NoMemory a tells is = absurd (subst (TellsFault load.NoMemory) is tells)
 
 -- stray files that are not swept
-pub swept_first : (fault : SweepFault) (a : Answer) → TellsSweep fault a → IsFirst a
-swept_first sweep.Disk DiskFailed tells = tt
-swept_first sweep.NoMemory NoMemory tells = tt
-swept_first fault a tells = absurd tells
+pub swept_unswept : (fault : SweepFault) (a : Answer) → TellsSweep fault a → IsUnswept a
+swept_unswept sweep.Disk DiskFailed tells = tt
+swept_unswept sweep.NoMemory NoMemory tells = tt
+swept_unswept fault a tells = absurd tells
 
 pub swept_disk : (fault : SweepFault) (a : Answer) → TellsSweep fault a → a ≡ DiskFailed → fault ≡ sweep.Disk
 swept_disk sweep.Disk a tells is = refl
@@ -107,12 +167,8 @@ disk_swept sweep.NoMemory a tells is = cc
 disk_swept sweep.Disk a tells is = absurd tells
 
 -- a pending deployment
-pub pending_no_disk : {S : Type 0} (result : Result S Answer) → IfErr result (λ a. IsPending a) → IsErrOf result DiskFailed → ⊥
-pending_no_disk {S} result pends is = subst (λ (r : Result S Answer). IfErr r (λ a. IsPending a)) is pends
-
-pub pending_too : {S : Type 0} (result : Result S Answer) → IfErr result (λ a. IsPending a) → IfErr result (λ a. IsFirst a ⊎ IsPending a)
-pending_too (Ok s) pends = tt
-pending_too (Err a) pends = inr pends
+pub pending_no_disk : {S : Type 0} (d : Device) (result : Result S Answer) → IfErr result (λ a. NamesPendingOf d a) → IsErrOf result DiskFailed → ⊥
+pending_no_disk {S} d result pends is = subst (λ (r : Result S Answer). IfErr r (λ a. NamesPendingOf d a)) is pends
 
 pub first_by : {A B C : Type 0} → (A → C) → A ⊎ B → C ⊎ B
 first_by gives (inl a) = inl (gives a)
@@ -450,18 +506,24 @@ module _ {D : Type 0} {tells : Bool} {seen : D → Image} {may_leave : D → Ima
       images = fronts_on laws old mid new d (records_of h.call.history) images h.images;
     }
 
-  -- it is turned away behind such a call, or goes on with the device for which the journal stood
+  -- its document is not read behind such a call, or goes on with the device for which the journal stood
   pub ran_on : (old mid new : D) (first : Spared may_leave moment left_since old mid) (old_list new_list : Option (List RunnerEntry)) (printed : Printed) (result : Status)
       (store : Store) (input : Input) (library : Shelf) (d : Device) (start : ℕ → ℕ) (Same : Type 0)
-      → IsFound store d → (IsTrue store.tells → StartsFrom store.before d start) → (IsTrue tells → StandsFor (seen old) d) → (IsTrue tells → StandsFor (seen mid) d)
+      → IsFound store d → d.pending ≡ None → (IsTrue store.tells → StartsFrom store.before d start) → (IsTrue tells → StandsFor (seen old) d)
       → LeavesSame may_leave moment left_since seen old mid
-      → (IsTurnedAway seen may_leave moment left_since mid new printed.before printed.after result × Same) ⊎ DeploysOn may_leave moment left_since mid new old_list new_list printed result d start input library
-      → (IsTurnedAway seen may_leave moment left_since old new printed.before printed.after result × Same) ⊎ IsDeployed may_leave moment left_since old new old_list new_list printed result store input library
-  ran_on old mid new first old_list new_list printed result store input library d start Same found starts stands then_stands images (inl away) = inl (
-    record { spared = then_spared old mid new first away.0.spared; images = same_on laws old mid new d stands then_stands images away.0.images; says = away.0.says },
+      → (IsUnread mid new input printed result × Same) ⊎ DeploysOn may_leave moment left_since mid new old_list new_list printed result d start input library
+      → (IsTurnedAway seen may_leave moment left_since (λ a. TurnsAway store input a) old new printed result × Same) ⊎ IsDeployed may_leave moment left_since old new old_list new_list printed result store input library
+  ran_on old mid new first old_list new_list printed result store input library d start Same found idle starts stands images (inl away) = inl (
+    record {
+      answer = away.0.answer;
+      why = unread_turns store d found input away.0.answer idle away.0.why;
+      told = away.0.told;
+      spared = subst (λ (x : D). Spared may_leave moment left_since old x) (sym away.0.same) first;
+      images = subst (λ (x : D). LeavesSame may_leave moment left_since seen old x) (sym away.0.same) images;
+    },
     away.1,
   )
-  ran_on old mid new first old_list new_list printed result store input library d start Same found starts stands then_stands images (inr went) = inr (
+  ran_on old mid new first old_list new_list printed result store input library d start Same found idle starts stands images (inr went) = inr (
     d,
     start,
     found,
@@ -511,7 +573,3 @@ module _ (words : List (List ℕ)) (store : Store) (input : Input) (library : Sh
     library_stays = λ other more. shelf;
     others = λ told name apart outside. ap (λ (i : Image). i name) same;
   }
-
--- and nothing said
-pub says_none : (held : Option (List ℕ)) (result : Status) → Says held held result
-says_none held result = ([], ([], [], refl, Appends-nil held), λ other. Appends-nil held)

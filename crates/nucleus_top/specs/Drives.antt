@@ -1,5 +1,5 @@
 -- The commands that drive a deployment, `deploy` and `resume`, and what such a call promises.
-use Rattle.std.specs.Prelude.{◌≡◌, ◌≢◌, ◌⊎◌, ℕ, ◌+◌, false, IsTrue, List, [], ◌∷◌, Option, Some, Result, ⊤}
+use Rattle.std.specs.Prelude.{◌≡◌, ◌≢◌, ◌⊎◌, ℕ, ◌+◌, false, IsTrue, List, [], ◌∷◌, Option, Some, None, Result, ⊤}
 use Rattle.std.specs.Ordering.{is_lt, nat_cmp}
 use Rattle.std.proofs.Common.{inl, inr}
 use Rattle.disk_model.specs.Disk.{Image}
@@ -24,12 +24,13 @@ use Rattle.session.specs.Courses.{IsStart}
 use Rattle.session.specs.Happenings.{records_of}
 use Rattle.session.specs.Places.{Place}
 use Rattle.intake.specs.declared.fault.Declined.{Declined}
-use Rattle.deployments.specs.Calls.{Call, Elsewhere, Says, Spared}
+use Rattle.deployments.specs.Calls.{Call, Elsewhere, IsPendingAs, Spared}
 use Rattle.deployments.specs.Documents.{DrivesTaken, TakesRead}
 use Rattle.deployments.specs.Endings.{Resumes}
-use Rattle.nucleus_top.specs.Answers.{HasRisen, Input, IsReadUpTo, Printed, Shelf, Store}
+use Rattle.nucleus_top.specs.Answers.{HasRisen, Input, IsReadUpTo, Printed, Shelf, Store, Told}
 use Rattle.nucleus_top.specs.Crashes.{LeavesFronts, LeavesSame}
 use Rattle.nucleus_top.specs.Planning.{IsFound}
+use Rattle.nucleus_top.specs.Refusing.{Refuses}
 use Rattle.nucleus_top.specs.declared.answer.Answer.{Answer}
 use Rattle.nucleus_top.specs.declared.answer.Answer.TheVariants.{Damaged, DiskFailed, NoMemory, NotInitialised, Pending, SourceFailed}
 
@@ -37,21 +38,42 @@ use Rattle.nucleus_top.specs.declared.answer.Answer.TheVariants.{Damaged, DiskFa
 abbrev pub Drives : List (List ℕ) → Type 0
 Drives words = (root : List ℕ) × (IsOrder words root Deploy ⊎ IsOrder words root Resume)
 
--- ---- answers before anything of a deployment begins
+-- ---- why a call is turned away
 
--- the journal gives no device, a fault, or want of memory
-abbrev pub IsFirst : Answer → Type 0
-IsFirst DiskFailed = ⊤
-IsFirst NotInitialised = ⊤
-IsFirst (Damaged place) = ⊤
-IsFirst NoMemory = ⊤
-IsFirst _ = ⊥
+-- the journal stands for a device, where the disk tells it
+abbrev pub IsThere : Store → Type 0
+IsThere store = (d : Device) × IsFound store d
 
--- a deployment is pending
-abbrev pub IsPending : Answer → Type 0
-IsPending (Pending id) = ⊤
-IsPending NoMemory = ⊤
-IsPending _ = ⊥
+-- Why there is no device in hand: the journal gives none, or its stray files are not swept.
+abbrev pub Withholds : Store → Answer → Type 0
+Withholds store DiskFailed = Refuses store DiskFailed ⊎ (IsThere store × HasRisen store)
+Withholds store NotInitialised = Refuses store NotInitialised
+Withholds store (Damaged place) = Refuses store (Damaged place)
+Withholds store NoMemory = Refuses store NoMemory ⊎ IsThere store
+Withholds store _ = ⊥
+
+-- Why there is none without a pending deployment: there is none, or the deployment of this id is pending.
+abbrev pub WithholdsIdle : Store → Answer → Type 0
+WithholdsIdle store (Pending id) = (d : Device) × IsFound store d × IsPendingAs id d
+WithholdsIdle store answer = Withholds store answer
+
+-- Why `deploy` is turned away: there is none, and where one is pending the source is left as it was; or the source failed.
+abbrev pub TurnsAway : Store → Input → Answer → Type 0
+TurnsAway store input (Pending id) = WithholdsIdle store (Pending id) × (input.rest ≡ input.document)
+TurnsAway store input SourceFailed = ((d : Device) × IsFound store d × (d.pending ≡ None)) × Rose input.faults_before input.faults_after
+TurnsAway store input answer = Withholds store answer
+
+-- the refusal that names the pending deployment of the device, or want of memory
+abbrev pub NamesPendingOf : Device → Answer → Type 0
+NamesPendingOf d (Pending id) = IsPendingAs id d
+NamesPendingOf d NoMemory = ⊤
+NamesPendingOf d _ = ⊥
+
+-- stray files are not swept
+abbrev pub IsUnswept : Answer → Type 0
+IsUnswept DiskFailed = ⊤
+IsUnswept NoMemory = ⊤
+IsUnswept _ = ⊥
 
 -- what is told where stray files are not swept
 abbrev pub TellsSweep : SweepFault → Answer → Type 0
@@ -65,15 +87,28 @@ TellsUnread reading.Edge SourceFailed = ⊤
 TellsUnread reading.NoMemory NoMemory = ⊤
 TellsUnread _ _ = ⊥
 
--- ---- the call
+-- why a document is not read: the source failed, or there is no memory
+abbrev pub GoesUnread : Input → Answer → Type 0
+GoesUnread input SourceFailed = Rose input.faults_before input.faults_after
+GoesUnread input NoMemory = ⊤
+GoesUnread input _ = ⊥
+
+-- That is told, and the disk is as it was.
+pub record IsUnread {D : Type 0} (old new : D) (input : Input) (printed : Printed) (result : Status) : Type 0 where
+  pub answer : Answer
+  pub why : GoesUnread input answer
+  pub told : Told printed result answer
+  pub same : new ≡ old
 
 module _ {D : Type 0} (seen : D → Image) (may_leave : D → Image → Type 0) (moment : D → ℕ) (left_since : D → ℕ → Image → Type 0) where
-  -- It is refused before anything of a deployment begins: stray files may be swept, and one line is said. A crash leaves the
-  -- device that there was.
-  pub record IsTurnedAway (old new : D) (old_held new_held : Option (List ℕ)) (result : Status) : Type 0 where
+  -- A call is refused before anything of a deployment begins, for this reason: the answer is told, and at most stray files are
+  -- swept. A crash leaves the device that there was.
+  pub record IsTurnedAway (why_so : Answer → Type 0) (old new : D) (printed : Printed) (result : Status) : Type 0 where
+    pub answer : Answer
+    pub why : why_so answer
+    pub told : Told printed result answer
     pub spared : Spared may_leave moment left_since old new
     pub images : LeavesSame may_leave moment left_since seen old new
-    pub says : Says old_held new_held result
 
 -- ---- `deploy`
 

@@ -11,7 +11,7 @@ ghost use Rattle.deploy_state.specs.declared.state.Idle as idles;
 ghost use Rattle.nucleus_top.specs.Answers.{input_of, printed_of, shelf_of, store_of};
 ghost use Rattle.nucleus_top.specs.Crashes.{LeavesSame};
 ghost use Rattle.nucleus_top.specs.Opening.{HasEntry, Stands};
-ghost use Rattle.nucleus_top.specs.Drives.{DeploysOn, IsDeployed, IsDeployedOn, IsFirst, IsPending, IsResumed, IsTurnedAway, StartsFrom, TellsSweep, TellsUnread, slots_start};
+ghost use Rattle.nucleus_top.specs.Drives.{DeploysOn, IsDeployed, IsDeployedOn, IsResumed, IsTurnedAway, IsUnread, IsUnswept, NamesPendingOf, StartsFrom, TellsSweep, TellsUnread, TurnsAway, Withholds, WithholdsIdle, slots_start};
 
 use crate::answer::Answer;
 use crate::opening::{HasDevice, open, refused};
@@ -45,7 +45,7 @@ fn swept<T: HasDevice + Drop, D: Disk>(alloc: Global, state: T, disk: &mut D) ->
     ensures disk { IsErrOf result Answer.DiskFailed → Rose (D.faults disk.old) (D.faults disk.new) }
     ensures quiet { ¬ (IsErrOf result Answer.DiskFailed) → D.faults disk.new ≡ D.faults disk.old }
     ensures later { D.faults disk.old ≤ D.faults disk.new }
-    ensures answers { IfErr result (λ a. IsFirst a) }
+    ensures answers { IfErr result (λ a. IsUnswept a) }
 {
     match sweep(alloc, disk, state.stored()) {
         Ok(()) => Ok(state),
@@ -64,7 +64,7 @@ fn open_swept<D: Disk>(alloc: Global, disk: &mut D) -> Result<Loaded<Slots>, Ans
     ensures disk { IsErrOf result Answer.DiskFailed → Rose (D.faults disk.old) (D.faults disk.new) }
     ensures quiet { ¬ (IsErrOf result Answer.DiskFailed) → D.faults disk.new ≡ D.faults disk.old }
     ensures later { D.faults disk.old ≤ D.faults disk.new }
-    ensures answers { IfErr result (λ a. IsFirst a) }
+    ensures answers { IfErr result (λ a. Withholds (store_of D.tells D.seen D.faults disk.old disk.new) a) }
 {
     // The journal does not lie among the files of artifacts.
     needed_files_stay();
@@ -76,7 +76,7 @@ fn open_swept<D: Disk>(alloc: Global, disk: &mut D) -> Result<Loaded<Slots>, Ans
 
 /// The refusal that names the pending deployment.
 fn pending<T: HasDevice + Drop>(alloc: Global, state: T) -> Answer
-    ensures { IsPending result }
+    ensures { NamesPendingOf (T.stands_for state) result }
 {
     let Some(pending) = &state.stored().pending else {
         return Answer::NoMemory;
@@ -89,7 +89,7 @@ fn pending<T: HasDevice + Drop>(alloc: Global, state: T) -> Answer
 
 fn idle_of(alloc: Global, state: Loaded<Slots>) -> Result<Idle<Slots>, Answer>
     ensures idle { IfOk result (λ s. state ≡ Loaded.Idle s) }
-    ensures answers { IfErr result (λ a. IsPending a) }
+    ensures answers { IfErr result (λ a. NamesPendingOf (loaded_device state) a) }
 {
     match state {
         Loaded::Idle(idle) => Ok(idle),
@@ -108,7 +108,7 @@ fn open_idle<D: Disk>(alloc: Global, disk: &mut D) -> Result<Idle<Slots>, Answer
     ensures disk { IsErrOf result Answer.DiskFailed → Rose (D.faults disk.old) (D.faults disk.new) }
     ensures quiet { ¬ (IsErrOf result Answer.DiskFailed) → D.faults disk.new ≡ D.faults disk.old }
     ensures later { D.faults disk.old ≤ D.faults disk.new }
-    ensures answers { IfErr result (λ a. IsFirst a ⊎ IsPending a) }
+    ensures answers { IfErr result (λ a. WithholdsIdle (store_of D.tells D.seen D.faults disk.old disk.new) a) }
 {
     match open_swept(alloc, disk) {
         Ok(state) => idle_of(alloc, state),
@@ -179,7 +179,7 @@ fn deploy_read<D: Disk, L: Library, S: Source, K: Sink, R: Runner>(
 ) -> Status
     requires held { InIdle D.tells D.may_leave slots_stands (λ log. log.live.end) idle disk.old }
     requires none { R.living runner.old ≡ [] }
-    ensures ran { (IsTurnedAway D.seen D.may_leave D.moment D.left_since disk.old disk.new (K.held sink.old) (K.held sink.new) result × (runner.new ≡ runner.old))
+    ensures ran { (IsUnread disk.old disk.new (input_of S.left S.faults source.old source.new) (printed_of K.held K.faults sink.old sink.new) result × (runner.new ≡ runner.old))
         ⊎ DeploysOn D.may_leave D.moment D.left_since disk.old disk.new (R.list runner.old) (R.list runner.new) (printed_of K.held K.faults sink.old sink.new) result
         (idle_device idle) (slots_start (idle_log idle) (idle_device idle)) (input_of S.left S.faults source.old source.new) (shelf_of L.content L.faults library.old library.new) }
     ensures none { R.living runner.new ≡ [] }
@@ -215,7 +215,7 @@ pub(crate) fn deploy<D: Disk, L: Library, S: Source, K: Sink, R: Runner>(
     runner: &mut R,
 ) -> Status
     requires none { R.living runner.old ≡ [] }
-    ensures ran { (IsTurnedAway D.seen D.may_leave D.moment D.left_since disk.old disk.new (K.held sink.old) (K.held sink.new) result × (runner.new ≡ runner.old))
+    ensures ran { (IsTurnedAway D.seen D.may_leave D.moment D.left_since (λ a. TurnsAway (store_of D.tells D.seen D.faults disk.old disk.new) (input_of S.left S.faults source.old source.new) a) disk.old disk.new (printed_of K.held K.faults sink.old sink.new) result × (runner.new ≡ runner.old))
         ⊎ IsDeployed D.may_leave D.moment D.left_since disk.old disk.new (R.list runner.old) (R.list runner.new) (printed_of K.held K.faults sink.old sink.new) result
         (store_of D.tells D.seen D.faults disk.old disk.new) (input_of S.left S.faults source.old source.new) (shelf_of L.content L.faults library.old library.new) }
     ensures none { R.living runner.new ≡ [] }
@@ -246,7 +246,7 @@ pub(crate) fn resume<D: Disk, K: Sink, R: Runner>(
     runner: &mut R,
 ) -> Status
     requires none { R.living runner.old ≡ [] }
-    ensures ran { (IsTurnedAway D.seen D.may_leave D.moment D.left_since disk.old disk.new (K.held sink.old) (K.held sink.new) result × (runner.new ≡ runner.old))
+    ensures ran { (IsTurnedAway D.seen D.may_leave D.moment D.left_since (λ a. Withholds (store_of D.tells D.seen D.faults disk.old disk.new) a) disk.old disk.new (printed_of K.held K.faults sink.old sink.new) result × (runner.new ≡ runner.old))
         ⊎ IsResumed D.may_leave D.moment D.left_since disk.old disk.new (R.list runner.old) (R.list runner.new) (printed_of K.held K.faults sink.old sink.new) result
         (store_of D.tells D.seen D.faults disk.old disk.new) }
     ensures none { R.living runner.new ≡ [] }

@@ -5,7 +5,7 @@ ghost use Rattle.command_words.specs.Words.{IsOrder};
 ghost use Rattle.command_words.specs.declared.order.Order.{Order};
 ghost use Rattle.command_words.specs.declared.order.Order.TheVariants as order;
 ghost use Rattle.deployments.specs.Calls.{Stays};
-ghost use Rattle.nucleus_top.specs.Drives.{DriveParts, Drives, IsDeployed, IsResumed, IsTurnedAway};
+ghost use Rattle.nucleus_top.specs.Drives.{DriveParts, Drives, IsDeployed, IsResumed, IsTurnedAway, TurnsAway, Withholds};
 ghost use Rattle.nucleus_top.specs.Words.{Asks};
 ghost use Rattle.nucleus_top.specs.Answers.{store_of, input_of, shelf_of, printed_of};
 ghost use Rattle.nucleus_top.specs.Leaving.{IsDurable, MayLeave, files_of};
@@ -35,8 +35,9 @@ use step_runner::Runner;
 /// `nucleus --root DIR deploy` reads one document from the source and deploys it: it prints `accepted ID` once the plan is
 /// stable, a line for each failure, and `closed ID OUTCOME`; or the first reason why the document is not taken.
 /// `nucleus --root DIR resume` goes on with a deployment that an earlier call left pending, and prints `resumed ID` first;
-/// where none is, it prints `idle`. The clauses `deploys`, `resumes` and `driven` say what these do. The other commands are refused as
-/// wrong words are, with status 1.
+/// where none is, it prints `idle`. Both print the refusals of `status` where the journal gives no device, and `deploy`
+/// `refused 4 pending ID` where a deployment is pending. The clauses `deploys`, `resumes` and `driven` say what these do.
+/// The other commands are refused as wrong words are, with status 1.
 pub fn nucleus<D: Disk, L: Library, S: Source, K: Sink, R: Runner>(
     alloc: Global,
     words: &Vec<String>,
@@ -62,17 +63,19 @@ pub fn nucleus<D: Disk, L: Library, S: Source, K: Sink, R: Runner>(
         IsDurable order (D.may_leave disk.new) (D.seen disk.new) }
     ensures others { (order : Order) → Asks (map string_bytes words.now.items) order → IsTrue D.tells →
         (name : List ℕ) → ¬ (files_of order name) → D.seen disk.new name ≡ D.seen disk.old name }
-    // `deploy`: turned away before anything begins; or the document that was read of the source is taken in by the checks in
-    // their order or not, and its deployment goes on from the start of the call. Whenever a crash comes during it, it leaves an
-    // image that the start allowed, or one whose journal stands for what the call's records, up to one of them, make of the
-    // device: with none of them where the call is turned away.
+    // `deploy`: turned away before anything begins, with an answer that has its cause; or the document that was read of the
+    // source is taken in by the checks in their order or not, and its deployment goes on from the start of the call. Whenever
+    // a crash comes during it, it leaves an image that the start allowed, or one whose journal stands for what the call's
+    // records, up to one of them, make of the device: with none of them where the call is turned away.
     ensures deploys { (root : List ℕ) → IsOrder (map string_bytes words.now.items) root order.Deploy →
-        (IsTurnedAway D.seen D.may_leave D.moment D.left_since disk.old disk.new (K.held sink.old) (K.held sink.new) result × (runner.new ≡ runner.old))
+        (IsTurnedAway D.seen D.may_leave D.moment D.left_since (λ a. TurnsAway (store_of D.tells D.seen D.faults disk.old disk.new) (input_of S.left S.faults source.old source.new) a)
+        disk.old disk.new (printed_of K.held K.faults sink.old sink.new) result × (runner.new ≡ runner.old))
         ⊎ IsDeployed D.may_leave D.moment D.left_since disk.old disk.new (R.list runner.old) (R.list runner.new) (printed_of K.held K.faults sink.old sink.new) result
         (store_of D.tells D.seen D.faults disk.old disk.new) (input_of S.left S.faults source.old source.new) (shelf_of L.content L.faults library.old library.new) }
     // `resume`: so it is with the pending deployment, which goes on where there is one.
     ensures resumes { (root : List ℕ) → IsOrder (map string_bytes words.now.items) root order.Resume →
-        (IsTurnedAway D.seen D.may_leave D.moment D.left_since disk.old disk.new (K.held sink.old) (K.held sink.new) result × (runner.new ≡ runner.old))
+        (IsTurnedAway D.seen D.may_leave D.moment D.left_since (λ a. Withholds (store_of D.tells D.seen D.faults disk.old disk.new) a)
+        disk.old disk.new (printed_of K.held K.faults sink.old sink.new) result × (runner.new ≡ runner.old))
         ⊎ IsResumed D.may_leave D.moment D.left_since disk.old disk.new (R.list runner.old) (R.list runner.new) (printed_of K.held K.faults sink.old sink.new) result
         (store_of D.tells D.seen D.faults disk.old disk.new) }
     // Of both: when 5, 6 and 7 come, and which files change.

@@ -1,6 +1,7 @@
 // Calls of the top call over disks, libraries, documents and children in memory, which are written in a few words.
-ghost use Rattle.std.specs.Prelude.{◌≡◌, true, IfOk};
+ghost use Rattle.std.specs.Prelude.{◌≡◌, [], true, IfOk};
 ghost use Rattle.std.specs.List.{list_all};
+ghost use Rattle.step_runner.specs.Scripted.{living_of};
 ghost use Rattle.step_runner.specs.Waits.{is_own};
 ghost use Rattle.step_runner.specs.declared.ends.ScriptedEnd.{ScriptedEnd};
 
@@ -129,7 +130,10 @@ fn played_of(alloc: Global, ends: &str) -> Result<List<ScriptedEnd>, Fail>
     Ok(played)
 }
 
-fn runner_of(alloc: Global, ends: &str) -> Result<ScriptedRunner, Fail> {
+/// A runner that plays these ends, and has the file `/opt/x`.
+pub(crate) fn runner_of(alloc: Global, ends: &str) -> Result<ScriptedRunner, Fail>
+    ensures { IfOk result (λ r. living_of r ≡ []) }
+{
     let mut present = List::empty(alloc);
     present.push(Text::from_str(alloc, "/opt/x")?)?;
     let played = played_of(alloc, ends)?;
@@ -157,23 +161,24 @@ pub(crate) struct Asked<'a> {
     pub(crate) ends: &'a str,
 }
 
-/// What is printed, with `;` for each line feed, behind the status.
-pub(crate) fn call<D: Disk>(alloc: Global, disk: &mut D, asked: Asked<'_>) -> Result<String, Fail> {
-    let words = words_of(alloc, asked.command)?;
-    let mut library = library_of(alloc, asked.recipes)?;
-    let bytes = Bytes::from_slice(alloc, document_of(alloc, asked.document)?.as_bytes())?;
+/// What the call of the words prints, with `;` for each line feed, behind the status. The document is these bytes, and the
+/// sink fails these calls.
+pub(crate) fn answer<D: Disk>(
+    alloc: Global,
+    disk: &mut D,
+    library: &mut MemoryLibrary,
+    runner: &mut ScriptedRunner,
+    command: &str,
+    document: &str,
+    failing: List<u64>,
+) -> Result<String, Fail>
+    requires none { living_of runner.old ≡ [] }
+{
+    let words = words_of(alloc, command)?;
+    let bytes = Bytes::from_slice(alloc, document.as_bytes())?;
     let mut source = MemorySource::new(bytes, List::empty(alloc));
-    let mut sink = MemorySink::new(alloc, List::empty(alloc));
-    let mut runner = runner_of(alloc, asked.ends)?;
-    let status = nucleus(
-        alloc,
-        &words,
-        disk,
-        &mut library,
-        &mut source,
-        &mut sink,
-        &mut runner,
-    );
+    let mut sink = MemorySink::new(alloc, failing);
+    let status = nucleus(alloc, &words, disk, library, &mut source, &mut sink, runner);
     let mut text = format!(in alloc; "{}|", status.number())?;
     for byte in sink.bytes() {
         text.push(if *byte == b'\n' {
@@ -183,6 +188,22 @@ pub(crate) fn call<D: Disk>(alloc: Global, disk: &mut D, asked: Asked<'_>) -> Re
         })?;
     }
     Ok(text)
+}
+
+/// The same of a call that is written in a few words.
+pub(crate) fn call<D: Disk>(alloc: Global, disk: &mut D, asked: Asked<'_>) -> Result<String, Fail> {
+    let mut library = library_of(alloc, asked.recipes)?;
+    let document = document_of(alloc, asked.document)?;
+    let mut runner = runner_of(alloc, asked.ends)?;
+    answer(
+        alloc,
+        disk,
+        &mut library,
+        &mut runner,
+        asked.command,
+        document.as_str(),
+        List::empty(alloc),
+    )
 }
 
 /// A disk with a new store.

@@ -7,6 +7,8 @@
 #[cfg(test)]
 mod calls;
 #[cfg(test)]
+mod hello;
+#[cfg(test)]
 mod rows;
 #[cfg(test)]
 mod stops;

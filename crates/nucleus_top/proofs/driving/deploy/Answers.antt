@@ -4,8 +4,7 @@ use Rattle.nuc_base.specs.Faults.{Rose}
 use Rattle.deploy_state.specs.States.{idle_device}
 use Rattle.nucleus_top.specs.Answers.{Input, Printed, Shelf, Store, input_of, printed_of, shelf_of, store_of}
 use Rattle.nucleus_top.specs.Drives.{slots_start}
-use Rattle.nucleus_top.proofs.Driven.{ran_on, says_of, stays, stays_on, tells}
-use Rattle.nucleus_top.proofs.Images.{held_stands}
+use Rattle.nucleus_top.proofs.Driven.{idle_refusal, idle_turns, ran_on, stays, stays_on, tells}
 use Rattle.nucleus_top.proofs.driving.deploy.Goals as goal
 
 -- ---- no deployment is pending
@@ -26,8 +25,7 @@ returns-in-Ok-clause-ran g c =
     ran_on g.met.D.Disk.laws c.args.disk.now c.open_idle.new.disk c.deploy_read.new.disk c.open_idle.ensures.spared
     (g.R.Runner.list c.args.runner.now) (g.R.Runner.list c.deploy_read.new.runner) printed c.deploy_read.result
     store input library d (slots_start c.in-Ok.idle.log d) (c.deploy_read.new.runner ≡ c.args.runner.now)
-    c.in-Ok.ensures.opened c.in-Ok.ensures.start (λ told. (c.in-Ok.ensures.opened told).1)
-    (λ told. held_stands g.met.D.Disk.laws c.in-Ok.idle.log c.open_idle.new.disk d c.in-Ok.ensures.held.0 (g.D.Disk.seen c.open_idle.new.disk) (g.met.D.Disk.laws.reads c.open_idle.new.disk told))
+    c.in-Ok.ensures.opened c.in-Ok.ensures.held.1 c.in-Ok.ensures.start (λ told. (c.in-Ok.ensures.opened told).1)
     c.open_idle.ensures.images c.deploy_read.ensures.ran
 
 pub returns-in-Ok-clause-none : goal.returns-in-Ok-clause-none
@@ -66,8 +64,18 @@ returns-in-Ok-clause-quiet_source g c = c.deploy_read.ensures.quiet_source
 
 pub returns-in-Err-clause-ran : goal.returns-in-Err-clause-ran
 returns-in-Err-clause-ran g c =
-    let printed : Printed = printed_of g.K.Sink.held g.K.Sink.faults c.args.sink.now c.tell.new.sink in
-    inl (record { spared = c.open_idle.ensures.spared; images = c.open_idle.ensures.images; says = says_of printed c.tell.result c.in-Err.answer c.tell.ensures.told }, refl {a = c.args.runner.now})
+    let store : Store = store_of g.D.Disk.tells g.D.Disk.seen g.D.Disk.faults c.args.disk.now c.open_idle.new.disk in
+    let input : Input = input_of g.S.Source.left g.S.Source.faults c.args.source.now c.args.source.now in
+    inl (
+      record {
+        answer = c.in-Err.answer;
+        why = idle_turns store input c.in-Err.answer refl c.in-Err.ensures.answers;
+        told = c.tell.ensures.told;
+        spared = c.open_idle.ensures.spared;
+        images = c.open_idle.ensures.images;
+      },
+      refl {a = c.args.runner.now},
+    )
 
 pub returns-in-Err-clause-others : goal.returns-in-Err-clause-others
 returns-in-Err-clause-others g c = c.open_idle.ensures.others
@@ -75,27 +83,27 @@ returns-in-Err-clause-others g c = c.open_idle.ensures.others
 pub returns-in-Err-clause-disk : goal.returns-in-Err-clause-disk
 returns-in-Err-clause-disk g c = λ is.
     let printed : Printed = printed_of g.K.Sink.held g.K.Sink.faults c.args.sink.now c.tell.new.sink in
-    c.in-Err.ensures.disk (ap Err ((tells printed c.tell.result c.in-Err.answer c.in-Err.ensures.answers c.tell.ensures.told).disk is))
+    c.in-Err.ensures.disk (ap Err ((tells printed c.tell.result c.in-Err.answer (idle_refusal (store_of g.D.Disk.tells g.D.Disk.seen g.D.Disk.faults c.args.disk.now c.open_idle.new.disk) c.in-Err.answer c.in-Err.ensures.answers) c.tell.ensures.told).disk is))
 
 pub returns-in-Err-clause-quiet_disk : goal.returns-in-Err-clause-quiet_disk
 returns-in-Err-clause-quiet_disk g c = λ other more.
     let printed : Printed = printed_of g.K.Sink.held g.K.Sink.faults c.args.sink.now c.tell.new.sink in
-    c.in-Err.ensures.quiet (λ is. (tells printed c.tell.result c.in-Err.answer c.in-Err.ensures.answers c.tell.ensures.told).quiet other more (cc))
+    c.in-Err.ensures.quiet (λ is. (tells printed c.tell.result c.in-Err.answer (idle_refusal (store_of g.D.Disk.tells g.D.Disk.seen g.D.Disk.faults c.args.disk.now c.open_idle.new.disk) c.in-Err.answer c.in-Err.ensures.answers) c.tell.ensures.told).quiet other more (cc))
 
 pub returns-in-Err-clause-quiet_sink : goal.returns-in-Err-clause-quiet_sink
 returns-in-Err-clause-quiet_sink g c =
     let printed : Printed = printed_of g.K.Sink.held g.K.Sink.faults c.args.sink.now c.tell.new.sink in
-    (tells printed c.tell.result c.in-Err.answer c.in-Err.ensures.answers c.tell.ensures.told).quiet_sink
+    (tells printed c.tell.result c.in-Err.answer (idle_refusal (store_of g.D.Disk.tells g.D.Disk.seen g.D.Disk.faults c.args.disk.now c.open_idle.new.disk) c.in-Err.answer c.in-Err.ensures.answers) c.tell.ensures.told).quiet_sink
 
 pub returns-in-Err-clause-library : goal.returns-in-Err-clause-library
 returns-in-Err-clause-library g c = λ is.
     let printed : Printed = printed_of g.K.Sink.held g.K.Sink.faults c.args.sink.now c.tell.new.sink in
-    absurd ((tells printed c.tell.result c.in-Err.answer c.in-Err.ensures.answers c.tell.ensures.told).library is)
+    absurd ((tells printed c.tell.result c.in-Err.answer (idle_refusal (store_of g.D.Disk.tells g.D.Disk.seen g.D.Disk.faults c.args.disk.now c.open_idle.new.disk) c.in-Err.answer c.in-Err.ensures.answers) c.tell.ensures.told).library is)
 
 pub returns-in-Err-clause-edge : goal.returns-in-Err-clause-edge
 returns-in-Err-clause-edge g c = λ is.
     let printed : Printed = printed_of g.K.Sink.held g.K.Sink.faults c.args.sink.now c.tell.new.sink in
-    inr ((tells printed c.tell.result c.in-Err.answer c.in-Err.ensures.answers c.tell.ensures.told).edge is)
+    inr ((tells printed c.tell.result c.in-Err.answer (idle_refusal (store_of g.D.Disk.tells g.D.Disk.seen g.D.Disk.faults c.args.disk.now c.open_idle.new.disk) c.in-Err.answer c.in-Err.ensures.answers) c.tell.ensures.told).edge is)
 
 pub returns-in-Err-clause-later : goal.returns-in-Err-clause-later
 returns-in-Err-clause-later g c =

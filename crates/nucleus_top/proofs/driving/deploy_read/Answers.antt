@@ -1,11 +1,9 @@
 use Rattle.std.proofs.Common.{ℕ, List, inl, inr, refl, ap, arith, subst}
 use Rattle.std.specs.Prelude.{Err}
-use Rattle.disk_model.specs.Moments.{at_start}
 use Rattle.deploy_state.specs.States.{idle_device}
 use Rattle.nucleus_top.specs.Answers.{Input, Printed, Shelf, input_of, printed_of, shelf_of}
 use Rattle.nucleus_top.specs.Drives.{IsDeployedOn, slots_start}
-use Rattle.nucleus_top.proofs.Crashes.{same_left}
-use Rattle.nucleus_top.proofs.Driven.{document_deploys, first_by, says_of, start_spared, stays, tells_none}
+use Rattle.nucleus_top.proofs.Driven.{document_deploys, first_by, stays, tells_none, unread_goes}
 use Rattle.nucleus_top.proofs.driving.deploy_read.Goals as goal
 
 -- ---- the document is read
@@ -63,12 +61,13 @@ returns-in-Ok-clause-quiet_source g c = λ other. c.in-Ok.ensures.quiet (λ is. 
 
 pub returns-in-Err-clause-ran : goal.returns-in-Err-clause-ran
 returns-in-Err-clause-ran g c =
-    let printed : Printed = printed_of g.K.Sink.held g.K.Sink.faults c.args.sink.now c.tell.new.sink in
+    let input : Input = input_of g.S.Source.left g.S.Source.faults c.args.source.now c.read_up_to.new.source in
     inl (
       record {
-        spared = start_spared g.met.D.Disk.laws c.args.disk.now;
-        images = same_left g.met.D.Disk.laws c.args.disk.now c.args.disk.now (at_start g.met.D.Disk.laws c.args.disk.now);
-        says = says_of printed c.tell.result c.unread.result c.tell.ensures.told;
+        answer = c.unread.result;
+        why = unread_goes input c.in-Err.fault c.unread.result c.unread.ensures (λ is. c.in-Err.ensures.cause (ap Err is));
+        told = c.tell.ensures.told;
+        same = refl {a = c.args.disk.now};
       },
       refl {a = c.args.runner.now},
     )

@@ -1,4 +1,4 @@
-use Rattle.std.proofs.Common.{◌≡◌, inl, ap}
+use Rattle.std.proofs.Common.{◌≡◌, ap}
 use Rattle.std.specs.Prelude.{Err}
 use Rattle.checkpoint_log.specs.Slots.{slots_stands}
 use Rattle.checkpoint_log.specs.declared.slots.Slots.{Slots}
@@ -6,10 +6,11 @@ use Rattle.deploy_state.specs.States.{InLoaded, idle_device, loaded_device}
 use Rattle.deploy_state.specs.declared.state.Idle.{Idle}
 use Rattle.deploy_state.specs.declared.state.Loaded.{Loaded}
 use Rattle.deploy_state.specs.declared.state.Loaded.TheVariants as loaded
+use Rattle.nucleus_top.specs.Answers.{Store, store_of}
 use Rattle.nucleus_top.specs.Drives.{StartsFrom, slots_start}
 use Rattle.nucleus_top.specs.Opening.{HasEntry, Stands}
 use Rattle.nucleus_top.specs.declared.answer.Answer.TheVariants.{DiskFailed}
-use Rattle.nucleus_top.proofs.Driven.{idle_ok, ok_by, pending_no_disk, pending_too}
+use Rattle.nucleus_top.proofs.Driven.{idle_ok, ok_by, pending_no_disk, pending_withholds, withholds_idle}
 use Rattle.nucleus_top.proofs.driving.open_idle.Goals as goal
 
 pub returns-in-Ok-clause-opened : goal.returns-in-Ok-clause-opened
@@ -36,13 +37,15 @@ pub returns-in-Ok-clause-others : goal.returns-in-Ok-clause-others
 returns-in-Ok-clause-others g c = c.open_swept.ensures.others
 
 pub returns-in-Ok-clause-disk : goal.returns-in-Ok-clause-disk
-returns-in-Ok-clause-disk g c = λ is. absurd (pending_no_disk c.idle_of.result c.idle_of.ensures.answers is)
+returns-in-Ok-clause-disk g c = λ is. absurd (pending_no_disk (loaded_device c.in-Ok.state) c.idle_of.result c.idle_of.ensures.answers is)
 
 pub returns-in-Ok-clause-quiet : goal.returns-in-Ok-clause-quiet
 returns-in-Ok-clause-quiet g c = λ other. c.in-Ok.ensures.quiet (λ is. cc)
 
 pub returns-in-Ok-clause-answers : goal.returns-in-Ok-clause-answers
-returns-in-Ok-clause-answers g c = pending_too c.idle_of.result c.idle_of.ensures.answers
+returns-in-Ok-clause-answers g c =
+    let store : Store = store_of g.D.Disk.tells g.D.Disk.seen g.D.Disk.faults c.args.disk.now c.open_swept.new.disk in
+    pending_withholds store (loaded_device c.in-Ok.state) c.in-Ok.ensures.opened c.idle_of.result c.idle_of.ensures.answers
 
 pub returns-in-Err-clause-images : goal.returns-in-Err-clause-images
 returns-in-Err-clause-images g c = c.open_swept.ensures.images
@@ -60,4 +63,5 @@ pub returns-in-Err-clause-quiet : goal.returns-in-Err-clause-quiet
 returns-in-Err-clause-quiet g c = λ other. c.in-Err.ensures.quiet (λ is. other (ap Err (let same : c.in-Err.answer ≡ DiskFailed = cc in same)))
 
 pub returns-in-Err-clause-answers : goal.returns-in-Err-clause-answers
-returns-in-Err-clause-answers g c = inl c.in-Err.ensures.answers
+returns-in-Err-clause-answers g c =
+    withholds_idle (store_of g.D.Disk.tells g.D.Disk.seen g.D.Disk.faults c.args.disk.now c.open_swept.new.disk) c.in-Err.answer c.in-Err.ensures.answers

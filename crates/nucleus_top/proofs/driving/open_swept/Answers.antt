@@ -9,11 +9,12 @@ use Rattle.deploy_state.specs.States.{InLoaded, idle_device, loaded_device}
 use Rattle.deploy_state.specs.declared.state.Idle.{Idle}
 use Rattle.deploy_state.specs.declared.state.Loaded.{Loaded}
 use Rattle.deploy_state.specs.declared.state.Loaded.TheVariants as loaded
+use Rattle.nucleus_top.specs.Answers.{Store, store_of}
 use Rattle.nucleus_top.specs.Drives.{StartsFrom, slots_start}
 use Rattle.nucleus_top.specs.Opening.{HasEntry, Stands}
 use Rattle.nucleus_top.proofs.Crashes.{opened_same, same_left}
-use Rattle.nucleus_top.proofs.Driven.{disk_of, first_of, kept_ok, loaded_stays, same_spared, slots_elsewhere, starts_from, then_spared}
-use Rattle.nucleus_top.proofs.Faults.{other_fault}
+use Rattle.nucleus_top.proofs.Driven.{disk_of, kept_ok, loaded_stays, refused_withholds, same_spared, slots_elsewhere, starts_from, then_spared, unswept_withholds}
+use Rattle.nucleus_top.proofs.Faults.{other_fault, refuses}
 use Rattle.nucleus_top.proofs.driving.open_swept.Goals as goal
 
 pub returns-in-Ok-clause-opened : goal.returns-in-Ok-clause-opened
@@ -68,5 +69,14 @@ returns-in-Err-clause-disk g c = λ is. c.in-Err.ensures.cause (ap Err (disk_of 
 pub returns-in-Err-clause-quiet : goal.returns-in-Err-clause-quiet
 returns-in-Err-clause-quiet g c = λ other. c.in-Err.ensures.quiet (λ is. other_fault c.in-Err.fault c.refused.result c.refused.ensures (λ same. other (ap Err same)) (cc))
 
+pub returns-in-Ok-clause-answers : goal.returns-in-Ok-clause-answers
+returns-in-Ok-clause-answers g c =
+    let store : Store = store_of g.D.Disk.tells g.D.Disk.seen g.D.Disk.faults c.args.disk.now c.swept.new.disk in
+    unswept_withholds store (loaded_device c.in-Ok.state) c.in-Ok.ensures.told c.swept.result c.swept.ensures.answers
+    (λ is. let rose : Rose (g.D.Disk.faults c.args.disk.now) (g.D.Disk.faults c.swept.new.disk) = omega (arith, c.swept.ensures.disk is, c.open.ensures.later) in rose)
+
 pub returns-in-Err-clause-answers : goal.returns-in-Err-clause-answers
-returns-in-Err-clause-answers g c = first_of c.in-Err.fault c.refused.result c.refused.ensures
+returns-in-Err-clause-answers g c =
+    let store : Store = store_of g.D.Disk.tells g.D.Disk.seen g.D.Disk.faults c.args.disk.now c.open.new.disk in
+    refused_withholds store c.refused.result
+    (refuses store c.in-Err.fault c.refused.result c.refused.ensures c.open.ensures.seen c.in-Err.ensures.told (λ is. c.in-Err.ensures.cause (ap Err is)))

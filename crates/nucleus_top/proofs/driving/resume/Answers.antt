@@ -4,9 +4,9 @@ use Rattle.nuc_base.specs.Faults.{Rose}
 use Rattle.deploy_state.specs.States.{loaded_device}
 use Rattle.step_runner.specs.Entries.{Listed}
 use Rattle.supervisor.specs.World.{World}
-use Rattle.nucleus_top.specs.Answers.{Printed, printed_of}
+use Rattle.nucleus_top.specs.Answers.{Printed, printed_of, store_of}
 use Rattle.nucleus_top.proofs.Crashes.{kept_fronts, loaded_stands, same_fronts}
-use Rattle.nucleus_top.proofs.Driven.{begun, front_begun, resumed_on, says_of, slots_elsewhere, stays, stays_on, tells}
+use Rattle.nucleus_top.proofs.Driven.{begun, front_begun, resumed_on, slots_elsewhere, stays, stays_on, tells, withheld_first}
 use Rattle.nucleus_top.proofs.driving.resume.Goals as goal
 
 -- ---- the device is there
@@ -81,8 +81,16 @@ returns-in-Ok-clause-later g c =
 
 pub returns-in-Err-clause-ran : goal.returns-in-Err-clause-ran
 returns-in-Err-clause-ran g c =
-    let printed : Printed = printed_of g.K.Sink.held g.K.Sink.faults c.args.sink.now c.tell.new.sink in
-    inl (record { spared = c.open_swept.ensures.spared; images = c.open_swept.ensures.images; says = says_of printed c.tell.result c.in-Err.answer c.tell.ensures.told }, refl {a = c.args.runner.now})
+    inl (
+      record {
+        answer = c.in-Err.answer;
+        why = c.in-Err.ensures.answers;
+        told = c.tell.ensures.told;
+        spared = c.open_swept.ensures.spared;
+        images = c.open_swept.ensures.images;
+      },
+      refl {a = c.args.runner.now},
+    )
 
 pub returns-in-Err-clause-others : goal.returns-in-Err-clause-others
 returns-in-Err-clause-others g c = c.open_swept.ensures.others
@@ -90,27 +98,27 @@ returns-in-Err-clause-others g c = c.open_swept.ensures.others
 pub returns-in-Err-clause-disk : goal.returns-in-Err-clause-disk
 returns-in-Err-clause-disk g c = λ is.
     let printed : Printed = printed_of g.K.Sink.held g.K.Sink.faults c.args.sink.now c.tell.new.sink in
-    c.in-Err.ensures.disk (ap Err ((tells printed c.tell.result c.in-Err.answer (inl c.in-Err.ensures.answers) c.tell.ensures.told).disk is))
+    c.in-Err.ensures.disk (ap Err ((tells printed c.tell.result c.in-Err.answer (inl (withheld_first (store_of g.D.Disk.tells g.D.Disk.seen g.D.Disk.faults c.args.disk.now c.open_swept.new.disk) c.in-Err.answer c.in-Err.ensures.answers)) c.tell.ensures.told).disk is))
 
 pub returns-in-Err-clause-edge : goal.returns-in-Err-clause-edge
 returns-in-Err-clause-edge g c =
     let printed : Printed = printed_of g.K.Sink.held g.K.Sink.faults c.args.sink.now c.tell.new.sink in
-    (tells printed c.tell.result c.in-Err.answer (inl c.in-Err.ensures.answers) c.tell.ensures.told).edge
+    (tells printed c.tell.result c.in-Err.answer (inl (withheld_first (store_of g.D.Disk.tells g.D.Disk.seen g.D.Disk.faults c.args.disk.now c.open_swept.new.disk) c.in-Err.answer c.in-Err.ensures.answers)) c.tell.ensures.told).edge
 
 pub returns-in-Err-clause-quiet_disk : goal.returns-in-Err-clause-quiet_disk
 returns-in-Err-clause-quiet_disk g c = λ other more.
     let printed : Printed = printed_of g.K.Sink.held g.K.Sink.faults c.args.sink.now c.tell.new.sink in
-    c.in-Err.ensures.quiet (λ is. (tells printed c.tell.result c.in-Err.answer (inl c.in-Err.ensures.answers) c.tell.ensures.told).quiet other more (cc))
+    c.in-Err.ensures.quiet (λ is. (tells printed c.tell.result c.in-Err.answer (inl (withheld_first (store_of g.D.Disk.tells g.D.Disk.seen g.D.Disk.faults c.args.disk.now c.open_swept.new.disk) c.in-Err.answer c.in-Err.ensures.answers)) c.tell.ensures.told).quiet other more (cc))
 
 pub returns-in-Err-clause-quiet_sink : goal.returns-in-Err-clause-quiet_sink
 returns-in-Err-clause-quiet_sink g c =
     let printed : Printed = printed_of g.K.Sink.held g.K.Sink.faults c.args.sink.now c.tell.new.sink in
-    (tells printed c.tell.result c.in-Err.answer (inl c.in-Err.ensures.answers) c.tell.ensures.told).quiet_sink
+    (tells printed c.tell.result c.in-Err.answer (inl (withheld_first (store_of g.D.Disk.tells g.D.Disk.seen g.D.Disk.faults c.args.disk.now c.open_swept.new.disk) c.in-Err.answer c.in-Err.ensures.answers)) c.tell.ensures.told).quiet_sink
 
 pub returns-in-Err-clause-own : goal.returns-in-Err-clause-own
 returns-in-Err-clause-own g c =
     let printed : Printed = printed_of g.K.Sink.held g.K.Sink.faults c.args.sink.now c.tell.new.sink in
-    (tells printed c.tell.result c.in-Err.answer (inl c.in-Err.ensures.answers) c.tell.ensures.told).library
+    (tells printed c.tell.result c.in-Err.answer (inl (withheld_first (store_of g.D.Disk.tells g.D.Disk.seen g.D.Disk.faults c.args.disk.now c.open_swept.new.disk) c.in-Err.answer c.in-Err.ensures.answers)) c.tell.ensures.told).library
 
 pub returns-in-Err-clause-later : goal.returns-in-Err-clause-later
 returns-in-Err-clause-later g c =

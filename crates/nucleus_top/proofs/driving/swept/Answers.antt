@@ -4,7 +4,7 @@ use Rattle.disk_model.specs.Listing.{artifacts, IsBelow}
 use Rattle.device.specs.Devices.{device_view}
 use Rattle.artifact_store.specs.Swept.{items_of, IsStray}
 use Rattle.artifact_store.proofs.Walking.{wider_spares}
-use Rattle.nucleus_top.proofs.Driven.{disk_swept, swept_disk, swept_first}
+use Rattle.nucleus_top.proofs.Driven.{disk_swept, swept_disk, swept_unswept}
 use Rattle.nucleus_top.proofs.driving.swept.Goals as goal
 
 pub returns-in-Ok-clause-spared : goal.returns-in-Ok-clause-spared
@@ -31,4 +31,4 @@ pub returns-in-Err-clause-quiet : goal.returns-in-Err-clause-quiet
 returns-in-Err-clause-quiet g c = λ other. c.in-Err.ensures.quiet (λ is. other (ap Err (disk_swept c.in-Err.fault c.unswept.result c.unswept.ensures (cc))))
 
 pub returns-in-Err-clause-answers : goal.returns-in-Err-clause-answers
-returns-in-Err-clause-answers g c = swept_first c.in-Err.fault c.unswept.result c.unswept.ensures
+returns-in-Err-clause-answers g c = swept_unswept c.in-Err.fault c.unswept.result c.unswept.ensures

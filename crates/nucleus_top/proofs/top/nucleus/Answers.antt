@@ -3,9 +3,10 @@ use Rattle.std.proofs.KnownBytes.{Appends-nil}
 use Rattle.command_words.specs.declared.order.Order.TheVariants as orders
 use Rattle.nucleus_top.specs.Asked.{AsksFor}
 use Rattle.nucleus_top.specs.declared.asking.Asked.TheVariants as asked
+use Rattle.nucleus_top.specs.declared.answer.Answer.TheVariants as answer
 use Rattle.nucleus_top.specs.Answers.{Input, Printed, Shelf, Store, input_of, printed_of, shelf_of, store_of}
 use Rattle.nucleus_top.proofs.Crashes.{same_left}
-use Rattle.nucleus_top.proofs.Driven.{no_quiet, not_both, says_none, start_spared, stays, unread_drives, unread_parts}
+use Rattle.nucleus_top.proofs.Driven.{no_quiet, not_both, start_spared, stays, unread_drives, unread_parts}
 use Rattle.nucleus_top.proofs.Images.{by_none}
 use Rattle.disk_model.specs.Moments.{at_start}
 use Rattle.nucleus_top.proofs.top.nucleus.Goals as goal
@@ -33,9 +34,11 @@ returns-in-NoMemory-clause-others g c = λ order asks told name outside. refl
 pub returns-in-NoMemory-clause-deploys : goal.returns-in-NoMemory-clause-deploys
 returns-in-NoMemory-clause-deploys g c = λ root asks. inl (
   record {
+    answer = answer.NoMemory;
+    why = inl refl;
+    told = inl (refl, Appends-nil (g.K.Sink.held c.args.sink.now), refl);
     spared = start_spared g.met.D.Disk.laws c.args.disk.now;
     images = same_left g.met.D.Disk.laws c.args.disk.now c.args.disk.now (at_start g.met.D.Disk.laws c.args.disk.now);
-    says = says_none (g.K.Sink.held c.args.sink.now) _;
   },
   refl {a = c.args.runner.now},
 )
@@ -43,9 +46,11 @@ returns-in-NoMemory-clause-deploys g c = λ root asks. inl (
 pub returns-in-NoMemory-clause-resumes : goal.returns-in-NoMemory-clause-resumes
 returns-in-NoMemory-clause-resumes g c = λ root asks. inl (
   record {
+    answer = answer.NoMemory;
+    why = inl refl;
+    told = inl (refl, Appends-nil (g.K.Sink.held c.args.sink.now), refl);
     spared = start_spared g.met.D.Disk.laws c.args.disk.now;
     images = same_left g.met.D.Disk.laws c.args.disk.now c.args.disk.now (at_start g.met.D.Disk.laws c.args.disk.now);
-    says = says_none (g.K.Sink.held c.args.sink.now) _;
   },
   refl {a = c.args.runner.now},
 )
