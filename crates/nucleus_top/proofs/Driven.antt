@@ -357,6 +357,7 @@ module _ {D : Type 0} (may_leave : D → Image → Type 0) (moment : D → ℕ) 
           begins = h.begins;
           serves = h.serves;
           device_is = h.device_is;
+          idle = h.idle;
           origin = h.origin;
           origin_is = h.origin_is;
           taken = h.taken;
@@ -486,6 +487,7 @@ module _ {D : Type 0} {tells : Bool} {seen : D → Image} {may_leave : D → Ima
       begins = h.begins;
       serves = h.serves;
       device_is = h.device_is;
+      idle = h.idle;
       origin = h.origin;
       origin_is = h.origin_is;
       taken = h.taken;

@@ -1,6 +1,7 @@
 mod AuditEnds
 mod Comparing
 mod Crashes
+mod DriveEnds
 mod Driven
 mod Ends
 mod Faults

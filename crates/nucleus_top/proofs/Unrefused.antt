@@ -51,7 +51,7 @@ of_plan (plan.TooManyComponents n) = refl
 of_plan (plan.ConfigTooLarge name n) = refl
 of_plan plan.NoMemory = refl
 
-of_refusal : (r : Refusal) → may_refuse (status_of_refusal r) ≡ true
+pub of_refusal : (r : Refusal) → may_refuse (status_of_refusal r) ≡ true
 of_refusal (Document fault) = refl
 of_refusal (Repeated id o) = of_outcome o
 of_refusal (Stale id revision) = refl

@@ -6,14 +6,14 @@ use Rattle.disk_model.specs.Disk.{Image}
 use Rattle.nuc_base.specs.Faults.{Rose}
 use Rattle.nuc_base.specs.declared.status.Status.{Status}
 use Rattle.nuc_base.specs.declared.status.Status.TheVariants as status
-use Rattle.checkpoint_log.specs.Slots.{IsLive, slots_entries, slots_files, slots_turn}
+use Rattle.checkpoint_log.specs.Slots.{IsLive, slots_entries, slots_files, slots_none, slots_turn}
 use Rattle.checkpoint_log.specs.declared.slots.Slots.{Slots}
 use Rattle.command_words.specs.Words.{IsOrder}
 use Rattle.command_words.specs.declared.order.Order.TheVariants.{Deploy, Resume}
 use Rattle.records.specs.Stored.{Accepted}
 use Rattle.records.specs.declared.record.Origin.{Origin}
 use Rattle.records.specs.declared.record.Plan as code
-use Rattle.device.specs.Devices.{Device}
+use Rattle.device.specs.Devices.{Device, Pending as PendingPlan}
 use Rattle.deploy_state.specs.Turning.{can_turn, front_bytes, start_of, starts_at}
 use Rattle.artifact_store.specs.declared.fault.SweepFault.{SweepFault}
 use Rattle.artifact_store.specs.declared.fault.SweepFault.TheVariants as sweep
@@ -27,9 +27,11 @@ use Rattle.intake.specs.declared.fault.Declined.{Declined}
 use Rattle.deployments.specs.Calls.{Call, Elsewhere, IsPendingAs, Spared}
 use Rattle.deployments.specs.Documents.{DrivesTaken, TakesRead}
 use Rattle.deployments.specs.Endings.{Resumes}
-use Rattle.nucleus_top.specs.Answers.{HasRisen, Input, IsReadUpTo, Printed, Shelf, Store, Told}
+use Rattle.nucleus_top.specs.Answers.{Expects, HasRisen, Input, IsReadUpTo, Printed, Prints, Shelf, Store, Told, damaged_line, none_line, pending_line}
 use Rattle.nucleus_top.specs.Crashes.{LeavesFronts, LeavesSame}
-use Rattle.nucleus_top.specs.Planning.{IsFound}
+use Rattle.nucleus_top.specs.Inits.{IsRefusedAt}
+use Rattle.nucleus_top.specs.Opening.{Stands, StandsForNone}
+use Rattle.nucleus_top.specs.Planning.{IsFound, IsPending}
 use Rattle.nucleus_top.specs.Refusing.{Refuses}
 use Rattle.nucleus_top.specs.declared.answer.Answer.{Answer}
 use Rattle.nucleus_top.specs.declared.answer.Answer.TheVariants.{Damaged, DiskFailed, NoMemory, NotInitialised, Pending, SourceFailed}
@@ -132,7 +134,7 @@ pub record IsDocument (input : Input) (bytes : List ℕ) : Type 0 where
   pub read : IsReadUpTo 524289 input
 
 module _ {D : Type 0} (may_leave : D → Image → Type 0) (moment : D → ℕ) (left_since : D → ℕ → Image → Type 0) (old new : D) (old_list new_list : Option (List RunnerEntry)) (printed : Printed) (result : Status) where
-  -- The document is taken in on this device or not, by the checks in their order, and then from the start of the call one
+  -- Nothing is pending on this device. The document is taken in on it or not, by the checks in their order, and then from the start of the call one
   -- deployment goes on by its plan, or the plan is given back for want of memory. A crash leaves what a front of the records
   -- makes of the device: of those of the history, or of the one that takes the plan.
   pub record IsDeployedOn (d : Device) (start : ℕ → ℕ) (library : Shelf) (bytes : List ℕ) : Type 0 where
@@ -140,6 +142,7 @@ module _ {D : Type 0} (may_leave : D → Image → Type 0) (moment : D → ℕ) 
     pub begins : IsStart place
     pub serves : place.serves ≡ false
     pub device_is : place.device ≡ d
+    pub idle : d.pending ≡ None
     pub origin : Origin
     pub origin_is : d.origin ≡ Some origin
     pub taken : Result code.Plan Declined
@@ -171,6 +174,22 @@ module _ {D : Type 0} (may_leave : D → Image → Type 0) (moment : D → ℕ) 
   -- so it is with the device for which the journal stands, where the disk tells it
   abbrev pub IsResumed : Store → Type 0
   IsResumed store = (d : Device) × IsFound store d × IsResumedOn d
+
+-- ---- refusals
+
+-- when the refusals of a journal come that gives no device, where no 5, 6 or 15 comes in their place
+pub record RefusedParts (store : Store) (printed : Printed) (result : Status) : Type 0 where
+  -- 8 comes exactly where the journal holds no entry.
+  pub none : result ≡ status.NotInitialised → (IsTrue store.tells → slots_none store.before) × Prints printed none_line
+  pub none_comes : IsTrue store.tells → slots_none store.before → Expects result status.NotInitialised
+  -- 9 comes exactly where it stands for no device.
+  pub damaged : result ≡ status.Damaged → (place : List ℕ) × IsRefusedAt store place × Prints printed (damaged_line place)
+  pub damaged_comes : IsTrue store.tells → StandsForNone store.before → Expects result status.Damaged
+
+-- 4 comes exactly where a deployment is pending. The source is then left as it was.
+pub record PendingParts (store : Store) (input : Input) (printed : Printed) (result : Status) : Type 0 where
+  pub pending : result ≡ status.PendingStands → (id : List ℕ) × (IsTrue store.tells → IsPending store.before id) × (input.rest ≡ input.document) × Prints printed (pending_line id)
+  pub pending_comes : IsTrue store.tells → (d : Device) → Stands store.before d → (q : PendingPlan) → d.pending ≡ Some q → Expects result status.PendingStands
 
 -- ---- faults, and files
 

@@ -5,7 +5,7 @@ ghost use Rattle.command_words.specs.Words.{IsOrder};
 ghost use Rattle.command_words.specs.declared.order.Order.{Order};
 ghost use Rattle.command_words.specs.declared.order.Order.TheVariants as order;
 ghost use Rattle.deployments.specs.Calls.{Stays};
-ghost use Rattle.nucleus_top.specs.Drives.{DriveParts, Drives, IsDeployed, IsResumed, IsTurnedAway, TurnsAway, Withholds};
+ghost use Rattle.nucleus_top.specs.Drives.{DriveParts, Drives, IsDeployed, IsResumed, IsTurnedAway, PendingParts, RefusedParts, TurnsAway, Withholds};
 ghost use Rattle.nucleus_top.specs.Words.{Asks};
 ghost use Rattle.nucleus_top.specs.Answers.{store_of, input_of, shelf_of, printed_of};
 ghost use Rattle.nucleus_top.specs.Leaving.{IsDurable, MayLeave, files_of};
@@ -36,7 +36,8 @@ use step_runner::Runner;
 /// stable, a line for each failure, and `closed ID OUTCOME`; or the first reason why the document is not taken.
 /// `nucleus --root DIR resume` goes on with a deployment that an earlier call left pending, and prints `resumed ID` first;
 /// where none is, it prints `idle`. Both print the refusals of `status` where the journal gives no device, and `deploy`
-/// `refused 4 pending ID` where a deployment is pending. The clauses `deploys`, `resumes` and `driven` say what these do.
+/// `refused 4 pending ID` where a deployment is pending. The clauses `deploys`, `resumes`, `refused`, `pending` and
+/// `driven` say what these do.
 /// The other commands are refused as wrong words are, with status 1.
 pub fn nucleus<D: Disk, L: Library, S: Source, K: Sink, R: Runner>(
     alloc: Global,
@@ -78,7 +79,10 @@ pub fn nucleus<D: Disk, L: Library, S: Source, K: Sink, R: Runner>(
         disk.old disk.new (printed_of K.held K.faults sink.old sink.new) result × (runner.new ≡ runner.old))
         ⊎ IsResumed D.may_leave D.moment D.left_since disk.old disk.new (R.list runner.old) (R.list runner.new) (printed_of K.held K.faults sink.old sink.new) result
         (store_of D.tells D.seen D.faults disk.old disk.new) }
-    // Of both: when 5, 6 and 7 come, and which files change.
+    // Of both: when the refusals of a journal that gives no device come, and of `deploy` that of a pending deployment.
+    ensures refused { Drives (map string_bytes words.now.items) → RefusedParts (store_of D.tells D.seen D.faults disk.old disk.new) (printed_of K.held K.faults sink.old sink.new) result }
+    ensures pending { (root : List ℕ) → IsOrder (map string_bytes words.now.items) root order.Deploy → PendingParts (store_of D.tells D.seen D.faults disk.old disk.new) (input_of S.left S.faults source.old source.new) (printed_of K.held K.faults sink.old sink.new) result }
+    // When 5, 6 and 7 come, and which files change.
     ensures driven { Drives (map string_bytes words.now.items) → DriveParts (store_of D.tells D.seen D.faults disk.old disk.new)
         (input_of S.left S.faults source.old source.new) (shelf_of L.content L.faults library.old library.new)
         (printed_of K.held K.faults sink.old sink.new) result }

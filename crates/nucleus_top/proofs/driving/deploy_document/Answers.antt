@@ -35,6 +35,7 @@ returns-clause-driven g c =
       begins = refl;
       serves = refl;
       device_is = refl;
+      idle = c.requires.held.1;
       origin = origin.0;
       origin_is = origin.1;
       taken = run.0;

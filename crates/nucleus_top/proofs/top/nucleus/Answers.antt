@@ -1,11 +1,13 @@
-use Rattle.std.proofs.Common.{◌≡◌, List, ℕ, map, string_bytes, inl, inr, refl, arith}
+use Rattle.std.proofs.Common.{◌≡◌, ⊎_elim, List, ℕ, map, string_bytes, inl, inr, refl, arith}
 use Rattle.std.proofs.KnownBytes.{Appends-nil}
+use Rattle.nuc_base.specs.declared.status.Status.TheVariants as status
 use Rattle.command_words.specs.declared.order.Order.TheVariants as orders
 use Rattle.nucleus_top.specs.Asked.{AsksFor}
 use Rattle.nucleus_top.specs.declared.asking.Asked.TheVariants as asked
 use Rattle.nucleus_top.specs.declared.answer.Answer.TheVariants as answer
 use Rattle.nucleus_top.specs.Answers.{Input, Printed, Shelf, Store, input_of, printed_of, shelf_of, store_of}
 use Rattle.nucleus_top.proofs.Crashes.{same_left}
+use Rattle.nucleus_top.proofs.DriveEnds.{deployed_is_on, pending_parts, refused_parts, resumed_is_on, starved, withholds_turns}
 use Rattle.nucleus_top.proofs.Driven.{no_quiet, not_both, start_spared, stays, unread_drives, unread_parts}
 use Rattle.nucleus_top.proofs.Images.{by_none}
 use Rattle.disk_model.specs.Moments.{at_start}
@@ -289,3 +291,64 @@ returns-in-NoMemory-clause-disk_later g c = stays (g.D.Disk.faults c.args.disk.n
 
 pub returns-in-NoMemory-clause-sink_later : goal.returns-in-NoMemory-clause-sink_later
 returns-in-NoMemory-clause-sink_later g c = stays (g.K.Sink.faults c.args.sink.now) (g.K.Sink.faults c.args.sink.now) (omega arith)
+
+-- ---- when their refusals come
+
+pub returns-in-NoMemory-clause-refused : goal.returns-in-NoMemory-clause-refused
+returns-in-NoMemory-clause-refused g c = λ drives.
+    let store : Store = store_of g.D.Disk.tells g.D.Disk.seen g.D.Disk.faults c.args.disk.now c.args.disk.now in
+    let input : Input = input_of g.S.Source.left g.S.Source.faults c.args.source.now c.args.source.now in
+    let printed : Printed = printed_of g.K.Sink.held g.K.Sink.faults c.args.sink.now c.args.sink.now in
+    refused_parts store input printed status.Memory (inl (starved store input printed (inl refl) (inl (refl, Appends-nil (g.K.Sink.held c.args.sink.now), refl))))
+
+pub returns-in-NoMemory-clause-pending : goal.returns-in-NoMemory-clause-pending
+returns-in-NoMemory-clause-pending g c = λ root is.
+    let store : Store = store_of g.D.Disk.tells g.D.Disk.seen g.D.Disk.faults c.args.disk.now c.args.disk.now in
+    let input : Input = input_of g.S.Source.left g.S.Source.faults c.args.source.now c.args.source.now in
+    let printed : Printed = printed_of g.K.Sink.held g.K.Sink.faults c.args.sink.now c.args.sink.now in
+    pending_parts store input printed status.Memory (inl (starved store input printed (inl refl) (inl (refl, Appends-nil (g.K.Sink.held c.args.sink.now), refl))))
+
+pub returns-in-Deploy-clause-refused : goal.returns-in-Deploy-clause-refused
+returns-in-Deploy-clause-refused g c = λ drives.
+    let store : Store = store_of g.D.Disk.tells g.D.Disk.seen g.D.Disk.faults c.args.disk.now c.deploy.new.disk in
+    let input : Input = input_of g.S.Source.left g.S.Source.faults c.args.source.now c.deploy.new.source in
+    let library : Shelf = shelf_of g.L.Library.content g.L.Library.faults c.args.library.now c.deploy.new.library in
+    let printed : Printed = printed_of g.K.Sink.held g.K.Sink.faults c.args.sink.now c.deploy.new.sink in
+    refused_parts store input printed c.deploy.result
+    (⊎_elim (λ away. inl (away.0.answer, away.0.why, away.0.told)) (λ went. inr (deployed_is_on g.D.Disk.may_leave g.D.Disk.moment g.D.Disk.left_since c.args.disk.now c.deploy.new.disk
+    (g.R.Runner.list c.args.runner.now) (g.R.Runner.list c.deploy.new.runner) printed c.deploy.result store input library went).0) c.deploy.ensures.ran)
+
+pub returns-in-Deploy-clause-pending : goal.returns-in-Deploy-clause-pending
+returns-in-Deploy-clause-pending g c = λ root is.
+    let store : Store = store_of g.D.Disk.tells g.D.Disk.seen g.D.Disk.faults c.args.disk.now c.deploy.new.disk in
+    let input : Input = input_of g.S.Source.left g.S.Source.faults c.args.source.now c.deploy.new.source in
+    let library : Shelf = shelf_of g.L.Library.content g.L.Library.faults c.args.library.now c.deploy.new.library in
+    let printed : Printed = printed_of g.K.Sink.held g.K.Sink.faults c.args.sink.now c.deploy.new.sink in
+    pending_parts store input printed c.deploy.result
+    (⊎_elim (λ away. inl (away.0.answer, away.0.why, away.0.told)) (λ went. inr (deployed_is_on g.D.Disk.may_leave g.D.Disk.moment g.D.Disk.left_since c.args.disk.now c.deploy.new.disk
+    (g.R.Runner.list c.args.runner.now) (g.R.Runner.list c.deploy.new.runner) printed c.deploy.result store input library went)) c.deploy.ensures.ran)
+
+pub returns-in-Resume-clause-refused : goal.returns-in-Resume-clause-refused
+returns-in-Resume-clause-refused g c = λ drives.
+    let store : Store = store_of g.D.Disk.tells g.D.Disk.seen g.D.Disk.faults c.args.disk.now c.resume.new.disk in
+    let input : Input = input_of g.S.Source.left g.S.Source.faults c.args.source.now c.args.source.now in
+    let printed : Printed = printed_of g.K.Sink.held g.K.Sink.faults c.args.sink.now c.resume.new.sink in
+    refused_parts store input printed c.resume.result
+    (⊎_elim (λ away. inl (away.0.answer, withholds_turns store input away.0.answer away.0.why, away.0.told)) (λ went. inr (resumed_is_on g.D.Disk.may_leave g.D.Disk.moment g.D.Disk.left_since c.args.disk.now c.resume.new.disk
+    (g.R.Runner.list c.args.runner.now) (g.R.Runner.list c.resume.new.runner) printed c.resume.result store went)) c.resume.ensures.ran)
+
+pub returns-in-Resume-clause-pending : goal.returns-in-Resume-clause-pending
+returns-in-Resume-clause-pending g c = λ root is.
+    let words : List (List ℕ) = map string_bytes c.args.words.now.items in
+    let asks : AsksFor words asked.Resume = c.in-Resume.ensures in
+    absurd (not_both c.words_ask_one_thing.ensures words root asks.0 is asks.1)
+
+pub returns-in-Other-clause-refused : goal.returns-in-Other-clause-refused
+returns-in-Other-clause-refused g c = λ drives.
+    let asks : AsksFor (map string_bytes c.args.words.now.items) asked.Other = c.in-Other.ensures in
+    absurd (asks drives)
+
+pub returns-in-Other-clause-pending : goal.returns-in-Other-clause-pending
+returns-in-Other-clause-pending g c = λ root is.
+    let asks : AsksFor (map string_bytes c.args.words.now.items) asked.Other = c.in-Other.ensures in
+    absurd (asks (root, inl is))

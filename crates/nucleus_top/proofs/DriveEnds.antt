@@ -1,0 +1,201 @@
+-- When the refusals of a call come that drives a deployment.
+use Rattle.std.proofs.Common.{◌≡◌, ◌∙◌, ◌⊎◌, inl, inr, ℕ, List, Bool, true, false, IsTrue, Option, Some, None, refl, sym, ap}
+use Rattle.std.proofs.lemmas.Bool.{false≢true, true≢false}
+use Rattle.std.specs.Option.{IsSomeAnd}
+use Rattle.nuc_base.specs.declared.kinds.Outcome.TheVariants as outcome
+use Rattle.nuc_base.specs.declared.status.Status.{Status}
+use Rattle.nuc_base.specs.declared.status.Status.TheVariants as status
+use Rattle.disk_model.specs.Disk.{Image}
+use Rattle.checkpoint_log.specs.Slots.{slots_none}
+use Rattle.plan_core.specs.declared.fault.Refusal.{Refusal}
+use Rattle.refusal_lines.specs.Statuses.{status_of_refusal}
+use Rattle.device.specs.Devices.{Device, Pending as PendingPlan, no_device}
+use Rattle.artifact_store.specs.declared.fault.StageFault.TheVariants as stage
+use Rattle.step_runner.specs.declared.entries.RunnerEntry.{RunnerEntry}
+use Rattle.intake.specs.declared.fault.Declined.TheVariants.{Refused, Unstaged}
+use Rattle.deployments.specs.Calls.{IsOrEdge, IsPendingAs}
+use Rattle.deployments.specs.Endings.{Ending, Closes, Restarts, Reboots, Fails, Breaks, Forgets, Starves, Declines, Full, Idle, status_of_ending}
+use Rattle.nucleus_top.specs.Answers.{Store, Input, Shelf, Printed, Told, Prints, Expects, none_line, damaged_line, pending_line}
+use Rattle.nucleus_top.specs.Drives.{IsDeployed, IsResumed, PendingParts, RefusedParts, TurnsAway, Withholds}
+use Rattle.nucleus_top.specs.Inits.{IsRefusedAt}
+use Rattle.nucleus_top.specs.Opening.{Stands, StandsForNone}
+use Rattle.nucleus_top.specs.Planning.{IsFound, IsPending}
+use Rattle.nucleus_top.specs.declared.answer.Answer.{Answer}
+use Rattle.nucleus_top.specs.declared.answer.Answer.TheVariants.{Unplanned, Pending, DiskFailed, SourceFailed, NotInitialised, Damaged, NoMemory}
+use Rattle.nucleus_top.proofs.Standing.{none_stands, same_device}
+use Rattle.nucleus_top.proofs.Unrefused.{may_refuse, of_refusal}
+
+-- ---- the statuses with which a deployment ends
+
+-- 4, 8 and 9 are none of them
+abbrev pub may_end : Status → Bool
+may_end status.PendingStands = false
+may_end status.NotInitialised = false
+may_end status.Damaged = false
+may_end _ = true
+
+ends_refused : (s : Status) → may_refuse s ≡ true → may_end s ≡ true
+ends_refused status.PendingStands may = absurd (false≢true may)
+ends_refused status.NotInitialised may = absurd (false≢true may)
+ends_refused status.Damaged may = absurd (false≢true may)
+ends_refused s may = refl
+
+of_ending : (e : Ending) → may_end (status_of_ending e) ≡ true
+of_ending (Closes outcome.Successful) = refl
+of_ending (Closes outcome.RollbackComplete) = refl
+of_ending (Closes outcome.RollbackNotRequested) = refl
+of_ending (Closes outcome.UnableToRollback) = refl
+of_ending (Restarts id) = refl
+of_ending (Reboots id) = refl
+of_ending Fails = refl
+of_ending Breaks = refl
+of_ending Forgets = refl
+of_ending Starves = refl
+of_ending (Declines (Refused r)) = ends_refused (status_of_refusal r) (of_refusal r)
+of_ending (Declines (Unstaged stage.Disk)) = refl
+of_ending (Declines (Unstaged stage.Library)) = refl
+of_ending (Declines (Unstaged (stage.Missing file))) = refl
+of_ending (Declines (Unstaged (stage.TooLarge file bytes))) = refl
+of_ending (Declines (Unstaged (stage.Mismatch file digest))) = refl
+of_ending (Declines (Unstaged stage.NoMemory)) = refl
+of_ending (Full at) = refl
+of_ending Idle = refl
+
+answered : (e : Ending) (result : Status) → IsOrEdge result (status_of_ending e) → may_end result ≡ true
+answered e result (inl is) = ap may_end is ∙ of_ending e
+answered e result (inr is) = ap may_end is
+
+-- ---- a call that goes on
+
+-- with the device for which the journal stands it ends with none of them
+pub record IsOn (store : Store) (result : Status) : Type 0 where
+  pub device : Device
+  pub found : IsFound store device
+  pub ends : may_end result ≡ true
+
+module _ {D : Type 0} (may_leave : D → Image → Type 0) (moment : D → ℕ) (left_since : D → ℕ → Image → Type 0) (old new : D) (old_list new_list : Option (List RunnerEntry)) (printed : Printed) (result : Status) (store : Store) where
+  pub deployed_is_on : (input : Input) (library : Shelf) → IsDeployed may_leave moment left_since old new old_list new_list printed result store input library
+      → (on : IsOn store result) × (on.device.pending ≡ None)
+  deployed_is_on input library went =
+      let on = went.4.2 in (
+        record {
+          device = went.0;
+          found = went.2;
+          ends = elim on.call [ inl call ↦ answered call.0.ending result call.0.answers | inr given ↦ ap may_end given.0.memory ];
+        },
+        on.idle,
+      )
+
+  pub resumed_is_on : IsResumed may_leave moment left_since old new old_list new_list printed result store → IsOn store result
+  resumed_is_on went = record { device = went.0; found = went.1; ends = answered went.2.call.ending result went.2.call.answers }
+
+-- ---- a call that is turned away
+
+abbrev pub IsTold : Store → Input → Printed → Status → Type 0
+IsTold store input printed result = (a : Answer) × TurnsAway store input a × Told printed result a
+
+pub withholds_turns : (store : Store) (input : Input) (a : Answer) → Withholds store a → TurnsAway store input a
+withholds_turns store input (Pending id) why = absurd why
+withholds_turns store input SourceFailed why = absurd why
+withholds_turns store input a why = why
+
+module _ (store : Store) (input : Input) (printed : Printed) (result : Status) where
+  none : (a : Answer) → TurnsAway store input a → Told printed result a → result ≡ status.NotInitialised → (IsTrue store.tells → slots_none store.before) × Prints printed none_line
+  none NotInitialised why (inl told) is = (why.1, told.1)
+  none (Unplanned r text) why (inl told) is = absurd why
+  none a why (inl told) is = cc
+  none a why (inr told) is = cc
+
+  none_comes : (a : Answer) → TurnsAway store input a → Told printed result a → IsTrue store.tells → slots_none store.before → Expects result status.NotInitialised
+  none_comes a why (inr told) tells holds_none = inr (inr (inl told.0))
+  none_comes DiskFailed why (inl told) tells holds_none = inl told.0
+  none_comes SourceFailed why (inl told) tells holds_none = inr (inr (inl told.0))
+  none_comes NotInitialised why (inl told) tells holds_none = inr (inl told.0)
+  none_comes (Damaged place) why (inl told) tells holds_none = absurd ((why.1.2 tells).none no_device (none_stands store.before holds_none))
+  none_comes NoMemory why (inl told) tells holds_none = inr (inr (inr told.0))
+  none_comes (Pending id) why (inl told) tells holds_none = absurd ((why.0.1 tells).0 holds_none)
+  none_comes a why (inl told) tells holds_none = absurd why
+
+  damaged : (a : Answer) → TurnsAway store input a → Told printed result a → result ≡ status.Damaged → (place : List ℕ) × IsRefusedAt store place × Prints printed (damaged_line place)
+  damaged (Damaged place) why (inl told) is = (place, why, told.1)
+  damaged (Unplanned r text) why (inl told) is = absurd why
+  damaged a why (inl told) is = cc
+  damaged a why (inr told) is = cc
+
+  damaged_comes : (a : Answer) → TurnsAway store input a → Told printed result a → IsTrue store.tells → StandsForNone store.before → Expects result status.Damaged
+  damaged_comes a why (inr told) tells refuses = inr (inr (inl told.0))
+  damaged_comes DiskFailed why (inl told) tells refuses = inl told.0
+  damaged_comes SourceFailed why (inl told) tells refuses = inr (inr (inl told.0))
+  damaged_comes NotInitialised why (inl told) tells refuses = absurd (refuses no_device (none_stands store.before (why.1 tells)))
+  damaged_comes (Damaged place) why (inl told) tells refuses = inr (inl told.0)
+  damaged_comes NoMemory why (inl told) tells refuses = inr (inr (inr told.0))
+  damaged_comes (Pending id) why (inl told) tells refuses = absurd (refuses why.0.0 (why.0.1 tells).1)
+  damaged_comes a why (inl told) tells refuses = absurd why
+
+  pending_in : (d : Device) (id : List ℕ) → IsFound store d → IsPendingAs id d → IsTrue store.tells → IsPending store.before id
+  pending_in d id found is tells = by d.pending refl is
+    where
+      by : (x : Option PendingPlan) → d.pending ≡ x → IsSomeAnd x (λ q. q.plan.id ≡ id) → IsPending store.before id
+      by None same none = absurd none
+      by (Some q) same named = record { some = (found tells).0; device = d; stands = (found tells).1; plan = q; pending = same; id_is = sym named }
+
+  pending : (a : Answer) → TurnsAway store input a → Told printed result a → result ≡ status.PendingStands
+      → (id : List ℕ) × (IsTrue store.tells → IsPending store.before id) × (input.rest ≡ input.document) × Prints printed (pending_line id)
+  pending (Pending id) why (inl told) is = (id, pending_in why.0.0 id why.0.1 why.0.2, why.1, told.1)
+  pending (Unplanned r text) why (inl told) is = absurd why
+  pending a why (inl told) is = cc
+  pending a why (inr told) is = cc
+
+  -- a device without a pending deployment is not the one that the journal stands for
+  busy : (d e : Device) (q : PendingPlan) → IsTrue store.tells → IsFound store e → e.pending ≡ None → Stands store.before d → d.pending ≡ Some q → ⊥
+  busy d e q tells found idle stands is =
+      let same : d ≡ e = same_device store.before d e stands (found tells).1 in
+      let none : d.pending ≡ None = ap (λ (x : Device). x.pending) same ∙ idle in
+      let clash : None ≡ Some q = sym none ∙ is in cc
+
+  -- nor is the one before its first record
+  busy_none : (d : Device) (q : PendingPlan) → slots_none store.before → Stands store.before d → d.pending ≡ Some q → ⊥
+  busy_none d q holds_none stands is =
+      let same : d ≡ no_device = same_device store.before d no_device stands (none_stands store.before holds_none) in
+      let clash : None ≡ Some q = sym (ap (λ (x : Device). x.pending) same) ∙ is in cc
+
+  pending_comes : (a : Answer) → TurnsAway store input a → Told printed result a → IsTrue store.tells → (d : Device) → Stands store.before d
+      → (q : PendingPlan) → d.pending ≡ Some q → Expects result status.PendingStands
+  pending_comes a why (inr told) tells d stands q is = inr (inr (inl told.0))
+  pending_comes DiskFailed why (inl told) tells d stands q is = inl told.0
+  pending_comes SourceFailed why (inl told) tells d stands q is = inr (inr (inl told.0))
+  pending_comes NotInitialised why (inl told) tells d stands q is = absurd (busy_none d q (why.1 tells) stands is)
+  pending_comes (Damaged place) why (inl told) tells d stands q is = absurd ((why.1.2 tells).none d stands)
+  pending_comes NoMemory why (inl told) tells d stands q is = inr (inr (inr told.0))
+  pending_comes (Pending id) why (inl told) tells d stands q is = inr (inl told.0)
+  pending_comes a why (inl told) tells d stands q is = absurd why
+
+  -- ---- both
+
+  other : (s : Status) → may_end s ≡ false → may_end result ≡ true → result ≡ s → ⊥
+  other s never ends is = true≢false (sym ends ∙ ap may_end is ∙ never)
+
+  pub refused_parts : IsTold store input printed result ⊎ IsOn store result → RefusedParts store printed result
+  refused_parts (inl away) = record {
+    none = none away.0 away.1 away.2;
+    none_comes = none_comes away.0 away.1 away.2;
+    damaged = damaged away.0 away.1 away.2;
+    damaged_comes = damaged_comes away.0 away.1 away.2;
+  }
+  refused_parts (inr on) = record {
+    none = λ is. absurd (other status.NotInitialised refl on.ends is);
+    none_comes = λ tells holds_none. absurd ((on.found tells).0 holds_none);
+    damaged = λ is. absurd (other status.Damaged refl on.ends is);
+    damaged_comes = λ tells refuses. absurd (refuses on.device (on.found tells).1);
+  }
+
+  pub pending_parts : IsTold store input printed result ⊎ ((on : IsOn store result) × (on.device.pending ≡ None)) → PendingParts store input printed result
+  pending_parts (inl away) = record { pending = pending away.0 away.1 away.2; pending_comes = pending_comes away.0 away.1 away.2 }
+  pending_parts (inr on) = record {
+    pending = λ is. absurd (other status.PendingStands refl on.0.ends is);
+    pending_comes = λ tells d stands q is. absurd (busy d on.0.device q tells on.0.found on.1 stands is);
+  }
+
+-- nothing is done where memory for the words is refused
+pub starved : (store : Store) (input : Input) (printed : Printed) → TurnsAway store input NoMemory → Told printed status.Memory NoMemory → IsTold store input printed status.Memory
+starved store input printed why told = (NoMemory, why, told)
