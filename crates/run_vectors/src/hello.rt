@@ -1,6 +1,6 @@
 // The first component of the developer guide, with its file, and files that the library lacks or has otherwise.
 use crate::calls::{answer, begin, runner_of};
-use disk_model::MemoryDisk;
+use disk_model::{FusedDisk, MemoryDisk, Pick};
 use library_core::{MemoryLibrary, Stored};
 use npm_ranges::Version;
 use nuc_base::{Bytes, Label, List, Name};
@@ -112,6 +112,58 @@ fn hello_world_is_deployed(rt: HostRuntime) -> Result<(), Fail> {
     let said = answer_to(alloc, &mut disk, "deploy", NOTHING, (&[], &[]))?;
     assert_eq!(rt; said.as_str(), "0|accepted d2;closed d2 SUCCESSFUL;");
     assert!(rt; disk.file(FILE).is_empty());
+    Ok(())
+}
+
+/// Whether each image that the stop may leave has the files of its device, and is resumed to the close of the deployment, or to
+/// none where it was not acknowledged.
+fn goes_on(alloc: Global, disk: &FusedDisk, is_said: bool) -> Result<bool, Fail> {
+    for pick in [Pick::Old, Pick::New, Pick::Fill(0x01)] {
+        let mut image = disk.disk().image(alloc, pick)?;
+        let audit = answer_to(alloc, &mut image, "audit", "", (&[], &[]))?;
+        let resume = answer_to(alloc, &mut image, "resume", "", (&[], &[]))?;
+        let is_idle = resume.as_str() == "0|idle;";
+        let is_resumed = resume.as_str() == "0|resumed d1;closed d1 SUCCESSFUL;";
+        let status = answer_to(alloc, &mut image, "status", "", (&[], &[]))?;
+        let is_closed = status.as_str() == STATUS;
+        if audit.as_str() != "0|whole;" || !(is_idle || is_resumed) || (is_said && !is_closed) {
+            return Ok(false);
+        }
+    }
+    Ok(true)
+}
+
+/// The deployment over a disk that stops after so many calls, and what it says.
+fn stopped(alloc: Global, store: &MemoryDisk, stop: u64) -> Result<(FusedDisk, String), Fail> {
+    let stable = store.image(alloc, Pick::New)?;
+    let mut disk = FusedDisk::new(stable, stop, List::empty(alloc));
+    let mut library = library(alloc, &[])?;
+    let mut runner = runner_of(alloc, "")?;
+    let said = answer(
+        alloc,
+        &mut disk,
+        &mut library,
+        &mut runner,
+        "deploy",
+        DOCUMENT,
+        List::empty(alloc),
+    )?;
+    Ok((disk, said))
+}
+
+#[test]
+fn a_stopped_hello_world_is_resumed(rt: HostRuntime) -> Result<(), Fail> {
+    let alloc = rt.alloc();
+    let store = begin(alloc)?;
+    for stop in 0..400u64 {
+        let (disk, said) = stopped(alloc, &store, stop)?;
+        let is_said = said.as_str().contains("|accepted d1;");
+        assert!(rt; goes_on(alloc, &disk, is_said)?, "after {stop} calls");
+        if !said.as_str().starts_with("5|") {
+            return Ok(());
+        }
+    }
+    assert!(rt; false, "the deployment does not end");
     Ok(())
 }
 
