@@ -324,14 +324,14 @@ fn other_words_are_usage(rt: HostRuntime) -> Result<(), Fail> {
 const SHOW_TURNED: [&str; 4] = ["nucleus", "status", "--json", "--root=/gg"];
 
 /// A command that is not built yet.
-const RESUME: [&str; 4] = ["nucleus", "--root", "/gg", "resume"];
+const WHY: [&str; 4] = ["nucleus", "--root", "/gg", "why"];
 
 #[test]
 fn words_have_no_order_and_what_is_not_built_is_refused(rt: HostRuntime) -> Result<(), Fail> {
     let alloc = rt.alloc();
     let mut disk = holding(alloc, &NEW, 0x01)?;
     assert!(rt; leaves(alloc, &SHOW_TURNED, &mut disk, (Status::Done, JSON), &NEW)?);
-    assert!(rt; leaves(alloc, &RESUME, &mut disk, (Status::Usage, USAGE), &NEW)?);
+    assert!(rt; leaves(alloc, &WHY, &mut disk, (Status::Usage, USAGE), &NEW)?);
     Ok(())
 }
 
