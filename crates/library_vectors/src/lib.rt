@@ -1,0 +1,8 @@
+//! Rows of the library in memory: the candidates that are gathered of it, and the pieces of its artifacts.
+//!
+//! It promises nothing of its own: it holds the tests of `library_core`, in a crate of their own so that its library is
+//! not proved again for them. It stands on `library_core`.
+#![tactic(auto)]
+
+#[cfg(test)]
+mod rows;
