@@ -21,6 +21,3 @@ pub use gather::candidates;
 pub use laws::gathered_are_one;
 pub use library::{Library, LibraryFault, Piece};
 pub use memory::{MemoryLibrary, Stored};
-
-#[cfg(test)]
-mod tests;

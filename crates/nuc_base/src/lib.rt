@@ -35,6 +35,3 @@ pub use platform::Platform;
 pub use pointer::{Pointer, PointerFault};
 pub use status::Status;
 pub use text::{FileName, Text};
-
-#[cfg(test)]
-mod tests;

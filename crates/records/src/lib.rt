@@ -20,6 +20,3 @@ mod texts;
 
 pub use laws::bytes_spell_one_record;
 pub use record::{Draft, DraftItem, Group, Held, Item, Origin, Plan, Record, Requirement};
-
-#[cfg(test)]
-mod tests;
