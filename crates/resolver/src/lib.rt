@@ -16,8 +16,3 @@ mod suits;
 
 pub use recipe_reader::Wanted;
 pub use search::{ResolveFault, resolve};
-
-#[cfg(test)]
-mod slow;
-#[cfg(test)]
-mod tests;

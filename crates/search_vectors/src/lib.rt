@@ -1,8 +1,14 @@
 //! Small libraries and large ones, and the preferred set of each.
 //!
-//! It promises nothing of its own: it holds the tests of `conflict_search`, in a crate of their own so that its library is
-//! not proved again for them. It stands on `conflict_search`.
+//! It promises nothing of its own: it holds the tests of `conflict_search` and of `resolver`, in a crate of their own so
+//! that their libraries are not proved again for them. It stands on these two.
 #![tactic(auto)]
 
 #[cfg(test)]
 mod libraries;
+#[cfg(test)]
+mod plain;
+#[cfg(test)]
+mod rows;
+#[cfg(test)]
+mod slow;
