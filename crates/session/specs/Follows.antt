@@ -131,9 +131,14 @@ pub record MayTake (p : Place) : Type 0 where
   pub present : is_present p.crew ≡ true
   pub given : IsSomeAnd p.answer (λ a. is_document a ≡ true)
 
+-- another call takes one document, where none is pending as it begins
+abbrev pub MayTakeBy : Bool → Place → Type 0
+MayTakeBy true p = MayTake p
+MayTakeBy false p = p.taken ≡ false
+
 -- Whether the record is lawful is no matter of this: it is said of the records alone.
 abbrev pub MayKeep : Place → Record → Type 0
-MayKeep p (Accepted x) = IsClear p × IsQuiet p.world × (p.serves ≡ true → MayTake p)
+MayKeep p (Accepted x) = IsClear p × IsQuiet p.world × MayTakeBy p.serves p
 MayKeep p (BootBegun n) = IsClear p × (is_stopped p.world ≡ true)
 MayKeep p (BootEnded n e) = (p.boot ≡ None) × (p.boot_end ≡ Some e)
 MayKeep p Activating = IsClear p

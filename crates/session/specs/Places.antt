@@ -1,5 +1,5 @@
 -- What a history leaves: the device, the components, the bootstrap, and how far the call is.
-use Rattle.std.specs.Prelude.{ℕ, ◌==◌, ◌-◌, Bool, true, false, ◌&&◌, ◌||◌, List, [], ◌∷◌, Option, Some, None, is_none, if◌then◌else◌, pos}
+use Rattle.std.specs.Prelude.{ℕ, ◌==◌, ◌-◌, Bool, true, false, ◌&&◌, ◌||◌, List, [], ◌∷◌, Option, Some, None, is_none, is_some, if◌then◌else◌, pos}
 use Rattle.std.specs.Ordering.{int_eq}
 use Rattle.nuc_base.specs.declared.kinds.Step.{Step}
 use Rattle.nuc_base.specs.declared.kinds.Step.TheVariants as step
@@ -27,6 +27,7 @@ pub record Place : Type 0 where
   pub opened : Bool  -- in `serve`: the set was brought up where nothing was pending
   pub turns : ℕ  -- in `serve`: how often the inbox may still be asked
   pub answer : Option Answer  -- in `serve`: what the inbox answered, while that stands open
+  pub taken : Bool  -- a document was taken in this call, or one is pending since before it
   pub boot : Option Child  -- the bootstrap that lives
   pub boot_end : Option Exit  -- an end of a bootstrap that is not recorded yet
   pub probed : Bool  -- the step that is to be started was just probed, and is not to be skipped
@@ -45,6 +46,7 @@ beginning serves turns d moment fresh = record {
   opened = false;
   turns = turns;
   answer = None;
+  taken = is_some d.pending;
   boot = None;
   boot_end = None;
   probed = false;
@@ -134,6 +136,7 @@ kept r p = record p {
   world = kept_by r p.world;
   crew = crew_after r p.world p.crew;
   answer = if takes_document r then None else p.answer;
+  taken = p.taken || takes_document r;
   boot_end = if ends_boot r then None else p.boot_end;
   probed = false;
   over = restarts r (applied p.device r);

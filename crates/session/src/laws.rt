@@ -11,6 +11,7 @@ ghost use Rattle.session.specs.Ready.{RunsOnly, plain_def, plain_step, running_i
 ghost use Rattle.session.specs.Happenings.{Happening, records_of, entries_of};
 ghost use Rattle.session.specs.Places.{Place, left_by};
 ghost use Rattle.session.specs.Follows.{IsProper};
+ghost use Rattle.session.specs.Once.{CallsTakeOnce};
 ghost use Rattle.session.specs.Causes.{StartsTold, BootsTold, SleepsTold, EndsTold, BootEndsTold, RecordsOwed, FailuresRecorded, RecordsEnds, BootsInTurn};
 
 /// A history goes on where another ends.
@@ -41,4 +42,9 @@ pub fn causes()
     ensures recorded { FailuresRecorded }
     ensures ends { RecordsEnds }
     ensures boots { BootsInTurn }
+{}
+
+/// A call that does not serve takes one document at most, and none where a deployment is pending as it begins.
+pub fn one_is_taken()
+    ensures { CallsTakeOnce }
 {}

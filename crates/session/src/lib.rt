@@ -30,7 +30,7 @@ pub use change_rows::{
 pub use drive_rows::{
     calls_end, do_nothing_row, late_records, resumes_with_failures, rollback_row, rolls_early,
 };
-pub use laws::{causes, joins, made_ready};
+pub use laws::{causes, joins, made_ready, one_is_taken};
 pub use record_rows::{forgets_at_close_row, gives_up_row, late_at_close_row, tries_again_row};
 pub use run_rows::{hello_row, runner_refuses_row, skipif_row, starts_nothing, startup_limit_row};
 pub use serve_rows::{
