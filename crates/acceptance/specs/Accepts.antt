@@ -13,7 +13,7 @@ use Rattle.supervisor.specs.Turns.{IsQuiet}
 use Rattle.session.specs.Phases.{Crew, earlier, leaving, is_closing}
 use Rattle.session.specs.Places.{Place}
 use Rattle.session.specs.Courses.{Stands}
-use Rattle.session.specs.Follows.{MayTake}
+use Rattle.session.specs.Follows.{MayTakeBy}
 use Rattle.driver.specs.declared.over.Over.{Over}
 use Rattle.driver.specs.declared.over.Over.TheVariants as over
 use Rattle.acceptance.specs.declared.accepting.Taken.{Taken}
@@ -21,14 +21,14 @@ use Rattle.acceptance.specs.declared.accepting.Taken.TheVariants as taken
 
 -- ---- where a deployment may begin
 
--- Nothing is open, no component may act, and where the call serves an inbox it gave the document.
+-- Nothing is open, no component may act, and the call may take a document.
 pub record IsOpen (p : Place) (d : Device) (world : World) (told : Told) (living : List ℕ) : Type 0 where
   pub stands : Stands p d world told living
   pub quiet : IsQuiet p.world
   pub going : is_closing p.crew ≡ false
   pub boot : p.boot ≡ None
   pub boot_end : p.boot_end ≡ None
-  pub takes : p.serves ≡ true → MayTake p
+  pub takes : MayTakeBy p.serves p
   pub over : p.over ≡ false
   pub cut : p.cut ≡ false
 

@@ -6,7 +6,7 @@ ghost use Rattle.records.specs.Stored as stored;
 ghost use Rattle.records.specs.Stored.{plan_view};
 ghost use Rattle.device.specs.Lawful.{Allowed, applied};
 ghost use Rattle.device.specs.Regularity.{IsRegularRecord};
-ghost use Rattle.deploy_state.specs.Hand.{LeavesEither};
+ghost use Rattle.deploy_state.specs.Hand.{LeavesEither, LeavesSame};
 ghost use Rattle.deploy_state.specs.Accepting.{idle_log};
 ghost use Rattle.deploy_state.specs.States.{InIdle, idle_device};
 ghost use Rattle.deploy_state.specs.Turning.{IsTooFar, plan_bytes, start_of};
@@ -70,6 +70,8 @@ pub fn accept_plan<D: Disk, J: Journal + Drop, K: Sink>(
     // Whatever becomes of it, a crash at any moment leaves the device with it or without.
     ensures moments { Leaves D.moment D.left_since disk.old disk.new
         (LeavesEither D.may_leave J.files J.entries disk.old (idle_device idle) (applied (idle_device idle) (stored.Accepted (plan_view plan)))) }
+    // Where the plan is given back it leaves it without.
+    ensures unmade { ¬ (HasTaken result) → Leaves D.moment D.left_since disk.old disk.new (LeavesSame D.may_leave J.files J.entries disk.old (idle_device idle)) }
     ensures taken { IfOk result (IsTakenOf (idle_device idle) (plan_view plan)) }
     ensures held { IfOk result (λ x. InTaken D.tells D.may_leave J.stands J.end x disk.new) }
     ensures silent { ¬ (HasTaken result) → sink.new ≡ sink.old }

@@ -15,7 +15,7 @@ ghost use Rattle.session.specs.Places.{Place, left_by};
 ghost use Rattle.driver.specs.Booted.{EndsWith, restart_of};
 ghost use Rattle.driver.specs.Lines.{line_of, lines_of};
 ghost use Rattle.driver.specs.Made.{IsTurn};
-ghost use Rattle.driver.specs.Over.{Left, Lines};
+ghost use Rattle.driver.specs.Over.{IsOne, Left, Lines};
 ghost use Rattle.driver.specs.Stands.{IsBetween, IsFront};
 ghost use Rattle.driver.specs.Steps.{HasEnd};
 ghost use Rattle.driver.specs.Turns.{Begins, Ends, Turns};
@@ -43,7 +43,7 @@ fn begin<D: Disk, J: Journal + Drop>(state: Backing<J>, disk: &mut D) -> Result<
         (h : List Happening) × Went J.entries J.files D.may_leave D.moment D.left_since disk.old disk.new told.list told.list p h
         × (lines_of p.device (records_of h) ≡ [])
         × Left J.entries D.may_leave disk.new p h (λ s q. IsFront q (backing_device s) world told living) result
-        × OnErr result (IsBare (left_by p h)) }
+        × OnErr result (IsBare (left_by p h)) × OnErr result (IsOne (records_of h)) }
     ensures begins { IfOk result (λ s. Begins (backing_device state) (backing_device s)) }
     ensures held { IfOk result (λ s. InBacking D.tells D.may_leave J.stands J.end s disk.new) }
     ensures others { IsTrue D.tells → (name : List ℕ) → ¬ (J.files name) → D.seen disk.new name ≡ D.seen disk.old name }

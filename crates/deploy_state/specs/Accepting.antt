@@ -38,6 +38,13 @@ HasStopped (Err (Full s place)) = ⊥
 HasStopped (Err (NoMemory s)) = ⊥
 HasStopped (Err (Stopped s)) = ⊤
 
+-- the plan was not accepted, and the state came back
+abbrev pub IsHandedBack : {J : Type 0} → Accepts J → Type 0
+IsHandedBack (Ok r) = ⊥
+IsHandedBack (Err (Full s place)) = ⊤
+IsHandedBack (Err (NoMemory s)) = ⊤
+IsHandedBack (Err (Stopped s)) = ⊥
+
 -- a refusal that hands the state back leaves its device as it was
 abbrev pub HandsBack : {J : Type 0} → (Idle J → Type 0) → Accepts J → Type 0
 HandsBack Is (Ok r) = ⊤

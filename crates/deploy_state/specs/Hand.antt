@@ -32,6 +32,10 @@ StandsForEither entries d e image = StandsFor entries image d ⊎ StandsFor entr
 abbrev pub LeavesEither : {D : Type 0} → (D → Image → Type 0) → (List ℕ → Type 0) → (Image → List (List ℕ) → Type 0) → D → Device → Device → Image → Type 0
 LeavesEither may_leave files entries old d e = After (may_leave old) (Within files (StandsForEither entries d e))
 
+-- the same of a call that keeps no record: the image stands for the device
+abbrev pub LeavesSame : {D : Type 0} → (D → Image → Type 0) → (List ℕ → Type 0) → (Image → List (List ℕ) → Type 0) → D → Device → Image → Type 0
+LeavesSame may_leave files entries old d = After (may_leave old) (Within files (λ c. StandsFor entries c d))
+
 -- the record of the mark is lawful
 abbrev pub MayMark : Device → Mark → Type 0
 MayMark d mark = (r : Record) × IsMark d mark r × Allowed d r

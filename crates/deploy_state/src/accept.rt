@@ -11,8 +11,8 @@ ghost use Rattle.device.specs.Lawful.{Allowed, applied};
 ghost use Rattle.device.specs.Regularity.{IsRegularRecord};
 ghost use Rattle.device.specs.Sound.{IsSound};
 ghost use Rattle.device.specs.Spares.{IsSpareFor};
-ghost use Rattle.deploy_state.specs.Accepting.{HandsBack, HasStopped, IsFullAt, IsFullOrShort, booting_log, idle_log, receipt_id};
-ghost use Rattle.deploy_state.specs.Hand.{LeavesEither};
+ghost use Rattle.deploy_state.specs.Accepting.{HandsBack, HasStopped, IsFullAt, IsFullOrShort, IsHandedBack, booting_log, idle_log, receipt_id};
+ghost use Rattle.deploy_state.specs.Hand.{LeavesEither, LeavesSame};
 ghost use Rattle.deploy_state.specs.States.{InBooting, InIdle, booting_device, idle_device};
 ghost use Rattle.deploy_state.specs.Turning.{IsTooFar, can_turn, is_turning, next_front, plan_bytes, start_of};
 
@@ -135,6 +135,7 @@ impl<J: Journal + Drop> Idle<J> {
         requires room { next_front J.number (idle_log self) (idle_device self) + 6 + length kit.payload + 2097152 ≤ most_file }
         ensures moments { Leaves D.moment D.left_since disk.old disk.new
             (LeavesEither D.may_leave J.files J.entries disk.old (idle_device self) (applied (idle_device self) (stored.Accepted (plan_view kit.plan)))) }
+        ensures unmade { IsHandedBack result → Leaves D.moment D.left_since disk.old disk.new (LeavesSame D.may_leave J.files J.entries disk.old (idle_device self)) }
         ensures taken { IfOk result (λ r. booting_device r.0 ≡ applied (idle_device self) (stored.Accepted (plan_view kit.plan))) }
         ensures held { IfOk result (λ r. InBooting D.tells D.may_leave J.stands J.end r.0 disk.new) }
         ensures receipt { IfOk result (λ r. receipt_id r.1 ≡ kit.id) }
@@ -176,6 +177,7 @@ impl<J: Journal + Drop> Idle<J> {
         requires room { site.start + 6 + length kit.payload + 2097152 ≤ most_file }
         ensures moments { Leaves D.moment D.left_since disk.old disk.new
             (LeavesEither D.may_leave J.files J.entries disk.old (idle_device self) (applied (idle_device self) (stored.Accepted (plan_view kit.plan)))) }
+        ensures unmade { IsHandedBack result → Leaves D.moment D.left_since disk.old disk.new (LeavesSame D.may_leave J.files J.entries disk.old (idle_device self)) }
         ensures taken { IfOk result (λ r. booting_device r.0 ≡ applied (idle_device self) (stored.Accepted (plan_view kit.plan))) }
         ensures held { IfOk result (λ r. InBooting D.tells D.may_leave J.stands J.end r.0 disk.new) }
         ensures receipt { IfOk result (λ r. receipt_id r.1 ≡ kit.id) }
@@ -217,6 +219,8 @@ impl<J: Journal + Drop> Idle<J> {
         requires regular { IsRegularRecord (stored.Accepted (plan_view plan)) }
         ensures moments { Leaves D.moment D.left_since disk.old disk.new
             (LeavesEither D.may_leave J.files J.entries disk.old (idle_device self) (applied (idle_device self) (stored.Accepted (plan_view plan)))) }
+        // Where the plan is handed back a crash at any moment leaves the device without it.
+        ensures unmade { IsHandedBack result → Leaves D.moment D.left_since disk.old disk.new (LeavesSame D.may_leave J.files J.entries disk.old (idle_device self)) }
         ensures taken { IfOk result (λ r. booting_device r.0 ≡ applied (idle_device self) (stored.Accepted (plan_view plan))) }
         ensures held { IfOk result (λ r. InBooting D.tells D.may_leave J.stands J.end r.0 disk.new) }
         ensures receipt { IfOk result (λ r. receipt_id r.1 ≡ plan.id) }

@@ -1,5 +1,5 @@
 // The bootstrap steps of the plan.
-ghost use Rattle.std.specs.Prelude.{◌≡◌, ℕ, List, IsTrue, OnOk, IfOk, option_map};
+ghost use Rattle.std.specs.Prelude.{◌≡◌, ℕ, List, IsTrue, OnOk, IfOk, IsOkAnd, option_map};
 ghost use Rattle.nuc_base.specs.Faults.{HasCause};
 ghost use Rattle.disk_model.specs.Disk.{Leaves};
 ghost use Rattle.records.specs.Stored as stored;
@@ -50,7 +50,7 @@ impl<J: Journal + Drop> Booting<J> {
             Leaves D.moment D.left_since disk.old disk.new (LeavesEither D.may_leave J.files J.entries disk.old (booting_device self) (applied (booting_device self) r)) }
         ensures taken { (r : Record) → IsMark (booting_device self) marks.BootBegun r → IfOk result (λ s. booting_device s ≡ applied (booting_device self) r) }
         ensures held { IfOk result (λ s. InBooting D.tells D.may_leave J.stands J.end s disk.new) }
-        ensures silent { IsBegun (booting_device self) → (disk.new ≡ disk.old) × IfOk result (λ s. s ≡ self) }
+        ensures silent { IsBegun (booting_device self) → (disk.new ≡ disk.old) × IsOkAnd result (λ s. s ≡ self) }
         ensures others { IsTrue D.tells → (name : List ℕ) → ¬ (J.files name) → D.seen disk.new name ≡ D.seen disk.old name }
         ensures cause { HasCause (D.faults disk.old) (D.faults disk.new) result }
         ensures quiet { OnOk result (D.faults disk.new ≡ D.faults disk.old) }

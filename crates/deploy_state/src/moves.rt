@@ -1,5 +1,5 @@
 // Moves that several states share.
-ghost use Rattle.std.specs.Prelude.{◌≡◌, ◌↔◌, ℕ, List, IsTrue, OnOk, IfOk, Some, length};
+ghost use Rattle.std.specs.Prelude.{◌≡◌, ◌↔◌, ℕ, List, IsTrue, OnOk, IfOk, IsOkAnd, Some, length};
 ghost use Rattle.nuc_base.specs.Faults.{HasCause};
 ghost use Rattle.disk_model.specs.Disk.{Leaves};
 ghost use Rattle.records.specs.Stored as stored;
@@ -48,7 +48,7 @@ impl<J: Journal + Drop> Hand<J> {
             Leaves D.moment D.left_since disk.old disk.new (LeavesEither D.may_leave J.files J.entries disk.old (device_of self) (applied (device_of self) r)) }
         ensures taken { (r : Record) → IsMark (device_of self) marks.BootBegun r → IfOk result (λ s. device_of s ≡ applied (device_of self) r) }
         ensures held { IfOk result (λ s. IsHeld D.tells D.may_leave J.stands J.end s disk.new) }
-        ensures silent { IsBegun (device_of self) → (disk.new ≡ disk.old) × IfOk result (λ h. h ≡ self) }
+        ensures silent { IsBegun (device_of self) → (disk.new ≡ disk.old) × IsOkAnd result (λ h. h ≡ self) }
         ensures others { IsTrue D.tells → (name : List ℕ) → ¬ (J.files name) → D.seen disk.new name ≡ D.seen disk.old name }
         ensures cause { HasCause (D.faults disk.old) (D.faults disk.new) result }
         ensures quiet { OnOk result (D.faults disk.new ≡ D.faults disk.old) }

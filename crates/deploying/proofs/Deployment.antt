@@ -15,7 +15,7 @@ use Rattle.supervisor.specs.World.{World}
 use Rattle.supervisor.specs.declared.kinds.Prepared.{Prepared}
 use Rattle.session.specs.Happenings.{Answer, Happening, Ran, Booted, Slept, Cut, Kept, Moved, Asked, Heard, Questioned, Changed, StopsAll, is_document, records_of}
 use Rattle.session.specs.Places.{Place, booted, cut_off, is_wait, leaves, left_by, noted, ran, takes_document}
-use Rattle.session.specs.Follows.{IsProper, MayFollow}
+use Rattle.session.specs.Follows.{IsProper, MayFollow, MayTakeBy}
 use Rattle.driver.specs.Stands.{IsFront}
 use Rattle.preparation.specs.Readied.{AreReadiedFor}
 use Rattle.preparation.proofs.Serving.{ready_after}
@@ -107,7 +107,7 @@ abbrev TakeNone : List Record → Type 0
 TakeNone records = AllByRecursion (λ (r : Record). takes_document r ≡ false) records
 
 no_acceptance : (p : Place) (r : Record) (b : Bool) → takes_document r ≡ b → MayFollow p (Kept r) → TakesNone p → b ≡ false
-no_acceptance p (Accepted x) b is may t = absurd (subst (λ (o : Option Answer). IsSomeAnd o (λ a. is_document a ≡ true)) t.answer (may.0.2 t.serves).given)
+no_acceptance p (Accepted x) b is may t = absurd (subst (λ (o : Option Answer). IsSomeAnd o (λ a. is_document a ≡ true)) t.answer (subst (λ (s : Bool). MayTakeBy s p) t.serves may.0.2).given)
 no_acceptance p _ b is may t = sym is
 
 more_none : (records : List Record) (r : Record) → TakeNone records → takes_document r ≡ false → TakeNone (records ++ r ∷ [])

@@ -4,6 +4,7 @@ use Rattle.std.specs.Io.KnownBytes.{Appends}
 use Rattle.std.proofs.Common.{◌≡◌, ◌≤◌, sym, subst, arith}
 use Rattle.disk_model.specs.Disk.{Image}
 use Rattle.records.specs.Stored.{Record}
+use Rattle.device.specs.Devices.{Device}
 use Rattle.step_runner.specs.declared.entries.RunnerEntry.{RunnerEntry}
 use Rattle.session.specs.Courses.{IsBare}
 use Rattle.session.specs.Happenings.{Happening, records_of}
@@ -36,5 +37,6 @@ module _ (entries : Image → List (List ℕ) → Type 0) (files : List ℕ → 
   }
 
 -- it was left after so many moments
-pub more_left : (q : Place) (living : List ℕ) (h k : List Happening) → IsBare q → living ≡ [] → most_turns ≤ moments_in h → IsBare q × (living ≡ []) × (most_turns ≤ moments_in (k ++ h))
-more_left q living h k bare none most = (bare, none, omega (arith, moments_on h k, most))
+pub more_left : (q : Place) (d : Device) (living : List ℕ) (h k : List Happening) → IsBare q → living ≡ [] → most_turns ≤ moments_in h → q.device ≡ d
+    → IsBare q × (living ≡ []) × (most_turns ≤ moments_in (k ++ h)) × (q.device ≡ d)
+more_left q d living h k bare none most same = (bare, none, omega (arith, moments_on h k, most), same)

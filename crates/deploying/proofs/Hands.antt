@@ -1,13 +1,13 @@
 -- A part that keeps no record, where the device is in hand.
 use Rattle.std.specs.Prelude.{ℕ, Bool, List, Option}
-use Rattle.std.proofs.Common.{◌≡◌, sym, subst}
+use Rattle.std.proofs.Common.{◌≡◌, refl, sym, subst}
 use Rattle.disk_model.specs.Disk.{Image, DiskLaws}
 use Rattle.gate_log.specs.Journal.{JournalLaws}
 use Rattle.device.specs.Devices.{Device}
 use Rattle.device.specs.Standing.{StandsFor}
 use Rattle.deploy_state.proofs.Steps.{in_hand_stands}
 use Rattle.deploy_state.specs.Hand.{IsInHand}
-use Rattle.deploy_state.specs.States.{InBrokeOff, InLoaded, broken_device}
+use Rattle.deploy_state.specs.States.{InBrokeOff, InLoaded, broken_device, loaded_device}
 use Rattle.deploy_state.specs.declared.state.BrokeOff.{BrokeOff}
 use Rattle.deploy_state.specs.declared.state.BrokeOff.TheVariants as broken
 use Rattle.step_runner.specs.declared.entries.RunnerEntry.{RunnerEntry}
@@ -34,3 +34,7 @@ module _ {J D : Type 0} (tells : Bool) (may_leave : D → Image → Type 0) (sta
   pub loaded_held : (b : BrokeOff J) (disk : D) → InBrokeOff tells may_leave stands end b disk → InLoaded tells may_leave stands end (loaded_of b) disk
   loaded_held (broken.Backing s) disk h = h
   loaded_held (broken.Rolling s) disk h = h
+
+pub loaded_of_device : {J : Type 0} (b : BrokeOff J) → loaded_device (loaded_of b) ≡ broken_device b
+loaded_of_device (broken.Backing s) = refl
+loaded_of_device (broken.Rolling s) = refl

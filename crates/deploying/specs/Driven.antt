@@ -1,5 +1,6 @@
 -- The course of a deployment that is driven, and how it ends.
 use Rattle.std.specs.Prelude.{◌≡◌, ◌≤◌, ℕ, Bool, List, [], Option, Result, OnErr}
+use Rattle.device.specs.Devices.{Device}
 use Rattle.disk_model.specs.Disk.{Image}
 use Rattle.deploy_state.specs.States.{InIdle, InLoaded, idle_device, loaded_device}
 use Rattle.step_runner.specs.Entries.{Told}
@@ -24,7 +25,13 @@ abbrev pub DrivenLeft : {J : Type 0} → Driven J → List Happening → Place �
 DrivenLeft (driven.Closed s o) h q world told living = HasClosed o (records_of h) q (idle_device s) world told living
 DrivenLeft (driven.Restart s) h q world told living = BootsLeft booted.Restart (records_of h) q (loaded_device s) world told living
 DrivenLeft (driven.Reboot s) h q world told living = BootsLeft booted.Reboot (records_of h) q (loaded_device s) world told living
-DrivenLeft (driven.More s) h q world told living = IsBare q × (living ≡ []) × (most_turns ≤ moments_in h)
+DrivenLeft (driven.More s) h q world told living = IsBare q × (living ≡ []) × (most_turns ≤ moments_in h) × (q.device ≡ loaded_device s)
+
+abbrev pub driven_device : {J : Type 0} → Driven J → Device
+driven_device (driven.Closed s o) = idle_device s
+driven_device (driven.Restart s) = loaded_device s
+driven_device (driven.Reboot s) = loaded_device s
+driven_device (driven.More s) = loaded_device s
 
 module _ {J D : Type 0} (tells : Bool) (may_leave : D → Image → Type 0) (stands : J → Image → List (List ℕ) → Type 0) (end : J → ℕ) where
   abbrev pub InDriven : Driven J → D → Type 0

@@ -24,12 +24,13 @@ use Rattle.session.specs.Places.{Place, leaves, left_by}
 use Rattle.session.specs.Follows.{MayFollow}
 use Rattle.driver.specs.Booted.{restart_of}
 use Rattle.driver.specs.Lines.{failed_line, id_of, line_of, lines_of}
+use Rattle.driver.specs.Over.{IsOne}
 use Rattle.driver.specs.Stands.{IsBetween, IsFront}
 use Rattle.driver.specs.Steps.{HasEnd}
 use Rattle.driver.specs.Went.{StandsForMost, Went}
 use Rattle.driver.proofs.Duties.{InTurn, allowed_begun, restart_is, same_id, was_begun}
 use Rattle.driver.proofs.Entries.{never}
-use Rattle.driver.proofs.Fronts.{in_doubt, none_most}
+use Rattle.driver.proofs.Fronts.{in_doubt}
 use Rattle.driver.proofs.Acting.{acts_none}
 use Rattle.driver.proofs.Joins.{acted, kept_one}
 use Rattle.driver.proofs.Still.{childless}
@@ -161,21 +162,19 @@ module _ (entries : Image → List (List ℕ) → Type 0) (files : List ℕ → 
       by false is = (Kept (stored.BootBegun name) ∷ [], begin_went old new list p d world told living name f (allowed_begun d name t is) notes, refl, front_begun p d e world told living name f same)
 
   pub begun_doubt : (old new : D) (list : Option (List RunnerEntry)) (p : Place) (d : Device) (world : World) (told : Told) (living : List ℕ) (name : List ℕ) (t : InTurn d name) → IsFront p d world told living
-      → ((c : Image) → may_leave old c → StandsFor entries c d) → (IsBegun d → new ≡ old) → Notes old new d (stored.BootBegun name)
-      → (h : List Happening) × Went entries files may_leave moment left_since old new list list p h × (lines_of p.device (records_of h) ≡ []) × ((c : Image) → may_leave new c → StandsForMost entries p.device (records_of h) c) × IsBare (left_by p h)
-  begun_doubt old new list p d world told living name t f stands same_disk notes = by t.q.begun refl
+      → (IsBegun d → ⊥) → Notes old new d (stored.BootBegun name)
+      → (h : List Happening) × Went entries files may_leave moment left_since old new list list p h × (lines_of p.device (records_of h) ≡ []) × ((c : Image) → may_leave new c → StandsForMost entries p.device (records_of h) c) × IsBare (left_by p h) × IsOne (records_of h)
+  begun_doubt old new list p d world told living name t f unbegun notes = by t.q.begun refl
     where
       by : (b : Bool) → t.q.begun ≡ b
-          → (h : List Happening) × Went entries files may_leave moment left_since old new list list p h × (lines_of p.device (records_of h) ≡ []) × ((c : Image) → may_leave new c → StandsForMost entries p.device (records_of h) c) × IsBare (left_by p h)
-      by true is =
-          let begun = was_begun d name t is in
-          let device = f.between.stands.device_is in (
-            [],
-            none_went old new list p d stands device (same_disk begun),
-            refl,
-            (λ c left. none_most entries p.device c (subst (λ (x : Device). StandsFor entries c x) (sym device) (stands c (subst (λ (x : D). may_leave x c) (same_disk begun) left)))),
-            front_bare p d world told living f,
-          )
+          → (h : List Happening) × Went entries files may_leave moment left_since old new list list p h × (lines_of p.device (records_of h) ≡ []) × ((c : Image) → may_leave new c → StandsForMost entries p.device (records_of h) c) × IsBare (left_by p h) × IsOne (records_of h)
+      by true is = absurd (unbegun (was_begun d name t is))
       by false is =
-          let allowed = allowed_begun d name t is in
-          (Kept (stored.BootBegun name) ∷ [], begin_went old new list p d world told living name f allowed notes, refl, doubt_at old new p d (stored.BootBegun name) f.between.stands.device_is allowed notes, bare_begun p name (front_bare p d world told living f))
+          let allowed = allowed_begun d name t is in (
+            Kept (stored.BootBegun name) ∷ [],
+            begin_went old new list p d world told living name f allowed notes,
+            refl,
+            doubt_at old new p d (stored.BootBegun name) f.between.stands.device_is allowed notes,
+            bare_begun p name (front_bare p d world told living f),
+            (stored.BootBegun name, refl),
+          )

@@ -1,7 +1,6 @@
 -- What was printed, and what a crash leaves, of two parts one after the other.
 use Rattle.std.specs.Prelude.{ℕ, List, [], ◌∷◌, ◌++◌, Option}
-use Rattle.std.proofs.Common.{◌≡◌, ◌≤◌, length, arith, ◌∙◌, refl, sym, ap, subst, append_assoc}
-use Rattle.std.proofs.lemmas.List.{append-nil}
+use Rattle.std.proofs.Common.{◌≡◌, ◌∙◌, refl, sym, ap, subst, append_assoc}
 use Rattle.std.proofs.KnownBytes.{Appends-nil, Appends-trans}
 use Rattle.std.specs.Io.KnownBytes.{Appends}
 use Rattle.edges.specs.Pieces.{AppendsFront}
@@ -14,7 +13,7 @@ use Rattle.session.specs.Happenings.{Happening, records_of}
 use Rattle.session.specs.Places.{Place, left_by}
 use Rattle.session.proofs.Joined.{left-append, records-append}
 use Rattle.driver.specs.Lines.{line_of, lines_of}
-use Rattle.driver.specs.Over.{LeftAt, LinesAt}
+use Rattle.driver.specs.Over.{IsOne, LeftAt, LinesAt}
 use Rattle.driver.specs.Went.{StandsForMost}
 use Rattle.driver.specs.declared.over.Over.{Over}
 use Rattle.driver.specs.declared.over.Over.TheVariants as over
@@ -51,9 +50,8 @@ pub lines_at_joined : (a b c : Option (List ℕ)) (p : Place) (w t : List Happen
 lines_at_joined a b c p w t over.Disk run one two = (
   records_of w ++ two.0,
   two.1,
-  records-append t w ∙ ap (λ (l : List Record). records_of w ++ l) two.2 ∙ sym (append_assoc (records_of w) two.0 two.1),
-  two.3,
-  subst (λ (l : List ℕ). Appends a c l) (sym (lines_on p.device (records_of w) (left_by p w).device two.0 run)) (Appends-trans a b c (Printed p w) (lines_of (left_by p w).device two.0) one two.4),
+  records-append t w ∙ ap (λ (l : List Record). records_of w ++ l) two.2 ∙ sym (append_assoc (records_of w) two.0 (two.1 ∷ [])),
+  subst (λ (l : List ℕ). Appends a c l) (sym (lines_on p.device (records_of w) (left_by p w).device two.0 run)) (Appends-trans a b c (Printed p w) (lines_of (left_by p w).device two.0) one two.3),
 )
 lines_at_joined a b c p w t over.Edge run one two = front_told a b c p w t run one two
 
@@ -65,14 +63,14 @@ none_told a lines = ([], lines, refl, Appends-nil a)
 pub nothing_told : (a : Option (List ℕ)) (lines : List ℕ) → lines ≡ [] → Appends a a lines
 nothing_told a lines none = subst (λ (l : List ℕ). Appends a a l) (sym none) (Appends-nil a)
 
--- nothing was written of records without lines
-pub none_at : (a : Option (List ℕ)) (d : Device) (records : List Record) (e : Over) → lines_of d records ≡ [] → LinesAt a a d records e
-none_at a d records over.Disk none = (records, [], sym (append-nil records), omega arith, nothing_told a (lines_of d records) none)
-none_at a d records over.Edge none = none_told a (lines_of d records)
+-- nothing was written of one record without a line
+pub none_at : (a : Option (List ℕ)) (d : Device) (records : List Record) (e : Over) → IsOne records → LinesAt a a d records e
+none_at a d records over.Disk one = ([], one.0, one.1, Appends-nil a)
+none_at a d records over.Edge one = none_told a (lines_of d records)
 
 -- the line of a record that is in doubt was not written
 pub last_untold : (a : Option (List ℕ)) (d : Device) (r : Record) → LinesAt a a d (r ∷ []) over.Disk
-last_untold a d r = ([], r ∷ [], refl, omega arith, Appends-nil a)
+last_untold a d r = ([], r, refl, Appends-nil a)
 
 pub left_joined : {D : Type 0} (entries : Image → List (List ℕ) → Type 0) (may_leave : D → Image → Type 0) (disk : D) (p : Place) (w t : List Happening) (e : Over) → Run p.device (records_of w) (left_by p w).device
     → LeftAt entries may_leave disk (left_by p w) t e → LeftAt entries may_leave disk p (t ++ w) e

@@ -1,5 +1,5 @@
 -- What a part of a session leaves at its end.
-use Rattle.std.specs.Prelude.{◌≡◌, ◌≤◌, ℕ, List, ◌++◌, length, Option, Result, Ok, Err}
+use Rattle.std.specs.Prelude.{◌≡◌, ℕ, List, [], ◌∷◌, ◌++◌, Option, Result, Ok, Err}
 use Rattle.std.specs.Io.KnownBytes.{Appends}
 use Rattle.disk_model.specs.Disk.{Image}
 use Rattle.edges.specs.Pieces.{AppendsFront}
@@ -13,10 +13,14 @@ use Rattle.driver.specs.Went.{StandsForMost}
 use Rattle.driver.specs.declared.over.Over.{Over}
 use Rattle.driver.specs.declared.over.Over.TheVariants as over
 
--- The lines of the records are written. Where the disk failed that of the last may be missing, and where a line was not
--- written there is a front of them.
+-- this is one record
+abbrev pub IsOne : List Record → Type 0
+IsOne records = (r : Record) × (records ≡ r ∷ [])
+
+-- The lines of the records are written. Where the disk failed it was at the last of them, whose line is not written; where a
+-- line was not written there is a front of them.
 abbrev pub LinesAt : Option (List ℕ) → Option (List ℕ) → Device → List Record → Over → Type 0
-LinesAt old new d records over.Disk = (told : List Record) × (rest : List Record) × (records ≡ told ++ rest) × (length rest ≤ 1) × Appends old new (lines_of d told)
+LinesAt old new d records over.Disk = (told : List Record) × (last : Record) × (records ≡ told ++ last ∷ []) × Appends old new (lines_of d told)
 LinesAt old new d records over.Edge = AppendsFront old new (lines_of d records)
 
 -- where the session goes on, all of them are

@@ -1,5 +1,5 @@
 -- The record that turns a deployment back, in a history.
-use Rattle.std.specs.Prelude.{Contains, ℕ, Bool, true, false, List, [], ◌∷◌, ◌++◌, Option, Some, None, IsSome, is_some, slice_get, if◌then◌else◌}
+use Rattle.std.specs.Prelude.{Contains, ℕ, Bool, true, false, List, [], ◌∷◌, ◌++◌, Option, Some, None, IsSome, is_some, slice_get, if◌then◌else◌, ◌||◌}
 use Rattle.std.specs.List.{AllByRecursion}
 use Rattle.std.specs.Option.{IfSome, IsSomeAnd}
 use Rattle.std.specs.Str.{bytes_eq}
@@ -97,7 +97,7 @@ follows p r way clear cut over = subst (λ (x : Record). MayFollow p (Kept x)) (
 -- ---- where it leaves the call
 
 abbrev turned_place : Place → Device → Place
-turned_place p e = record p { device = e; crew = crew_of p.world; probed = false; over = false }
+turned_place p e = record p { device = e; crew = crew_of p.world; taken = p.taken || false; probed = false; over = false }
 
 place_by : (p : Place) (l : List (List ℕ)) (n : List ℕ) → leaves p (Kept (break_by l n)) ≡ turned_place p (applied p.device (break_by l n))
 place_by p [] n = refl

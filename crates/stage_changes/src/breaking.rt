@@ -11,7 +11,7 @@ ghost use Rattle.session.specs.Phases.{duty_of};
 ghost use Rattle.session.specs.Places.{Place, left_by};
 ghost use Rattle.session.specs.Waits.{has_three};
 ghost use Rattle.driver.specs.Lines.{lines_of};
-ghost use Rattle.driver.specs.Over.{Left};
+ghost use Rattle.driver.specs.Over.{IsOne, Left};
 ghost use Rattle.driver.specs.Stands.{IsFront};
 ghost use Rattle.driver.specs.Went.{Went};
 ghost use Rattle.activation.specs.Ended.{HasBroken};
@@ -36,7 +36,7 @@ pub fn break_off_booting<D: Disk, J: Journal + Drop>(
         (h : List Happening) × Went J.entries J.files D.may_leave D.moment D.left_since disk.old disk.new told.list told.list p h
         × (lines_of p.device (records_of h) ≡ [])
         × Left J.entries D.may_leave disk.new p h (λ s q. IsFront q (broken_device s) world told living) result
-        × OnErr result (IsBare (left_by p h)) }
+        × OnErr result (IsBare (left_by p h)) × OnErr result (IsOne (records_of h)) }
     ensures breaks { IfOk result (λ s. Breaks (booting_device state) (broken_device s)) }
     ensures held { IfOk result (λ s. InBrokeOff D.tells D.may_leave J.stands J.end s disk.new) }
     ensures others { IsTrue D.tells → (name : List ℕ) → ¬ (J.files name) → D.seen disk.new name ≡ D.seen disk.old name }
@@ -64,7 +64,7 @@ pub fn break_off_activating<D: Disk, J: Journal + Drop>(
         (h : List Happening) × Went J.entries J.files D.may_leave D.moment D.left_since disk.old disk.new told.list told.list p h
         × (lines_of p.device (records_of h) ≡ [])
         × Left J.entries D.may_leave disk.new p h (λ s q. IsTurned q (broken_device s) world told living) result
-        × OnErr result (IsGivenUp (left_by p h) world told living) }
+        × OnErr result (IsGivenUp (left_by p h) world told living) × OnErr result (IsOne (records_of h)) }
     ensures breaks { IfOk result (λ s. Breaks (activating_device state) (broken_device s)) }
     ensures held { IfOk result (λ s. InBrokeOff D.tells D.may_leave J.stands J.end s disk.new) }
     ensures others { IsTrue D.tells → (name : List ℕ) → ¬ (J.files name) → D.seen disk.new name ≡ D.seen disk.old name }

@@ -16,7 +16,7 @@ ghost use Rattle.session.specs.Happenings.{Happening, records_of};
 ghost use Rattle.session.specs.Phases.{duty_of};
 ghost use Rattle.session.specs.Places.{Place, left_by};
 ghost use Rattle.driver.specs.Lines.{lines_of};
-ghost use Rattle.driver.specs.Over.{Left};
+ghost use Rattle.driver.specs.Over.{IsOne, Left};
 ghost use Rattle.driver.specs.Stands.{IsFront};
 ghost use Rattle.driver.specs.Went.{Went};
 ghost use Rattle.activation.specs.Runs.{Comes};
@@ -41,7 +41,7 @@ pub fn begin_items<D: Disk, J: Journal + Drop>(
         (h : List Happening) × Went J.entries J.files D.may_leave D.moment D.left_since disk.old disk.new told.list told.list p h
         × (lines_of p.device (records_of h) ≡ [])
         × Left J.entries D.may_leave disk.new p h (λ s q. IsFront q (activating_device s) world told living) result
-        × OnErr result (IsBare (left_by p h)) }
+        × OnErr result (IsBare (left_by p h)) × OnErr result (IsOne (records_of h)) }
     ensures taken { IfOk result (λ s. activating_device s ≡ applied (booting_device state) stored.Activating) }
     ensures held { IfOk result (λ s. InActivating D.tells D.may_leave J.stands J.end s disk.new) }
     ensures others { IsTrue D.tells → (name : List ℕ) → ¬ (J.files name) → D.seen disk.new name ≡ D.seen disk.old name }
@@ -76,7 +76,7 @@ where
         (h : List Happening) × Went J.entries J.files D.may_leave D.moment D.left_since disk.old disk.new told.list told.list p h
         × (lines_of p.device (records_of h) ≡ [])
         × Left J.entries D.may_leave disk.new p h (λ s q. Comes q (activating_device s) (S.world supervisor.new) told living) result
-        × OnErr result (IsBare (left_by p h)) }
+        × OnErr result (IsBare (left_by p h)) × OnErr result (IsOne (records_of h)) }
     ensures taken { IfOk result (λ s. activating_device s ≡ applied (booting_device state) stored.Activating) }
     ensures held { IfOk result (λ s. InActivating D.tells D.may_leave J.stands J.end s disk.new) }
     ensures others { IsTrue D.tells → (name : List ℕ) → ¬ (J.files name) → D.seen disk.new name ≡ D.seen disk.old name }

@@ -12,8 +12,8 @@ use Rattle.device.specs.Standing.{StandsFor}
 use Rattle.records.specs.Stored.{Accepted, plan_view}
 use Rattle.session.specs.Happenings.{Kept}
 use Rattle.driver.specs.Lines.{accepted_line}
-use Rattle.acceptance.specs.Accepts.{Answer, InTaken, IsFullAt, IsFullOrShort, IsTakenOf}
-use Rattle.acceptance.proofs.Opening.{accept_went, line_is, opened_by, refusal_edge, refusal_fills, refusal_full, refusal_held, refusal_stops, refusal_taken, stopped_answer, stops_refusal}
+use Rattle.acceptance.specs.Accepts.{Answer, HasTaken, InTaken, IsFullAt, IsFullOrShort, IsTakenOf}
+use Rattle.acceptance.proofs.Opening.{accept_went, line_is, opened_by, refusal_back, refusal_edge, refusal_fills, refusal_full, refusal_held, refusal_stops, refusal_taken, stopped_answer, stops_refusal}
 use Rattle.acceptance.proofs.accepting.accept_plan.Goals as goal
 
 -- ---- it is accepted and acknowledged
@@ -78,3 +78,6 @@ returns-in-Err-clause-edge g c = λ is. absurd (refusal_edge c.in-Err.refusal (s
 
 pub returns-in-Err-clause-quiet_disk : goal.returns-in-Err-clause-quiet_disk
 returns-in-Err-clause-quiet_disk g c = λ other. c.in-Err.ensures.quiet (λ stopped. other (c.answer_to.ensures ∙ stops_refusal c.in-Err.refusal stopped))
+
+pub returns-in-Err-clause-unmade : goal.returns-in-Err-clause-unmade
+returns-in-Err-clause-unmade g c = λ given. c.in-Err.ensures.unmade (refusal_back c.in-Err.refusal (λ has. given (subst HasTaken (sym c.answer_to.ensures) has)))

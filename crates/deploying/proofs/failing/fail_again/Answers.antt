@@ -50,7 +50,7 @@ returns-in-Err-clause-course g c = λ p front.
     let t = c.in-Err.ensures.went p (g.S.Supervise.world c.args.supervisor.now) told (g.R.Runner.living c.args.runner.now) front in
     given_up g.J.Journal.entries g.J.Journal.files c.args.disk.now c.break_off_again.new.disk told.list told.list
     (g.K.Sink.held c.args.sink.now) (g.K.Sink.held c.args.sink.now) p t.0 c.in-Err.over _
-    t.1 (none_at (g.K.Sink.held c.args.sink.now) p.device (records_of t.0) c.in-Err.over t.2) t.3 t.4
+    t.1 (none_at (g.K.Sink.held c.args.sink.now) p.device (records_of t.0) c.in-Err.over t.5) t.3 t.4
 
 pub returns-in-Err-clause-none : goal.returns-in-Err-clause-none
 returns-in-Err-clause-none g c =

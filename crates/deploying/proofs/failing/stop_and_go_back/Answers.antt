@@ -1,5 +1,5 @@
-use Rattle.std.proofs.Common.{sym, subst}
-use Rattle.deploy_state.specs.States.{InLoaded, broken_device}
+use Rattle.std.proofs.Common.{◌∙◌, sym, ap, subst}
+use Rattle.deploy_state.specs.States.{InLoaded, broken_device, loaded_device}
 use Rattle.deploy_state.specs.declared.state.Loaded.{Loaded}
 use Rattle.step_runner.specs.Entries.{Listed}
 use Rattle.session.specs.Places.{left_by}
@@ -9,7 +9,7 @@ use Rattle.stopping.specs.declared.stops.Stopped.TheVariants as stopped
 use Rattle.giving_up.proofs.GivenUp.{stopping_given_up}
 use Rattle.deploying.specs.declared.driven.Driven.TheVariants as driven
 use Rattle.deploying.proofs.Endings.{left_off, more_left}
-use Rattle.deploying.proofs.Hands.{acted_held, broken_held, loaded_held}
+use Rattle.deploying.proofs.Hands.{acted_held, broken_held, loaded_held, loaded_of_device}
 use Rattle.deploying.proofs.Joining.{joined}
 use Rattle.deploying.proofs.Leaving.{driven_on}
 use Rattle.deploying.proofs.Stopping.{broken_busy, left_as, stopped_front, stopped_orderly, turned_stops}
@@ -92,7 +92,8 @@ returns-in-More-clause-course g c = λ p turned.
     (acted_held g.met.D.Disk.laws g.met.J.Journal.laws held.0 c.args.disk.now told.list new.list p d t.0 turned.stands.device_is held.1 t.1)
     (no_lines (g.K.Sink.held c.args.sink.now) p.device t.0 t.1.none)
     k.1
-    (more_left (left_by (left_by p t.0) k.0) (g.R.Runner.living c.kill_all.new.runner) t.0 k.0 k.3 c.kill_all.ensures.none more.1)
+    (more_left (left_by (left_by p t.0) k.0) (loaded_device c.left.result) (g.R.Runner.living c.kill_all.new.runner) t.0 k.0 k.3 c.kill_all.ensures.none more.1
+    (k.1.device ∙ more.0.stands.device_is ∙ sym (ap loaded_device c.left.ensures ∙ loaded_of_device c.args.broke)))
 
 pub returns-in-More-clause-held : goal.returns-in-More-clause-held
 returns-in-More-clause-held g c =

@@ -1,5 +1,5 @@
 use Rattle.std.specs.Prelude.{ℕ, List}
-use Rattle.std.proofs.Common.{◌≡◌, subst}
+use Rattle.std.proofs.Common.{◌≡◌, ◌∙◌, subst}
 use Rattle.nuc_base.specs.declared.kinds.Outcome.TheVariants as outcomes
 use Rattle.deploy_state.specs.States.{activating_device}
 use Rattle.deploy_state.specs.declared.state.Loaded.TheVariants as loaded
@@ -84,7 +84,7 @@ returns-in-Ok-More-clause-course g c = λ p comes.
     left_off g.J.Journal.entries g.J.Journal.files c.args.disk.now c.activate.new.disk (g.R.Runner.list c.args.runner.now) new.list (g.R.Runner.list c.kill_all.new.runner)
     (g.K.Sink.held c.args.sink.now) (g.K.Sink.held c.activate.new.sink) p t.0 k.0 (driven.More (loaded.Activating c.in-Ok-More.state)) _
     t.1 t.2 k.1
-    (more_left (left_by (left_by p t.0) k.0) (g.R.Runner.living c.kill_all.new.runner) t.0 k.0 k.3 c.kill_all.ensures.none left.1)
+    (more_left (left_by (left_by p t.0) k.0) (activating_device c.in-Ok-More.state) (g.R.Runner.living c.kill_all.new.runner) t.0 k.0 k.3 c.kill_all.ensures.none left.1 (k.1.device ∙ left.0.stands.device_is))
 
 -- ---- it gives up
 

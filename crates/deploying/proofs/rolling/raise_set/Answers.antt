@@ -1,5 +1,5 @@
 use Rattle.std.specs.Prelude.{Ok, Err}
-use Rattle.std.proofs.Common.{◌≡◌, true, false, inr, sym, subst}
+use Rattle.std.proofs.Common.{◌≡◌, ◌∙◌, true, false, inr, sym, subst}
 use Rattle.device.specs.Devices.{Device, device_view}
 use Rattle.device.specs.Sound.{IsSound}
 use Rattle.deploy_state.specs.States.{rolling_device}
@@ -116,7 +116,7 @@ returns-in-Ok-More-clause-course g c = λ p front.
     (no_lines (g.K.Sink.held c.args.sink.now) p.device t.0 t.1.none)
     (driven_on world last (g.R.Runner.living c.kill_all.new.runner) t.0)
     (left_off g.J.Journal.entries g.J.Journal.files c.args.disk.now c.roll.new.disk told.list new.list last.list (g.K.Sink.held c.args.sink.now) (g.K.Sink.held c.roll.new.sink) (left_by p t.0) u.0 k.0 x (λ y h r. DrivenLeft y h r world last (g.R.Runner.living c.kill_all.new.runner))
-    u.1 u.2 k.1 (more_left (left_by end k.0) (g.R.Runner.living c.kill_all.new.runner) u.0 k.0 k.3 c.kill_all.ensures.none more.1))
+    u.1 u.2 k.1 (more_left (left_by end k.0) (rolling_device c.in-Ok-More.state) (g.R.Runner.living c.kill_all.new.runner) u.0 k.0 k.3 c.kill_all.ensures.none more.1 (k.1.device ∙ more.0.stands.device_is)))
 
 -- ---- it gives up
 

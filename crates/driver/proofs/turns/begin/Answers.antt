@@ -17,7 +17,7 @@ returns-in-Ok-clause-went g c = λ p world told living front.
     (in_hand_stands g.met.D.Disk.laws g.met.J.Journal.laws _ c.args.disk.now d c.requires.held.0.0)
     (λ begun. (c.in-Ok.ensures.silent begun).0) (λ begun. ap booting_device (c.in-Ok.ensures.silent begun).1)
     (c.begin.ensures.moments (stored.BootBegun n.0) mark) (c.in-Ok.ensures.taken (stored.BootBegun n.0) mark) in
-    (b.0, b.1, b.2, b.3, tt)
+    (b.0, b.1, b.2, b.3, tt, tt)
 
 pub returns-in-Ok-clause-begins : goal.returns-in-Ok-clause-begins
 returns-in-Ok-clause-begins g c =
@@ -33,5 +33,4 @@ returns-in-Err-clause-went g c = λ p world told living front.
     let n = turn_told d is c.requires.may in
     let t = in_turn d n.0 is n.1 in
     begun_doubt g.J.Journal.entries g.J.Journal.files g.met.D.Disk.laws c.args.disk.now c.begin.new.disk told.list p d world told living n.0 t front
-    (in_hand_stands g.met.D.Disk.laws g.met.J.Journal.laws _ c.args.disk.now d c.requires.held.0.0)
-    (λ begun. (c.begin.ensures.silent begun).0) (c.begin.ensures.moments (stored.BootBegun n.0) (mark_begun d n.0 t))
+    (λ begun. (c.in-Err.ensures.silent begun).1) (c.begin.ensures.moments (stored.BootBegun n.0) (mark_begun d n.0 t))

@@ -28,7 +28,7 @@ pub returns-in-Err-clause-went : goal.returns-in-Err-clause-went
 returns-in-Err-clause-went g c = λ p world front.
     let told = Listed g.R.Runner.list g.R.Runner.told g.R.Runner.asked c.args.runner.now in
     let b = c.in-Err.ensures.went p world told (g.R.Runner.living c.args.runner.now) front in
-    (b.0, b.1, none_at (g.K.Sink.held c.args.sink.now) p.device (records_of b.0) c.in-Err.over b.2, b.3, b.4)
+    (b.0, b.1, none_at (g.K.Sink.held c.args.sink.now) p.device (records_of b.0) c.in-Err.over b.5, b.3, b.4)
 
 pub returns-in-Err-clause-none : goal.returns-in-Err-clause-none
 returns-in-Err-clause-none g c =

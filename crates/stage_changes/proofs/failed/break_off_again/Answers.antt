@@ -1,4 +1,4 @@
-use Rattle.std.proofs.Common.{List, [], ◌∷◌}
+use Rattle.std.proofs.Common.{List, [], ◌∷◌, refl}
 use Rattle.deploy_state.proofs.Steps.{some_break}
 use Rattle.deploy_state.specs.States.{activating_device, broken_device}
 use Rattle.session.specs.Happenings.{Kept}
@@ -20,6 +20,7 @@ returns-in-Ok-clause-went g c = λ p world told living from.
       no_line p.device turn.0 (is_way d turn.0 turn.1),
       boot_front p d world told living from turn.0 (is_way d turn.0 turn.1) (broken_device c.in-Ok.broke) (c.in-Ok.ensures.taken turn.0 turn.1),
       tt,
+      tt,
     )
 
 pub returns-in-Err-clause-went : goal.returns-in-Err-clause-went
@@ -34,6 +35,7 @@ returns-in-Err-clause-went g c = λ p world told living from.
       no_line p.device turn.0 (is_way d turn.0 turn.1),
       turn_doubt g.J.Journal.entries g.J.Journal.files g.met.D.Disk.laws c.args.disk.now c.break_off.new.disk p d turn.0 from.between.stands.device_is allowed (c.break_off.ensures.moments turn.0 turn.1),
       boot_bare p d world told living from turn.0 (is_way d turn.0 turn.1),
+      (turn.0, refl),
     )
 
 pub returns-in-Ok-clause-breaks : goal.returns-in-Ok-clause-breaks

@@ -19,6 +19,7 @@ returns-in-Ok-clause-went g c = λ p world told living from.
       refl,
       front_turned p d (activating_device c.in-Ok.next) world told living from stored.Activating c.in-Ok.ensures.taken,
       tt,
+      tt,
     )
 
 pub returns-in-Err-clause-went : goal.returns-in-Err-clause-went
@@ -31,4 +32,5 @@ returns-in-Err-clause-went g c = λ p world told living from.
       refl,
       turn_doubt g.J.Journal.entries g.J.Journal.files g.met.D.Disk.laws c.args.disk.now c.activate.new.disk p d stored.Activating from.between.stands.device_is allowed c.activate.ensures.moments,
       front_bare (leaves p Begin) e world told living (front_turned p d e world told living from stored.Activating refl),
+      (stored.Activating, refl),
     )

@@ -48,7 +48,7 @@ returns-in-Ok-clause-went g c = λ p told living from orderly.
     (in_hand_stands g.met.D.Disk.laws g.met.J.Journal.laws _ c.begin_items.new.disk e c.in-Ok.ensures.held.0.0)
     (λ enters. subst (λ (x : Device). (h : List Happening) × Acts q h told.list told.list × Comes (left_by q h) x v told living) c.device-present.ensures
     (c.change_items.ensures.went q told living (subst (λ (x : Device). MayEnter q x world told living) (sym c.device-present.ensures) enters))) in
-    (k.0, k.1, k.2, k.3, tt)
+    (k.0, k.1, k.2, k.3, tt, tt)
 
 pub returns-in-Err-clause-went : goal.returns-in-Err-clause-went
 returns-in-Err-clause-went g c = λ p told living from orderly. c.in-Err.ensures.went p (g.S.Supervise.world c.args.supervisor.now) told living from

@@ -3,6 +3,7 @@ use Rattle.records.specs.Layout.{Spelled}
 use Rattle.records.specs.Stored as stored
 use Rattle.records.specs.Stored.{plan_view}
 use Rattle.device.specs.Lawful.{applied}
+use Rattle.device.specs.Standing.{StandsFor}
 use Rattle.deploy_state.specs.Accepting.{booting_log, idle_log}
 use Rattle.deploy_state.specs.Hand.{StandsForEither}
 use Rattle.deploy_state.specs.States.{idle_device}
@@ -54,3 +55,21 @@ returns-clause-bound g c = λ can.
     let most = stays_bounded turns end front size can in
     let within : c.in-Ok-site_of.site.start + 5 + length c.in-Ok.kit.payload ≤ max (2 * front + 1048576) (front + 6 + size) = omega (arith, start, same, most) in
     ok_within c.enter_at.result (λ r. g.J.Journal.end (booting_log r.0)) (c.in-Ok-site_of.site.start + 5 + length c.in-Ok.kit.payload) (max (2 * front + 1048576) (front + 6 + size)) c.enter_at.ensures.end within
+
+pub returns-in_default-clause-unmade : goal.returns-in_default-clause-unmade
+returns-in_default-clause-unmade g c = λ back.
+    let d = idle_device c.args.self in
+    start_within g.met.D.Disk.laws g.J.Journal.files c.args.disk.now (λ image. StandsFor g.J.Journal.entries image d)
+    (λ image left. in_hand_stands g.met.D.Disk.laws g.met.J.Journal.laws c.args.self.log c.args.disk.now d c.requires.held.0 image left)
+
+pub returns-in_default-site_of-clause-unmade : goal.returns-in_default-site_of-clause-unmade
+returns-in_default-site_of-clause-unmade g c = λ back.
+    let d = idle_device c.args.self in
+    start_within g.met.D.Disk.laws g.J.Journal.files c.args.disk.now (λ image. StandsFor g.J.Journal.entries image d)
+    (λ image left. in_hand_stands g.met.D.Disk.laws g.met.J.Journal.laws c.args.self.log c.args.disk.now d c.requires.held.0 image left)
+
+pub returns-then-saturating_add-gt-MOST_FILE-clause-unmade : goal.returns-then-saturating_add-gt-MOST_FILE-clause-unmade
+returns-then-saturating_add-gt-MOST_FILE-clause-unmade g c = λ back.
+    let d = idle_device c.args.self in
+    start_within g.met.D.Disk.laws g.J.Journal.files c.args.disk.now (λ image. StandsFor g.J.Journal.entries image d)
+    (λ image left. in_hand_stands g.met.D.Disk.laws g.met.J.Journal.laws c.args.self.log c.args.disk.now d c.requires.held.0 image left)
