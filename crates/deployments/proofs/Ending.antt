@@ -1,13 +1,13 @@
 -- How a call ends, and the whole of it.
-use Rattle.std.specs.Prelude.{ℕ, Bool, List, [], ◌∷◌, ◌++◌, false, Option, Some, None, Result, Ok, Err, IfOk, OnErr, IsErrOf, option_map}
+use Rattle.std.specs.Prelude.{ℕ, Bool, List, [], ◌∷◌, ◌++◌, true, false, Option, Some, None, Result, Ok, Err, IfOk, OnErr, IsErrOf, option_map}
 use Rattle.std.specs.Option.{IsSome, IsSomeAnd}
 use Rattle.std.specs.Io.KnownBytes.{Appends}
 use Rattle.std.proofs.Common.{◌≡◌, ◌≢◌, ◌≤◌, ◌⊎◌, ◌∙◌, inl, inr, refl, sym, ap, subst, arith}
 use Rattle.std.proofs.lemmas.List.{append-nil}
-use Rattle.disk_model.specs.Disk.{Image, DiskLaws, Leaves}
+use Rattle.disk_model.specs.Disk.{Image, After, DiskLaws, Leaves}
 use Rattle.disk_model.specs.Listing.{artifacts, IsBelow}
-use Rattle.disk_model.specs.Moments.{then_spares}
-use Rattle.gate_log.specs.Journal.{JournalLaws}
+use Rattle.disk_model.specs.Moments.{at_start, joined, then_spares, weaker}
+use Rattle.gate_log.specs.Journal.{JournalLaws, Within}
 use Rattle.nuc_base.specs.declared.kinds.Exit.{Exit}
 use Rattle.nuc_base.specs.declared.kinds.Outcome.{Outcome}
 use Rattle.nuc_base.specs.declared.status.Status.{Status}
@@ -17,26 +17,29 @@ use Rattle.records.specs.declared.record.Plan as code
 use Rattle.device.specs.Devices.{Device, Pending}
 use Rattle.device.specs.Lawful.{Allowed, Lawful, MayClose, MayEnd, Run, applied, boot_ended, close_pending}
 use Rattle.device.specs.Standing.{StandsFor}
+use Rattle.artifact_store.specs.Holding.{AllHoldDevice, HoldsDevice}
 use Rattle.artifact_store.proofs.Walking.{start_spares}
 use Rattle.step_runner.specs.Entries.{Told}
 use Rattle.step_runner.specs.declared.entries.RunnerEntry.{RunnerEntry}
 use Rattle.supervisor.specs.World.{World}
 use Rattle.session.specs.Courses.{IsBare}
 use Rattle.session.specs.Happenings.{Happening, Kept, records_of}
+use Rattle.session.specs.Once.{TakesOnce}
 use Rattle.session.specs.Places.{Place, left_by}
 use Rattle.session.proofs.Joined.{left-append, records-append}
+use Rattle.session.proofs.Once.{takes_once}
 use Rattle.deploy_state.proofs.Steps.{in_hand_stands}
-use Rattle.deploy_state.specs.Hand.{IsInHand, LeavesEither}
+use Rattle.deploy_state.specs.Hand.{IsInHand, LeavesEither, LeavesSame}
 use Rattle.deploy_state.specs.States.{InLoaded, idle_device, loaded_device}
 use Rattle.driver.specs.Booted.{AsksFor}
 use Rattle.driver.specs.Lines.{id_of, lines_of}
 use Rattle.driver.specs.Over.{LeftAt, LinesAt}
-use Rattle.driver.specs.Went.{Acts, StandsForMost, Went}
+use Rattle.driver.specs.Went.{Acts, StandsForFront, StandsForMost, Went}
 use Rattle.driver.specs.declared.over.Booted.{Booted}
 use Rattle.driver.specs.declared.over.Booted.TheVariants as booted
 use Rattle.driver.specs.declared.over.Over.{Over}
 use Rattle.driver.specs.declared.over.Over.TheVariants as over
-use Rattle.driver.proofs.Acting.{acts_none}
+use Rattle.driver.proofs.Acting.{acts_none, grows_none}
 use Rattle.driver.proofs.Joins.{acted, records_opened, went_on}
 use Rattle.driver.proofs.Told.{all_told, left_joined, lines_at_joined}
 use Rattle.activation.specs.Ended.{ClosesAs}
@@ -47,14 +50,15 @@ use Rattle.acceptance.proofs.Opening.{accept_went}
 use Rattle.intake.specs.Takes.{LieElsewhere}
 use Rattle.intake.specs.declared.fault.Declined.{Declined}
 use Rattle.intake.proofs.Staying.{hand_stays}
-use Rattle.deploying.specs.Driven.{Course, DrivenLeft, InDriven}
+use Rattle.deploying.specs.Driven.{Course, DrivenLeft, InDriven, driven_device}
 use Rattle.deploying.specs.declared.driven.Driven.{Driven}
 use Rattle.deploying.specs.declared.driven.Driven.TheVariants as driven
 use Rattle.deploying.proofs.Joining.{Holds, went_acting}
-use Rattle.deployments.specs.Calls.{AnswersFor, AnswersOver, Call, Ends, EndsClosed, EndsFor, GivenBack, IsOrEdge, IsPendingAs, Prints, SaysEnding, SaysLine, SaysRefusal, Spared, StandsAtEnd, StandsBehind, opening_line}
+use Rattle.deployments.specs.Calls.{AllHoldBoth, AnswersFor, AnswersOver, Call, Ends, EndsClosed, EndsFor, IsOrEdge, IsPendingAs, Prints, SaysEnding, SaysLine, SaysRefusal, Spared, StandsBehind, StandsWhole, opening_line}
 use Rattle.deployments.specs.Declines.{line_of_declined, status_of_declined}
-use Rattle.deployments.specs.Documents.{Begins, DrivesPlan, DrivesTaken, FitsFrom, Follows}
+use Rattle.deployments.specs.Documents.{Begins, DrivesPlan, DrivesTaken, FitsFrom, Follows, KeepsArtifacts}
 use Rattle.deployments.specs.Endings.{Ending, Closes, Restarts, Reboots, Fails, Breaks, Forgets, Starves, Declines, Full, Idle, IsBegun, line_of_ending, status_of_ending}
+use Rattle.deployments.proofs.Holding.{HoldsBefore, all_before, spared_whole, went_holds, went_whole}
 use Rattle.deployments.proofs.Places.{serves_on}
 use Rattle.deployments.proofs.Printing.{all_prints, ending_over, opening_none, over_prints, said_prints, starved_prints}
 use Rattle.deployments.proofs.Resuming.{loaded_hand}
@@ -156,7 +160,7 @@ module _ (h k : List Happening) (d : Device) (q r : Place) (none : records_of k 
 -- ---- what the disk holds at the end
 
 module _ (entries : Image → List (List ℕ) → Type 0) {D : Type 0} (may_leave : D → Image → Type 0) where
-  most_of : (disk : D) (p : Place) (h : List Happening) → Run p.device (records_of h) (left_by p h).device → StandsBehind entries may_leave disk p h → (c : Image) → may_leave disk c → StandsForMost entries p.device (records_of h) c
+  pub most_of : (disk : D) (p : Place) (h : List Happening) → Run p.device (records_of h) (left_by p h).device → StandsBehind entries may_leave disk p h → (c : Image) → may_leave disk c → StandsForMost entries p.device (records_of h) c
   most_of disk p h run behind c left = record {
     front = records_of h;
     rest = [];
@@ -167,26 +171,21 @@ module _ (entries : Image → List (List ℕ) → Type 0) {D : Type 0} (may_leav
     stands = behind c left;
   }
 
-  pub stands_at_end : (disk : D) (p : Place) (h : List Happening) (ending : Ending) → Run p.device (records_of h) (left_by p h).device → StandsBehind entries may_leave disk p h → StandsAtEnd entries may_leave disk p h ending
-  stands_at_end disk p h (Closes o) run behind = behind
-  stands_at_end disk p h (Restarts id) run behind = behind
-  stands_at_end disk p h (Reboots id) run behind = behind
-  stands_at_end disk p h Fails run behind = most_of disk p h run behind
-  stands_at_end disk p h Breaks run behind = behind
-  stands_at_end disk p h Forgets run behind = inl behind
-  stands_at_end disk p h Starves run behind = behind
-  stands_at_end disk p h (Declines d) run behind = behind
-  stands_at_end disk p h (Full at) run behind = behind
-  stands_at_end disk p h Idle run behind = behind
+  -- where it was given up
+  pub over_most : (e : Over) (disk : D) (p : Place) (h : List Happening) → Run p.device (records_of h) (left_by p h).device → LeftAt entries may_leave disk p h e → (c : Image) → may_leave disk c → StandsForMost entries p.device (records_of h) c
+  over_most over.Disk disk p h run left = left
+  over_most over.Edge disk p h run left = most_of disk p h run left
 
-  pub over_stands : (e : Over) (disk : D) (p : Place) (h : List Happening) → LeftAt entries may_leave disk p h e → StandsAtEnd entries may_leave disk p h (ending_over e)
-  over_stands over.Disk disk p h left = left
-  over_stands over.Edge disk p h left = left
+  pub edge_behind : (e : Over) (disk : D) (p : Place) (h : List Happening) → e ≡ over.Edge → LeftAt entries may_leave disk p h e → StandsBehind entries may_leave disk p h
+  edge_behind over.Disk disk p h is left = absurd cc
+  edge_behind over.Edge disk p h is left = left
 
 module _ (entries : Image → List (List ℕ) → Type 0) (files : List ℕ → Type 0) {D : Type 0} (may_leave : D → Image → Type 0) (moment : D → ℕ) (left_since : D → ℕ → Image → Type 0) where
   -- such a call that drives a deployment with these records
   abbrev pub CallFor : D → D → Option (List RunnerEntry) → Option (List RunnerEntry) → Option (List ℕ) → Option (List ℕ) → Place → Status → List Record → Type 0
-  CallFor old new a c u x p status records = (call : Call entries files may_leave moment left_since old new a c u x p status) × IsBegun call.ending × (records_of call.history ≡ records)
+  CallFor old new a c u x p status records =
+      (call : Call entries files may_leave moment left_since old new a c u x p status) × IsBegun call.ending × (records_of call.history ≡ records)
+      × (((i : Image) → may_leave old i → HoldsBefore i p.device records) → KeepsArtifacts entries files may_leave moment left_since old new a c u x p status call)
 
 -- a part behind another one that goes on, with its history
 module _ (entries : Image → List (List ℕ) → Type 0) (files : List ℕ → Type 0) {D : Type 0} {may_leave : D → Image → Type 0} {moment : D → ℕ} {left_since : D → ℕ → Image → Type 0} {tells : Bool} {seen : D → Image}
@@ -218,13 +217,18 @@ module _ (entries : Image → List (List ℕ) → Type 0) (files : List ℕ → 
         refl,
       )
 
--- behind its acceptance
-pub begins_by : (start : ℕ → ℕ) (plan : Plan) (ending : Ending) (records : List Record) (h g : List Happening) → IsBegun ending → FitsFrom start plan → records_of h ≡ Accepted plan ∷ [] → records ≡ records_of (g ++ h) → Begins start plan ending records
-begins_by start plan ending records h g begun fits first is = inr (
-  begun,
-  fits,
-  (records_of g, is ∙ records-append g h ∙ ap (λ (l : List Record). l ++ records_of g) first),
-)
+-- behind an acceptance no other comes
+once_behind : (taken : Bool) (plan : Plan) (rest : List Record) → taken ≡ false → TakesOnce taken (Accepted plan ∷ rest) → TakesOnce true rest
+once_behind taken plan rest none once = (subst (λ (b : Bool). TakesOnce b (Accepted plan ∷ rest)) none once).1
+
+pub once_after : (taken : Bool) (plan : Plan) (records rest : List Record) → taken ≡ false → records ≡ Accepted plan ∷ rest → TakesOnce taken records → TakesOnce true rest
+once_after taken plan records rest none is once = once_behind taken plan rest none (subst (λ (l : List Record). TakesOnce taken l) is once)
+
+pub first_of : (plan : Plan) (records : List Record) (h g : List Happening) → records_of h ≡ Accepted plan ∷ [] → records ≡ records_of (g ++ h) → records ≡ Accepted plan ∷ records_of g
+first_of plan records h g first is = is ∙ records-append g h ∙ ap (λ (l : List Record). l ++ records_of g) first
+
+pub begins_by : (start : ℕ → ℕ) (plan : Plan) (ending : Ending) (records rest : List Record) → IsBegun ending → FitsFrom start plan → records ≡ Accepted plan ∷ rest → TakesOnce true rest → Begins start plan ending records
+begins_by start plan ending records rest begun fits is once = inr (begun, fits, (rest, is, once))
 
 module _ {D J : Type 0} {tells : Bool} {seen : D → Image} {may_leave : D → Image → Type 0} {moment : D → ℕ} {left_since : D → ℕ → Image → Type 0}
     (laws : DiskLaws tells seen may_leave moment left_since)
@@ -237,19 +241,17 @@ module _ {D J : Type 0} {tells : Bool} {seen : D → Image} {may_leave : D → I
       subst (λ (x : Device). StandsFor entries c x) (sym is) (in_hand_stands laws journal log new d (hand_stays laws journal apart log d old new spared hand) c left)
 
   -- behind a deployment that was driven
-  driven_stands : (x : Driven J) (ending : Ending) (old new : D) (p : Place) (h k : List Happening) (q : Place) (world : World) (told : Told) (living : List ℕ) → EndsFor {J = J} (Ok x) ending
-      → InDriven tells may_leave stands end x old → DrivenLeft x h q world told living → Spared may_leave moment left_since old new → (left_by p (k ++ h)).device ≡ q.device
-      → Run p.device (records_of (k ++ h)) (left_by p (k ++ h)).device → StandsAtEnd entries may_leave new p (k ++ h) ending
-  driven_stands (driven.Closed s o) ending old new p h k q world told living is hand left spared same run =
-      stands_at_end entries may_leave new p (k ++ h) ending run (hand_behind s.log (idle_device s) old new p (k ++ h) spared hand.0 (same ∙ left.stands.device_is))
-  driven_stands (driven.Restart s) ending old new p h k q world told living is hand left spared same run =
-      let held = loaded_hand tells may_leave stands end s old hand in
-      stands_at_end entries may_leave new p (k ++ h) ending run (hand_behind held.0 (loaded_device s) old new p (k ++ h) spared held.1 (same ∙ left.0.stands.device_is))
-  driven_stands (driven.Reboot s) ending old new p h k q world told living is hand left spared same run =
-      let held = loaded_hand tells may_leave stands end s old hand in
-      stands_at_end entries may_leave new p (k ++ h) ending run (hand_behind held.0 (loaded_device s) old new p (k ++ h) spared held.1 (same ∙ left.0.stands.device_is))
-  driven_stands (driven.More s) ending old new p h k q world told living is hand left spared same run =
-      subst (λ (e : Ending). StandsAtEnd entries may_leave new p (k ++ h) e) (sym is) (inr (omega (arith, moments_on h k, left.2)))
+  driven_hand : (x : Driven J) (disk : D) → InDriven tells may_leave stands end x disk → (log : J) × IsInHand tells may_leave stands end log disk (driven_device x)
+  driven_hand (driven.Closed s o) disk hand = (s.log, hand.0)
+  driven_hand (driven.Restart s) disk hand = loaded_hand tells may_leave stands end s disk hand
+  driven_hand (driven.Reboot s) disk hand = loaded_hand tells may_leave stands end s disk hand
+  driven_hand (driven.More s) disk hand = loaded_hand tells may_leave stands end s disk hand
+
+  driven_is : (x : Driven J) (h : List Happening) (q : Place) (world : World) (told : Told) (living : List ℕ) → DrivenLeft x h q world told living → q.device ≡ driven_device x
+  driven_is (driven.Closed s o) h q world told living left = left.stands.device_is
+  driven_is (driven.Restart s) h q world told living left = left.0.stands.device_is
+  driven_is (driven.Reboot s) h q world told living left = left.0.stands.device_is
+  driven_is (driven.More s) h q world told living left = left.3
 
   -- ---- where it ends
 
@@ -267,9 +269,9 @@ module _ {D J : Type 0} {tells : Bool} {seen : D → Image} {may_leave : D → I
         → Appends u v (opening_line p.device) → (course : Course entries files may_leave moment left_since old to a b v w p r (λ y h q. DrivenLeft y h q world told living)) → p.serves ≡ false
         → IfOk r (λ y. InDriven tells may_leave stands end y to)
         → IfOk r (λ y. (q : Place) → (h : List Happening) → DrivenLeft y h q world told living → q.serves ≡ false → (k : List Happening) × Acts q k b c × IsBare (left_by q k))
-        → OnErr r (c ≡ b) → Spared may_leave moment left_since to new → OnErr r (new ≡ to) → SaysEnding w x status (EndsFor r) → (IsErrOf r over.Edge → x ≡ w) → AnswersFor r status
+        → OnErr r (c ≡ b) → Spared may_leave moment left_since to new → IfOk r (λ y. AllHoldDevice (may_leave to) (driven_device y) → Leaves moment left_since to new (λ i. HoldsDevice i (driven_device y))) → OnErr r (new ≡ to) → SaysEnding w x status (EndsFor r) → (IsErrOf r over.Edge → x ≡ w) → AnswersFor r status
         → CallFor entries files may_leave moment left_since old new a c u x p status (records_of course.history)
-    called old to new a b c u v w x p (Ok y) status started course serves held ends still after unswept says silent answers =
+    called old to new a b c u v w x p (Ok y) status started course serves held ends still after safe unswept says silent answers =
         let h = course.history in
         let q = left_by p h in
         let e = ends q h course.left (serves_on p h serves) in
@@ -278,7 +280,12 @@ module _ {D J : Type 0} {tells : Bool} {seen : D → Image} {may_leave : D → I
         let same = records_opened h k e.1.none in
         let device = ap (λ (z : Place). z.device) (left-append p k h) ∙ e.1.device in
         let went = went_acting entries files old to a b c p h k course.went e.1 in
-        let begun = begun_for {J = J} (Ok y) ending says.1 in (
+        let begun = begun_for {J = J} (Ok y) ending says.1 in
+        let records = records_of (k ++ h) in
+        let left = driven_device y in
+        let is = device ∙ driven_is y h q world told living course.left in
+        let hand = driven_hand y to held in
+        let behind = hand_behind hand.0 left to new p (k ++ h) after hand.1 is in (
           record {
             from = old;
             to = to;
@@ -289,14 +296,22 @@ module _ {D J : Type 0} {tells : Bool} {seen : D → Image} {may_leave : D → I
             bare = subst IsBare (sym (left-append p k h)) e.2;
             ending = ending;
             answers = says.3;
-            prints = all_prints u v w x p.device (records_of (k ++ h)) ending status (begun_fed ending begun) started (subst (λ (l : List Record). Appends v w (lines_of p.device l)) (sym same) course.lines) says.2;
+            prints = all_prints (StandsBehind entries may_leave new p (k ++ h)) u v w x p.device records ending status behind (begun_fed ending begun) started (subst (λ (l : List Record). Appends v w (lines_of p.device l)) (sym same) course.lines) says.2;
             ends = driven_ends h k p.device q (left_by p (k ++ h)) e.1.none device went.run world told living y ending course.left says.1;
-            stands = driven_stands y ending to new p h k q world told living says.1 held course.left after device went.run;
+            stands = most_of entries may_leave new p (k ++ h) went.run behind;
+            once = takes_once p (k ++ h) serves went.proper;
           },
           begun,
           same,
+          (λ holds.
+              let before : (i : Image) → may_leave old i → HoldsBefore i p.device records = λ i may. subst (λ (l : List Record). HoldsBefore i p.device l) (sym same) (holds i may) in
+              let there = subst (λ (d : Device). AllHoldDevice (may_leave to) d) is (went_holds laws files entries apart old to a c p (k ++ h) went before) in
+              joined laws old to new (StandsWhole entries p.device records) (StandsWhole entries p.device records) (StandsWhole entries p.device records)
+              (went_whole laws files entries apart old to a c p (k ++ h) went before)
+              (spared_whole laws files entries apart journal hand.0 to new p.device left records records [] hand.1 (sym (append-nil records)) (subst (λ (d : Device). Run p.device records d) is went.run) after (safe there))
+              (λ i w. w) (λ i w. w)),
         )
-    called old to new a b c u v w x p (Err e) status started course serves held ends still after unswept says silent answers =
+    called old to new a b c u v w x p (Err e) status started course serves held ends still after safe unswept says silent answers =
         let ending = ending_over e in
         let is = ending_is J e says.0 says.1 in (
           record {
@@ -309,21 +324,33 @@ module _ {D J : Type 0} {tells : Bool} {seen : D → Image} {may_leave : D → I
             bare = course.bare;
             ending = ending;
             answers = over_answers e status answers;
-            prints = over_prints e u v w x p.device (records_of course.history) status started course.lines (subst (λ (f : Ending). SaysLine w x status (line_of_ending f)) is says.2) (λ edge. silent (ap Err edge)) answers;
+            prints = over_prints (StandsBehind entries may_leave new p course.history) e u v w x p.device (records_of course.history) status
+                (λ edge. subst (λ (z : D). StandsBehind entries may_leave z p course.history) (sym unswept) (edge_behind entries may_leave e to p course.history edge course.left))
+                started course.lines (subst (λ (f : Ending). SaysLine w x status (line_of_ending f)) is says.2) (λ edge. silent (ap Err edge)) answers;
             ends = over_ends e course.history (left_by p course.history);
-            stands = subst (λ (z : D). StandsAtEnd entries may_leave z p course.history ending) (sym unswept) (over_stands entries may_leave e to p course.history course.left);
+            stands = subst (λ (z : D). (i : Image) → may_leave z i → StandsForMost entries p.device (records_of course.history) i) (sym unswept) (over_most entries may_leave e to p course.history course.went.run course.left);
+            once = takes_once p course.history serves course.went.proper;
           },
           subst IsBegun is (begun_for {J = J} (Err e) says.0 says.1),
           refl,
+          (λ holds. subst (λ (z : D). Leaves moment left_since old z (StandsWhole entries p.device (records_of course.history))) (sym unswept) (went_whole laws files entries apart old to a b p course.history course.went holds)),
         )
 
 -- ---- nothing of a deployment happens
 
 module _ {D : Type 0} (entries : Image → List (List ℕ) → Type 0) (files : List ℕ → Type 0) {may_leave : D → Image → Type 0} {moment : D → ℕ} {left_since : D → ℕ → Image → Type 0} {tells : Bool} {seen : D → Image}
     (laws : DiskLaws tells seen may_leave moment left_since) where
+  -- nothing changes at all
+  pub still_whole : (d : D) (p : Place) → ((c : Image) → may_leave d c → StandsFor entries c p.device) → AllHoldDevice (may_leave d) p.device → Leaves moment left_since d d (StandsWhole entries p.device [])
+  still_whole d p stands holds =
+      weaker laws d d (may_leave d) (StandsWhole entries p.device [])
+      (λ c left. (record { front = []; rest = []; split = refl; device = p.device; run = refl; stands = stands c left }, holds c left))
+      (at_start laws d)
+
   -- files may be taken in
   abbrev pub nothing_called : (old new : D) (l : Option (List RunnerEntry)) (u v : Option (List ℕ)) (p : Place) (ending : Ending) (status : Status) → Spared may_leave moment left_since old new → ((c : Image) → may_leave new c → StandsFor entries c p.device)
-      → IsBare p → IsOrEdge status (status_of_ending ending) → Prints u v p.device [] ending status → Ends ending [] p → Call entries files may_leave moment left_since old new l l u v p status
+      → IsBare p → IsOrEdge status (status_of_ending ending) → Prints u v p.device [] ending status (StandsBehind entries may_leave new p []) → Ends ending [] p
+      → Call entries files may_leave moment left_since old new l l u v p status
   nothing_called old new l u v p ending status before stands bare answers prints ends = record {
     from = new;
     to = new;
@@ -336,58 +363,108 @@ module _ {D : Type 0} (entries : Image → List (List ℕ) → Type 0) (files : 
     answers = answers;
     prints = prints;
     ends = ends;
-    stands = stands_at_end entries may_leave new p [] ending refl stands;
+    stands = most_of entries may_leave new p [] refl stands;
+    once = tt;
   }
 
   -- The document is not taken: that is said, or there is no memory for its line.
   pub declined_called : (start : ℕ → ℕ) (old new : D) (l : Option (List RunnerEntry)) (u v : Option (List ℕ)) (p : Place) (declined : Declined) (status : Status) → Spared may_leave moment left_since old new → ((c : Image) → may_leave new c → StandsFor entries c p.device)
       → IsBare p → p.device.pending ≡ None → SaysRefusal u v status (status_of_declined declined) (line_of_declined declined)
-      → (c : Call entries files may_leave moment left_since old new l l u v p status) × Follows start (Err declined) c.ending (records_of c.history)
+      → (t : DrivesTaken entries files may_leave moment left_since old new l l u v p status start (Err declined)) × (records_of t.0.history ≡ [])
   declined_called start old new l u v p declined status before stands bare none (inl said) = (
-    nothing_called old new l u v p (Declines declined) status before stands bare said.1 (said_prints u v p.device (Declines declined) status (λ is. cc) none said.0) refl,
-    (inl refl, refl),
+    (
+      nothing_called old new l u v p (Declines declined) status before stands bare said.1 (said_prints (StandsBehind entries may_leave new p []) u v p.device (Declines declined) status stands (λ is. cc) none said.0) refl,
+      (inl refl, refl),
+    ),
+    refl,
   )
   declined_called start old new l u v p declined status before stands bare none (inr short) = (
-    nothing_called old new l u v p Starves status before stands bare (inl short.0) (starved_prints u v p.device status short.1) refl,
-    (inr refl, refl),
+    (
+      nothing_called old new l u v p Starves status before stands bare (inl short.0) (starved_prints (StandsBehind entries may_leave new p []) u v p.device status stands short.1) refl,
+      (inr refl, refl),
+    ),
+    refl,
   )
 
-  -- the plan's entry is in doubt, or its line was not printed
-  pub doubt_called : (start : ℕ → ℕ) (e : Over) (old new : D) (list : Option (List RunnerEntry)) (u v w : Option (List ℕ)) (p : Place) (d : Device) (world : World) (told : Told) (living : List ℕ) (plan : Plan) (h : List Happening) (status : Status)
-      → FitsFrom start plan → IsOpen p d world told living → IsBare p → Allowed d (Accepted plan) → Leaves moment left_since old new (LeavesEither may_leave files entries old d (applied d (Accepted plan)))
-      → d.pending ≡ None → records_of h ≡ Accepted plan ∷ [] → Run p.device (records_of h) (left_by p h).device → LinesAt u v p.device (records_of h) e → LeftAt entries may_leave new p h e
-      → SaysLine v w status (line_of_ending (ending_over e)) → (e ≡ over.Edge → w ≡ v) → AnswersOver e status
-      → DrivesPlan entries files may_leave moment left_since old new list list u w p status start plan
-  doubt_called start e old new list u v w p d world told living plan h status fits opens bare allowed notes none records run lines left says silent answers =
-      let one = Accepted plan ∷ [] in
-      let on = Kept (Accepted plan) ∷ [] in
-      let device = one_device p.device (left_by p h).device (Accepted plan) (subst (λ (l : List Record). Run p.device l (left_by p h).device) records run) in
-      inl (
-        record {
-          from = old;
-          to = new;
-          before = start_spares laws (IsBelow artifacts) old;
-          history = on;
-          went = accept_went entries files laws old new list p d world told living plan opens allowed notes;
-          after = start_spares laws (IsBelow artifacts) new;
-          bare = record { parts = bare.parts; boot = bare.boot };
-          ending = ending_over e;
-          answers = over_answers e status answers;
-          prints = over_prints e u u v w p.device one status (opening_none u p.device (ap (λ (x : Device). x.pending) opens.stands.device_is ∙ none))
-              (subst (λ (l : List Record). LinesAt u v p.device l e) records lines) says silent answers;
-          ends = over_ends e on (left_by p on);
-          stands = over_stands entries may_leave e new p on (left_as e device records left);
-        },
-        inr (over_begun e, fits, ([], refl)),
-      )
-    where
-      over_begun : (e : Over) → IsBegun (ending_over e)
-      over_begun over.Disk = tt
-      over_begun over.Edge = tt
+  -- the journal does not lie among the files of artifacts
+  module _ (apart : LieElsewhere files) where
+    -- A plan is given back for want of memory, where the journal may have been begun anew with the device.
+    pub starved_called : (old new : D) (l : Option (List RunnerEntry)) (u v : Option (List ℕ)) (p : Place) (plan : Plan) → Leaves moment left_since old new (LeavesSame may_leave files entries old p.device) → ((c : Image) → may_leave new c → StandsFor entries c p.device)
+        → IsBare p → v ≡ u → (c : Call entries files may_leave moment left_since old new l l u v p statuses.Memory)
+        × (c.ending ≡ Starves) × (records_of c.history ≡ []) × (AllHoldBoth (may_leave old) p.device plan.items → KeepsArtifacts entries files may_leave moment left_since old new l l u v p statuses.Memory c)
+    starved_called old new l u v p plan leaves stands bare silent = (
+      record {
+        from = old;
+        to = new;
+        before = start_spares laws (IsBelow artifacts) old;
+        history = [];
+        went = went;
+        after = start_spares laws (IsBelow artifacts) new;
+        bare = bare;
+        ending = Starves;
+        answers = inl refl;
+        prints = starved_prints (StandsBehind entries may_leave new p []) u v p.device statuses.Memory stands silent;
+        ends = refl;
+        stands = most_of entries may_leave new p [] refl stands;
+        once = tt;
+      },
+      refl,
+      refl,
+      (λ holds. went_whole laws files entries apart old new l l p [] went (λ c left. record { device = (holds c left).0; plans = tt })),
+    )
+      where
+        went : Went entries files may_leave moment left_since old new l l p []
+        went = record {
+          proper = tt;
+          run = refl;
+          course = weaker laws old new (LeavesSame may_leave files entries old p.device) (After (may_leave old) (Within files (StandsForFront entries p.device [])))
+              (λ c was. (was.0, was.1, record { here = record { front = []; rest = []; split = refl; device = p.device; run = refl; stands = was.2.here }; others = was.2.others }))
+              leaves;
+          list = grows_none l l refl;
+        }
 
-      left_as : (e : Over) → (left_by p h).device ≡ applied p.device (Accepted plan) → records_of h ≡ Accepted plan ∷ [] → LeftAt entries may_leave new p h e → LeftAt entries may_leave new p (Kept (Accepted plan) ∷ []) e
-      left_as over.Disk device records left = λ c may. subst (λ (l : List Record). StandsForMost entries p.device l c) records (left c may)
-      left_as over.Edge device records left = λ c may. subst (λ (x : Device). StandsFor entries c x) device (left c may)
+    -- the plan's entry is in doubt, or its line was not printed
+    pub doubt_called : (start : ℕ → ℕ) (e : Over) (old new : D) (list : Option (List RunnerEntry)) (u v w : Option (List ℕ)) (p : Place) (d : Device) (world : World) (told : Told) (living : List ℕ) (plan : Plan) (h : List Happening) (status : Status)
+        → FitsFrom start plan → IsOpen p d world told living → p.serves ≡ false → IsBare p → Allowed d (Accepted plan) → Leaves moment left_since old new (LeavesEither may_leave files entries old d (applied d (Accepted plan)))
+        → d.pending ≡ None → records_of h ≡ Accepted plan ∷ [] → Run p.device (records_of h) (left_by p h).device → LinesAt u v p.device (records_of h) e → LeftAt entries may_leave new p h e
+        → SaysLine v w status (line_of_ending (ending_over e)) → (e ≡ over.Edge → w ≡ v) → AnswersOver e status
+        → (t : DrivesPlan entries files may_leave moment left_since old new list list u w p status start plan)
+        × (AllHoldBoth (may_leave old) p.device plan.items → KeepsArtifacts entries files may_leave moment left_since old new list list u w p status t.0)
+    doubt_called start e old new list u v w p d world told living plan h status fits opens serves bare allowed notes none records run lines left says silent answers =
+        let one = Accepted plan ∷ [] in
+        let on = Kept (Accepted plan) ∷ [] in
+        let device = one_device p.device (left_by p h).device (Accepted plan) (subst (λ (l : List Record). Run p.device l (left_by p h).device) records run) in
+        let went = accept_went entries files laws old new list p d world told living plan opens allowed notes in
+        let behind = left_as e device records left in (
+          (
+            record {
+              from = old;
+              to = new;
+              before = start_spares laws (IsBelow artifacts) old;
+              history = on;
+              went = went;
+              after = start_spares laws (IsBelow artifacts) new;
+              bare = record { parts = bare.parts; boot = bare.boot };
+              ending = ending_over e;
+              answers = over_answers e status answers;
+              prints = over_prints (StandsBehind entries may_leave new p on) e u u v w p.device one status (λ edge. edge_behind entries may_leave e new p on edge behind) (opening_none u p.device (ap (λ (x : Device). x.pending) opens.stands.device_is ∙ none))
+                  (subst (λ (l : List Record). LinesAt u v p.device l e) records lines) says silent answers;
+              ends = over_ends e on (left_by p on);
+              stands = over_most entries may_leave e new p on went.run behind;
+              once = takes_once p on serves went.proper;
+            },
+            begins_by start plan (ending_over e) one [] (over_begun e) fits refl tt,
+          ),
+          (λ holds. went_whole laws files entries apart old new list list p on went (all_before (may_leave old) p.device plan one [] refl tt holds)),
+        )
+      where
+        over_begun : (e : Over) → IsBegun (ending_over e)
+        over_begun over.Disk = tt
+        over_begun over.Edge = tt
+
+        left_as : (e : Over) → (left_by p h).device ≡ applied p.device (Accepted plan) → records_of h ≡ Accepted plan ∷ [] → LeftAt entries may_leave new p h e → LeftAt entries may_leave new p (Kept (Accepted plan) ∷ []) e
+        left_as over.Disk device records left = λ c may. subst (λ (l : List Record). StandsForMost entries p.device l c) records (left c may)
+        left_as over.Edge device records left = λ c may. subst (λ (x : Device). StandsFor entries c x) device (left c may)
 
   -- with files that are taken in before it
   abbrev called_behind : (old mid new : D) (a b : Option (List RunnerEntry)) (u v : Option (List ℕ)) (p : Place) (status : Status) → Spared may_leave moment left_since old mid
@@ -405,24 +482,20 @@ module _ {D : Type 0} (entries : Image → List (List ℕ) → Type 0) (files : 
     prints = c.prints;
     ends = c.ends;
     stands = c.stands;
-  }
-
-  abbrev given_back_behind : (old mid new : D) (a b : Option (List RunnerEntry)) (u v : Option (List ℕ)) (p : Place) (status : Status) → Spared may_leave moment left_since old mid
-      → GivenBack entries files may_leave moment left_since mid new a b u v p status → GivenBack entries files may_leave moment left_since old new a b u v p status
-  given_back_behind old mid new a b u v p status first g = record {
-    memory = g.memory;
-    from = g.from;
-    before = then_spares laws (IsBelow artifacts) old mid g.from first g.before;
-    plan = g.plan;
-    moments = g.moments;
-    stands = g.stands;
-    list = g.list;
-    held = g.held;
-    bare = g.bare;
+    once = c.once;
   }
 
   -- a plan that was taken in is driven
   pub taken_behind : (start : ℕ → ℕ) (old mid new : D) (a b : Option (List RunnerEntry)) (u v : Option (List ℕ)) (p : Place) (status : Status) (plan : code.Plan) → Spared may_leave moment left_since old mid
-      → DrivesPlan entries files may_leave moment left_since mid new a b u v p status start (plan_view plan) → DrivesTaken entries files may_leave moment left_since old new a b u v p status start (Ok plan)
-  taken_behind start old mid new a b u v p status plan first (inl c) = inl (called_behind old mid new a b u v p status first c.0, c.1)
-  taken_behind start old mid new a b u v p status plan first (inr g) = inr (given_back_behind old mid new a b u v p status first g.0, g.1)
+      → (AllHoldDevice (may_leave old) p.device → (records : List Record) → Leaves moment left_since old mid (StandsWhole entries p.device records))
+      → (AllHoldDevice (may_leave old) p.device → AllHoldBoth (may_leave mid) p.device (plan_view plan).items)
+      → (s : DrivesPlan entries files may_leave moment left_since mid new a b u v p status start (plan_view plan))
+      × (AllHoldBoth (may_leave mid) p.device (plan_view plan).items → KeepsArtifacts entries files may_leave moment left_since mid new a b u v p status s.0)
+      → (t : DrivesTaken entries files may_leave moment left_since old new a b u v p status start (Ok plan))
+      × (AllHoldDevice (may_leave old) p.device → KeepsArtifacts entries files may_leave moment left_since old new a b u v p status t.0)
+  taken_behind start old mid new a b u v p status plan first whole gives drives =
+      let c = drives.0.0 in
+      let is = StandsWhole entries p.device (records_of c.history) in (
+        (called_behind old mid new a b u v p status first c, drives.0.1),
+        (λ holds. joined laws old mid new is is is (whole holds (records_of c.history)) (drives.1 (gives holds)) (λ i w. w) (λ i w. w)),
+      )

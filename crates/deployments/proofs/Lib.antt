@@ -1,4 +1,5 @@
 mod Files
+pub mod Holding
 mod Statuses
 mod Results
 mod Places

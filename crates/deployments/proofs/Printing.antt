@@ -88,9 +88,9 @@ lines_are d records (Full at) fed = refl
 lines_are d records Idle fed = refl
 
 -- the lines of some of the records, and one behind them
-told_prints : (a b c e : Option (List ℕ)) (d : Device) (records told rest : List Record) (ending : Ending) (status : Status) → ending ≢ Starves → Appends a b (opening_line d) → Appends b c (lines_of d told)
-    → records ≡ told ++ rest → length rest ≤ 1 → (ending ≢ Fails → rest ≡ []) → SaysLine c e status (line_of_ending ending) → Prints a e d records ending status
-told_prints a b c e d records told rest ending status fed before lines split few all says =
+told_prints : (sure : Type 0) (a b c e : Option (List ℕ)) (d : Device) (records told rest : List Record) (ending : Ending) (status : Status) → (rest ≡ [] → sure) → ending ≢ Starves → Appends a b (opening_line d) → Appends b c (lines_of d told)
+    → records ≡ told ++ rest → length rest ≤ 1 → (ending ≢ Fails → rest ≡ []) → SaysLine c e status (line_of_ending ending) → Prints a e d records ending status sure
+told_prints sure a b c e d records told rest ending status stable fed before lines split few all says =
     let line = line_of_ending ending in
     let same = lines_are d told ending fed in
     record {
@@ -101,21 +101,22 @@ told_prints a b c e d records told rest ending status fed before lines split few
       all = all;
       front = subst (λ (l : List ℕ). AppendsFront a e l) same (front_joined a b e (opening_line d) (lines_of d told ++ line) before (front_joined b c e (lines_of d told) line lines says.0));
       whole = λ well. subst (λ (l : List ℕ). Appends a e l) same (Appends-trans a b e (opening_line d) (lines_of d told ++ line) before (Appends-trans b c e (lines_of d told) line lines (says.1 well)));
+      stable = stable;
     }
 
 -- those of all
-pub all_prints : (a b c e : Option (List ℕ)) (d : Device) (records : List Record) (ending : Ending) (status : Status) → ending ≢ Starves → Appends a b (opening_line d) → Appends b c (lines_of d records)
-    → SaysLine c e status (line_of_ending ending) → Prints a e d records ending status
-all_prints a b c e d records ending status fed before lines says =
-    told_prints a b c e d records records [] ending status fed before lines (sym (append-nil records)) (omega arith) (λ other. refl) says
+pub all_prints : (sure : Type 0) (a b c e : Option (List ℕ)) (d : Device) (records : List Record) (ending : Ending) (status : Status) → sure → ending ≢ Starves → Appends a b (opening_line d) → Appends b c (lines_of d records)
+    → SaysLine c e status (line_of_ending ending) → Prints a e d records ending status sure
+all_prints sure a b c e d records ending status stable fed before lines says =
+    told_prints sure a b c e d records records [] ending status (λ none. stable) fed before lines (sym (append-nil records)) (omega arith) (λ other. refl) says
 
 -- no record was kept, and none was pending
-pub said_prints : (a b : Option (List ℕ)) (d : Device) (ending : Ending) (status : Status) → ending ≢ Starves → d.pending ≡ None → SaysLine a b status (line_of_ending ending) → Prints a b d [] ending status
-said_prints a b d ending status fed none says = all_prints a a a b d [] ending status fed (opening_none a d none) (Appends-nil a) says
+pub said_prints : (sure : Type 0) (a b : Option (List ℕ)) (d : Device) (ending : Ending) (status : Status) → sure → ending ≢ Starves → d.pending ≡ None → SaysLine a b status (line_of_ending ending) → Prints a b d [] ending status sure
+said_prints sure a b d ending status stable fed none says = all_prints sure a a a b d [] ending status stable fed (opening_none a d none) (Appends-nil a) says
 
 -- there was no memory to begin
-pub starved_prints : (a b : Option (List ℕ)) (d : Device) (status : Status) → b ≡ a → Prints a b d [] Starves status
-starved_prints a b d status same =
+pub starved_prints : (sure : Type 0) (a b : Option (List ℕ)) (d : Device) (status : Status) → sure → b ≡ a → Prints a b d [] Starves status sure
+starved_prints sure a b d status stable same =
     let says = says_none a b status same in
     record {
       told = [];
@@ -125,11 +126,12 @@ starved_prints a b d status same =
       all = λ other. refl;
       front = says.0;
       whole = says.1;
+      stable = λ none. stable;
     }
 
 -- the line of a deployment that is resumed was not written
-pub unopened_prints : (a b : Option (List ℕ)) (d : Device) (status : Status) → AppendsFront a b (opening_line d) → status ≡ statuses.Edge → Prints a b d [] Breaks status
-unopened_prints a b d status front is = record {
+pub unopened_prints : (sure : Type 0) (a b : Option (List ℕ)) (d : Device) (status : Status) → sure → AppendsFront a b (opening_line d) → status ≡ statuses.Edge → Prints a b d [] Breaks status sure
+unopened_prints sure a b d status stable front is = record {
   told = [];
   rest = [];
   split = refl;
@@ -137,11 +139,12 @@ unopened_prints a b d status front is = record {
   all = λ other. refl;
   front = front_longer a b (opening_line d) ([] ++ []) front;
   whole = λ well. absurd (well is);
+  stable = λ none. stable;
 }
 
 -- a front of them, where the sink failed
-edge_prints : (a b c : Option (List ℕ)) (d : Device) (records : List Record) (status : Status) → Appends a b (opening_line d) → AppendsFront b c (lines_of d records) → status ≡ statuses.Edge → Prints a c d records Breaks status
-edge_prints a b c d records status before lines is = record {
+edge_prints : (sure : Type 0) (a b c : Option (List ℕ)) (d : Device) (records : List Record) (status : Status) → sure → Appends a b (opening_line d) → AppendsFront b c (lines_of d records) → status ≡ statuses.Edge → Prints a c d records Breaks status sure
+edge_prints sure a b c d records status stable before lines is = record {
   told = records;
   rest = [];
   split = sym (append-nil records);
@@ -149,6 +152,7 @@ edge_prints a b c d records status before lines is = record {
   all = λ other. refl;
   front = front_joined a b c (opening_line d) (lines_of d records ++ []) before (front_longer b c (lines_of d records) [] lines);
   whole = λ well. absurd (well is);
+  stable = λ none. stable;
 }
 
 -- how a call ends whose deployment was given up
@@ -157,12 +161,12 @@ ending_over over.Disk = Fails
 ending_over over.Edge = Breaks
 
 -- a deployment that was given up
-pub over_prints : (e : Over) (a b c f : Option (List ℕ)) (d : Device) (records : List Record) (status : Status) → Appends a b (opening_line d) → LinesAt b c d records e
-    → SaysLine c f status (line_of_ending (ending_over e)) → (e ≡ over.Edge → f ≡ c) → AnswersOver e status → Prints a f d records (ending_over e) status
-over_prints over.Disk a b c f d records status before lines says silent answers =
-    told_prints a b c f d records lines.0 lines.1 Fails status (λ is. cc) before lines.4 lines.2 lines.3 (λ other. absurd (other refl)) says
-over_prints over.Edge a b c f d records status before lines says silent answers =
-    subst (λ (x : Option (List ℕ)). Prints a x d records Breaks status) (sym (silent refl)) (edge_prints a b c d records status before lines answers)
+pub over_prints : (sure : Type 0) (e : Over) (a b c f : Option (List ℕ)) (d : Device) (records : List Record) (status : Status) → (e ≡ over.Edge → sure) → Appends a b (opening_line d) → LinesAt b c d records e
+    → SaysLine c f status (line_of_ending (ending_over e)) → (e ≡ over.Edge → f ≡ c) → AnswersOver e status → Prints a f d records (ending_over e) status sure
+over_prints sure over.Disk a b c f d records status stable before lines says silent answers =
+    told_prints sure a b c f d records lines.0 (lines.1 ∷ []) Fails status (λ none. cc) (λ is. cc) before lines.3 lines.2 (omega arith) (λ other. absurd (other refl)) says
+over_prints sure over.Edge a b c f d records status stable before lines says silent answers =
+    subst (λ (x : Option (List ℕ)). Prints a x d records Breaks status sure) (sym (silent refl)) (edge_prints sure a b c d records status (stable refl) before lines answers)
 
 -- ---- behind a close
 

@@ -1,7 +1,7 @@
 -- What a deployment that is resumed has in hand.
-use Rattle.std.specs.Prelude.{ℕ, Bool, List, Option, Some, None, option_map}
+use Rattle.std.specs.Prelude.{ℕ, Bool, true, List, Option, Some, None, is_some, option_map}
 use Rattle.std.specs.Option.{IsSome, IsSomeAnd}
-use Rattle.std.proofs.Common.{◌≡◌, ◌⊎◌, refl, sym, subst}
+use Rattle.std.proofs.Common.{◌≡◌, ◌⊎◌, ◌∙◌, refl, sym, ap, subst}
 use Rattle.disk_model.specs.Disk.{DiskLaws, Image}
 use Rattle.gate_log.specs.Journal.{JournalLaws}
 use Rattle.device.specs.Devices.{Device, Pending}
@@ -18,6 +18,9 @@ use Rattle.deployments.specs.Endings.{Ending, Idle, Starves, IsBegun, Resumes, R
 some_of : {A : Type 0} (P : A → Type 0) (o : Option A) → IsSomeAnd o P → IsSome o
 some_of P None h = absurd h
 some_of P (Some x) h = refl
+
+pub some_is : (d e : Device) → d ≡ e → IsSome e.pending → is_some d.pending ≡ true
+some_is d e same some = ap (λ (x : Device). is_some x.pending) same ∙ some
 
 pub some_mapped : {A B : Type 0} (f : A → B) (o : Option A) → IsSome (option_map f o) → IsSome o
 some_mapped f None h = h

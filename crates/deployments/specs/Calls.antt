@@ -2,6 +2,7 @@
 use Rattle.std.specs.Prelude.{◌≡◌, ◌≢◌, ◌⊎◌, ◌≤◌, ◌-◌, ◌^◌, min, ℕ, List, [], ◌++◌, length, Option, Some, None, Result, Ok, Err, ⊤, codes}
 use Rattle.std.specs.Option.{IsSomeAnd}
 use Rattle.std.specs.Io.KnownBytes.{Appends}
+use Rattle.artifact_store.specs.Holding.{HoldsDevice, HoldsItems}
 use Rattle.disk_model.specs.Disk.{Image, After, Leaves}
 use Rattle.disk_model.specs.Listing.{artifacts, IsBelow}
 use Rattle.disk_model.specs.Spares.{Spares}
@@ -9,21 +10,19 @@ use Rattle.edges.specs.Pieces.{AppendsFront}
 use Rattle.nuc_base.specs.declared.kinds.Outcome.{Outcome}
 use Rattle.nuc_base.specs.declared.status.Status.{Status}
 use Rattle.nuc_base.specs.declared.status.Status.TheVariants as statuses
-use Rattle.records.specs.Stored.{Plan, Record, Accepted}
+use Rattle.records.specs.Stored.{Item, Plan, Record}
 use Rattle.records.specs.declared.record.Origin.{Origin}
 use Rattle.device.specs.Devices.{Device}
-use Rattle.device.specs.Lawful.{applied}
 use Rattle.device.specs.Standing.{StandsFor}
-use Rattle.deploy_state.specs.Hand.{LeavesEither}
 use Rattle.deploy_state.specs.States.{loaded_device}
 use Rattle.step_runner.specs.declared.entries.RunnerEntry.{RunnerEntry}
 use Rattle.session.specs.Courses.{IsBare}
 use Rattle.session.specs.Happenings.{Happening, records_of}
-use Rattle.session.specs.Phases.{duty_of}
+use Rattle.session.specs.Once.{TakesOnce}
 use Rattle.session.specs.Places.{Place, left_by}
 use Rattle.driver.specs.Booted.{AsksFor}
 use Rattle.driver.specs.Lines.{id_of, lines_of}
-use Rattle.driver.specs.Went.{StandsForMost, Went}
+use Rattle.driver.specs.Went.{StandsForFront, StandsForMost, Went}
 use Rattle.driver.specs.declared.over.Booted.TheVariants as booted
 use Rattle.driver.specs.declared.over.Over.{Over}
 use Rattle.driver.specs.declared.over.Over.TheVariants as over
@@ -70,8 +69,8 @@ call_lines d records Starves = []
 call_lines d records ending = opening_line d ++ (lines_of d records ++ line_of_ending ending)
 
 -- The lines of the call. Where the disk failed that of the last record may be missing, also where the line that says so was not
--- written. Where the sink failed there is a front of them.
-pub record Prints (old new : Option (List ℕ)) (d : Device) (records : List Record) (ending : Ending) (status : Status) : Type 0 where
+-- written. Where the sink failed there is a front of them. What is sure of all records holds where the line of none is missing.
+pub record Prints (old new : Option (List ℕ)) (d : Device) (records : List Record) (ending : Ending) (status : Status) (sure : Type 0) : Type 0 where
   pub told : List Record
   pub rest : List Record
   pub split : records ≡ told ++ rest
@@ -79,6 +78,7 @@ pub record Prints (old new : Option (List ℕ)) (d : Device) (records : List Rec
   pub all : ending ≢ Fails → rest ≡ []
   pub front : AppendsFront old new (call_lines d told ending)
   pub whole : status ≢ statuses.Edge → Appends old new (call_lines d told ending)
+  pub stable : rest ≡ [] → sure
 
 -- ---- the end
 
@@ -87,8 +87,8 @@ abbrev pub IsPendingAs : List ℕ → Device → Type 0
 IsPendingAs id d = IsSomeAnd d.pending (λ q. q.plan.id ≡ id)
 
 -- The last record is that the deployment closed so, and nothing is pending; or it asks for the restart or the reboot of the
--- pending deployment. Want of memory leaves no deployment unfinished that this call began or drove on, unless a stage did not
--- end in so many moments. Where none is begun or driven on there is no record.
+-- pending deployment. Want of memory leaves no deployment unfinished that this call began or drove on, unless the history asks
+-- for the moment so often. Where none is begun or driven on nothing happens.
 abbrev pub Ends : Ending → List Happening → Place → Type 0
 Ends (Closes o) h q = ClosesAs o (records_of h) × (q.device.pending ≡ None)
 Ends (Restarts id) h q = AsksFor booted.Restart (records_of h) q.device × IsPendingAs id q.device
@@ -96,22 +96,25 @@ Ends (Reboots id) h q = AsksFor booted.Reboot (records_of h) q.device × IsPendi
 Ends Fails h q = ⊤
 Ends Breaks h q = ⊤
 Ends Forgets h q = ((o : Outcome) × ClosesAs o (records_of h)) ⊎ (most_turns ≤ moments_in h)
-Ends Starves h q = records_of h ≡ []
-Ends (Declines d) h q = records_of h ≡ []
-Ends (Full at) h q = records_of h ≡ []
-Ends Idle h q = (records_of h ≡ []) × (q.device.pending ≡ None)
+Ends Starves h q = h ≡ []
+Ends (Declines d) h q = h ≡ []
+Ends (Full at) h q = h ≡ []
+Ends Idle h q = (h ≡ []) × (q.device.pending ≡ None)
 
 module _ (entries : Image → List (List ℕ) → Type 0) {D : Type 0} (may_leave : D → Image → Type 0) where
   -- each image that a crash may leave now stands for the device that the history leaves
   abbrev pub StandsBehind : D → Place → List Happening → Type 0
   StandsBehind disk p h = (c : Image) → may_leave disk c → StandsFor entries c (left_by p h).device
 
-  -- So it does at the end of a call. Where the disk failed the last record is in doubt, and where a stage did not end in so many
-  -- moments this does not say it.
-  abbrev pub StandsAtEnd : D → Place → List Happening → Ending → Type 0
-  StandsAtEnd disk p h Fails = (c : Image) → may_leave disk c → StandsForMost entries p.device (records_of h) c
-  StandsAtEnd disk p h Forgets = StandsBehind disk p h ⊎ (most_turns ≤ moments_in h)
-  StandsAtEnd disk p h ending = StandsBehind disk p h
+-- ---- files of artifacts
+
+-- the image stands for the device that a front of the records leaves, and has each artifact of that device
+abbrev pub StandsWhole : (Image → List (List ℕ) → Type 0) → Device → List Record → Image → Type 0
+StandsWhole entries d records image = (f : StandsForFront entries d records image) × HoldsDevice image f.device
+
+-- each of these images has the artifacts of the device and of these items
+abbrev pub AllHoldBoth : (Image → Type 0) → Device → List Item → Type 0
+AllHoldBoth images d items = (c : Image) → images c → HoldsDevice c d × HoldsItems c items
 
 -- ---- the whole
 
@@ -120,8 +123,10 @@ abbrev pub Spared : {D : Type 0} → (D → Image → Type 0) → (D → ℕ) �
 Spared may_leave moment left_since old new = Leaves moment left_since old new (After (may_leave old) (Spares (IsBelow artifacts)))
 
 module _ (entries : Image → List (List ℕ) → Type 0) (files : List ℕ → Type 0) {D : Type 0} (may_leave : D → Image → Type 0) (moment : D → ℕ) (left_since : D → ℕ → Image → Type 0) where
-  -- Files are taken in, then the history goes on from its first record to its last, and then stray files are swept. At the end
-  -- no child lives. How the call ends gives its status, its lines, its last record, and what the disk holds.
+  -- Files of artifacts change, then the history goes on from its first record to its last, and then files of artifacts change
+  -- again. At the end no child lives. How the call ends gives its status, its lines, its last record, and what the disk holds: each image stands
+  -- for the device of all records, or of all but the last, whose line is then not written. One plan is accepted at most, and none
+  -- where one was pending.
   pub record Call (old new : D) (old_list new_list : Option (List RunnerEntry)) (old_held new_held : Option (List ℕ)) (p : Place) (status : Status) : Type 0 where
     pub from : D
     pub to : D
@@ -132,23 +137,10 @@ module _ (entries : Image → List (List ℕ) → Type 0) (files : List ℕ → 
     pub bare : IsBare (left_by p history)
     pub ending : Ending
     pub answers : IsOrEdge status (status_of_ending ending)
-    pub prints : Prints old_held new_held p.device (records_of history) ending status
+    pub prints : Prints old_held new_held p.device (records_of history) ending status (StandsBehind entries may_leave new p history)
     pub ends : Ends ending history (left_by p history)
-    pub stands : StandsAtEnd entries may_leave new p history ending
-
--- A plan is given back for want of memory before its entry was written: the device is as it was. A crash in the call leaves it
--- with the plan or without. The runner is not asked, and nothing is printed.
-module _ (entries : Image → List (List ℕ) → Type 0) (files : List ℕ → Type 0) {D : Type 0} (may_leave : D → Image → Type 0) (moment : D → ℕ) (left_since : D → ℕ → Image → Type 0) where
-  pub record GivenBack (old new : D) (old_list new_list : Option (List RunnerEntry)) (old_held new_held : Option (List ℕ)) (p : Place) (status : Status) : Type 0 where
-    pub memory : status ≡ statuses.Memory
-    pub from : D
-    pub before : Spared may_leave moment left_since old from
-    pub plan : Plan
-    pub moments : Leaves moment left_since from new (LeavesEither may_leave files entries from p.device (applied p.device (Accepted plan)))
-    pub stands : (c : Image) → may_leave new c → StandsFor entries c p.device
-    pub list : new_list ≡ old_list
-    pub held : new_held ≡ old_held
-    pub bare : IsBare p
+    pub stands : (c : Image) → may_leave new c → StandsForMost entries p.device (records_of history) c
+    pub once : TakesOnce p.taken (records_of history)
 
 -- ---- counts of faults
 

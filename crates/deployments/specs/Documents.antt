@@ -1,6 +1,6 @@
 -- What becomes of a document in a call: whether it is taken, and what then follows.
-use Rattle.std.specs.Prelude.{◌≡◌, ◌⊎◌, ℕ, List, [], ◌∷◌, Option, Some, Result, Ok, Err, ⊤}
-use Rattle.disk_model.specs.Disk.{Image}
+use Rattle.std.specs.Prelude.{◌≡◌, ◌⊎◌, ℕ, true, List, [], ◌∷◌, Option, Result, Ok, Err, ⊤}
+use Rattle.disk_model.specs.Disk.{Image, Leaves}
 use Rattle.nuc_base.specs.declared.status.Status.{Status}
 use Rattle.library_core.specs.Library.{Content}
 use Rattle.records.specs.Stored.{Plan, Record, Accepted, plan_view}
@@ -15,11 +15,12 @@ use Rattle.plan_core.specs.declared.fault.Refusal.TheVariants as refusal
 use Rattle.deploy_state.specs.Turning.{IsTooFar, plan_bytes}
 use Rattle.step_runner.specs.declared.entries.RunnerEntry.{RunnerEntry}
 use Rattle.session.specs.Happenings.{records_of}
+use Rattle.session.specs.Once.{TakesOnce}
 use Rattle.session.specs.Places.{Place}
 use Rattle.intake.specs.Takes.{TakesIn}
 use Rattle.intake.specs.declared.fault.Declined.{Declined}
 use Rattle.intake.specs.declared.fault.Declined.TheVariants.{Refused}
-use Rattle.deployments.specs.Calls.{Call, GivenBack}
+use Rattle.deployments.specs.Calls.{Call, StandsWhole}
 use Rattle.deployments.specs.Endings.{Ending, Declines, Full, Starves, IsBegun}
 
 -- ---- what taking it in answers
@@ -44,31 +45,28 @@ IsPutOff start plan Starves = ⊤
 IsPutOff start plan (Full at) = (at ≡ start (plan_bytes plan)) × IsTooFar at (plan_bytes plan)
 IsPutOff start plan _ = ⊥
 
--- A plan that is taken in is the first record; or it is put off, and there is none.
+-- A plan that is taken in is the first record, and no other is accepted; or it is put off, and there is none.
 abbrev pub Begins : (ℕ → ℕ) → Plan → Ending → List Record → Type 0
 Begins start plan ending records =
     (IsPutOff start plan ending × (records ≡ []))
-    ⊎ (IsBegun ending × FitsFrom start plan × ((rest : List Record) × (records ≡ Accepted plan ∷ rest)))
+    ⊎ (IsBegun ending × FitsFrom start plan × ((rest : List Record) × (records ≡ Accepted plan ∷ rest) × TakesOnce true rest))
 
 -- A document that is not taken ends the call so, or for want of memory, with no record.
 abbrev pub Follows : (ℕ → ℕ) → Result code.Plan Declined → Ending → List Record → Type 0
 Follows start (Err d) ending records = ((ending ≡ Declines d) ⊎ (ending ≡ Starves)) × (records ≡ [])
 Follows start (Ok plan) ending records = Begins start (plan_view plan) ending records
 
--- the plan is the one that was taken in
-abbrev pub IsTakenAs : Result code.Plan Declined → Plan → Type 0
-IsTakenAs (Err d) plan = ⊥
-IsTakenAs (Ok taken) plan = plan ≡ plan_view taken
-
 module _ (entries : Image → List (List ℕ) → Type 0) (files : List ℕ → Type 0) {D : Type 0} (may_leave : D → Image → Type 0) (moment : D → ℕ) (left_since : D → ℕ → Image → Type 0) (old new : D) (old_list new_list : Option (List RunnerEntry)) (old_held new_held : Option (List ℕ)) (p : Place) (status : Status) where
-  -- the plan is driven, or it is given back for want of memory
+  -- the plan is driven, or put off
   abbrev pub DrivesPlan : (ℕ → ℕ) → Plan → Type 0
   DrivesPlan start plan =
-      ((c : Call entries files may_leave moment left_since old new old_list new_list old_held new_held p status) × Begins start plan c.ending (records_of c.history))
-      ⊎ ((g : GivenBack entries files may_leave moment left_since old new old_list new_list old_held new_held p status) × (g.plan ≡ plan))
+      (c : Call entries files may_leave moment left_since old new old_list new_list old_held new_held p status) × Begins start plan c.ending (records_of c.history)
 
   -- so is a plan that was taken in, and a document that was not taken is declined
   abbrev pub DrivesTaken : (ℕ → ℕ) → Result code.Plan Declined → Type 0
   DrivesTaken start taken =
-      ((c : Call entries files may_leave moment left_since old new old_list new_list old_held new_held p status) × Follows start taken c.ending (records_of c.history))
-      ⊎ ((g : GivenBack entries files may_leave moment left_since old new old_list new_list old_held new_held p status) × IsTakenAs taken g.plan)
+      (c : Call entries files may_leave moment left_since old new old_list new_list old_held new_held p status) × Follows start taken c.ending (records_of c.history)
+
+  -- At each moment each image stands for what a front of the call's records makes of the device, with all of its artifacts.
+  abbrev pub KeepsArtifacts : Call entries files may_leave moment left_since old new old_list new_list old_held new_held p status → Type 0
+  KeepsArtifacts c = Leaves moment left_since old new (StandsWhole entries p.device (records_of c.history))

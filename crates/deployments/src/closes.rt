@@ -2,6 +2,8 @@
 ghost use Rattle.std.specs.Prelude.{◌≡◌, ◌≢◌, ◌⊎◌, ◌≤◌, [], ℕ, List, false, IsTrue};
 ghost use Rattle.nuc_base.specs.Faults.{Rose};
 ghost use Rattle.nuc_base.specs.declared.status.Status.TheVariants as statuses;
+ghost use Rattle.artifact_store.specs.Holding.{AllHoldDevice, HoldsDevice};
+ghost use Rattle.disk_model.specs.Disk.{Leaves};
 ghost use Rattle.disk_model.specs.Listing.{artifacts, IsBelow};
 ghost use Rattle.disk_model.specs.Spares.{Spares};
 ghost use Rattle.records.specs.Stored.{Record};
@@ -64,6 +66,8 @@ pub(crate) fn end_closed<D: Disk, J: Journal + Drop, K: Sink, R: Runner, S: Supe
         (h : List Happening) × Acts p h (R.list runner.old) (R.list runner.new) × IsBare (left_by p h) }
     ensures none { R.living runner.new ≡ [] }
     ensures spared { Spared D.may_leave D.moment D.left_since disk.old disk.new }
+    // The device has its artifacts at each moment.
+    ensures safe { AllHoldDevice (D.may_leave disk.old) (idle_device idle.now) → Leaves D.moment D.left_since disk.old disk.new (λ c. HoldsDevice c (idle_device idle.now)) }
     ensures others { IsTrue D.tells → Spares (IsBelow artifacts) (D.seen disk.old) (D.seen disk.new) }
     ensures ends { SaysEnding (K.held sink.old) (K.held sink.new) result (EndsClosed outcome) }
     ensures answers { (result ≡ status_of_outcome outcome) ⊎ (result ≡ statuses.Memory) ⊎ (result ≡ statuses.Disk) ⊎ (result ≡ statuses.Edge) }

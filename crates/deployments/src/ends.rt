@@ -2,6 +2,8 @@
 ghost use Rattle.std.specs.Prelude.{◌≡◌, ◌≢◌, ◌⊎◌, ◌≤◌, [], ◌++◌, ℕ, List, false, IsTrue, IfOk, OnOk, OnErr, IsErrOf, codes};
 ghost use Rattle.nuc_base.specs.Faults.{Rose};
 ghost use Rattle.nuc_base.specs.declared.status.Status.TheVariants as statuses;
+ghost use Rattle.artifact_store.specs.Holding.{AllHoldDevice, HoldsDevice};
+ghost use Rattle.disk_model.specs.Disk.{Leaves};
 ghost use Rattle.disk_model.specs.Listing.{artifacts, IsBelow};
 ghost use Rattle.disk_model.specs.Spares.{Spares};
 ghost use Rattle.step_runner.specs.Entries.{Listed};
@@ -11,7 +13,7 @@ ghost use Rattle.session.specs.Places.{Place, left_by};
 ghost use Rattle.deploy_state.specs.States.{loaded_device};
 ghost use Rattle.driver.specs.Lines.{id_of};
 ghost use Rattle.driver.specs.Went.{Acts};
-ghost use Rattle.deploying.specs.Driven.{DrivenLeft};
+ghost use Rattle.deploying.specs.Driven.{DrivenLeft, driven_device};
 ghost use Rattle.deployments.specs.Calls.{AnswersFor, EndsFor, IsOrEdge, SaysEnding, SaysLine, Spared};
 
 use crate::closes::end_closed;
@@ -60,6 +62,8 @@ pub(crate) fn end_call<D: Disk, J: Journal + Drop, K: Sink, R: Runner, S: Superv
     ensures still { OnErr driven (R.list runner.new ≡ R.list runner.old) }
     ensures none { R.living runner.new ≡ [] }
     ensures spared { Spared D.may_leave D.moment D.left_since disk.old disk.new }
+    // The device has its artifacts at each moment.
+    ensures safe { IfOk driven (λ x. AllHoldDevice (D.may_leave disk.old) (driven_device x) → Leaves D.moment D.left_since disk.old disk.new (λ c. HoldsDevice c (driven_device x))) }
     ensures others { IsTrue D.tells → Spares (IsBelow artifacts) (D.seen disk.old) (D.seen disk.new) }
     ensures ends { SaysEnding (K.held sink.old) (K.held sink.new) result (EndsFor driven) }
     ensures unswept { OnErr driven (disk.new ≡ disk.old) }

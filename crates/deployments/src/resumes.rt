@@ -1,5 +1,6 @@
 //! A pending deployment is driven on.
-ghost use Rattle.std.specs.Prelude.{◌≡◌, ◌≢◌, ◌⊎◌, ◌≤◌, [], ℕ, List, false, None, IsSome, IsTrue, IfOk, map};
+ghost use Rattle.std.specs.Prelude.{◌≡◌, ◌≢◌, ◌⊎◌, ◌≤◌, [], ℕ, List, false, None, IsSome, IsTrue, IfOk, is_some, map};
+ghost use Rattle.artifact_store.specs.Holding.{AllHoldDevice};
 ghost use Rattle.nuc_base.specs.Faults.{Rose};
 ghost use Rattle.nuc_base.specs.declared.status.Status.TheVariants as statuses;
 ghost use Rattle.device.specs.Devices.{IsRegularDevice, device_view};
@@ -12,6 +13,7 @@ ghost use Rattle.session.specs.Places.{Place};
 ghost use Rattle.preparation.specs.Readied.{AreReadiedFor};
 ghost use Rattle.intake.specs.Takes.{LieElsewhere};
 ghost use Rattle.deployments.specs.Calls.{Call, Elsewhere, IsOrEdge, SaysLine, Stays, resumed_line};
+ghost use Rattle.deployments.specs.Documents.{KeepsArtifacts};
 ghost use Rattle.deployments.specs.Endings.{Resumes};
 
 use crate::ends::end_call;
@@ -75,8 +77,10 @@ where
     // No component stands.
     requires empty { (S.world supervisor.old).parts ≡ [] }
     requires placed { (p : Place) × IsFront p (loaded_device state) (S.world supervisor.old) (Listed R.list R.told R.asked runner.old) (R.living runner.old) × (p.serves ≡ false) }
-    ensures call { (p : Place) → IsFront p (loaded_device state) (S.world supervisor.old) (Listed R.list R.told R.asked runner.old) (R.living runner.old) → (p.serves ≡ false) →
-        (c : Call J.entries J.files D.may_leave D.moment D.left_since disk.old disk.new (R.list runner.old) (R.list runner.new) (K.held sink.old) (K.held sink.new) p result) × Resumes (loaded_device state) c.ending }
+    // Where the images at the start have the device's artifacts, each of each moment has those of the device for which it stands.
+    ensures call { (p : Place) → IsFront p (loaded_device state) (S.world supervisor.old) (Listed R.list R.told R.asked runner.old) (R.living runner.old) → (p.serves ≡ false) → (p.taken ≡ is_some p.device.pending) →
+        (c : Call J.entries J.files D.may_leave D.moment D.left_since disk.old disk.new (R.list runner.old) (R.list runner.new) (K.held sink.old) (K.held sink.new) p result) × Resumes (loaded_device state) c.ending
+        × (AllHoldDevice (D.may_leave disk.old) p.device → KeepsArtifacts J.entries J.files D.may_leave D.moment D.left_since disk.old disk.new (R.list runner.old) (R.list runner.new) (K.held sink.old) (K.held sink.new) p result c) }
     ensures own { result ≢ statuses.Library }
     ensures none { R.living runner.new ≡ [] }
     ensures others { IsTrue D.tells → Elsewhere J.files (D.seen disk.old) (D.seen disk.new) }

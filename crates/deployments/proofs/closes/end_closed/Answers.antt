@@ -1,8 +1,10 @@
-use Rattle.std.proofs.Common.{inl, inr, refl}
+use Rattle.std.proofs.Common.{inl, inr, refl, subst}
 use Rattle.step_runner.specs.Entries.{Listed}
+use Rattle.disk_model.specs.Disk.{Leaves}
 use Rattle.disk_model.specs.Listing.{artifacts, IsBelow}
 use Rattle.nuc_base.specs.declared.status.Status.TheVariants as statuses
-use Rattle.device.specs.Devices.{device_view}
+use Rattle.device.specs.Devices.{Device, device_view}
+use Rattle.artifact_store.specs.Holding.{AllHoldDevice, HoldsDevice}
 use Rattle.artifact_store.specs.Swept.{IsStray, items_of}
 use Rattle.artifact_store.proofs.Walking.{wider_spares}
 use Rattle.deploy_state.specs.States.{idle_device}
@@ -32,6 +34,10 @@ returns-in-Ok-clause-went g c = λ p records closed serves.
 
 pub returns-in-Ok-clause-spared : goal.returns-in-Ok-clause-spared
 returns-in-Ok-clause-spared g c = wider_spares g.met.D.Disk.laws (IsStray (items_of (device_view c.device.result.now))) (IsBelow artifacts) c.args.disk.now c.sweep.new.disk (λ name stray. stray.0) c.sweep.ensures.moments
+
+pub returns-in-Ok-clause-safe : goal.returns-in-Ok-clause-safe
+returns-in-Ok-clause-safe g c =
+    subst (λ (d : Device). AllHoldDevice (g.D.Disk.may_leave c.args.disk.now) d → Leaves g.D.Disk.moment g.D.Disk.left_since c.args.disk.now c.sweep.new.disk (λ i. HoldsDevice i d)) c.device.ensures c.sweep.ensures.safe
 
 pub returns-in-Ok-clause-others : goal.returns-in-Ok-clause-others
 returns-in-Ok-clause-others g c = λ told name spared. c.sweep.ensures.others told name (λ stray. spared stray.0)
@@ -93,6 +99,10 @@ returns-in-Err-Disk-clause-went g c = λ p records closed serves.
 pub returns-in-Err-Disk-clause-spared : goal.returns-in-Err-Disk-clause-spared
 returns-in-Err-Disk-clause-spared g c = wider_spares g.met.D.Disk.laws (IsStray (items_of (device_view c.device.result.now))) (IsBelow artifacts) c.args.disk.now c.sweep.new.disk (λ name stray. stray.0) c.sweep.ensures.moments
 
+pub returns-in-Err-Disk-clause-safe : goal.returns-in-Err-Disk-clause-safe
+returns-in-Err-Disk-clause-safe g c =
+    subst (λ (d : Device). AllHoldDevice (g.D.Disk.may_leave c.args.disk.now) d → Leaves g.D.Disk.moment g.D.Disk.left_since c.args.disk.now c.sweep.new.disk (λ i. HoldsDevice i d)) c.device.ensures c.sweep.ensures.safe
+
 pub returns-in-Err-Disk-clause-others : goal.returns-in-Err-Disk-clause-others
 returns-in-Err-Disk-clause-others g c = λ told name spared. c.sweep.ensures.others told name (λ stray. spared stray.0)
 
@@ -119,6 +129,10 @@ returns-in-Err-NoMemory-clause-went g c = λ p records closed serves.
 
 pub returns-in-Err-NoMemory-clause-spared : goal.returns-in-Err-NoMemory-clause-spared
 returns-in-Err-NoMemory-clause-spared g c = wider_spares g.met.D.Disk.laws (IsStray (items_of (device_view c.device.result.now))) (IsBelow artifacts) c.args.disk.now c.sweep.new.disk (λ name stray. stray.0) c.sweep.ensures.moments
+
+pub returns-in-Err-NoMemory-clause-safe : goal.returns-in-Err-NoMemory-clause-safe
+returns-in-Err-NoMemory-clause-safe g c =
+    subst (λ (d : Device). AllHoldDevice (g.D.Disk.may_leave c.args.disk.now) d → Leaves g.D.Disk.moment g.D.Disk.left_since c.args.disk.now c.sweep.new.disk (λ i. HoldsDevice i d)) c.device.ensures c.sweep.ensures.safe
 
 pub returns-in-Err-NoMemory-clause-others : goal.returns-in-Err-NoMemory-clause-others
 returns-in-Err-NoMemory-clause-others g c = λ told name spared. c.sweep.ensures.others told name (λ stray. spared stray.0)

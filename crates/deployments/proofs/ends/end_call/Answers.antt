@@ -1,6 +1,7 @@
 use Rattle.std.proofs.Common.{[], inl, inr, refl, sym, ◌∙◌}
 use Rattle.disk_model.specs.Listing.{artifacts, IsBelow}
 use Rattle.nuc_base.specs.declared.status.Status.TheVariants as statuses
+use Rattle.artifact_store.proofs.Sparing.{still_safe}
 use Rattle.artifact_store.proofs.Walking.{start_spares}
 use Rattle.deploy_state.specs.States.{loaded_device}
 use Rattle.step_runner.specs.Entries.{Listed}
@@ -32,6 +33,10 @@ returns-in-Ok-Closed-clause-still g c = ok_on _ c.args.driven c.in-Ok-Closed.fie
 
 pub returns-in-Ok-Closed-clause-silent : goal.returns-in-Ok-Closed-clause-silent
 returns-in-Ok-Closed-clause-silent g c = λ is. let both = sym c.in-Ok-Closed.is ∙ is in absurd cc
+
+pub returns-in-Ok-Closed-clause-safe : goal.returns-in-Ok-Closed-clause-safe
+returns-in-Ok-Closed-clause-safe g c =
+    ok_if _ c.args.driven c.in-Ok-Closed.field-0 (driven.Closed c.in-Ok-Closed.idle c.in-Ok-Closed.outcome) c.in-Ok-Closed.is c.in-Ok-Closed.field-0-is c.end_closed.ensures.safe
 
 pub returns-in-Ok-Closed-clause-answers : goal.returns-in-Ok-Closed-clause-answers
 returns-in-Ok-Closed-clause-answers g c =
@@ -78,6 +83,10 @@ returns-in-Ok-Restart-clause-spared g c = start_spares g.met.D.Disk.laws (IsBelo
 pub returns-in-Ok-Restart-clause-silent : goal.returns-in-Ok-Restart-clause-silent
 returns-in-Ok-Restart-clause-silent g c = λ is. let both = sym c.in-Ok-Restart.is ∙ is in absurd cc
 
+pub returns-in-Ok-Restart-clause-safe : goal.returns-in-Ok-Restart-clause-safe
+returns-in-Ok-Restart-clause-safe g c =
+    ok_if _ c.args.driven c.in-Ok-Restart.field-0 (driven.Restart c.in-Ok-Restart.state) c.in-Ok-Restart.is c.in-Ok-Restart.field-0-is (still_safe g.met.D.Disk.laws (loaded_device c.in-Ok-Restart.state) c.args.disk.now)
+
 pub returns-in-Ok-Restart-clause-answers : goal.returns-in-Ok-Restart-clause-answers
 returns-in-Ok-Restart-clause-answers g c =
     answers_ok c.say_again.result c.args.driven c.in-Ok-Restart.field-0 (driven.Restart c.in-Ok-Restart.state) c.in-Ok-Restart.is c.in-Ok-Restart.field-0-is c.say_again.ensures.answers
@@ -116,6 +125,10 @@ returns-in-Ok-Reboot-clause-spared g c = start_spares g.met.D.Disk.laws (IsBelow
 
 pub returns-in-Ok-Reboot-clause-silent : goal.returns-in-Ok-Reboot-clause-silent
 returns-in-Ok-Reboot-clause-silent g c = λ is. let both = sym c.in-Ok-Reboot.is ∙ is in absurd cc
+
+pub returns-in-Ok-Reboot-clause-safe : goal.returns-in-Ok-Reboot-clause-safe
+returns-in-Ok-Reboot-clause-safe g c =
+    ok_if _ c.args.driven c.in-Ok-Reboot.field-0 (driven.Reboot c.in-Ok-Reboot.state) c.in-Ok-Reboot.is c.in-Ok-Reboot.field-0-is (still_safe g.met.D.Disk.laws (loaded_device c.in-Ok-Reboot.state) c.args.disk.now)
 
 pub returns-in-Ok-Reboot-clause-answers : goal.returns-in-Ok-Reboot-clause-answers
 returns-in-Ok-Reboot-clause-answers g c =
@@ -157,6 +170,10 @@ returns-in-Ok-More-clause-unswept g c = ok_on _ c.args.driven c.in-Ok-More.field
 pub returns-in-Ok-More-clause-silent : goal.returns-in-Ok-More-clause-silent
 returns-in-Ok-More-clause-silent g c = λ is. refl
 
+pub returns-in-Ok-More-clause-safe : goal.returns-in-Ok-More-clause-safe
+returns-in-Ok-More-clause-safe g c =
+    ok_if _ c.args.driven c.in-Ok-More.field-0 (driven.More _) c.in-Ok-More.is c.in-Ok-More.field-0-is (still_safe g.met.D.Disk.laws _ c.args.disk.now)
+
 pub returns-in-Ok-More-clause-answers : goal.returns-in-Ok-More-clause-answers
 returns-in-Ok-More-clause-answers g c = answers_ok statuses.Memory c.args.driven c.in-Ok-More.field-0 (driven.More _) c.in-Ok-More.is c.in-Ok-More.field-0-is refl
 
@@ -176,6 +193,10 @@ returns-in-Err-Disk-clause-spared g c = start_spares g.met.D.Disk.laws (IsBelow 
 
 pub returns-in-Err-Disk-clause-silent : goal.returns-in-Err-Disk-clause-silent
 returns-in-Err-Disk-clause-silent g c = λ is. absurd (not_edge c.args.driven c.in-Err-Disk.field-0 c.in-Err-Disk.is (rw c.in-Err-Disk.is at c.in-Err-Disk.field-0-is) is)
+
+pub returns-in-Err-Disk-clause-safe : goal.returns-in-Err-Disk-clause-safe
+returns-in-Err-Disk-clause-safe g c =
+    err_if _ c.args.driven c.in-Err-Disk.field-0 c.in-Err-Disk.is
 
 pub returns-in-Err-Disk-clause-answers : goal.returns-in-Err-Disk-clause-answers
 returns-in-Err-Disk-clause-answers g c = answers_err c.say_disk.result c.args.driven c.in-Err-Disk.field-0 over.Disk c.in-Err-Disk.is (rw c.in-Err-Disk.is at c.in-Err-Disk.field-0-is) c.say_disk.ensures.answers

@@ -1,4 +1,4 @@
-use Rattle.std.proofs.Common.{ℕ, List, inl, inr, refl, sym, ap, subst, ◌∙◌, arith}
+use Rattle.std.proofs.Common.{Bool, ℕ, List, inl, inr, refl, sym, ap, subst, ◌∙◌, arith}
 use Rattle.std.specs.Io.KnownBytes.{Appends}
 use Rattle.edges.specs.Pieces.{AppendsFront}
 use Rattle.disk_model.specs.Listing.{artifacts, IsBelow}
@@ -11,36 +11,42 @@ use Rattle.deploy_state.proofs.Steps.{in_hand_stands}
 use Rattle.deploy_state.specs.States.{loaded_device}
 use Rattle.preparation.specs.Readied.{AreReadiedFor}
 use Rattle.step_runner.specs.Entries.{Listed}
+use Rattle.session.specs.Happenings.{records_of}
+use Rattle.session.specs.Once.{TakesOnce}
+use Rattle.session.proofs.Once.{takes_once}
 use Rattle.driver.proofs.Between.{no_living}
 use Rattle.driver.proofs.Records.{front_bare}
 use Rattle.driver.specs.declared.over.Over.TheVariants as over
-use Rattle.deployments.proofs.Ending.{called, nothing_called, placed_at}
+use Rattle.deployments.proofs.Ending.{called, nothing_called, placed_at, still_whole}
 use Rattle.deployments.proofs.Faults.{rose_by, rose_on, stays_by, stays_later, stays_on}
+use Rattle.deployments.proofs.Holding.{none_before}
 use Rattle.deployments.proofs.Places.{orderly_none}
 use Rattle.deployments.specs.Endings.{Breaks, Idle, Starves}
 use Rattle.deployments.proofs.Printing.{opening_at, said_prints, starved_prints, unopened_prints}
 use Rattle.deployments.proofs.Results.{answers_disk, answers_edge, answers_own}
-use Rattle.deployments.proofs.Resuming.{loaded_hand, loaded_idle, loaded_pending, loaded_stands, resumes_none, resumes_some, some_mapped}
+use Rattle.deployments.proofs.Resuming.{loaded_hand, loaded_idle, loaded_pending, loaded_stands, resumes_none, resumes_some, some_is, some_mapped}
 use Rattle.deployments.proofs.Statuses.{done_no_edge, not_done, two_never}
 use Rattle.deployments.proofs.resumes.resume.Goals as goal
 
 -- ---- none is pending
 
 pub returns-in-Idle-clause-call : goal.returns-in-Idle-clause-call
-returns-in-Idle-clause-call g c = λ p front serves.
+returns-in-Idle-clause-call g c = λ p front serves taken.
     let d = loaded_device c.args.state in
+    let stands = loaded_stands g.met.D.Disk.laws g.met.J.Journal.laws c.args.state c.args.disk.now c.requires.held p.device front.between.stands.device_is in
     let told = Listed g.R.Runner.list g.R.Runner.told g.R.Runner.asked c.args.runner.now in
     let none = loaded_idle g.D.Disk.tells g.D.Disk.may_leave g.J.Journal.stands g.J.Journal.end c.args.state _ c.args.disk.now c.in-Idle.is c.requires.held in
     let before = ap (λ (e : Device). e.pending) front.between.stands.device_is ∙ none in
     let held = g.K.Sink.held c.args.sink.now in (
       nothing_called g.J.Journal.entries g.J.Journal.files g.met.D.Disk.laws c.args.disk.now c.args.disk.now told.list held (g.K.Sink.held c.say.new.sink) p Idle c.say.result
           (start_spares g.met.D.Disk.laws (IsBelow artifacts) c.args.disk.now)
-          (loaded_stands g.met.D.Disk.laws g.met.J.Journal.laws c.args.state c.args.disk.now c.requires.held p.device front.between.stands.device_is)
+          stands
           (front_bare p d (g.S.Supervise.world c.args.supervisor.now) told (g.R.Runner.living c.args.runner.now) front)
           c.say.ensures.answers
-          (said_prints held (g.K.Sink.held c.say.new.sink) p.device Idle c.say.result (λ is. cc) before c.say.ensures.says)
+          (said_prints _ held (g.K.Sink.held c.say.new.sink) p.device Idle c.say.result stands (λ is. cc) before c.say.ensures.says)
           (refl, before),
       resumes_none d Idle none refl,
+      (λ holds. still_whole g.J.Journal.entries g.J.Journal.files g.met.D.Disk.laws c.args.disk.now p stands holds),
     )
 
 pub returns-in-Idle-clause-own : goal.returns-in-Idle-clause-own
@@ -74,18 +80,20 @@ ready_again-requires-clause-regular g c =
 -- ---- there is no memory for it
 
 pub returns-in_default-ready_again-clause-call : goal.returns-in_default-ready_again-clause-call
-returns-in_default-ready_again-clause-call g c = λ p front serves.
+returns-in_default-ready_again-clause-call g c = λ p front serves taken.
     let d = loaded_device c.args.state in
+    let stands = loaded_stands g.met.D.Disk.laws g.met.J.Journal.laws c.args.state c.args.disk.now c.requires.held p.device front.between.stands.device_is in
     let told = Listed g.R.Runner.list g.R.Runner.told g.R.Runner.asked c.args.runner.now in
     let held = g.K.Sink.held c.args.sink.now in (
       nothing_called g.J.Journal.entries g.J.Journal.files g.met.D.Disk.laws c.args.disk.now c.args.disk.now told.list held held p Starves statuses.Memory
           (start_spares g.met.D.Disk.laws (IsBelow artifacts) c.args.disk.now)
-          (loaded_stands g.met.D.Disk.laws g.met.J.Journal.laws c.args.state c.args.disk.now c.requires.held p.device front.between.stands.device_is)
+          stands
           (front_bare p d (g.S.Supervise.world c.args.supervisor.now) told (g.R.Runner.living c.args.runner.now) front)
           (inl refl)
-          (starved_prints held held p.device statuses.Memory refl)
+          (starved_prints _ held held p.device statuses.Memory stands refl)
           refl,
       resumes_some d Starves (loaded_pending g.D.Disk.tells g.D.Disk.may_leave g.J.Journal.stands g.J.Journal.end c.args.state c.args.disk.now c.requires.held c.in_default.not-Idle) (inr refl),
+      (λ holds. still_whole g.J.Journal.entries g.J.Journal.files g.met.D.Disk.laws c.args.disk.now p stands holds),
     )
 
 pub returns-in_default-ready_again-clause-none : goal.returns-in_default-ready_again-clause-none
@@ -103,8 +111,9 @@ returns-in_default-ready_again-clause-later g c = (
 -- ---- its line was not printed
 
 pub returns-in_default-say_resumed-clause-call : goal.returns-in_default-say_resumed-clause-call
-returns-in_default-say_resumed-clause-call g c = λ p front serves.
+returns-in_default-say_resumed-clause-call g c = λ p front serves taken.
     let d = loaded_device c.args.state in
+    let stands = loaded_stands g.met.D.Disk.laws g.met.J.Journal.laws c.args.state c.args.disk.now c.requires.held p.device front.between.stands.device_is in
     let told = Listed g.R.Runner.list g.R.Runner.told g.R.Runner.asked c.args.runner.now in
     let pending = loaded_pending g.D.Disk.tells g.D.Disk.may_leave g.J.Journal.stands g.J.Journal.end c.args.state c.args.disk.now c.requires.held c.in_default.not-Idle in
     let opening = opening_at p.device d front.between.stands.device_is pending in
@@ -113,12 +122,13 @@ returns-in_default-say_resumed-clause-call g c = λ p front serves.
     let last = g.K.Sink.held c.say_resumed.new.sink in (
       nothing_called g.J.Journal.entries g.J.Journal.files g.met.D.Disk.laws c.args.disk.now c.args.disk.now told.list held last p Breaks c.say_resumed.result
           (start_spares g.met.D.Disk.laws (IsBelow artifacts) c.args.disk.now)
-          (loaded_stands g.met.D.Disk.laws g.met.J.Journal.laws c.args.state c.args.disk.now c.requires.held p.device front.between.stands.device_is)
+          stands
           (front_bare p d (g.S.Supervise.world c.args.supervisor.now) told (g.R.Runner.living c.args.runner.now) front)
           (inr edge)
-          (unopened_prints held last p.device c.say_resumed.result (subst (λ (l : List ℕ). AppendsFront held last l) opening c.say_resumed.ensures.says.0) edge)
+          (unopened_prints _ held last p.device c.say_resumed.result stands (subst (λ (l : List ℕ). AppendsFront held last l) opening c.say_resumed.ensures.says.0) edge)
           tt,
       resumes_some d Breaks pending (inl tt),
+      (λ holds. still_whole g.J.Journal.entries g.J.Journal.files g.met.D.Disk.laws c.args.disk.now p stands holds),
     )
 
 pub returns-in_default-say_resumed-clause-own : goal.returns-in_default-say_resumed-clause-own
@@ -156,7 +166,7 @@ end_call-requires-clause-placed g c =
     (g.K.Sink.held c.say_resumed.new.sink) (g.K.Sink.held c.drive-driven.new.sink) q.0 c.drive-driven.result (c.drive-driven.ensures.course q.0 q.1) q.2
 
 pub returns-in-Done-clause-call : goal.returns-in-Done-clause-call
-returns-in-Done-clause-call g c = λ p front serves.
+returns-in-Done-clause-call g c = λ p front serves taken.
     let d = loaded_device c.args.state in
     let told = Listed g.R.Runner.list g.R.Runner.told g.R.Runner.asked c.args.runner.now in
     let last = Listed g.R.Runner.list g.R.Runner.told g.R.Runner.asked c.drive-driven.new.runner in
@@ -169,8 +179,13 @@ returns-in-Done-clause-call g c = λ p front serves.
     held mid (g.K.Sink.held c.drive-driven.new.sink) (g.K.Sink.held c.end_call.new.sink) p c.drive-driven.result c.end_call.result
     (subst (λ (l : List ℕ). Appends held mid l) opening (c.say_resumed.ensures.says.1 (done_no_edge c.say_resumed.result c.in-Done.is)))
     (c.drive-driven.ensures.course p front)
-    serves c.drive-driven.ensures.held c.end_call.ensures.went c.end_call.ensures.still c.end_call.ensures.spared c.end_call.ensures.unswept c.end_call.ensures.ends c.end_call.ensures.silent c.end_call.ensures.answers in
-    (call.0, resumes_some d call.0.ending pending (inl call.1))
+    serves c.drive-driven.ensures.held c.end_call.ensures.went c.end_call.ensures.still c.end_call.ensures.spared c.end_call.ensures.safe c.end_call.ensures.unswept c.end_call.ensures.ends c.end_call.ensures.silent c.end_call.ensures.answers in
+    let course = c.drive-driven.ensures.course p front in
+    let once = subst (λ (b : Bool). TakesOnce b (records_of course.history)) (taken ∙ some_is p.device d front.between.stands.device_is pending) (takes_once p course.history serves course.went.proper) in (
+      call.0,
+      resumes_some d call.0.ending pending (inl call.1),
+      (λ holds. call.3 (none_before (g.D.Disk.may_leave c.args.disk.now) p.device (records_of course.history) once holds)),
+    )
 
 pub returns-in-Done-clause-own : goal.returns-in-Done-clause-own
 returns-in-Done-clause-own g c = answers_own c.end_call.result c.drive-driven.result c.end_call.ensures.answers

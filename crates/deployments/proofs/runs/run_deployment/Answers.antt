@@ -1,21 +1,23 @@
 use Rattle.std.proofs.Common.{inl, inr, refl, sym, ap, subst, ◌∙◌, arith}
-use Rattle.std.specs.Prelude.{Result, Ok, Err}
+use Rattle.std.specs.Prelude.{[], Result, Ok, Err}
+use Rattle.disk_model.specs.Disk.{Image}
+use Rattle.records.specs.Stored.{plan_view}
 use Rattle.records.specs.declared.record.Plan as code
-use Rattle.disk_model.specs.Listing.{artifacts, IsBelow}
 use Rattle.nuc_base.specs.declared.status.Status.TheVariants as statuses
 use Rattle.device.specs.Devices.{Device}
 use Rattle.device.specs.Standing.{StandsFor}
-use Rattle.artifact_store.proofs.Walking.{start_spares}
 use Rattle.deploy_state.proofs.Steps.{in_hand_stands}
 use Rattle.deploy_state.specs.Accepting.{idle_log}
 use Rattle.deploy_state.specs.States.{idle_device}
 use Rattle.deploy_state.specs.Turning.{start_of}
 use Rattle.step_runner.specs.Entries.{Listed}
+use Rattle.session.specs.Happenings.{records_of}
 use Rattle.intake.specs.Takes.{TakesIn}
 use Rattle.intake.specs.declared.fault.Declined.{Declined}
 use Rattle.deployments.specs.Endings.{Starves}
 use Rattle.deployments.proofs.Ending.{declined_called, nothing_called, taken_behind}
 use Rattle.deployments.proofs.Faults.{rose_on, stays_later, stays_on}
+use Rattle.deployments.proofs.Holding.{taken_both, taken_whole}
 use Rattle.deployments.proofs.Places.{open_bare, open_none}
 use Rattle.deployments.proofs.Printing.{starved_prints}
 use Rattle.deployments.proofs.Statuses.{declined_disk, declined_library, disk_declined, library_declined, told_is, told_said}
@@ -26,15 +28,17 @@ use Rattle.deployments.proofs.runs.run_deployment.Goals as goal
 pub returns-in-Err-clause-call : goal.returns-in-Err-clause-call
 returns-in-Err-clause-call g c = λ p opens serves.
     let d = idle_device c.args.idle in
-    let told = Listed g.R.Runner.list g.R.Runner.told g.R.Runner.asked c.args.runner.now in (
+    let told = Listed g.R.Runner.list g.R.Runner.told g.R.Runner.asked c.args.runner.now in
+    let t = declined_called g.J.Journal.entries g.J.Journal.files g.met.D.Disk.laws (start_of g.J.Journal.end g.J.Journal.number g.J.Journal.turns (idle_log c.args.idle) (idle_device c.args.idle)) c.args.disk.now c.take_in.new.disk told.list (g.K.Sink.held c.args.sink.now) (g.K.Sink.held c.say_declined.new.sink) p c.in-Err.declined c.say_declined.result
+    c.take_in.ensures.moments
+    (λ i left. subst (λ (e : Device). StandsFor g.J.Journal.entries i e) (sym opens.stands.device_is) (in_hand_stands g.met.D.Disk.laws g.met.J.Journal.laws c.args.idle.log c.take_in.new.disk d c.take_in.ensures.held.0 i left))
+    (open_bare p d (g.S.Supervise.world c.args.supervisor.now) told (g.R.Runner.living c.args.runner.now) c.requires.empty opens)
+    (ap (λ (e : Device). e.pending) opens.stands.device_is ∙ c.requires.held.1)
+    c.say_declined.ensures.says in (
       Err c.in-Err.declined,
       (λ o is. subst (λ (r : Result code.Plan Declined). TakesIn d o (g.L.Library.content c.args.library.now) (g.L.Library.faults c.args.library.now) (g.L.Library.faults c.take_in.new.library) c.args.document.now r) c.in-Err.is (c.take_in.ensures.takes o is)),
-      inl (declined_called g.J.Journal.entries g.J.Journal.files g.met.D.Disk.laws (start_of g.J.Journal.end g.J.Journal.number g.J.Journal.turns (idle_log c.args.idle) (idle_device c.args.idle)) c.args.disk.now c.take_in.new.disk told.list (g.K.Sink.held c.args.sink.now) (g.K.Sink.held c.say_declined.new.sink) p c.in-Err.declined c.say_declined.result
-          c.take_in.ensures.moments
-          (λ i left. subst (λ (e : Device). StandsFor g.J.Journal.entries i e) (sym opens.stands.device_is) (in_hand_stands g.met.D.Disk.laws g.met.J.Journal.laws c.args.idle.log c.take_in.new.disk d c.take_in.ensures.held.0 i left))
-          (open_bare p d (g.S.Supervise.world c.args.supervisor.now) told (g.R.Runner.living c.args.runner.now) c.requires.empty opens)
-          (ap (λ (e : Device). e.pending) opens.stands.device_is ∙ c.requires.held.1)
-          c.say_declined.ensures.says),
+      t.0,
+      (λ holds. taken_whole g.met.D.Disk.laws g.J.Journal.files g.J.Journal.entries c.requires.apart g.met.J.Journal.laws c.args.idle.log c.args.disk.now c.take_in.new.disk d p opens.stands.device_is c.requires.held.0 c.take_in.ensures.moments c.take_in.ensures.safe holds (records_of t.0.0.history)),
     )
 
 pub returns-in-Err-clause-none : goal.returns-in-Err-clause-none
@@ -83,12 +87,17 @@ ready_for-requires-clause-regular_device g c = c.take_in.ensures.held.0.regular
 -- ---- it is deployed
 
 pub returns-in-Ok-ready_for-clause-call : goal.returns-in-Ok-ready_for-clause-call
-returns-in-Ok-ready_for-clause-call g c = λ p opens serves. (
-  Ok c.in-Ok.plan,
-  (λ o is. subst (λ (r : Result code.Plan Declined). TakesIn (idle_device c.args.idle) o (g.L.Library.content c.args.library.now) (g.L.Library.faults c.args.library.now) (g.L.Library.faults c.take_in.new.library) c.args.document.now r) c.in-Ok.is (c.take_in.ensures.takes o is)),
-  taken_behind g.J.Journal.entries g.J.Journal.files g.met.D.Disk.laws (start_of g.J.Journal.end g.J.Journal.number g.J.Journal.turns (idle_log c.args.idle) (idle_device c.args.idle)) c.args.disk.now c.take_in.new.disk c.run_plan.new.disk (g.R.Runner.list c.args.runner.now) (g.R.Runner.list c.run_plan.new.runner)
-      (g.K.Sink.held c.args.sink.now) (g.K.Sink.held c.run_plan.new.sink) p c.run_plan.result c.in-Ok.plan c.take_in.ensures.moments (c.run_plan.ensures.call p opens serves),
-)
+returns-in-Ok-ready_for-clause-call g c = λ p opens serves.
+    let t = taken_behind g.J.Journal.entries g.J.Journal.files g.met.D.Disk.laws (start_of g.J.Journal.end g.J.Journal.number g.J.Journal.turns (idle_log c.args.idle) (idle_device c.args.idle)) c.args.disk.now c.take_in.new.disk c.run_plan.new.disk (g.R.Runner.list c.args.runner.now) (g.R.Runner.list c.run_plan.new.runner)
+    (g.K.Sink.held c.args.sink.now) (g.K.Sink.held c.run_plan.new.sink) p c.run_plan.result c.in-Ok.plan c.take_in.ensures.moments
+    (λ holds records. taken_whole g.met.D.Disk.laws g.J.Journal.files g.J.Journal.entries c.requires.apart g.met.J.Journal.laws c.args.idle.log c.args.disk.now c.take_in.new.disk (idle_device c.args.idle) p opens.stands.device_is c.requires.held.0 c.take_in.ensures.moments c.take_in.ensures.safe holds records)
+    (λ holds. taken_both g.met.D.Disk.laws c.args.disk.now c.take_in.new.disk (idle_device c.args.idle) p (plan_view c.in-Ok.plan).items opens.stands.device_is c.take_in.ensures.safe c.in-Ok.ensures.files holds)
+    (c.run_plan.ensures.call p opens serves) in (
+      Ok c.in-Ok.plan,
+      (λ o is. subst (λ (r : Result code.Plan Declined). TakesIn (idle_device c.args.idle) o (g.L.Library.content c.args.library.now) (g.L.Library.faults c.args.library.now) (g.L.Library.faults c.take_in.new.library) c.args.document.now r) c.in-Ok.is (c.take_in.ensures.takes o is)),
+      t.0,
+      t.1,
+    )
 
 pub returns-in-Ok-ready_for-clause-others : goal.returns-in-Ok-ready_for-clause-others
 returns-in-Ok-ready_for-clause-others g c = λ told name apart below. c.run_plan.ensures.others told name apart below ∙ c.take_in.ensures.others told name below
@@ -118,19 +127,21 @@ pub returns-in-Err-ready_for-clause-call : goal.returns-in-Err-ready_for-clause-
 returns-in-Err-ready_for-clause-call g c = λ p opens serves.
     let d = idle_device c.args.idle in
     let told = Listed g.R.Runner.list g.R.Runner.told g.R.Runner.asked c.args.runner.now in
+    let stands : (i : Image) → g.D.Disk.may_leave c.take_in.new.disk i → StandsFor g.J.Journal.entries i p.device = λ i left. subst (λ (e : Device). StandsFor g.J.Journal.entries i e) (sym opens.stands.device_is) (in_hand_stands g.met.D.Disk.laws g.met.J.Journal.laws c.args.idle.log c.take_in.new.disk d c.take_in.ensures.held.0 i left) in
     let held = g.K.Sink.held c.args.sink.now in (
       Ok c.in-Ok.plan,
       (λ o is. subst (λ (r : Result code.Plan Declined). TakesIn d o (g.L.Library.content c.args.library.now) (g.L.Library.faults c.args.library.now) (g.L.Library.faults c.take_in.new.library) c.args.document.now r) c.in-Ok.is (c.take_in.ensures.takes o is)),
-      inl (
+      (
         nothing_called g.J.Journal.entries g.J.Journal.files g.met.D.Disk.laws c.args.disk.now c.take_in.new.disk told.list held held p Starves statuses.Memory
             c.take_in.ensures.moments
-            (λ i left. subst (λ (e : Device). StandsFor g.J.Journal.entries i e) (sym opens.stands.device_is) (in_hand_stands g.met.D.Disk.laws g.met.J.Journal.laws c.args.idle.log c.take_in.new.disk d c.take_in.ensures.held.0 i left))
+            stands
             (open_bare p d (g.S.Supervise.world c.args.supervisor.now) told (g.R.Runner.living c.args.runner.now) c.requires.empty opens)
             (inl refl)
-            (starved_prints held held p.device statuses.Memory refl)
+            (starved_prints _ held held p.device statuses.Memory stands refl)
             refl,
         inl (tt, refl),
       ),
+      (λ holds. taken_whole g.met.D.Disk.laws g.J.Journal.files g.J.Journal.entries c.requires.apart g.met.J.Journal.laws c.args.idle.log c.args.disk.now c.take_in.new.disk d p opens.stands.device_is c.requires.held.0 c.take_in.ensures.moments c.take_in.ensures.safe holds []),
     )
 
 pub returns-in-Err-ready_for-clause-none : goal.returns-in-Err-ready_for-clause-none

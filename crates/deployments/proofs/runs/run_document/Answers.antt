@@ -1,7 +1,9 @@
-use Rattle.std.proofs.Common.{◌≡◌, ◌⊎◌, ◌∙◌, inl, inr, refl, sym, ap, subst, arith}
+use Rattle.std.proofs.Common.{List, ◌≡◌, ◌⊎◌, ◌∙◌, inl, inr, refl, sym, ap, subst, arith}
 use Rattle.std.specs.Prelude.{Err}
+use Rattle.disk_model.specs.Disk.{Image, Leaves}
 use Rattle.disk_model.specs.Listing.{artifacts, IsBelow}
 use Rattle.nuc_base.specs.declared.status.Status.TheVariants as statuses
+use Rattle.records.specs.Stored.{Record}
 use Rattle.device.specs.Devices.{Device}
 use Rattle.device.specs.Standing.{StandsFor}
 use Rattle.plan_core.specs.declared.fault.Refusal.{Refusal}
@@ -15,8 +17,8 @@ use Rattle.deploy_state.specs.Accepting.{idle_log}
 use Rattle.deploy_state.specs.States.{idle_device}
 use Rattle.deploy_state.specs.Turning.{start_of}
 use Rattle.step_runner.specs.Entries.{Listed}
-use Rattle.deployments.specs.Calls.{SaysRefusal}
-use Rattle.deployments.proofs.Ending.{declined_called}
+use Rattle.deployments.specs.Calls.{SaysRefusal, StandsWhole}
+use Rattle.deployments.proofs.Ending.{declined_called, still_whole}
 use Rattle.deployments.proofs.Taken.{unread_taken}
 use Rattle.deployments.proofs.Faults.{stays_later}
 use Rattle.deployments.proofs.Places.{open_bare, open_none}
@@ -27,15 +29,18 @@ pub returns-in-Err-clause-call : goal.returns-in-Err-clause-call
 returns-in-Err-clause-call g c = λ p opens serves.
     let d = idle_device c.args.idle in
     let told = Listed g.R.Runner.list g.R.Runner.told g.R.Runner.asked c.args.runner.now in
-    let declined = Refused (document_refusal c.in-Err.fault) in (
+    let stands : (i : Image) → g.D.Disk.may_leave c.args.disk.now i → StandsFor g.J.Journal.entries i p.device = λ i left. subst (λ (e : Device). StandsFor g.J.Journal.entries i e) (sym opens.stands.device_is) (in_hand_stands g.met.D.Disk.laws g.met.J.Journal.laws c.args.idle.log c.args.disk.now d c.requires.held.0 i left) in
+    let declined = Refused (document_refusal c.in-Err.fault) in
+    let t = declined_called g.J.Journal.entries g.J.Journal.files g.met.D.Disk.laws (start_of g.J.Journal.end g.J.Journal.number g.J.Journal.turns (idle_log c.args.idle) (idle_device c.args.idle)) c.args.disk.now c.args.disk.now told.list (g.K.Sink.held c.args.sink.now) (g.K.Sink.held c.say_refusal.new.sink) p declined c.say_refusal.result
+    (start_spares g.met.D.Disk.laws (IsBelow artifacts) c.args.disk.now)
+    stands
+    (open_bare p d (g.S.Supervise.world c.args.supervisor.now) told (g.R.Runner.living c.args.runner.now) c.requires.empty opens)
+    (ap (λ (e : Device). e.pending) opens.stands.device_is ∙ c.requires.held.1)
+    (subst (λ (r : Refusal). SaysRefusal (g.K.Sink.held c.args.sink.now) (g.K.Sink.held c.say_refusal.new.sink) c.say_refusal.result (status_of_refusal r) (refusal_line r)) c.from.ensures c.say_refusal.ensures.says) in (
       Err declined,
       (λ o is. unread_taken d o (g.L.Library.content c.args.library.now) (g.L.Library.faults c.args.library.now) (g.L.Library.faults c.args.library.now) c.args.document.now c.in-Err.fault c.in-Err.ensures.exact),
-      inl (declined_called g.J.Journal.entries g.J.Journal.files g.met.D.Disk.laws (start_of g.J.Journal.end g.J.Journal.number g.J.Journal.turns (idle_log c.args.idle) (idle_device c.args.idle)) c.args.disk.now c.args.disk.now told.list (g.K.Sink.held c.args.sink.now) (g.K.Sink.held c.say_refusal.new.sink) p declined c.say_refusal.result
-          (start_spares g.met.D.Disk.laws (IsBelow artifacts) c.args.disk.now)
-          (λ i left. subst (λ (e : Device). StandsFor g.J.Journal.entries i e) (sym opens.stands.device_is) (in_hand_stands g.met.D.Disk.laws g.met.J.Journal.laws c.args.idle.log c.args.disk.now d c.requires.held.0 i left))
-          (open_bare p d (g.S.Supervise.world c.args.supervisor.now) told (g.R.Runner.living c.args.runner.now) c.requires.empty opens)
-          (ap (λ (e : Device). e.pending) opens.stands.device_is ∙ c.requires.held.1)
-          (subst (λ (r : Refusal). SaysRefusal (g.K.Sink.held c.args.sink.now) (g.K.Sink.held c.say_refusal.new.sink) c.say_refusal.result (status_of_refusal r) (refusal_line r)) c.from.ensures c.say_refusal.ensures.says)),
+      t.0,
+      (λ holds. subst (λ (l : List Record). Leaves g.D.Disk.moment g.D.Disk.left_since c.args.disk.now c.args.disk.now (StandsWhole g.J.Journal.entries p.device l)) (sym t.1) (still_whole g.J.Journal.entries g.J.Journal.files g.met.D.Disk.laws c.args.disk.now p stands holds)),
     )
 
 pub returns-in-Ok-clause-call : goal.returns-in-Ok-clause-call
@@ -44,6 +49,7 @@ returns-in-Ok-clause-call g c = λ p opens serves.
       t.0,
       (λ o is. inr (inr (c.in-Ok.document, c.in-Ok.ensures.exact, t.1 o is))),
       t.2,
+      t.3,
     )
 
 pub returns-in-Err-clause-none : goal.returns-in-Err-clause-none

@@ -1,32 +1,34 @@
 use Rattle.std.proofs.Common.{ℕ, List, [], inl, inr, refl, sym, ap, subst, ◌∙◌}
-use Rattle.std.specs.Prelude.{Option}
+use Rattle.std.specs.Prelude.{Bool, Option}
 use Rattle.disk_model.specs.Disk.{Image, Leaves}
 use Rattle.disk_model.specs.Listing.{artifacts, IsBelow}
 use Rattle.nuc_base.specs.declared.status.Status.TheVariants as statuses
-use Rattle.records.specs.Stored.{Accepted, plan_view}
+use Rattle.records.specs.Stored.{plan_view}
 use Rattle.device.specs.Devices.{Device}
-use Rattle.device.specs.Lawful.{applied}
 use Rattle.device.specs.Standing.{StandsFor}
 use Rattle.artifact_store.proofs.Walking.{start_spares}
 use Rattle.deploy_state.proofs.Steps.{in_hand_stands}
-use Rattle.deploy_state.specs.Hand.{LeavesEither}
+use Rattle.deploy_state.specs.Hand.{LeavesSame}
 use Rattle.deploy_state.specs.Accepting.{idle_log}
 use Rattle.deploy_state.specs.States.{booting_device, idle_device}
 use Rattle.deploy_state.specs.Turning.{plan_bytes, start_of}
 use Rattle.step_runner.specs.Entries.{Listed}
 use Rattle.session.specs.Happenings.{records_of}
+use Rattle.session.specs.Follows.{MayTakeBy}
 use Rattle.session.specs.Places.{left_by}
+use Rattle.session.proofs.Once.{takes_once}
 use Rattle.driver.specs.Over.{LeftAt, LinesAt}
 use Rattle.driver.specs.declared.over.Over.{Over}
 use Rattle.driver.specs.declared.over.Over.TheVariants as over
 use Rattle.deploying.specs.Driven.{DrivenLeft}
 use Rattle.deploying.proofs.Joining.{joined}
 use Rattle.deploying.proofs.Leaving.{driven_on}
-use Rattle.deployments.specs.Calls.{Call, SaysLine}
-use Rattle.deployments.specs.Documents.{FitsFrom}
-use Rattle.deployments.specs.Endings.{Full, full_line}
-use Rattle.deployments.proofs.Ending.{begins_by, called, doubt_called, joined_on, nothing_called, placed_at}
+use Rattle.deployments.specs.Calls.{AllHoldBoth, SaysLine}
+use Rattle.deployments.specs.Documents.{DrivesPlan, FitsFrom, IsPutOff, KeepsArtifacts}
+use Rattle.deployments.specs.Endings.{Ending, Full, full_line}
+use Rattle.deployments.proofs.Ending.{begins_by, called, doubt_called, first_of, joined_on, nothing_called, once_after, placed_at, starved_called, still_whole}
 use Rattle.deployments.proofs.Faults.{rose_by, rose_on, stays_by, stays_on}
+use Rattle.deployments.proofs.Holding.{all_before}
 use Rattle.deployments.proofs.Places.{open_bare, open_none, opened_front, orderly_none}
 use Rattle.deployments.proofs.Printing.{opening_none, said_prints, says_none}
 use Rattle.deployments.proofs.Results.{answers_disk, answers_edge, answers_own}
@@ -104,10 +106,16 @@ returns-in-Ok-Accepted-clause-call g c = λ p opens serves.
     held held (g.K.Sink.held c.boot-driven.new.sink) (g.K.Sink.held c.end_call.new.sink) p c.boot-driven.result c.end_call.result
     (opening_none held p.device (ap (λ (e : Device). e.pending) opens.stands.device_is ∙ c.requires.held.1))
     both.0
-    serves c.boot-driven.ensures.held c.end_call.ensures.went c.end_call.ensures.still c.end_call.ensures.spared c.end_call.ensures.unswept c.end_call.ensures.ends c.end_call.ensures.silent c.end_call.ensures.answers in
+    serves c.boot-driven.ensures.held c.end_call.ensures.went c.end_call.ensures.still c.end_call.ensures.spared c.end_call.ensures.safe c.end_call.ensures.unswept c.end_call.ensures.ends c.end_call.ensures.silent c.end_call.ensures.answers in
     let start = start_of g.J.Journal.end g.J.Journal.number g.J.Journal.turns (idle_log c.args.idle) (idle_device c.args.idle) in
     let fits : FitsFrom start plan = λ far. fits_taken x s c.in-Ok-Accepted.field-0-is (start (plan_bytes plan)) (c.in-Ok-Accepted.ensures.fills far) in
-    inl (call.0, begins_by start plan call.0.ending (records_of call.0.history) t.0 course.history call.1 fits t.4 (call.2 ∙ ap records_of both.1))
+    let rest = records_of course.history in
+    let first = first_of plan (records_of both.0.history) t.0 course.history t.4 (ap records_of both.1) in
+    let untaken = subst (λ (b : Bool). MayTakeBy b p) serves opens.takes in
+    let once = once_after p.taken plan (records_of both.0.history) rest untaken first (takes_once p both.0.history serves both.0.went.proper) in (
+      (call.0, begins_by start plan call.0.ending (records_of call.0.history) rest call.1 fits (call.2 ∙ first) once),
+      (λ holds. call.3 (all_before (g.D.Disk.may_leave c.args.disk.now) p.device plan (records_of both.0.history) rest first once holds)),
+    )
 
 pub returns-in-Ok-Accepted-clause-own : goal.returns-in-Ok-Accepted-clause-own
 returns-in-Ok-Accepted-clause-own g c = answers_own c.end_call.result c.boot-driven.result c.end_call.ensures.answers
@@ -154,17 +162,25 @@ returns-in-Ok-Full-clause-call g c = λ p opens serves.
     let silent = ap g.K.Sink.held (c.in-Ok-Full.ensures.silent (full_back x _ c.in-Ok-Full.at c.in-Ok-Full.field-0-is)) in
     let held = g.K.Sink.held c.args.sink.now in
     let last = g.K.Sink.held c.say_full.new.sink in
-    inl (
-      subst (λ (z : g.row.D.Denot). Call g.J.Journal.entries g.J.Journal.files g.D.Disk.may_leave g.D.Disk.moment g.D.Disk.left_since c.args.disk.now z told.list told.list held last p c.say_full.result) (sym same)
-          (nothing_called g.J.Journal.entries g.J.Journal.files g.met.D.Disk.laws c.args.disk.now c.args.disk.now told.list held last p (Full c.in-Ok-Full.at) c.say_full.result
-          (start_spares g.met.D.Disk.laws (IsBelow artifacts) c.args.disk.now)
-          (λ i left. subst (λ (e : Device). StandsFor g.J.Journal.entries i e) (sym opens.stands.device_is) (in_hand_stands g.met.D.Disk.laws g.met.J.Journal.laws c.args.idle.log c.args.disk.now d c.requires.held.0 i left))
-          (open_bare p d (g.S.Supervise.world c.args.supervisor.now) told (g.R.Runner.living c.args.runner.now) c.requires.empty opens)
-          c.say_full.ensures.answers
-          (said_prints held last p.device (Full c.in-Ok-Full.at) c.say_full.result (λ is. cc) (ap (λ (e : Device). e.pending) opens.stands.device_is ∙ c.requires.held.1)
-          (subst (λ (h : Option (List ℕ)). SaysLine h last c.say_full.result (full_line c.in-Ok-Full.at)) silent c.say_full.ensures.says))
-          refl),
-      inl ((full.0, full.1), refl),
+    let stands : (i : Image) → g.D.Disk.may_leave c.args.disk.now i → StandsFor g.J.Journal.entries i p.device = λ i left. subst (λ (e : Device). StandsFor g.J.Journal.entries i e) (sym opens.stands.device_is) (in_hand_stands g.met.D.Disk.laws g.met.J.Journal.laws c.args.idle.log c.args.disk.now d c.requires.held.0 i left) in
+    let plan = plan_view c.args.plan in
+    let start = start_of g.J.Journal.end g.J.Journal.number g.J.Journal.turns (idle_log c.args.idle) (idle_device c.args.idle) in
+    let of : g.row.D.Denot → Type 0 = λ z.
+    (t : DrivesPlan g.J.Journal.entries g.J.Journal.files g.D.Disk.may_leave g.D.Disk.moment g.D.Disk.left_since c.args.disk.now z told.list told.list held last p c.say_full.result start plan)
+    × (AllHoldBoth (g.D.Disk.may_leave c.args.disk.now) p.device plan.items → KeepsArtifacts g.J.Journal.entries g.J.Journal.files g.D.Disk.may_leave g.D.Disk.moment g.D.Disk.left_since c.args.disk.now z told.list told.list held last p c.say_full.result t.0) in
+    subst of (sym same) (
+      (
+        nothing_called g.J.Journal.entries g.J.Journal.files g.met.D.Disk.laws c.args.disk.now c.args.disk.now told.list held last p (Full c.in-Ok-Full.at) c.say_full.result
+            (start_spares g.met.D.Disk.laws (IsBelow artifacts) c.args.disk.now)
+            stands
+            (open_bare p d (g.S.Supervise.world c.args.supervisor.now) told (g.R.Runner.living c.args.runner.now) c.requires.empty opens)
+            c.say_full.ensures.answers
+            (said_prints _ held last p.device (Full c.in-Ok-Full.at) c.say_full.result stands (λ is. cc) (ap (λ (e : Device). e.pending) opens.stands.device_is ∙ c.requires.held.1)
+            (subst (λ (h : Option (List ℕ)). SaysLine h last c.say_full.result (full_line c.in-Ok-Full.at)) silent c.say_full.ensures.says))
+            refl,
+        inl ((full.0, full.1), refl),
+      ),
+      (λ both. still_whole g.J.Journal.entries g.J.Journal.files g.met.D.Disk.laws c.args.disk.now p stands (λ i left. (both i left).0)),
     )
 
 pub returns-in-Ok-Full-clause-none : goal.returns-in-Ok-Full-clause-none
@@ -189,20 +205,14 @@ returns-in-Ok-NoMemory-clause-call g c = λ p opens serves.
     let s = c.in-Ok-NoMemory.field-0-is in
     let same = short_device x _ s d plan c.in-Ok-NoMemory.ensures.taken in
     let held = short_held x _ s g.D.Disk.tells g.D.Disk.may_leave g.J.Journal.stands g.J.Journal.end c.accept_plan.new.disk c.in-Ok-NoMemory.ensures.held in
-    inr (
-      (record {
-        memory = refl;
-        from = c.args.disk.now;
-        before = start_spares g.met.D.Disk.laws (IsBelow artifacts) c.args.disk.now;
-        plan = plan;
-        moments = subst (λ (e : Device). Leaves g.D.Disk.moment g.D.Disk.left_since c.args.disk.now c.accept_plan.new.disk (LeavesEither g.D.Disk.may_leave g.J.Journal.files g.J.Journal.entries c.args.disk.now e (applied e (Accepted plan)))) (sym opens.stands.device_is) c.accept_plan.ensures.moments;
-        stands = λ i left. subst (λ (e : Device). StandsFor g.J.Journal.entries i e) (same ∙ sym opens.stands.device_is) (in_hand_stands g.met.D.Disk.laws g.met.J.Journal.laws _ c.accept_plan.new.disk _ held.0 i left);
-        list = refl;
-        held = ap g.K.Sink.held (c.in-Ok-NoMemory.ensures.silent (short_back x _ s));
-        bare = open_bare p d world told living c.requires.empty opens;
-      }),
-      refl,
-    )
+    let back = subst (λ (e : Device). Leaves g.D.Disk.moment g.D.Disk.left_since c.args.disk.now c.accept_plan.new.disk (LeavesSame g.D.Disk.may_leave g.J.Journal.files g.J.Journal.entries c.args.disk.now e)) (sym opens.stands.device_is)
+    (c.in-Ok-NoMemory.ensures.unmade (short_back x _ s)) in
+    let call = starved_called g.J.Journal.entries g.J.Journal.files g.met.D.Disk.laws c.requires.apart c.args.disk.now c.accept_plan.new.disk told.list (g.K.Sink.held c.args.sink.now) (g.K.Sink.held c.accept_plan.new.sink) p plan back
+    (λ i left. subst (λ (e : Device). StandsFor g.J.Journal.entries i e) (same ∙ sym opens.stands.device_is) (in_hand_stands g.met.D.Disk.laws g.met.J.Journal.laws _ c.accept_plan.new.disk _ held.0 i left))
+    (open_bare p d world told living c.requires.empty opens)
+    (ap g.K.Sink.held (c.in-Ok-NoMemory.ensures.silent (short_back x _ s))) in
+    let start = start_of g.J.Journal.end g.J.Journal.number g.J.Journal.turns (idle_log c.args.idle) (idle_device c.args.idle) in
+    ((call.0, inl (subst (λ (e : Ending). IsPutOff start plan e) (sym call.1) tt, call.2)), call.3)
 
 pub returns-in-Ok-NoMemory-clause-none : goal.returns-in-Ok-NoMemory-clause-none
 returns-in-Ok-NoMemory-clause-none g c =
@@ -221,8 +231,8 @@ returns-in-Err-Disk-clause-call g c = λ p opens serves.
     let t = c.in-Err-Disk.ensures.went tt p world told living opens in
     let held = g.K.Sink.held c.args.sink.now in
     let mid = g.K.Sink.held c.accept_plan.new.sink in
-    doubt_called g.J.Journal.entries g.J.Journal.files g.met.D.Disk.laws (start_of g.J.Journal.end g.J.Journal.number g.J.Journal.turns (idle_log c.args.idle) (idle_device c.args.idle)) over.Disk c.args.disk.now c.accept_plan.new.disk told.list held mid (g.K.Sink.held c.say_disk.new.sink) p d world told living (plan_view c.args.plan) t.0 c.say_disk.result
-    (λ far. c.in-Err-Disk.ensures.fills far) opens (open_bare p d world told living c.requires.empty opens) c.requires.lawful c.accept_plan.ensures.moments c.requires.held.1 t.4 t.1.run
+    doubt_called g.J.Journal.entries g.J.Journal.files g.met.D.Disk.laws c.requires.apart (start_of g.J.Journal.end g.J.Journal.number g.J.Journal.turns (idle_log c.args.idle) (idle_device c.args.idle)) over.Disk c.args.disk.now c.accept_plan.new.disk told.list held mid (g.K.Sink.held c.say_disk.new.sink) p d world told living (plan_view c.args.plan) t.0 c.say_disk.result
+    (λ far. c.in-Err-Disk.ensures.fills far) opens serves (open_bare p d world told living c.requires.empty opens) c.requires.lawful c.accept_plan.ensures.moments c.requires.held.1 t.4 t.1.run
     (subst (λ (e : Over). LinesAt held mid p.device (records_of t.0) e) c.in-Err-Disk.field-0-is t.2)
     (subst (λ (e : Over). LeftAt g.J.Journal.entries g.D.Disk.may_leave c.accept_plan.new.disk p t.0 e) c.in-Err-Disk.field-0-is t.3)
     c.say_disk.ensures.says (λ is. absurd cc) c.say_disk.ensures.answers
@@ -247,8 +257,8 @@ returns-clause-call g c = λ p opens serves.
     let t = c.in-Err-Edge.ensures.went tt p world told living opens in
     let held = g.K.Sink.held c.args.sink.now in
     let mid = g.K.Sink.held c.accept_plan.new.sink in
-    doubt_called g.J.Journal.entries g.J.Journal.files g.met.D.Disk.laws (start_of g.J.Journal.end g.J.Journal.number g.J.Journal.turns (idle_log c.args.idle) (idle_device c.args.idle)) over.Edge c.args.disk.now c.accept_plan.new.disk told.list held mid mid p d world told living (plan_view c.args.plan) t.0 statuses.Edge
-    (λ far. c.in-Err-Edge.ensures.fills far) opens (open_bare p d world told living c.requires.empty opens) c.requires.lawful c.accept_plan.ensures.moments c.requires.held.1 t.4 t.1.run
+    doubt_called g.J.Journal.entries g.J.Journal.files g.met.D.Disk.laws c.requires.apart (start_of g.J.Journal.end g.J.Journal.number g.J.Journal.turns (idle_log c.args.idle) (idle_device c.args.idle)) over.Edge c.args.disk.now c.accept_plan.new.disk told.list held mid mid p d world told living (plan_view c.args.plan) t.0 statuses.Edge
+    (λ far. c.in-Err-Edge.ensures.fills far) opens serves (open_bare p d world told living c.requires.empty opens) c.requires.lawful c.accept_plan.ensures.moments c.requires.held.1 t.4 t.1.run
     (subst (λ (e : Over). LinesAt held mid p.device (records_of t.0) e) c.in-Err-Edge.field-0-is t.2)
     (subst (λ (e : Over). LeftAt g.J.Journal.entries g.D.Disk.may_leave c.accept_plan.new.disk p t.0 e) c.in-Err-Edge.field-0-is t.3)
     (says_none mid mid statuses.Edge refl) (λ is. refl) refl
