@@ -1,0 +1,13 @@
+pub mod Facts
+pub mod Growing
+pub mod Histories
+pub mod Standing
+pub mod Duties
+pub mod Turning
+pub mod Beginning
+pub mod Differing
+pub mod Going
+pub mod BootEnds
+pub mod Debts
+pub mod StepEnds
+pub mod Failing

@@ -1,0 +1,12 @@
+use Rattle.history_laws.proofs.Failing.{none_recorded}
+use Rattle.history_laws.proofs.Going.{backs_go_on, resumes_go_on}
+use Rattle.history_laws.proofs.laws.resumes_get_on.Goals as goal
+
+pub returns-clause-up : goal.returns-clause-up
+returns-clause-up c = resumes_go_on
+
+pub returns-clause-back : goal.returns-clause-back
+returns-clause-back c = backs_go_on
+
+pub returns-clause-quiet : goal.returns-clause-quiet
+returns-clause-quiet c = none_recorded

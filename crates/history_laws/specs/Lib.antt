@@ -1,0 +1,5 @@
+pub mod Stood
+pub mod Ends
+pub mod Turned
+pub mod Starts
+pub mod Onward

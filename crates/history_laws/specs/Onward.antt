@@ -1,0 +1,74 @@
+-- What a call leaves that resumes a deployment and records no failure.
+use Rattle.std.specs.Prelude.{◌≡◌, ◌⊎◌, ℕ, ◌<◌, ◌≤◌, true, false, List, [], ◌∷◌, ◌++◌, length, Some, None}
+use Rattle.nuc_base.specs.declared.kinds.Outcome.{Outcome}
+use Rattle.nuc_base.specs.declared.kinds.Outcome.TheVariants as outcomes
+use Rattle.records.specs.Stored.{Plan}
+use Rattle.device.specs.declared.staged.Stage.TheVariants as stages
+use Rattle.device.specs.Devices.{Device, Pending}
+use Rattle.device.specs.Lawful.{broken}
+use Rattle.session.specs.Happenings.{Happening}
+use Rattle.session.specs.Places.{Place, left_by}
+use Rattle.history_laws.specs.Stood.{IsHistory}
+use Rattle.history_laws.specs.Ends.{RecordsNoFailure}
+
+-- ---- how far a deployment is
+
+-- The plan's bootstraps run, and none failed; or its items come up, and none failed three times.
+abbrev pub ComesUp : Pending → Type 0
+ComesUp q = ((q.stage ≡ stages.Booting) × (q.boot_failed ≡ false)) ⊎ ((q.stage ≡ stages.Activating) × (broken q ≡ None))
+
+-- The set's bootstraps run again, and none failed; or its items come up again, and none failed three times.
+abbrev pub GoesBack : Pending → Type 0
+GoesBack q = ((q.stage ≡ stages.Backing) × (q.boot_failed ≡ false)) ⊎ ((q.stage ≡ stages.Rolling) × (broken q ≡ None))
+
+-- the same deployment, of whose bootstraps no fewer are ended
+pub record IsNoLess (old new : Pending) : Type 0 where
+  pub plan : new.plan ≡ old.plan
+  pub backs : new.backs ≡ old.backs
+  pub ended : old.ended ≤ new.ended
+
+-- It closed so, before any other did.
+abbrev pub ClosedAs : Device → Plan → Outcome → Device → Type 0
+ClosedAs d plan o e = (more : List (List ℕ × Outcome)) × (e.closed ≡ (d.closed ++ (plan.id, o) ∷ []) ++ more)
+
+-- ---- on the way up
+
+-- One more of the plan's bootstraps is ended, of as many as there are.
+pub record IsOneOn (old new : Pending) : Type 0 where
+  pub stage : old.stage ≡ stages.Booting
+  pub still : new.stage ≡ stages.Booting
+  pub more : old.ended < new.ended
+  pub most : new.ended ≤ length new.plan.boots
+
+-- It is pending and still comes up; and where the call ended for a restart, one more bootstrap of its plan is ended.
+pub record StillComes (p : Place) (h : List Happening) (old : Pending) : Type 0 where
+  pub new : Pending
+  pub pending : (left_by p h).device.pending ≡ Some new
+  pub up : ComesUp new
+  pub no_less : IsNoLess old new
+  pub restarted : (left_by p h).over ≡ true → IsOneOn old new
+
+-- A deployment that comes up and of which no failure is recorded closes SUCCESSFUL, or gets on.
+abbrev pub ResumesGoOn : Type 0
+ResumesGoOn = (p : Place) (h : List Happening) (q : Pending) → IsHistory p h → p.device.pending ≡ Some q → ComesUp q → RecordsNoFailure h
+    → ClosedAs p.device q.plan outcomes.Successful (left_by p h).device ⊎ StillComes p h q
+
+-- ---- on the way back
+
+-- One more of the backs is ended, of as many as there are; behind the last one the set's items come up again.
+pub record IsOneBack (old new : Pending) : Type 0 where
+  pub stage : old.stage ≡ stages.Backing
+  pub more : old.ended < new.ended
+  pub most : new.ended ≤ length new.backs
+
+pub record StillGoesBack (p : Place) (h : List Happening) (old : Pending) : Type 0 where
+  pub new : Pending
+  pub pending : (left_by p h).device.pending ≡ Some new
+  pub back : GoesBack new
+  pub no_less : IsNoLess old new
+  pub restarted : (left_by p h).over ≡ true → IsOneBack old new
+
+-- One on its way back of which no failure is recorded closes as the old set, or gets on.
+abbrev pub BacksGoOn : Type 0
+BacksGoOn = (p : Place) (h : List Happening) (q : Pending) → IsHistory p h → p.device.pending ≡ Some q → GoesBack q → RecordsNoFailure h
+    → ClosedAs p.device q.plan outcomes.RollbackComplete (left_by p h).device ⊎ StillGoesBack p h q
