@@ -1,7 +1,6 @@
 -- What a crash leaves of a call that drives a deployment.
-use Rattle.std.proofs.Common.{◌≡◌, ◌⊎◌, ⊎_elim, inl, inr, ℕ, ◌+◌, List, [], ◌∷◌, ◌++◌, Option, Some, None, refl, sym, subst}
-use Rattle.std.specs.Prelude.{Bool, IsTrue, Result}
-use Rattle.std.specs.Option.{IsSomeAnd}
+use Rattle.std.proofs.Common.{◌≡◌, ◌⊎◌, ⊎_elim, inl, inr, ℕ, ◌+◌, List, [], ◌∷◌, ◌++◌, Option, refl, sym, subst}
+use Rattle.std.specs.Prelude.{Bool, IsTrue}
 use Rattle.disk_model.specs.Disk.{Image, After, DiskLaws, Leaves}
 use Rattle.disk_model.specs.Listing.{artifacts, IsBelow}
 use Rattle.disk_model.specs.Moments.{joined, now, tells_of, weaker}
@@ -12,26 +11,22 @@ use Rattle.checkpoint_log.specs.Laws.{of_slots}
 use Rattle.checkpoint_log.specs.Slots.{slots_entries, slots_files, slots_stands}
 use Rattle.checkpoint_log.specs.declared.slots.Slots.{Slots}
 use Rattle.nuc_base.specs.declared.status.Status.{Status}
-use Rattle.records.specs.Stored.{Plan, Record, Accepted}
-use Rattle.records.specs.declared.record.Origin.{Origin}
-use Rattle.records.specs.declared.record.Plan as code
+use Rattle.records.specs.Stored.{Record}
 use Rattle.device.specs.Devices.{Device, no_device}
-use Rattle.device.specs.Lawful.{Allowed, MayAccept, Run, applied}
-use Rattle.device.specs.Sound.{IsAccepted, IsSound}
+use Rattle.device.specs.Lawful.{Run}
+use Rattle.device.specs.Sound.{IsSound}
 use Rattle.device.specs.Standing.{Means, Plays}
 use Rattle.device.proofs.Sounding.{none_sound, stays_sound}
-use Rattle.deploy_state.specs.Hand.{StandsForEither}
 use Rattle.deploy_state.specs.States.{InLoaded, activating_device, backing_device, booting_device, idle_device, loaded_device, rolling_device}
 use Rattle.deploy_state.specs.declared.state.Loaded.{Loaded}
 use Rattle.deploy_state.specs.declared.state.Loaded.TheVariants as loaded
 use Rattle.step_runner.specs.declared.entries.RunnerEntry.{RunnerEntry}
 use Rattle.session.specs.Happenings.{records_of}
 use Rattle.session.specs.Places.{Place}
+use Rattle.artifact_store.specs.Holding.{HoldsDevice}
 use Rattle.driver.specs.Went.{StandsForFront}
 use Rattle.intake.specs.Takes.{LieElsewhere}
-use Rattle.intake.specs.declared.fault.Declined.{Declined}
-use Rattle.deployments.specs.Calls.{Call, GivenBack, Spared}
-use Rattle.deployments.specs.Documents.{DrivesTaken}
+use Rattle.deployments.specs.Calls.{Call, Spared, StandsWhole}
 use Rattle.nucleus_top.specs.Crashes.{AllowedOrFront, AllowedOrSame, LeavesFronts, LeavesSame}
 use Rattle.nucleus_top.specs.Opening.{Stands}
 use Rattle.nucleus_top.proofs.Images.{held_stands}
@@ -63,19 +58,11 @@ stands_stays d a b same h = record { payloads = h.payloads; live = entries_stay 
 pub none_front : (d : Device) (records : List Record) (c : Image) → Stands c d → StandsForFront slots_entries d records c
 none_front d records c h = record { front = []; rest = records; split = refl; device = d; run = refl; stands = h }
 
--- one, or none
-either_front : (d : Device) (r : Record) (c : Image) → (Stands c (applied d r) → Allowed d r) → StandsForEither slots_entries d (applied d r) c → StandsForFront slots_entries d (r ∷ []) c
-either_front d r c allowed (inl h) = none_front d (r ∷ []) c h
-either_front d r c allowed (inr h) = record {
-  front = r ∷ [];
-  rest = [];
-  split = refl;
-  device = applied d r;
-  run = (applied d r, record { allowed = allowed h; leaves = refl }, refl);
-  stands = h;
-}
+pub none_whole : (d : Device) (records : List Record) (c : Image) → Stands c d → HoldsDevice c d → StandsWhole slots_entries d records c
+unfolding none_front
+none_whole d records c h held = (none_front d records c h, held)
 
--- ---- a journal that holds a plan shows that it could be taken
+-- ---- what a journal stands for is sound
 
 plays_sound : (payloads : List (List ℕ)) (d e : Device) → IsSound d → Plays d payloads e → IsSound e
 plays_sound [] d e sound plays = subst IsSound (sym plays) sound
@@ -84,15 +71,6 @@ plays_sound (p ∷ payloads) d e sound plays = plays_sound payloads plays.0 e (s
 pub means_sound : (payloads : List (List ℕ)) (e : Device) → Means payloads e → IsSound e
 means_sound payloads e (inl plays) = plays_sound payloads no_device e none_sound plays
 means_sound payloads e (inr anew) = plays_sound anew.after anew.begun e anew.is.has.sound anew.plays
-
-may_accept : (d : Device) (plan : Plan) (origin : Option Origin) → d.pending ≡ None → IsAccepted origin d.groups d.closed plan → IsSomeAnd origin (MayAccept d plan)
-may_accept d plan None idle taken = absurd taken.plan_is
-may_accept d plan (Some o) idle taken = ((idle, taken.fresh, taken.closes, taken.joins), taken.young, taken.plan_is)
-
-could_accept : (d : Device) (plan : Plan) (c : Image) → d.pending ≡ None → Stands c (applied d (Accepted plan)) → Allowed d (Accepted plan)
-could_accept d plan c idle h =
-    let sound = means_sound h.payloads (applied d (Accepted plan)) h.means in
-    may_accept d plan d.origin idle sound.pending.0
 
 -- ---- at each moment
 
@@ -106,8 +84,15 @@ module _ {D : Type 0} {tells : Bool} {seen : D → Image} {may_leave : D → Ima
   loaded_stands (loaded.Backing s) disk held c left = held_stands laws s.hand.log disk (backing_device s) held.0.0 c left
   loaded_stands (loaded.Rolling s) disk held c left = held_stands laws s.hand.log disk (rolling_device s) held.0.0 c left
 
+  pub loaded_sound : (s : Loaded Slots) (disk : D) → InLoaded tells may_leave slots_stands (λ log. log.live.end) s disk → IsSound (loaded_device s)
+  loaded_sound (loaded.Idle s) disk held = held.0.sound
+  loaded_sound (loaded.Booting s) disk held = held.0.0.sound
+  loaded_sound (loaded.Activating s) disk held = held.0.0.sound
+  loaded_sound (loaded.Backing s) disk held = held.0.0.sound
+  loaded_sound (loaded.Rolling s) disk held = held.0.0.sound
+
   -- what is allowed more where the disk tells
-  told_weaker : (old new : D) (P Q : Image → Type 0) → (IsTrue tells → (c : Image) → P c → Q c) → Leaves moment left_since old new P → Leaves moment left_since old new Q
+  pub told_weaker : (old new : D) (P Q : Image → Type 0) → (IsTrue tells → (c : Image) → P c → Q c) → Leaves moment left_since old new P → Leaves moment left_since old new Q
   told_weaker old new P Q more leaves = record {
     later = leaves.later;
     each = λ c left. more (laws.told new (moment old) c left) c (leaves.each c left);
@@ -159,7 +144,7 @@ module _ {D : Type 0} {tells : Bool} {seen : D → Image} {may_leave : D → Ima
 
   -- the journal does not lie among the files of artifacts
   module _ (apart : LieElsewhere slots_files) where
-    journal_stays : (a b : Image) → Spares (IsBelow artifacts) a b → (name : List ℕ) → slots_files name → b name ≡ a name
+    pub journal_stays : (a b : Image) → Spares (IsBelow artifacts) a b → (name : List ℕ) → slots_files name → b name ≡ a name
     journal_stays a b spares name is = spares name (λ below. apart name is below)
 
     front_stays : (d : Device) (records : List Record) (a b : Image) → Spares (IsBelow artifacts) a b → StandsForFront slots_entries d records a → StandsForFront slots_entries d records b
@@ -184,9 +169,6 @@ module _ {D : Type 0} {tells : Bool} {seen : D → Image} {may_leave : D → Ima
       abbrev IsCall : Type 0
       IsCall = Call slots_entries slots_files may_leave moment left_since old new old_list new_list old_held new_held p status
 
-      abbrev IsGivenBack : Type 0
-      IsGivenBack = GivenBack slots_entries slots_files may_leave moment left_since old new old_list new_list old_held new_held p status
-
       before_fronts : (records : List Record) (from : D) → Spared may_leave moment left_since old from → Leaves moment left_since old from (StandsForFront slots_entries p.device records)
       before_fronts records from spared = spared_fronts old from p.device records (λ c left. none_front p.device records c (stands c left)) spared
 
@@ -199,19 +181,5 @@ module _ {D : Type 0} {tells : Bool} {seen : D → Image} {may_leave : D → Ima
           let after : Leaves moment left_since call.to new front = spared_fronts call.to new p.device records (now laws call.from call.to front went) call.after in
           joined laws old call.to new front front front (joined laws old call.from call.to front front front before went (λ c h. h) (λ c h. h)) after (λ c h. h) (λ c h. h)
 
-      given_fronts : p.device.pending ≡ None → (given : IsGivenBack) → Leaves moment left_since old new (StandsForFront slots_entries p.device (Accepted given.plan ∷ []))
-      given_fronts idle given =
-          let records = Accepted given.plan ∷ [] in
-          let front = StandsForFront slots_entries p.device records in
-          let before : Leaves moment left_since old given.from front = before_fronts records given.from given.before in
-          let after : Leaves moment left_since given.from new front = weaker laws given.from new _ front (λ c was. either_front p.device (Accepted given.plan) c (could_accept p.device given.plan c idle) was.2.here) given.moments in
-          joined laws old given.from new front front front before after (λ c h. h) (λ c h. h)
-
       pub kept_fronts : (call : IsCall) → LeavesFronts may_leave moment left_since old new p.device (records_of call.history)
       kept_fronts call = weaker laws old new _ _ (λ c h. inr h) (call_fronts call)
-
-      pub taken_fronts : p.device.pending ≡ None → (start : ℕ → ℕ) (taken : Result code.Plan Declined)
-          → (call : DrivesTaken slots_entries slots_files may_leave moment left_since old new old_list new_list old_held new_held p status start taken)
-          → LeavesFronts may_leave moment left_since old new p.device (elim call [ inl c ↦ records_of c.0.history | inr given ↦ Accepted given.0.plan ∷ [] ])
-      taken_fronts idle start taken (inl call) = kept_fronts call.0
-      taken_fronts idle start taken (inr given) = weaker laws old new _ _ (λ c h. inr h) (given_fronts idle given.0)

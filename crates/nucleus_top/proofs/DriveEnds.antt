@@ -81,7 +81,7 @@ module _ {D : Type 0} (may_leave : D → Image → Type 0) (moment : D → ℕ) 
         record {
           device = went.0;
           found = went.2;
-          ends = elim on.call [ inl call ↦ answered call.0.ending result call.0.answers | inr given ↦ ap may_end given.0.memory ];
+          ends = answered on.call.0.ending result on.call.0.answers;
         },
         on.idle,
       )

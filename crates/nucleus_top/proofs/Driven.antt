@@ -1,7 +1,7 @@
 -- What the steps of `deploy` and `resume` come to.
 use Rattle.std.proofs.Common.{◌≡◌, ◌≢◌, ◌∙◌, ◌⊎◌, inl, inr, ℕ, ◌<◌, List, [], ◌∷◌, ◌++◌, length, take, refl, sym, ap, subst, arith, Some, None, IfSome}
 use Rattle.std.specs.Option.{IsSomeAnd}
-use Rattle.std.specs.Prelude.{◌≤◌, ⊤, Bool, false, IsTrue, Option, Result, Ok, Err, true, IfOk, IfErr, IsErrOf, Contains}
+use Rattle.std.specs.Prelude.{◌≤◌, ⊤, Bool, false, is_some, IsTrue, Option, Result, Ok, Err, true, IfOk, IfErr, IsErrOf, Contains}
 use Rattle.std.proofs.lemmas.Bool.{cases_lt, false≢true}
 use Rattle.std.proofs.lemmas.List.{take_all}
 use Rattle.std.specs.Io.KnownBytes.{Consumes}
@@ -25,7 +25,6 @@ use Rattle.checkpoint_log.specs.Laws.{slots_laws}
 use Rattle.checkpoint_log.specs.Slots.{IsLive, SlotsStand, slots_entries, slots_files, slots_stands}
 use Rattle.checkpoint_log.specs.declared.slots.Slots.{Slots}
 use Rattle.library_core.specs.Library.{Content}
-use Rattle.records.specs.Stored.{Accepted}
 use Rattle.records.specs.declared.record.Origin.{Origin}
 use Rattle.records.specs.declared.record.Plan as code
 use Rattle.device.specs.Devices.{Device, Pending as PendingPlan}
@@ -41,7 +40,7 @@ use Rattle.artifact_store.specs.declared.fault.SweepFault.TheVariants as sweep
 use Rattle.step_runner.specs.Entries.{Told as Heard}
 use Rattle.step_runner.specs.declared.entries.RunnerEntry.{RunnerEntry}
 use Rattle.supervisor.specs.World.{World}
-use Rattle.session.specs.Courses.{IsStart, Stands}
+use Rattle.session.specs.Courses.{Stands}
 use Rattle.session.specs.Happenings.{records_of}
 use Rattle.session.specs.Follows.{Lives}
 use Rattle.session.specs.Places.{Place, beginning}
@@ -50,17 +49,17 @@ use Rattle.intake.specs.Takes.{LieElsewhere}
 use Rattle.intake.specs.declared.fault.Declined.{Declined}
 use Rattle.intake.proofs.Staying.{hand_stays}
 use Rattle.acceptance.specs.Accepts.{IsOpen}
-use Rattle.deployments.specs.Calls.{Call, GivenBack, Spared, Stays}
+use Rattle.deployments.specs.Calls.{Call, Spared, Stays}
 use Rattle.deployments.specs.Documents.{DrivesTaken, TakesRead}
 use Rattle.nucleus_top.specs.Answers.{HasRisen, Input, IsUnchanged, Printed, Prints, Shelf, Store, Told, status_of}
 use Rattle.nucleus_top.specs.Asked.{AsksFor, asked_of}
-use Rattle.nucleus_top.specs.Crashes.{LeavesFronts, LeavesSame}
+use Rattle.nucleus_top.specs.Crashes.{KeepsSameWhole, LeavesFronts, LeavesSame}
 use Rattle.nucleus_top.specs.Drives.{DeploysOn, DriveParts, Drives, GoesUnread, IsDeployed, IsDeployedOn, IsResumedOn, IsTurnedAway, IsUnread, IsUnswept, NamesPendingOf, StartsFrom, TellsSweep, TellsUnread, TurnsAway, Withholds, WithholdsIdle, slots_start}
 use Rattle.nucleus_top.specs.Opening.{HasEntry, Stands as StandsFor}
 use Rattle.nucleus_top.specs.Parts.{Parts}
 use Rattle.nucleus_top.specs.Planning.{IsFound, NamesPending}
 use Rattle.nucleus_top.specs.Refusing.{Refuses, TellsFault}
-use Rattle.nucleus_top.specs.Words.{Asks, IsBuilt}
+use Rattle.nucleus_top.specs.Words.{Asks, DrivesNone}
 use Rattle.nucleus_top.specs.declared.answer.Answer.{Answer}
 use Rattle.nucleus_top.specs.declared.asking.Asked.{Asked}
 use Rattle.nucleus_top.specs.declared.answer.Answer.TheVariants.{Damaged, DiskFailed, NoMemory, NotInitialised, Pending, SourceFailed}
@@ -68,6 +67,7 @@ use Rattle.nucleus_top.proofs.Crashes.{fronts_on, same_fronts}
 use Rattle.nucleus_top.proofs.Ends.{parts}
 use Rattle.nucleus_top.proofs.Proposals.{front_is_long, too_long}
 use Rattle.nucleus_top.proofs.Standing.{none_of}
+use Rattle.nucleus_top.proofs.Whole.{whole_on}
 
 -- ---- answers
 
@@ -354,16 +354,19 @@ module _ {D : Type 0} (may_leave : D → Image → Type 0) (moment : D → ℕ) 
         record { whole = document.1; read = record { bytes = front; consumed = consumed; short = short } },
         record {
           place = h.place;
-          begins = h.begins;
           serves = h.serves;
           device_is = h.device_is;
+          sound = h.sound;
           idle = h.idle;
           origin = h.origin;
           origin_is = h.origin_is;
           taken = h.taken;
           takes = document.2;
           call = h.call;
+          history = h.history;
           images = h.images;
+          whole = h.whole;
+          lasts = h.lasts;
         },
       )
 
@@ -391,14 +394,14 @@ stands_begun d told living none = record {
   children = λ n. (λ has. absurd (in_nil n (subst (λ (xs : List ℕ). Contains xs n) none has)), λ lives. absurd (no_lives d told n lives));
 }
 
-pub open_begun : (d : Device) (world : World) (told : Heard) (living : List ℕ) → world ≡ no_world → living ≡ [] → IsOpen (begun d told) d world told living
-open_begun d world told living is none = subst (λ (w : World). IsOpen (begun d told) d w told living) (sym is) (record {
+pub open_begun : (d : Device) (world : World) (told : Heard) (living : List ℕ) → world ≡ no_world → living ≡ [] → d.pending ≡ None → IsOpen (begun d told) d world told living
+open_begun d world told living is none idle = subst (λ (w : World). IsOpen (begun d told) d w told living) (sym is) (record {
   stands = stands_begun d told living none;
   quiet = record { told = refl; none = refl };
   going = refl;
   boot = refl;
   boot_end = refl;
-  takes = λ serves. absurd (false≢true serves);
+  takes = ap (λ (o : Option PendingPlan). is_some o) idle;
   over = refl;
   cut = refl;
 })
@@ -447,97 +450,82 @@ module _ {D : Type 0} {tells : Bool} {seen : D → Image} {may_leave : D → Ima
       prints = call.prints;
       ends = call.ends;
       stands = call.stands;
-    }
-
-    given_on : (p : Place) → GivenBack slots_entries slots_files may_leave moment left_since mid new old_list new_list old_held new_held p result
-        → GivenBack slots_entries slots_files may_leave moment left_since old new old_list new_list old_held new_held p result
-    given_on p given = record {
-      memory = given.memory;
-      from = given.from;
-      before = then_spared old mid given.from first given.before;
-      plan = given.plan;
-      moments = given.moments;
-      stands = given.stands;
-      list = given.list;
-      held = given.held;
-      bare = given.bare;
+      once = call.once;
     }
 
     module _ (p : Place) (start : ℕ → ℕ) (taken : Result code.Plan Declined) where
       taken_on : DrivesTaken slots_entries slots_files may_leave moment left_since mid new old_list new_list old_held new_held p result start taken
           → DrivesTaken slots_entries slots_files may_leave moment left_since old new old_list new_list old_held new_held p result start taken
-      unfolding call_on given_on
-      taken_on (inl call) = inl (call_on p call.0, call.1)
-      taken_on (inr given) = inr (given_on p given.0, given.1)
-
-      taken_images : (d : Device) → LeavesFronts may_leave moment left_since old mid d []
-          → (call : DrivesTaken slots_entries slots_files may_leave moment left_since mid new old_list new_list old_held new_held p result start taken)
-          → LeavesFronts may_leave moment left_since mid new d (elim call [ inl c ↦ records_of c.0.history | inr given ↦ Accepted given.0.plan ∷ [] ])
-          → LeavesFronts may_leave moment left_since old new d (elim (taken_on call) [ inl c ↦ records_of c.0.history | inr given ↦ Accepted given.0.plan ∷ [] ])
-      unfolding taken_on call_on given_on
-      taken_images d images (inl call) then = fronts_on laws old mid new d (records_of call.0.history) images then
-      taken_images d images (inr given) then = fronts_on laws old mid new d (Accepted given.0.plan ∷ []) images then
+      unfolding call_on
+      taken_on call = (call_on p call.0, call.1)
 
   module _ (old mid new : D) (first : Spared may_leave moment left_since old mid) (old_list new_list : Option (List RunnerEntry)) (printed : Printed) (result : Status) (d : Device)
-      (images : LeavesFronts may_leave moment left_since old mid d []) where
+      (images : LeavesFronts may_leave moment left_since old mid d []) (stands : IsTrue tells → StandsFor (seen old) d) (whole : KeepsSameWhole may_leave moment left_since seen old mid) where
     pub deployed_on : (start : ℕ → ℕ) (library : Shelf) (bytes : List ℕ) → IsDeployedOn may_leave moment left_since mid new old_list new_list printed result d start library bytes
         → IsDeployedOn may_leave moment left_since old new old_list new_list printed result d start library bytes
+    unfolding taken_on call_on
     deployed_on start library bytes h = record {
       place = h.place;
-      begins = h.begins;
       serves = h.serves;
       device_is = h.device_is;
+      sound = h.sound;
       idle = h.idle;
       origin = h.origin;
       origin_is = h.origin_is;
       taken = h.taken;
       takes = h.takes;
       call = taken_on old mid new first old_list new_list printed.before printed.after result h.place start h.taken h.call;
-      images = taken_images old mid new first old_list new_list printed.before printed.after result h.place start h.taken d images h.call h.images;
+      history = h.history;
+      images = fronts_on laws old mid new d (records_of h.call.0.history) images h.images;
+      whole = whole_on laws old mid new d (records_of h.call.0.history) stands whole h.whole;
+      lasts = h.lasts;
     }
 
     pub resumed_on : IsResumedOn may_leave moment left_since mid new old_list new_list printed result d → IsResumedOn may_leave moment left_since old new old_list new_list printed result d
     unfolding call_on
     resumed_on h = record {
       place = h.place;
-      begins = h.begins;
       serves = h.serves;
       device_is = h.device_is;
+      sound = h.sound;
       call = call_on old mid new first old_list new_list printed.before printed.after result h.place h.call;
       resumes = h.resumes;
+      history = h.history;
       images = fronts_on laws old mid new d (records_of h.call.history) images h.images;
+      whole = whole_on laws old mid new d (records_of h.call.history) stands whole h.whole;
     }
 
   -- its document is not read behind such a call, or goes on with the device for which the journal stood
   pub ran_on : (old mid new : D) (first : Spared may_leave moment left_since old mid) (old_list new_list : Option (List RunnerEntry)) (printed : Printed) (result : Status)
       (store : Store) (input : Input) (library : Shelf) (d : Device) (start : ℕ → ℕ) (Same : Type 0)
       → IsFound store d → d.pending ≡ None → (IsTrue store.tells → StartsFrom store.before d start) → (IsTrue tells → StandsFor (seen old) d)
-      → LeavesSame may_leave moment left_since seen old mid
+      → LeavesSame may_leave moment left_since seen old mid → KeepsSameWhole may_leave moment left_since seen old mid
       → (IsUnread mid new input printed result × Same) ⊎ DeploysOn may_leave moment left_since mid new old_list new_list printed result d start input library
       → (IsTurnedAway seen may_leave moment left_since (λ a. TurnsAway store input a) old new printed result × Same) ⊎ IsDeployed may_leave moment left_since old new old_list new_list printed result store input library
-  ran_on old mid new first old_list new_list printed result store input library d start Same found idle starts stands images (inl away) = inl (
+  ran_on old mid new first old_list new_list printed result store input library d start Same found idle starts stands images whole (inl away) = inl (
     record {
       answer = away.0.answer;
       why = unread_turns store d found input away.0.answer idle away.0.why;
       told = away.0.told;
       spared = subst (λ (x : D). Spared may_leave moment left_since old x) (sym away.0.same) first;
       images = subst (λ (x : D). LeavesSame may_leave moment left_since seen old x) (sym away.0.same) images;
+      whole = subst (λ (x : D). KeepsSameWhole may_leave moment left_since seen old x) (sym away.0.same) whole;
     },
     away.1,
   )
-  ran_on old mid new first old_list new_list printed result store input library d start Same found idle starts stands images (inr went) = inr (
+  ran_on old mid new first old_list new_list printed result store input library d start Same found idle starts stands images whole (inr went) = inr (
     d,
     start,
     found,
     starts,
-    (went.0, went.1, deployed_on old mid new first old_list new_list printed result d (same_fronts laws old mid d stands images) start library went.0 went.2),
+    (went.0, went.1, deployed_on old mid new first old_list new_list printed result d (same_fronts laws old mid d stands images) stands whole start library went.0 went.2),
   )
 
 -- ---- words
 
--- words that ask this command ask no other that is built
-pub no_quiet : AsksOnce → (words : List (List ℕ)) (root : List ℕ) (order other : Order) → (IsBuilt other → ⊥) → IsOrder words root other → Asks words order → ⊥
-no_quiet once words root order other unbuilt is asks = unbuilt (subst IsBuilt (once words asks.root root order other asks.is_order is).1 asks.is_built)
+-- words that ask this command ask none that drives no deployment
+pub no_quiet : AsksOnce → (words : List (List ℕ)) (root : List ℕ) (order other : Order) → (DrivesNone other → ⊥) → IsOrder words root other → Asks words order → ⊥
+no_quiet once words root order other unbuilt is asks = unbuilt (subst DrivesNone (once words asks.root root order other asks.is_order is).1 asks.drives_none)
 
 -- nor do words that ask to deploy ask to resume
 pub not_both : AsksOnce → (words : List (List ℕ)) (root other : List ℕ) → IsOrder words root orders.Deploy → IsOrder words other orders.Resume → ⊥

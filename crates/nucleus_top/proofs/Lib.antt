@@ -12,9 +12,11 @@ mod Lasting
 mod Orders
 mod Origins
 mod PlanEnds
+mod Printed
 mod Proposals
 mod Series
 mod Standing
 pub mod Unrefused
 mod StatusEnds
 mod Told
+mod Whole

@@ -8,7 +8,7 @@ use Rattle.records.specs.declared.record.Origin.{Origin}
 use Rattle.device.specs.Devices.{Device, no_device}
 use Rattle.device.specs.Standing.{Means}
 use Rattle.device.proofs.Origins.{has_origin}
-use Rattle.nucleus_top.specs.Opening.{Stands, HasEntry}
+use Rattle.nucleus_top.specs.Opening.{HasEntry, IsFoundAs, Stands}
 use Rattle.nucleus_top.proofs.Standing.{none_of, same_device, none_stands}
 
 -- what means the device before its first record is no payload
@@ -29,3 +29,12 @@ pub has_entry : (image : Image) (d : Device) → Stands image d → IsSome d.ori
 has_entry image d stands some = λ none.
     let same : d ≡ no_device = same_device image d no_device stands (none_stands image none) in
     some_origin d.origin (ap (λ (x : Device). x.origin) same) some
+
+-- ---- what is found
+
+pub are_found : (image : Image) (d : Device) → Stands image d → IsSome d.origin → IsFoundAs image d
+are_found image d stands some = record {
+  some = has_entry image d stands some;
+  one = λ e other. same_device image e d other stands;
+  whole = λ none. none d stands;
+}

@@ -4,7 +4,9 @@ use Rattle.disk_model.specs.Disk.{Image, Leaves}
 use Rattle.checkpoint_log.specs.Slots.{slots_entries}
 use Rattle.records.specs.Stored.{Record}
 use Rattle.device.specs.Devices.{Device}
+use Rattle.artifact_store.specs.Holding.{HoldsDevice}
 use Rattle.driver.specs.Went.{StandsForFront}
+use Rattle.deployments.specs.Calls.{StandsWhole}
 use Rattle.nucleus_top.specs.Opening.{Stands}
 
 -- an image that the call's start allowed, or one that stands for what a front of these records makes of the device
@@ -15,6 +17,24 @@ AllowedOrFront allowed d records image = allowed image ⊎ StandsForFront slots_
 abbrev pub AllowedOrSame : (Image → Type 0) → Image → Image → Type 0
 AllowedOrSame allowed seen image = allowed image ⊎ ((d : Device) × Stands seen d × Stands image d)
 
+-- ---- the artifacts
+
+-- each image that is allowed has every artifact of the device for which it stands
+abbrev pub AllHoldTheirs : (Image → Type 0) → Type 0
+AllHoldTheirs allowed = (c : Image) → allowed c → (d : Device) → Stands c d → HoldsDevice c d
+
+-- an image that the call's start allowed, or one that stands for what a front of these records makes of the device, with all
+-- artifacts of that
+abbrev pub AllowedOrWhole : (Image → Type 0) → Device → List Record → Image → Type 0
+AllowedOrWhole allowed d records image = allowed image ⊎ StandsWhole slots_entries d records image
+
+-- an image that the start allowed, or one that stands for the device for which the journal stands as it read at the start, with
+-- all of its artifacts
+abbrev pub AllowedOrSameWhole : (Image → Type 0) → Image → Image → Type 0
+AllowedOrSameWhole allowed seen image = allowed image ⊎ ((d : Device) × Stands seen d × Stands image d × HoldsDevice image d)
+
+-- ---- at each moment
+
 module _ {D : Type 0} (may_leave : D → Image → Type 0) (moment : D → ℕ) (left_since : D → ℕ → Image → Type 0) where
   -- so it is at each moment of a call that keeps these records
   abbrev pub LeavesFronts : D → D → Device → List Record → Type 0
@@ -23,3 +43,10 @@ module _ {D : Type 0} (may_leave : D → Image → Type 0) (moment : D → ℕ) 
   -- and of one that keeps none
   abbrev pub LeavesSame : (D → Image) → D → D → Type 0
   LeavesSame seen old new = Leaves moment left_since old new (AllowedOrSame (may_leave old) (seen old))
+
+  -- where the images at the start have their artifacts, so have those of each moment
+  abbrev pub KeepsWhole : D → D → Device → List Record → Type 0
+  KeepsWhole old new d records = AllHoldTheirs (may_leave old) → Leaves moment left_since old new (AllowedOrWhole (may_leave old) d records)
+
+  abbrev pub KeepsSameWhole : (D → Image) → D → D → Type 0
+  KeepsSameWhole seen old new = AllHoldTheirs (may_leave old) → Leaves moment left_since old new (AllowedOrSameWhole (may_leave old) (seen old))

@@ -10,26 +10,27 @@ use Rattle.checkpoint_log.specs.Slots.{IsLive, slots_entries, slots_files, slots
 use Rattle.checkpoint_log.specs.declared.slots.Slots.{Slots}
 use Rattle.command_words.specs.Words.{IsOrder}
 use Rattle.command_words.specs.declared.order.Order.TheVariants.{Deploy, Resume}
-use Rattle.records.specs.Stored.{Accepted}
 use Rattle.records.specs.declared.record.Origin.{Origin}
 use Rattle.records.specs.declared.record.Plan as code
 use Rattle.device.specs.Devices.{Device, Pending as PendingPlan}
+use Rattle.device.specs.Sound.{IsSound}
 use Rattle.deploy_state.specs.Turning.{can_turn, front_bytes, start_of, starts_at}
 use Rattle.artifact_store.specs.declared.fault.SweepFault.{SweepFault}
 use Rattle.artifact_store.specs.declared.fault.SweepFault.TheVariants as sweep
 use Rattle.edges.specs.declared.source.ReadFault.{ReadFault}
 use Rattle.edges.specs.declared.source.ReadFault.TheVariants as reading
 use Rattle.step_runner.specs.declared.entries.RunnerEntry.{RunnerEntry}
-use Rattle.session.specs.Courses.{IsStart}
 use Rattle.session.specs.Happenings.{records_of}
 use Rattle.session.specs.Places.{Place}
+use Rattle.history_laws.specs.Stood.{IsHistory}
 use Rattle.intake.specs.declared.fault.Declined.{Declined}
 use Rattle.deployments.specs.Calls.{Call, Elsewhere, IsPendingAs, Spared}
 use Rattle.deployments.specs.Documents.{DrivesTaken, TakesRead}
 use Rattle.deployments.specs.Endings.{Resumes}
 use Rattle.nucleus_top.specs.Answers.{Expects, HasRisen, Input, IsReadUpTo, Printed, Prints, Shelf, Store, Told, damaged_line, none_line, pending_line}
-use Rattle.nucleus_top.specs.Crashes.{LeavesFronts, LeavesSame}
+use Rattle.nucleus_top.specs.Crashes.{KeepsSameWhole, KeepsWhole, LeavesFronts, LeavesSame}
 use Rattle.nucleus_top.specs.Inits.{IsRefusedAt}
+use Rattle.nucleus_top.specs.Lasting.{Lasts}
 use Rattle.nucleus_top.specs.Opening.{Stands, StandsForNone}
 use Rattle.nucleus_top.specs.Planning.{IsFound, IsPending}
 use Rattle.nucleus_top.specs.Refusing.{Refuses}
@@ -103,14 +104,15 @@ pub record IsUnread {D : Type 0} (old new : D) (input : Input) (printed : Printe
   pub same : new ≡ old
 
 module _ {D : Type 0} (seen : D → Image) (may_leave : D → Image → Type 0) (moment : D → ℕ) (left_since : D → ℕ → Image → Type 0) where
-  -- A call is refused before anything of a deployment begins, for this reason: the answer is told, and at most stray files are
-  -- swept. A crash leaves the device that there was.
+  -- A call is refused before anything of a deployment begins, for this reason: the answer is told, and at most files of
+  -- artifacts change. A crash leaves the device that there was.
   pub record IsTurnedAway (why_so : Answer → Type 0) (old new : D) (printed : Printed) (result : Status) : Type 0 where
     pub answer : Answer
     pub why : why_so answer
     pub told : Told printed result answer
     pub spared : Spared may_leave moment left_since old new
     pub images : LeavesSame may_leave moment left_since seen old new
+    pub whole : KeepsSameWhole may_leave moment left_since seen old new
 
 -- ---- `deploy`
 
@@ -135,20 +137,24 @@ pub record IsDocument (input : Input) (bytes : List ℕ) : Type 0 where
 
 module _ {D : Type 0} (may_leave : D → Image → Type 0) (moment : D → ℕ) (left_since : D → ℕ → Image → Type 0) (old new : D) (old_list new_list : Option (List RunnerEntry)) (printed : Printed) (result : Status) where
   -- Nothing is pending on this device. The document is taken in on it or not, by the checks in their order, and then from the start of the call one
-  -- deployment goes on by its plan, or the plan is given back for want of memory. A crash leaves what a front of the records
-  -- makes of the device: of those of the history, or of the one that takes the plan.
+  -- deployment goes on by its plan, or the plan is put off. A crash leaves what a front of the records makes of the device, with
+  -- all artifacts of that, where the images at the start had theirs.
   pub record IsDeployedOn (d : Device) (start : ℕ → ℕ) (library : Shelf) (bytes : List ℕ) : Type 0 where
     pub place : Place
-    pub begins : IsStart place
     pub serves : place.serves ≡ false
     pub device_is : place.device ≡ d
+    pub sound : IsSound d
     pub idle : d.pending ≡ None
     pub origin : Origin
     pub origin_is : d.origin ≡ Some origin
     pub taken : Result code.Plan Declined
     pub takes : TakesRead d origin library.content library.faults_before library.faults_after bytes taken
     pub call : DrivesTaken slots_entries slots_files may_leave moment left_since old new old_list new_list printed.before printed.after place result start taken
-    pub images : LeavesFronts may_leave moment left_since old new d (elim call [ inl c ↦ records_of c.0.history | inr given ↦ Accepted given.0.plan ∷ [] ])
+    pub history : IsHistory place call.0.history
+    pub images : LeavesFronts may_leave moment left_since old new d (records_of call.0.history)
+    pub whole : KeepsWhole may_leave moment left_since old new d (records_of call.0.history)
+    -- what was printed lasts
+    pub lasts : Lasts (may_leave new) call.0.prints.told
 
   -- so it is with the document of the source
   abbrev pub DeploysOn : Device → (ℕ → ℕ) → Input → Shelf → Type 0
@@ -161,15 +167,17 @@ module _ {D : Type 0} (may_leave : D → Image → Type 0) (moment : D → ℕ) 
   -- ---- `resume`
 
   -- From the start of a call with this device its pending deployment goes on, where it has one. A crash leaves what a front of
-  -- the records makes of the device.
+  -- the records makes of the device, with all artifacts of that, where the images at the start had theirs.
   pub record IsResumedOn (d : Device) : Type 0 where
     pub place : Place
-    pub begins : IsStart place
     pub serves : place.serves ≡ false
     pub device_is : place.device ≡ d
+    pub sound : IsSound d
     pub call : Call slots_entries slots_files may_leave moment left_since old new old_list new_list printed.before printed.after place result
     pub resumes : Resumes d call.ending
+    pub history : IsHistory place call.history
     pub images : LeavesFronts may_leave moment left_since old new d (records_of call.history)
+    pub whole : KeepsWhole may_leave moment left_since old new d (records_of call.history)
 
   -- so it is with the device for which the journal stands, where the disk tells it
   abbrev pub IsResumed : Store → Type 0

@@ -3,11 +3,13 @@ use Rattle.std.specs.Prelude.{◌≡◌, ◌⊎◌, ℕ, List, ◌∷◌, ◌++�
 use Rattle.std.specs.Map.{lookup}
 use Rattle.std.specs.Option.{IsSome, IsSomeAnd}
 use Rattle.std.specs.Str.{bytes_eq}
+use Rattle.disk_model.specs.Disk.{Image}
 use Rattle.nuc_base.specs.declared.kinds.Outcome.{Outcome}
 use Rattle.records.specs.Stored.{Plan, Record, Accepted}
 use Rattle.device.specs.After.{Course, course}
 use Rattle.device.specs.Devices.{Device}
 use Rattle.device.specs.Lawful.{Run}
+use Rattle.nucleus_top.specs.Opening.{Stands}
 
 -- a deployment of this id is accepted and not closed, or it is closed
 abbrev pub IsTaken : List ℕ → Course → Type 0
@@ -25,3 +27,7 @@ RunsLoseNothing = (d e : Device) (records : List Record) → Run d records e →
 -- and each plan that a run accepts is taken at its end
 abbrev pub RunsTake : Type 0
 RunsTake = (d e : Device) (before after : List Record) (plan : Plan) → Run d (before ++ Accepted plan ∷ after) e → IsTaken plan.id (course e)
+
+-- Of each plan whose acceptance is among these records, each of these images stands for a device that has it, pending or closed.
+abbrev pub Lasts : (Image → Type 0) → List Record → Type 0
+Lasts images told = (before after : List Record) (plan : Plan) → told ≡ before ++ Accepted plan ∷ after → (c : Image) → images c → (e : Device) × Stands c e × IsTaken plan.id (course e)

@@ -1,5 +1,6 @@
 -- What the journal of an image stands for.
 use Rattle.std.specs.Prelude.{◌≡◌, ℕ, List, Some, Result, Ok, Err, ⊤}
+use Rattle.std.specs.Option.{IsSome}
 use Rattle.disk_model.specs.Disk.{Image}
 use Rattle.checkpoint_log.specs.Slots.{slots_none, slots_entries, slots_damaged}
 use Rattle.records.specs.declared.record.Origin.{Origin}
@@ -27,6 +28,16 @@ StandsForNone = damage.StandsForNone slots_entries
 -- behind its entry
 abbrev pub IsDamage : Image → ℕ → Type 0
 IsDamage = damage.IsDamage slots_entries slots_damaged
+
+-- The journal has an entry, and stands for this device and for no other: it is not damaged.
+pub record IsFoundAs (image : Image) (d : Device) : Type 0 where
+  pub some : HasEntry image
+  pub one : (e : Device) → Stands image e → e ≡ d
+  pub whole : ¬ (StandsForNone image)
+
+-- so it is where it stands for a device with an origin
+abbrev pub AreFound : Type 0
+AreFound = (image : Image) (d : Device) → Stands image d → IsSome d.origin → IsFoundAs image d
 
 -- the journal has an entry, and stands for a device of this thing
 pub record IsInitialised (image : Image) (thing : List ℕ) : Type 0 where

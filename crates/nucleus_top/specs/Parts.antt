@@ -25,7 +25,7 @@ ComesOf Plan store input library = Plans store input library
 ComesOf Audit store input library = Audits store
 ComesOf _ store input library = λ answer. ⊥
 
--- Why an answer comes: by the command that the words ask, since they ask none that is built, or for want of memory.
+-- Why an answer comes, of words that drive no deployment: by the command that they ask, since they ask none, or for want of memory.
 abbrev pub Comes : List (List ℕ) → Store → Input → Shelf → Answer → Type 0
 Comes words store input library answer =
     ((order : Order) × Asks words order × ComesOf order store input library answer)
@@ -41,7 +41,7 @@ pub record IsSourceFault (store : Store) (input : Input) (library : Shelf) (prin
   pub sink_stays : printed.faults_after ≡ printed.faults_before
 
 pub record Parts (words : List (List ℕ)) (store : Store) (input : Input) (library : Shelf) (printed : Printed) (result : Status) : Type 0 where
-  -- 1 comes exactly where the words ask no command that is built.
+  -- 1 comes exactly where the words ask no command.
   pub usage : result ≡ status.Usage → AsksNothing words × IsUnchanged store × Prints printed usage_line
   pub usage_comes : AsksNothing words → Yields result status.Usage
   -- 5 comes exactly where the disk's count rose, unless the sink fails besides.

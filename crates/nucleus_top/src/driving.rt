@@ -1,5 +1,7 @@
 // The commands that drive a deployment: `deploy` and `resume`.
 ghost use Rattle.std.specs.Prelude.{◌≡◌, ◌≢◌, ◌⊎◌, ◌≤◌, [], IsTrue, IfOk, IfErr, IsErrOf};
+ghost use Rattle.artifact_store.specs.Holding.{AllHoldDevice, HoldsDevice};
+ghost use Rattle.disk_model.specs.Disk.{Leaves};
 ghost use Rattle.nuc_base.specs.Faults.{Rose};
 ghost use Rattle.nuc_base.specs.declared.status.Status.TheVariants as statuses;
 ghost use Rattle.checkpoint_log.specs.Slots.{slots_files, slots_stands};
@@ -9,7 +11,7 @@ ghost use Rattle.deployments.specs.Calls.{Elsewhere, Spared, Stays};
 ghost use Rattle.checkpoint_log.specs.declared.slots.Slots.{Slots as Journal};
 ghost use Rattle.deploy_state.specs.declared.state.Idle as idles;
 ghost use Rattle.nucleus_top.specs.Answers.{input_of, printed_of, shelf_of, store_of};
-ghost use Rattle.nucleus_top.specs.Crashes.{LeavesSame};
+ghost use Rattle.nucleus_top.specs.Crashes.{KeepsSameWhole, LeavesSame};
 ghost use Rattle.nucleus_top.specs.Opening.{HasEntry, Stands};
 ghost use Rattle.nucleus_top.specs.Drives.{DeploysOn, IsDeployed, IsDeployedOn, IsResumed, IsTurnedAway, IsUnread, IsUnswept, NamesPendingOf, StartsFrom, TellsSweep, TellsUnread, TurnsAway, Withholds, WithholdsIdle, slots_start};
 
@@ -41,6 +43,7 @@ fn unswept(fault: SweepFault) -> Answer
 fn swept<T: HasDevice + Drop, D: Disk>(alloc: Global, state: T, disk: &mut D) -> Result<T, Answer>
     ensures kept { IfOk result (λ s. s ≡ state) }
     ensures spared { Spared D.may_leave D.moment D.left_since disk.old disk.new }
+    ensures safe { AllHoldDevice (D.may_leave disk.old) (T.stands_for state) → Leaves D.moment D.left_since disk.old disk.new (λ c. HoldsDevice c (T.stands_for state)) }
     ensures others { IsTrue D.tells → Elsewhere slots_files (D.seen disk.old) (D.seen disk.new) }
     ensures disk { IsErrOf result Answer.DiskFailed → Rose (D.faults disk.old) (D.faults disk.new) }
     ensures quiet { ¬ (IsErrOf result Answer.DiskFailed) → D.faults disk.new ≡ D.faults disk.old }
@@ -59,6 +62,7 @@ fn open_swept<D: Disk>(alloc: Global, disk: &mut D) -> Result<Loaded<Slots>, Ans
     ensures start { IsTrue D.tells → IfOk result (λ s. (idle : idles.Idle Journal) → s ≡ Loaded.Idle idle → StartsFrom (D.seen disk.old) (idle_device idle) (slots_start (idle_log idle) (idle_device idle))) }
     ensures held { IfOk result (λ s. InLoaded D.tells D.may_leave slots_stands (λ log. log.live.end) s disk.new) }
     ensures images { LeavesSame D.may_leave D.moment D.left_since D.seen disk.old disk.new }
+    ensures whole { KeepsSameWhole D.may_leave D.moment D.left_since D.seen disk.old disk.new }
     ensures spared { Spared D.may_leave D.moment D.left_since disk.old disk.new }
     ensures others { IsTrue D.tells → Elsewhere slots_files (D.seen disk.old) (D.seen disk.new) }
     ensures disk { IsErrOf result Answer.DiskFailed → Rose (D.faults disk.old) (D.faults disk.new) }
@@ -103,6 +107,7 @@ fn open_idle<D: Disk>(alloc: Global, disk: &mut D) -> Result<Idle<Slots>, Answer
     ensures start { IsTrue D.tells → IfOk result (λ s. StartsFrom (D.seen disk.old) (idle_device s) (slots_start (idle_log s) (idle_device s))) }
     ensures held { IfOk result (λ s. InIdle D.tells D.may_leave slots_stands (λ log. log.live.end) s disk.new) }
     ensures images { LeavesSame D.may_leave D.moment D.left_since D.seen disk.old disk.new }
+    ensures whole { KeepsSameWhole D.may_leave D.moment D.left_since D.seen disk.old disk.new }
     ensures spared { Spared D.may_leave D.moment D.left_since disk.old disk.new }
     ensures others { IsTrue D.tells → Elsewhere slots_files (D.seen disk.old) (D.seen disk.new) }
     ensures disk { IsErrOf result Answer.DiskFailed → Rose (D.faults disk.old) (D.faults disk.new) }

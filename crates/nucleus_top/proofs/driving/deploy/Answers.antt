@@ -26,7 +26,7 @@ returns-in-Ok-clause-ran g c =
     (g.R.Runner.list c.args.runner.now) (g.R.Runner.list c.deploy_read.new.runner) printed c.deploy_read.result
     store input library d (slots_start c.in-Ok.idle.log d) (c.deploy_read.new.runner ≡ c.args.runner.now)
     c.in-Ok.ensures.opened c.in-Ok.ensures.held.1 c.in-Ok.ensures.start (λ told. (c.in-Ok.ensures.opened told).1)
-    c.open_idle.ensures.images c.deploy_read.ensures.ran
+    c.open_idle.ensures.images c.open_idle.ensures.whole c.deploy_read.ensures.ran
 
 pub returns-in-Ok-clause-none : goal.returns-in-Ok-clause-none
 returns-in-Ok-clause-none g c = c.deploy_read.ensures.none
@@ -73,6 +73,7 @@ returns-in-Err-clause-ran g c =
         told = c.tell.ensures.told;
         spared = c.open_idle.ensures.spared;
         images = c.open_idle.ensures.images;
+        whole = c.open_idle.ensures.whole;
       },
       refl {a = c.args.runner.now},
     )

@@ -2,11 +2,13 @@ use Rattle.std.proofs.Common.{refl, ap}
 use Rattle.deploy_state.specs.States.{idle_device}
 use Rattle.step_runner.specs.Entries.{Listed}
 use Rattle.supervisor.specs.World.{World}
-use Rattle.nucleus_top.specs.Drives.{slots_start}
-use Rattle.nucleus_top.proofs.Crashes.{taken_fronts}
+use Rattle.session.specs.Happenings.{records_of}
+use Rattle.nucleus_top.proofs.Crashes.{kept_fronts}
 use Rattle.nucleus_top.proofs.Driven.{begun, open_begun, slots_elsewhere}
 use Rattle.nucleus_top.proofs.Images.{held_stands}
+use Rattle.nucleus_top.proofs.Printed.{call_lasts}
 use Rattle.nucleus_top.proofs.Proposals.{some_of}
+use Rattle.nucleus_top.proofs.Whole.{held_whole}
 use Rattle.nucleus_top.proofs.driving.deploy_document.Goals as goal
 
 pub run_document-requires-clause-held : goal.run_document-requires-clause-held
@@ -21,29 +23,33 @@ run_document-requires-clause-empty g c = ap (λ (w : World). w.parts) c.new-supe
 pub run_document-requires-clause-placed : goal.run_document-requires-clause-placed
 run_document-requires-clause-placed g c =
     let told = Listed g.R.Runner.list g.R.Runner.told g.R.Runner.asked c.args.runner.now in
-    (begun (idle_device c.args.idle) told, open_begun (idle_device c.args.idle) c.new-supervisor.result told (g.R.Runner.living c.args.runner.now) c.new-supervisor.ensures c.requires.none, refl)
+    (begun (idle_device c.args.idle) told, open_begun (idle_device c.args.idle) c.new-supervisor.result told (g.R.Runner.living c.args.runner.now) c.new-supervisor.ensures c.requires.none c.requires.held.1, refl)
 
 pub returns-clause-driven : goal.returns-clause-driven
 returns-clause-driven g c =
     let told = Listed g.R.Runner.list g.R.Runner.told g.R.Runner.asked c.args.runner.now in
     let d = idle_device c.args.idle in
     let place = begun d told in
-    let run = c.run_document.ensures.call place (open_begun d c.new-supervisor.result told (g.R.Runner.living c.args.runner.now) c.new-supervisor.ensures c.requires.none) refl in
+    let run = c.run_document.ensures.call place (open_begun d c.new-supervisor.result told (g.R.Runner.living c.args.runner.now) c.new-supervisor.ensures c.requires.none c.requires.held.1) refl in
     let origin = some_of d.origin c.requires.held.0.origin in
     record {
       place = place;
-      begins = refl;
       serves = refl;
       device_is = refl;
+      sound = c.requires.held.0.sound;
       idle = c.requires.held.1;
       origin = origin.0;
       origin_is = origin.1;
       taken = run.0;
       takes = run.1 origin.0 origin.1;
       call = run.2;
-      images = taken_fronts g.met.D.Disk.laws (slots_elsewhere c.needed_files_stay.ensures.journals) c.args.disk.now c.run_document.new.disk
+      history = record { start = refl; proper = run.2.0.went.proper; run = run.2.0.went.run };
+      images = kept_fronts g.met.D.Disk.laws (slots_elsewhere c.needed_files_stay.ensures.journals) c.args.disk.now c.run_document.new.disk
           (g.R.Runner.list c.args.runner.now) (g.R.Runner.list c.run_document.new.runner) (g.K.Sink.held c.args.sink.now) (g.K.Sink.held c.run_document.new.sink) place c.run_document.result
-          (held_stands g.met.D.Disk.laws c.args.idle.log c.args.disk.now d c.requires.held.0) c.requires.held.1 (slots_start c.args.idle.log d) run.0 run.2;
+          (held_stands g.met.D.Disk.laws c.args.idle.log c.args.disk.now d c.requires.held.0) run.2.0;
+      whole = held_whole g.met.D.Disk.laws c.args.disk.now c.run_document.new.disk d (records_of run.2.0.history) (held_stands g.met.D.Disk.laws c.args.idle.log c.args.disk.now d c.requires.held.0) run.3;
+      lasts = call_lasts g.D.Disk.may_leave g.D.Disk.moment g.D.Disk.left_since c.args.disk.now c.run_document.new.disk
+          (g.R.Runner.list c.args.runner.now) (g.R.Runner.list c.run_document.new.runner) (g.K.Sink.held c.args.sink.now) (g.K.Sink.held c.run_document.new.sink) place c.run_document.result run.2.0;
     }
 
 pub returns-clause-none : goal.returns-clause-none

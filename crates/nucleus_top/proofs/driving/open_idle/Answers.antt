@@ -30,6 +30,9 @@ returns-in-Ok-clause-held g c =
 pub returns-in-Ok-clause-images : goal.returns-in-Ok-clause-images
 returns-in-Ok-clause-images g c = c.open_swept.ensures.images
 
+pub returns-in-Ok-clause-whole : goal.returns-in-Ok-clause-whole
+returns-in-Ok-clause-whole g c = c.open_swept.ensures.whole
+
 pub returns-in-Ok-clause-spared : goal.returns-in-Ok-clause-spared
 returns-in-Ok-clause-spared g c = c.open_swept.ensures.spared
 
@@ -49,6 +52,9 @@ returns-in-Ok-clause-answers g c =
 
 pub returns-in-Err-clause-images : goal.returns-in-Err-clause-images
 returns-in-Err-clause-images g c = c.open_swept.ensures.images
+
+pub returns-in-Err-clause-whole : goal.returns-in-Err-clause-whole
+returns-in-Err-clause-whole g c = c.open_swept.ensures.whole
 
 pub returns-in-Err-clause-spared : goal.returns-in-Err-clause-spared
 returns-in-Err-clause-spared g c = c.open_swept.ensures.spared

@@ -15,6 +15,7 @@ use Rattle.nucleus_top.specs.Opening.{HasEntry, Stands}
 use Rattle.nucleus_top.proofs.Crashes.{opened_same, same_left}
 use Rattle.nucleus_top.proofs.Driven.{disk_of, kept_ok, loaded_stays, refused_withholds, same_spared, slots_elsewhere, starts_from, then_spared, unswept_withholds}
 use Rattle.nucleus_top.proofs.Faults.{other_fault, refuses}
+use Rattle.nucleus_top.proofs.Whole.{opened_whole, same_kept}
 use Rattle.nucleus_top.proofs.driving.open_swept.Goals as goal
 
 pub returns-in-Ok-clause-opened : goal.returns-in-Ok-clause-opened
@@ -40,6 +41,11 @@ returns-in-Ok-clause-images g c =
     opened_same g.met.D.Disk.laws (slots_elsewhere c.needed_files_stay.ensures.journals) c.args.disk.now c.open.new.disk c.swept.new.disk c.in-Ok.state
     c.open.ensures.moments (λ told. (c.in-Ok.ensures.told told).1) c.in-Ok.ensures.held c.swept.ensures.spared
 
+pub returns-in-Ok-clause-whole : goal.returns-in-Ok-clause-whole
+returns-in-Ok-clause-whole g c =
+    opened_whole g.met.D.Disk.laws (slots_elsewhere c.needed_files_stay.ensures.journals) c.args.disk.now c.open.new.disk c.swept.new.disk c.in-Ok.state
+    c.open.ensures.moments (λ told. (c.in-Ok.ensures.told told).1) c.in-Ok.ensures.held c.swept.ensures.spared c.swept.ensures.safe
+
 pub returns-in-Ok-clause-spared : goal.returns-in-Ok-clause-spared
 returns-in-Ok-clause-spared g c =
     then_spared g.met.D.Disk.laws c.args.disk.now c.open.new.disk c.swept.new.disk (same_spared g.met.D.Disk.laws c.args.disk.now c.open.new.disk c.open.ensures.moments) c.swept.ensures.spared
@@ -56,6 +62,9 @@ returns-in-Ok-clause-quiet g c = λ other. c.swept.ensures.quiet other ∙ c.in-
 
 pub returns-in-Err-clause-images : goal.returns-in-Err-clause-images
 returns-in-Err-clause-images g c = same_left g.met.D.Disk.laws c.args.disk.now c.open.new.disk c.open.ensures.moments
+
+pub returns-in-Err-clause-whole : goal.returns-in-Err-clause-whole
+returns-in-Err-clause-whole g c = same_kept g.met.D.Disk.laws c.args.disk.now c.open.new.disk c.open.ensures.moments
 
 pub returns-in-Err-clause-spared : goal.returns-in-Err-clause-spared
 returns-in-Err-clause-spared g c = same_spared g.met.D.Disk.laws c.args.disk.now c.open.new.disk c.open.ensures.moments

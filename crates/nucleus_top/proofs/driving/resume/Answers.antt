@@ -4,9 +4,11 @@ use Rattle.nuc_base.specs.Faults.{Rose}
 use Rattle.deploy_state.specs.States.{loaded_device}
 use Rattle.step_runner.specs.Entries.{Listed}
 use Rattle.supervisor.specs.World.{World}
+use Rattle.session.specs.Happenings.{records_of}
 use Rattle.nucleus_top.specs.Answers.{Printed, printed_of, store_of}
-use Rattle.nucleus_top.proofs.Crashes.{kept_fronts, loaded_stands, same_fronts}
+use Rattle.nucleus_top.proofs.Crashes.{kept_fronts, loaded_sound, loaded_stands, same_fronts}
 use Rattle.nucleus_top.proofs.Driven.{begun, front_begun, resumed_on, slots_elsewhere, stays, stays_on, tells, withheld_first}
+use Rattle.nucleus_top.proofs.Whole.{held_whole}
 use Rattle.nucleus_top.proofs.driving.resume.Goals as goal
 
 -- ---- the device is there
@@ -31,23 +33,26 @@ returns-in-Ok-clause-ran g c =
     let told = Listed g.R.Runner.list g.R.Runner.told g.R.Runner.asked c.args.runner.now in
     let d = loaded_device c.in-Ok.state in
     let printed : Printed = printed_of g.K.Sink.held g.K.Sink.faults c.args.sink.now c.resume.new.sink in
-    let call = c.resume.ensures.call (begun d told) (front_begun d c.new-supervisor.result told (g.R.Runner.living c.args.runner.now) c.new-supervisor.ensures c.requires.none) refl in
+    let call = c.resume.ensures.call (begun d told) (front_begun d c.new-supervisor.result told (g.R.Runner.living c.args.runner.now) c.new-supervisor.ensures c.requires.none) refl refl in
     inr (
       d,
       c.in-Ok.ensures.opened,
       resumed_on g.met.D.Disk.laws c.args.disk.now c.open_swept.new.disk c.resume.new.disk c.open_swept.ensures.spared
           (g.R.Runner.list c.args.runner.now) (g.R.Runner.list c.resume.new.runner) printed c.resume.result d
           (same_fronts g.met.D.Disk.laws c.args.disk.now c.open_swept.new.disk d (λ tells. (c.in-Ok.ensures.opened tells).1) c.open_swept.ensures.images)
+          (λ tells. (c.in-Ok.ensures.opened tells).1) c.open_swept.ensures.whole
           (record {
             place = begun d told;
-            begins = refl;
             serves = refl;
             device_is = refl;
+            sound = loaded_sound g.met.D.Disk.laws c.in-Ok.state c.open_swept.new.disk c.in-Ok.ensures.held;
             call = call.0;
             resumes = call.1;
+            history = record { start = refl; proper = call.0.went.proper; run = call.0.went.run };
             images = kept_fronts g.met.D.Disk.laws (slots_elsewhere c.needed_files_stay.ensures.journals) c.open_swept.new.disk c.resume.new.disk
                 (g.R.Runner.list c.args.runner.now) (g.R.Runner.list c.resume.new.runner) (g.K.Sink.held c.args.sink.now) (g.K.Sink.held c.resume.new.sink) (begun d told) c.resume.result
                 (loaded_stands g.met.D.Disk.laws c.in-Ok.state c.open_swept.new.disk c.in-Ok.ensures.held) call.0;
+            whole = held_whole g.met.D.Disk.laws c.open_swept.new.disk c.resume.new.disk d (records_of call.0.history) (loaded_stands g.met.D.Disk.laws c.in-Ok.state c.open_swept.new.disk c.in-Ok.ensures.held) call.2;
           }),
     )
 
@@ -88,6 +93,7 @@ returns-in-Err-clause-ran g c =
         told = c.tell.ensures.told;
         spared = c.open_swept.ensures.spared;
         images = c.open_swept.ensures.images;
+        whole = c.open_swept.ensures.whole;
       },
       refl {a = c.args.runner.now},
     )

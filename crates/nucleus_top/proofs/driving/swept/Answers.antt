@@ -1,7 +1,9 @@
-use Rattle.std.proofs.Common.{refl, ap}
+use Rattle.std.proofs.Common.{refl, ap, subst}
 use Rattle.std.specs.Prelude.{Err}
+use Rattle.disk_model.specs.Disk.{Leaves}
 use Rattle.disk_model.specs.Listing.{artifacts, IsBelow}
-use Rattle.device.specs.Devices.{device_view}
+use Rattle.device.specs.Devices.{Device, device_view}
+use Rattle.artifact_store.specs.Holding.{AllHoldDevice, HoldsDevice}
 use Rattle.artifact_store.specs.Swept.{items_of, IsStray}
 use Rattle.artifact_store.proofs.Walking.{wider_spares}
 use Rattle.nucleus_top.proofs.Driven.{disk_swept, swept_disk, swept_unswept}
@@ -10,6 +12,10 @@ use Rattle.nucleus_top.proofs.driving.swept.Goals as goal
 pub returns-in-Ok-clause-spared : goal.returns-in-Ok-clause-spared
 returns-in-Ok-clause-spared g c =
     wider_spares g.met.D.Disk.laws (IsStray (items_of (device_view c.stored.result.now))) (IsBelow artifacts) c.args.disk.now c.sweep.new.disk (λ name is. is.0) c.sweep.ensures.moments
+
+pub returns-in-Ok-clause-safe : goal.returns-in-Ok-clause-safe
+returns-in-Ok-clause-safe g c =
+    subst (λ (d : Device). AllHoldDevice (g.D.Disk.may_leave c.args.disk.now) d → Leaves g.D.Disk.moment g.D.Disk.left_since c.args.disk.now c.sweep.new.disk (λ i. HoldsDevice i d)) c.stored.ensures c.sweep.ensures.safe
 
 pub returns-in-Ok-clause-others : goal.returns-in-Ok-clause-others
 returns-in-Ok-clause-others g c = λ told name apart outside. c.sweep.ensures.others told name (λ is. outside is.0)
@@ -20,6 +26,10 @@ returns-in-Ok-clause-quiet g c = λ other. c.in-Ok.ensures.quiet (λ is. cc)
 pub returns-in-Err-clause-spared : goal.returns-in-Err-clause-spared
 returns-in-Err-clause-spared g c =
     wider_spares g.met.D.Disk.laws (IsStray (items_of (device_view c.stored.result.now))) (IsBelow artifacts) c.args.disk.now c.sweep.new.disk (λ name is. is.0) c.sweep.ensures.moments
+
+pub returns-in-Err-clause-safe : goal.returns-in-Err-clause-safe
+returns-in-Err-clause-safe g c =
+    subst (λ (d : Device). AllHoldDevice (g.D.Disk.may_leave c.args.disk.now) d → Leaves g.D.Disk.moment g.D.Disk.left_since c.args.disk.now c.sweep.new.disk (λ i. HoldsDevice i d)) c.stored.ensures c.sweep.ensures.safe
 
 pub returns-in-Err-clause-others : goal.returns-in-Err-clause-others
 returns-in-Err-clause-others g c = λ told name apart outside. c.sweep.ensures.others told name (λ is. outside is.0)

@@ -1,3 +1,4 @@
+use Rattle.nucleus_top.proofs.Origins.{are_found}
 use Rattle.nucleus_top.proofs.Series.{calls_reach, inits_begin, none_met, others_go_on}
 use Rattle.nucleus_top.proofs.laws.calls_run_on.Goals as goal
 
@@ -12,3 +13,6 @@ returns-clause-others c = others_go_on
 
 pub returns-clause-reached : goal.returns-clause-reached
 returns-clause-reached c = calls_reach
+
+pub returns-clause-found : goal.returns-clause-found
+returns-clause-found c = are_found

@@ -11,6 +11,7 @@ use Rattle.nucleus_top.proofs.DriveEnds.{deployed_is_on, pending_parts, refused_
 use Rattle.nucleus_top.proofs.Driven.{no_quiet, not_both, start_spared, stays, unread_drives, unread_parts}
 use Rattle.nucleus_top.proofs.Images.{by_none}
 use Rattle.disk_model.specs.Moments.{at_start}
+use Rattle.nucleus_top.proofs.Whole.{same_kept}
 use Rattle.nucleus_top.proofs.top.nucleus.Goals as goal
 
 -- ---- want of memory
@@ -41,6 +42,7 @@ returns-in-NoMemory-clause-deploys g c = λ root asks. inl (
     told = inl (refl, Appends-nil (g.K.Sink.held c.args.sink.now), refl);
     spared = start_spared g.met.D.Disk.laws c.args.disk.now;
     images = same_left g.met.D.Disk.laws c.args.disk.now c.args.disk.now (at_start g.met.D.Disk.laws c.args.disk.now);
+    whole = same_kept g.met.D.Disk.laws c.args.disk.now c.args.disk.now (at_start g.met.D.Disk.laws c.args.disk.now);
   },
   refl {a = c.args.runner.now},
 )
@@ -53,6 +55,7 @@ returns-in-NoMemory-clause-resumes g c = λ root asks. inl (
     told = inl (refl, Appends-nil (g.K.Sink.held c.args.sink.now), refl);
     spared = start_spared g.met.D.Disk.laws c.args.disk.now;
     images = same_left g.met.D.Disk.laws c.args.disk.now c.args.disk.now (at_start g.met.D.Disk.laws c.args.disk.now);
+    whole = same_kept g.met.D.Disk.laws c.args.disk.now c.args.disk.now (at_start g.met.D.Disk.laws c.args.disk.now);
   },
   refl {a = c.args.runner.now},
 )
