@@ -54,7 +54,7 @@ use Rattle.deploying.specs.Driven.{Course, DrivenLeft, InDriven, driven_device}
 use Rattle.deploying.specs.declared.driven.Driven.{Driven}
 use Rattle.deploying.specs.declared.driven.Driven.TheVariants as driven
 use Rattle.deploying.proofs.Joining.{Holds, went_acting}
-use Rattle.deployments.specs.Calls.{AllHoldBoth, AnswersFor, AnswersOver, Call, Ends, EndsClosed, EndsFor, IsOrEdge, IsPendingAs, Prints, SaysEnding, SaysLine, SaysRefusal, Spared, StandsBehind, StandsWhole, opening_line}
+use Rattle.deployments.specs.Calls.{AllHoldBoth, AnswersFor, AnswersOver, Call, Ends, EndsClosed, EndsFor, IsOrEdge, IsPendingAs, Prints, SaysEnding, SaysLine, SaysRefusal, Spared, StandsBehind, StandsWhole, Stops, StopsFor, opening_line}
 use Rattle.deployments.specs.Declines.{line_of_declined, status_of_declined}
 use Rattle.deployments.specs.Documents.{Begins, DrivesPlan, DrivesTaken, FitsFrom, Follows, KeepsArtifacts}
 use Rattle.deployments.specs.Endings.{Ending, Closes, Restarts, Reboots, Fails, Breaks, Forgets, Starves, Declines, Full, Idle, IsBegun, line_of_ending, status_of_ending}
@@ -125,6 +125,18 @@ begun_fed ending begun is = subst IsBegun is begun
 pub over_ends : (e : Over) (h : List Happening) (q : Place) → Ends (ending_over e) h q
 over_ends over.Disk h q = tt
 over_ends over.Edge h q = tt
+
+pub over_stops : (e : Over) (q : Place) → Stops (ending_over e) q
+over_stops over.Disk q = tt
+over_stops over.Edge q = tt
+
+pub driven_stops : {J : Type 0} (x : Driven J) (ending : Ending) (status : Status) (q : Place) → EndsFor {J = J} (Ok x) ending → StopsFor x status q → status ≡ status_of_ending ending → Stops ending q
+driven_stops (driven.Closed s o) ending status q (inl is) stops same = subst (λ (e : Ending). Stops e q) (sym is) (stops (same ∙ ap status_of_ending is))
+driven_stops (driven.Closed s o) ending status q (inr (inl is)) stops same = subst (λ (e : Ending). Stops e q) (sym is) tt
+driven_stops (driven.Closed s o) ending status q (inr (inr is)) stops same = subst (λ (e : Ending). Stops e q) (sym is) tt
+driven_stops (driven.Restart s) ending status q is stops same = subst (λ (e : Ending). Stops e q) (sym is) stops
+driven_stops (driven.Reboot s) ending status q is stops same = subst (λ (e : Ending). Stops e q) (sym is) stops
+driven_stops (driven.More s) ending status q is stops same = subst (λ (e : Ending). Stops e q) (sym is) tt
 
 pub over_answers : (e : Over) (status : Status) → AnswersOver e status → IsOrEdge status (status_of_ending (ending_over e))
 over_answers over.Disk status answers = answers
@@ -268,7 +280,7 @@ module _ {D J : Type 0} {tells : Bool} {seen : D → Image} {may_leave : D → I
     pub called : (old to new : D) (a b c : Option (List RunnerEntry)) (u v w x : Option (List ℕ)) (p : Place) (r : Result (Driven J) Over) (status : Status)
         → Appends u v (opening_line p.device) → (course : Course entries files may_leave moment left_since old to a b v w p r (λ y h q. DrivenLeft y h q world told living)) → p.serves ≡ false
         → IfOk r (λ y. InDriven tells may_leave stands end y to)
-        → IfOk r (λ y. (q : Place) → (h : List Happening) → DrivenLeft y h q world told living → q.serves ≡ false → (k : List Happening) × Acts q k b c × IsBare (left_by q k))
+        → IfOk r (λ y. (q : Place) → (h : List Happening) → DrivenLeft y h q world told living → q.serves ≡ false → (k : List Happening) × Acts q k b c × IsBare (left_by q k) × StopsFor y status (left_by q k))
         → OnErr r (c ≡ b) → Spared may_leave moment left_since to new → IfOk r (λ y. AllHoldDevice (may_leave to) (driven_device y) → Leaves moment left_since to new (λ i. HoldsDevice i (driven_device y))) → OnErr r (new ≡ to) → SaysEnding w x status (EndsFor r) → (IsErrOf r over.Edge → x ≡ w) → AnswersFor r status
         → CallFor entries files may_leave moment left_since old new a c u x p status (records_of course.history)
     called old to new a b c u v w x p (Ok y) status started course serves held ends still after safe unswept says silent answers =
@@ -298,6 +310,7 @@ module _ {D J : Type 0} {tells : Bool} {seen : D → Image} {may_leave : D → I
             answers = says.3;
             prints = all_prints (StandsBehind entries may_leave new p (k ++ h)) u v w x p.device records ending status behind (begun_fed ending begun) started (subst (λ (l : List Record). Appends v w (lines_of p.device l)) (sym same) course.lines) says.2;
             ends = driven_ends h k p.device q (left_by p (k ++ h)) e.1.none device went.run world told living y ending course.left says.1;
+            stops = driven_stops y ending status (left_by p (k ++ h)) says.1 (subst (StopsFor y status) (sym (left-append p k h)) e.3);
             stands = most_of entries may_leave new p (k ++ h) went.run behind;
             once = takes_once p (k ++ h) serves went.proper;
           },
@@ -328,6 +341,7 @@ module _ {D J : Type 0} {tells : Bool} {seen : D → Image} {may_leave : D → I
                 (λ edge. subst (λ (z : D). StandsBehind entries may_leave z p course.history) (sym unswept) (edge_behind entries may_leave e to p course.history edge course.left))
                 started course.lines (subst (λ (f : Ending). SaysLine w x status (line_of_ending f)) is says.2) (λ edge. silent (ap Err edge)) answers;
             ends = over_ends e course.history (left_by p course.history);
+            stops = λ same. over_stops e (left_by p course.history);
             stands = subst (λ (z : D). (i : Image) → may_leave z i → StandsForMost entries p.device (records_of course.history) i) (sym unswept) (over_most entries may_leave e to p course.history course.went.run course.left);
             once = takes_once p course.history serves course.went.proper;
           },
@@ -349,9 +363,9 @@ module _ {D : Type 0} (entries : Image → List (List ℕ) → Type 0) (files : 
 
   -- files may be taken in
   abbrev pub nothing_called : (old new : D) (l : Option (List RunnerEntry)) (u v : Option (List ℕ)) (p : Place) (ending : Ending) (status : Status) → Spared may_leave moment left_since old new → ((c : Image) → may_leave new c → StandsFor entries c p.device)
-      → IsBare p → IsOrEdge status (status_of_ending ending) → Prints u v p.device [] ending status (StandsBehind entries may_leave new p []) → Ends ending [] p
+      → IsBare p → IsOrEdge status (status_of_ending ending) → Prints u v p.device [] ending status (StandsBehind entries may_leave new p []) → Ends ending [] p → Stops ending p
       → Call entries files may_leave moment left_since old new l l u v p status
-  nothing_called old new l u v p ending status before stands bare answers prints ends = record {
+  nothing_called old new l u v p ending status before stands bare answers prints ends stops = record {
     from = new;
     to = new;
     before = before;
@@ -363,6 +377,7 @@ module _ {D : Type 0} (entries : Image → List (List ℕ) → Type 0) (files : 
     answers = answers;
     prints = prints;
     ends = ends;
+    stops = λ same. stops;
     stands = most_of entries may_leave new p [] refl stands;
     once = tt;
   }
@@ -373,14 +388,14 @@ module _ {D : Type 0} (entries : Image → List (List ℕ) → Type 0) (files : 
       → (t : DrivesTaken entries files may_leave moment left_since old new l l u v p status start (Err declined)) × (records_of t.0.history ≡ [])
   declined_called start old new l u v p declined status before stands bare none (inl said) = (
     (
-      nothing_called old new l u v p (Declines declined) status before stands bare said.1 (said_prints (StandsBehind entries may_leave new p []) u v p.device (Declines declined) status stands (λ is. cc) none said.0) refl,
+      nothing_called old new l u v p (Declines declined) status before stands bare said.1 (said_prints (StandsBehind entries may_leave new p []) u v p.device (Declines declined) status stands (λ is. cc) none said.0) refl tt,
       (inl refl, refl),
     ),
     refl,
   )
   declined_called start old new l u v p declined status before stands bare none (inr short) = (
     (
-      nothing_called old new l u v p Starves status before stands bare (inl short.0) (starved_prints (StandsBehind entries may_leave new p []) u v p.device status stands short.1) refl,
+      nothing_called old new l u v p Starves status before stands bare (inl short.0) (starved_prints (StandsBehind entries may_leave new p []) u v p.device status stands short.1) refl tt,
       (inr refl, refl),
     ),
     refl,
@@ -405,6 +420,7 @@ module _ {D : Type 0} (entries : Image → List (List ℕ) → Type 0) (files : 
         answers = inl refl;
         prints = starved_prints (StandsBehind entries may_leave new p []) u v p.device statuses.Memory stands silent;
         ends = refl;
+        stops = λ same. tt;
         stands = most_of entries may_leave new p [] refl stands;
         once = tt;
       },
@@ -450,6 +466,7 @@ module _ {D : Type 0} (entries : Image → List (List ℕ) → Type 0) (files : 
               prints = over_prints (StandsBehind entries may_leave new p on) e u u v w p.device one status (λ edge. edge_behind entries may_leave e new p on edge behind) (opening_none u p.device (ap (λ (x : Device). x.pending) opens.stands.device_is ∙ none))
                   (subst (λ (l : List Record). LinesAt u v p.device l e) records lines) says silent answers;
               ends = over_ends e on (left_by p on);
+              stops = λ same. over_stops e (left_by p on);
               stands = over_most entries may_leave e new p on went.run behind;
               once = takes_once p on serves went.proper;
             },
@@ -481,6 +498,7 @@ module _ {D : Type 0} (entries : Image → List (List ℕ) → Type 0) (files : 
     answers = c.answers;
     prints = c.prints;
     ends = c.ends;
+    stops = c.stops;
     stands = c.stands;
     once = c.once;
   }

@@ -57,6 +57,10 @@ of_outcome outcome.UnableToRollback = refl
 pub no_outcome : (o : Outcome) (s : Status) → closes s ≡ false → status_of_outcome o ≡ s → ⊥
 no_outcome o s never is = true≢false (sym (of_outcome o) ∙ ap closes is ∙ never)
 
+pub no_close : (o : Outcome) (status s : Status) → closes s ≡ false → IsOrEdge status s → status ≡ status_of_outcome o → ⊥
+no_close o status s never (inl given) is = no_outcome o s never (sym is ∙ given)
+no_close o status s never (inr edge) is = no_outcome o statuses.Edge refl (sym is ∙ edge)
+
 abbrev outcome_of : Status → Outcome
 outcome_of statuses.RolledBack = outcome.RollbackComplete
 outcome_of statuses.NotRequested = outcome.RollbackNotRequested
@@ -76,6 +80,15 @@ same_outcome a b is = sym (back_again a) ∙ ap outcome_of is ∙ back_again b
 -- the status of a close that all components were stopped behind, or want of memory
 abbrev pub StopsAs : Outcome → Status → Type 0 → Type 0
 StopsAs o status X = (status ≡ status_of_outcome o) ⊎ ((status ≡ statuses.Memory) × X)
+
+-- with what holds behind the former
+pub stops_as : {X Y : Type 0} (o : Outcome) (status : Status) → ((status ≡ status_of_outcome o) × Y) ⊎ ((status ≡ statuses.Memory) × X) → StopsAs o status X
+stops_as o status (inl both) = inl both.0
+stops_as o status (inr more) = inr more
+
+pub stops_where : {X Y : Type 0} (o : Outcome) (status : Status) → ((status ≡ status_of_outcome o) × Y) ⊎ ((status ≡ statuses.Memory) × X) → status ≡ status_of_outcome o → Y
+stops_where o status (inl both) is = both.1
+stops_where o status (inr more) is = absurd (no_outcome o statuses.Memory refl (sym is ∙ more.0))
 
 pub stops_answer : {X : Type 0} (o : Outcome) (status : Status) → StopsAs o status X → (status ≡ status_of_outcome o) ⊎ (status ≡ statuses.Memory) ⊎ (status ≡ statuses.Disk) ⊎ (status ≡ statuses.Edge)
 stops_answer o status (inl is) = inl is

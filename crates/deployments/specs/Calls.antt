@@ -1,5 +1,5 @@
 -- One deployment in one call: what happens, what is printed, and how the call ends.
-use Rattle.std.specs.Prelude.{◌≡◌, ◌≢◌, ◌⊎◌, ◌≤◌, ◌-◌, ◌^◌, min, ℕ, List, [], ◌++◌, length, Option, Some, None, Result, Ok, Err, ⊤, codes}
+use Rattle.std.specs.Prelude.{◌≡◌, ◌≢◌, ◌⊎◌, ◌≤◌, ◌-◌, ◌^◌, min, ℕ, true, false, List, [], ◌++◌, length, Option, Some, None, Result, Ok, Err, ⊤, codes}
 use Rattle.std.specs.Option.{IsSomeAnd}
 use Rattle.std.specs.Io.KnownBytes.{Appends}
 use Rattle.artifact_store.specs.Holding.{HoldsDevice, HoldsItems}
@@ -16,6 +16,7 @@ use Rattle.device.specs.Devices.{Device}
 use Rattle.device.specs.Standing.{StandsFor}
 use Rattle.deploy_state.specs.States.{loaded_device}
 use Rattle.step_runner.specs.declared.entries.RunnerEntry.{RunnerEntry}
+use Rattle.supervisor.specs.World.{is_stopped}
 use Rattle.session.specs.Courses.{IsBare}
 use Rattle.session.specs.Happenings.{Happening, records_of}
 use Rattle.session.specs.Once.{TakesOnce}
@@ -101,6 +102,26 @@ Ends (Declines d) h q = h ≡ []
 Ends (Full at) h q = h ≡ []
 Ends Idle h q = (h ≡ []) × (q.device.pending ≡ None)
 
+-- All components are stopped, none was killed for the end of the call, and no end of a bootstrap is still to be recorded.
+pub record AreStopped (q : Place) : Type 0 where
+  pub stopped : is_stopped q.world ≡ true
+  pub cut : q.cut ≡ false
+  pub recorded : q.boot_end ≡ None
+
+-- So it is where the call closes its deployment, or ends for the restart or the reboot that a bootstrap asks for.
+abbrev pub Stops : Ending → Place → Type 0
+Stops (Closes o) q = AreStopped q
+Stops (Restarts id) q = AreStopped q × (q.over ≡ true)
+Stops (Reboots id) q = AreStopped q × (q.over ≡ true)
+Stops _ q = ⊤
+
+-- so it is where a deployment was driven so and the call ends with this status
+abbrev pub StopsFor : {J : Type 0} → Driven J → Status → Place → Type 0
+StopsFor (driven.Closed s o) status q = status ≡ status_of_outcome o → AreStopped q
+StopsFor (driven.Restart s) status q = AreStopped q × (q.over ≡ true)
+StopsFor (driven.Reboot s) status q = AreStopped q × (q.over ≡ true)
+StopsFor (driven.More s) status q = ⊤
+
 module _ (entries : Image → List (List ℕ) → Type 0) {D : Type 0} (may_leave : D → Image → Type 0) where
   -- each image that a crash may leave now stands for the device that the history leaves
   abbrev pub StandsBehind : D → Place → List Happening → Type 0
@@ -139,6 +160,7 @@ module _ (entries : Image → List (List ℕ) → Type 0) (files : List ℕ → 
     pub answers : IsOrEdge status (status_of_ending ending)
     pub prints : Prints old_held new_held p.device (records_of history) ending status (StandsBehind entries may_leave new p history)
     pub ends : Ends ending history (left_by p history)
+    pub stops : status ≡ status_of_ending ending → Stops ending (left_by p history)
     pub stands : (c : Image) → may_leave new c → StandsForMost entries p.device (records_of history) c
     pub once : TakesOnce p.taken (records_of history)
 

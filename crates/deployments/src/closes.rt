@@ -18,7 +18,7 @@ ghost use Rattle.activation.specs.Ended.{HasClosed};
 ghost use Rattle.activation.specs.Turns.{moments_in, most_turns};
 ghost use Rattle.stopping.specs.Stops.{MayStop};
 ghost use Rattle.refusal_lines.specs.Statuses.{status_of_outcome};
-ghost use Rattle.deployments.specs.Calls.{EndsClosed, SaysEnding, Spared};
+ghost use Rattle.deployments.specs.Calls.{AreStopped, EndsClosed, SaysEnding, Spared};
 
 use crate::lines::say_disk;
 use artifact_store::{SweepFault, sweep};
@@ -38,7 +38,7 @@ use supervisor::Supervise;
 fn stop<R: Runner, S: Supervise>(outcome: Outcome, runner: &mut R, supervisor: &mut S) -> Status
     requires placed { (p : Place) × (d : Device) × MayStop p d (S.world supervisor.old) (Listed R.list R.told R.asked runner.old) (R.living runner.old) }
     ensures went { (p : Place) → (d : Device) → MayStop p d (S.world supervisor.old) (Listed R.list R.told R.asked runner.old) (R.living runner.old) →
-        (h : List Happening) × Acts p h (R.list runner.old) (R.list runner.new) × IsBare (left_by p h) × ((result ≡ status_of_outcome outcome) ⊎ ((result ≡ statuses.Memory) × (most_turns ≤ moments_in h))) }
+        (h : List Happening) × Acts p h (R.list runner.old) (R.list runner.new) × IsBare (left_by p h) × (((result ≡ status_of_outcome outcome) × AreStopped (left_by p h)) ⊎ ((result ≡ statuses.Memory) × (most_turns ≤ moments_in h))) }
     ensures none { R.living runner.new ≡ [] }
 {
     match stop_all_components(runner, supervisor) {
@@ -63,7 +63,7 @@ pub(crate) fn end_closed<D: Disk, J: Journal + Drop, K: Sink, R: Runner, S: Supe
 ) -> Status
     requires placed { (p : Place) × (records : List Record) × HasClosed outcome records p (idle_device idle.now) (S.world supervisor.old) (Listed R.list R.told R.asked runner.old) (R.living runner.old) × (p.serves ≡ false) }
     ensures went { (p : Place) → (records : List Record) → HasClosed outcome records p (idle_device idle.now) (S.world supervisor.old) (Listed R.list R.told R.asked runner.old) (R.living runner.old) → (p.serves ≡ false) →
-        (h : List Happening) × Acts p h (R.list runner.old) (R.list runner.new) × IsBare (left_by p h) }
+        (h : List Happening) × Acts p h (R.list runner.old) (R.list runner.new) × IsBare (left_by p h) × (result ≡ status_of_outcome outcome → AreStopped (left_by p h)) }
     ensures none { R.living runner.new ≡ [] }
     ensures spared { Spared D.may_leave D.moment D.left_since disk.old disk.new }
     // The device has its artifacts at each moment.

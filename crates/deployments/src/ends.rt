@@ -14,7 +14,7 @@ ghost use Rattle.deploy_state.specs.States.{loaded_device};
 ghost use Rattle.driver.specs.Lines.{id_of};
 ghost use Rattle.driver.specs.Went.{Acts};
 ghost use Rattle.deploying.specs.Driven.{DrivenLeft, driven_device};
-ghost use Rattle.deployments.specs.Calls.{AnswersFor, EndsFor, IsOrEdge, SaysEnding, SaysLine, Spared};
+ghost use Rattle.deployments.specs.Calls.{AnswersFor, EndsFor, IsOrEdge, SaysEnding, SaysLine, Spared, StopsFor};
 
 use crate::closes::end_closed;
 use crate::lines::{pending_id, say, say_disk};
@@ -58,7 +58,7 @@ pub(crate) fn end_call<D: Disk, J: Journal + Drop, K: Sink, R: Runner, S: Superv
     requires placed { IfOk driven (λ x. (p : Place) × (h : List Happening) × DrivenLeft x h p (S.world supervisor.old) (Listed R.list R.told R.asked runner.old) (R.living runner.old) × (p.serves ≡ false)) }
     requires none { OnErr driven (R.living runner.old ≡ []) }
     ensures went { IfOk driven (λ x. (p : Place) → (h : List Happening) → DrivenLeft x h p (S.world supervisor.old) (Listed R.list R.told R.asked runner.old) (R.living runner.old) → (p.serves ≡ false) →
-        (k : List Happening) × Acts p k (R.list runner.old) (R.list runner.new) × IsBare (left_by p k)) }
+        (k : List Happening) × Acts p k (R.list runner.old) (R.list runner.new) × IsBare (left_by p k) × StopsFor x result (left_by p k)) }
     ensures still { OnErr driven (R.list runner.new ≡ R.list runner.old) }
     ensures none { R.living runner.new ≡ [] }
     ensures spared { Spared D.may_leave D.moment D.left_since disk.old disk.new }

@@ -1,4 +1,4 @@
-use Rattle.std.proofs.Common.{inl, inr, refl, subst}
+use Rattle.std.proofs.Common.{inl, inr, refl, sym, subst}
 use Rattle.step_runner.specs.Entries.{Listed}
 use Rattle.disk_model.specs.Disk.{Leaves}
 use Rattle.disk_model.specs.Listing.{artifacts, IsBelow}
@@ -11,7 +11,7 @@ use Rattle.deploy_state.specs.States.{idle_device}
 use Rattle.deployments.proofs.Places.{closed_given_up, closed_stops}
 use Rattle.deployments.specs.Endings.{Fails, Forgets}
 use Rattle.deployments.proofs.Printing.{says_none, stops_ends}
-use Rattle.deployments.proofs.Statuses.{stops_answer, stops_never}
+use Rattle.deployments.proofs.Statuses.{no_close, no_outcome, stops_answer, stops_as, stops_never, stops_where}
 use Rattle.deployments.proofs.closes.end_closed.Goals as goal
 
 -- ---- stray files are swept
@@ -30,7 +30,7 @@ returns-in-Ok-clause-went g c = λ p records closed serves.
     let world = g.S.Supervise.world c.args.supervisor.now in
     let told = Listed g.R.Runner.list g.R.Runner.told g.R.Runner.asked c.args.runner.now in
     let t = c.stop.ensures.went p d (closed_stops c.args.outcome records p d world told (g.R.Runner.living c.args.runner.now) closed serves) in
-    (t.0, t.1, t.2)
+    (t.0, t.1, t.2, stops_where c.args.outcome c.stop.result t.3)
 
 pub returns-in-Ok-clause-spared : goal.returns-in-Ok-clause-spared
 returns-in-Ok-clause-spared g c = wider_spares g.met.D.Disk.laws (IsStray (items_of (device_view c.device.result.now))) (IsBelow artifacts) c.args.disk.now c.sweep.new.disk (λ name stray. stray.0) c.sweep.ensures.moments
@@ -49,7 +49,7 @@ returns-in-Ok-clause-ends g c =
     let world = g.S.Supervise.world c.args.supervisor.now in
     let told = Listed g.R.Runner.list g.R.Runner.told g.R.Runner.asked c.args.runner.now in
     let t = c.stop.ensures.went q.0 d (closed_stops c.args.outcome q.1 q.0 d world told (g.R.Runner.living c.args.runner.now) q.2 q.3) in
-    stops_ends c.args.outcome c.stop.result (g.K.Sink.held c.args.sink.now) t.3
+    stops_ends c.args.outcome c.stop.result (g.K.Sink.held c.args.sink.now) (stops_as c.args.outcome c.stop.result t.3)
 
 pub returns-in-Ok-clause-answers : goal.returns-in-Ok-clause-answers
 returns-in-Ok-clause-answers g c =
@@ -58,7 +58,7 @@ returns-in-Ok-clause-answers g c =
     let world = g.S.Supervise.world c.args.supervisor.now in
     let told = Listed g.R.Runner.list g.R.Runner.told g.R.Runner.asked c.args.runner.now in
     let t = c.stop.ensures.went q.0 d (closed_stops c.args.outcome q.1 q.0 d world told (g.R.Runner.living c.args.runner.now) q.2 q.3) in
-    stops_answer c.args.outcome c.stop.result t.3
+    stops_answer c.args.outcome c.stop.result (stops_as c.args.outcome c.stop.result t.3)
 
 pub returns-in-Ok-clause-disk : goal.returns-in-Ok-clause-disk
 returns-in-Ok-clause-disk g c = λ is.
@@ -67,7 +67,7 @@ returns-in-Ok-clause-disk g c = λ is.
     let world = g.S.Supervise.world c.args.supervisor.now in
     let told = Listed g.R.Runner.list g.R.Runner.told g.R.Runner.asked c.args.runner.now in
     let t = c.stop.ensures.went q.0 d (closed_stops c.args.outcome q.1 q.0 d world told (g.R.Runner.living c.args.runner.now) q.2 q.3) in
-    absurd (stops_never c.args.outcome c.stop.result statuses.Disk refl (λ e. cc) t.3 is)
+    absurd (stops_never c.args.outcome c.stop.result statuses.Disk refl (λ e. cc) (stops_as c.args.outcome c.stop.result t.3) is)
 
 pub returns-in-Ok-clause-edge : goal.returns-in-Ok-clause-edge
 returns-in-Ok-clause-edge g c = λ is.
@@ -76,7 +76,7 @@ returns-in-Ok-clause-edge g c = λ is.
     let world = g.S.Supervise.world c.args.supervisor.now in
     let told = Listed g.R.Runner.list g.R.Runner.told g.R.Runner.asked c.args.runner.now in
     let t = c.stop.ensures.went q.0 d (closed_stops c.args.outcome q.1 q.0 d world told (g.R.Runner.living c.args.runner.now) q.2 q.3) in
-    absurd (stops_never c.args.outcome c.stop.result statuses.Edge refl (λ e. cc) t.3 is)
+    absurd (stops_never c.args.outcome c.stop.result statuses.Edge refl (λ e. cc) (stops_as c.args.outcome c.stop.result t.3) is)
 
 -- ---- the disk failed
 
@@ -94,7 +94,7 @@ returns-in-Err-Disk-clause-went g c = λ p records closed serves.
     let world = g.S.Supervise.world c.args.supervisor.now in
     let told = Listed g.R.Runner.list g.R.Runner.told g.R.Runner.asked c.args.runner.now in
     let t = c.kill_all.ensures.went p (closed_given_up c.args.outcome records p d world told (g.R.Runner.living c.args.runner.now) closed) in
-    (t.0, t.1, t.3)
+    (t.0, t.1, t.3, λ is. absurd (no_close c.args.outcome c.say_disk.result statuses.Disk refl c.say_disk.ensures.answers is))
 
 pub returns-in-Err-Disk-clause-spared : goal.returns-in-Err-Disk-clause-spared
 returns-in-Err-Disk-clause-spared g c = wider_spares g.met.D.Disk.laws (IsStray (items_of (device_view c.device.result.now))) (IsBelow artifacts) c.args.disk.now c.sweep.new.disk (λ name stray. stray.0) c.sweep.ensures.moments
@@ -125,7 +125,7 @@ returns-in-Err-NoMemory-clause-went g c = λ p records closed serves.
     let world = g.S.Supervise.world c.args.supervisor.now in
     let told = Listed g.R.Runner.list g.R.Runner.told g.R.Runner.asked c.args.runner.now in
     let t = c.kill_all-in-Err-NoMemory.ensures.went p (closed_given_up c.args.outcome records p d world told (g.R.Runner.living c.args.runner.now) closed) in
-    (t.0, t.1, t.3)
+    (t.0, t.1, t.3, λ is. absurd (no_outcome c.args.outcome statuses.Memory refl (sym is)))
 
 pub returns-in-Err-NoMemory-clause-spared : goal.returns-in-Err-NoMemory-clause-spared
 returns-in-Err-NoMemory-clause-spared g c = wider_spares g.met.D.Disk.laws (IsStray (items_of (device_view c.device.result.now))) (IsBelow artifacts) c.args.disk.now c.sweep.new.disk (λ name stray. stray.0) c.sweep.ensures.moments

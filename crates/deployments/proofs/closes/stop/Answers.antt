@@ -20,7 +20,7 @@ returns-in-All-clause-went g c = λ p d may.
     let living = g.R.Runner.living c.stop_all_components.new.runner in
     let t = c.stop_all_components.ensures.went p d may in
     let s = stop_left c.stop_all_components.result stopped.All (moments_in t.0) (left_by p t.0) d world new living c.in-All.is t.2 in
-    (t.0, t.1, s.bare, inl c.outcome_status.ensures)
+    (t.0, t.1, s.bare, inl (c.outcome_status.ensures, record { stopped = s.stopped; cut = s.cut; recorded = s.boot_end }))
 
 pub returns-in-All-clause-none : goal.returns-in-All-clause-none
 returns-in-All-clause-none g c =

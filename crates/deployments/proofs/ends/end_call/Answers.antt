@@ -63,7 +63,7 @@ returns-in-Ok-Restart-clause-went g c =
     let list = g.R.Runner.list c.args.runner.now in
     let told = Listed g.R.Runner.list g.R.Runner.told g.R.Runner.asked c.args.runner.now in
     ok_if _ c.args.driven c.in-Ok-Restart.field-0 (driven.Restart c.in-Ok-Restart.state) c.in-Ok-Restart.is c.in-Ok-Restart.field-0-is
-    (λ p h left serves. ([], acts_none p list list refl, between_bare p (loaded_device c.in-Ok-Restart.state) (g.S.Supervise.world c.args.supervisor.now) told (g.R.Runner.living c.args.runner.now) left.0))
+    (λ p h left serves. ([], acts_none p list list refl, between_bare p (loaded_device c.in-Ok-Restart.state) (g.S.Supervise.world c.args.supervisor.now) told (g.R.Runner.living c.args.runner.now) left.0, (record { stopped = left.0.still.stopped; cut = left.0.still.cut; recorded = left.0.boot_end }, left.1)))
 
 pub returns-in-Ok-Restart-clause-still : goal.returns-in-Ok-Restart-clause-still
 returns-in-Ok-Restart-clause-still g c = ok_on _ c.args.driven c.in-Ok-Restart.field-0 c.in-Ok-Restart.is
@@ -106,7 +106,7 @@ returns-in-Ok-Reboot-clause-went g c =
     let list = g.R.Runner.list c.args.runner.now in
     let told = Listed g.R.Runner.list g.R.Runner.told g.R.Runner.asked c.args.runner.now in
     ok_if _ c.args.driven c.in-Ok-Reboot.field-0 (driven.Reboot c.in-Ok-Reboot.state) c.in-Ok-Reboot.is c.in-Ok-Reboot.field-0-is
-    (λ p h left serves. ([], acts_none p list list refl, between_bare p (loaded_device c.in-Ok-Reboot.state) (g.S.Supervise.world c.args.supervisor.now) told (g.R.Runner.living c.args.runner.now) left.0))
+    (λ p h left serves. ([], acts_none p list list refl, between_bare p (loaded_device c.in-Ok-Reboot.state) (g.S.Supervise.world c.args.supervisor.now) told (g.R.Runner.living c.args.runner.now) left.0, (record { stopped = left.0.still.stopped; cut = left.0.still.cut; recorded = left.0.boot_end }, left.1)))
 
 pub returns-in-Ok-Reboot-clause-still : goal.returns-in-Ok-Reboot-clause-still
 returns-in-Ok-Reboot-clause-still g c = ok_on _ c.args.driven c.in-Ok-Reboot.field-0 c.in-Ok-Reboot.is
@@ -148,7 +148,7 @@ pub returns-in-Ok-More-clause-went : goal.returns-in-Ok-More-clause-went
 returns-in-Ok-More-clause-went g c =
     let list = g.R.Runner.list c.args.runner.now in
     ok_if _ c.args.driven c.in-Ok-More.field-0 (driven.More _) c.in-Ok-More.is c.in-Ok-More.field-0-is
-    (λ p h left serves. ([], acts_none p list list refl, left.0))
+    (λ p h left serves. ([], acts_none p list list refl, left.0, tt))
 
 pub returns-in-Ok-More-clause-still : goal.returns-in-Ok-More-clause-still
 returns-in-Ok-More-clause-still g c = ok_on _ c.args.driven c.in-Ok-More.field-0 c.in-Ok-More.is

@@ -44,7 +44,8 @@ returns-in-Idle-clause-call g c = λ p front serves taken.
           (front_bare p d (g.S.Supervise.world c.args.supervisor.now) told (g.R.Runner.living c.args.runner.now) front)
           c.say.ensures.answers
           (said_prints _ held (g.K.Sink.held c.say.new.sink) p.device Idle c.say.result stands (λ is. cc) before c.say.ensures.says)
-          (refl, before),
+          (refl, before)
+          tt,
       resumes_none d Idle none refl,
       (λ holds. still_whole g.J.Journal.entries g.J.Journal.files g.met.D.Disk.laws c.args.disk.now p stands holds),
     )
@@ -91,7 +92,8 @@ returns-in_default-ready_again-clause-call g c = λ p front serves taken.
           (front_bare p d (g.S.Supervise.world c.args.supervisor.now) told (g.R.Runner.living c.args.runner.now) front)
           (inl refl)
           (starved_prints _ held held p.device statuses.Memory stands refl)
-          refl,
+          refl
+          tt,
       resumes_some d Starves (loaded_pending g.D.Disk.tells g.D.Disk.may_leave g.J.Journal.stands g.J.Journal.end c.args.state c.args.disk.now c.requires.held c.in_default.not-Idle) (inr refl),
       (λ holds. still_whole g.J.Journal.entries g.J.Journal.files g.met.D.Disk.laws c.args.disk.now p stands holds),
     )
@@ -126,6 +128,7 @@ returns-in_default-say_resumed-clause-call g c = λ p front serves taken.
           (front_bare p d (g.S.Supervise.world c.args.supervisor.now) told (g.R.Runner.living c.args.runner.now) front)
           (inr edge)
           (unopened_prints _ held last p.device c.say_resumed.result stands (subst (λ (l : List ℕ). AppendsFront held last l) opening c.say_resumed.ensures.says.0) edge)
+          tt
           tt,
       resumes_some d Breaks pending (inl tt),
       (λ holds. still_whole g.J.Journal.entries g.J.Journal.files g.met.D.Disk.laws c.args.disk.now p stands holds),

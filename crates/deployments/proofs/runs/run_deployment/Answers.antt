@@ -138,7 +138,8 @@ returns-in-Err-ready_for-clause-call g c = λ p opens serves.
             (open_bare p d (g.S.Supervise.world c.args.supervisor.now) told (g.R.Runner.living c.args.runner.now) c.requires.empty opens)
             (inl refl)
             (starved_prints _ held held p.device statuses.Memory stands refl)
-            refl,
+            refl
+            tt,
         inl (tt, refl),
       ),
       (λ holds. taken_whole g.met.D.Disk.laws g.J.Journal.files g.J.Journal.entries c.requires.apart g.met.J.Journal.laws c.args.idle.log c.args.disk.now c.take_in.new.disk d p opens.stands.device_is c.requires.held.0 c.take_in.ensures.moments c.take_in.ensures.safe holds []),

@@ -177,7 +177,8 @@ returns-in-Ok-Full-clause-call g c = λ p opens serves.
             c.say_full.ensures.answers
             (said_prints _ held last p.device (Full c.in-Ok-Full.at) c.say_full.result stands (λ is. cc) (ap (λ (e : Device). e.pending) opens.stands.device_is ∙ c.requires.held.1)
             (subst (λ (h : Option (List ℕ)). SaysLine h last c.say_full.result (full_line c.in-Ok-Full.at)) silent c.say_full.ensures.says))
-            refl,
+            refl
+            tt,
         inl ((full.0, full.1), refl),
       ),
       (λ both. still_whole g.J.Journal.entries g.J.Journal.files g.met.D.Disk.laws c.args.disk.now p stands (λ i left. (both i left).0)),
