@@ -449,6 +449,7 @@ module _ {D : Type 0} {tells : Bool} {seen : D → Image} {may_leave : D → Ima
       answers = call.answers;
       prints = call.prints;
       ends = call.ends;
+      stops = call.stops;
       stands = call.stands;
       once = call.once;
     }
