@@ -9,6 +9,8 @@ use Rattle.nuc_base.specs.declared.kinds.Outcome.{Outcome}
 use Rattle.nuc_base.specs.declared.kinds.Outcome.TheVariants as outcomes
 use Rattle.records.specs.Stored.{Item, Record, Accepted, BootBegun, BootEnded, Activating, StepFailed, Failing, FailingBack, Closed}
 use Rattle.records.specs.declared.record.Origin.{Origin}
+use Rattle.device.specs.Devices.{Device}
+use Rattle.device.specs.Lawful.{backs, reach_of}
 use Rattle.recipe_reader.specs.declared.recipe.Skip.{Skip}
 use Rattle.recipe_reader.specs.declared.recipe.Skip.TheVariants as skips
 use Rattle.step_runner.specs.declared.command.Command.{Command}
@@ -136,14 +138,19 @@ abbrev pub MayTakeBy : Bool → Place → Type 0
 MayTakeBy true p = MayTake p
 MayTakeBy false p = p.taken ≡ false
 
--- Whether the record is lawful is no matter of this: it is said of the records alone.
+-- No bootstrap of the set is to run again where the pending deployment turns back now.
+abbrev pub HasNoBacks : Device → Type 0
+HasNoBacks d = IsSomeAnd d.pending (λ q. backs d.origin d.set q.plan (reach_of q) ≡ [])
+
+-- Whether the record is lawful is no matter of this: it is said of the records alone. Of the two records that turn a deployment
+-- back, the one that names no bootstraps is kept only where there are none to run again.
 abbrev pub MayKeep : Place → Record → Type 0
 MayKeep p (Accepted x) = IsClear p × IsQuiet p.world × MayTakeBy p.serves p
 MayKeep p (BootBegun n) = IsClear p × (is_stopped p.world ≡ true)
 MayKeep p (BootEnded n e) = (p.boot ≡ None) × (p.boot_end ≡ Some e)
 MayKeep p Activating = IsClear p
 MayKeep p (StepFailed n s e) = OwesBy p.world n s e
-MayKeep p (Failing n) = IsClear p
+MayKeep p (Failing n) = IsClear p × HasNoBacks p.device
 MayKeep p (FailingBack n) = IsClear p
 MayKeep p (Closed o) = IsClear p × MayClose p o
 MayKeep p r = ⊥
