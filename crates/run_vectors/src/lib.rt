@@ -9,6 +9,8 @@ mod again;
 #[cfg(test)]
 mod calls;
 #[cfg(test)]
+mod files;
+#[cfg(test)]
 mod hello;
 #[cfg(test)]
 mod rows;
