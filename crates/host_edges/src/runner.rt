@@ -25,13 +25,16 @@ const FOLDER_MODE: u32 = 0o700;
 
 /// Runs each command as `sh -c SCRIPT` in its folder, which is made as needed, with the command's variables added to the
 /// environment. A child reads nothing, and what it prints is dropped, on the standard error too: what it starts may live
-/// on, and whoever reads this program's output would wait for that. A kill ends that one child and waits for it. Ends are
-/// found by asking each child in turn, with a pause between. It tells no list. Moments are milliseconds since it was
+/// on, and whoever reads this program's output would wait for that. Where the system has the program `setsid`, each child
+/// leads a process group of its own. A kill ends the child and what else lives in its group, and waits for the child. Ends
+/// are found by asking each child in turn, with a pause between. It tells no list. Moments are milliseconds since it was
 /// made.
 #[derive(Drop)]
 pub struct ShellRunner<'a, R: Processes + Clock> {
     rt: &'a R,
     alloc: Global,
+    /// What makes its caller the leader of a group and then runs a program in its place.
+    setsid: Option<String>,
     start: Option<Instant>,
     living: Vec<u64>,
     children: Vec<Child<R::Started>>,
@@ -57,6 +60,7 @@ impl<'a, R: Processes + Clock + Files<File = File> + Env + AllocGlobal> ShellRun
         ShellRunner {
             rt,
             alloc,
+            setsid: find_setsid(rt),
             start: Instant::now(rt).ok(),
             living: Vec::new(alloc),
             children: Vec::new(alloc),
@@ -137,31 +141,86 @@ fn make_folder<R: Files>(files: &R, folder: &str) -> io::Result<()> {
         .create(files, folder)
 }
 
-/// `sh -c` with the command's variables and folder.
-fn prepared(alloc: Global, command: &Command) -> Result<process::Command, AllocError> {
-    let mut child = process::Command::new(alloc, "sh")?;
-    child.arg("-c")?.arg(command.script.as_str())?;
-    for (name, value) in command.env.as_slice() {
-        child.env(name.as_str(), value.as_str())?;
+/// The path of a file of this name in a folder of PATH. An empty folder there is the current one.
+fn find_on_path<R: Files + Env + AllocGlobal>(rt: &R, word: &str) -> io::Result<Option<String>> {
+    let alloc = rt.alloc();
+    let folders = env::var(rt, "PATH").map_err(|_| io::Error::from(ErrorKind::NotFound))?;
+    for folder in folders.split(':') {
+        let folder = if folder.is_empty() { "." } else { folder };
+        let path = format!(in alloc; "{folder}/{word}")?;
+        if is_file(rt, path.as_str()).unwrap_or(false) {
+            return Ok(Some(path));
+        }
     }
-    child.current_dir(command.folder.as_str())?;
+    Ok(None)
+}
+
+/// The path of `setsid`, which is to mean the same in each folder.
+fn find_setsid<R: Files + Env + AllocGlobal>(rt: &R) -> Option<String> {
+    match find_on_path(rt, "setsid") {
+        Ok(Some(path)) if path.as_str().starts_with('/') => Some(path),
+        _ => None,
+    }
+}
+
+/// A program that reads nothing and whose output is dropped.
+fn silent(alloc: Global, program: &str) -> Result<process::Command, AllocError> {
+    let mut child = process::Command::new(alloc, program)?;
     child.stdin(Stdio::null());
     child.stdout(Stdio::null());
     child.stderr(Stdio::null());
     Ok(child)
 }
 
+/// `sh -c` with the command's variables and folder, in a group of its own where that can be had.
+fn prepared(
+    alloc: Global,
+    setsid: &Option<String>,
+    command: &Command,
+) -> Result<process::Command, AllocError> {
+    let mut child = match setsid {
+        Some(setsid) => silent(alloc, setsid.as_str())?,
+        None => silent(alloc, "sh")?,
+    };
+    if setsid.is_some() {
+        child.arg("sh")?;
+    }
+    child.arg("-c")?.arg(command.script.as_str())?;
+    for (name, value) in command.env.as_slice() {
+        child.env(name.as_str(), value.as_str())?;
+    }
+    child.current_dir(command.folder.as_str())?;
+    Ok(child)
+}
+
 fn spawn<R: Processes + Files>(
     rt: &R,
     alloc: Global,
+    setsid: &Option<String>,
     command: &Command,
 ) -> io::Result<Child<R::Started>> {
     make_folder(rt, command.folder.as_str())?;
-    prepared(alloc, command)?.spawn(rt)
+    prepared(alloc, setsid, command)?.spawn(rt)
 }
 
-fn end<P: OpenProcess>(child: &mut Child<P>) {
+/// Ends what lives in the group that this process leads. It was not waited for, so its number is still its own.
+fn end_group<R: Processes>(rt: &R, alloc: Global, leader: u32) -> io::Result<()> {
+    let group = format!(in alloc; "-{leader}")?;
+    let mut killer = silent(alloc, "sh")?;
+    killer
+        .arg("-c")?
+        .arg("kill -s KILL -- \"$0\"")?
+        .arg(group.as_str())?;
+    killer.status(rt)?;
+    Ok(())
+}
+
+/// Ends a child where it has not ended, and where that is asked for what else lives in its group.
+fn end<R: Processes>(rt: &R, alloc: Global, with_group: bool, child: &mut Child<R::Started>) {
     let _ = child.kill();
+    if with_group {
+        let _ = end_group(rt, alloc, child.id());
+    }
     let _ = child.wait();
 }
 
@@ -180,22 +239,22 @@ impl<'a, R: Processes + Clock + Files<File = File> + Env + AllocGlobal> ShellRun
         }
         self.living.reserve(1)?;
         self.children.reserve(1)?;
-        let child = spawn(self.rt, self.alloc, command)?;
+        let child = spawn(self.rt, self.alloc, &self.setsid, command)?;
         self.children.insert(0, child)?;
         self.living.insert(0, number)?;
         self.next = number + 1;
         Ok(())
     }
 
-    /// Ends a child where it has not ended, and drops it.
-    fn end_child(&mut self, child: u64)
+    /// Ends a child where it has not ended, with its group where that is asked for, and drops it.
+    fn end_child(&mut self, child: u64, with_group: bool)
         ensures left { self.new.living.items ≡ without child self.old.living.items }
         ensures same { (self.new.next ≡ self.old.next) × (self.new.clock ≡ self.old.clock) × (self.new.told ≡ self.old.told) × (self.new.asked ≡ self.old.asked) × (self.new.faults ≡ self.old.faults) }
     {
         let place = self.living.iter().position(|number| *number == child);
         if let Some(at) = place {
             if at < self.children.len() {
-                end(&mut self.children[at]);
+                end(self.rt, self.alloc, with_group, &mut self.children[at]);
                 let _ = self.children.remove(at);
             }
         }
@@ -220,19 +279,6 @@ impl<'a, R: Processes + Clock + Files<File = File> + Env + AllocGlobal> ShellRun
             self.clock = later(self.rt, &self.start, self.clock + 1);
         }
         poll_all(self.living.as_slice(), &mut self.children)
-    }
-
-    /// Whether a file of this name stands in a folder of PATH. An empty folder there is the current one.
-    fn is_on_path(&self, word: &str) -> io::Result<bool> {
-        let folders = env::var(self.rt, "PATH").map_err(|_| io::Error::from(ErrorKind::NotFound))?;
-        for folder in folders.split(':') {
-            let folder = if folder.is_empty() { "." } else { folder };
-            let path = format!(in self.alloc; "{folder}/{word}")?;
-            if is_file(self.rt, path.as_str()).unwrap_or(false) {
-                return Ok(true);
-            }
-        }
-        Ok(false)
     }
 }
 
@@ -271,7 +317,7 @@ impl<'a, R: Processes + Clock + Files<File = File> + Env + AllocGlobal> Runner
         let until = (self.clock + limit).min(LAST_MOMENT);
         match self.poll_until(until) {
             Some((child, exit)) => {
-                self.end_child(child);
+                self.end_child(child, false);
                 self.faults = counted(self.faults, exit);
                 Waited::Ended(child, exit)
             }
@@ -281,7 +327,9 @@ impl<'a, R: Processes + Clock + Files<File = File> + Env + AllocGlobal> Runner
 
     fn kill(&mut self, child: u64) {
         self.asked = false;
-        self.end_child(child);
+        let runner = &*self;
+        let with_group = runner.setsid.is_some();
+        self.end_child(child, with_group);
     }
 
     fn moment(&mut self) -> u64 {
@@ -298,7 +346,7 @@ impl<'a, R: Processes + Clock + Files<File = File> + Env + AllocGlobal> Runner
 
     fn on_path(&mut self, word: &Text) -> bool {
         self.asked = false;
-        self.is_on_path(word.as_str()).unwrap_or(false)
+        matches!(find_on_path(self.rt, word.as_str()), Ok(Some(_)))
     }
 
     ghost past = { λ r. r.past };

@@ -34,8 +34,6 @@ struct Opened {
 pub(crate) struct Slot {
     opened: Option<Opened>,
     window: Window,
-    /// Whether the folder is known to name the file, or to name none, also after a loss of power.
-    is_named: bool,
     /// Whether readers wait while it is changed.
     is_shared: bool,
 }
@@ -45,7 +43,6 @@ impl Slot {
         Ok(Slot {
             opened: None,
             window: Window::new(alloc)?,
-            is_named: false,
             is_shared,
         })
     }
@@ -54,7 +51,6 @@ impl Slot {
     pub fn close(&mut self) {
         self.opened = None;
         self.window.forget();
-        self.is_named = false;
     }
 
     pub fn is_changed(&self) -> bool {
@@ -62,16 +58,6 @@ impl Slot {
             Some(opened) => opened.kept == Kept::Changed,
             None => false,
         }
-    }
-
-    /// Whether the folder still has to be synced for this file.
-    pub fn is_named(&self) -> bool {
-        self.is_named
-    }
-
-    /// The folder was synced.
-    pub fn set_named(&mut self) {
-        self.is_named = true;
     }
 
     /// Opens the file where it is there and not open yet.
@@ -96,23 +82,21 @@ impl Slot {
         }
     }
 
-    /// Opens the file, and makes it with its folders where it is not there.
-    pub fn make<R: Files<File = File>>(
+    pub fn is_open(&self) -> bool {
+        self.opened.is_some()
+    }
+
+    /// Makes and opens the file, which is not there.
+    pub fn create<R: Files<File = File>>(
         &mut self,
         files: &R,
         access: Access,
         paths: &mut Paths<'_>,
         name: &str,
     ) -> io::Result<()> {
-        self.open(files, access, paths, name)?;
-        if self.opened.is_some() {
-            return Ok(());
-        }
-        paths.make_folders(files, name)?;
         let path = paths.plain_file(files, name)?;
         let file = options(access).create_new(true).open(files, path)?;
         self.keep(file);
-        self.is_named = false;
         Ok(())
     }
 

@@ -2,7 +2,7 @@ ghost use Rattle.std.specs.Prelude.{◌≤◌, length, IfOk};
 
 use crate::access::Access;
 use crate::listing::list_files;
-use crate::paths::{LONGEST_NAME, Paths, folder_of, is_within, sync_folder};
+use crate::paths::{LONGEST_NAME, Paths, folder_of, is_within, make_folder, sync_folder};
 use crate::slot::Slot;
 use crate::streams::HeldStreams;
 use nuc_base::{FileName, List, NoMemory};
@@ -38,8 +38,10 @@ pub struct Store<'a, R: Files<File = File>> {
     other: Slot,
     /// The name of the file that `other` is.
     named: String,
-    /// The folder whose whole way up to the root was synced last.
+    /// A folder which was synced, as all above it were, and nothing in these was made or removed since.
     linked: String,
+    /// Whether there is one.
+    is_linked: bool,
     begun: bool,
     failed: bool,
 }
@@ -59,6 +61,7 @@ impl<'a, R: Files<File = File> + AllocGlobal> Store<'a, R> {
             other: Slot::new(alloc, false)?,
             named: String::with_capacity(alloc, LONGEST_NAME)?,
             linked: String::with_capacity(alloc, LONGEST_NAME)?,
+            is_linked: false,
             begun: false,
             failed: false,
         })
@@ -129,18 +132,57 @@ impl<'a, R: Files<File = File> + AllocGlobal> Store<'a, R> {
         }
     }
 
-    /// Opens the file, and makes it where it is not there.
+    /// Opens the file, and makes it with its folders where it is not there.
     fn make(&mut self, file: &str) -> io::Result<()> {
-        self.turn_to(file)?;
+        self.open(file)?;
+        if self.slot(file).is_open() {
+            return Ok(());
+        }
+        self.make_folders(file)?;
+        self.change_folder(folder_of(file))?;
         let files = self.files;
         let access = self.access;
         if file == FIRST_JOURNAL {
-            self.journal.make(files, access, &mut self.paths, file)
+            self.journal.create(files, access, &mut self.paths, file)
         } else if file == SECOND_JOURNAL {
-            self.second.make(files, access, &mut self.paths, file)
+            self.second.create(files, access, &mut self.paths, file)
         } else {
-            self.other.make(files, access, &mut self.paths, file)
+            self.other.create(files, access, &mut self.paths, file)
         }
+    }
+
+    /// Makes the folders that this file stands in, as far as they are missing.
+    fn make_folders(&mut self, file: &str) -> io::Result<()> {
+        for end in 1..file.len() {
+            match file.split_at_checked(end) {
+                Some((folder, rest)) if rest.starts_with('/') => self.make_folder(folder)?,
+                _ => {}
+            }
+        }
+        Ok(())
+    }
+
+    fn make_folder(&mut self, folder: &str) -> io::Result<()> {
+        if make_folder(self.files, self.paths.below(folder)?)? {
+            self.change_folder(folder_of(folder))?;
+        }
+        Ok(())
+    }
+
+    /// Something in this folder was made, or is to be made or removed.
+    fn change_folder(&mut self, folder: &str) -> io::Result<()> {
+        if !self.is_synced(folder) {
+            return Ok(());
+        }
+        self.is_linked = !folder.is_empty();
+        self.linked.clear();
+        self.linked.push_str(folder_of(folder))?;
+        Ok(())
+    }
+
+    /// Whether the folder is known to be synced since something in it was made or removed last.
+    fn is_synced(&self, folder: &str) -> bool {
+        self.is_linked && is_within(folder, self.linked.as_str())
     }
 
     pub fn length(&mut self, file: &str) -> io::Result<u64> {
@@ -171,35 +213,29 @@ impl<'a, R: Files<File = File> + AllocGlobal> Store<'a, R> {
         self.open(file)?;
         self.failed = true;
         self.slot(file).sync()?;
-        if !self.slot(file).is_named() {
-            self.sync_folders(file)?;
-            self.slot(file).set_named();
+        let folder = folder_of(file);
+        if !self.is_synced(folder) {
+            self.sync_way(folder)?;
+            self.linked.clear();
+            self.linked.push_str(folder)?;
+            self.is_linked = true;
         }
         self.failed = false;
         Ok(())
     }
 
-    /// Syncs the file's folder, and each folder above it up to the first that is known to be named by its own.
-    fn sync_folders(&mut self, file: &str) -> io::Result<()> {
-        let folder = folder_of(file);
-        let is_there = sync_folder(self.files, self.paths.below(folder)?)?;
-        self.sync_above(folder)?;
-        if is_there && !folder.is_empty() {
-            self.linked.clear();
-            self.linked.push_str(folder)?;
-        }
-        Ok(())
-    }
-
-    /// Syncs what stands above a folder, up to the first that is known to be named by its own.
-    fn sync_above(&mut self, folder: &str) -> io::Result<()> {
+    /// Syncs the folder, and those above it, up to the first that is known to be synced.
+    fn sync_way(&mut self, folder: &str) -> io::Result<()> {
         let mut name = folder;
-        for _ in folder.split('/') {
-            if name.is_empty() || is_within(name, self.linked.as_str()) {
+        for _ in 0..=folder.len() {
+            if self.is_synced(name) {
+                break;
+            }
+            sync_folder(self.files, self.paths.below(name)?)?;
+            if name.is_empty() {
                 break;
             }
             name = folder_of(name);
-            sync_folder(self.files, self.paths.below(name)?)?;
         }
         Ok(())
     }
@@ -208,6 +244,7 @@ impl<'a, R: Files<File = File> + AllocGlobal> Store<'a, R> {
     pub fn remove(&mut self, file: &str) -> io::Result<()> {
         self.turn_to(file)?;
         self.slot(file).close();
+        self.change_folder(folder_of(file))?;
         let path = self.paths.plain_file(self.files, file)?;
         match fs::remove_file(self.files, path) {
             Ok(()) => Ok(()),
@@ -221,6 +258,7 @@ impl<'a, R: Files<File = File> + AllocGlobal + Clone + Drop> Store<'a, R> {
     /// The names of all artifacts that are not empty, rising by their bytes.
     pub fn list(&mut self) -> io::Result<List<FileName>> {
         self.begin()?;
+        self.paths.check_folder(self.files, ARTIFACTS)?;
         list_files(self.files, &mut self.paths, ARTIFACTS)
     }
 }

@@ -7,7 +7,8 @@ use nuc_base::{Exit, Label, List, Name, NoMemory, Text};
 use std::alloc::Global;
 use std::os::unix::fs::symlink;
 use std::test::Fail;
-use std::{env, fs};
+use std::time::Duration;
+use std::{env, fs, thread};
 use step_runner::{Command, Runner, Waited};
 
 const FILE: &str = "packages/artifacts/A/1.0.0/f";
@@ -41,17 +42,20 @@ fn stores(alloc: Global, disk: &mut FileDisk<'_, HostRuntime>) -> Result<bool, D
     let is_listed = lists(alloc, disk, FILE);
     disk.remove(FILE)?;
     disk.sync(FILE)?;
+    disk.sync("packages/artifacts/B/1.0.0/f")?;
     Ok(is_kept && is_listed && disk.length(FILE)? == 0)
 }
 
-/// Whether a second writer is refused, a reader reads, and a link is not followed.
+/// Whether a second writer is refused, a reader reads, and links are not followed.
 fn is_guarded(rt: &HostRuntime, root: &str) -> Result<bool, Fail> {
     let mut second = FileDisk::new(rt, root, Access::Write)?;
     let mut reader = FileDisk::new(rt, root, Access::Read)?;
+    let mut linked = FileDisk::new(rt, "disk-of-a-test/links", Access::Read)?;
     Ok(
         second.length("journal").is_err()
             && reads(&mut reader, "journal", 0, b"abc")?
-            && reader.length("linked").is_err(),
+            && reader.length("linked").is_err()
+            && linked.list(rt.alloc()).is_err(),
     )
 }
 
@@ -60,6 +64,8 @@ fn a_disk_keeps_what_is_written(rt: HostRuntime) -> Result<(), Fail> {
     let root = "disk-of-a-test";
     fs::create_dir_all(&rt, root)?;
     symlink(&rt, "journal", "disk-of-a-test/linked")?;
+    fs::create_dir_all(&rt, "disk-of-a-test/links")?;
+    symlink(&rt, "../packages", "disk-of-a-test/links/packages")?;
     let mut disk = FileDisk::new(&rt, root, Access::Write)?;
     let is_stored = stores(rt.alloc(), &mut disk)?;
     let is_guarded = is_guarded(&rt, root)?;
@@ -111,6 +117,51 @@ fn is_killed<R: Runner>(alloc: Global, runner: &mut R, folder: &str) -> Result<b
     Ok(runner.wait(50) == Waited::Elapsed && runner.moment().saturating_sub(begun) < 10_000)
 }
 
+/// Whether an end is told that came while nobody waited, by waits that last no time.
+fn is_told_late<R: Runner>(
+    rt: &HostRuntime,
+    runner: &mut R,
+    folder: &str,
+) -> Result<bool, NoMemory> {
+    let command = command(rt.alloc(), folder, "exit $END")?;
+    if runner.start(&command).is_err() {
+        return Ok(false);
+    }
+    for _ in 0..200 {
+        thread::sleep(rt, Duration::from_millis(50));
+        if let Waited::Ended(_, exit) = runner.wait(0) {
+            return Ok(exit == Exit::Code(3));
+        }
+    }
+    Ok(false)
+}
+
+/// Whether the file is there within ten seconds.
+fn comes(rt: &HostRuntime, path: &str) -> bool {
+    for _ in 0..200 {
+        if fs::exists(rt, path).unwrap_or(false) {
+            return true;
+        }
+        thread::sleep(rt, Duration::from_millis(50));
+    }
+    false
+}
+
+/// Whether a kill ends what the child started too, where there is `setsid`.
+fn ends_group<R: Runner>(rt: &HostRuntime, runner: &mut R, folder: &str) -> Result<bool, NoMemory> {
+    let alloc = rt.alloc();
+    let script = "(sleep 2; echo x > late) & echo x > begun; wait";
+    let command = command(alloc, folder, script)?;
+    let Ok(child) = runner.start(&command) else {
+        return Ok(false);
+    };
+    let is_begun = comes(rt, "runner-of-a-test/begun");
+    runner.kill(child);
+    thread::sleep(rt, Duration::from_millis(3_000));
+    let is_late = runner.exists(&text(alloc, "runner-of-a-test/late")?);
+    Ok(is_begun && is_late != runner.on_path(&text(alloc, "setsid")?))
+}
+
 #[test]
 fn children_run_in_their_folder_and_end(rt: HostRuntime) -> Result<(), Fail> {
     let alloc = rt.alloc();
@@ -125,10 +176,13 @@ fn children_run_in_their_folder_and_end(rt: HostRuntime) -> Result<(), Fail> {
     let is_made = runner.exists(&text(alloc, "runner-of-a-test/a/made")?);
     let signal = ended(alloc, &mut runner, root, "kill -9 $$")?;
     let is_killed = is_killed(alloc, &mut runner, root)?;
+    let is_told_late = is_told_late(&rt, &mut runner, root)?;
+    let ends_group = ends_group(&rt, &mut runner, root)?;
     fs::remove_dir_all(&rt, root)?;
     assert!(rt;
         is_made && is_killed && code == Some(Exit::Code(3)) && signal == Some(Exit::Signal)
     );
+    assert!(rt; is_told_late && ends_group);
     let is_found = runner.on_path(&text(alloc, "sh")?) == env::var(&rt, "PATH").is_ok();
     assert!(rt; is_found && !runner.on_path(&text(alloc, "no-such")?));
     Ok(())
