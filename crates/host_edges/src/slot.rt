@@ -11,6 +11,12 @@ use std::io;
 use std::io::ErrorKind;
 use std::os::unix::fs::{FileExt, OpenOptionsExt};
 
+/// How many bytes of a journal's file tell in which turn it was begun: those of its first entry up to the turn's number.
+const FRONT: usize = 14;
+
+/// An open gate, with which an entry begins.
+const OPEN_GATE: u8 = 1;
+
 /// How an open file stands to what the medium keeps.
 #[derive(Clone, Copy, Debug, PartialEq, Eq)]
 enum Kept {
@@ -34,6 +40,8 @@ struct Opened {
 pub(crate) struct Slot {
     opened: Option<Opened>,
     window: Window,
+    /// The first bytes of a journal's file as a reader found them with an entry.
+    front: Option<[u8; FRONT]>,
     /// Whether readers wait while it is changed.
     is_shared: bool,
 }
@@ -43,6 +51,7 @@ impl Slot {
         Ok(Slot {
             opened: None,
             window: Window::new(alloc)?,
+            front: None,
             is_shared,
         })
     }
@@ -123,10 +132,13 @@ impl Slot {
         let Some(opened) = &self.opened else {
             return Ok(0);
         };
-        if self.is_shared && access == Access::Read && !self.window.has(at, into.len()) {
-            return read_shared(&mut self.window, &opened.file, at, into);
+        if !self.is_shared || access == Access::Write || self.window.has(at, into.len()) {
+            return self.window.read(&opened.file, at, into);
         }
-        self.window.read(&opened.file, at, into)
+        opened.file.lock_shared()?;
+        let count = read_one_turn(&mut self.front, &mut self.window, &opened.file, at, into);
+        opened.file.unlock()?;
+        count
     }
 
     /// Writes all of it at that place.
@@ -190,12 +202,25 @@ fn options(access: Access) -> OpenOptions {
     options
 }
 
-/// Reads while no writer is between a write and its sync.
-fn read_shared(window: &mut Window, file: &File, at: u64, into: &mut [u8]) -> io::Result<usize>
+/// Reads where the file was not begun anew since its first entry was seen: what was read before would then be of another
+/// state of the journal.
+fn read_one_turn(
+    front: &mut Option<[u8; FRONT]>,
+    window: &mut Window,
+    file: &File,
+    at: u64,
+    into: &mut [u8],
+) -> io::Result<usize>
     ensures { IfOk result (λ n. n ≤ length into.old) }
 {
-    file.lock_shared()?;
-    let count = window.read(file, at, into);
-    file.unlock()?;
-    count
+    let mut found = [0; FRONT];
+    read_full(file, 0, &mut found)?;
+    match front {
+        Some(seen) if *seen != found => return Err(io::Error::from(ErrorKind::InvalidData)),
+        _ => {}
+    }
+    if found[0] == OPEN_GATE {
+        *front = Some(found);
+    }
+    window.read(file, at, into)
 }

@@ -74,6 +74,37 @@ fn a_disk_keeps_what_is_written(rt: HostRuntime) -> Result<(), Fail> {
     Ok(())
 }
 
+/// Whether a reader goes on behind what is appended to these bytes, and fails once the journal was begun anew.
+fn sees_one_turn(
+    writer: &mut FileDisk<'_, HostRuntime>,
+    reader: &mut FileDisk<'_, HostRuntime>,
+    bytes: &[u8],
+) -> Result<bool, DiskFault> {
+    writer.write_at("journal", 0, bytes)?;
+    writer.sync("journal")?;
+    let is_read = reads(reader, "journal", 0, &[1; 8])?;
+    writer.write_at("journal", bytes.len() as u64, b"ab")?;
+    writer.sync("journal")?;
+    let goes_on = reads(reader, "journal", bytes.len() as u64, b"ab")?;
+    writer.write_at("journal", 13, b"x")?;
+    writer.sync("journal")?;
+    let mut seen = [0; 8];
+    Ok(is_read && goes_on && reader.read("journal", 20, &mut seen).is_err())
+}
+
+#[test]
+fn a_reader_sees_one_turn(rt: HostRuntime) -> Result<(), Fail> {
+    let root = "turn-of-a-test";
+    fs::create_dir_all(&rt, root)?;
+    let bytes = vec![in rt.alloc(); 1; 70_000]?;
+    let mut writer = FileDisk::new(&rt, root, Access::Write)?;
+    let mut reader = FileDisk::new(&rt, root, Access::Read)?;
+    let is_seen = sees_one_turn(&mut writer, &mut reader, bytes.as_slice())?;
+    fs::remove_dir_all(&rt, root)?;
+    assert!(rt; is_seen);
+    Ok(())
+}
+
 fn text(alloc: Global, text: &str) -> Result<Text, NoMemory> {
     Text::from_str(alloc, text)
 }
