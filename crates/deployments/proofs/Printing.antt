@@ -171,6 +171,6 @@ over_prints sure over.Edge a b c f d records status stable before lines says sil
 -- ---- behind a close
 
 -- all components were stopped, or there was no memory for that
-pub stops_ends : {X : Type 0} (o : Outcome) (status : Status) (held : Option (List ℕ)) → StopsAs o status X → SaysEnding held held status (EndsClosed o)
-stops_ends o status held (inl is) = (Closes o, inl refl, says_none held held status refl, inl is)
-stops_ends o status held (inr more) = (Forgets, inr (inl refl), says_none held held status refl, inl more.0)
+pub stops_ends : {X R : Type 0} (o : Outcome) (status : Status) (held : Option (List ℕ)) → StopsAs o status X → SaysEnding held held status (λ e. EndsClosed o e × (e ≡ Fails → R))
+stops_ends o status held (inl is) = (Closes o, (inl refl, λ fails. absurd cc), says_none held held status refl, inl is)
+stops_ends o status held (inr more) = (Forgets, (inr (inl refl), λ fails. absurd cc), says_none held held status refl, inl more.0)

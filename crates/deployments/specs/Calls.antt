@@ -16,13 +16,13 @@ use Rattle.device.specs.Devices.{Device}
 use Rattle.device.specs.Standing.{StandsFor}
 use Rattle.deploy_state.specs.States.{loaded_device}
 use Rattle.step_runner.specs.declared.entries.RunnerEntry.{RunnerEntry}
-use Rattle.supervisor.specs.World.{is_stopped}
-use Rattle.session.specs.Courses.{IsBare}
+use Rattle.session.specs.Courses.{IsBare, IsEnd}
 use Rattle.session.specs.Happenings.{Happening, records_of}
 use Rattle.session.specs.Once.{TakesOnce}
 use Rattle.session.specs.Places.{Place, left_by}
 use Rattle.driver.specs.Booted.{AsksFor}
 use Rattle.driver.specs.Lines.{id_of, lines_of}
+use Rattle.driver.specs.Over.{StopsAt}
 use Rattle.driver.specs.Went.{StandsForFront, StandsForMost, Went}
 use Rattle.driver.specs.declared.over.Booted.TheVariants as booted
 use Rattle.driver.specs.declared.over.Over.{Over}
@@ -35,7 +35,7 @@ use Rattle.preparation.specs.Readied.{IsReadied}
 use Rattle.deploying.specs.declared.driven.Driven.{Driven}
 use Rattle.deploying.specs.declared.driven.Driven.TheVariants as driven
 use Rattle.refusal_lines.specs.Statuses.{status_of_outcome}
-use Rattle.deployments.specs.Endings.{Ending, Closes, Restarts, Reboots, Fails, Breaks, Forgets, Starves, Declines, Full, Idle, line_of_ending, status_of_ending}
+use Rattle.deployments.specs.Endings.{Ending, Closes, Restarts, Reboots, Fails, Breaks, Forgets, Starves, Declines, Full, Idle, is_failing, line_of_ending, status_of_ending}
 
 -- ---- lines
 
@@ -102,25 +102,18 @@ Ends (Declines d) h q = h ≡ []
 Ends (Full at) h q = h ≡ []
 Ends Idle h q = (h ≡ []) × (q.device.pending ≡ None)
 
--- All components are stopped, none was killed for the end of the call, and no end of a bootstrap is still to be recorded.
-pub record AreStopped (q : Place) : Type 0 where
-  pub stopped : is_stopped q.world ≡ true
-  pub cut : q.cut ≡ false
-  pub recorded : q.boot_end ≡ None
+-- A call ends as a session that answers this status, or a stage did not end in so many moments. So no failure is left without its
+-- record but where 5 or 6 is answered, and no end of a bootstrap but where the disk failed besides; and all components are stopped
+-- but where the call gives up.
+abbrev pub EndsAs : Ending → List Happening → Place → Status → Type 0
+EndsAs ending h q status = IsEnd q status (is_failing ending) ⊎ ((ending ≡ Forgets) × (most_turns ≤ moments_in h))
 
--- So it is where the call closes its deployment, or ends for the restart or the reboot that a bootstrap asks for.
-abbrev pub Stops : Ending → Place → Type 0
-Stops (Closes o) q = AreStopped q
-Stops (Restarts id) q = AreStopped q × (q.over ≡ true)
-Stops (Reboots id) q = AreStopped q × (q.over ≡ true)
-Stops _ q = ⊤
-
--- so it is where a deployment was driven so and the call ends with this status
-abbrev pub StopsFor : {J : Type 0} → Driven J → Status → Place → Type 0
-StopsFor (driven.Closed s o) status q = status ≡ status_of_outcome o → AreStopped q
-StopsFor (driven.Restart s) status q = AreStopped q × (q.over ≡ true)
-StopsFor (driven.Reboot s) status q = AreStopped q × (q.over ≡ true)
-StopsFor (driven.More s) status q = ⊤
+-- so it is where a deployment was driven so
+abbrev pub EndsDriven : {J : Type 0} → Driven J → Place → Status → Type 0
+EndsDriven (driven.Closed s o) q status = IsEnd q status false
+EndsDriven (driven.Restart s) q status = IsEnd q status false
+EndsDriven (driven.Reboot s) q status = IsEnd q status false
+EndsDriven (driven.More s) q status = IsBare q
 
 module _ (entries : Image → List (List ℕ) → Type 0) {D : Type 0} (may_leave : D → Image → Type 0) where
   -- each image that a crash may leave now stands for the device that the history leaves
@@ -145,9 +138,9 @@ Spared may_leave moment left_since old new = Leaves moment left_since old new (A
 
 module _ (entries : Image → List (List ℕ) → Type 0) (files : List ℕ → Type 0) {D : Type 0} (may_leave : D → Image → Type 0) (moment : D → ℕ) (left_since : D → ℕ → Image → Type 0) where
   -- Files of artifacts change, then the history goes on from its first record to its last, and then files of artifacts change
-  -- again. At the end no child lives. How the call ends gives its status, its lines, its last record, and what the disk holds: each image stands
-  -- for the device of all records, or of all but the last, whose line is then not written. One plan is accepted at most, and none
-  -- where one was pending.
+  -- again. At the end no child lives. How the call ends gives its status, its lines, its last record, what is left undone, and what the disk
+  -- holds: each image stands for the device of all records, or of all but the last, whose line is then not written, and behind which
+  -- nothing is started. One plan is accepted at most, and none where one was pending.
   pub record Call (old new : D) (old_list new_list : Option (List RunnerEntry)) (old_held new_held : Option (List ℕ)) (p : Place) (status : Status) : Type 0 where
     pub from : D
     pub to : D
@@ -160,8 +153,9 @@ module _ (entries : Image → List (List ℕ) → Type 0) (files : List ℕ → 
     pub answers : IsOrEdge status (status_of_ending ending)
     pub prints : Prints old_held new_held p.device (records_of history) ending status (StandsBehind entries may_leave new p history)
     pub ends : Ends ending history (left_by p history)
-    pub stops : status ≡ status_of_ending ending → Stops ending (left_by p history)
+    pub end : EndsAs ending history (left_by p history) status
     pub stands : (c : Image) → may_leave new c → StandsForMost entries p.device (records_of history) c
+    pub doubt : StandsBehind entries may_leave new p history ⊎ StopsAt history
     pub once : TakesOnce p.taken (records_of history)
 
 -- ---- counts of faults

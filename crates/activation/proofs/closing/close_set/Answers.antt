@@ -51,7 +51,7 @@ returns-in-Err-tell_close-clause-went g c = λ p told living broken r up.
       close_went g.J.Journal.entries g.J.Journal.files g.met.D.Disk.laws c.args.disk.now c.close.new.disk told.list p d broken o world told living r (ends_set p d broken world told living r up) allowed (subst (λ (x : Outcome). Notes g.J.Journal.entries g.J.Journal.files g.met.D.Disk.laws c.args.disk.now c.close.new.disk d (stored.Closed x)) same c.close.ensures.moments),
       subst (λ (l : List ℕ). AppendsFront (g.K.Sink.held c.args.sink.now) (g.K.Sink.held c.tell_close.new.sink) l) (line_closed p d o r.device_is)
           (c.in-Err-tell_close.ensures.line d.closed (id_of d) o (ap (λ (x : Device). x.closed) c.device.ensures ∙ last_closed d e o pending taken)),
-      (λ i left. subst (λ (y : Device). StandsFor g.J.Journal.entries i y) back (in_hand_stands g.met.D.Disk.laws g.met.J.Journal.laws _ c.close.new.disk e c.in-Ok.ensures.held.0 i left)),
+      (r.runs.within.on.boot_end, λ i left. subst (λ (y : Device). StandsFor g.J.Journal.entries i y) back (in_hand_stands g.met.D.Disk.laws g.met.J.Journal.laws _ c.close.new.disk e c.in-Ok.ensures.held.0 i left)),
       closed_quits p d broken o world (g.S.Supervise.world c.steady.new.self) told living r (steadied_owners p d broken world (g.S.Supervise.world c.steady.new.self) told living r c.steady.ensures),
     )
 

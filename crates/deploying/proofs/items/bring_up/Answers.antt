@@ -102,4 +102,4 @@ returns-in-Err-clause-course g c = λ p comes.
     let k = c.kill_all-in-Err.ensures.went (left_by p t.0) (quits_given_up (left_by p t.0) (g.S.Supervise.world c.activate.new.supervisor) new (g.R.Runner.living c.activate.new.runner) t.4) in
     cut_off g.J.Journal.entries g.J.Journal.files c.args.disk.now c.activate.new.disk (g.R.Runner.list c.args.runner.now) new.list (g.R.Runner.list c.kill_all-in-Err.new.runner)
     (g.K.Sink.held c.args.sink.now) (g.K.Sink.held c.activate.new.sink) p t.0 k.0 c.in-Err.over _
-    t.1 t.2 t.3 k.1 k.3
+    t.1 t.2 t.3 k.1 k.2 k.3 k.4

@@ -149,4 +149,4 @@ returns-in-Err-clause-course g c = λ p front.
     (no_lines (g.K.Sink.held c.args.sink.now) p.device t.0 t.1.none)
     (driven_on world last (g.R.Runner.living c.kill_all-in-Err.new.runner) t.0)
     (cut_off g.J.Journal.entries g.J.Journal.files c.args.disk.now c.roll.new.disk told.list new.list last.list (g.K.Sink.held c.args.sink.now) (g.K.Sink.held c.roll.new.sink) (left_by p t.0) u.0 k.0 c.in-Err.over (λ y h r. DrivenLeft y h r world last (g.R.Runner.living c.kill_all-in-Err.new.runner))
-    u.1 u.2 u.3 k.1 k.3)
+    u.1 u.2 u.3 k.1 k.2 k.3 k.4)

@@ -1,14 +1,16 @@
 use Rattle.std.proofs.Common.{◌++◌, inl, inr, refl, sym, subst, arith}
 use Rattle.step_runner.specs.Entries.{Listed}
-use Rattle.session.specs.Courses.{IsBare}
-use Rattle.session.specs.Places.{left_by}
+use Rattle.nuc_base.specs.declared.status.Status.TheVariants as statuses
+use Rattle.session.specs.Courses.{IsEnd}
+use Rattle.session.specs.Places.{Place, left_by}
 use Rattle.session.proofs.Joined.{left-append}
 use Rattle.driver.proofs.Acting.{acts_on}
 use Rattle.activation.specs.Turns.{moments_in}
 use Rattle.activation.proofs.Turning.{moments_on}
 use Rattle.stopping.specs.declared.stops.Stopped.TheVariants as stopped
+use Rattle.giving_up.proofs.Ended.{killed_ends}
 use Rattle.giving_up.proofs.GivenUp.{stopping_given_up}
-use Rattle.deployments.proofs.Places.{bare_none, stop_left}
+use Rattle.deployments.proofs.Places.{bare_none, leaves_told, stop_left, stopped_ends}
 use Rattle.deployments.proofs.closes.stop.Goals as goal
 
 -- ---- none stands
@@ -20,7 +22,7 @@ returns-in-All-clause-went g c = λ p d may.
     let living = g.R.Runner.living c.stop_all_components.new.runner in
     let t = c.stop_all_components.ensures.went p d may in
     let s = stop_left c.stop_all_components.result stopped.All (moments_in t.0) (left_by p t.0) d world new living c.in-All.is t.2 in
-    (t.0, t.1, s.bare, inl (c.outcome_status.ensures, record { stopped = s.stopped; cut = s.cut; recorded = s.boot_end }))
+    (t.0, t.1, stopped_ends c.args.outcome (left_by p t.0) d world new living c.outcome_status.result s c.outcome_status.ensures, inl c.outcome_status.ensures)
 
 pub returns-in-All-clause-none : goal.returns-in-All-clause-none
 returns-in-All-clause-none g c =
@@ -51,9 +53,11 @@ returns-in-More-clause-went g c = λ p d may.
     let living = g.R.Runner.living c.stop_all_components.new.runner in
     let t = c.stop_all_components.ensures.went p d may in
     let more = stop_left c.stop_all_components.result stopped.More (moments_in t.0) (left_by p t.0) d world new living c.in-More.is t.2 in
-    let k = c.kill_all.ensures.went (left_by p t.0) (stopping_given_up (left_by p t.0) d world new living more.0) in (
+    let up = stopping_given_up (left_by p t.0) d world new living more.0 in
+    let k = c.kill_all.ensures.went (left_by p t.0) up in (
       k.0 ++ t.0,
       acts_on p t.0 k.0 (g.R.Runner.list c.args.runner.now) new.list (g.R.Runner.list c.kill_all.new.runner) t.1 k.1,
-      subst IsBare (sym (left-append p k.0 t.0)) k.3,
+      subst (λ (q : Place). IsEnd q statuses.Memory false) (sym (left-append p k.0 t.0))
+          (killed_ends (left_by p t.0) (left_by (left_by p t.0) k.0) world new living statuses.Memory false up k.2 k.3 refl (λ closed. leaves_told (left_by p t.0).world more.0.keeps)),
       inr (refl, omega (arith, moments_on t.0 k.0, more.1)),
     )

@@ -54,7 +54,7 @@ returns-in-Err-tell_close-clause-went g c = λ p told living from orderly.
       boot_went g.J.Journal.entries g.J.Journal.files g.met.D.Disk.laws c.args.disk.now c.close.new.disk told.list p d o world told living from tt allowed c.close.ensures.moments,
       subst (λ (l : List ℕ). AppendsFront (g.K.Sink.held c.args.sink.now) (g.K.Sink.held c.tell_close.new.sink) l) (line_closed p d o from.between.stands.device_is)
           (c.in-Err-tell_close.ensures.line d.closed (id_of d) o (ap (λ (x : Device). x.closed) c.device.ensures ∙ last_closed d e o pending taken)),
-      (λ i left. subst (λ (y : Device). StandsFor g.J.Journal.entries i y) back (in_hand_stands g.met.D.Disk.laws g.met.J.Journal.laws _ c.close.new.disk e c.in-Ok.ensures.held.0 i left)),
+      (from.between.boot_end, λ i left. subst (λ (y : Device). StandsFor g.J.Journal.entries i y) back (in_hand_stands g.met.D.Disk.laws g.met.J.Journal.laws _ c.close.new.disk e c.in-Ok.ensures.held.0 i left)),
       boot_bare p d o world told living from,
     )
 

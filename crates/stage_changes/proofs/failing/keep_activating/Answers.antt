@@ -54,7 +54,7 @@ returns-in-Err-tell_close-clause-went g c = λ p told living from.
       items_went g.J.Journal.entries g.J.Journal.files g.met.D.Disk.laws c.args.disk.now c.keep.new.disk told.list p d world told living from allowed c.keep.ensures.moments,
       subst (λ (l : List ℕ). AppendsFront (g.K.Sink.held c.args.sink.now) (g.K.Sink.held c.tell_close.new.sink) l) (line_closed p d o from.comes.stands.device_is)
           (c.in-Err-tell_close.ensures.line d.closed (id_of d) o (ap (λ (x : Device). x.closed) c.device.ensures ∙ last_closed d e o pending taken)),
-      (λ i left. subst (λ (y : Device). StandsFor g.J.Journal.entries i y) back (in_hand_stands g.met.D.Disk.laws g.met.J.Journal.laws _ c.keep.new.disk e c.in-Ok.ensures.held.0 i left)),
+      (from.comes.on.boot_end, λ i left. subst (λ (y : Device). StandsFor g.J.Journal.entries i y) back (in_hand_stands g.met.D.Disk.laws g.met.J.Journal.laws _ c.keep.new.disk e c.in-Ok.ensures.held.0 i left)),
       items_given_up p d world told living from (g.S.Supervise.world c.steady.new.self) (owners_steadied world (g.S.Supervise.world c.steady.new.self) c.steady.ensures),
     )
 
