@@ -1,0 +1,6 @@
+pub mod Same
+pub mod Befalls
+pub mod Stands
+pub mod Comes
+pub mod Orders
+pub mod Items
