@@ -13,21 +13,22 @@ use Rattle.lifecycle.specs.declared.kinds.After.{After}
 use Rattle.lifecycle.specs.declared.kinds.LifeEvent.{LifeEvent}
 use Rattle.lifecycle.specs.declared.kinds.LifeEvent.TheVariants as event
 use Rattle.supervisor.specs.Fitted.{Fitted, limit_of, prepared_of}
-use Rattle.supervisor.specs.World.{World, Part, Child, At, changed_at, child_gone, child_of, is_broken, is_to_stop, owner, part_name, place_of, without_child}
+use Rattle.supervisor.specs.World.{World, Part, Child, At, changed_at, child_gone, child_of, is_broken, is_to_stop, owner, part_name, place_of, stands_up, without_child}
 use Rattle.supervisor.specs.Deadlines.{deadline_after}
-use Rattle.supervisor.specs.Turns.{is_begun, is_met, may_begin, may_retry, may_stop, serves_softly, stands_up}
+use Rattle.supervisor.specs.Turns.{is_begun, is_met, may_begin, may_retry, may_stop, serves_softly}
 use Rattle.supervisor.specs.Lives.{lived, lived_at}
-use Rattle.supervisor.specs.Changes.{forgetting, steadied}
-use Rattle.supervisor.specs.Events.{ended, gone_by, is_late_child, is_orphan_at, kill_event, kill_event_at, killed, later, refused, skipped, started, told_at, with_child}
-use Rattle.supervisor.specs.Acts.{MayKill, MayMove, Move, OwesAt, Quietly, is_kill_due, spares}
-use Rattle.progress_laws.specs.Kept.{AreKept, IsFalling, IsKeptPart, MayBefall}
-use Rattle.progress_laws.specs.Rank.{rank}
+use Rattle.supervisor.specs.Events.{ended, gone_by, handed_at, is_late_child, is_orphan_at, kill_event, kill_event_at, killed, later, refused, skipped, started, told_at, with_child}
+use Rattle.supervisor.specs.Acts.{HandsOut, MayKill, MayMove, Move, NextAct, OwesAt, Quietly, is_kill_due, spares}
+use Rattle.supervisor.specs.declared.kinds.Act.{Act}
+use Rattle.supervisor.specs.declared.kinds.Act.TheVariants as acts
+use Rattle.progress_laws.specs.Kept.{AreKept, IsKeptPart, MayBefall}
+use Rattle.progress_laws.proofs.Answered.{handed_all, handed_length}
 use Rattle.progress_laws.proofs.Goes.{not_so}
-use Rattle.progress_laws.proofs.Happens.{move_lowers, owner_at}
+use Rattle.progress_laws.proofs.Happens.{owner_at}
 use Rattle.progress_laws.proofs.Sums.{at_both, at_map}
 use Rattle.progress_laws.proofs.Whole.{end_keeps, kill_keeps, later_keeps, move_keeps, refuse_keeps, skip_keeps, start_keeps, told_keeps}
-use Rattle.ending_laws.specs.Drives.{Drives, IsDriven, IsInTime}
-use Rattle.ending_laws.proofs.Same.{AreSame, IsSame, all_self, goes_on, same_befallen, same_changed, same_lived}
+use Rattle.ending_laws.specs.Drives.{Drives, GoesOn, IsDriven, IsInTime}
+use Rattle.ending_laws.proofs.Same.{AreSame, IsSame, all_self, goes_on, goes_through, same_befallen, same_changed, same_lived, same_self}
 
 -- ---- the children
 
@@ -73,22 +74,22 @@ module _ (w : World) (d : Drives w) where
   may_of k event.Skipped a = absurd a
   may_of k (event.Ended s x) a = absurd a
 
-  pub move_drives : (k : ℕ) (e : LifeEvent) → MayMove w k e → Drives (lived_at k e w)
-  move_drives k e m = goes_on w (lived_at k e w) d (move_keeps w d.alone k e m).kept (alone_befalls k e (may_of k e m))
+  pub move_on : (k : ℕ) (e : LifeEvent) → MayMove w k e → GoesOn w (lived_at k e w)
+  move_on k e m = goes_on w (lived_at k e w) d (move_keeps w d.alone k e m).kept (alone_befalls k e (may_of k e m))
 
-  pub told_drives : (k : ℕ) (s : Step) (x : Exit) (b : Bool) → OwesAt w k s x b → Drives (told_at k w)
-  told_drives k s x b o = goes_on w (told_at k w) d (told_keeps w d.alone k s x b o).kept
+  pub told_on : (k : ℕ) (s : Step) (x : Exit) (b : Bool) → OwesAt w k s x b → GoesOn w (told_at k w)
+  told_on k s x b o = goes_on w (told_at k w) d (told_keeps w d.alone k s x b o).kept
       (same_changed k (λ p. record p { owed = None }) w.parts (known_at k (λ p. (p.owed ≡ Some (s, x)) × (is_broken p.life.state ≡ b) × (place_of (part_name p) w.parts ≡ Some k)) (λ p. IsSame p (record p { owed = None })) (λ p y m. record { fitted = refl; next = refl; leaving = refl; in_time = λ h. h }) o))
 
   unhanded_befalls : (k : ℕ) (t : Step) (e : LifeEvent) → ((p : Part) → MayBefall e p) → At k (λ p. is_begun t p ≡ true) w.parts → AreSame w.parts (lived_at k e (record w { parts = changed_at k (λ p. record p { handed = false }) w.parts })).parts
   unhanded_befalls k t e f a = same_befallen k w.moment w.steady e (λ p. record p { handed = false }) w.parts
       (known_at k (λ p. is_begun t p ≡ true) (λ p. IsSame p (lived w.steady e (record p { handed = false }))) (λ p x m. same_lived w.steady e p p.children false x.0 x.1.next (f (record p { handed = false })) (λ h. h)) a)
 
-  pub refuse_drives : (k : ℕ) (s : Step) → At k (λ p. is_begun s p ≡ true) w.parts → Drives (refused k s w)
-  refuse_drives k s a = goes_on w (refused k s w) d (refuse_keeps w d.alone k s a).kept (unhanded_befalls k s (event.Ended s exits.NotStarted) (λ p. tt) a)
+  pub refuse_on : (k : ℕ) (s : Step) → At k (λ p. is_begun s p ≡ true) w.parts → GoesOn w (refused k s w)
+  refuse_on k s a = goes_on w (refused k s w) d (refuse_keeps w d.alone k s a).kept (unhanded_befalls k s (event.Ended s exits.NotStarted) (λ p. tt) a)
 
-  pub skip_drives : (k : ℕ) (s : Step) → At k (λ p. is_begun s p ≡ true) w.parts → Drives (skipped k w)
-  skip_drives k s a = goes_on w (skipped k w) d (skip_keeps w d.alone k s a).kept (unhanded_befalls k s event.Skipped (λ p. tt) a)
+  pub skip_on : (k : ℕ) (s : Step) → At k (λ p. is_begun s p ≡ true) w.parts → GoesOn w (skipped k w)
+  skip_on k s a = goes_on w (skipped k w) d (skip_keeps w d.alone k s a).kept (unhanded_befalls k s event.Skipped (λ p. tt) a)
 
   -- ---- a start
 
@@ -113,8 +114,8 @@ module _ (w : World) (d : Drives w) where
   start_same k n step.Recover a = born_same k n step.Recover a
   start_same k n step.Bootstrap a = born_same k n step.Bootstrap a
 
-  pub start_drives : (k n : ℕ) (s : Step) → At k (λ p. is_begun s p ≡ true) w.parts → Drives (started k s n w)
-  start_drives k n s a = goes_on w (started k s n w) d (start_keeps w d.alone k n s a).kept (start_same k n s a)
+  pub start_on : (k n : ℕ) (s : Step) → At k (λ p. is_begun s p ≡ true) w.parts → GoesOn w (started k s n w)
+  start_on k n s a = goes_on w (started k s n w) d (start_keeps w d.alone k n s a).kept (start_same k n s a)
 
   -- ---- a child that is gone
 
@@ -132,8 +133,8 @@ module _ (w : World) (d : Drives w) where
   end_same n x k s o = subst (λ (z : Option (ℕ × Step)). (let v : World = (elim z [ None ↦ w | Some y ↦ gone_by (Some (event.Ended y.1 x)) y.0 y.1 n w ]) in AreSame w.parts v.parts)) (sym o)
       (gone_by_same k n s (event.Ended s x) (λ p. IsSomeAnd (child_of n p.children) (λ c. c.of ≡ s)) (owner_at n w.parts k s o) (λ p q. tt))
 
-  pub end_drives : (n : ℕ) (x : Exit) (k : ℕ) (s : Step) → owner n w.parts ≡ Some (k, s) → Drives (ended n x w)
-  end_drives n x k s o = goes_on w (ended n x w) d (end_keeps w d.alone n x k s o).kept (end_same n x k s o)
+  pub end_on : (n : ℕ) (x : Exit) (k : ℕ) (s : Step) → owner n w.parts ≡ Some (k, s) → GoesOn w (ended n x w)
+  end_on n x k s o = goes_on w (ended n x w) d (end_keeps w d.alone n x k s o).kept (end_same n x k s o)
 
   kill_may : (n : ℕ) (s : Step) (p : Part) (e : LifeEvent) → kill_event w.moment n s p ≡ Some e → MayBefall e (without_child n p)
   kill_may n s p e = elim (is_late_child w.moment n p) as (λ b. (if b then Some (event.Ended s exits.TimedOut) else option_map (λ a. event.Stop a) p.stop) ≡ Some e → MayBefall e (without_child n p)) [
@@ -157,23 +158,38 @@ module _ (w : World) (d : Drives w) where
       (gone_for (kill_event_at k s n w) k n s (at_map k w.parts (λ p. (is_kill_due w n s p ≡ true) × (slice_get w.parts k ≡ Some p)) (λ p. kill_event w.moment n s p ≡ kill_event_at k s n w)
       (λ p x. sym (ap (λ (o : Option Part). option_and_then (kill_event w.moment n s) o) x.1)) (at_self k w.parts (λ p. is_kill_due w n s p ≡ true) m.1)))
 
-  pub kill_drives : (n k : ℕ) (s : Step) → MayKill w n k s → Drives (killed n w)
-  kill_drives n k s m = goes_on w (killed n w) d (kill_keeps w d.alone n k s m).kept (kill_same n k s m)
+  pub kill_on : (n k : ℕ) (s : Step) → MayKill w n k s → GoesOn w (killed n w)
+  kill_on n k s m = goes_on w (killed n w) d (kill_keeps w d.alone n k s m).kept (kill_same n k s m)
 
-  pub later_drives : (m : ℕ) → Drives (later m w)
-  later_drives m = goes_on w (later m w) d (later_keeps w d.alone m).kept (all_self w.parts)
+  pub later_on : (m : ℕ) → GoesOn w (later m w)
+  later_on m = goes_on w (later m w) d (later_keeps w d.alone m).kept (all_self w.parts)
 
--- ---- moves
+-- ---- the next act
 
-pub moves_drive : (w v : World) (ms : List Move) → Quietly w ms v → Drives w → Drives v
-moves_drive w v [] q d = subst Drives (sym q) d
-moves_drive w v (m ∷ ms) q d = moves_drive (lived_at m.who m.what w) v ms q.2 (move_drives w d m.who m.what q.1)
+handed_keeps : (p : Part) → IsKeptPart p → IsKeptPart (record p { handed = true })
+handed_keeps p k = record { sound = k.sound; steps = k.steps; runnable = k.runnable; coming = k.coming; timed = k.timed; run = k.run; gone = k.gone; own = k.own; asks = k.asks; waits = k.waits }
 
-pub moves_fall : (w v : World) (ms : List Move) → Quietly w ms v → Drives w → IsFalling w → IsFalling v × (rank v ≤ rank w)
-moves_fall w v [] q d f = subst (λ (x : World). IsFalling x × (rank x ≤ rank w)) (sym q) (f, omega arith)
-moves_fall w v (m ∷ ms) q d f =
-    let k = move_keeps w d.alone m.who m.what q.1 in
-    let l = move_lowers w d.alone.parts d.alone.few f m.who m.what q.1 in
-    let r = moves_fall (lived_at m.who m.what w) v ms q.2 (move_drives w d m.who m.what q.1) (k.falling f) in
-    let i = r.1 in
-    (r.0, omega (arith, l, i))
+hand_same : (k : ℕ) (ps : List Part) → AreSame ps (changed_at k (λ p. record p { handed = true }) ps)
+hand_same k [] = tt
+hand_same zero (p ∷ ps) = (record { fitted = refl; next = refl; leaving = refl; in_time = λ h. h }, all_self ps)
+hand_same (suc k) (p ∷ ps) = (same_self p, hand_same k ps)
+
+pub hand_on : (w : World) (k : ℕ) → Drives w → GoesOn w (handed_at k w)
+hand_on w k d =
+    let l = handed_length k w.parts in
+    let f = d.alone.few in
+    goes_on w (handed_at k w) d (record { parts = handed_all IsKeptPart handed_keeps k w.parts d.alone.parts; few = omega (arith, l, f) }) (hand_same k w.parts)
+
+pub moves_on : (w v : World) (ms : List Move) → Quietly w ms v → Drives w → GoesOn w v
+moves_on w v [] q d = subst (GoesOn w) (sym q) (record { drives = d; stays = refl })
+moves_on w v (m ∷ ms) q d = let g = move_on w d m.who m.what q.1 in goes_through w (lived_at m.who m.what w) v g (moves_on (lived_at m.who m.what w) v ms q.2 g.drives)
+
+act_on : (w : World) (act : Option Act) (v : World) → Drives w → HandsOut w act v → GoesOn w v
+act_on w None v d h = subst (GoesOn w) (sym h.1) (record { drives = d; stays = refl })
+act_on w (Some (acts.Start k t)) v d h = subst (GoesOn w) (sym h.2) (hand_on w k d)
+act_on w (Some (acts.Kill n)) v d h = subst (GoesOn w) (sym h.4) (kill_on w d n h.0 h.1 h.3)
+act_on w (Some (acts.Failed k t e)) v d h = subst (GoesOn w) (sym h.1) (told_on w d k t e false h.0)
+act_on w (Some (acts.Broke k t e)) v d h = subst (GoesOn w) (sym h.1) (told_on w d k t e true h.0)
+
+pub next_on : (w v : World) (act : Option Act) → NextAct w act v → Drives w → GoesOn w v
+next_on w v act n d = let g = moves_on w n.seen n.made n.quietly d in goes_through w n.seen v g (act_on n.seen act v g.drives n.hands)

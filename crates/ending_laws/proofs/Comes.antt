@@ -13,7 +13,7 @@ use Rattle.progress_laws.specs.Kept.{AreKept, IsKeptPart, are_there}
 use Rattle.progress_laws.proofs.Changes.{changed_kept}
 use Rattle.progress_laws.proofs.Goes.{not_so}
 use Rattle.progress_laws.proofs.Lists.{Has, each_has}
-use Rattle.ending_laws.specs.Drives.{Drives, IsAmong, IsDriven, IsPlaced, MayCome}
+use Rattle.ending_laws.specs.Drives.{IsAmong, IsDriven, IsPlaced, MayCome, Rises}
 
 none_standing : (ps : List Part) → list_any (λ p. not (is_over p)) ps ≡ false → standing ps ≡ []
 none_standing [] e = refl
@@ -86,14 +86,22 @@ fresh_driven items counts m = all_fresh (IsDriven m.s (fresh_of (counted 0 count
   soft_there = λ l. all_among counts items f.soft p.soft_there;
 })
 
-pub begins : (items : List Fitted) (counts : List ℕ) (steady : Bool) (w : World) → is_stopped w ≡ true → MayCome items → AllByRecursion (λ (n : ℕ). n < 3) counts → Drives (changed_to items counts steady w)
+none_leave : (ps : List Part) → AllByRecursion (λ p. is_leaving p ≡ false) ps → list_any is_leaving ps ≡ false
+none_leave [] a = refl
+none_leave (p ∷ ps) a = rw a.0 (none_leave ps a.1)
+
+pub begins : (items : List Fitted) (counts : List ℕ) (steady : Bool) (w : World) → is_stopped w ≡ true → MayCome items → AllByRecursion (λ (n : ℕ). n < 3) counts → Rises (changed_to items counts steady w)
 begins items counts steady w e m few =
     let none = none_standing w.parts (not_so (list_any (λ p. not (is_over p)) w.parts) e) in
     let is = is_change items counts steady w none in
-    let l : standing_count (bare w) + length items ≤ 256 = m.few in
+    let few_items = m.few in
+    let l : standing_count (bare w) + length items ≤ 256 = omega (arith, few_items) in
     let k : AreKept (changed_to items counts steady (bare w)) = changed_kept items counts steady (bare w) (record { parts = tt; few = omega arith }) m.runnable few tt l in
     record {
-      alone = record { parts = subst (λ (ps : List Part). AllByRecursion IsKeptPart ps) (sym is) k.parts; few = subst (λ (ps : List Part). length ps ≤ 256) (sym is) k.few };
-      s = m.s;
-      each = subst (λ (ps : List Part). AllByRecursion (IsDriven m.s ps) ps) (sym is) (fresh_driven items counts m);
+      drives = record {
+        alone = record { parts = subst (λ (ps : List Part). AllByRecursion IsKeptPart ps) (sym is) k.parts; few = subst (λ (ps : List Part). length ps ≤ 256) (sym is) k.few };
+        s = m.s;
+        each = subst (λ (ps : List Part). AllByRecursion (IsDriven m.s ps) ps) (sym is) (fresh_driven items counts m);
+      };
+      stays = subst (λ (ps : List Part). list_any is_leaving ps ≡ false) (sym is) (none_leave (fresh_of (counted 0 counts items)) (all_fresh (λ p. is_leaving p ≡ false) 0 counts items (λ f n h. refl)));
     }

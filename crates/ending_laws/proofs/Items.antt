@@ -7,7 +7,7 @@ use Rattle.std.proofs.lemmas.Bool.{or_left, or_right}
 use Rattle.std.proofs.lemmas.Option.{slice_get-get_or, slice_get_within}
 use Rattle.std.proofs.lemmas.Slice.Eq.{bytes_eq-Decides}
 use Rattle.serde_json.specs.Data.{Data}
-use Rattle.nuc_base.specs.Leads.{Leads}
+use Rattle.nuc_base.proofs.Leading.{leads_more}
 use Rattle.nuc_base.specs.declared.kinds.Step.{Step}
 use Rattle.nuc_base.specs.declared.kinds.Step.TheVariants as step
 use Rattle.nuc_base.specs.declared.platform.Platform.{Platform}
@@ -71,20 +71,21 @@ has_either x (y ∷ xs) ys (inl q) = inl (inl q)
 has_either x (y ∷ xs) ys (inr h) = elim (has_either x xs ys h) [ inl a ↦ inl (inr a) | inr b ↦ inr b ]
 
 -- a name that passes a test of its dependency is that of a dependency
-named : (t : Dependency → Bool) (ds : List Dependency) (n : List ℕ) → Has n (map (λ (d : Dependency). d.name) (filter t ds)) → (d : Dependency) × Has d ds × (d.name ≡ n)
+abbrev NamedIn : List Dependency → List ℕ → Type 0
+NamedIn ds n = (d : Dependency) × Has d ds × (d.name ≡ n)
+
+named_by : (b : Bool) (d : Dependency) (ds : List Dependency) (ns : List (List ℕ)) (n : List ℕ) → (Has n ns → NamedIn ds n) → Has n (if b then d.name ∷ ns else ns) → NamedIn (d ∷ ds) n
+named_by true d ds ns n f (inl q) = (d, inl refl, sym q)
+named_by true d ds ns n f (inr h) = let r = f h in (r.0, inr r.1, r.2)
+named_by false d ds ns n f h = let r = f h in (r.0, inr r.1, r.2)
+
+names_if : (b : Bool) (d : Dependency) (ds : List Dependency) → map (λ (d : Dependency). d.name) (if b then d ∷ ds else ds) ≡ (if b then d.name ∷ map (λ (d : Dependency). d.name) ds else map (λ (d : Dependency). d.name) ds)
+names_if true d ds = refl
+names_if false d ds = refl
+
+named : (t : Dependency → Bool) (ds : List Dependency) (n : List ℕ) → Has n (map (λ (d : Dependency). d.name) (filter t ds)) → NamedIn ds n
 named t [] n h = absurd h
-named t (d ∷ ds) n h = go (t d) h
-  where
-    more : Has n (map (λ (d : Dependency). d.name) (filter t ds)) → (e : Dependency) × Has e (d ∷ ds) × (e.name ≡ n)
-    more i = let r = named t ds n i in (r.0, inr r.1, r.2)
-
-    first : (n ≡ d.name) ⊎ Has n (map (λ (d : Dependency). d.name) (filter t ds)) → (e : Dependency) × Has e (d ∷ ds) × (e.name ≡ n)
-    first (inl q) = (d, inl refl, sym q)
-    first (inr i) = more i
-
-    go : (b : Bool) → Has n (map (λ (d : Dependency). d.name) (if b then d ∷ filter t ds else filter t ds)) → (e : Dependency) × Has e (d ∷ ds) × (e.name ≡ n)
-    go true i = first i
-    go false i = more i
+named t (d ∷ ds) n h = named_by (t d) d ds (map (λ (d : Dependency). d.name) (filter t ds)) n (λ i. named t ds n i) (subst (λ (ns : List (List ℕ)). Has n ns) (names_if (t d) d (filter t ds)) h)
 
 -- ---- limits
 
@@ -114,13 +115,13 @@ prepared_limit scope None made i l = subst (λ (o : Option Prepared). (not (is_s
 prepared_limit scope (Some def) made i l = subst (λ (o : Option Prepared). (not (is_some o) || is_some (limit_of o)) ≡ true) (sym i.1) (ap (λ (o : Option ℕ). is_some o) i.2.limit ∙ l)
 
 one_main : (scope : Scope) (a b : Option StepDef) (x y : Option Prepared) → IsPrepared scope a x → IsPrepared scope b y → (IsSome a → IsSome b → ⊥) → (is_some x && is_some y) ≡ false
-one_main scope None b x y i j no = subst (λ (o : Option Prepared). (is_some o && is_some y) ≡ false) (sym i) refl
-one_main scope (Some a) None x y i j no = subst (λ (o : Option Prepared). (is_some x && is_some o) ≡ false) (sym j) (and_false (is_some x))
+one_main scope None b x y i j never = subst (λ (o : Option Prepared). (is_some o && is_some y) ≡ false) (sym i) refl
+one_main scope (Some a) None x y i j never = subst (λ (o : Option Prepared). (is_some x && is_some o) ≡ false) (sym j) (and_false (is_some x))
   where
     and_false : (b : Bool) → (b && false) ≡ false
     and_false true = refl
     and_false false = refl
-one_main scope (Some a) (Some b) x y i j no = absurd (no refl refl)
+one_main scope (Some a) (Some b) x y i j never = absurd (never refl refl)
 
 -- ---- one item
 
@@ -169,10 +170,6 @@ module _ (sound : ReadsSound) (o : Origin) (items : List Item) (fitted : List Fi
         to = r.name;
       }
 
-  leads_by_name : (b c : List ℕ) → Leads (Needs fitted) b c → Leads (NeedsByName o.platform items) b c
-  leads_by_name b c (Leads.direct n) = Leads.direct (by_name b c n)
-  leads_by_name b c (Leads.through {b} {d} {c} n l) = Leads.through (by_name b d n) (leads_by_name d c l)
-
   among_at : (n : List ℕ) (i : Item) (k : ℕ) → slice_get items k ≡ Some i → i.name ≡ n → IsAmong fitted n
   among_at n i k e q =
       let l = slice_get_within items k i e in
@@ -210,7 +207,7 @@ module _ (sound : ReadsSound) (o : Origin) (items : List Item) (fitted : List Fi
   }
     where
       below : (n : List ℕ) → Has n (needs_of f) → order_of fitted n < order_of fitted (name_of f)
-      below n m = needs_below fitted f n (λ name l. are.acyclic name (leads_by_name name name l)) h m
+      below n m = needs_below fitted f n (λ name l. are.acyclic name (leads_more by_name l)) h m
 
   pub ready_come : MayCome fitted
   ready_come =

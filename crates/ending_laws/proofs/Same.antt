@@ -15,7 +15,7 @@ use Rattle.progress_laws.specs.Kept.{AreKept, AllBelow, IsKeptPart, MayBefall, a
 use Rattle.progress_laws.proofs.Items.{by_lived}
 use Rattle.progress_laws.proofs.Keeps.{idle_of, lived_leaving, may_replan_of}
 use Rattle.progress_laws.proofs.Sums.{firsts, firsts_reaching, firsts_at, twice}
-use Rattle.ending_laws.specs.Drives.{Drives, IsDriven, IsInTime}
+use Rattle.ending_laws.specs.Drives.{Drives, GoesOn, IsDriven, IsInTime, Rises}
 
 pub record IsSame (p q : Part) : Type 0 where
   pub fitted : q.fitted ≡ p.fitted
@@ -29,7 +29,7 @@ AreSame [] (q ∷ qs) = ⊥
 AreSame (p ∷ ps) [] = ⊥
 AreSame (p ∷ ps) (q ∷ qs) = IsSame p q × AreSame ps qs
 
-same_self : (p : Part) → IsSame p p
+pub same_self : (p : Part) → IsSame p p
 same_self p = record { fitted = refl; next = refl; leaving = refl; in_time = λ h. h }
 
 pub all_self : (ps : List Part) → AreSame ps ps
@@ -134,6 +134,21 @@ driven_on s all new e (p ∷ ps) (q ∷ qs) a d = (one, driven_on s all new e ps
       soft_there = λ l. needs (λ f. f.soft) l d.0.soft_there;
     }
 
+leaving_same : (ps qs : List Part) → AreSame ps qs → list_any is_leaving qs ≡ list_any is_leaving ps
+leaving_same [] [] a = refl
+leaving_same [] (q ∷ qs) a = absurd a
+leaving_same (p ∷ ps) [] a = absurd a
+leaving_same (p ∷ ps) (q ∷ qs) a = rw a.0.leaving (ap (λ (b : Bool). is_leaving p || b) (leaving_same ps qs a.1))
+
 -- what is kept of all goes on
-pub goes_on : (w v : World) → Drives w → AreKept v → AreSame w.parts v.parts → Drives v
-goes_on w v d a s = record { alone = a; s = d.s; each = driven_on d.s w.parts v.parts (shown_same w.parts v.parts s) w.parts v.parts s d.each }
+pub goes_on : (w v : World) → Drives w → AreKept v → AreSame w.parts v.parts → GoesOn w v
+goes_on w v d a s = record {
+  drives = record { alone = a; s = d.s; each = driven_on d.s w.parts v.parts (shown_same w.parts v.parts s) w.parts v.parts s d.each };
+  stays = leaving_same w.parts v.parts s;
+}
+
+pub rises_on : (w v : World) → GoesOn w v → Rises w → Rises v
+rises_on w v g r = record { drives = g.drives; stays = g.stays ∙ r.stays }
+
+pub goes_through : (u v w : World) → GoesOn u v → GoesOn v w → GoesOn u w
+goes_through u v w a b = record { drives = b.drives; stays = b.stays ∙ a.stays }

@@ -14,7 +14,7 @@ use Rattle.progress_laws.specs.Time.{HasTime}
 use Rattle.progress_laws.proofs.Goes.{begin_goes, stop_goes}
 use Rattle.progress_laws.proofs.Lists.{clash, either}
 use Rattle.progress_laws.proofs.Stops.{steady_whole, stop_whole}
-use Rattle.ending_laws.specs.Drives.{Drives, IsDriven, IsInTime}
+use Rattle.ending_laws.specs.Drives.{Drives, GoesOn, IsDriven, IsInTime}
 use Rattle.ending_laws.proofs.Same.{AreSame, goes_on}
 
 -- ---- one order serves both
@@ -81,8 +81,8 @@ steady_same : (s : List ℕ → ℕ) (all ps : List Part) → AllByRecursion (Is
 steady_same s all [] d = tt
 steady_same s all (p ∷ ps) d = (record { fitted = refl; next = ap (λ (o : Option Coming). option_map (λ (n : Coming). (n.0, 0)) o) d.0.next ∙ sym d.0.next; leaving = refl; in_time = λ h. h }, steady_same s all ps d.1)
 
-pub steady_drives : (w : World) → Drives w → Drives (steadied w)
-steady_drives w d = goes_on w (steadied w) d (steady_whole w (whole w d)).alone (steady_same d.s w.parts w.parts d.each)
+pub steady_on : (w : World) → Drives w → GoesOn w (steadied w)
+steady_on w d = goes_on w (steadied w) d (steady_whole w (whole w d)).alone (steady_same d.s w.parts w.parts d.each)
 
 -- ---- time
 

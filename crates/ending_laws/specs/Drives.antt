@@ -5,6 +5,7 @@ use Rattle.std.specs.Str.{bytes_eq}
 use Rattle.supervisor.specs.Fitted.{Fitted, name_of}
 use Rattle.supervisor.specs.World.{Child, Part, World, part_name, is_leaving}
 use Rattle.progress_laws.specs.Kept.{AllBelow, AreKept, IsRunnable, are_there}
+use Rattle.progress_laws.specs.Rank.{rank}
 
 -- its deadline, where it has one, is a moment
 abbrev pub IsInTime : Child → Type 0
@@ -23,6 +24,26 @@ pub record Drives (w : World) : Type 0 where
   pub alone : AreKept w
   pub s : List ℕ → ℕ
   pub each : AllByRecursion (IsDriven s w.parts) w.parts
+
+-- so it is, and none of them is to leave: they come up
+pub record Rises (w : World) : Type 0 where
+  pub drives : Drives w
+  pub stays : list_any is_leaving w.parts ≡ false
+
+-- what is kept goes on, and none is to leave that was not before
+pub record GoesOn (w v : World) : Type 0 where
+  pub drives : Drives v
+  pub stays : list_any is_leaving v.parts ≡ list_any is_leaving w.parts
+
+-- and the number of the loops is less
+pub record Falls (w v : World) : Type 0 where
+  pub on : GoesOn w v
+  pub less : rank v < rank w
+
+-- and that number is not above
+pub record NotAbove (w v : World) : Type 0 where
+  pub on : GoesOn w v
+  pub least : rank v ≤ rank w
 
 -- ---- items that may be brought up together
 
