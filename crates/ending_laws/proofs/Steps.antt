@@ -101,3 +101,8 @@ time_on w now old new limit m t r l o e = by (least_deadline w) t l e
 pub measure_less : (w v : World) (old new : ℕ) → old < 2 ^ 62 → new < 2 ^ 62 → (rank v < rank w) ⊎ ((rank v ≤ rank w) × (old < new)) → measure (later new v) < measure (later old w)
 measure_less w v old new a b (inl l) = omega (arith, a, b, l)
 measure_less w v old new a b (inr l) = omega (arith, a, b, l.0, l.1)
+
+-- a turn: moves and acts, and then a wait that a child ended, or that left a later moment than the turn's
+pub turn_goes : (a b c before now after : ℕ) → b ≤ a → c ≤ b → before ≤ now → (c < b) ⊎ (now < after) → (c < a) ⊎ ((c ≤ a) × (before < after))
+turn_goes a b c before now after x y z (inl l) = inl (omega (arith, x, l))
+turn_goes a b c before now after x y z (inr l) = inr (omega (arith, x, y), omega (arith, z, l))

@@ -1,5 +1,5 @@
 // Laws of components that come up, or leave, on functions that do nothing.
-ghost use Rattle.std.specs.Prelude.{◌≡◌, ◌⊎◌, ◌<◌, ◌≤◌, ◌+◌, ◌^◌, ℕ, Bool, List, true};
+ghost use Rattle.std.specs.Prelude.{◌≡◌, ◌⊎◌, ◌<◌, ◌≤◌, ◌+◌, ◌-◌, ◌^◌, ℕ, Bool, List, true};
 ghost use Rattle.std.specs.declared.option.Option.{Option};
 ghost use Rattle.std.specs.List.{list_all, AllByRecursion};
 ghost use Rattle.std.specs.Prelude.{Some};
@@ -12,13 +12,14 @@ ghost use Rattle.supervisor.specs.Acts.{NextAct};
 ghost use Rattle.supervisor.specs.declared.kinds.Act.{Act};
 ghost use Rattle.supervisor.specs.Answers.{has_answered};
 ghost use Rattle.supervisor.specs.Changes.{all_stopped, changed_to, steadied};
+ghost use Rattle.supervisor.specs.Deadlines.{least_deadline, until};
 ghost use Rattle.supervisor.specs.Events.{ended, later, refused, skipped, started};
 ghost use Rattle.supervisor.specs.Fitted.{Fitted};
 ghost use Rattle.supervisor.specs.Made.{AreFitted};
 ghost use Rattle.supervisor.specs.Turns.{IsQuiet, is_begun};
 ghost use Rattle.supervisor.specs.World.{At, World, has_broken, is_leaving, is_settled, is_stopped, owner};
 ghost use Rattle.progress_laws.specs.Kept.{IsFalling, is_done};
-ghost use Rattle.progress_laws.specs.Rank.{rank};
+ghost use Rattle.progress_laws.specs.Rank.{measure, rank};
 ghost use Rattle.progress_laws.specs.Time.{HasTime};
 ghost use Rattle.ending_laws.specs.Drives.{Drives, GoesOn, MayCome, Rises};
 
@@ -68,4 +69,11 @@ pub fn drives_fall()
 pub fn drives_end()
     ensures rises { (w : World) → Drives w → has_answered w ≡ true → IsQuiet w → (is_settled w ≡ true) ⊎ (has_broken w ≡ true) ⊎ (HasTime w × (w.moment + 1 < 2 ^ 62)) }
     ensures leaves { (w : World) → Drives w → list_all is_leaving w.parts ≡ true → has_answered w ≡ true → IsQuiet w → (is_stopped w ≡ true) ⊎ (HasTime w × (w.moment + 1 < 2 ^ 62)) }
+{}
+
+/// A loop of turns ends: each turn something befell the components, or the clock went on, as it does where a wait to the least
+/// deadline elapsed.
+pub fn turns_fall()
+    ensures waits { (w : World) (now old new limit : ℕ) → w.moment ≡ now → HasTime w → w.moment + 1 < 2 ^ 62 → limit ≡ until (least_deadline w) now → now ≤ old → (old + limit ≤ new) ⊎ (new ≡ 2 ^ 62 - 1) → now < new }
+    ensures measured { (w v : World) (old new : ℕ) → old < 2 ^ 62 → new < 2 ^ 62 → (rank v < rank w) ⊎ ((rank v ≤ rank w) × (old < new)) → measure (later new v) < measure (later old w) }
 {}
