@@ -43,8 +43,6 @@ use Rattle.driver.proofs.Acting.{acts_none, grows_none}
 use Rattle.driver.proofs.Joins.{acted, records_opened, went_on}
 use Rattle.driver.proofs.Told.{all_told, left_joined, lines_at_joined}
 use Rattle.activation.specs.Ended.{ClosesAs}
-use Rattle.activation.specs.Turns.{moments_in, most_turns}
-use Rattle.activation.proofs.Turning.{moments_on}
 use Rattle.acceptance.specs.Accepts.{IsOpen}
 use Rattle.acceptance.proofs.Opening.{accept_went}
 use Rattle.intake.specs.Takes.{LieElsewhere}
@@ -111,7 +109,6 @@ module _ {J : Type 0} where
   begun_for (Ok (driven.Closed s o)) ending (inr (inr is)) = subst IsBegun (sym is) tt
   begun_for (Ok (driven.Restart s)) ending is = subst IsBegun (sym is) tt
   begun_for (Ok (driven.Reboot s)) ending is = subst IsBegun (sym is) tt
-  begun_for (Ok (driven.More s)) ending is = subst IsBegun (sym is) tt
   begun_for (Err over.Disk) ending is = subst IsBegun (sym is) tt
   begun_for (Err over.Edge) ending is = subst IsBegun (sym is) tt
 
@@ -136,7 +133,6 @@ driven_stops (driven.Closed s o) ending status q (inr (inl is)) stops same = sub
 driven_stops (driven.Closed s o) ending status q (inr (inr is)) stops same = subst (λ (e : Ending). Stops e q) (sym is) tt
 driven_stops (driven.Restart s) ending status q is stops same = subst (λ (e : Ending). Stops e q) (sym is) stops
 driven_stops (driven.Reboot s) ending status q is stops same = subst (λ (e : Ending). Stops e q) (sym is) stops
-driven_stops (driven.More s) ending status q is stops same = subst (λ (e : Ending). Stops e q) (sym is) tt
 
 pub over_answers : (e : Over) (status : Status) → AnswersOver e status → IsOrEdge status (status_of_ending (ending_over e))
 over_answers over.Disk status answers = answers
@@ -161,13 +157,12 @@ module _ (h k : List Happening) (d : Device) (q r : Place) (none : records_of k 
   driven_ends world told living (driven.Closed s o) ending left (inl is) =
       let on = closes_on o left.closed in
       subst (λ (e : Ending). Ends e (k ++ h) r) (sym is) (on, closed_none d r.device o (records_of (k ++ h)) on run)
-  driven_ends world told living (driven.Closed s o) ending left (inr (inl is)) = subst (λ (e : Ending). Ends e (k ++ h) r) (sym is) (inl (o, closes_on o left.closed))
+  driven_ends world told living (driven.Closed s o) ending left (inr (inl is)) = subst (λ (e : Ending). Ends e (k ++ h) r) (sym is) (o, closes_on o left.closed)
   driven_ends world told living (driven.Closed s o) ending left (inr (inr is)) = subst (λ (e : Ending). Ends e (k ++ h) r) (sym is) tt
   driven_ends world told living (driven.Restart s) ending left is =
       subst (λ (e : Ending). Ends e (k ++ h) r) (sym is) (again_on booted.Restart (loaded_device s) left.0.stands.device_is left.2)
   driven_ends world told living (driven.Reboot s) ending left is =
       subst (λ (e : Ending). Ends e (k ++ h) r) (sym is) (again_on booted.Reboot (loaded_device s) left.0.stands.device_is left.2)
-  driven_ends world told living (driven.More s) ending left is = subst (λ (e : Ending). Ends e (k ++ h) r) (sym is) (inr (omega (arith, moments_on h k, left.2)))
 
 -- ---- what the disk holds at the end
 
@@ -257,13 +252,11 @@ module _ {D J : Type 0} {tells : Bool} {seen : D → Image} {may_leave : D → I
   driven_hand (driven.Closed s o) disk hand = (s.log, hand.0)
   driven_hand (driven.Restart s) disk hand = loaded_hand tells may_leave stands end s disk hand
   driven_hand (driven.Reboot s) disk hand = loaded_hand tells may_leave stands end s disk hand
-  driven_hand (driven.More s) disk hand = loaded_hand tells may_leave stands end s disk hand
 
   driven_is : (x : Driven J) (h : List Happening) (q : Place) (world : World) (told : Told) (living : List ℕ) → DrivenLeft x h q world told living → q.device ≡ driven_device x
   driven_is (driven.Closed s o) h q world told living left = left.stands.device_is
   driven_is (driven.Restart s) h q world told living left = left.0.stands.device_is
   driven_is (driven.Reboot s) h q world told living left = left.0.stands.device_is
-  driven_is (driven.More s) h q world told living left = left.3
 
   -- ---- where it ends
 

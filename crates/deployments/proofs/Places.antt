@@ -24,8 +24,7 @@ use Rattle.driver.specs.Stands.{IsBetween, IsFront}
 use Rattle.driver.proofs.Entries.{never}
 use Rattle.driver.proofs.Still.{childless}
 use Rattle.activation.specs.Ended.{HasClosed}
-use Rattle.stopping.specs.Stops.{MayStop, StopLeft}
-use Rattle.stopping.specs.declared.stops.Stopped.{Stopped}
+use Rattle.stopping.specs.Stops.{MayStop}
 use Rattle.stage_changes.specs.Fails.{IsGivenUp}
 use Rattle.stage_changes.proofs.Closing.{no_other}
 use Rattle.acceptance.specs.Accepts.{IsOpen, IsOpened, crew_of}
@@ -193,8 +192,3 @@ module _ (o : Outcome) (records : List Record) (p : Place) (d : Device) (world :
     owners = λ n. sym (ap (λ (w : World). owner n w.parts) c.stands.world_is);
     children = λ n. no_other p n living c.back.boot (c.stands.children n);
   }
-
--- ---- behind the stop of all
-
-pub stop_left : (k t : Stopped) (n : ℕ) (q : Place) (d : Device) (world : World) (told : Told) (living : List ℕ) → k ≡ t → StopLeft k n q d world told living → StopLeft t n q d world told living
-stop_left k t n q d world told living is left = subst (λ (x : Stopped). StopLeft x n q d world told living) is left

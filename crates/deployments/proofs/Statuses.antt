@@ -77,27 +77,6 @@ back_again outcome.UnableToRollback = refl
 pub same_outcome : (a b : Outcome) → status_of_outcome a ≡ status_of_outcome b → a ≡ b
 same_outcome a b is = sym (back_again a) ∙ ap outcome_of is ∙ back_again b
 
--- the status of a close that all components were stopped behind, or want of memory
-abbrev pub StopsAs : Outcome → Status → Type 0 → Type 0
-StopsAs o status X = (status ≡ status_of_outcome o) ⊎ ((status ≡ statuses.Memory) × X)
-
--- with what holds behind the former
-pub stops_as : {X Y : Type 0} (o : Outcome) (status : Status) → ((status ≡ status_of_outcome o) × Y) ⊎ ((status ≡ statuses.Memory) × X) → StopsAs o status X
-stops_as o status (inl both) = inl both.0
-stops_as o status (inr more) = inr more
-
-pub stops_where : {X Y : Type 0} (o : Outcome) (status : Status) → ((status ≡ status_of_outcome o) × Y) ⊎ ((status ≡ statuses.Memory) × X) → status ≡ status_of_outcome o → Y
-stops_where o status (inl both) is = both.1
-stops_where o status (inr more) is = absurd (no_outcome o statuses.Memory refl (sym is ∙ more.0))
-
-pub stops_answer : {X : Type 0} (o : Outcome) (status : Status) → StopsAs o status X → (status ≡ status_of_outcome o) ⊎ (status ≡ statuses.Memory) ⊎ (status ≡ statuses.Disk) ⊎ (status ≡ statuses.Edge)
-stops_answer o status (inl is) = inl is
-stops_answer o status (inr more) = inr (inl more.0)
-
-pub stops_never : {X : Type 0} (o : Outcome) (status s : Status) → closes s ≡ false → (s ≡ statuses.Memory → ⊥) → StopsAs o status X → status ≡ s → ⊥
-stops_never o status s never other (inl given) is = no_outcome o s never (sym given ∙ is)
-stops_never o status s never other (inr more) is = other (sym is ∙ more.0)
-
 -- ---- of a refusal
 
 abbrev pub may_refuse : Status → Bool

@@ -30,7 +30,6 @@ use Rattle.driver.specs.declared.over.Over.TheVariants as over
 use Rattle.supervisor.specs.Fitted.{Fitted}
 use Rattle.supervisor.specs.declared.kinds.Prepared.{Prepared}
 use Rattle.activation.specs.Ended.{ClosesAs}
-use Rattle.activation.specs.Turns.{moments_in, most_turns}
 use Rattle.preparation.specs.Readied.{IsReadied}
 use Rattle.deploying.specs.declared.driven.Driven.{Driven}
 use Rattle.deploying.specs.declared.driven.Driven.TheVariants as driven
@@ -88,15 +87,15 @@ abbrev pub IsPendingAs : List ℕ → Device → Type 0
 IsPendingAs id d = IsSomeAnd d.pending (λ q. q.plan.id ≡ id)
 
 -- The last record is that the deployment closed so, and nothing is pending; or it asks for the restart or the reboot of the
--- pending deployment. Want of memory leaves no deployment unfinished that this call began or drove on, unless the history asks
--- for the moment so often. Where none is begun or driven on nothing happens.
+-- pending deployment. Want of memory leaves no deployment unfinished that this call began or drove on. Where none is begun or
+-- driven on nothing happens.
 abbrev pub Ends : Ending → List Happening → Place → Type 0
 Ends (Closes o) h q = ClosesAs o (records_of h) × (q.device.pending ≡ None)
 Ends (Restarts id) h q = AsksFor booted.Restart (records_of h) q.device × IsPendingAs id q.device
 Ends (Reboots id) h q = AsksFor booted.Reboot (records_of h) q.device × IsPendingAs id q.device
 Ends Fails h q = ⊤
 Ends Breaks h q = ⊤
-Ends Forgets h q = ((o : Outcome) × ClosesAs o (records_of h)) ⊎ (most_turns ≤ moments_in h)
+Ends Forgets h q = (o : Outcome) × ClosesAs o (records_of h)
 Ends Starves h q = h ≡ []
 Ends (Declines d) h q = h ≡ []
 Ends (Full at) h q = h ≡ []
@@ -120,7 +119,6 @@ abbrev pub StopsFor : {J : Type 0} → Driven J → Status → Place → Type 0
 StopsFor (driven.Closed s o) status q = status ≡ status_of_outcome o → AreStopped q
 StopsFor (driven.Restart s) status q = AreStopped q × (q.over ≡ true)
 StopsFor (driven.Reboot s) status q = AreStopped q × (q.over ≡ true)
-StopsFor (driven.More s) status q = ⊤
 
 module _ (entries : Image → List (List ℕ) → Type 0) {D : Type 0} (may_leave : D → Image → Type 0) where
   -- each image that a crash may leave now stands for the device that the history leaves
@@ -185,7 +183,6 @@ abbrev pub EndsFor : {J : Type 0} → Result (Driven J) Over → Ending → Type
 EndsFor (Ok (driven.Closed s o)) ending = EndsClosed o ending
 EndsFor (Ok (driven.Restart s)) ending = ending ≡ Restarts (id_of (loaded_device s))
 EndsFor (Ok (driven.Reboot s)) ending = ending ≡ Reboots (id_of (loaded_device s))
-EndsFor (Ok (driven.More s)) ending = ending ≡ Forgets
 EndsFor (Err over.Disk) ending = ending ≡ Fails
 EndsFor (Err over.Edge) ending = ending ≡ Breaks
 
@@ -203,7 +200,6 @@ abbrev pub AnswersFor : {J : Type 0} → Result (Driven J) Over → Status → T
 AnswersFor (Ok (driven.Closed s o)) status = (status ≡ status_of_outcome o) ⊎ (status ≡ statuses.Memory) ⊎ (status ≡ statuses.Disk) ⊎ (status ≡ statuses.Edge)
 AnswersFor (Ok (driven.Restart s)) status = (status ≡ statuses.Restart) ⊎ (status ≡ statuses.Edge)
 AnswersFor (Ok (driven.Reboot s)) status = (status ≡ statuses.Reboot) ⊎ (status ≡ statuses.Edge)
-AnswersFor (Ok (driven.More s)) status = status ≡ statuses.Memory
 AnswersFor (Err e) status = AnswersOver e status
 
 -- what a plan and its way back need is made ready for a device of some origin

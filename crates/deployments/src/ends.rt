@@ -13,6 +13,7 @@ ghost use Rattle.session.specs.Places.{Place, left_by};
 ghost use Rattle.deploy_state.specs.States.{loaded_device};
 ghost use Rattle.driver.specs.Lines.{id_of};
 ghost use Rattle.driver.specs.Went.{Acts};
+ghost use Rattle.ending_laws.specs.Drives.{Drives};
 ghost use Rattle.deploying.specs.Driven.{DrivenLeft, driven_device};
 ghost use Rattle.deployments.specs.Calls.{AnswersFor, EndsFor, IsOrEdge, SaysEnding, SaysLine, Spared, StopsFor};
 
@@ -56,6 +57,7 @@ pub(crate) fn end_call<D: Disk, J: Journal + Drop, K: Sink, R: Runner, S: Superv
     supervisor: &mut S,
 ) -> Status
     requires placed { IfOk driven (λ x. (p : Place) × (h : List Happening) × DrivenLeft x h p (S.world supervisor.old) (Listed R.list R.told R.asked runner.old) (R.living runner.old) × (p.serves ≡ false)) }
+    requires drives { IfOk driven (λ x. Drives (S.world supervisor.old)) }
     requires none { OnErr driven (R.living runner.old ≡ []) }
     ensures went { IfOk driven (λ x. (p : Place) → (h : List Happening) → DrivenLeft x h p (S.world supervisor.old) (Listed R.list R.told R.asked runner.old) (R.living runner.old) → (p.serves ≡ false) →
         (k : List Happening) × Acts p k (R.list runner.old) (R.list runner.new) × IsBare (left_by p k) × StopsFor x result (left_by p k)) }
@@ -81,7 +83,6 @@ pub(crate) fn end_call<D: Disk, J: Journal + Drop, K: Sink, R: Runner, S: Superv
         }
         Ok(Driven::Restart(state)) => say_again(&state, sink, "restart ", Status::Restart),
         Ok(Driven::Reboot(state)) => say_again(&state, sink, "reboot ", Status::Reboot),
-        Ok(Driven::More(_)) => Status::Memory,
         Err(Over::Disk) => say_disk(sink),
         Err(Over::Edge) => Status::Edge,
     }

@@ -13,7 +13,7 @@ use Rattle.progress_laws.specs.Kept.{AreKept, IsKeptPart, are_there}
 use Rattle.progress_laws.proofs.Changes.{changed_kept}
 use Rattle.progress_laws.proofs.Goes.{not_so}
 use Rattle.progress_laws.proofs.Lists.{Has, each_has}
-use Rattle.ending_laws.specs.Drives.{IsAmong, IsDriven, IsPlaced, MayCome, Rises}
+use Rattle.ending_laws.specs.Drives.{Drives, IsAmong, IsDriven, IsPlaced, MayCome, Rises}
 
 none_standing : (ps : List Part) → list_any (λ p. not (is_over p)) ps ≡ false → standing ps ≡ []
 none_standing [] e = refl
@@ -105,3 +105,10 @@ begins items counts steady w e m few =
       };
       stays = subst (λ (ps : List Part). list_any is_leaving ps ≡ false) (sym is) (none_leave (fresh_of (counted 0 counts items)) (all_fresh (λ p. is_leaving p ≡ false) 0 counts items (λ f n h. refl)));
     }
+
+pub none_drives : (w : World) → w.parts ≡ [] → Drives w
+none_drives w e = record {
+  alone = record { parts = subst (λ (ps : List Part). AllByRecursion IsKeptPart ps) (sym e) tt; few = subst (λ (ps : List Part). length ps ≤ 256) (sym e) (omega arith) };
+  s = λ n. 0;
+  each = subst (λ (ps : List Part). AllByRecursion (IsDriven (λ n. 0) ps) ps) (sym e) tt;
+}

@@ -1,5 +1,5 @@
 // Laws of components that come up, or leave, on functions that do nothing.
-ghost use Rattle.std.specs.Prelude.{◌≡◌, ◌⊎◌, ◌<◌, ◌≤◌, ◌+◌, ◌-◌, ◌^◌, ℕ, Bool, List, true};
+ghost use Rattle.std.specs.Prelude.{◌≡◌, ◌⊎◌, ◌<◌, ◌≤◌, ◌+◌, ◌-◌, ◌^◌, ℕ, Bool, List, [], true};
 ghost use Rattle.std.specs.declared.option.Option.{Option};
 ghost use Rattle.std.specs.List.{list_all, AllByRecursion};
 ghost use Rattle.std.specs.Prelude.{Some};
@@ -44,6 +44,11 @@ pub fn drives_stop()
 /// Where none stands, it begins with items that may be brought up together, each with fewer failures than break.
 pub fn changes_drive()
     ensures { (items : List Fitted) (counts : List ℕ) (steady : Bool) (w : World) → is_stopped w ≡ true → MayCome items → AllByRecursion (λ (n : ℕ). n < 3) counts → Rises (changed_to items counts steady w) }
+{}
+
+/// Where there are no components, it holds.
+pub fn none_drives()
+    ensures { (w : World) → w.parts ≡ [] → Drives w }
 {}
 
 /// Items that were made ready for a device that runs them may be brought up together.
