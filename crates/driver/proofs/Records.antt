@@ -24,7 +24,8 @@ use Rattle.session.specs.Places.{Place, leaves, left_by}
 use Rattle.session.specs.Follows.{MayFollow}
 use Rattle.driver.specs.Booted.{restart_of}
 use Rattle.driver.specs.Lines.{failed_line, id_of, line_of, lines_of}
-use Rattle.driver.specs.Over.{IsOne}
+use Rattle.driver.specs.Over.{IsOne, LeftAt}
+use Rattle.driver.specs.declared.over.Over.TheVariants as over
 use Rattle.driver.specs.Stands.{IsBetween, IsFront}
 use Rattle.driver.specs.Steps.{HasEnd}
 use Rattle.driver.specs.Went.{StandsForMost, Went}
@@ -34,6 +35,7 @@ use Rattle.driver.proofs.Fronts.{in_doubt}
 use Rattle.driver.proofs.Acting.{acts_none}
 use Rattle.driver.proofs.Joins.{acted, kept_one}
 use Rattle.driver.proofs.Still.{childless}
+use Rattle.driver.proofs.Told.{stops_last}
 
 -- ---- that it begins
 
@@ -140,9 +142,9 @@ module _ (entries : Image → List (List ℕ) → Type 0) (files : List ℕ → 
       (subst (λ (x : Device). Allowed x (stored.BootEnded name exit)) same allowed) (subst (λ (x : Device). Notes old new x (stored.BootEnded name exit)) same notes)
 
   -- one record that is in doubt
-  pub doubt_at : (old new : D) (p : Place) (d : Device) (r : Record) → p.device ≡ d → Allowed d r → Notes old new d r → (c : Image) → may_leave new c → StandsForMost entries p.device (r ∷ []) c
-  doubt_at old new p d r device allowed notes c left =
-      subst (λ (x : Device). StandsForMost entries x (r ∷ []) c) (sym device) (in_doubt entries files laws old new d r allowed notes c left)
+  pub doubt_at : (old new : D) (p : Place) (d : Device) (r : Record) → p.device ≡ d → Allowed d r → Notes old new d r → LeftAt entries may_leave new p (Kept r ∷ []) over.Disk
+  doubt_at old new p d r device allowed notes =
+      (stops_last r, λ c left. subst (λ (x : Device). StandsForMost entries x (r ∷ []) c) (sym device) (in_doubt entries files laws old new d r allowed notes c left))
 
   none_went : (old new : D) (list : Option (List RunnerEntry)) (p : Place) (d : Device) → ((c : Image) → may_leave old c → StandsFor entries c d) → p.device ≡ d → new ≡ old → Went entries files may_leave moment left_since old new list list p []
   none_went old new list p d stands device same =
@@ -163,11 +165,11 @@ module _ (entries : Image → List (List ℕ) → Type 0) (files : List ℕ → 
 
   pub begun_doubt : (old new : D) (list : Option (List RunnerEntry)) (p : Place) (d : Device) (world : World) (told : Told) (living : List ℕ) (name : List ℕ) (t : InTurn d name) → IsFront p d world told living
       → (IsBegun d → ⊥) → Notes old new d (stored.BootBegun name)
-      → (h : List Happening) × Went entries files may_leave moment left_since old new list list p h × (lines_of p.device (records_of h) ≡ []) × ((c : Image) → may_leave new c → StandsForMost entries p.device (records_of h) c) × IsBare (left_by p h) × IsOne (records_of h)
+      → (h : List Happening) × Went entries files may_leave moment left_since old new list list p h × (lines_of p.device (records_of h) ≡ []) × LeftAt entries may_leave new p h over.Disk × IsBare (left_by p h) × IsOne (records_of h)
   begun_doubt old new list p d world told living name t f unbegun notes = by t.q.begun refl
     where
       by : (b : Bool) → t.q.begun ≡ b
-          → (h : List Happening) × Went entries files may_leave moment left_since old new list list p h × (lines_of p.device (records_of h) ≡ []) × ((c : Image) → may_leave new c → StandsForMost entries p.device (records_of h) c) × IsBare (left_by p h) × IsOne (records_of h)
+          → (h : List Happening) × Went entries files may_leave moment left_since old new list list p h × (lines_of p.device (records_of h) ≡ []) × LeftAt entries may_leave new p h over.Disk × IsBare (left_by p h) × IsOne (records_of h)
       by true is = absurd (unbegun (was_begun d name t is))
       by false is =
           let allowed = allowed_begun d name t is in (

@@ -1,5 +1,5 @@
 -- What was printed, and what a crash leaves, of two parts one after the other.
-use Rattle.std.specs.Prelude.{ℕ, List, [], ◌∷◌, ◌++◌, Option}
+use Rattle.std.specs.Prelude.{ℕ, List, [], ◌∷◌, ◌++◌, Option, None}
 use Rattle.std.proofs.Common.{◌≡◌, ◌∙◌, refl, sym, ap, subst, append_assoc}
 use Rattle.std.proofs.KnownBytes.{Appends-nil, Appends-trans}
 use Rattle.std.specs.Io.KnownBytes.{Appends}
@@ -9,11 +9,11 @@ use Rattle.records.specs.Stored.{Record}
 use Rattle.device.specs.Devices.{Device}
 use Rattle.device.specs.Lawful.{Run, applied}
 use Rattle.device.specs.Standing.{StandsFor}
-use Rattle.session.specs.Happenings.{Happening, records_of}
+use Rattle.session.specs.Happenings.{Happening, Kept, records_of}
 use Rattle.session.specs.Places.{Place, left_by}
 use Rattle.session.proofs.Joined.{left-append, records-append}
 use Rattle.driver.specs.Lines.{line_of, lines_of}
-use Rattle.driver.specs.Over.{IsOne, LeftAt, LinesAt}
+use Rattle.driver.specs.Over.{IsOne, LeftAt, LinesAt, StopsAt}
 use Rattle.driver.specs.Went.{StandsForMost}
 use Rattle.driver.specs.declared.over.Over.{Over}
 use Rattle.driver.specs.declared.over.Over.TheVariants as over
@@ -72,9 +72,31 @@ none_at a d records over.Edge one = none_told a (lines_of d records)
 pub last_untold : (a : Option (List ℕ)) (d : Device) (r : Record) → LinesAt a a d (r ∷ []) over.Disk
 last_untold a d r = ([], r, refl, Appends-nil a)
 
+-- ---- nothing is started behind a record that may not be stable
+
+-- of one record
+pub stops_last : (r : Record) → StopsAt (Kept r ∷ [])
+stops_last r = record { cuts = []; last = r; before = []; split = refl; kills = tt }
+
+-- and what happened before does not matter
+pub stops_behind : (w t : List Happening) → StopsAt t → StopsAt (t ++ w)
+stops_behind w t s = record {
+  cuts = s.cuts;
+  last = s.last;
+  before = s.before ++ w;
+  split = ap (λ (l : List Happening). l ++ w) s.split ∙ append_assoc s.cuts (Kept s.last ∷ s.before) w;
+  kills = s.kills;
+}
+
 pub left_joined : {D : Type 0} (entries : Image → List (List ℕ) → Type 0) (may_leave : D → Image → Type 0) (disk : D) (p : Place) (w t : List Happening) (e : Over) → Run p.device (records_of w) (left_by p w).device
     → LeftAt entries may_leave disk (left_by p w) t e → LeftAt entries may_leave disk p (t ++ w) e
-left_joined entries may_leave disk p w t over.Disk run h = λ c left.
-    subst (λ (l : List Record). StandsForMost entries p.device l c) (sym (records-append t w))
-    (most_behind entries p.device (records_of w) (records_of t) (left_by p w).device c run (h c left))
-left_joined entries may_leave disk p w t over.Edge run h = λ c left. subst (λ (x : Place). StandsFor entries c x.device) (sym (left-append p t w)) (h c left)
+left_joined entries may_leave disk p w t over.Disk run h = (
+  stops_behind w t h.0,
+  λ c left.
+      subst (λ (l : List Record). StandsForMost entries p.device l c) (sym (records-append t w))
+      (most_behind entries p.device (records_of w) (records_of t) (left_by p w).device c run (h.1 c left)),
+)
+left_joined entries may_leave disk p w t over.Edge run h = (
+  subst (λ (x : Place). x.boot_end ≡ None) (sym (left-append p t w)) h.0,
+  λ c left. subst (λ (x : Place). StandsFor entries c x.device) (sym (left-append p t w)) (h.1 c left),
+)

@@ -97,7 +97,7 @@ record_kept p h q stored.Activating may allowed known = clear_kept p h q stored.
 record_kept p h q (stored.StepFailed n s e) may allowed known =
     let none = fails_elsewhere q.device n s e q.device.pending allowed in
     record { lives = λ c is. absurd (none (known.lives c is)); ended = λ x is. absurd (none (known.ended x is).1) }
-record_kept p h q (stored.Failing n) may allowed known = clear_kept p h q (stored.Failing n) may refl
+record_kept p h q (stored.Failing n) may allowed known = clear_kept p h q (stored.Failing n) may.0 refl
 record_kept p h q (stored.FailingBack n) may allowed known = clear_kept p h q (stored.FailingBack n) may refl
 record_kept p h q (stored.Closed o) may allowed known = clear_kept p h q (stored.Closed o) may.0 refl
 record_kept p h q r may allowed known = absurd may

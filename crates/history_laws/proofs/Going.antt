@@ -13,15 +13,15 @@ use Rattle.records.specs.declared.record.Origin.{Origin}
 use Rattle.device.specs.declared.staged.Stage.{Stage}
 use Rattle.device.specs.declared.staged.Stage.TheVariants as stages
 use Rattle.device.specs.Devices.{Device, Pending}
-use Rattle.device.specs.Lawful.{Allowed, MayAccept, MayActivate, MayBreak, MayClose, MayEnd, MayGoBack, activated, applied, begun, boot_ended, broken, close_pending, failing_name, goes_on, has_gone_back, is_backing, moved_on, next_boot, one_ended, rolled}
+use Rattle.device.specs.Lawful.{Allowed, MayAccept, MayActivate, MayBreak, MayClose, MayEnd, MayGoBack, accepted, activated, applied, begun, boot_ended, broken, close_pending, failing_name, goes_on, has_gone_back, is_backing, moved_on, next_boot, one_ended, rolled}
 use Rattle.device.proofs.SoundStages.{at}
 use Rattle.session.specs.Happenings.{Happening, Kept, records_of}
 use Rattle.session.specs.Places.{Place, left_by, ends_boot, restarts}
 use Rattle.session.specs.Follows.{IsProper}
 use Rattle.history_laws.specs.Stood.{IsHistory}
 use Rattle.history_laws.specs.Ends.{is_failure}
-use Rattle.history_laws.specs.Onward.{ComesUp, GoesBack, IsNoLess, ClosedAs, IsOneOn, ResumesGoOn, IsOneBack, BacksGoOn}
-use Rattle.history_laws.proofs.Growing.{cut_last, none_before, not_empty}
+use Rattle.history_laws.specs.Onward.{ComesUp, GoesBack, IsNoLess, ClosedAs, IsOneOn, ResumesGoOn, DeploysGoOn, IsOneBack, BacksGoOn}
+use Rattle.history_laws.proofs.Growing.{cut_last, head_same, none_before, not_empty, tail_same}
 use Rattle.history_laws.proofs.Histories.{IsOwn, Steps, along, silent}
 use Rattle.history_laws.proofs.Facts.{clash, none_at}
 
@@ -218,6 +218,61 @@ pub resumes_go_on : ResumesGoOn
 resumes_go_on p h q is pending up free = elim (along p (Comes p.device q) (up_first p.device q pending up) (up_steps p.device q) h is.proper is.run free) [
   | inl closed ↦ inl closed
   | inr u ↦ inr (record { new = u.new; pending = u.pending; up = u.up; no_less = u.no_less; restarted = λ over. u.ended (over_ends p h (never_over p h is) is.proper over) })
+]
+
+-- ---- from its acceptance on
+
+-- what ends by the end of a bootstrap ends so behind the acceptance
+ends_behind : (plan : Plan) (after : List Record) → EndsByEnd (Accepted plan ∷ after) → EndsByEnd after
+ends_behind plan after ends = by ends.0 ends.3
+  where
+    by : (earlier : List Record) → Accepted plan ∷ after ≡ earlier ++ BootEnded ends.1 ends.2 ∷ [] → EndsByEnd after
+    by [] is = let no : Accepted plan ≡ BootEnded ends.1 ends.2 = head_same (Accepted plan) (BootEnded ends.1 ends.2) after [] is in absurd cc
+    by (x ∷ earlier) is = (earlier, ends.1, ends.2, tail_same (Accepted plan) x after (earlier ++ BootEnded ends.1 ends.2 ∷ []) is)
+
+module _ (d : Device) (plan : Plan) where
+  -- it closed, or comes up by the records behind its acceptance
+  abbrev Goes : List Record → Device → Type 0
+  Goes after e = ClosedAs d plan outcomes.Successful e ⊎ Up d (accepted plan) after e
+
+  abbrev Taken : List Record → Device → Type 0
+  Taken records e = list_any is_failure records ≡ false → (after : List Record) → records ≡ Accepted plan ∷ after → Goes after e
+
+  taken_steps : Steps d Taken
+  taken_steps [] c r run own allowed known free after is =
+      subst (λ (l : List Record). Goes l (applied c r)) (tail_same r (Accepted plan) [] after is)
+      (subst (λ (x : Record). Goes [] (applied c x)) (sym (head_same r (Accepted plan) [] after is))
+      (inr (record {
+        new = accepted plan;
+        pending = refl;
+        up = inl (refl, refl);
+        no_less = record { plan = refl; backs = refl; ended = omega arith };
+        first = λ is. is;
+        closed = ap (λ (x : Device). x.closed) run;
+        ended = λ ends. absurd (no_first ends);
+      })))
+  taken_steps (x ∷ records) c r run own allowed known free after is =
+      let f = none_before is_failure (x ∷ records) r free in
+      let first = head_same x (Accepted plan) (records ++ r ∷ []) after is in
+      subst (λ (l : List Record). Goes l (applied c r)) (tail_same x (Accepted plan) (records ++ r ∷ []) after is)
+      (elim (known f.0 records (ap (λ (y : Record). y ∷ records) first)) [
+        | inl closed ↦ inl (closed_more d plan outcomes.Successful c r closed)
+        | inr u ↦ up_on d (accepted plan) records c r own allowed f.1 u
+      ])
+
+  taken_first : Taken [] d
+  taken_first free after is = absurd (not_empty [] (Accepted plan) after is)
+
+pub deploys_go_on : DeploysGoOn
+deploys_go_on p h plan after is first free = elim (along p (Taken p.device plan) (taken_first p.device plan) (taken_steps p.device plan) h is.proper is.run free after first) [
+  | inl closed ↦ inl closed
+  | inr u ↦ inr (record {
+    new = u.new;
+    pending = u.pending;
+    up = u.up;
+    no_less = u.no_less;
+    restarted = λ over. u.ended (ends_behind plan after (subst EndsByEnd first (over_ends p h (never_over p h is) is.proper over)));
+  })
 ]
 
 -- ---- on the way back

@@ -41,10 +41,10 @@ module _ {A : Type 0} where
   not_empty [] x b e = absurd cc
   not_empty (y ∷ a) x b e = absurd cc
 
-  head_same : (x y : A) (xs ys : List A) → x ∷ xs ≡ y ∷ ys → x ≡ y
+  pub head_same : (x y : A) (xs ys : List A) → x ∷ xs ≡ y ∷ ys → x ≡ y
   head_same x y xs ys e = cc
 
-  tail_same : (x y : A) (xs ys : List A) → x ∷ xs ≡ y ∷ ys → xs ≡ ys
+  pub tail_same : (x y : A) (xs ys : List A) → x ∷ xs ≡ y ∷ ys → xs ≡ ys
   tail_same x y xs ys e = cc
 
   -- An element of a list that has grown is the new one, or one of before.

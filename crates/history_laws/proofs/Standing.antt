@@ -1,6 +1,6 @@
 -- Where records stand in a history, and what is told where a step starts.
 use Rattle.std.proofs.Common.{◌≡◌, inl, inr, ◌∙◌, ℕ, List, [], ◌∷◌, ◌++◌, refl, sym, ap, subst}
-use Rattle.records.specs.Stored.{Record}
+use Rattle.records.specs.Stored.{Record, Failing}
 use Rattle.step_runner.specs.declared.command.Command.{Command}
 use Rattle.step_runner.specs.declared.entries.RunnerEntry.{RunnerEntry}
 use Rattle.step_runner.specs.declared.entries.Seen.{Seen}
@@ -12,6 +12,7 @@ use Rattle.session.specs.Places.{Place, left_by}
 use Rattle.session.specs.Follows.{MayBoot, MayBooted, MayRun}
 use Rattle.history_laws.specs.Stood.{IsHistory, Stood, RecordsStand}
 use Rattle.history_laws.specs.Starts.{AllBootsTold, AllStartsTold}
+use Rattle.history_laws.specs.Turned.{AllTurnsPlain}
 use Rattle.history_laws.proofs.Growing.{cut_last, not_empty}
 use Rattle.history_laws.proofs.Histories.{history_at, silent}
 
@@ -72,3 +73,8 @@ may_boot p h before e m n c is stood started =
 
 pub boots_told : AllBootsTold
 boots_told p h before e m n c is stood started = let may = may_boot p h before e m n c is stood started in (may.told, may.no_end)
+
+-- ---- the way back without bootstraps
+
+pub turns_plain : AllTurnsPlain
+turns_plain p h before name is stood = (history_at p h (Kept (Failing name)) before is stood).proper.0.0.1

@@ -2,11 +2,11 @@
 use Rattle.std.specs.Prelude.{◌≡◌, ◌⊎◌, ℕ, ◌<◌, ◌≤◌, true, false, List, [], ◌∷◌, ◌++◌, length, Some, None}
 use Rattle.nuc_base.specs.declared.kinds.Outcome.{Outcome}
 use Rattle.nuc_base.specs.declared.kinds.Outcome.TheVariants as outcomes
-use Rattle.records.specs.Stored.{Plan}
+use Rattle.records.specs.Stored.{Plan, Record, Accepted}
 use Rattle.device.specs.declared.staged.Stage.TheVariants as stages
 use Rattle.device.specs.Devices.{Device, Pending}
-use Rattle.device.specs.Lawful.{broken}
-use Rattle.session.specs.Happenings.{Happening}
+use Rattle.device.specs.Lawful.{accepted, broken}
+use Rattle.session.specs.Happenings.{Happening, records_of}
 use Rattle.session.specs.Places.{Place, left_by}
 use Rattle.history_laws.specs.Stood.{IsHistory}
 use Rattle.history_laws.specs.Ends.{RecordsNoFailure}
@@ -52,6 +52,11 @@ pub record StillComes (p : Place) (h : List Happening) (old : Pending) : Type 0 
 abbrev pub ResumesGoOn : Type 0
 ResumesGoOn = (p : Place) (h : List Happening) (q : Pending) → IsHistory p h → p.device.pending ≡ Some q → ComesUp q → RecordsNoFailure h
     → ClosedAs p.device q.plan outcomes.Successful (left_by p h).device ⊎ StillComes p h q
+
+-- So does one that the call accepts by its first record.
+abbrev pub DeploysGoOn : Type 0
+DeploysGoOn = (p : Place) (h : List Happening) (plan : Plan) (after : List Record) → IsHistory p h → records_of h ≡ Accepted plan ∷ after → RecordsNoFailure h
+    → ClosedAs p.device plan outcomes.Successful (left_by p h).device ⊎ StillComes p h (accepted plan)
 
 -- ---- on the way back
 

@@ -14,6 +14,7 @@ use Rattle.device.specs.Lawful.{Run, goes_on, next_boot, place}
 use Rattle.device.specs.Plans.{item_name}
 use Rattle.session.specs.Happenings.{Happening, Kept, records_of}
 use Rattle.session.specs.Places.{Place, left_by, takes_document}
+use Rattle.session.specs.Follows.{HasNoBacks}
 use Rattle.history_laws.specs.Stood.{IsHistory, Stood}
 use Rattle.history_laws.specs.Ends.{is_step_failure}
 
@@ -126,3 +127,7 @@ ClosesCaused = (p : Place) (h before : List Happening) (o : Outcome) → IsHisto
 abbrev pub RunsCloseCaused : Type 0
 RunsCloseCaused = (d e : Device) (before after : List Record) (o : Outcome) → (d.origin ≡ None → d.pending ≡ None) → Run d (before ++ Closed o ∷ after) e
     → (c : Device) × Run d before c × IsSomeAnd c.pending (λ q. IsCaused d before q o)
+
+-- It turns back by the record that names no bootstraps only where none of the set is to run again.
+abbrev pub AllTurnsPlain : Type 0
+AllTurnsPlain = (p : Place) (h before : List Happening) (name : List ℕ) → IsHistory p h → Stood h (Kept (Failing name)) before → HasNoBacks (left_by p before).device

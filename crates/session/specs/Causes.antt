@@ -4,7 +4,7 @@ use Rattle.std.specs.List.{list_any}
 use Rattle.nuc_base.specs.declared.kinds.Step.{Step}
 use Rattle.nuc_base.specs.declared.kinds.Exit.{Exit}
 use Rattle.nuc_base.specs.declared.status.Status.{Status}
-use Rattle.records.specs.Stored.{Item, BootEnded, StepFailed}
+use Rattle.records.specs.Stored.{Item, BootEnded, StepFailed, Failing}
 use Rattle.step_runner.specs.declared.command.Command.{Command}
 use Rattle.step_runner.specs.declared.entries.RunnerEntry.{RunnerEntry}
 use Rattle.step_runner.specs.declared.entries.Seen.TheVariants as seen
@@ -13,7 +13,7 @@ use Rattle.supervisor.specs.declared.kinds.Prepared.{Prepared}
 use Rattle.session.specs.Phases.{duty_of}
 use Rattle.session.specs.Happenings.{Happening, Ran, Booted, Slept, Kept}
 use Rattle.session.specs.Places.{Place, left_by}
-use Rattle.session.specs.Follows.{IsProper, OwesBy}
+use Rattle.session.specs.Follows.{IsProper, OwesBy, HasNoBacks}
 use Rattle.session.specs.Courses.{IsWhole, leaves_open}
 
 -- every failure is recorded, or was heard where nothing is pending
@@ -58,3 +58,7 @@ pub record IsInTurn (p : Place) : Type 0 where
 
 abbrev pub BootsInTurn : Type 0
 BootsInTurn = (p : Place) (h : List Happening) (e : RunnerEntry) (m : Prepared) (n : ℕ) (c : Command) → e.seen ≡ seen.Started n c → IsProper p (Booted e m ∷ h) → IsInTurn (left_by p h)
+
+-- A deployment turns back by the record that names no bootstraps only where none is to run again.
+abbrev pub TurnsPlain : Type 0
+TurnsPlain = (p : Place) (h : List Happening) (name : List ℕ) → IsProper p (Kept (Failing name) ∷ h) → HasNoBacks (left_by p h).device

@@ -2,8 +2,9 @@
 ghost use Rattle.std.specs.Prelude.{◌≡◌, ◌∷◌, [], ℕ, List, true, false, codes, Some};
 ghost use Rattle.nuc_base.specs.declared.kinds.Step.TheVariants as step;
 ghost use Rattle.nuc_base.specs.declared.kinds.Exit.TheVariants as exits;
-ghost use Rattle.records.specs.Stored.{BootBegun, BootEnded, Activating};
+ghost use Rattle.records.specs.Stored.{BootBegun, BootEnded, Activating, Failing};
 ghost use Rattle.records.specs.declared.record.Origin.{Origin};
+ghost use Rattle.recipe_reader.specs.Backs.{is_back};
 ghost use Rattle.step_runner.specs.declared.command.Command.{Command};
 ghost use Rattle.step_runner.specs.declared.entries.Seen.TheVariants as seen;
 ghost use Rattle.supervisor.specs.Fitted.{Fitted};
@@ -70,7 +71,7 @@ pub fn bootstrap_before_its_record()
 {}
 
 /// A bootstrap of the new version fails, and the old version's runs again before the old version comes back. It fails too,
-/// and the deployment closes.
+/// and the deployment closes. No record turns the deployment back that leaves out what is to run again.
 pub fn bootstraps_on_rollback_row()
     ensures fails { (o : Origin) (r : Recipes) (command : Command) → IsStepAt o (read_as r (newer_a ∷ [])) 0 step.Bootstrap (Some (boot_of command)) → IsProper (with_recipes r (newer_boots o)) (fails_back command) }
     ensures backs { (o : Origin) (r : Recipes) (command : Command) → IsStepAt o (read_as r (item_a ∷ [])) 0 step.Bootstrap (Some (boot_of command)) → IsProper (with_recipes r (backed o)) (boots_by command a good) }
@@ -86,6 +87,7 @@ pub fn bootstraps_on_rollback_row()
     ensures goes_on { (o : Origin) (r : Recipes) (made : List Fitted) → MayFollow (with_recipes r (back_done o)) (Changed made no_failures false) → ⊥ }
     ensures comes_early { (o : Origin) (r : Recipes) (made : List Fitted) → MayFollow (with_recipes r (backed o)) (Changed made no_failures false) → ⊥ }
     ensures waits { (o : Origin) → MayFollow (left_by (back_begun o) (Asked 0 ∷ [])) (Slept (asked 0 (seen.Elapsed 1000))) → ⊥ }
+    ensures plainly { (o : Origin) (r : Recipes) (command : Command) → is_back o.platform (r item_a) ≡ true → MayFollow (left_by (with_recipes r (newer_boots o)) (boots_by command a bad)) (Kept (Failing a)) → ⊥ }
     ensures as_done { (o : Origin) → MayFollow (back_begun o) (Kept (BootEnded a good)) → ⊥ }
     ensures up_waits { (o : Origin) → MayFollow (still_up o) (Slept (asked 0 (seen.Elapsed 1000))) → ⊥ }
 {}

@@ -12,7 +12,7 @@ ghost use Rattle.session.specs.Happenings.{Happening, records_of, entries_of};
 ghost use Rattle.session.specs.Places.{Place, left_by};
 ghost use Rattle.session.specs.Follows.{IsProper};
 ghost use Rattle.session.specs.Once.{CallsTakeOnce};
-ghost use Rattle.session.specs.Causes.{StartsTold, BootsTold, SleepsTold, EndsTold, BootEndsTold, RecordsOwed, FailuresRecorded, RecordsEnds, BootsInTurn};
+ghost use Rattle.session.specs.Causes.{StartsTold, BootsTold, SleepsTold, EndsTold, BootEndsTold, RecordsOwed, FailuresRecorded, RecordsEnds, BootsInTurn, TurnsPlain};
 
 /// A history goes on where another ends.
 pub fn joins()
@@ -31,7 +31,8 @@ pub fn made_ready()
 {}
 
 /// Failures and ends of bootstraps are recorded before the next step starts and before anything waits, each as it came,
-/// and none is left where neither the disk nor a stream failed.
+/// and none is left where neither the disk nor a stream failed. What turns a deployment back without bootstraps is kept
+/// only where none is to run again.
 pub fn causes()
     ensures starts { StartsTold }
     ensures boot_starts { BootsTold }
@@ -42,6 +43,7 @@ pub fn causes()
     ensures recorded { FailuresRecorded }
     ensures ends { RecordsEnds }
     ensures boots { BootsInTurn }
+    ensures turns { TurnsPlain }
 {}
 
 /// A call that does not serve takes one document at most, and none where a deployment is pending as it begins.

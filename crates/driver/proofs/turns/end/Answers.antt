@@ -61,7 +61,7 @@ returns-in-Err-tell_end-clause-went g c = λ p world told living h.
       end_went g.J.Journal.entries g.J.Journal.files g.met.D.Disk.laws c.args.disk.now c.ended.new.disk told.list p d x world told living n.0 h (allowed_ended d n.0 x t c.requires.begun) (c.ended.ensures.moments r mark),
       subst (λ (l : List ℕ). AppendsFront (g.K.Sink.held c.args.sink.now) (g.K.Sink.held c.tell_end.new.sink) l) (line_ended p d e n.0 x c.requires.held.1 h.stands.device_is same)
           (c.in-Err-tell_end.ensures.line n.0 (λ fails. ap next_name same ∙ still_named d n.0 x t fails)),
-      (λ i left. subst (λ (y : Device). StandsFor g.J.Journal.entries i y) back (in_hand_stands g.met.D.Disk.laws g.met.J.Journal.laws _ c.ended.new.disk e c.in-Ok.ensures.held.0.0 i left)),
+      (refl, λ i left. subst (λ (y : Device). StandsFor g.J.Journal.entries i y) back (in_hand_stands g.met.D.Disk.laws g.met.J.Journal.laws _ c.ended.new.disk e c.in-Ok.ensures.held.0.0 i left)),
       bare_ended p d x world told living n.0 h,
     )
 

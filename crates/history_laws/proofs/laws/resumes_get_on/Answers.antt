@@ -1,5 +1,5 @@
 use Rattle.history_laws.proofs.Failing.{none_recorded}
-use Rattle.history_laws.proofs.Going.{backs_go_on, resumes_go_on}
+use Rattle.history_laws.proofs.Going.{backs_go_on, deploys_go_on, resumes_go_on}
 use Rattle.history_laws.proofs.laws.resumes_get_on.Goals as goal
 
 pub returns-clause-up : goal.returns-clause-up
@@ -10,3 +10,6 @@ returns-clause-back c = backs_go_on
 
 pub returns-clause-quiet : goal.returns-clause-quiet
 returns-clause-quiet c = none_recorded
+
+pub returns-clause-accepted : goal.returns-clause-accepted
+returns-clause-accepted c = deploys_go_on

@@ -1,6 +1,6 @@
 use Rattle.history_laws.proofs.BootEnds.{boots_ended}
 use Rattle.history_laws.proofs.StepEnds.{failures_ended}
-use Rattle.history_laws.proofs.Standing.{records_stand}
+use Rattle.history_laws.proofs.Standing.{records_stand, turns_plain}
 use Rattle.history_laws.proofs.Turning.{closes_caused, runs_close_caused}
 use Rattle.history_laws.proofs.laws.rollbacks_are_caused.Goals as goal
 
@@ -18,3 +18,6 @@ returns-clause-boots c = boots_ended
 
 pub returns-clause-runs : goal.returns-clause-runs
 returns-clause-runs c = runs_close_caused
+
+pub returns-clause-plain : goal.returns-clause-plain
+returns-clause-plain c = turns_plain

@@ -32,3 +32,6 @@ pub returns-clause-boots : goal.returns-clause-boots
 returns-clause-boots c = λ p h e m n command is proper.
     let may = (subst (λ x. MayBooted (duty_of (left_by p h).device) (left_by p h) x m) is proper.0.0.0).0 in
     record { begun = may.begun; item = may.item; turn = may.turn; recorded = may.no_end }
+
+pub returns-clause-turns : goal.returns-clause-turns
+returns-clause-turns c = λ p h name proper. proper.0.0.1
