@@ -44,8 +44,6 @@ use Rattle.driver.proofs.Acting.{acts_none, grows_none}
 use Rattle.driver.proofs.Joins.{acted, records_opened, went_on}
 use Rattle.driver.proofs.Told.{all_told, left_joined, lines_at_joined, stops_last}
 use Rattle.activation.specs.Ended.{ClosesAs}
-use Rattle.activation.specs.Turns.{moments_in, most_turns}
-use Rattle.activation.proofs.Turning.{moments_on}
 use Rattle.acceptance.specs.Accepts.{IsOpen}
 use Rattle.acceptance.proofs.Opening.{accept_went}
 use Rattle.intake.specs.Takes.{LieElsewhere}
@@ -55,12 +53,12 @@ use Rattle.deploying.specs.Driven.{Course, DrivenLeft, InDriven, driven_device}
 use Rattle.deploying.specs.declared.driven.Driven.{Driven}
 use Rattle.deploying.specs.declared.driven.Driven.TheVariants as driven
 use Rattle.deploying.proofs.Joining.{Holds, went_acting}
-use Rattle.deployments.specs.Calls.{AllHoldBoth, AnswersFor, AnswersOver, Call, Ends, EndsAs, EndsClosed, EndsDriven, EndsFor, IsOrEdge, IsPendingAs, Prints, SaysEnding, SaysLine, SaysRefusal, Spared, StandsBehind, StandsWhole, opening_line}
+use Rattle.deployments.specs.Calls.{AllHoldBoth, AnswersFor, AnswersOver, Call, Ends, EndsClosed, EndsFor, IsOrEdge, IsPendingAs, Prints, SaysEnding, SaysLine, SaysRefusal, Spared, StandsBehind, StandsWhole, opening_line}
 use Rattle.deployments.specs.Declines.{line_of_declined, status_of_declined}
 use Rattle.deployments.specs.Documents.{Begins, DrivesPlan, DrivesTaken, FitsFrom, Follows, KeepsArtifacts}
 use Rattle.deployments.specs.Endings.{Ending, Closes, Restarts, Reboots, Fails, Breaks, Forgets, Starves, Declines, Full, Idle, IsBegun, is_failing, line_of_ending, status_of_ending}
 use Rattle.deployments.proofs.Holding.{HoldsBefore, all_before, spared_whole, went_holds, went_whole}
-use Rattle.deployments.proofs.Places.{IsShut, serves_on, shut_bare, shut_ends}
+use Rattle.deployments.proofs.Places.{IsShut, serves_on, shut_ends}
 use Rattle.deployments.proofs.Printing.{all_prints, ending_over, opening_none, over_prints, said_prints, starved_prints}
 use Rattle.deployments.proofs.Resuming.{loaded_hand}
 use Rattle.deployments.proofs.Statuses.{declined_no_restart, disk_opens, no_restart, opens_gives}
@@ -113,7 +111,6 @@ module _ {J : Type 0} where
   begun_for (Ok (driven.Closed s o)) ending (inr (inr is)) = subst IsBegun (sym is) tt
   begun_for (Ok (driven.Restart s)) ending is = subst IsBegun (sym is) tt
   begun_for (Ok (driven.Reboot s)) ending is = subst IsBegun (sym is) tt
-  begun_for (Ok (driven.More s)) ending is = subst IsBegun (sym is) tt
   begun_for (Err over.Disk) ending is = subst IsBegun (sym is) tt
   begun_for (Err over.Edge) ending is = subst IsBegun (sym is) tt
 
@@ -144,20 +141,6 @@ end_rises q status rose e = record {
     by (inl none) = inl none
     by (inr both) = absurd (false≢true both.1)
 
--- a call whose deployment was driven
-driven_bare : {J : Type 0} (x : Driven J) (q : Place) (status : Status) → EndsDriven x q status → IsBare q
-driven_bare (driven.Closed s o) q status e = e.bare
-driven_bare (driven.Restart s) q status e = e.bare
-driven_bare (driven.Reboot s) q status e = e.bare
-driven_bare (driven.More s) q status e = e
-
-driven_end : {J : Type 0} (x : Driven J) (ending : Ending) (h k : List Happening) (p q : Place) (world : World) (told : Told) (living : List ℕ) (status : Status) → DrivenLeft x h p world told living → EndsFor {J = J} (Ok x) ending → EndsDriven x q status
-    → EndsAs ending (k ++ h) q status
-driven_end (driven.Closed s o) ending h k p q world told living status left is e = inl (end_rises q status (is_failing ending) e)
-driven_end (driven.Restart s) ending h k p q world told living status left is e = inl (end_rises q status (is_failing ending) e)
-driven_end (driven.Reboot s) ending h k p q world told living status left is e = inl (end_rises q status (is_failing ending) e)
-driven_end (driven.More s) ending h k p q world told living status left is e = inr (is, omega (arith, moments_on h k, left.2))
-
 -- a call that gave up
 open_end : (q : Place) (status : Status) (rose : Bool) → IsBare q → leaves_open status ≡ true → (q.boot_end ≡ None) ⊎ (rose ≡ true) → IsEnd q status rose
 open_end q status rose bare opens recorded =
@@ -181,9 +164,9 @@ over_opens over.Disk status answers = disk_opens status answers
 over_opens over.Edge status answers = ap leaves_open answers
 
 over_end : {D : Type 0} (entries : Image → List (List ℕ) → Type 0) (may_leave : D → Image → Type 0) (disk : D) (e : Over) (p : Place) (h : List Happening) (status : Status) → IsBare (left_by p h) → LeftAt entries may_leave disk p h e → AnswersOver e status
-    → EndsAs (ending_over e) h (left_by p h) status
-over_end entries may_leave disk over.Disk p h status bare left answers = inl (open_end (left_by p h) status true bare (over_opens over.Disk status answers) (inr refl))
-over_end entries may_leave disk over.Edge p h status bare left answers = inl (open_end (left_by p h) status false bare (over_opens over.Edge status answers) (inl left.0))
+    → IsEnd (left_by p h) status (is_failing (ending_over e))
+over_end entries may_leave disk over.Disk p h status bare left answers = open_end (left_by p h) status true bare (over_opens over.Disk status answers) (inr refl)
+over_end entries may_leave disk over.Edge p h status bare left answers = open_end (left_by p h) status false bare (over_opens over.Edge status answers) (inl left.0)
 
 pub over_answers : (e : Over) (status : Status) → AnswersOver e status → IsOrEdge status (status_of_ending (ending_over e))
 over_answers over.Disk status answers = answers
@@ -208,13 +191,12 @@ module _ (h k : List Happening) (d : Device) (q r : Place) (none : records_of k 
   driven_ends world told living (driven.Closed s o) ending left (inl is) =
       let on = closes_on o left.closed in
       subst (λ (e : Ending). Ends e (k ++ h) r) (sym is) (on, closed_none d r.device o (records_of (k ++ h)) on run)
-  driven_ends world told living (driven.Closed s o) ending left (inr (inl is)) = subst (λ (e : Ending). Ends e (k ++ h) r) (sym is) (inl (o, closes_on o left.closed))
+  driven_ends world told living (driven.Closed s o) ending left (inr (inl is)) = subst (λ (e : Ending). Ends e (k ++ h) r) (sym is) (o, closes_on o left.closed)
   driven_ends world told living (driven.Closed s o) ending left (inr (inr is)) = subst (λ (e : Ending). Ends e (k ++ h) r) (sym is) tt
   driven_ends world told living (driven.Restart s) ending left is =
       subst (λ (e : Ending). Ends e (k ++ h) r) (sym is) (again_on booted.Restart (loaded_device s) left.0.stands.device_is left.2)
   driven_ends world told living (driven.Reboot s) ending left is =
       subst (λ (e : Ending). Ends e (k ++ h) r) (sym is) (again_on booted.Reboot (loaded_device s) left.0.stands.device_is left.2)
-  driven_ends world told living (driven.More s) ending left is = subst (λ (e : Ending). Ends e (k ++ h) r) (sym is) (inr (omega (arith, moments_on h k, left.2)))
 
 -- ---- what the disk holds at the end
 
@@ -310,13 +292,11 @@ module _ {D J : Type 0} {tells : Bool} {seen : D → Image} {may_leave : D → I
   driven_hand (driven.Closed s o) disk hand = (s.log, hand.0)
   driven_hand (driven.Restart s) disk hand = loaded_hand tells may_leave stands end s disk hand
   driven_hand (driven.Reboot s) disk hand = loaded_hand tells may_leave stands end s disk hand
-  driven_hand (driven.More s) disk hand = loaded_hand tells may_leave stands end s disk hand
 
   driven_is : (x : Driven J) (h : List Happening) (q : Place) (world : World) (told : Told) (living : List ℕ) → DrivenLeft x h q world told living → q.device ≡ driven_device x
   driven_is (driven.Closed s o) h q world told living left = left.stands.device_is
   driven_is (driven.Restart s) h q world told living left = left.0.stands.device_is
   driven_is (driven.Reboot s) h q world told living left = left.0.stands.device_is
-  driven_is (driven.More s) h q world told living left = left.3
 
   -- ---- where it ends
 
@@ -333,7 +313,7 @@ module _ {D J : Type 0} {tells : Bool} {seen : D → Image} {may_leave : D → I
     pub called : (old to new : D) (a b c : Option (List RunnerEntry)) (u v w x : Option (List ℕ)) (p : Place) (r : Result (Driven J) Over) (status : Status) (because : Ending → Type 0)
         → Appends u v (opening_line p.device) → (course : Course entries files may_leave moment left_since old to a b v w p r (λ y h q. DrivenLeft y h q world told living)) → p.serves ≡ false
         → IfOk r (λ y. InDriven tells may_leave stands end y to)
-        → IfOk r (λ y. (q : Place) → (h : List Happening) → DrivenLeft y h q world told living → q.serves ≡ false → (k : List Happening) × Acts q k b c × EndsDriven y (left_by q k) status)
+        → IfOk r (λ y. (q : Place) → (h : List Happening) → DrivenLeft y h q world told living → q.serves ≡ false → (k : List Happening) × Acts q k b c × IsEnd (left_by q k) status false)
         → OnErr r (c ≡ b) → Spared may_leave moment left_since to new → IfOk r (λ y. AllHoldDevice (may_leave to) (driven_device y) → Leaves moment left_since to new (λ i. HoldsDevice i (driven_device y))) → OnErr r (new ≡ to) → SaysEnding w x status (λ e. EndsFor r e × because e) → (IsErrOf r over.Edge → x ≡ w) → AnswersFor r status
         → CallFor entries files may_leave moment left_since old new a c u x p status (records_of course.history) because
     called old to new a b c u v w x p (Ok y) status because started course serves held ends still after safe unswept says silent answers =
@@ -342,7 +322,6 @@ module _ {D J : Type 0} {tells : Bool} {seen : D → Image} {may_leave : D → I
         let e = ends q h course.left (serves_on p h serves) in
         let k = e.0 in
         let ending = says.0 in
-        let end : EndsDriven y (left_by p (k ++ h)) status = subst (λ (z : Place). EndsDriven y z status) (sym (left-append p k h)) e.2 in
         let same = records_opened h k e.1.none in
         let device = ap (λ (z : Place). z.device) (left-append p k h) ∙ e.1.device in
         let went = went_acting entries files old to a b c p h k course.went e.1 in
@@ -359,12 +338,11 @@ module _ {D J : Type 0} {tells : Bool} {seen : D → Image} {may_leave : D → I
             history = k ++ h;
             went = went;
             after = after;
-            bare = driven_bare y (left_by p (k ++ h)) status end;
             ending = ending;
             answers = says.3;
             prints = all_prints (StandsBehind entries may_leave new p (k ++ h)) u v w x p.device records ending status behind (begun_fed ending begun) started (subst (λ (l : List Record). Appends v w (lines_of p.device l)) (sym same) course.lines) says.2;
             ends = driven_ends h k p.device q (left_by p (k ++ h)) e.1.none device went.run world told living y ending course.left says.1.0;
-            end = driven_end y ending h k q (left_by p (k ++ h)) world told living status course.left says.1.0 end;
+            end = subst (λ (z : Place). IsEnd z status (is_failing ending)) (sym (left-append p k h)) (end_rises (left_by q k) status (is_failing ending) e.2);
             stands = most_of entries may_leave new p (k ++ h) went.run behind;
             doubt = inl behind;
             once = takes_once p (k ++ h) serves went.proper;
@@ -390,7 +368,6 @@ module _ {D J : Type 0} {tells : Bool} {seen : D → Image} {may_leave : D → I
             history = course.history;
             went = subst (λ (l : Option (List RunnerEntry)). Went entries files may_leave moment left_since old to a l p course.history) (sym still) course.went;
             after = after;
-            bare = course.bare;
             ending = ending;
             answers = over_answers e status answers;
             prints = over_prints (StandsBehind entries may_leave new p course.history) e u v w x p.device (records_of course.history) status
@@ -430,12 +407,11 @@ module _ {D : Type 0} (entries : Image → List (List ℕ) → Type 0) (files : 
     history = [];
     went = acted entries files laws new l l p [] stands (acts_none p l l refl);
     after = start_spares laws (IsBelow artifacts) new;
-    bare = shut_bare p shut;
     ending = ending;
     answers = answers;
     prints = prints;
     ends = ends;
-    end = inl (shut_ends p status (is_failing ending) shut (no_restart status (status_of_ending ending) answers other));
+    end = shut_ends p status (is_failing ending) shut (no_restart status (status_of_ending ending) answers other);
     stands = most_of entries may_leave new p [] refl stands;
     doubt = inl stands;
     once = tt;
@@ -476,12 +452,11 @@ module _ {D : Type 0} (entries : Image → List (List ℕ) → Type 0) (files : 
         history = [];
         went = went;
         after = start_spares laws (IsBelow artifacts) new;
-        bare = shut_bare p shut;
         ending = Starves;
         answers = inl refl;
         prints = starved_prints (StandsBehind entries may_leave new p []) u v p.device statuses.Memory stands silent;
         ends = refl;
-        end = inl (shut_ends p statuses.Memory false shut refl);
+        end = shut_ends p statuses.Memory false shut refl;
         stands = most_of entries may_leave new p [] refl stands;
         doubt = inl stands;
         once = tt;
@@ -523,7 +498,6 @@ module _ {D : Type 0} (entries : Image → List (List ℕ) → Type 0) (files : 
               history = on;
               went = went;
               after = start_spares laws (IsBelow artifacts) new;
-              bare = record { parts = bare.parts; boot = bare.boot };
               ending = ending_over e;
               answers = over_answers e status answers;
               prints = over_prints (StandsBehind entries may_leave new p on) e u u v w p.device one status (λ edge. edge_behind entries may_leave e new p on edge behind) (opening_none u p.device (ap (λ (x : Device). x.pending) opens.stands.device_is ∙ none))
@@ -558,7 +532,6 @@ module _ {D : Type 0} (entries : Image → List (List ℕ) → Type 0) (files : 
     history = c.history;
     went = c.went;
     after = c.after;
-    bare = c.bare;
     ending = c.ending;
     answers = c.answers;
     prints = c.prints;

@@ -1,10 +1,9 @@
 -- Where a call is that drives one deployment: from its start, and behind its close.
-use Rattle.std.specs.Prelude.{ℕ, ◌+◌, zero, Bool, true, false, not, ◌||◌, List, [], ◌∷◌, Option, Some, None, is_some, Contains, if◌then◌else◌}
-use Rattle.std.specs.List.{AllByRecursion, list_any}
+use Rattle.std.specs.Prelude.{ℕ, ◌+◌, zero, Bool, true, false, not, ◌||◌, List, [], ◌∷◌, Option, Some, None, Contains, if◌then◌else◌}
+use Rattle.std.specs.List.{list_any}
 use Rattle.std.specs.Option.{IsSome, IsSomeAnd}
 use Rattle.std.proofs.Common.{◌≡◌, ◌↔◌, ◌⊎◌, ◌∙◌, inl, inr, refl, sym, ap, subst, arith}
 use Rattle.std.proofs.lemmas.Bool.{false≢true}
-use Rattle.nuc_base.specs.declared.kinds.Exit.{Exit}
 use Rattle.nuc_base.specs.declared.kinds.Outcome.{Outcome}
 use Rattle.nuc_base.specs.declared.kinds.Step.{Step}
 use Rattle.nuc_base.specs.declared.status.Status.{Status}
@@ -27,9 +26,7 @@ use Rattle.driver.specs.Stands.{IsBetween, IsFront}
 use Rattle.driver.proofs.Entries.{never}
 use Rattle.driver.proofs.Still.{childless}
 use Rattle.activation.specs.Ended.{HasClosed}
-use Rattle.stopping.specs.Leaves.{Leaves, LeavesPart}
-use Rattle.stopping.specs.Stops.{HasStopped, MayStop, StopLeft}
-use Rattle.stopping.specs.declared.stops.Stopped.{Stopped}
+use Rattle.stopping.specs.Stops.{HasStopped, MayStop}
 use Rattle.stage_changes.specs.Fails.{IsGivenUp}
 use Rattle.stage_changes.proofs.Closing.{no_other}
 use Rattle.acceptance.specs.Accepts.{IsOpen, IsOpened, crew_of}
@@ -263,16 +260,3 @@ restart_ends p d world told living status again b over restarts answers = record
     ends : IsOrEdge status again → (is_restart status ≡ true) ⊎ (gives_up status ≡ true)
     ends (inl same) = inl (ap is_restart same ∙ restarts)
     ends (inr edge) = inr (ap gives_up edge)
-
--- ---- behind the stop of all
-
--- components that all leave owe no failure
-pub leaves_told : (w : World) → Leaves w → list_any owes w.parts ≡ false
-leaves_told w l = each w.parts l.each
-  where
-    each : (ps : List Part) → AllByRecursion LeavesPart ps → list_any owes ps ≡ false
-    each [] all = refl
-    each (p ∷ ps) all = ap (λ (x : Option (Step × Exit)). is_some x || list_any owes ps) all.0.1 ∙ each ps all.1
-
-pub stop_left : (k t : Stopped) (n : ℕ) (q : Place) (d : Device) (world : World) (told : Told) (living : List ℕ) → k ≡ t → StopLeft k n q d world told living → StopLeft t n q d world told living
-stop_left k t n q d world told living is left = subst (λ (x : Stopped). StopLeft x n q d world told living) is left

@@ -72,7 +72,6 @@ module _ {J : Type 0} (status : Status) where
   answers_own (Ok (driven.Restart s)) (inr is) lib = cc
   answers_own (Ok (driven.Reboot s)) (inl is) lib = cc
   answers_own (Ok (driven.Reboot s)) (inr is) lib = cc
-  answers_own (Ok (driven.More s)) is lib = cc
   answers_own (Err over.Disk) (inl is) lib = cc
   answers_own (Err over.Disk) (inr is) lib = cc
   answers_own (Err over.Edge) is lib = cc

@@ -64,10 +64,6 @@ outcome_no_restart outcome.UnableToRollback = refl
 pub no_outcome : (o : Outcome) (s : Status) → closes s ≡ false → status_of_outcome o ≡ s → ⊥
 no_outcome o s never is = true≢false (sym (of_outcome o) ∙ ap closes is ∙ never)
 
-pub no_close : (o : Outcome) (status s : Status) → closes s ≡ false → IsOrEdge status s → status ≡ status_of_outcome o → ⊥
-no_close o status s never (inl given) is = no_outcome o s never (sym is ∙ given)
-no_close o status s never (inr edge) is = no_outcome o statuses.Edge refl (sym is ∙ edge)
-
 abbrev outcome_of : Status → Outcome
 outcome_of statuses.RolledBack = outcome.RollbackComplete
 outcome_of statuses.NotRequested = outcome.RollbackNotRequested
@@ -83,18 +79,6 @@ back_again outcome.UnableToRollback = refl
 -- each has its own
 pub same_outcome : (a b : Outcome) → status_of_outcome a ≡ status_of_outcome b → a ≡ b
 same_outcome a b is = sym (back_again a) ∙ ap outcome_of is ∙ back_again b
-
--- the status of a close that all components were stopped behind, or want of memory
-abbrev pub StopsAs : Outcome → Status → Type 0 → Type 0
-StopsAs o status X = (status ≡ status_of_outcome o) ⊎ ((status ≡ statuses.Memory) × X)
-
-pub stops_answer : {X : Type 0} (o : Outcome) (status : Status) → StopsAs o status X → (status ≡ status_of_outcome o) ⊎ (status ≡ statuses.Memory) ⊎ (status ≡ statuses.Disk) ⊎ (status ≡ statuses.Edge)
-stops_answer o status (inl is) = inl is
-stops_answer o status (inr more) = inr (inl more.0)
-
-pub stops_never : {X : Type 0} (o : Outcome) (status s : Status) → closes s ≡ false → (s ≡ statuses.Memory → ⊥) → StopsAs o status X → status ≡ s → ⊥
-stops_never o status s never other (inl given) is = no_outcome o s never (sym given ∙ is)
-stops_never o status s never other (inr more) is = other (sym is ∙ more.0)
 
 -- ---- of a refusal
 

@@ -7,13 +7,15 @@ ghost use Rattle.disk_model.specs.Disk.{Leaves};
 ghost use Rattle.disk_model.specs.Listing.{artifacts, IsBelow};
 ghost use Rattle.disk_model.specs.Spares.{Spares};
 ghost use Rattle.step_runner.specs.Entries.{Listed};
+ghost use Rattle.session.specs.Courses.{IsEnd};
 ghost use Rattle.session.specs.Happenings.{Happening};
 ghost use Rattle.session.specs.Places.{Place, left_by};
 ghost use Rattle.deploy_state.specs.States.{loaded_device};
 ghost use Rattle.driver.specs.Lines.{id_of};
 ghost use Rattle.driver.specs.Went.{Acts};
+ghost use Rattle.ending_laws.specs.Drives.{Drives};
 ghost use Rattle.deploying.specs.Driven.{DrivenLeft, driven_device};
-ghost use Rattle.deployments.specs.Calls.{AnswersFor, EndsDriven, EndsFor, IsOrEdge, SaysEnding, SaysLine, Spared};
+ghost use Rattle.deployments.specs.Calls.{AnswersFor, EndsFor, IsOrEdge, SaysEnding, SaysLine, Spared};
 ghost use Rattle.deployments.specs.Endings.{Fails};
 
 use crate::closes::end_closed;
@@ -56,9 +58,10 @@ pub(crate) fn end_call<D: Disk, J: Journal + Drop, K: Sink, R: Runner, S: Superv
     supervisor: &mut S,
 ) -> Status
     requires placed { IfOk driven (λ x. (p : Place) × (h : List Happening) × DrivenLeft x h p (S.world supervisor.old) (Listed R.list R.told R.asked runner.old) (R.living runner.old) × (p.serves ≡ false)) }
+    requires drives { IfOk driven (λ x. Drives (S.world supervisor.old)) }
     requires none { OnErr driven (R.living runner.old ≡ []) }
     ensures went { IfOk driven (λ x. (p : Place) → (h : List Happening) → DrivenLeft x h p (S.world supervisor.old) (Listed R.list R.told R.asked runner.old) (R.living runner.old) → (p.serves ≡ false) →
-        (k : List Happening) × Acts p k (R.list runner.old) (R.list runner.new) × EndsDriven x (left_by p k) result) }
+        (k : List Happening) × Acts p k (R.list runner.old) (R.list runner.new) × IsEnd (left_by p k) result false) }
     ensures still { OnErr driven (R.list runner.new ≡ R.list runner.old) }
     ensures none { R.living runner.new ≡ [] }
     ensures spared { Spared D.may_leave D.moment D.left_since disk.old disk.new }
@@ -81,7 +84,6 @@ pub(crate) fn end_call<D: Disk, J: Journal + Drop, K: Sink, R: Runner, S: Superv
         }
         Ok(Driven::Restart(state)) => say_again(&state, sink, "restart ", Status::Restart),
         Ok(Driven::Reboot(state)) => say_again(&state, sink, "reboot ", Status::Reboot),
-        Ok(Driven::More(_)) => Status::Memory,
         Err(Over::Disk) => say_disk(sink),
         Err(Over::Edge) => Status::Edge,
     }

@@ -448,7 +448,6 @@ module _ {D : Type 0} {tells : Bool} {seen : D → Image} {may_leave : D → Ima
       history = call.history;
       went = call.went;
       after = call.after;
-      bare = call.bare;
       ending = call.ending;
       answers = call.answers;
       prints = call.prints;

@@ -49,7 +49,7 @@ fn recipe_of(alloc: Global, component: &str) -> Result<String, AllocError> {
     Ok(recipe)
 }
 
-fn library_of(alloc: Global, components: &str) -> Result<MemoryLibrary, Fail> {
+pub(crate) fn library_of(alloc: Global, components: &str) -> Result<MemoryLibrary, Fail> {
     let mut recipes = List::empty(alloc);
     for component in components.split_terminator(';') {
         recipes.push(Bytes::from_slice(alloc, recipe_of(alloc, component)?.as_bytes())?)?;
@@ -59,7 +59,7 @@ fn library_of(alloc: Global, components: &str) -> Result<MemoryLibrary, Fail> {
 
 /// The document of these words: an id, with `@` and a revision behind it or without; a policy; and then a component and its
 /// range, any number of times.
-fn document_of(alloc: Global, words: &str) -> Result<String, AllocError> {
+pub(crate) fn document_of(alloc: Global, words: &str) -> Result<String, AllocError> {
     let mut words = words.split_whitespace();
     let mut named = words.next().unwrap_or("").splitn(2, '@');
     let id = named.next().unwrap_or("");

@@ -5,7 +5,11 @@
 #![tactic(auto)]
 
 #[cfg(test)]
+mod again;
+#[cfg(test)]
 mod calls;
+#[cfg(test)]
+mod files;
 #[cfg(test)]
 mod hello;
 #[cfg(test)]

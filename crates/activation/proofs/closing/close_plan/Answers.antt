@@ -14,6 +14,8 @@ use Rattle.session.specs.Happenings.{Kept, records_of}
 use Rattle.session.specs.Places.{leaves}
 use Rattle.driver.specs.Lines.{id_of}
 use Rattle.driver.proofs.Told.{last_untold}
+use Rattle.ending_laws.specs.Drives.{Drives}
+use Rattle.ending_laws.proofs.Stands.{steady_on}
 use Rattle.activation.specs.Ended.{HasClosed}
 use Rattle.activation.proofs.Closed.{closed_quits, same_owners, steadied_owners, close_doubt, close_went, closed_at, completes, ends_up, last_closed, line_closed, pends_in}
 use Rattle.activation.proofs.closing.close_plan.Goals as goal
@@ -70,3 +72,9 @@ returns-in-Err-clause-went g c = λ p told living r up.
       close_doubt g.J.Journal.entries g.J.Journal.files g.met.D.Disk.laws c.args.disk.now c.complete.new.disk p d o r.device_is allowed c.complete.ensures.moments,
       closed_quits p d _ o world world told living r (same_owners p d _ world told living r),
     )
+
+pub returns-in-Ok-tell_close-clause-drives : goal.returns-in-Ok-tell_close-clause-drives
+returns-in-Ok-tell_close-clause-drives g c = subst (λ (w : World). Drives w) (sym c.steady.ensures) (steady_on (g.S.Supervise.world c.args.supervisor.now) c.requires.drives).drives
+
+pub returns-in-Err-tell_close-clause-drives : goal.returns-in-Err-tell_close-clause-drives
+returns-in-Err-tell_close-clause-drives g c = subst (λ (w : World). Drives w) (sym c.steady.ensures) (steady_on (g.S.Supervise.world c.args.supervisor.now) c.requires.drives).drives

@@ -14,6 +14,8 @@ use Rattle.session.specs.Happenings.{Kept, records_of}
 use Rattle.session.specs.Places.{leaves}
 use Rattle.driver.specs.Lines.{id_of}
 use Rattle.driver.proofs.Told.{last_untold}
+use Rattle.ending_laws.specs.Drives.{Drives}
+use Rattle.ending_laws.proofs.Stands.{steady_on}
 use Rattle.activation.specs.Ended.{HasClosed}
 use Rattle.activation.proofs.Closed.{closed_quits, same_owners, steadied_owners, Notes, close_doubt, close_went, closed_at, ends_set, last_closed, line_closed, pends_in, roll_allowed, rolls, set_outcome}
 use Rattle.activation.proofs.closing.close_set.Goals as goal
@@ -68,3 +70,9 @@ returns-in-Err-clause-went g c = λ p told living broken r up.
       close_doubt g.J.Journal.entries g.J.Journal.files g.met.D.Disk.laws c.args.disk.now c.close.new.disk p d o r.device_is allowed (subst (λ (x : Outcome). Notes g.J.Journal.entries g.J.Journal.files g.met.D.Disk.laws c.args.disk.now c.close.new.disk d (stored.Closed x)) same c.close.ensures.moments),
       closed_quits p d broken o world world told living r (same_owners p d broken world told living r),
     )
+
+pub returns-in-Ok-tell_close-clause-drives : goal.returns-in-Ok-tell_close-clause-drives
+returns-in-Ok-tell_close-clause-drives g c = subst (λ (w : World). Drives w) (sym c.steady.ensures) (steady_on (g.S.Supervise.world c.args.supervisor.now) c.requires.drives).drives
+
+pub returns-in-Err-tell_close-clause-drives : goal.returns-in-Err-tell_close-clause-drives
+returns-in-Err-tell_close-clause-drives g c = subst (λ (w : World). Drives w) (sym c.steady.ensures) (steady_on (g.S.Supervise.world c.args.supervisor.now) c.requires.drives).drives

@@ -1,4 +1,4 @@
-use Rattle.std.proofs.Common.{inl, inr, refl, sym, subst}
+use Rattle.std.proofs.Common.{◌∙◌, inl, inr, refl, sym, subst}
 use Rattle.step_runner.specs.Entries.{Listed}
 use Rattle.session.specs.Places.{left_by}
 use Rattle.disk_model.specs.Disk.{Leaves}
@@ -11,20 +11,20 @@ use Rattle.artifact_store.proofs.Walking.{wider_spares}
 use Rattle.deploy_state.specs.States.{idle_device}
 use Rattle.giving_up.proofs.Ended.{killed_ends}
 use Rattle.deployments.proofs.Places.{closed_given_up, closed_stops}
-use Rattle.deployments.specs.Endings.{Fails, Forgets}
-use Rattle.deployments.proofs.Printing.{says_none, stops_ends}
-use Rattle.deployments.proofs.Statuses.{disk_opens, opens_gives, stops_answer, stops_never}
+use Rattle.deployments.specs.Endings.{Closes, Fails, Forgets}
+use Rattle.deployments.proofs.Printing.{says_none}
+use Rattle.deployments.proofs.Statuses.{disk_opens, no_outcome, opens_gives}
 use Rattle.deployments.proofs.closes.end_closed.Goals as goal
 
 -- ---- stray files are swept
 
-pub stop-requires : goal.stop-requires
-stop-requires g c =
+pub stop-requires-clause-placed : goal.stop-requires-clause-placed
+stop-requires-clause-placed g c =
     let q = c.requires.placed in
     let d = idle_device c.args.idle.now in
     let world = g.S.Supervise.world c.args.supervisor.now in
     let told = Listed g.R.Runner.list g.R.Runner.told g.R.Runner.asked c.args.runner.now in
-    record { placed = (q.0, d, closed_stops c.args.outcome q.1 q.0 d world told (g.R.Runner.living c.args.runner.now) q.2 q.3) }
+    (q.0, d, closed_stops c.args.outcome q.1 q.0 d world told (g.R.Runner.living c.args.runner.now) q.2 q.3)
 
 pub returns-in-Ok-clause-went : goal.returns-in-Ok-clause-went
 returns-in-Ok-clause-went g c = λ p records closed serves.
@@ -45,40 +45,16 @@ pub returns-in-Ok-clause-others : goal.returns-in-Ok-clause-others
 returns-in-Ok-clause-others g c = λ told name spared. c.sweep.ensures.others told name (λ stray. spared stray.0)
 
 pub returns-in-Ok-clause-ends : goal.returns-in-Ok-clause-ends
-returns-in-Ok-clause-ends g c =
-    let q = c.requires.placed in
-    let d = idle_device c.args.idle.now in
-    let world = g.S.Supervise.world c.args.supervisor.now in
-    let told = Listed g.R.Runner.list g.R.Runner.told g.R.Runner.asked c.args.runner.now in
-    let t = c.stop.ensures.went q.0 d (closed_stops c.args.outcome q.1 q.0 d world told (g.R.Runner.living c.args.runner.now) q.2 q.3) in
-    stops_ends c.args.outcome c.stop.result (g.K.Sink.held c.args.sink.now) t.3
+returns-in-Ok-clause-ends g c = (Closes c.args.outcome, (inl refl, λ fails. absurd cc), says_none (g.K.Sink.held c.args.sink.now) (g.K.Sink.held c.args.sink.now) c.stop.result refl, inl c.stop.ensures.answers)
 
 pub returns-in-Ok-clause-answers : goal.returns-in-Ok-clause-answers
-returns-in-Ok-clause-answers g c =
-    let q = c.requires.placed in
-    let d = idle_device c.args.idle.now in
-    let world = g.S.Supervise.world c.args.supervisor.now in
-    let told = Listed g.R.Runner.list g.R.Runner.told g.R.Runner.asked c.args.runner.now in
-    let t = c.stop.ensures.went q.0 d (closed_stops c.args.outcome q.1 q.0 d world told (g.R.Runner.living c.args.runner.now) q.2 q.3) in
-    stops_answer c.args.outcome c.stop.result t.3
+returns-in-Ok-clause-answers g c = inl c.stop.ensures.answers
 
 pub returns-in-Ok-clause-disk : goal.returns-in-Ok-clause-disk
-returns-in-Ok-clause-disk g c = λ is.
-    let q = c.requires.placed in
-    let d = idle_device c.args.idle.now in
-    let world = g.S.Supervise.world c.args.supervisor.now in
-    let told = Listed g.R.Runner.list g.R.Runner.told g.R.Runner.asked c.args.runner.now in
-    let t = c.stop.ensures.went q.0 d (closed_stops c.args.outcome q.1 q.0 d world told (g.R.Runner.living c.args.runner.now) q.2 q.3) in
-    absurd (stops_never c.args.outcome c.stop.result statuses.Disk refl (λ e. cc) t.3 is)
+returns-in-Ok-clause-disk g c = λ is. absurd (no_outcome c.args.outcome statuses.Disk refl (sym c.stop.ensures.answers ∙ is))
 
 pub returns-in-Ok-clause-edge : goal.returns-in-Ok-clause-edge
-returns-in-Ok-clause-edge g c = λ is.
-    let q = c.requires.placed in
-    let d = idle_device c.args.idle.now in
-    let world = g.S.Supervise.world c.args.supervisor.now in
-    let told = Listed g.R.Runner.list g.R.Runner.told g.R.Runner.asked c.args.runner.now in
-    let t = c.stop.ensures.went q.0 d (closed_stops c.args.outcome q.1 q.0 d world told (g.R.Runner.living c.args.runner.now) q.2 q.3) in
-    absurd (stops_never c.args.outcome c.stop.result statuses.Edge refl (λ e. cc) t.3 is)
+returns-in-Ok-clause-edge g c = λ is. absurd (no_outcome c.args.outcome statuses.Edge refl (sym c.stop.ensures.answers ∙ is))
 
 -- ---- the disk failed
 

@@ -12,16 +12,20 @@ use Rattle.driver.specs.declared.over.Over.TheVariants as over
 use Rattle.deploying.specs.declared.driven.Driven.TheVariants as driven
 use Rattle.deployments.proofs.Places.{bare_none, between_bare, restart_ends}
 use Rattle.deployments.proofs.Printing.{says_none}
-use Rattle.deployments.specs.Endings.{Breaks, Fails, Forgets, Reboots, Restarts}
+use Rattle.deployments.specs.Endings.{Breaks, Fails, Reboots, Restarts}
 use Rattle.deployments.proofs.Results.{answers_err, answers_ok, ends_err, ends_ok, err_if, err_on, if_ok, not_edge, ok_if, ok_on, on_err}
 use Rattle.deployments.proofs.ends.end_call.Goals as goal
 
 -- ---- it closed
 
-pub end_closed-requires : goal.end_closed-requires
-end_closed-requires g c =
+pub end_closed-requires-clause-drives : goal.end_closed-requires-clause-drives
+end_closed-requires-clause-drives g c =
+    if_ok _ c.args.driven c.in-Ok-Closed.field-0 (driven.Closed c.in-Ok-Closed.idle c.in-Ok-Closed.outcome) c.in-Ok-Closed.is c.in-Ok-Closed.field-0-is c.requires.drives
+
+pub end_closed-requires-clause-placed : goal.end_closed-requires-clause-placed
+end_closed-requires-clause-placed g c =
     let q = if_ok _ c.args.driven c.in-Ok-Closed.field-0 (driven.Closed c.in-Ok-Closed.idle c.in-Ok-Closed.outcome) c.in-Ok-Closed.is c.in-Ok-Closed.field-0-is c.requires.placed in
-    record { placed = (q.0, records_of q.1, q.2, q.3) }
+    (q.0, records_of q.1, q.2, q.3)
 
 pub returns-in-Ok-Closed-clause-went : goal.returns-in-Ok-Closed-clause-went
 returns-in-Ok-Closed-clause-went g c =
@@ -141,41 +145,6 @@ returns-in-Ok-Reboot-clause-ends g c =
 
 pub returns-in-Ok-Reboot-clause-unswept : goal.returns-in-Ok-Reboot-clause-unswept
 returns-in-Ok-Reboot-clause-unswept g c = ok_on _ c.args.driven c.in-Ok-Reboot.field-0 c.in-Ok-Reboot.is
-
--- ---- a stage did not end
-
-pub returns-in-Ok-More-clause-went : goal.returns-in-Ok-More-clause-went
-returns-in-Ok-More-clause-went g c =
-    let list = g.R.Runner.list c.args.runner.now in
-    ok_if _ c.args.driven c.in-Ok-More.field-0 (driven.More _) c.in-Ok-More.is c.in-Ok-More.field-0-is
-    (λ p h left serves. ([], acts_none p list list refl, left.0))
-
-pub returns-in-Ok-More-clause-still : goal.returns-in-Ok-More-clause-still
-returns-in-Ok-More-clause-still g c = ok_on _ c.args.driven c.in-Ok-More.field-0 c.in-Ok-More.is
-
-pub returns-in-Ok-More-clause-none : goal.returns-in-Ok-More-clause-none
-returns-in-Ok-More-clause-none g c = (if_ok _ c.args.driven c.in-Ok-More.field-0 (driven.More _) c.in-Ok-More.is c.in-Ok-More.field-0-is c.requires.placed).2.1
-
-pub returns-in-Ok-More-clause-spared : goal.returns-in-Ok-More-clause-spared
-returns-in-Ok-More-clause-spared g c = start_spares g.met.D.Disk.laws (IsBelow artifacts) c.args.disk.now
-
-pub returns-in-Ok-More-clause-ends : goal.returns-in-Ok-More-clause-ends
-returns-in-Ok-More-clause-ends g c =
-    let held = g.K.Sink.held c.args.sink.now in
-    ends_ok statuses.Memory held held c.args.driven c.in-Ok-More.field-0 (driven.More _) c.in-Ok-More.is c.in-Ok-More.field-0-is (Forgets, (refl, λ fails. absurd cc), says_none held held statuses.Memory refl, inl refl)
-
-pub returns-in-Ok-More-clause-unswept : goal.returns-in-Ok-More-clause-unswept
-returns-in-Ok-More-clause-unswept g c = ok_on _ c.args.driven c.in-Ok-More.field-0 c.in-Ok-More.is
-
-pub returns-in-Ok-More-clause-silent : goal.returns-in-Ok-More-clause-silent
-returns-in-Ok-More-clause-silent g c = λ is. refl
-
-pub returns-in-Ok-More-clause-safe : goal.returns-in-Ok-More-clause-safe
-returns-in-Ok-More-clause-safe g c =
-    ok_if _ c.args.driven c.in-Ok-More.field-0 (driven.More _) c.in-Ok-More.is c.in-Ok-More.field-0-is (still_safe g.met.D.Disk.laws _ c.args.disk.now)
-
-pub returns-in-Ok-More-clause-answers : goal.returns-in-Ok-More-clause-answers
-returns-in-Ok-More-clause-answers g c = answers_ok statuses.Memory c.args.driven c.in-Ok-More.field-0 (driven.More _) c.in-Ok-More.is c.in-Ok-More.field-0-is refl
 
 -- ---- it was given up
 

@@ -16,6 +16,7 @@ use Rattle.step_runner.specs.Entries.{Listed}
 use Rattle.session.specs.Happenings.{records_of}
 use Rattle.session.specs.Once.{TakesOnce}
 use Rattle.session.proofs.Once.{takes_once}
+use Rattle.ending_laws.proofs.Comes.{none_drives}
 use Rattle.driver.proofs.Between.{no_living}
 use Rattle.driver.specs.declared.over.Over.TheVariants as over
 use Rattle.deployments.proofs.Ending.{called, nothing_called, placed_at, still_whole}
@@ -160,6 +161,9 @@ returns-in_default-say_resumed-clause-later g c = (
 
 pub drive-driven-requires-clause-orderly : goal.drive-driven-requires-clause-orderly
 drive-driven-requires-clause-orderly g c = orderly_none (g.S.Supervise.world c.args.supervisor.now) c.requires.empty
+
+pub drive-driven-requires-clause-drives : goal.drive-driven-requires-clause-drives
+drive-driven-requires-clause-drives g c = none_drives (g.S.Supervise.world c.args.supervisor.now) c.requires.empty
 
 pub drive-driven-requires-clause-placed : goal.drive-driven-requires-clause-placed
 drive-driven-requires-clause-placed g c = let q = c.requires.placed in (q.0, q.1)

@@ -18,6 +18,7 @@ use Rattle.session.specs.Happenings.{records_of}
 use Rattle.session.specs.Follows.{MayTakeBy}
 use Rattle.session.specs.Places.{left_by}
 use Rattle.session.proofs.Once.{takes_once}
+use Rattle.ending_laws.proofs.Comes.{none_drives}
 use Rattle.driver.specs.Over.{LeftAt, LinesAt}
 use Rattle.driver.specs.declared.over.Over.{Over}
 use Rattle.driver.specs.declared.over.Over.TheVariants as over
@@ -50,6 +51,9 @@ boot-driven-requires-clause-ready g c =
 
 pub boot-driven-requires-clause-orderly : goal.boot-driven-requires-clause-orderly
 boot-driven-requires-clause-orderly g c = orderly_none (g.S.Supervise.world c.args.supervisor.now) c.requires.empty
+
+pub boot-driven-requires-clause-drives : goal.boot-driven-requires-clause-drives
+boot-driven-requires-clause-drives g c = none_drives (g.S.Supervise.world c.args.supervisor.now) c.requires.empty
 
 pub boot-driven-requires-clause-placed : goal.boot-driven-requires-clause-placed
 boot-driven-requires-clause-placed g c =
