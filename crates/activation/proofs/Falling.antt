@@ -1,5 +1,5 @@
 -- What is kept of the components while a turn goes, and the number of the loops.
-use Rattle.std.specs.Prelude.{ℕ, suc, zero, ◌==◌, Bool, true, false, not, ◌&&◌, ◌||◌, List, [], ◌∷◌, Option, Some, None, slice_get, option_and_then, is_some}
+use Rattle.std.specs.Prelude.{Err, IsErrOf, ℕ, suc, zero, ◌==◌, Bool, true, false, not, ◌&&◌, ◌||◌, List, [], ◌∷◌, Option, Some, None, slice_get, option_and_then, is_some}
 use Rattle.std.specs.List.{AllByRecursion, list_any}
 use Rattle.std.proofs.Common.{◌≡◌, ◌⊎◌, ◌<◌, ◌+◌, ◌^◌, ◌∙◌, inl, inr, refl, sym, ap, subst}
 use Rattle.std.proofs.lemmas.Bool.{and_parts, or_parts, or_right}
@@ -31,10 +31,10 @@ pub falling_at : (p : Place) (world : World) (told : Told) (living : List ℕ) �
 falling_at p world told living r = inl (ap (λ (w : World). w.steady) r.world_is ∙ r.within.keeps.driven)
 
 pub something_is : (x : Did) → x ≡ did.Something → x ≡ did.Nothing → ⊥
-something_is x is no = absurd (cc)
+something_is x is nothing = absurd (cc)
 
 pub failed_is : (x : Did) (k : ℕ) (s : Step) (e : Exit) → x ≡ did.Failed k s e → x ≡ did.Nothing → ⊥
-failed_is x k s e is no = absurd (cc)
+failed_is x k s e is nothing = absurd (cc)
 
 -- ---- where one is broken, it failed three times
 
@@ -46,11 +46,11 @@ record OneOf (f : Part → Bool) (ps : List Part) : Type 0 where
 
 one_of : (f : Part → Bool) (ps : List Part) → list_any f ps ≡ true → OneOf f ps
 one_of f [] e = absurd (cc)
-one_of f (p ∷ ps) e = by (f p) refl e
+one_of f (p ∷ ps) e = by (f p) refl (λ h. one_of f ps h) e
   where
-    by : (b : Bool) → f p ≡ b → (b || list_any f ps) ≡ true → OneOf f (p ∷ ps)
-    by true is h = record { k = zero; part = p; there = refl; passes = is }
-    by false is h = let o = one_of f ps h in record { k = suc o.k; part = o.part; there = o.there; passes = o.passes }
+    by : (b : Bool) → f p ≡ b → (list_any f ps ≡ true → OneOf f ps) → (b || list_any f ps) ≡ true → OneOf f (p ∷ ps)
+    by true is rest h = record { k = zero; part = p; there = refl; passes = is }
+    by false is rest h = let o = rest h in record { k = suc o.k; part = o.part; there = o.there; passes = o.passes }
 
 none_at : (f : Part → Bool) (ps : List Part) (k : ℕ) (p : Part) → slice_get ps k ≡ Some p → list_any f ps ≡ false → f p ≡ false
 none_at f [] k p e h = absurd (cc)
@@ -87,6 +87,9 @@ three_in (Some k) counts e = by k counts e
     by zero (c ∷ cs) e = let is : c ≡ 3 = ap (λ (o : Option ℕ). elim o [ None ↦ c | Some x ↦ x ]) e in subst (λ (n : ℕ). (n == 3 || has_three cs) ≡ true) (sym is) refl
     by (suc k) (c ∷ cs) e = or_right (c == 3) (has_three cs) (by k cs e)
 
+abbrev found_in : Device → List ℕ → Option Pending → Option ℕ
+found_in d n o = elim o [ None ↦ None | Some q ↦ option_and_then (slice_get q.failures) (failing_place d.set q n) ]
+
 counts_three : (d : Device) (n : List ℕ) → count_of d n ≡ Some 3 → has_three (duty_of d).counts ≡ true
 counts_three d n e = by d.pending refl e
   where
@@ -96,7 +99,7 @@ counts_three d n e = by d.pending refl e
     in_stage q stages.Backing is h = rw is h
     in_stage q stages.Rolling is h = rw is h
 
-    by : (o : Option Pending) → d.pending ≡ o → (elim o [ None ↦ None | Some q ↦ option_and_then (slice_get q.failures) (failing_place d.set q n) ]) ≡ Some 3 → has_three (duty_of d).counts ≡ true
+    by : (o : Option Pending) → d.pending ≡ o → found_in d n o ≡ Some 3 → has_three (duty_of d).counts ≡ true
     by None is h = absurd (cc)
     by (Some q) is h = rw is (in_stage q q.stage refl (three_in (failing_place d.set q n) q.failures h))
 
@@ -144,3 +147,8 @@ sits_time p world told living s r = subst (λ (w : World). Goes w) (sym s.runs.w
     by (inl e) = clash (is_settled p.world) e (at_work (is_settled p.world) (has_three (duty_of p.device).counts) s.work).0
     by (inr (inl e)) = clash (has_three (duty_of p.device).counts) (broken_three p.device p.world s.runs.within.keeps own s.quiet.told e) (at_work (is_settled p.world) (has_three (duty_of p.device).counts) s.work).1
     by (inr (inr t)) = t
+
+-- ---- a fault is handed on
+
+pub same_err : {A B E : Type 0} (x e : E) → IsErrOf {T = A} (Err x) e → IsErrOf {T = B} (Err x) e
+same_err x e is = cc

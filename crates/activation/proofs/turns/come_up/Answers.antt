@@ -14,6 +14,7 @@ use Rattle.driver.proofs.Told.{all_told, left_joined, lines_at_joined}
 use Rattle.activation.specs.Coming.{coming_device}
 use Rattle.activation.specs.Turns.{TurnLeft}
 use Rattle.activation.specs.declared.turns.Turned.{Turned}
+use Rattle.activation.proofs.Falling.{same_err}
 use Rattle.activation.proofs.Stages.{coming_stands}
 use Rattle.activation.proofs.Turning.{quits_on}
 use Rattle.activation.proofs.turns.come_up.Goals as goal
@@ -102,10 +103,10 @@ returns-in-Err-clause-went g c = λ p comes.
     )
 
 pub returns-in-Err-clause-disk : goal.returns-in-Err-clause-disk
-returns-in-Err-clause-disk g c = λ is. let r = c.in-Err.ensures.disk is in omega (arith, r, c.turns.invariant.quiet_disk)
+returns-in-Err-clause-disk g c = λ is. let r = c.in-Err.ensures.disk (same_err c.in-Err.over over.Disk is) in omega (arith, r, c.turns.invariant.quiet_disk)
 
 pub returns-in-Err-clause-edge : goal.returns-in-Err-clause-edge
-returns-in-Err-clause-edge g c = λ is. let r = c.in-Err.ensures.edge is in omega (arith, r, c.turns.invariant.quiet_sink)
+returns-in-Err-clause-edge g c = λ is. let r = c.in-Err.ensures.edge (same_err c.in-Err.over over.Edge is) in omega (arith, r, c.turns.invariant.quiet_sink)
 
 pub turn-requires-clause-rises : goal.turn-requires-clause-rises
 turn-requires-clause-rises g c = c.turns.invariant.rises

@@ -11,6 +11,7 @@ use Rattle.activation.specs.Coming.{coming_device}
 use Rattle.activation.specs.Did.{ActLeft}
 use Rattle.activation.proofs.Entering.{never}
 use Rattle.activation.proofs.Falling.{failed_is, something_is}
+use Rattle.activation.proofs.Parting.{apart}
 use Rattle.activation.proofs.Stages.{coming_stands}
 use Rattle.activation.proofs.Turning.{no_lines, quits_on}
 use Rattle.activation.proofs.turns.take_act.Goals as goal
@@ -86,7 +87,7 @@ returns-in-Err-clause-went g c = λ p runs device.
     )
 
 pub returns-in-Nothing-clause-falls : goal.returns-in-Nothing-clause-falls
-returns-in-Nothing-clause-falls g c = λ some. absurd (never true refl some)
+returns-in-Nothing-clause-falls g c = λ some. absurd (apart some)
 
 pub returns-in-Something-clause-falls : goal.returns-in-Something-clause-falls
 returns-in-Something-clause-falls g c = λ some. c.act.ensures.falls (something_is c.act.result c.in-Something.is)

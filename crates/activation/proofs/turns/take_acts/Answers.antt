@@ -15,6 +15,7 @@ use Rattle.ending_laws.proofs.Steps.{not_above_on, self_not_above}
 use Rattle.activation.specs.Coming.{coming_device}
 use Rattle.activation.specs.Did.{ActLeft}
 use Rattle.activation.proofs.Entering.{never}
+use Rattle.activation.proofs.Falling.{same_err}
 use Rattle.activation.proofs.Stages.{coming_stands}
 use Rattle.activation.proofs.Turning.{quits_on}
 use Rattle.activation.proofs.turns.take_acts.Goals as goal
@@ -104,10 +105,10 @@ returns-in-Err-clause-went g c = λ p runs device.
     )
 
 pub returns-in-Err-clause-disk : goal.returns-in-Err-clause-disk
-returns-in-Err-clause-disk g c = λ is. let r = c.in-Err.ensures.disk is in omega (arith, r, c.acts.invariant.quiet_disk)
+returns-in-Err-clause-disk g c = λ is. let r = c.in-Err.ensures.disk (same_err c.in-Err.over over.Disk is) in omega (arith, r, c.acts.invariant.quiet_disk)
 
 pub returns-in-Err-clause-edge : goal.returns-in-Err-clause-edge
-returns-in-Err-clause-edge g c = λ is. let r = c.in-Err.ensures.edge is in omega (arith, r, c.acts.invariant.quiet_sink)
+returns-in-Err-clause-edge g c = λ is. let r = c.in-Err.ensures.edge (same_err c.in-Err.over over.Edge is) in omega (arith, r, c.acts.invariant.quiet_sink)
 
 pub take_act-requires-clause-drives : goal.take_act-requires-clause-drives
 take_act-requires-clause-drives g c = c.acts.invariant.not_above.on.drives

@@ -1,4 +1,4 @@
-use Rattle.std.proofs.Common.{◌++◌, None, Some, true, false, refl, sym, subst}
+use Rattle.std.proofs.Common.{◌++◌, None, Some, false, refl, sym, subst}
 use Rattle.step_runner.specs.Entries.{Listed}
 use Rattle.supervisor.specs.Acts.{HandsOut, NextAct}
 use Rattle.supervisor.specs.declared.kinds.Act.{Act}
@@ -11,6 +11,7 @@ use Rattle.stopping.specs.Runs.{Runs}
 use Rattle.stopping.proofs.Falling.{falling_at}
 use Rattle.stopping.proofs.Handing.{hands_at, moved, none_broke, none_failed, quiet_at, starting_at}
 use Rattle.stopping.proofs.Starting.{kill_lives, kill_runs}
+use Rattle.stopping.proofs.Turning.{apart}
 use Rattle.stopping.proofs.acts.act.Goals as goal
 
 pub returns-in-None-clause-went : goal.returns-in-None-clause-went
@@ -125,7 +126,7 @@ returns-in-None-clause-not_above g c =
     next_not_above v w None c.requires.drives f c.in-None.ensures.next
 
 pub returns-in-None-clause-falls : goal.returns-in-None-clause-falls
-returns-in-None-clause-falls g c = λ some. absurd (never true refl some)
+returns-in-None-clause-falls g c = λ some. absurd (apart some)
 
 pub start_step-requires-clause-drives : goal.start_step-requires-clause-drives
 start_step-requires-clause-drives g c =
