@@ -31,7 +31,9 @@ use Rattle.session.specs.Places.{Place, leaves}
 use Rattle.session.specs.Waits.{has_three}
 use Rattle.session.specs.Follows.{MayClose as MayEnd, MayFollow}
 use Rattle.driver.specs.Lines.{closed_line, id_of, line_of, lines_of}
-use Rattle.driver.specs.Went.{StandsForMost, Went}
+use Rattle.driver.specs.Over.{LeftAt}
+use Rattle.driver.specs.Went.{Went}
+use Rattle.driver.specs.declared.over.Over.TheVariants as over
 use Rattle.driver.proofs.Joins.{kept_one}
 use Rattle.driver.proofs.Records.{doubt_at}
 use Rattle.supervisor_laws.specs.Sound.{Differ}
@@ -216,5 +218,5 @@ module _ (entries : Image → List (List ℕ) → Type 0) (files : List ℕ → 
       let same = sym r.device_is in
       kept_one entries files laws old new list p (stored.Closed o) (close_follows p d b o world told living r may) (subst (λ (x : Device). Allowed x (stored.Closed o)) same allowed) (subst (λ (x : Device). Notes old new x (stored.Closed o)) same notes)
 
-  pub close_doubt : (old new : D) (p : Place) (d : Device) (o : Outcome) → p.device ≡ d → Allowed d (stored.Closed o) → Notes old new d (stored.Closed o) → (c : Image) → may_leave new c → StandsForMost entries p.device (stored.Closed o ∷ []) c
-  close_doubt old new p d o same allowed notes c left = doubt_at entries files laws old new p d (stored.Closed o) same allowed notes c left
+  pub close_doubt : (old new : D) (p : Place) (d : Device) (o : Outcome) → p.device ≡ d → Allowed d (stored.Closed o) → Notes old new d (stored.Closed o) → LeftAt entries may_leave new p (Kept (stored.Closed o) ∷ []) over.Disk
+  close_doubt old new p d o same allowed notes = doubt_at entries files laws old new p d (stored.Closed o) same allowed notes

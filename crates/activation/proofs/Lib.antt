@@ -11,3 +11,4 @@ pub mod Closed
 pub mod Stages
 pub mod Written
 pub mod Parting
+pub mod Falling

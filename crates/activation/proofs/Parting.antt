@@ -1,5 +1,5 @@
 -- A stage by itself, behind what was done in it as one of both.
-use Rattle.std.specs.Prelude.{ℕ, Bool, true, false, List, [], ◌∷◌, ◌++◌}
+use Rattle.std.specs.Prelude.{ℕ, Bool, true, false, Some, List, [], ◌∷◌, ◌++◌}
 use Rattle.std.proofs.Common.{◌≡◌, ◌∙◌, sym, ap, subst, append_assoc}
 use Rattle.disk_model.specs.Disk.{Image}
 use Rattle.nuc_base.specs.declared.kinds.Outcome.{Outcome}
@@ -17,7 +17,7 @@ use Rattle.activation.specs.Coming.{InComing, coming_device}
 use Rattle.activation.specs.Ended.{ClosesAs, HasBroken, HasClosed}
 use Rattle.activation.specs.Runs.{Rests}
 use Rattle.activation.proofs.Entering.{comes_of}
-use Rattle.activation.specs.Turns.{StageLeft}
+use Rattle.activation.specs.Turns.{TurnLeft}
 use Rattle.activation.specs.declared.coming.Coming.{Coming}
 use Rattle.activation.specs.declared.coming.Coming.TheVariants as coming
 use Rattle.activation.specs.declared.turns.Turned.{Turned}
@@ -25,11 +25,11 @@ use Rattle.activation.specs.declared.turns.Turned.{Turned}
 pub apart : true ≡ false → ⊥
 apart is = absurd cc
 
-pub left_plan : {J : Type 0} (s : Coming J) (a : Activating J) (k t : Turned) (n : ℕ) (q : Place) (world : World) (told : Told) (living : List ℕ) → s ≡ coming.Plan a → k ≡ t → StageLeft k n q (coming_device s) world told living → StageLeft t n q (activating_device a) world told living
-left_plan s a k t n q world told living is kind h = subst (λ (x : Turned). StageLeft x n q (activating_device a) world told living) kind (subst (λ (d : Device). StageLeft k n q d world told living) (ap coming_device is) h)
+pub left_plan : {J : Type 0} (s : Coming J) (a : Activating J) (k t : Turned) (q : Place) (world : World) (told : Told) (living : List ℕ) → s ≡ coming.Plan a → k ≡ t → TurnLeft (Some k) q (coming_device s) world told living → TurnLeft (Some t) q (activating_device a) world told living
+left_plan s a k t q world told living is kind h = subst (λ (x : Turned). TurnLeft (Some x) q (activating_device a) world told living) kind (subst (λ (d : Device). TurnLeft (Some k) q d world told living) (ap coming_device is) h)
 
-pub left_set : {J : Type 0} (s : Coming J) (a : Rolling J) (k t : Turned) (n : ℕ) (q : Place) (world : World) (told : Told) (living : List ℕ) → s ≡ coming.Set a → k ≡ t → StageLeft k n q (coming_device s) world told living → StageLeft t n q (rolling_device a) world told living
-left_set s a k t n q world told living is kind h = subst (λ (x : Turned). StageLeft x n q (rolling_device a) world told living) kind (subst (λ (d : Device). StageLeft k n q d world told living) (ap coming_device is) h)
+pub left_set : {J : Type 0} (s : Coming J) (a : Rolling J) (k t : Turned) (q : Place) (world : World) (told : Told) (living : List ℕ) → s ≡ coming.Set a → k ≡ t → TurnLeft (Some k) q (coming_device s) world told living → TurnLeft (Some t) q (rolling_device a) world told living
+left_set s a k t q world told living is kind h = subst (λ (x : Turned). TurnLeft (Some x) q (rolling_device a) world told living) kind (subst (λ (d : Device). TurnLeft (Some k) q d world told living) (ap coming_device is) h)
 
 pub held_plan : {J D : Type 0} (tells : Bool) (may_leave : D → Image → Type 0) (stands : J → Image → List (List ℕ) → Type 0) (end : J → ℕ) (s : Coming J) (a : Activating J) (disk : D) → s ≡ coming.Plan a → InComing tells may_leave stands end s disk → InActivating tells may_leave stands end a disk
 held_plan tells may_leave stands end s a disk is h = subst (λ (x : Coming _). InComing tells may_leave stands end x disk) is h

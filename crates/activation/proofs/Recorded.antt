@@ -20,7 +20,9 @@ use Rattle.session.specs.Happenings.{Kept, records_of}
 use Rattle.session.specs.Places.{Place, leaves}
 use Rattle.session.specs.Follows.{MayFollow}
 use Rattle.driver.specs.Lines.{failed_line, id_of, line_of, lines_of}
-use Rattle.driver.specs.Went.{StandsForMost, Went}
+use Rattle.driver.specs.Over.{LeftAt}
+use Rattle.driver.specs.Went.{Went}
+use Rattle.driver.specs.declared.over.Over.TheVariants as over
 use Rattle.driver.proofs.Joins.{kept_one}
 use Rattle.driver.proofs.Records.{doubt_at}
 use Rattle.supervisor_laws.specs.Keeps.{Keeps}
@@ -99,6 +101,6 @@ module _ (entries : Image → List (List ℕ) → Type 0) (files : List ℕ → 
       kept_one entries files laws old new list p (stored.StepFailed n s e) (fail_follows p k s e n world told living h can) can.allowed (subst (λ (x : Device). Notes old new x (stored.StepFailed n s e)) (sym same) notes)
 
   pub fail_doubt : (old new : D) (p : Place) (d : Device) (k : ℕ) (s : Step) (e : Exit) (n : List ℕ) → p.device ≡ d → CanFail p.device p.world k s e n → Notes old new d (stored.StepFailed n s e)
-      → (c : Image) → may_leave new c → StandsForMost entries p.device (stored.StepFailed n s e ∷ []) c
-  fail_doubt old new p d k s e n same can notes c left =
-      doubt_at entries files laws old new p d (stored.StepFailed n s e) same (subst (λ (x : Device). Allowed x (stored.StepFailed n s e)) same can.allowed) notes c left
+      → LeftAt entries may_leave new p (Kept (stored.StepFailed n s e) ∷ []) over.Disk
+  fail_doubt old new p d k s e n same can notes =
+      doubt_at entries files laws old new p d (stored.StepFailed n s e) same (subst (λ (x : Device). Allowed x (stored.StepFailed n s e)) same can.allowed) notes

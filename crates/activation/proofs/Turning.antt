@@ -8,14 +8,13 @@ use Rattle.step_runner.specs.Entries.{Told}
 use Rattle.supervisor.specs.World.{World, is_settled, owner}
 use Rattle.session.specs.Phases.{duty_of}
 use Rattle.session.specs.Waits.{has_three}
-use Rattle.session.specs.Happenings.{Happening, Ran, Booted, Slept, Cut, Kept, Moved, Asked, Heard, Questioned, Changed, StopsAll, records_of}
+use Rattle.session.specs.Happenings.{Happening, records_of}
 use Rattle.session.specs.Places.{Place, left_by}
 use Rattle.session.proofs.Joined.{left-append}
 use Rattle.driver.specs.Lines.{lines_of}
 use Rattle.driver.proofs.Told.{nothing_told}
 use Rattle.activation.specs.Did.{ActLeft}
 use Rattle.activation.specs.Runs.{MaySit, Quits, Rests, Runs}
-use Rattle.activation.specs.Turns.{moments_in}
 
 neither : (x y : Bool) → x ≡ false → y ≡ false → (not x && not y) ≡ true
 neither x y a b = rw (a, b) refl
@@ -41,28 +40,6 @@ sits q d world told living settled r is f = record {
 -- a part without records prints nothing
 pub no_lines : (a : Option (List ℕ)) (d : Device) (h : List Happening) → records_of h ≡ [] → Appends a a (lines_of d (records_of h))
 no_lines a d h none = nothing_told a (lines_of d (records_of h)) (ap (λ (l : List Record). lines_of d l) none)
-
--- ---- how often a moment was asked for
-
-pub moments_on : (h g : List Happening) → moments_in (g ++ h) ≡ moments_in h + moments_in g
-moments_on h [] = omega arith
-moments_on h (Ran e k s ∷ g) = moments_on h g
-moments_on h (Booted e m ∷ g) = moments_on h g
-moments_on h (Slept e ∷ g) = moments_on h g
-moments_on h (Cut e ∷ g) = moments_on h g
-moments_on h (Kept r ∷ g) = moments_on h g
-moments_on h (Moved k e ∷ g) = moments_on h g
-moments_on h (Asked m ∷ g) = omega (arith, moments_on h g)
-moments_on h (Heard k ∷ g) = moments_on h g
-moments_on h (Questioned a ∷ g) = moments_on h g
-moments_on h (Changed f c b ∷ g) = moments_on h g
-moments_on h (StopsAll ∷ g) = moments_on h g
-
-pub some_moments : (h g : List Happening) → 1 ≤ moments_in h → 1 ≤ moments_in (g ++ h)
-some_moments h g some = omega (arith, some, moments_on h g)
-
-pub more_moments : (n : ℕ) (h g : List Happening) → n ≤ moments_in h → 1 ≤ moments_in g → n + 1 ≤ moments_in (g ++ h)
-more_moments n h g most some = omega (arith, most, some, moments_on h g)
 
 -- ---- giving up
 

@@ -1,5 +1,5 @@
 -- What the stages leave at their ends.
-use Rattle.std.specs.Prelude.{◌≡◌, ◌≤◌, ℕ, Bool, true, List, [], ◌∷◌, ◌++◌, ⊤}
+use Rattle.std.specs.Prelude.{◌≡◌, ℕ, Bool, true, List, [], ◌∷◌, ◌++◌, ⊤}
 use Rattle.disk_model.specs.Disk.{Image}
 use Rattle.nuc_base.specs.declared.kinds.Outcome.{Outcome}
 use Rattle.nuc_base.specs.declared.kinds.Outcome.TheVariants as outcomes
@@ -17,7 +17,6 @@ use Rattle.session.specs.Waits.{has_three}
 use Rattle.session.specs.Courses.{IsBack, Stands}
 use Rattle.driver.specs.Same.{IsSameDeployment}
 use Rattle.activation.specs.Runs.{Comes}
-use Rattle.activation.specs.Turns.{moments_in, most_turns}
 use Rattle.activation.specs.declared.activating.Activated.{Activated}
 use Rattle.activation.specs.declared.activating.Activated.TheVariants as activated
 use Rattle.activation.specs.declared.rolling.Rolled.{Rolled}
@@ -43,28 +42,22 @@ pub record HasBroken (q : Place) (d : Device) (world : World) (told : Told) (liv
 abbrev pub ActivatedLeft : {J : Type 0} → Activated J → List Happening → Place → World → Told → List ℕ → Type 0
 ActivatedLeft (activated.Closed s) h q world told living = HasClosed outcomes.Successful (records_of h) q (idle_device s) world told living
 ActivatedLeft (activated.Broken s) h q world told living = HasBroken q (activating_device s) world told living
-ActivatedLeft (activated.More s) h q world told living = Comes q (activating_device s) world told living × (most_turns ≤ moments_in h)
 
 abbrev pub RolledLeft : {J : Type 0} → Rolled J → List Happening → Place → World → Told → List ℕ → Type 0
 RolledLeft (rolled.Closed s outcome) h q world told living = HasClosed outcome (records_of h) q (idle_device s) world told living
-RolledLeft (rolled.More s) h q world told living = Comes q (rolling_device s) world told living × (most_turns ≤ moments_in h)
 
 -- where the deployment is pending still, it is the same
 abbrev pub ActivatedSame : {J : Type 0} → Device → Activated J → Type 0
 ActivatedSame d (activated.Closed s) = ⊤
 ActivatedSame d (activated.Broken s) = IsSameDeployment d (activating_device s)
-ActivatedSame d (activated.More s) = IsSameDeployment d (activating_device s)
 
 abbrev pub RolledSame : {J : Type 0} → Device → Rolled J → Type 0
 RolledSame d (rolled.Closed s outcome) = ⊤
-RolledSame d (rolled.More s) = IsSameDeployment d (rolling_device s)
 
 module _ {J D : Type 0} (tells : Bool) (may_leave : D → Image → Type 0) (stands : J → Image → List (List ℕ) → Type 0) (end : J → ℕ) where
   abbrev pub InActivated : Activated J → D → Type 0
   InActivated (activated.Closed s) disk = InIdle tells may_leave stands end s disk
   InActivated (activated.Broken s) disk = InActivating tells may_leave stands end s disk
-  InActivated (activated.More s) disk = InActivating tells may_leave stands end s disk
 
   abbrev pub InRolled : Rolled J → D → Type 0
   InRolled (rolled.Closed s outcome) disk = InIdle tells may_leave stands end s disk
-  InRolled (rolled.More s) disk = InRolling tells may_leave stands end s disk

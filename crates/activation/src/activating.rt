@@ -7,6 +7,7 @@ ghost use Rattle.session.specs.Happenings.{Happening, records_of};
 ghost use Rattle.session.specs.Places.{Place, left_by};
 ghost use Rattle.driver.specs.Over.{Left, Lines};
 ghost use Rattle.driver.specs.Went.{Went};
+ghost use Rattle.ending_laws.specs.Drives.{Drives, Rises};
 ghost use Rattle.activation.specs.Ended.{ActivatedLeft, ActivatedSame, InActivated};
 ghost use Rattle.activation.specs.Runs.{Comes, Quits};
 
@@ -28,8 +29,6 @@ pub enum Activated<J: Journal + Drop> {
     Closed(Idle<J>),
     /// One failed three times.
     Broken(Activating<J>),
-    /// None of both in 2^64 - 1 turns.
-    More(Activating<J>),
 }
 
 /// Brings the plan's items up: until all are, which closes the deployment, or one failed three times. Each failure is
@@ -42,12 +41,14 @@ pub fn activate<D: Disk, J: Journal + Drop, K: Sink, R: Runner, S: Supervise>(
     supervisor: &mut S,
 ) -> Result<Activated<J>, Over>
     requires held { InActivating D.tells D.may_leave J.stands J.end state disk.old }
+    requires rises { Rises (S.world supervisor.old) }
     requires placed { (p : Place) × Comes p (activating_device state) (S.world supervisor.old) (Listed R.list R.told R.asked runner.old) (R.living runner.old) }
     ensures went { (p : Place) → Comes p (activating_device state) (S.world supervisor.old) (Listed R.list R.told R.asked runner.old) (R.living runner.old) →
         (h : List Happening) × Went J.entries J.files D.may_leave D.moment D.left_since disk.old disk.new (R.list runner.old) (R.list runner.new) p h
         × Lines (K.held sink.old) (K.held sink.new) p.device (records_of h) result
         × Left J.entries D.may_leave disk.new p h (λ x q. ActivatedLeft x h q (S.world supervisor.new) (Listed R.list R.told R.asked runner.new) (R.living runner.new)) result
         × OnErr result (Quits (left_by p h) (S.world supervisor.new) (Listed R.list R.told R.asked runner.new) (R.living runner.new)) }
+    ensures drives { Drives (S.world supervisor.new) }
     ensures held { IfOk result (λ x. InActivated D.tells D.may_leave J.stands J.end x disk.new) }
     ensures same { IfOk result (λ x. ActivatedSame (activating_device state) x) }
     ensures others { IsTrue D.tells → (name : List ℕ) → ¬ (J.files name) → D.seen disk.new name ≡ D.seen disk.old name }
@@ -60,7 +61,6 @@ pub fn activate<D: Disk, J: Journal + Drop, K: Sink, R: Runner, S: Supervise>(
         Ok((coming, turned)) => {
             let state = coming.into_plan();
             match turned {
-                Turned::On => Ok(Activated::More(state)),
                 Turned::Broken => Ok(Activated::Broken(state)),
                 Turned::Settled => match close_plan(state, disk, sink, supervisor) {
                     Ok(idle) => Ok(Activated::Closed(idle)),

@@ -4,7 +4,9 @@ ghost use Rattle.step_runner.specs.Entries.{Listed};
 ghost use Rattle.session.specs.Happenings.{Happening};
 ghost use Rattle.session.specs.Places.{Place, left_by};
 ghost use Rattle.driver.specs.Went.{Acts};
+ghost use Rattle.ending_laws.specs.Drives.{Drives, Falls, NotAbove};
 ghost use Rattle.activation.specs.Did.{DidLeave};
+ghost use Rattle.activation.specs.declared.acts.Did.TheVariants as did;
 ghost use Rattle.activation.specs.Runs.{Runs};
 
 use crate::laws::driving_laws;
@@ -26,11 +28,14 @@ pub(crate) enum Did {
 /// Takes the next act.
 pub(crate) fn act<R: Runner, S: Supervise>(runner: &mut R, supervisor: &mut S, now: u64) -> Did
     requires now { (R.told runner.old ≡ now) × (now < 2 ^ 62) }
+    requires drives { Drives (S.world supervisor.old) }
     requires placed { (p : Place) × Runs p (S.world supervisor.old) (Listed R.list R.told R.asked runner.old) (R.living runner.old) }
     ensures now { R.told runner.new ≡ now }
     ensures went { (p : Place) → Runs p (S.world supervisor.old) (Listed R.list R.told R.asked runner.old) (R.living runner.old) →
         (h : List Happening) × Acts p h (R.list runner.old) (R.list runner.new)
         × DidLeave result (left_by p h) (S.world supervisor.new) (Listed R.list R.told R.asked runner.new) (R.living runner.new) }
+    ensures not_above { NotAbove (S.world supervisor.old) (S.world supervisor.new) }
+    ensures falls { ¬ (result ≡ did.Nothing) → Falls (S.world supervisor.old) (S.world supervisor.new) }
 {
     driving_laws();
     match supervisor.next_act() {

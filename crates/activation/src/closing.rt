@@ -10,6 +10,7 @@ ghost use Rattle.session.specs.Happenings.{Happening, records_of};
 ghost use Rattle.session.specs.Places.{Place, left_by};
 ghost use Rattle.driver.specs.Over.{Left, Lines};
 ghost use Rattle.driver.specs.Went.{Went};
+ghost use Rattle.ending_laws.specs.Drives.{Drives};
 ghost use Rattle.activation.specs.Ended.{HasClosed};
 ghost use Rattle.activation.specs.Runs.{Quits, Rests};
 
@@ -29,12 +30,14 @@ pub(crate) fn close_plan<D: Disk, J: Journal + Drop, K: Sink, S: Supervise>(
     supervisor: &mut S,
 ) -> Result<Idle<J>, Over>
     requires held { InActivating D.tells D.may_leave J.stands J.end state disk.old }
+    requires drives { Drives (S.world supervisor.old) }
     requires placed { (p : Place) × (told : Told) × (living : List ℕ) × Rests p (activating_device state) false (S.world supervisor.old) told living × (is_settled p.world ≡ true) }
     ensures went { (p : Place) → (told : Told) → (living : List ℕ) → Rests p (activating_device state) false (S.world supervisor.old) told living → (is_settled p.world ≡ true) →
         (h : List Happening) × Went J.entries J.files D.may_leave D.moment D.left_since disk.old disk.new told.list told.list p h
         × Lines (K.held sink.old) (K.held sink.new) p.device (records_of h) result
         × Left J.entries D.may_leave disk.new p h (λ s q. HasClosed outcomes.Successful (records_of h) q (idle_device s) (S.world supervisor.new) told living) result
         × OnErr result (Quits (left_by p h) (S.world supervisor.new) told living) }
+    ensures drives { Drives (S.world supervisor.new) }
     ensures held { IfOk result (λ s. InIdle D.tells D.may_leave J.stands J.end s disk.new) }
     ensures others { IsTrue D.tells → (name : List ℕ) → ¬ (J.files name) → D.seen disk.new name ≡ D.seen disk.old name }
     ensures disk { IsErrOf result Over.Disk → Rose (D.faults disk.old) (D.faults disk.new) }
@@ -63,12 +66,14 @@ pub(crate) fn close_set<D: Disk, J: Journal + Drop, K: Sink, S: Supervise>(
     supervisor: &mut S,
 ) -> Result<Idle<J>, Over>
     requires held { InRolling D.tells D.may_leave J.stands J.end state disk.old }
+    requires drives { Drives (S.world supervisor.old) }
     requires placed { (p : Place) × (told : Told) × (living : List ℕ) × (broken : Bool) × Rests p (rolling_device state) broken (S.world supervisor.old) told living × (broken ≡ false → is_settled p.world ≡ true) }
     ensures went { (p : Place) → (told : Told) → (living : List ℕ) → (broken : Bool) → Rests p (rolling_device state) broken (S.world supervisor.old) told living → (broken ≡ false → is_settled p.world ≡ true) →
         (h : List Happening) × Went J.entries J.files D.may_leave D.moment D.left_since disk.old disk.new told.list told.list p h
         × Lines (K.held sink.old) (K.held sink.new) p.device (records_of h) result
         × Left J.entries D.may_leave disk.new p h (λ s q. HasClosed (if broken then outcomes.UnableToRollback else outcomes.RollbackComplete) (records_of h) q (idle_device s) (S.world supervisor.new) told living) result
         × OnErr result (Quits (left_by p h) (S.world supervisor.new) told living) }
+    ensures drives { Drives (S.world supervisor.new) }
     ensures held { IfOk result (λ s. InIdle D.tells D.may_leave J.stands J.end s disk.new) }
     ensures others { IsTrue D.tells → (name : List ℕ) → ¬ (J.files name) → D.seen disk.new name ≡ D.seen disk.old name }
     ensures disk { IsErrOf result Over.Disk → Rose (D.faults disk.old) (D.faults disk.new) }

@@ -7,8 +7,9 @@ ghost use Rattle.session.specs.Happenings.{Happening};
 ghost use Rattle.session.specs.Places.{Place, left_by};
 ghost use Rattle.driver.specs.Steps.{probe_seen};
 ghost use Rattle.driver.specs.Went.{Acts};
+ghost use Rattle.progress_laws.specs.Kept.{IsFalling};
+ghost use Rattle.ending_laws.specs.Drives.{Drives, Falls, NotAbove};
 ghost use Rattle.activation.specs.Runs.{Comes, IsStarting, MayLaunch, Runs};
-ghost use Rattle.activation.specs.Turns.{moments_in};
 
 use crate::laws::driving_laws;
 use nuc_base::Step;
@@ -18,11 +19,14 @@ use supervisor::{Event, Supervise};
 
 /// Asks for the moment and tells it.
 pub(crate) fn pass<R: Runner, S: Supervise>(runner: &mut R, supervisor: &mut S) -> u64
+    requires drives { Drives (S.world supervisor.old) }
     requires placed { (p : Place) × (d : Device) × Comes p d (S.world supervisor.old) (Listed R.list R.told R.asked runner.old) (R.living runner.old) }
     ensures now { (R.told runner.new ≡ result) × (result < 2 ^ 62) }
     ensures went { (p : Place) → (d : Device) → Comes p d (S.world supervisor.old) (Listed R.list R.told R.asked runner.old) (R.living runner.old) →
         (h : List Happening) × Acts p h (R.list runner.old) (R.list runner.new)
-        × Runs (left_by p h) (S.world supervisor.new) (Listed R.list R.told R.asked runner.new) (R.living runner.new) × (1 ≤ moments_in h) }
+        × Runs (left_by p h) (S.world supervisor.new) (Listed R.list R.told R.asked runner.new) (R.living runner.new) }
+    ensures not_above { NotAbove (S.world supervisor.old) (S.world supervisor.new) }
+    ensures clock { R.clock runner.old ≤ result }
 {
     driving_laws();
     let now = runner.moment();
@@ -68,11 +72,13 @@ fn launch<R: Runner, S: Supervise>(
     now: u64,
 )
     requires now { (R.told runner.old ≡ now) × (now < 2 ^ 62) }
+    requires drives { Drives (S.world supervisor.old) × IsFalling (S.world supervisor.old) }
     requires placed { (p : Place) × MayLaunch p who step (S.world supervisor.old) (Listed R.list R.told R.asked runner.old) (R.living runner.old) }
     ensures now { R.told runner.new ≡ now }
     ensures went { (p : Place) → MayLaunch p who step (S.world supervisor.old) (Listed R.list R.told R.asked runner.old) (R.living runner.old) →
         (h : List Happening) × Acts p h (R.list runner.old) (R.list runner.new)
         × Runs (left_by p h) (S.world supervisor.new) (Listed R.list R.told R.asked runner.new) (R.living runner.new) }
+    ensures falls { Falls (S.world supervisor.old) (S.world supervisor.new) }
 {
     driving_laws();
     match runner.start(supervisor.command(who, step)) {
@@ -90,11 +96,13 @@ pub(crate) fn start_step<R: Runner, S: Supervise>(
     now: u64,
 )
     requires now { (R.told runner.old ≡ now) × (now < 2 ^ 62) }
+    requires drives { Drives (S.world supervisor.old) × IsFalling (S.world supervisor.old) }
     requires placed { (p : Place) × IsStarting p who step (S.world supervisor.old) (Listed R.list R.told R.asked runner.old) (R.living runner.old) }
     ensures now { R.told runner.new ≡ now }
     ensures went { (p : Place) → IsStarting p who step (S.world supervisor.old) (Listed R.list R.told R.asked runner.old) (R.living runner.old) →
         (h : List Happening) × Acts p h (R.list runner.old) (R.list runner.new)
         × Runs (left_by p h) (S.world supervisor.new) (Listed R.list R.told R.asked runner.new) (R.living runner.new) }
+    ensures falls { Falls (S.world supervisor.old) (S.world supervisor.new) }
 {
     if is_skipped(runner, supervisor, who, step) {
         supervisor.event(Event::Skipped(who, step), now);

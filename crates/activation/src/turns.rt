@@ -1,5 +1,5 @@
 // One turn, and the turns of a stage.
-ghost use Rattle.std.specs.Prelude.{◌≡◌, ◌≤◌, ◌<◌, ◌^◌, ℕ, List, IsTrue, IfOk, OnErr, IsErrOf};
+ghost use Rattle.std.specs.Prelude.{◌≡◌, ◌≤◌, ◌<◌, ◌^◌, ℕ, List, None, Some, true, false, IsTrue, IfOk, OnErr, IsErrOf};
 ghost use Rattle.nuc_base.specs.Faults.{Rose};
 ghost use Rattle.step_runner.specs.Entries.{Listed};
 ghost use Rattle.session.specs.Happenings.{Happening, records_of};
@@ -7,10 +7,13 @@ ghost use Rattle.session.specs.Places.{Place, left_by};
 ghost use Rattle.driver.specs.Over.{Left, Lines};
 ghost use Rattle.driver.specs.Same.{IsSameDeployment};
 ghost use Rattle.driver.specs.Went.{Went};
+ghost use Rattle.supervisor.specs.Events.{later};
+ghost use Rattle.progress_laws.specs.Rank.{measure};
+ghost use Rattle.ending_laws.specs.Drives.{Drives, Falls, NotAbove, Rises};
 ghost use Rattle.activation.specs.Coming.{InComing, coming_device, is_plan};
 ghost use Rattle.activation.specs.Did.{ActLeft};
 ghost use Rattle.activation.specs.Runs.{Comes, Quits, Runs};
-ghost use Rattle.activation.specs.Turns.{StageLeft, TurnLeft, moments_in};
+ghost use Rattle.activation.specs.Turns.{TurnLeft};
 
 use crate::acts::{Did, act};
 use crate::coming::Coming;
@@ -24,11 +27,9 @@ use gate_log::Journal;
 use step_runner::Runner;
 use supervisor::Supervise;
 
-/// What a turn came to.
+/// What the turns of a stage come to.
 #[derive(Clone, Copy, Debug, Drop, PartialEq, Eq)]
 pub(crate) enum Turned {
-    /// It goes on.
-    On,
     /// All components are up.
     Settled,
     /// A component failed three times.
@@ -46,6 +47,7 @@ fn take_act<D: Disk, J: Journal + Drop, K: Sink, R: Runner, S: Supervise>(
 ) -> Result<(Coming<J>, bool), Over>
     requires now { (R.told runner.old ≡ now) × (now < 2 ^ 62) }
     requires held { InComing D.tells D.may_leave J.stands J.end state disk.old }
+    requires drives { Drives (S.world supervisor.old) }
     requires placed { (p : Place) × Runs p (S.world supervisor.old) (Listed R.list R.told R.asked runner.old) (R.living runner.old) × (p.device ≡ coming_device state) }
     ensures now { R.told runner.new ≡ now }
     ensures went { (p : Place) → Runs p (S.world supervisor.old) (Listed R.list R.told R.asked runner.old) (R.living runner.old) → (p.device ≡ coming_device state) →
@@ -61,6 +63,8 @@ fn take_act<D: Disk, J: Journal + Drop, K: Sink, R: Runner, S: Supervise>(
     ensures edge { IsErrOf result Over.Edge → Rose (K.faults sink.old) (K.faults sink.new) }
     ensures quiet_disk { ¬ (IsErrOf result Over.Disk) → D.faults disk.new ≡ D.faults disk.old }
     ensures quiet_sink { ¬ (IsErrOf result Over.Edge) → K.faults sink.new ≡ K.faults sink.old }
+    ensures not_above { NotAbove (S.world supervisor.old) (S.world supervisor.new) }
+    ensures falls { IfOk result (λ s. s.1 ≡ false → Falls (S.world supervisor.old) (S.world supervisor.new)) }
     ensures later { (D.faults disk.old ≤ D.faults disk.new) × (K.faults sink.old ≤ K.faults sink.new) }
 {
     match act(runner, supervisor, now) {
@@ -75,7 +79,7 @@ fn take_act<D: Disk, J: Journal + Drop, K: Sink, R: Runner, S: Supervise>(
     }
 }
 
-/// Takes acts until none is left, which it tells.
+/// Takes acts until none is left.
 fn take_acts<D: Disk, J: Journal + Drop, K: Sink, R: Runner, S: Supervise>(
     state: Coming<J>,
     disk: &mut D,
@@ -83,55 +87,57 @@ fn take_acts<D: Disk, J: Journal + Drop, K: Sink, R: Runner, S: Supervise>(
     runner: &mut R,
     supervisor: &mut S,
     now: u64,
-) -> Result<(Coming<J>, bool), Over>
+) -> Result<Coming<J>, Over>
     requires now { (R.told runner.old ≡ now) × (now < 2 ^ 62) }
     requires held { InComing D.tells D.may_leave J.stands J.end state disk.old }
+    requires drives { Drives (S.world supervisor.old) }
     requires placed { (p : Place) × Runs p (S.world supervisor.old) (Listed R.list R.told R.asked runner.old) (R.living runner.old) × (p.device ≡ coming_device state) }
     ensures now { R.told runner.new ≡ now }
     ensures went { (p : Place) → Runs p (S.world supervisor.old) (Listed R.list R.told R.asked runner.old) (R.living runner.old) → (p.device ≡ coming_device state) →
         (h : List Happening) × Went J.entries J.files D.may_leave D.moment D.left_since disk.old disk.new (R.list runner.old) (R.list runner.new) p h
         × Lines (K.held sink.old) (K.held sink.new) p.device (records_of h) result
-        × Left J.entries D.may_leave disk.new p h (λ s q. ActLeft q (coming_device s.0) s.1 (S.world supervisor.new) (Listed R.list R.told R.asked runner.new) (R.living runner.new)) result
+        × Left J.entries D.may_leave disk.new p h (λ s q. ActLeft q (coming_device s) true (S.world supervisor.new) (Listed R.list R.told R.asked runner.new) (R.living runner.new)) result
         × OnErr result (Quits (left_by p h) (S.world supervisor.new) (Listed R.list R.told R.asked runner.new) (R.living runner.new)) }
-    ensures held { IfOk result (λ s. InComing D.tells D.may_leave J.stands J.end s.0 disk.new) }
-    ensures same { IfOk result (λ s. is_plan s.0 ≡ is_plan state) }
-    ensures deployment { IfOk result (λ s. IsSameDeployment (coming_device state) (coming_device s.0)) }
+    ensures held { IfOk result (λ s. InComing D.tells D.may_leave J.stands J.end s disk.new) }
+    ensures same { IfOk result (λ s. is_plan s ≡ is_plan state) }
+    ensures deployment { IfOk result (λ s. IsSameDeployment (coming_device state) (coming_device s)) }
     ensures others { IsTrue D.tells → (name : List ℕ) → ¬ (J.files name) → D.seen disk.new name ≡ D.seen disk.old name }
     ensures disk { IsErrOf result Over.Disk → Rose (D.faults disk.old) (D.faults disk.new) }
     ensures edge { IsErrOf result Over.Edge → Rose (K.faults sink.old) (K.faults sink.new) }
     ensures quiet_disk { ¬ (IsErrOf result Over.Disk) → D.faults disk.new ≡ D.faults disk.old }
     ensures quiet_sink { ¬ (IsErrOf result Over.Edge) → K.faults sink.new ≡ K.faults sink.old }
+    ensures not_above { NotAbove (S.world supervisor.old) (S.world supervisor.new) }
     ensures later { (D.faults disk.old ≤ D.faults disk.new) × (K.faults sink.old ≤ K.faults sink.new) }
 {
     let mut state = state;
-    for _act in 0..u64::MAX {
+    'acts: loop {
         match take_act(state, disk, sink, runner, supervisor, now) {
             Ok((next, none)) => {
                 if none {
-                    return Ok((next, true));
+                    return Ok(next);
                 }
                 state = next;
             }
             Err(over) => return Err(over),
         }
     }
-    Ok((state, false))
 }
 
-/// Asks for the moment, takes every act, and waits where there is something to wait for.
+/// Asks for the moment, takes every act, and waits where there is something to wait for. Then a child ended, or time went on.
 fn turn<D: Disk, J: Journal + Drop, K: Sink, R: Runner, S: Supervise>(
     state: Coming<J>,
     disk: &mut D,
     sink: &mut K,
     runner: &mut R,
     supervisor: &mut S,
-) -> Result<(Coming<J>, Turned), Over>
+) -> Result<(Coming<J>, Option<Turned>), Over>
     requires held { InComing D.tells D.may_leave J.stands J.end state disk.old }
+    requires rises { Rises (S.world supervisor.old) }
     requires placed { (p : Place) × Comes p (coming_device state) (S.world supervisor.old) (Listed R.list R.told R.asked runner.old) (R.living runner.old) }
     ensures went { (p : Place) → Comes p (coming_device state) (S.world supervisor.old) (Listed R.list R.told R.asked runner.old) (R.living runner.old) →
         (h : List Happening) × Went J.entries J.files D.may_leave D.moment D.left_since disk.old disk.new (R.list runner.old) (R.list runner.new) p h
         × Lines (K.held sink.old) (K.held sink.new) p.device (records_of h) result
-        × Left J.entries D.may_leave disk.new p h (λ s q. TurnLeft s.1 q (coming_device s.0) (S.world supervisor.new) (Listed R.list R.told R.asked runner.new) (R.living runner.new) × (1 ≤ moments_in h)) result
+        × Left J.entries D.may_leave disk.new p h (λ s q. TurnLeft s.1 q (coming_device s.0) (S.world supervisor.new) (Listed R.list R.told R.asked runner.new) (R.living runner.new)) result
         × OnErr result (Quits (left_by p h) (S.world supervisor.new) (Listed R.list R.told R.asked runner.new) (R.living runner.new)) }
     ensures held { IfOk result (λ s. InComing D.tells D.may_leave J.stands J.end s.0 disk.new) }
     ensures same { IfOk result (λ s. is_plan s.0 ≡ is_plan state) }
@@ -141,22 +147,21 @@ fn turn<D: Disk, J: Journal + Drop, K: Sink, R: Runner, S: Supervise>(
     ensures edge { IsErrOf result Over.Edge → Rose (K.faults sink.old) (K.faults sink.new) }
     ensures quiet_disk { ¬ (IsErrOf result Over.Disk) → D.faults disk.new ≡ D.faults disk.old }
     ensures quiet_sink { ¬ (IsErrOf result Over.Edge) → K.faults sink.new ≡ K.faults sink.old }
+    ensures rises { Rises (S.world supervisor.new) }
+    ensures falls { IfOk result (λ s. s.1 ≡ None → measure (later (R.clock runner.new) (S.world supervisor.new)) < measure (later (R.clock runner.old) (S.world supervisor.old))) }
     ensures later { (D.faults disk.old ≤ D.faults disk.new) × (K.faults sink.old ≤ K.faults sink.new) }
 {
     let now = pass(runner, supervisor);
     match take_acts(state, disk, sink, runner, supervisor, now) {
-        Ok((next, none)) => {
-            if !none {
-                return Ok((next, Turned::On));
-            }
+        Ok(next) => {
             if next.is_broken() {
-                return Ok((next, Turned::Broken));
+                return Ok((next, Some(Turned::Broken)));
             }
             if supervisor.settled() {
-                return Ok((next, Turned::Settled));
+                return Ok((next, Some(Turned::Settled)));
             }
             wait_once(runner, supervisor, now);
-            Ok((next, Turned::On))
+            Ok((next, None))
         }
         Err(over) => Err(over),
     }
@@ -171,11 +176,12 @@ pub(crate) fn come_up<D: Disk, J: Journal + Drop, K: Sink, R: Runner, S: Supervi
     supervisor: &mut S,
 ) -> Result<(Coming<J>, Turned), Over>
     requires held { InComing D.tells D.may_leave J.stands J.end state disk.old }
+    requires rises { Rises (S.world supervisor.old) }
     requires placed { (p : Place) × Comes p (coming_device state) (S.world supervisor.old) (Listed R.list R.told R.asked runner.old) (R.living runner.old) }
     ensures went { (p : Place) → Comes p (coming_device state) (S.world supervisor.old) (Listed R.list R.told R.asked runner.old) (R.living runner.old) →
         (h : List Happening) × Went J.entries J.files D.may_leave D.moment D.left_since disk.old disk.new (R.list runner.old) (R.list runner.new) p h
         × Lines (K.held sink.old) (K.held sink.new) p.device (records_of h) result
-        × Left J.entries D.may_leave disk.new p h (λ s q. StageLeft s.1 (moments_in h) q (coming_device s.0) (S.world supervisor.new) (Listed R.list R.told R.asked runner.new) (R.living runner.new)) result
+        × Left J.entries D.may_leave disk.new p h (λ s q. TurnLeft (Some s.1) q (coming_device s.0) (S.world supervisor.new) (Listed R.list R.told R.asked runner.new) (R.living runner.new)) result
         × OnErr result (Quits (left_by p h) (S.world supervisor.new) (Listed R.list R.told R.asked runner.new) (R.living runner.new)) }
     ensures held { IfOk result (λ s. InComing D.tells D.may_leave J.stands J.end s.0 disk.new) }
     ensures same { IfOk result (λ s. is_plan s.0 ≡ is_plan state) }
@@ -185,20 +191,19 @@ pub(crate) fn come_up<D: Disk, J: Journal + Drop, K: Sink, R: Runner, S: Supervi
     ensures edge { IsErrOf result Over.Edge → Rose (K.faults sink.old) (K.faults sink.new) }
     ensures quiet_disk { ¬ (IsErrOf result Over.Disk) → D.faults disk.new ≡ D.faults disk.old }
     ensures quiet_sink { ¬ (IsErrOf result Over.Edge) → K.faults sink.new ≡ K.faults sink.old }
+    ensures rises { Rises (S.world supervisor.new) }
     ensures later { (D.faults disk.old ≤ D.faults disk.new) × (K.faults sink.old ≤ K.faults sink.new) }
 {
     let mut state = state;
-    for _turn in 0..u64::MAX {
+    'turns: loop {
         match turn(state, disk, sink, runner, supervisor) {
             Ok((next, turned)) => match turned {
-                Turned::On => {
+                None => {
                     state = next;
                 }
-                Turned::Settled => return Ok((next, Turned::Settled)),
-                Turned::Broken => return Ok((next, Turned::Broken)),
+                Some(turned) => return Ok((next, turned)),
             },
             Err(over) => return Err(over),
         }
     }
-    Ok((state, Turned::On))
 }

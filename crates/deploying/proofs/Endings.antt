@@ -23,20 +23,3 @@ module _ (entries : Image → List (List ℕ) → Type 0) (files : List ℕ → 
       → Went entries files may_leave moment left_since old new a b p h → Appends u v (lines_of p.device (records_of h)) → is x h (left_by p h)
       → Course entries files may_leave moment left_since old new a b u v p (Ok x) is
   ended old new a b u v p h x is went told left = record { history = h; went = went; lines = told; left = left; bare = tt }
-
-  -- its children were killed
-  pub left_off : {A : Type 0} (old new : D) (a b c : Option (List RunnerEntry)) (u v : Option (List ℕ)) (p : Place) (h k : List Happening) (x : A) (is : A → List Happening → Place → Type 0)
-      → Went entries files may_leave moment left_since old new a b p h → Appends u v (lines_of p.device (records_of h)) → Acts (left_by p h) k b c → is x (k ++ h) (left_by (left_by p h) k)
-      → Course entries files may_leave moment left_since old new a c u v p (Ok x) is
-  left_off old new a b c u v p h k x is went told acts left = record {
-    history = k ++ h;
-    went = went_acting entries files old new a b c p h k went acts;
-    lines = subst (λ (l : List Record). Appends u v (lines_of p.device l)) (sym (records_opened h k acts.none)) told;
-    left = subst (λ (q : Place). is x (k ++ h) q) (sym (left-append p k h)) left;
-    bare = tt;
-  }
-
--- it was left after so many moments
-pub more_left : (q : Place) (d : Device) (living : List ℕ) (h k : List Happening) → IsBare q → living ≡ [] → most_turns ≤ moments_in h → q.device ≡ d
-    → IsBare q × (living ≡ []) × (most_turns ≤ moments_in (k ++ h)) × (q.device ≡ d)
-more_left q d living h k bare none most same = (bare, none, omega (arith, moments_on h k, most), same)

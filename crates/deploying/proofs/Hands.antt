@@ -15,7 +15,6 @@ use Rattle.session.specs.Happenings.{Happening}
 use Rattle.session.specs.Places.{Place}
 use Rattle.driver.specs.Went.{Acts, Went}
 use Rattle.driver.proofs.Joins.{acted}
-use Rattle.deploying.specs.Backwards.{loaded_of}
 
 pub acted_held : {J D : Type 0} {tells : Bool} {seen : D → Image} {may_leave : D → Image → Type 0} {moment : D → ℕ} {left_since : D → ℕ → Image → Type 0}
     {files : List ℕ → Type 0} {entries : Image → List (List ℕ) → Type 0} {holds_none : Image → Type 0} {is_damaged : Image → ℕ → Type 0} {stands : J → Image → List (List ℕ) → Type 0} {end : J → ℕ}
@@ -30,11 +29,3 @@ module _ {J D : Type 0} (tells : Bool) (may_leave : D → Image → Type 0) (sta
   pub broken_held : (b : BrokeOff J) (disk : D) → InBrokeOff tells may_leave stands end b disk → (log : J) × IsInHand tells may_leave stands end log disk (broken_device b)
   broken_held (broken.Backing s) disk h = (s.hand.log, h.0.0)
   broken_held (broken.Rolling s) disk h = (s.hand.log, h.0.0)
-
-  pub loaded_held : (b : BrokeOff J) (disk : D) → InBrokeOff tells may_leave stands end b disk → InLoaded tells may_leave stands end (loaded_of b) disk
-  loaded_held (broken.Backing s) disk h = h
-  loaded_held (broken.Rolling s) disk h = h
-
-pub loaded_of_device : {J : Type 0} (b : BrokeOff J) → loaded_device (loaded_of b) ≡ broken_device b
-loaded_of_device (broken.Backing s) = refl
-loaded_of_device (broken.Rolling s) = refl

@@ -1,7 +1,8 @@
 -- Parts of a course join.
-use Rattle.std.specs.Prelude.{ℕ, Bool, List, [], ◌++◌, Option, Result, Ok, Err, OnErr}
+use Rattle.std.specs.Prelude.{ℕ, Bool, List, [], ◌∷◌, ◌++◌, Option, Result, Ok, Err, OnErr}
+use Rattle.std.specs.List.{AllByRecursion}
 use Rattle.std.specs.Io.KnownBytes.{Appends}
-use Rattle.std.proofs.Common.{◌≡◌, ◌∙◌, sym, ap, subst}
+use Rattle.std.proofs.Common.{◌≡◌, ◌∙◌, sym, ap, subst, append_assoc}
 use Rattle.disk_model.specs.Disk.{Image, DiskLaws}
 use Rattle.records.specs.Stored.{Record}
 use Rattle.device.specs.Devices.{Device}
@@ -10,17 +11,19 @@ use Rattle.device.specs.Standing.{StandsFor}
 use Rattle.step_runner.specs.Entries.{Grows}
 use Rattle.step_runner.specs.declared.entries.RunnerEntry.{RunnerEntry}
 use Rattle.session.specs.Courses.{IsBare}
-use Rattle.session.specs.Happenings.{Happening, entries_of, records_of}
+use Rattle.session.specs.Follows.{IsLast}
+use Rattle.session.specs.Happenings.{Happening, Kept, entries_of, records_of}
 use Rattle.session.specs.Places.{Place, left_by}
 use Rattle.session.proofs.Joined.{left-append, proper-append, entries-append}
 use Rattle.driver.specs.Lines.{lines_of}
-use Rattle.driver.specs.Over.{LeftAt, Left, Lines, LinesAt}
+use Rattle.driver.specs.Over.{LeftAt, Left, Lines, LinesAt, StopsAt}
 use Rattle.driver.specs.Went.{Acts, Fronts, StandsForMost, Went}
 use Rattle.driver.specs.declared.over.Over.{Over}
 use Rattle.driver.specs.declared.over.Over.TheVariants as over
 use Rattle.driver.proofs.Acting.{grows_on}
 use Rattle.driver.proofs.Joins.{records_opened, went_on}
 use Rattle.driver.proofs.Told.{all_told, left_joined, lines_at_joined}
+use Rattle.giving_up.specs.Kills.{KeepsRest}
 use Rattle.deploying.specs.Driven.{Course}
 
 -- ---- two parts, of which the first one goes on
@@ -75,10 +78,29 @@ module _ (entries : Image → List (List ℕ) → Type 0) (files : List ℕ → 
 lines_acting : (u v : Option (List ℕ)) (d : Device) (h k : List Happening) (e : Over) → records_of k ≡ [] → LinesAt u v d (records_of h) e → LinesAt u v d (records_of (k ++ h)) e
 lines_acting u v d h k e none told = subst (λ (l : List Record). LinesAt u v d l e) (sym (records_opened h k none)) told
 
-left_acting : {D : Type 0} (entries : Image → List (List ℕ) → Type 0) (may_leave : D → Image → Type 0) (disk : D) (p : Place) (h k : List Happening) (e : Over) (a b : Option (List RunnerEntry)) → Acts (left_by p h) k a b
-    → LeftAt entries may_leave disk p h e → LeftAt entries may_leave disk p (k ++ h) e
-left_acting entries may_leave disk p h k over.Disk a b acts left = λ c may. subst (λ (l : List Record). StandsForMost entries p.device l c) (sym (records_opened h k acts.none)) (left c may)
-left_acting entries may_leave disk p h k over.Edge a b acts left = λ c may. subst (λ (x : Device). StandsFor entries c x) (sym (ap (λ (q : Place). q.device) (left-append p k h) ∙ acts.device)) (left c may)
+last_both : (k h : List Happening) → AllByRecursion IsLast k → AllByRecursion IsLast h → AllByRecursion IsLast (k ++ h)
+last_both [] h one two = two
+last_both (e ∷ k) h one two = (one.0, last_both k h one.1 two)
+
+stops_killed : (h k : List Happening) → AllByRecursion IsLast k → StopsAt h → StopsAt (k ++ h)
+stops_killed h k kills s = record {
+  cuts = k ++ s.cuts;
+  last = s.last;
+  before = s.before;
+  split = ap (λ (l : List Happening). k ++ l) s.split ∙ sym (append_assoc k s.cuts (Kept s.last ∷ s.before));
+  kills = last_both k s.cuts kills s.kills;
+}
+
+left_killed : {D : Type 0} (entries : Image → List (List ℕ) → Type 0) (may_leave : D → Image → Type 0) (disk : D) (p : Place) (h k : List Happening) (e : Over) (a b : Option (List RunnerEntry)) → Acts (left_by p h) k a b
+    → KeepsRest (left_by p h) (left_by (left_by p h) k) → AllByRecursion IsLast k → LeftAt entries may_leave disk p h e → LeftAt entries may_leave disk p (k ++ h) e
+left_killed entries may_leave disk p h k over.Disk a b acts keeps kills left = (
+  stops_killed h k kills left.0,
+  λ c may. subst (λ (l : List Record). StandsForMost entries p.device l c) (sym (records_opened h k acts.none)) (left.1 c may),
+)
+left_killed entries may_leave disk p h k over.Edge a b acts keeps kills left = (
+  ap (λ (q : Place). q.boot_end) (left-append p k h) ∙ keeps.boot_end ∙ left.0,
+  λ c may. subst (λ (x : Device). StandsFor entries c x) (sym (ap (λ (q : Place). q.device) (left-append p k h) ∙ acts.device)) (left.1 c may),
+)
 
 -- ---- a part that gives up
 
@@ -92,12 +114,12 @@ module _ (entries : Image → List (List ℕ) → Type 0) (files : List ℕ → 
   -- its children were killed
   pub cut_off : {A : Type 0} (old new : D) (a b c : Option (List RunnerEntry)) (u v : Option (List ℕ)) (p : Place) (h k : List Happening) (e : Over) (is : A → List Happening → Place → Type 0)
       → Went entries files may_leave moment left_since old new a b p h → LinesAt u v p.device (records_of h) e → LeftAt entries may_leave new p h e
-      → Acts (left_by p h) k b c → IsBare (left_by (left_by p h) k)
+      → Acts (left_by p h) k b c → KeepsRest (left_by p h) (left_by (left_by p h) k) → IsBare (left_by (left_by p h) k) → AllByRecursion IsLast k
       → Course entries files may_leave moment left_since old new a c u v p (Err e) is
-  cut_off old new a b c u v p h k e is went lines left acts bare = record {
+  cut_off old new a b c u v p h k e is went lines left acts keeps bare kills = record {
     history = k ++ h;
     went = went_acting entries files old new a b c p h k went acts;
     lines = lines_acting u v p.device h k e acts.none lines;
-    left = left_acting entries may_leave new p h k e b c acts left;
+    left = left_killed entries may_leave new p h k e b c acts keeps kills left;
     bare = subst (λ (q : Place). IsBare q) (sym (left-append p k h)) bare;
   }

@@ -18,9 +18,7 @@ use Rattle.session.specs.Places.{Place}
 use Rattle.driver.specs.Stands.{IsFront}
 use Rattle.stage_changes.specs.Fails.{IsTurned}
 use Rattle.stopping.specs.Runs.{Comes, IsGoing}
-use Rattle.stopping.specs.Stops.{HasStopped, MayStop, StopLeft}
-use Rattle.stopping.specs.declared.stops.Stopped.{Stopped}
-use Rattle.stopping.specs.declared.stops.Stopped.TheVariants as stopped
+use Rattle.stopping.specs.Stops.{HasStopped, MayStop}
 
 -- ---- a deployment is pending
 
@@ -56,9 +54,6 @@ going backing c busy h = h
 going rolling c busy h = h
 
 -- ---- the places
-
-pub left_as : (k t : Stopped) (n : ℕ) (q : Place) (d : Device) (world : World) (told : Told) (living : List ℕ) → k ≡ t → StopLeft k n q d world told living → StopLeft t n q d world told living
-left_as k t n q d world told living is left = subst (λ (x : Stopped). StopLeft x n q d world told living) is left
 
 module _ (p : Place) (d : Device) (world : World) (told : Told) (living : List ℕ) where
   pub turned_stops : IsTurned p d world told living → MayStop p d world told living

@@ -4,8 +4,6 @@ use Rattle.device.specs.Devices.{Device}
 use Rattle.deploy_state.specs.States.{rolling_device}
 use Rattle.deploy_state.specs.declared.state.Backed.{Backed}
 use Rattle.deploy_state.specs.declared.state.Backed.TheVariants as backed
-use Rattle.deploy_state.specs.declared.state.BrokeOff.{BrokeOff}
-use Rattle.deploy_state.specs.declared.state.BrokeOff.TheVariants as broken
 use Rattle.deploy_state.specs.declared.state.Loaded.{Loaded}
 use Rattle.deploy_state.specs.declared.state.Loaded.TheVariants as loaded
 use Rattle.supervisor.specs.Fitted.{Fitted}
@@ -22,12 +20,7 @@ abbrev pub EndsBacks : {J : Type 0} → Backed J → List Fitted → Type 0
 EndsBacks (backed.Backing s) earlier = ⊤
 EndsBacks (backed.Rolling s) earlier = AreReady (rolling_device s) earlier
 
--- the state in which a journal is found where the way back has begun
-abbrev pub loaded_of : {J : Type 0} → BrokeOff J → Loaded J
-loaded_of (broken.Backing s) = loaded.Backing s
-loaded_of (broken.Rolling s) = loaded.Rolling s
-
--- so it is where a call ends for a restart on that way
+-- the state in which a journal is found where a call ends for a restart on the way back
 abbrev pub paused_of : {J : Type 0} → Backed J → Loaded J
 paused_of (backed.Backing s) = loaded.Backing s
 paused_of (backed.Rolling s) = loaded.Rolling s

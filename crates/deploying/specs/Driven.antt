@@ -1,5 +1,5 @@
 -- The course of a deployment that is driven, and how it ends.
-use Rattle.std.specs.Prelude.{◌≡◌, ◌≤◌, ℕ, Bool, List, [], Option, Result, OnErr}
+use Rattle.std.specs.Prelude.{ℕ, Bool, List, Option, Result, OnErr}
 use Rattle.device.specs.Devices.{Device}
 use Rattle.disk_model.specs.Disk.{Image}
 use Rattle.deploy_state.specs.States.{InIdle, InLoaded, idle_device, loaded_device}
@@ -15,30 +15,25 @@ use Rattle.driver.specs.Went.{Went}
 use Rattle.driver.specs.declared.over.Over.{Over}
 use Rattle.driver.specs.declared.over.Booted.TheVariants as booted
 use Rattle.activation.specs.Ended.{HasClosed}
-use Rattle.activation.specs.Turns.{moments_in, most_turns}
 use Rattle.deploying.specs.declared.driven.Driven.{Driven}
 use Rattle.deploying.specs.declared.driven.Driven.TheVariants as driven
 
--- It closed, and the components are as they were; or a bootstrap's end asks that the call ends; or none of both in so many
--- moments, and then no child lives.
+-- It closed, and the components are as they were; or a bootstrap's end asks that the call ends.
 abbrev pub DrivenLeft : {J : Type 0} → Driven J → List Happening → Place → World → Told → List ℕ → Type 0
 DrivenLeft (driven.Closed s o) h q world told living = HasClosed o (records_of h) q (idle_device s) world told living
 DrivenLeft (driven.Restart s) h q world told living = BootsLeft booted.Restart (records_of h) q (loaded_device s) world told living
 DrivenLeft (driven.Reboot s) h q world told living = BootsLeft booted.Reboot (records_of h) q (loaded_device s) world told living
-DrivenLeft (driven.More s) h q world told living = IsBare q × (living ≡ []) × (most_turns ≤ moments_in h) × (q.device ≡ loaded_device s)
 
 abbrev pub driven_device : {J : Type 0} → Driven J → Device
 driven_device (driven.Closed s o) = idle_device s
 driven_device (driven.Restart s) = loaded_device s
 driven_device (driven.Reboot s) = loaded_device s
-driven_device (driven.More s) = loaded_device s
 
 module _ {J D : Type 0} (tells : Bool) (may_leave : D → Image → Type 0) (stands : J → Image → List (List ℕ) → Type 0) (end : J → ℕ) where
   abbrev pub InDriven : Driven J → D → Type 0
   InDriven (driven.Closed s o) disk = InIdle tells may_leave stands end s disk
   InDriven (driven.Restart s) disk = InLoaded tells may_leave stands end s disk
   InDriven (driven.Reboot s) disk = InLoaded tells may_leave stands end s disk
-  InDriven (driven.More s) disk = InLoaded tells may_leave stands end s disk
 
 -- From a place on this happened, its lines were printed, and it leaves what is said of the result. Where it gives up no
 -- child lives.

@@ -1,4 +1,5 @@
 //! The bootstraps of the set run again, and then its items come up.
+ghost use Rattle.ending_laws.specs.Drives.{Drives};
 ghost use Rattle.std.specs.Prelude.{◌≡◌, [], ℕ, List, IsTrue, IfOk, OnErr, IsErrOf, true};
 ghost use Rattle.nuc_base.specs.Faults.{Rose};
 ghost use Rattle.back_boots.specs.Backs.{IsStillBacking};
@@ -47,12 +48,14 @@ where
     requires held { InBacked D.tells D.may_leave J.stands J.end backed disk.old }
     requires failed { IsStillBacking backed → has_failed (backed_device backed) ≡ true }
     requires ready { EndsBacks backed (S.coming ready) }
+    requires drives { Drives (S.world supervisor.old) }
     requires orderly { IsOrderly (S.world supervisor.old) }
     requires placed { (p : Place) × IsFront p (backed_device backed) (S.world supervisor.old) (Listed R.list R.told R.asked runner.old) (R.living runner.old) }
     ensures course { (p : Place) → IsFront p (backed_device backed) (S.world supervisor.old) (Listed R.list R.told R.asked runner.old) (R.living runner.old) →
         Course J.entries J.files D.may_leave D.moment D.left_since disk.old disk.new (R.list runner.old) (R.list runner.new) (K.held sink.old) (K.held sink.new) p result
         (λ x h q. DrivenLeft x h q (S.world supervisor.new) (Listed R.list R.told R.asked runner.new) (R.living runner.new)) }
     ensures none { OnErr result (R.living runner.new ≡ []) }
+    ensures drives { IfOk result (λ x. Drives (S.world supervisor.new)) }
     ensures held { IfOk result (λ x. InDriven D.tells D.may_leave J.stands J.end x disk.new) }
     ensures others { IsTrue D.tells → (name : List ℕ) → ¬ (J.files name) → D.seen disk.new name ≡ D.seen disk.old name }
     ensures disk { IsErrOf result Over.Disk → Rose (D.faults disk.old) (D.faults disk.new) }
@@ -86,12 +89,14 @@ where
     S::Ready: Drop,
     requires held { InBacking D.tells D.may_leave J.stands J.end state disk.old }
     requires ready { HasWayBack (backing_device state) backs.now (S.coming ready) }
+    requires drives { Drives (S.world supervisor.old) }
     requires orderly { IsOrderly (S.world supervisor.old) }
     requires placed { (p : Place) × IsFront p (backing_device state) (S.world supervisor.old) (Listed R.list R.told R.asked runner.old) (R.living runner.old) }
     ensures course { (p : Place) → IsFront p (backing_device state) (S.world supervisor.old) (Listed R.list R.told R.asked runner.old) (R.living runner.old) →
         Course J.entries J.files D.may_leave D.moment D.left_since disk.old disk.new (R.list runner.old) (R.list runner.new) (K.held sink.old) (K.held sink.new) p result
         (λ x h q. DrivenLeft x h q (S.world supervisor.new) (Listed R.list R.told R.asked runner.new) (R.living runner.new)) }
     ensures none { OnErr result (R.living runner.new ≡ []) }
+    ensures drives { IfOk result (λ x. Drives (S.world supervisor.new)) }
     ensures held { IfOk result (λ x. InDriven D.tells D.may_leave J.stands J.end x disk.new) }
     ensures others { IsTrue D.tells → (name : List ℕ) → ¬ (J.files name) → D.seen disk.new name ≡ D.seen disk.old name }
     ensures disk { IsErrOf result Over.Disk → Rose (D.faults disk.old) (D.faults disk.new) }
@@ -124,12 +129,14 @@ where
     S::Ready: Drop,
     requires held { InBrokeOff D.tells D.may_leave J.stands J.end broke disk.old }
     requires ready { HasWayBack (broken_device broke) backs.now (S.coming ready) }
+    requires drives { Drives (S.world supervisor.old) }
     requires orderly { IsOrderly (S.world supervisor.old) }
     requires placed { (p : Place) × IsFront p (broken_device broke) (S.world supervisor.old) (Listed R.list R.told R.asked runner.old) (R.living runner.old) }
     ensures course { (p : Place) → IsFront p (broken_device broke) (S.world supervisor.old) (Listed R.list R.told R.asked runner.old) (R.living runner.old) →
         Course J.entries J.files D.may_leave D.moment D.left_since disk.old disk.new (R.list runner.old) (R.list runner.new) (K.held sink.old) (K.held sink.new) p result
         (λ x h q. DrivenLeft x h q (S.world supervisor.new) (Listed R.list R.told R.asked runner.new) (R.living runner.new)) }
     ensures none { OnErr result (R.living runner.new ≡ []) }
+    ensures drives { IfOk result (λ x. Drives (S.world supervisor.new)) }
     ensures held { IfOk result (λ x. InDriven D.tells D.may_leave J.stands J.end x disk.new) }
     ensures others { IsTrue D.tells → (name : List ℕ) → ¬ (J.files name) → D.seen disk.new name ≡ D.seen disk.old name }
     ensures disk { IsErrOf result Over.Disk → Rose (D.faults disk.old) (D.faults disk.new) }

@@ -1,4 +1,5 @@
 //! The bootstraps of the plan run, and then its items come up.
+ghost use Rattle.ending_laws.specs.Drives.{Drives};
 ghost use Rattle.std.specs.Prelude.{◌≡◌, [], ℕ, List, IsTrue, IfOk, OnErr, IsErrOf, None, true, false};
 ghost use Rattle.nuc_base.specs.Faults.{Rose};
 ghost use Rattle.deploy_state.specs.Fields.{has_failed};
@@ -46,12 +47,14 @@ where
     requires failed { has_failed (booting_device state) ≡ true }
     requires policy { is_to_roll_back (booting_device state) ≡ true }
     requires ready { HasWayBack (booting_device state) backs.now (S.coming ready) }
+    requires drives { Drives (S.world supervisor.old) }
     requires orderly { IsOrderly (S.world supervisor.old) }
     requires placed { (p : Place) × IsFront p (booting_device state) (S.world supervisor.old) (Listed R.list R.told R.asked runner.old) (R.living runner.old) }
     ensures course { (p : Place) → IsFront p (booting_device state) (S.world supervisor.old) (Listed R.list R.told R.asked runner.old) (R.living runner.old) →
         Course J.entries J.files D.may_leave D.moment D.left_since disk.old disk.new (R.list runner.old) (R.list runner.new) (K.held sink.old) (K.held sink.new) p result
         (λ x h q. DrivenLeft x h q (S.world supervisor.new) (Listed R.list R.told R.asked runner.new) (R.living runner.new)) }
     ensures none { OnErr result (R.living runner.new ≡ []) }
+    ensures drives { IfOk result (λ x. Drives (S.world supervisor.new)) }
     ensures held { IfOk result (λ x. InDriven D.tells D.may_leave J.stands J.end x disk.new) }
     ensures others { IsTrue D.tells → (name : List ℕ) → ¬ (J.files name) → D.seen disk.new name ≡ D.seen disk.old name }
     ensures disk { IsErrOf result Over.Disk → Rose (D.faults disk.old) (D.faults disk.new) }
@@ -80,12 +83,14 @@ where
     requires held { InBooting D.tells D.may_leave J.stands J.end state disk.old }
     requires failed { has_failed (booting_device state) ≡ true }
     requires ready { HasWayBack (booting_device state) backs.now (S.coming ready) }
+    requires drives { Drives (S.world supervisor.old) }
     requires orderly { IsOrderly (S.world supervisor.old) }
     requires placed { (p : Place) × IsFront p (booting_device state) (S.world supervisor.old) (Listed R.list R.told R.asked runner.old) (R.living runner.old) }
     ensures course { (p : Place) → IsFront p (booting_device state) (S.world supervisor.old) (Listed R.list R.told R.asked runner.old) (R.living runner.old) →
         Course J.entries J.files D.may_leave D.moment D.left_since disk.old disk.new (R.list runner.old) (R.list runner.new) (K.held sink.old) (K.held sink.new) p result
         (λ x h q. DrivenLeft x h q (S.world supervisor.new) (Listed R.list R.told R.asked runner.new) (R.living runner.new)) }
     ensures none { OnErr result (R.living runner.new ≡ []) }
+    ensures drives { IfOk result (λ x. Drives (S.world supervisor.new)) }
     ensures held { IfOk result (λ x. InDriven D.tells D.may_leave J.stands J.end x disk.new) }
     ensures others { IsTrue D.tells → (name : List ℕ) → ¬ (J.files name) → D.seen disk.new name ≡ D.seen disk.old name }
     ensures disk { IsErrOf result Over.Disk → Rose (D.faults disk.old) (D.faults disk.new) }
@@ -120,12 +125,14 @@ where
     requires through { ((duty_of (booting_device state)).turn ≡ None) × (has_failed (booting_device state) ≡ false) }
     requires items { AreReady (applied (booting_device state) stored.Activating) (S.coming items) }
     requires ready { HasWayBack (booting_device state) backs.now (S.coming ready) }
+    requires drives { Drives (S.world supervisor.old) }
     requires orderly { IsOrderly (S.world supervisor.old) }
     requires placed { (p : Place) × IsFront p (booting_device state) (S.world supervisor.old) (Listed R.list R.told R.asked runner.old) (R.living runner.old) }
     ensures course { (p : Place) → IsFront p (booting_device state) (S.world supervisor.old) (Listed R.list R.told R.asked runner.old) (R.living runner.old) →
         Course J.entries J.files D.may_leave D.moment D.left_since disk.old disk.new (R.list runner.old) (R.list runner.new) (K.held sink.old) (K.held sink.new) p result
         (λ x h q. DrivenLeft x h q (S.world supervisor.new) (Listed R.list R.told R.asked runner.new) (R.living runner.new)) }
     ensures none { OnErr result (R.living runner.new ≡ []) }
+    ensures drives { IfOk result (λ x. Drives (S.world supervisor.new)) }
     ensures held { IfOk result (λ x. InDriven D.tells D.may_leave J.stands J.end x disk.new) }
     ensures others { IsTrue D.tells → (name : List ℕ) → ¬ (J.files name) → D.seen disk.new name ≡ D.seen disk.old name }
     ensures disk { IsErrOf result Over.Disk → Rose (D.faults disk.old) (D.faults disk.new) }
@@ -153,12 +160,14 @@ where
     S::Ready: Drop,
     requires held { InBooting D.tells D.may_leave J.stands J.end state disk.old }
     requires ready { AreReadiedFor (booting_device state) ready.boots ready.backs (S.coming ready.items) (S.coming ready.earlier) }
+    requires drives { Drives (S.world supervisor.old) }
     requires orderly { IsOrderly (S.world supervisor.old) }
     requires placed { (p : Place) × IsFront p (booting_device state) (S.world supervisor.old) (Listed R.list R.told R.asked runner.old) (R.living runner.old) }
     ensures course { (p : Place) → IsFront p (booting_device state) (S.world supervisor.old) (Listed R.list R.told R.asked runner.old) (R.living runner.old) →
         Course J.entries J.files D.may_leave D.moment D.left_since disk.old disk.new (R.list runner.old) (R.list runner.new) (K.held sink.old) (K.held sink.new) p result
         (λ x h q. DrivenLeft x h q (S.world supervisor.new) (Listed R.list R.told R.asked runner.new) (R.living runner.new)) }
     ensures none { OnErr result (R.living runner.new ≡ []) }
+    ensures drives { IfOk result (λ x. Drives (S.world supervisor.new)) }
     ensures held { IfOk result (λ x. InDriven D.tells D.may_leave J.stands J.end x disk.new) }
     ensures others { IsTrue D.tells → (name : List ℕ) → ¬ (J.files name) → D.seen disk.new name ≡ D.seen disk.old name }
     ensures disk { IsErrOf result Over.Disk → Rose (D.faults disk.old) (D.faults disk.new) }

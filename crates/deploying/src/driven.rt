@@ -12,6 +12,4 @@ pub enum Driven<J: Journal + Drop> {
     Restart(Loaded<J>),
     /// The call ends, so that the device is started again.
     Reboot(Loaded<J>),
-    /// None of these in 2^64 - 1 turns of a stage. All children were killed.
-    More(Loaded<J>),
 }

@@ -1,9 +1,10 @@
 //! A component failed three times: the deployment turns back, or stays as it is.
+ghost use Rattle.ending_laws.specs.Drives.{Drives};
 ghost use Rattle.std.specs.Prelude.{◌≡◌, [], ℕ, List, IsTrue, IfOk, OnErr, IsErrOf, true, false};
 ghost use Rattle.nuc_base.specs.Faults.{Rose};
 ghost use Rattle.activation.specs.Ended.{HasBroken};
 ghost use Rattle.deploy_state.specs.States.{InActivating, InBrokeOff, activating_device, broken_device};
-ghost use Rattle.deploying.specs.Backwards.{HasWayBack, loaded_of};
+ghost use Rattle.deploying.specs.Backwards.{HasWayBack};
 ghost use Rattle.deploying.specs.Driven.{Course, DrivenLeft, InDriven};
 ghost use Rattle.driver.specs.Stands.{IsFront};
 ghost use Rattle.session.specs.Phases.{duty_of};
@@ -15,7 +16,7 @@ ghost use Rattle.supervisor_laws.specs.Sound.{IsOrderly};
 
 use crate::backing::go_back;
 use crate::driven::Driven;
-use deploy_state::{Activating, BrokeOff, Loaded};
+use deploy_state::{Activating, BrokeOff};
 use disk_model::Disk;
 use driver::Over;
 use edges::Sink;
@@ -26,17 +27,8 @@ use stage_changes::{
     break_off_activating, break_off_again, is_to_roll_back, keep_activating, keep_again,
 };
 use step_runner::Runner;
-use stopping::{Stopped, stop_all_components};
+use stopping::stop_all_components;
 use supervisor::{Prepared, Supervise};
-
-fn left<J: Journal + Drop>(broke: BrokeOff<J>) -> Loaded<J>
-    ensures { result ≡ loaded_of broke }
-{
-    match broke {
-        BrokeOff::Backing(state) => Loaded::Backing(state),
-        BrokeOff::Rolling(state) => Loaded::Rolling(state),
-    }
-}
 
 /// All components are stopped, and then the way back begins.
 fn stop_and_go_back<D: Disk, J: Journal + Drop, K: Sink, R: Runner, S: Supervise>(
@@ -50,6 +42,7 @@ fn stop_and_go_back<D: Disk, J: Journal + Drop, K: Sink, R: Runner, S: Supervise
 ) -> Result<Driven<J>, Over>
 where
     S::Ready: Drop,
+    requires drives { Drives (S.world supervisor.old) }
     requires held { InBrokeOff D.tells D.may_leave J.stands J.end broke disk.old }
     requires ready { HasWayBack (broken_device broke) backs.now (S.coming ready) }
     requires placed { (p : Place) × IsTurned p (broken_device broke) (S.world supervisor.old) (Listed R.list R.told R.asked runner.old) (R.living runner.old) }
@@ -57,6 +50,7 @@ where
         Course J.entries J.files D.may_leave D.moment D.left_since disk.old disk.new (R.list runner.old) (R.list runner.new) (K.held sink.old) (K.held sink.new) p result
         (λ x h q. DrivenLeft x h q (S.world supervisor.new) (Listed R.list R.told R.asked runner.new) (R.living runner.new)) }
     ensures none { OnErr result (R.living runner.new ≡ []) }
+    ensures drives { IfOk result (λ x. Drives (S.world supervisor.new)) }
     ensures held { IfOk result (λ x. InDriven D.tells D.may_leave J.stands J.end x disk.new) }
     ensures others { IsTrue D.tells → (name : List ℕ) → ¬ (J.files name) → D.seen disk.new name ≡ D.seen disk.old name }
     ensures disk { IsErrOf result Over.Disk → Rose (D.faults disk.old) (D.faults disk.new) }
@@ -64,13 +58,8 @@ where
     ensures quiet_disk { ¬ (IsErrOf result Over.Disk) → D.faults disk.new ≡ D.faults disk.old }
     ensures quiet_sink { ¬ (IsErrOf result Over.Edge) → K.faults sink.new ≡ K.faults sink.old }
 {
-    match stop_all_components(runner, supervisor) {
-        Stopped::All => go_back(broke, backs, ready, disk, sink, runner, supervisor),
-        Stopped::More => {
-            kill_all(runner, supervisor);
-            Ok(Driven::More(left(broke)))
-        }
-    }
+    stop_all_components(runner, supervisor);
+    go_back(broke, backs, ready, disk, sink, runner, supervisor)
 }
 
 /// The deployment is rolled back.
@@ -85,6 +74,7 @@ fn turn_back<D: Disk, J: Journal + Drop, K: Sink, R: Runner, S: Supervise>(
 ) -> Result<Driven<J>, Over>
 where
     S::Ready: Drop,
+    requires drives { Drives (S.world supervisor.old) }
     requires held { InActivating D.tells D.may_leave J.stands J.end state disk.old }
     requires policy { is_to_roll_back (activating_device state) ≡ true }
     requires ready { HasWayBack (activating_device state) backs.now (S.coming ready) }
@@ -93,6 +83,7 @@ where
         Course J.entries J.files D.may_leave D.moment D.left_since disk.old disk.new (R.list runner.old) (R.list runner.new) (K.held sink.old) (K.held sink.new) p result
         (λ x h q. DrivenLeft x h q (S.world supervisor.new) (Listed R.list R.told R.asked runner.new) (R.living runner.new)) }
     ensures none { OnErr result (R.living runner.new ≡ []) }
+    ensures drives { IfOk result (λ x. Drives (S.world supervisor.new)) }
     ensures held { IfOk result (λ x. InDriven D.tells D.may_leave J.stands J.end x disk.new) }
     ensures others { IsTrue D.tells → (name : List ℕ) → ¬ (J.files name) → D.seen disk.new name ≡ D.seen disk.old name }
     ensures disk { IsErrOf result Over.Disk → Rose (D.faults disk.old) (D.faults disk.new) }
@@ -119,6 +110,7 @@ fn stay<D: Disk, J: Journal + Drop, K: Sink, R: Runner, S: Supervise>(
 ) -> Result<Driven<J>, Over>
 where
     S::Ready: Drop,
+    requires drives { Drives (S.world supervisor.old) }
     requires held { InActivating D.tells D.may_leave J.stands J.end state disk.old }
     requires policy { is_to_roll_back (activating_device state) ≡ false }
     requires placed { (p : Place) × HasBroken p (activating_device state) (S.world supervisor.old) (Listed R.list R.told R.asked runner.old) (R.living runner.old) }
@@ -126,6 +118,7 @@ where
         Course J.entries J.files D.may_leave D.moment D.left_since disk.old disk.new (R.list runner.old) (R.list runner.new) (K.held sink.old) (K.held sink.new) p result
         (λ x h q. DrivenLeft x h q (S.world supervisor.new) (Listed R.list R.told R.asked runner.new) (R.living runner.new)) }
     ensures none { OnErr result (R.living runner.new ≡ []) }
+    ensures drives { IfOk result (λ x. Drives (S.world supervisor.new)) }
     ensures held { IfOk result (λ x. InDriven D.tells D.may_leave J.stands J.end x disk.new) }
     ensures others { IsTrue D.tells → (name : List ℕ) → ¬ (J.files name) → D.seen disk.new name ≡ D.seen disk.old name }
     ensures disk { IsErrOf result Over.Disk → Rose (D.faults disk.old) (D.faults disk.new) }
@@ -154,6 +147,7 @@ pub(crate) fn fail_items<D: Disk, J: Journal + Drop, K: Sink, R: Runner, S: Supe
 ) -> Result<Driven<J>, Over>
 where
     S::Ready: Drop,
+    requires drives { Drives (S.world supervisor.old) }
     requires held { InActivating D.tells D.may_leave J.stands J.end state disk.old }
     requires ready { HasWayBack (activating_device state) backs.now (S.coming ready) }
     requires placed { (p : Place) × HasBroken p (activating_device state) (S.world supervisor.old) (Listed R.list R.told R.asked runner.old) (R.living runner.old) }
@@ -161,6 +155,7 @@ where
         Course J.entries J.files D.may_leave D.moment D.left_since disk.old disk.new (R.list runner.old) (R.list runner.new) (K.held sink.old) (K.held sink.new) p result
         (λ x h q. DrivenLeft x h q (S.world supervisor.new) (Listed R.list R.told R.asked runner.new) (R.living runner.new)) }
     ensures none { OnErr result (R.living runner.new ≡ []) }
+    ensures drives { IfOk result (λ x. Drives (S.world supervisor.new)) }
     ensures held { IfOk result (λ x. InDriven D.tells D.may_leave J.stands J.end x disk.new) }
     ensures others { IsTrue D.tells → (name : List ℕ) → ¬ (J.files name) → D.seen disk.new name ≡ D.seen disk.old name }
     ensures disk { IsErrOf result Over.Disk → Rose (D.faults disk.old) (D.faults disk.new) }
@@ -191,12 +186,14 @@ where
     requires held { InActivating D.tells D.may_leave J.stands J.end state disk.old }
     requires failed { has_three (duty_of (activating_device state)).counts ≡ true }
     requires ready { HasWayBack (activating_device state) backs.now (S.coming ready) }
+    requires drives { Drives (S.world supervisor.old) }
     requires orderly { IsOrderly (S.world supervisor.old) }
     requires placed { (p : Place) × IsFront p (activating_device state) (S.world supervisor.old) (Listed R.list R.told R.asked runner.old) (R.living runner.old) }
     ensures course { (p : Place) → IsFront p (activating_device state) (S.world supervisor.old) (Listed R.list R.told R.asked runner.old) (R.living runner.old) →
         Course J.entries J.files D.may_leave D.moment D.left_since disk.old disk.new (R.list runner.old) (R.list runner.new) (K.held sink.old) (K.held sink.new) p result
         (λ x h q. DrivenLeft x h q (S.world supervisor.new) (Listed R.list R.told R.asked runner.new) (R.living runner.new)) }
     ensures none { OnErr result (R.living runner.new ≡ []) }
+    ensures drives { IfOk result (λ x. Drives (S.world supervisor.new)) }
     ensures held { IfOk result (λ x. InDriven D.tells D.may_leave J.stands J.end x disk.new) }
     ensures others { IsTrue D.tells → (name : List ℕ) → ¬ (J.files name) → D.seen disk.new name ≡ D.seen disk.old name }
     ensures disk { IsErrOf result Over.Disk → Rose (D.faults disk.old) (D.faults disk.new) }

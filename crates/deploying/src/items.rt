@@ -1,4 +1,5 @@
 //! The plan's items come up.
+ghost use Rattle.ending_laws.specs.Drives.{Drives, Rises};
 ghost use Rattle.std.specs.Prelude.{◌≡◌, [], ℕ, List, IsTrue, IfOk, OnErr, IsErrOf, false};
 ghost use Rattle.nuc_base.specs.Faults.{Rose};
 ghost use Rattle.activation.specs.Runs.{Comes};
@@ -16,7 +17,7 @@ ghost use Rattle.supervisor_laws.specs.Sound.{IsOrderly};
 use crate::driven::Driven;
 use crate::failing::{fail_again, fail_items};
 use activation::{Activated, activate};
-use deploy_state::{Activating, Loaded};
+use deploy_state::Activating;
 use disk_model::Disk;
 use driver::Over;
 use edges::Sink;
@@ -39,6 +40,7 @@ fn bring_up<D: Disk, J: Journal + Drop, K: Sink, R: Runner, S: Supervise>(
 ) -> Result<Driven<J>, Over>
 where
     S::Ready: Drop,
+    requires rises { Rises (S.world supervisor.old) }
     requires held { InActivating D.tells D.may_leave J.stands J.end state disk.old }
     requires ready { HasWayBack (activating_device state) backs.now (S.coming ready) }
     requires placed { (p : Place) × Comes p (activating_device state) (S.world supervisor.old) (Listed R.list R.told R.asked runner.old) (R.living runner.old) }
@@ -46,6 +48,7 @@ where
         Course J.entries J.files D.may_leave D.moment D.left_since disk.old disk.new (R.list runner.old) (R.list runner.new) (K.held sink.old) (K.held sink.new) p result
         (λ x h q. DrivenLeft x h q (S.world supervisor.new) (Listed R.list R.told R.asked runner.new) (R.living runner.new)) }
     ensures none { OnErr result (R.living runner.new ≡ []) }
+    ensures drives { IfOk result (λ x. Drives (S.world supervisor.new)) }
     ensures held { IfOk result (λ x. InDriven D.tells D.may_leave J.stands J.end x disk.new) }
     ensures others { IsTrue D.tells → (name : List ℕ) → ¬ (J.files name) → D.seen disk.new name ≡ D.seen disk.old name }
     ensures disk { IsErrOf result Over.Disk → Rose (D.faults disk.old) (D.faults disk.new) }
@@ -57,10 +60,6 @@ where
         Ok(Activated::Closed(idle)) => Ok(Driven::Closed(idle, Outcome::Successful)),
         Ok(Activated::Broken(state)) => {
             fail_items(state, backs, ready, disk, sink, runner, supervisor)
-        }
-        Ok(Activated::More(state)) => {
-            kill_all(runner, supervisor);
-            Ok(Driven::More(Loaded::Activating(state)))
         }
         Err(over) => {
             kill_all(runner, supervisor);
@@ -86,12 +85,14 @@ where
     requires few { has_three (duty_of (activating_device state)).counts ≡ false }
     requires items { AreReady (activating_device state) (S.coming items) }
     requires ready { HasWayBack (activating_device state) backs.now (S.coming ready) }
+    requires drives { Drives (S.world supervisor.old) }
     requires orderly { IsOrderly (S.world supervisor.old) }
     requires placed { (p : Place) × IsFront p (activating_device state) (S.world supervisor.old) (Listed R.list R.told R.asked runner.old) (R.living runner.old) }
     ensures course { (p : Place) → IsFront p (activating_device state) (S.world supervisor.old) (Listed R.list R.told R.asked runner.old) (R.living runner.old) →
         Course J.entries J.files D.may_leave D.moment D.left_since disk.old disk.new (R.list runner.old) (R.list runner.new) (K.held sink.old) (K.held sink.new) p result
         (λ x h q. DrivenLeft x h q (S.world supervisor.new) (Listed R.list R.told R.asked runner.new) (R.living runner.new)) }
     ensures none { OnErr result (R.living runner.new ≡ []) }
+    ensures drives { IfOk result (λ x. Drives (S.world supervisor.new)) }
     ensures held { IfOk result (λ x. InDriven D.tells D.may_leave J.stands J.end x disk.new) }
     ensures others { IsTrue D.tells → (name : List ℕ) → ¬ (J.files name) → D.seen disk.new name ≡ D.seen disk.old name }
     ensures disk { IsErrOf result Over.Disk → Rose (D.faults disk.old) (D.faults disk.new) }
@@ -119,12 +120,14 @@ where
     requires held { InActivating D.tells D.may_leave J.stands J.end state disk.old }
     requires items { AreReady (activating_device state) (S.coming items) }
     requires ready { HasWayBack (activating_device state) backs.now (S.coming ready) }
+    requires drives { Drives (S.world supervisor.old) }
     requires orderly { IsOrderly (S.world supervisor.old) }
     requires placed { (p : Place) × IsFront p (activating_device state) (S.world supervisor.old) (Listed R.list R.told R.asked runner.old) (R.living runner.old) }
     ensures course { (p : Place) → IsFront p (activating_device state) (S.world supervisor.old) (Listed R.list R.told R.asked runner.old) (R.living runner.old) →
         Course J.entries J.files D.may_leave D.moment D.left_since disk.old disk.new (R.list runner.old) (R.list runner.new) (K.held sink.old) (K.held sink.new) p result
         (λ x h q. DrivenLeft x h q (S.world supervisor.new) (Listed R.list R.told R.asked runner.new) (R.living runner.new)) }
     ensures none { OnErr result (R.living runner.new ≡ []) }
+    ensures drives { IfOk result (λ x. Drives (S.world supervisor.new)) }
     ensures held { IfOk result (λ x. InDriven D.tells D.may_leave J.stands J.end x disk.new) }
     ensures others { IsTrue D.tells → (name : List ℕ) → ¬ (J.files name) → D.seen disk.new name ≡ D.seen disk.old name }
     ensures disk { IsErrOf result Over.Disk → Rose (D.faults disk.old) (D.faults disk.new) }

@@ -1,4 +1,5 @@
 //! A deployment is driven on from where a call before left it.
+ghost use Rattle.ending_laws.specs.Drives.{Drives};
 ghost use Rattle.std.specs.Prelude.{◌≡◌, [], ℕ, List, IsTrue, IfOk, OnErr, IsErrOf, IsSome};
 ghost use Rattle.nuc_base.specs.Faults.{Rose};
 ghost use Rattle.deploy_state.specs.States.{InLoaded, loaded_device};
@@ -37,12 +38,14 @@ where
     requires held { InLoaded D.tells D.may_leave J.stands J.end state disk.old }
     requires pending { IsSome (loaded_device state).pending }
     requires ready { AreReadiedFor (loaded_device state) ready.boots ready.backs (S.coming ready.items) (S.coming ready.earlier) }
+    requires drives { Drives (S.world supervisor.old) }
     requires orderly { IsOrderly (S.world supervisor.old) }
     requires placed { (p : Place) × IsFront p (loaded_device state) (S.world supervisor.old) (Listed R.list R.told R.asked runner.old) (R.living runner.old) }
     ensures course { (p : Place) → IsFront p (loaded_device state) (S.world supervisor.old) (Listed R.list R.told R.asked runner.old) (R.living runner.old) →
         Course J.entries J.files D.may_leave D.moment D.left_since disk.old disk.new (R.list runner.old) (R.list runner.new) (K.held sink.old) (K.held sink.new) p result
         (λ x h q. DrivenLeft x h q (S.world supervisor.new) (Listed R.list R.told R.asked runner.new) (R.living runner.new)) }
     ensures none { OnErr result (R.living runner.new ≡ []) }
+    ensures drives { IfOk result (λ x. Drives (S.world supervisor.new)) }
     ensures held { IfOk result (λ x. InDriven D.tells D.may_leave J.stands J.end x disk.new) }
     ensures others { IsTrue D.tells → (name : List ℕ) → ¬ (J.files name) → D.seen disk.new name ≡ D.seen disk.old name }
     ensures disk { IsErrOf result Over.Disk → Rose (D.faults disk.old) (D.faults disk.new) }

@@ -1,4 +1,5 @@
 //! The items of the set come up again.
+ghost use Rattle.ending_laws.specs.Drives.{Drives};
 ghost use Rattle.std.specs.Prelude.{◌≡◌, [], ℕ, List, IsTrue, IfOk, OnErr, IsErrOf, false};
 ghost use Rattle.nuc_base.specs.Faults.{Rose};
 ghost use Rattle.deploy_state.specs.States.{InRolling, rolling_device};
@@ -13,7 +14,7 @@ ghost use Rattle.supervisor_laws.specs.Sound.{IsOrderly};
 
 use crate::driven::Driven;
 use activation::{Rolled, roll};
-use deploy_state::{Loaded, Rolling};
+use deploy_state::Rolling;
 use disk_model::Disk;
 use driver::Over;
 use edges::Sink;
@@ -38,12 +39,14 @@ where
     requires held { InRolling D.tells D.may_leave J.stands J.end state disk.old }
     requires few { has_three (duty_of (rolling_device state)).counts ≡ false }
     requires ready { AreReady (rolling_device state) (S.coming ready) }
+    requires drives { Drives (S.world supervisor.old) }
     requires orderly { IsOrderly (S.world supervisor.old) }
     requires placed { (p : Place) × IsFront p (rolling_device state) (S.world supervisor.old) (Listed R.list R.told R.asked runner.old) (R.living runner.old) }
     ensures course { (p : Place) → IsFront p (rolling_device state) (S.world supervisor.old) (Listed R.list R.told R.asked runner.old) (R.living runner.old) →
         Course J.entries J.files D.may_leave D.moment D.left_since disk.old disk.new (R.list runner.old) (R.list runner.new) (K.held sink.old) (K.held sink.new) p result
         (λ x h q. DrivenLeft x h q (S.world supervisor.new) (Listed R.list R.told R.asked runner.new) (R.living runner.new)) }
     ensures none { OnErr result (R.living runner.new ≡ []) }
+    ensures drives { IfOk result (λ x. Drives (S.world supervisor.new)) }
     ensures held { IfOk result (λ x. InDriven D.tells D.may_leave J.stands J.end x disk.new) }
     ensures others { IsTrue D.tells → (name : List ℕ) → ¬ (J.files name) → D.seen disk.new name ≡ D.seen disk.old name }
     ensures disk { IsErrOf result Over.Disk → Rose (D.faults disk.old) (D.faults disk.new) }
@@ -54,10 +57,6 @@ where
     change_items(state.device(), ready, supervisor);
     match roll(state, disk, sink, runner, supervisor) {
         Ok(Rolled::Closed(idle, outcome)) => Ok(Driven::Closed(idle, outcome)),
-        Ok(Rolled::More(state)) => {
-            kill_all(runner, supervisor);
-            Ok(Driven::More(Loaded::Rolling(state)))
-        }
         Err(over) => {
             kill_all(runner, supervisor);
             Err(over)
@@ -78,12 +77,14 @@ where
     S::Ready: Drop,
     requires held { InRolling D.tells D.may_leave J.stands J.end state disk.old }
     requires ready { AreReady (rolling_device state) (S.coming ready) }
+    requires drives { Drives (S.world supervisor.old) }
     requires orderly { IsOrderly (S.world supervisor.old) }
     requires placed { (p : Place) × IsFront p (rolling_device state) (S.world supervisor.old) (Listed R.list R.told R.asked runner.old) (R.living runner.old) }
     ensures course { (p : Place) → IsFront p (rolling_device state) (S.world supervisor.old) (Listed R.list R.told R.asked runner.old) (R.living runner.old) →
         Course J.entries J.files D.may_leave D.moment D.left_since disk.old disk.new (R.list runner.old) (R.list runner.new) (K.held sink.old) (K.held sink.new) p result
         (λ x h q. DrivenLeft x h q (S.world supervisor.new) (Listed R.list R.told R.asked runner.new) (R.living runner.new)) }
     ensures none { OnErr result (R.living runner.new ≡ []) }
+    ensures drives { IfOk result (λ x. Drives (S.world supervisor.new)) }
     ensures held { IfOk result (λ x. InDriven D.tells D.may_leave J.stands J.end x disk.new) }
     ensures others { IsTrue D.tells → (name : List ℕ) → ¬ (J.files name) → D.seen disk.new name ≡ D.seen disk.old name }
     ensures disk { IsErrOf result Over.Disk → Rose (D.faults disk.old) (D.faults disk.new) }

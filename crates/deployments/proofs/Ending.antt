@@ -3,6 +3,7 @@ use Rattle.std.specs.Prelude.{ℕ, Bool, List, [], ◌∷◌, ◌++◌, true, fa
 use Rattle.std.specs.Option.{IsSome, IsSomeAnd}
 use Rattle.std.specs.Io.KnownBytes.{Appends}
 use Rattle.std.proofs.Common.{◌≡◌, ◌≢◌, ◌≤◌, ◌⊎◌, ◌∙◌, inl, inr, refl, sym, ap, subst, arith}
+use Rattle.std.proofs.lemmas.Bool.{false≢true}
 use Rattle.std.proofs.lemmas.List.{append-nil}
 use Rattle.disk_model.specs.Disk.{Image, After, DiskLaws, Leaves}
 use Rattle.disk_model.specs.Listing.{artifacts, IsBelow}
@@ -22,7 +23,7 @@ use Rattle.artifact_store.proofs.Walking.{start_spares}
 use Rattle.step_runner.specs.Entries.{Told}
 use Rattle.step_runner.specs.declared.entries.RunnerEntry.{RunnerEntry}
 use Rattle.supervisor.specs.World.{World}
-use Rattle.session.specs.Courses.{IsBare}
+use Rattle.session.specs.Courses.{IsBare, IsEnd, is_restart, leaves_open}
 use Rattle.session.specs.Happenings.{Happening, Kept, records_of}
 use Rattle.session.specs.Once.{TakesOnce}
 use Rattle.session.specs.Places.{Place, left_by}
@@ -33,7 +34,7 @@ use Rattle.deploy_state.specs.Hand.{IsInHand, LeavesEither, LeavesSame}
 use Rattle.deploy_state.specs.States.{InLoaded, idle_device, loaded_device}
 use Rattle.driver.specs.Booted.{AsksFor}
 use Rattle.driver.specs.Lines.{id_of, lines_of}
-use Rattle.driver.specs.Over.{LeftAt, LinesAt}
+use Rattle.driver.specs.Over.{LeftAt, LinesAt, StopsAt}
 use Rattle.driver.specs.Went.{Acts, StandsForFront, StandsForMost, Went}
 use Rattle.driver.specs.declared.over.Booted.{Booted}
 use Rattle.driver.specs.declared.over.Booted.TheVariants as booted
@@ -41,10 +42,8 @@ use Rattle.driver.specs.declared.over.Over.{Over}
 use Rattle.driver.specs.declared.over.Over.TheVariants as over
 use Rattle.driver.proofs.Acting.{acts_none, grows_none}
 use Rattle.driver.proofs.Joins.{acted, records_opened, went_on}
-use Rattle.driver.proofs.Told.{all_told, left_joined, lines_at_joined}
+use Rattle.driver.proofs.Told.{all_told, left_joined, lines_at_joined, stops_last}
 use Rattle.activation.specs.Ended.{ClosesAs}
-use Rattle.activation.specs.Turns.{moments_in, most_turns}
-use Rattle.activation.proofs.Turning.{moments_on}
 use Rattle.acceptance.specs.Accepts.{IsOpen}
 use Rattle.acceptance.proofs.Opening.{accept_went}
 use Rattle.intake.specs.Takes.{LieElsewhere}
@@ -54,14 +53,15 @@ use Rattle.deploying.specs.Driven.{Course, DrivenLeft, InDriven, driven_device}
 use Rattle.deploying.specs.declared.driven.Driven.{Driven}
 use Rattle.deploying.specs.declared.driven.Driven.TheVariants as driven
 use Rattle.deploying.proofs.Joining.{Holds, went_acting}
-use Rattle.deployments.specs.Calls.{AllHoldBoth, AnswersFor, AnswersOver, Call, Ends, EndsClosed, EndsFor, IsOrEdge, IsPendingAs, Prints, SaysEnding, SaysLine, SaysRefusal, Spared, StandsBehind, StandsWhole, Stops, StopsFor, opening_line}
+use Rattle.deployments.specs.Calls.{AllHoldBoth, AnswersFor, AnswersOver, Call, Ends, EndsClosed, EndsFor, IsOrEdge, IsPendingAs, Prints, SaysEnding, SaysLine, SaysRefusal, Spared, StandsBehind, StandsWhole, opening_line}
 use Rattle.deployments.specs.Declines.{line_of_declined, status_of_declined}
 use Rattle.deployments.specs.Documents.{Begins, DrivesPlan, DrivesTaken, FitsFrom, Follows, KeepsArtifacts}
-use Rattle.deployments.specs.Endings.{Ending, Closes, Restarts, Reboots, Fails, Breaks, Forgets, Starves, Declines, Full, Idle, IsBegun, line_of_ending, status_of_ending}
+use Rattle.deployments.specs.Endings.{Ending, Closes, Restarts, Reboots, Fails, Breaks, Forgets, Starves, Declines, Full, Idle, IsBegun, is_failing, line_of_ending, status_of_ending}
 use Rattle.deployments.proofs.Holding.{HoldsBefore, all_before, spared_whole, went_holds, went_whole}
-use Rattle.deployments.proofs.Places.{serves_on}
+use Rattle.deployments.proofs.Places.{IsShut, serves_on, shut_ends}
 use Rattle.deployments.proofs.Printing.{all_prints, ending_over, opening_none, over_prints, said_prints, starved_prints}
 use Rattle.deployments.proofs.Resuming.{loaded_hand}
+use Rattle.deployments.proofs.Statuses.{declined_no_restart, disk_opens, no_restart, opens_gives}
 
 -- ---- the last record
 
@@ -111,7 +111,6 @@ module _ {J : Type 0} where
   begun_for (Ok (driven.Closed s o)) ending (inr (inr is)) = subst IsBegun (sym is) tt
   begun_for (Ok (driven.Restart s)) ending is = subst IsBegun (sym is) tt
   begun_for (Ok (driven.Reboot s)) ending is = subst IsBegun (sym is) tt
-  begun_for (Ok (driven.More s)) ending is = subst IsBegun (sym is) tt
   begun_for (Err over.Disk) ending is = subst IsBegun (sym is) tt
   begun_for (Err over.Edge) ending is = subst IsBegun (sym is) tt
 
@@ -126,17 +125,48 @@ pub over_ends : (e : Over) (h : List Happening) (q : Place) → Ends (ending_ove
 over_ends over.Disk h q = tt
 over_ends over.Edge h q = tt
 
-pub over_stops : (e : Over) (q : Place) → Stops (ending_over e) q
-over_stops over.Disk q = tt
-over_stops over.Edge q = tt
+-- the disk is told as one that failed only by its ending
+end_rises : (q : Place) (status : Status) (rose : Bool) → IsEnd q status false → IsEnd q status rose
+end_rises q status rose e = record {
+  bare = e.bare;
+  stopped = e.stopped;
+  cut = e.cut;
+  told = e.told;
+  recorded = by e.recorded;
+  restarts = e.restarts;
+  over = e.over;
+}
+  where
+    by : (q.boot_end ≡ None) ⊎ ((leaves_open status ≡ true) × (false ≡ true)) → (q.boot_end ≡ None) ⊎ ((leaves_open status ≡ true) × (rose ≡ true))
+    by (inl none) = inl none
+    by (inr both) = absurd (false≢true both.1)
 
-pub driven_stops : {J : Type 0} (x : Driven J) (ending : Ending) (status : Status) (q : Place) → EndsFor {J = J} (Ok x) ending → StopsFor x status q → status ≡ status_of_ending ending → Stops ending q
-driven_stops (driven.Closed s o) ending status q (inl is) stops same = subst (λ (e : Ending). Stops e q) (sym is) (stops (same ∙ ap status_of_ending is))
-driven_stops (driven.Closed s o) ending status q (inr (inl is)) stops same = subst (λ (e : Ending). Stops e q) (sym is) tt
-driven_stops (driven.Closed s o) ending status q (inr (inr is)) stops same = subst (λ (e : Ending). Stops e q) (sym is) tt
-driven_stops (driven.Restart s) ending status q is stops same = subst (λ (e : Ending). Stops e q) (sym is) stops
-driven_stops (driven.Reboot s) ending status q is stops same = subst (λ (e : Ending). Stops e q) (sym is) stops
-driven_stops (driven.More s) ending status q is stops same = subst (λ (e : Ending). Stops e q) (sym is) tt
+-- a call that gave up
+open_end : (q : Place) (status : Status) (rose : Bool) → IsBare q → leaves_open status ≡ true → (q.boot_end ≡ None) ⊎ (rose ≡ true) → IsEnd q status rose
+open_end q status rose bare opens recorded =
+    let gives = opens_gives status opens in
+    record {
+      bare = bare;
+      stopped = λ stays. absurd (false≢true (sym stays ∙ gives.0));
+      cut = λ is. gives.0;
+      told = λ closed. absurd (false≢true (sym closed ∙ opens));
+      recorded = by recorded;
+      restarts = λ is. absurd (false≢true (sym gives.1 ∙ is));
+      over = λ is. inr gives.0;
+    }
+  where
+    by : (q.boot_end ≡ None) ⊎ (rose ≡ true) → (q.boot_end ≡ None) ⊎ ((leaves_open status ≡ true) × (rose ≡ true))
+    by (inl none) = inl none
+    by (inr is) = inr (opens, is)
+
+over_opens : (e : Over) (status : Status) → AnswersOver e status → leaves_open status ≡ true
+over_opens over.Disk status answers = disk_opens status answers
+over_opens over.Edge status answers = ap leaves_open answers
+
+over_end : {D : Type 0} (entries : Image → List (List ℕ) → Type 0) (may_leave : D → Image → Type 0) (disk : D) (e : Over) (p : Place) (h : List Happening) (status : Status) → IsBare (left_by p h) → LeftAt entries may_leave disk p h e → AnswersOver e status
+    → IsEnd (left_by p h) status (is_failing (ending_over e))
+over_end entries may_leave disk over.Disk p h status bare left answers = open_end (left_by p h) status true bare (over_opens over.Disk status answers) (inr refl)
+over_end entries may_leave disk over.Edge p h status bare left answers = open_end (left_by p h) status false bare (over_opens over.Edge status answers) (inl left.0)
 
 pub over_answers : (e : Over) (status : Status) → AnswersOver e status → IsOrEdge status (status_of_ending (ending_over e))
 over_answers over.Disk status answers = answers
@@ -161,13 +191,12 @@ module _ (h k : List Happening) (d : Device) (q r : Place) (none : records_of k 
   driven_ends world told living (driven.Closed s o) ending left (inl is) =
       let on = closes_on o left.closed in
       subst (λ (e : Ending). Ends e (k ++ h) r) (sym is) (on, closed_none d r.device o (records_of (k ++ h)) on run)
-  driven_ends world told living (driven.Closed s o) ending left (inr (inl is)) = subst (λ (e : Ending). Ends e (k ++ h) r) (sym is) (inl (o, closes_on o left.closed))
+  driven_ends world told living (driven.Closed s o) ending left (inr (inl is)) = subst (λ (e : Ending). Ends e (k ++ h) r) (sym is) (o, closes_on o left.closed)
   driven_ends world told living (driven.Closed s o) ending left (inr (inr is)) = subst (λ (e : Ending). Ends e (k ++ h) r) (sym is) tt
   driven_ends world told living (driven.Restart s) ending left is =
       subst (λ (e : Ending). Ends e (k ++ h) r) (sym is) (again_on booted.Restart (loaded_device s) left.0.stands.device_is left.2)
   driven_ends world told living (driven.Reboot s) ending left is =
       subst (λ (e : Ending). Ends e (k ++ h) r) (sym is) (again_on booted.Reboot (loaded_device s) left.0.stands.device_is left.2)
-  driven_ends world told living (driven.More s) ending left is = subst (λ (e : Ending). Ends e (k ++ h) r) (sym is) (inr (omega (arith, moments_on h k, left.2)))
 
 -- ---- what the disk holds at the end
 
@@ -185,19 +214,25 @@ module _ (entries : Image → List (List ℕ) → Type 0) {D : Type 0} (may_leav
 
   -- where it was given up
   pub over_most : (e : Over) (disk : D) (p : Place) (h : List Happening) → Run p.device (records_of h) (left_by p h).device → LeftAt entries may_leave disk p h e → (c : Image) → may_leave disk c → StandsForMost entries p.device (records_of h) c
-  over_most over.Disk disk p h run left = left
-  over_most over.Edge disk p h run left = most_of disk p h run left
+  over_most over.Disk disk p h run left = left.1
+  over_most over.Edge disk p h run left = most_of disk p h run left.1
 
   pub edge_behind : (e : Over) (disk : D) (p : Place) (h : List Happening) → e ≡ over.Edge → LeftAt entries may_leave disk p h e → StandsBehind entries may_leave disk p h
   edge_behind over.Disk disk p h is left = absurd cc
-  edge_behind over.Edge disk p h is left = left
+  edge_behind over.Edge disk p h is left = left.1
+
+  -- nothing is started behind a record that is in doubt
+  over_doubt : (e : Over) (disk : D) (p : Place) (h : List Happening) → LeftAt entries may_leave disk p h e → StandsBehind entries may_leave disk p h ⊎ StopsAt h
+  over_doubt over.Disk disk p h left = inr left.0
+  over_doubt over.Edge disk p h left = inl left.1
 
 module _ (entries : Image → List (List ℕ) → Type 0) (files : List ℕ → Type 0) {D : Type 0} (may_leave : D → Image → Type 0) (moment : D → ℕ) (left_since : D → ℕ → Image → Type 0) where
   -- such a call that drives a deployment with these records
-  abbrev pub CallFor : D → D → Option (List RunnerEntry) → Option (List RunnerEntry) → Option (List ℕ) → Option (List ℕ) → Place → Status → List Record → Type 0
-  CallFor old new a c u x p status records =
+  abbrev pub CallFor : D → D → Option (List RunnerEntry) → Option (List RunnerEntry) → Option (List ℕ) → Option (List ℕ) → Place → Status → List Record → (Ending → Type 0) → Type 0
+  CallFor old new a c u x p status records because =
       (call : Call entries files may_leave moment left_since old new a c u x p status) × IsBegun call.ending × (records_of call.history ≡ records)
       × (((i : Image) → may_leave old i → HoldsBefore i p.device records) → KeepsArtifacts entries files may_leave moment left_since old new a c u x p status call)
+      × because call.ending
 
 -- a part behind another one that goes on, with its history
 module _ (entries : Image → List (List ℕ) → Type 0) (files : List ℕ → Type 0) {D : Type 0} {may_leave : D → Image → Type 0} {moment : D → ℕ} {left_since : D → ℕ → Image → Type 0} {tells : Bool} {seen : D → Image}
@@ -257,13 +292,11 @@ module _ {D J : Type 0} {tells : Bool} {seen : D → Image} {may_leave : D → I
   driven_hand (driven.Closed s o) disk hand = (s.log, hand.0)
   driven_hand (driven.Restart s) disk hand = loaded_hand tells may_leave stands end s disk hand
   driven_hand (driven.Reboot s) disk hand = loaded_hand tells may_leave stands end s disk hand
-  driven_hand (driven.More s) disk hand = loaded_hand tells may_leave stands end s disk hand
 
   driven_is : (x : Driven J) (h : List Happening) (q : Place) (world : World) (told : Told) (living : List ℕ) → DrivenLeft x h q world told living → q.device ≡ driven_device x
   driven_is (driven.Closed s o) h q world told living left = left.stands.device_is
   driven_is (driven.Restart s) h q world told living left = left.0.stands.device_is
   driven_is (driven.Reboot s) h q world told living left = left.0.stands.device_is
-  driven_is (driven.More s) h q world told living left = left.3
 
   -- ---- where it ends
 
@@ -277,13 +310,13 @@ module _ {D J : Type 0} {tells : Bool} {seen : D → Image} {may_leave : D → I
     -- ---- the whole
 
     -- the course of a deployment, and files that are swept behind it
-    pub called : (old to new : D) (a b c : Option (List RunnerEntry)) (u v w x : Option (List ℕ)) (p : Place) (r : Result (Driven J) Over) (status : Status)
+    pub called : (old to new : D) (a b c : Option (List RunnerEntry)) (u v w x : Option (List ℕ)) (p : Place) (r : Result (Driven J) Over) (status : Status) (because : Ending → Type 0)
         → Appends u v (opening_line p.device) → (course : Course entries files may_leave moment left_since old to a b v w p r (λ y h q. DrivenLeft y h q world told living)) → p.serves ≡ false
         → IfOk r (λ y. InDriven tells may_leave stands end y to)
-        → IfOk r (λ y. (q : Place) → (h : List Happening) → DrivenLeft y h q world told living → q.serves ≡ false → (k : List Happening) × Acts q k b c × IsBare (left_by q k) × StopsFor y status (left_by q k))
-        → OnErr r (c ≡ b) → Spared may_leave moment left_since to new → IfOk r (λ y. AllHoldDevice (may_leave to) (driven_device y) → Leaves moment left_since to new (λ i. HoldsDevice i (driven_device y))) → OnErr r (new ≡ to) → SaysEnding w x status (EndsFor r) → (IsErrOf r over.Edge → x ≡ w) → AnswersFor r status
-        → CallFor entries files may_leave moment left_since old new a c u x p status (records_of course.history)
-    called old to new a b c u v w x p (Ok y) status started course serves held ends still after safe unswept says silent answers =
+        → IfOk r (λ y. (q : Place) → (h : List Happening) → DrivenLeft y h q world told living → q.serves ≡ false → (k : List Happening) × Acts q k b c × IsEnd (left_by q k) status false)
+        → OnErr r (c ≡ b) → Spared may_leave moment left_since to new → IfOk r (λ y. AllHoldDevice (may_leave to) (driven_device y) → Leaves moment left_since to new (λ i. HoldsDevice i (driven_device y))) → OnErr r (new ≡ to) → SaysEnding w x status (λ e. EndsFor r e × because e) → (IsErrOf r over.Edge → x ≡ w) → AnswersFor r status
+        → CallFor entries files may_leave moment left_since old new a c u x p status (records_of course.history) because
+    called old to new a b c u v w x p (Ok y) status because started course serves held ends still after safe unswept says silent answers =
         let h = course.history in
         let q = left_by p h in
         let e = ends q h course.left (serves_on p h serves) in
@@ -292,7 +325,7 @@ module _ {D J : Type 0} {tells : Bool} {seen : D → Image} {may_leave : D → I
         let same = records_opened h k e.1.none in
         let device = ap (λ (z : Place). z.device) (left-append p k h) ∙ e.1.device in
         let went = went_acting entries files old to a b c p h k course.went e.1 in
-        let begun = begun_for {J = J} (Ok y) ending says.1 in
+        let begun = begun_for {J = J} (Ok y) ending says.1.0 in
         let records = records_of (k ++ h) in
         let left = driven_device y in
         let is = device ∙ driven_is y h q world told living course.left in
@@ -305,13 +338,13 @@ module _ {D J : Type 0} {tells : Bool} {seen : D → Image} {may_leave : D → I
             history = k ++ h;
             went = went;
             after = after;
-            bare = subst IsBare (sym (left-append p k h)) e.2;
             ending = ending;
             answers = says.3;
             prints = all_prints (StandsBehind entries may_leave new p (k ++ h)) u v w x p.device records ending status behind (begun_fed ending begun) started (subst (λ (l : List Record). Appends v w (lines_of p.device l)) (sym same) course.lines) says.2;
-            ends = driven_ends h k p.device q (left_by p (k ++ h)) e.1.none device went.run world told living y ending course.left says.1;
-            stops = driven_stops y ending status (left_by p (k ++ h)) says.1 (subst (StopsFor y status) (sym (left-append p k h)) e.3);
+            ends = driven_ends h k p.device q (left_by p (k ++ h)) e.1.none device went.run world told living y ending course.left says.1.0;
+            end = subst (λ (z : Place). IsEnd z status (is_failing ending)) (sym (left-append p k h)) (end_rises (left_by q k) status (is_failing ending) e.2);
             stands = most_of entries may_leave new p (k ++ h) went.run behind;
+            doubt = inl behind;
             once = takes_once p (k ++ h) serves went.proper;
           },
           begun,
@@ -323,10 +356,11 @@ module _ {D J : Type 0} {tells : Bool} {seen : D → Image} {may_leave : D → I
               (went_whole laws files entries apart old to a c p (k ++ h) went before)
               (spared_whole laws files entries apart journal hand.0 to new p.device left records records [] hand.1 (sym (append-nil records)) (subst (λ (d : Device). Run p.device records d) is went.run) after (safe there))
               (λ i w. w) (λ i w. w)),
+          says.1.1,
         )
-    called old to new a b c u v w x p (Err e) status started course serves held ends still after safe unswept says silent answers =
+    called old to new a b c u v w x p (Err e) status because started course serves held ends still after safe unswept says silent answers =
         let ending = ending_over e in
-        let is = ending_is J e says.0 says.1 in (
+        let is = ending_is J e says.0 says.1.0 in (
           record {
             from = old;
             to = to;
@@ -334,20 +368,21 @@ module _ {D J : Type 0} {tells : Bool} {seen : D → Image} {may_leave : D → I
             history = course.history;
             went = subst (λ (l : Option (List RunnerEntry)). Went entries files may_leave moment left_since old to a l p course.history) (sym still) course.went;
             after = after;
-            bare = course.bare;
             ending = ending;
             answers = over_answers e status answers;
             prints = over_prints (StandsBehind entries may_leave new p course.history) e u v w x p.device (records_of course.history) status
                 (λ edge. subst (λ (z : D). StandsBehind entries may_leave z p course.history) (sym unswept) (edge_behind entries may_leave e to p course.history edge course.left))
                 started course.lines (subst (λ (f : Ending). SaysLine w x status (line_of_ending f)) is says.2) (λ edge. silent (ap Err edge)) answers;
             ends = over_ends e course.history (left_by p course.history);
-            stops = λ same. over_stops e (left_by p course.history);
+            end = over_end entries may_leave to e p course.history status course.bare course.left answers;
             stands = subst (λ (z : D). (i : Image) → may_leave z i → StandsForMost entries p.device (records_of course.history) i) (sym unswept) (over_most entries may_leave e to p course.history course.went.run course.left);
+            doubt = subst (λ (z : D). StandsBehind entries may_leave z p course.history ⊎ StopsAt course.history) (sym unswept) (over_doubt entries may_leave e to p course.history course.left);
             once = takes_once p course.history serves course.went.proper;
           },
-          subst IsBegun is (begun_for {J = J} (Err e) says.0 says.1),
+          subst IsBegun is (begun_for {J = J} (Err e) says.0 says.1.0),
           refl,
           (λ holds. subst (λ (z : D). Leaves moment left_since old z (StandsWhole entries p.device (records_of course.history))) (sym unswept) (went_whole laws files entries apart old to a b p course.history course.went holds)),
+          subst because is says.1.1,
         )
 
 -- ---- nothing of a deployment happens
@@ -363,51 +398,53 @@ module _ {D : Type 0} (entries : Image → List (List ℕ) → Type 0) (files : 
 
   -- files may be taken in
   abbrev pub nothing_called : (old new : D) (l : Option (List RunnerEntry)) (u v : Option (List ℕ)) (p : Place) (ending : Ending) (status : Status) → Spared may_leave moment left_since old new → ((c : Image) → may_leave new c → StandsFor entries c p.device)
-      → IsBare p → IsOrEdge status (status_of_ending ending) → Prints u v p.device [] ending status (StandsBehind entries may_leave new p []) → Ends ending [] p → Stops ending p
+      → IsShut p → IsOrEdge status (status_of_ending ending) → Prints u v p.device [] ending status (StandsBehind entries may_leave new p []) → Ends ending [] p → is_restart (status_of_ending ending) ≡ false
       → Call entries files may_leave moment left_since old new l l u v p status
-  nothing_called old new l u v p ending status before stands bare answers prints ends stops = record {
+  nothing_called old new l u v p ending status before stands shut answers prints ends other = record {
     from = new;
     to = new;
     before = before;
     history = [];
     went = acted entries files laws new l l p [] stands (acts_none p l l refl);
     after = start_spares laws (IsBelow artifacts) new;
-    bare = bare;
     ending = ending;
     answers = answers;
     prints = prints;
     ends = ends;
-    stops = λ same. stops;
+    end = shut_ends p status (is_failing ending) shut (no_restart status (status_of_ending ending) answers other);
     stands = most_of entries may_leave new p [] refl stands;
+    doubt = inl stands;
     once = tt;
   }
 
   -- The document is not taken: that is said, or there is no memory for its line.
   pub declined_called : (start : ℕ → ℕ) (old new : D) (l : Option (List RunnerEntry)) (u v : Option (List ℕ)) (p : Place) (declined : Declined) (status : Status) → Spared may_leave moment left_since old new → ((c : Image) → may_leave new c → StandsFor entries c p.device)
-      → IsBare p → p.device.pending ≡ None → SaysRefusal u v status (status_of_declined declined) (line_of_declined declined)
-      → (t : DrivesTaken entries files may_leave moment left_since old new l l u v p status start (Err declined)) × (records_of t.0.history ≡ [])
-  declined_called start old new l u v p declined status before stands bare none (inl said) = (
+      → IsShut p → p.device.pending ≡ None → SaysRefusal u v status (status_of_declined declined) (line_of_declined declined)
+      → (t : DrivesTaken entries files may_leave moment left_since old new l l u v p status start (Err declined)) × (records_of t.0.history ≡ []) × (t.0.ending ≢ Fails)
+  declined_called start old new l u v p declined status before stands shut none (inl said) = (
     (
-      nothing_called old new l u v p (Declines declined) status before stands bare said.1 (said_prints (StandsBehind entries may_leave new p []) u v p.device (Declines declined) status stands (λ is. cc) none said.0) refl tt,
+      nothing_called old new l u v p (Declines declined) status before stands shut said.1 (said_prints (StandsBehind entries may_leave new p []) u v p.device (Declines declined) status stands (λ is. cc) none said.0) refl (declined_no_restart declined),
       (inl refl, refl),
     ),
     refl,
+    (λ is. cc),
   )
-  declined_called start old new l u v p declined status before stands bare none (inr short) = (
+  declined_called start old new l u v p declined status before stands shut none (inr short) = (
     (
-      nothing_called old new l u v p Starves status before stands bare (inl short.0) (starved_prints (StandsBehind entries may_leave new p []) u v p.device status stands short.1) refl tt,
+      nothing_called old new l u v p Starves status before stands shut (inl short.0) (starved_prints (StandsBehind entries may_leave new p []) u v p.device status stands short.1) refl refl,
       (inr refl, refl),
     ),
     refl,
+    (λ is. cc),
   )
 
   -- the journal does not lie among the files of artifacts
   module _ (apart : LieElsewhere files) where
     -- A plan is given back for want of memory, where the journal may have been begun anew with the device.
     pub starved_called : (old new : D) (l : Option (List RunnerEntry)) (u v : Option (List ℕ)) (p : Place) (plan : Plan) → Leaves moment left_since old new (LeavesSame may_leave files entries old p.device) → ((c : Image) → may_leave new c → StandsFor entries c p.device)
-        → IsBare p → v ≡ u → (c : Call entries files may_leave moment left_since old new l l u v p statuses.Memory)
+        → IsShut p → v ≡ u → (c : Call entries files may_leave moment left_since old new l l u v p statuses.Memory)
         × (c.ending ≡ Starves) × (records_of c.history ≡ []) × (AllHoldBoth (may_leave old) p.device plan.items → KeepsArtifacts entries files may_leave moment left_since old new l l u v p statuses.Memory c)
-    starved_called old new l u v p plan leaves stands bare silent = (
+    starved_called old new l u v p plan leaves stands shut silent = (
       record {
         from = old;
         to = new;
@@ -415,13 +452,13 @@ module _ {D : Type 0} (entries : Image → List (List ℕ) → Type 0) (files : 
         history = [];
         went = went;
         after = start_spares laws (IsBelow artifacts) new;
-        bare = bare;
         ending = Starves;
         answers = inl refl;
         prints = starved_prints (StandsBehind entries may_leave new p []) u v p.device statuses.Memory stands silent;
         ends = refl;
-        stops = λ same. tt;
+        end = shut_ends p statuses.Memory false shut refl;
         stands = most_of entries may_leave new p [] refl stands;
+        doubt = inl stands;
         once = tt;
       },
       refl,
@@ -446,6 +483,7 @@ module _ {D : Type 0} (entries : Image → List (List ℕ) → Type 0) (files : 
         → SaysLine v w status (line_of_ending (ending_over e)) → (e ≡ over.Edge → w ≡ v) → AnswersOver e status
         → (t : DrivesPlan entries files may_leave moment left_since old new list list u w p status start plan)
         × (AllHoldBoth (may_leave old) p.device plan.items → KeepsArtifacts entries files may_leave moment left_since old new list list u w p status t.0)
+        × (t.0.ending ≡ ending_over e)
     doubt_called start e old new list u v w p d world told living plan h status fits opens serves bare allowed notes none records run lines left says silent answers =
         let one = Accepted plan ∷ [] in
         let on = Kept (Accepted plan) ∷ [] in
@@ -460,19 +498,20 @@ module _ {D : Type 0} (entries : Image → List (List ℕ) → Type 0) (files : 
               history = on;
               went = went;
               after = start_spares laws (IsBelow artifacts) new;
-              bare = record { parts = bare.parts; boot = bare.boot };
               ending = ending_over e;
               answers = over_answers e status answers;
               prints = over_prints (StandsBehind entries may_leave new p on) e u u v w p.device one status (λ edge. edge_behind entries may_leave e new p on edge behind) (opening_none u p.device (ap (λ (x : Device). x.pending) opens.stands.device_is ∙ none))
                   (subst (λ (l : List Record). LinesAt u v p.device l e) records lines) says silent answers;
               ends = over_ends e on (left_by p on);
-              stops = λ same. over_stops e (left_by p on);
+              end = over_end entries may_leave new e p on status (record { parts = bare.parts; boot = bare.boot }) behind answers;
               stands = over_most entries may_leave e new p on went.run behind;
+              doubt = over_doubt entries may_leave e new p on behind;
               once = takes_once p on serves went.proper;
             },
             begins_by start plan (ending_over e) one [] (over_begun e) fits refl tt,
           ),
           (λ holds. went_whole laws files entries apart old new list list p on went (all_before (may_leave old) p.device plan one [] refl tt holds)),
+          refl,
         )
       where
         over_begun : (e : Over) → IsBegun (ending_over e)
@@ -480,8 +519,8 @@ module _ {D : Type 0} (entries : Image → List (List ℕ) → Type 0) (files : 
         over_begun over.Edge = tt
 
         left_as : (e : Over) → (left_by p h).device ≡ applied p.device (Accepted plan) → records_of h ≡ Accepted plan ∷ [] → LeftAt entries may_leave new p h e → LeftAt entries may_leave new p (Kept (Accepted plan) ∷ []) e
-        left_as over.Disk device records left = λ c may. subst (λ (l : List Record). StandsForMost entries p.device l c) records (left c may)
-        left_as over.Edge device records left = λ c may. subst (λ (x : Device). StandsFor entries c x) device (left c may)
+        left_as over.Disk device records left = (stops_last (Accepted plan), λ c may. subst (λ (l : List Record). StandsForMost entries p.device l c) records (left.1 c may))
+        left_as over.Edge device records left = (opens.boot_end, λ c may. subst (λ (x : Device). StandsFor entries c x) device (left.1 c may))
 
   -- with files that are taken in before it
   abbrev called_behind : (old mid new : D) (a b : Option (List RunnerEntry)) (u v : Option (List ℕ)) (p : Place) (status : Status) → Spared may_leave moment left_since old mid
@@ -493,27 +532,30 @@ module _ {D : Type 0} (entries : Image → List (List ℕ) → Type 0) (files : 
     history = c.history;
     went = c.went;
     after = c.after;
-    bare = c.bare;
     ending = c.ending;
     answers = c.answers;
     prints = c.prints;
     ends = c.ends;
-    stops = c.stops;
+    end = c.end;
     stands = c.stands;
+    doubt = c.doubt;
     once = c.once;
   }
 
   -- a plan that was taken in is driven
-  pub taken_behind : (start : ℕ → ℕ) (old mid new : D) (a b : Option (List RunnerEntry)) (u v : Option (List ℕ)) (p : Place) (status : Status) (plan : code.Plan) → Spared may_leave moment left_since old mid
+  pub taken_behind : {X Y : Type 0} (start : ℕ → ℕ) (old mid new : D) (a b : Option (List RunnerEntry)) (u v : Option (List ℕ)) (p : Place) (status : Status) (plan : code.Plan) → Spared may_leave moment left_since old mid
       → (AllHoldDevice (may_leave old) p.device → (records : List Record) → Leaves moment left_since old mid (StandsWhole entries p.device records))
       → (AllHoldDevice (may_leave old) p.device → AllHoldBoth (may_leave mid) p.device (plan_view plan).items)
       → (s : DrivesPlan entries files may_leave moment left_since mid new a b u v p status start (plan_view plan))
       × (AllHoldBoth (may_leave mid) p.device (plan_view plan).items → KeepsArtifacts entries files may_leave moment left_since mid new a b u v p status s.0)
+      × (s.0.ending ≡ Fails → X) → (X → Y)
       → (t : DrivesTaken entries files may_leave moment left_since old new a b u v p status start (Ok plan))
       × (AllHoldDevice (may_leave old) p.device → KeepsArtifacts entries files may_leave moment left_since old new a b u v p status t.0)
-  taken_behind start old mid new a b u v p status plan first whole gives drives =
+      × (t.0.ending ≡ Fails → Y)
+  taken_behind start old mid new a b u v p status plan first whole gives drives on =
       let c = drives.0.0 in
       let is = StandsWhole entries p.device (records_of c.history) in (
         (called_behind old mid new a b u v p status first c, drives.0.1),
         (λ holds. joined laws old mid new is is is (whole holds (records_of c.history)) (drives.1 (gives holds)) (λ i w. w) (λ i w. w)),
+        (λ fails. on (drives.2 fails)),
       )

@@ -6,6 +6,7 @@ use Rattle.std.proofs.Common.{◌≡◌, ◌↔◌, ◌⊎◌, ◌∙◌, inl, i
 use Rattle.std.proofs.lemmas.Bool.{false≢true}
 use Rattle.nuc_base.specs.declared.kinds.Outcome.{Outcome}
 use Rattle.nuc_base.specs.declared.kinds.Step.{Step}
+use Rattle.nuc_base.specs.declared.status.Status.{Status}
 use Rattle.records.specs.Stored.{Record}
 use Rattle.device.specs.Devices.{Device}
 use Rattle.step_runner.specs.Entries.{Told}
@@ -13,22 +14,25 @@ use Rattle.step_runner.specs.declared.entries.Seen.{Seen}
 use Rattle.step_runner.specs.declared.entries.Seen.TheVariants as seen
 use Rattle.supervisor.specs.World.{World, Child, Part, is_childless, is_over, is_stopped, owner, owner_from}
 use Rattle.supervisor.specs.Answers.{living_numbers}
+use Rattle.supervisor.specs.Turns.{owes}
 use Rattle.supervisor.specs.declared.kinds.Prepared.{Prepared}
 use Rattle.supervisor_laws.specs.Sound.{AreSound, Differ, HaveOwnNames, IsOrderly}
 use Rattle.session.specs.Phases.{Crew, Phase, activating, backing, booting, duty_of, earlier, idle, is_idle, leaving, rolling}
 use Rattle.session.specs.Happenings.{Happening, Ran, Booted, Slept, Cut, Kept, Moved, Asked, Heard, Questioned, Changed, StopsAll}
 use Rattle.session.specs.Places.{Place, booted, cut_off, leaves, left_by}
 use Rattle.session.specs.Follows.{IsBootChild, Lives, MayStopAll}
-use Rattle.session.specs.Courses.{IsBare, Stands}
+use Rattle.session.specs.Courses.{IsBare, IsEnd, Stands, gives_up, is_restart}
 use Rattle.driver.specs.Stands.{IsBetween, IsFront}
 use Rattle.driver.proofs.Entries.{never}
 use Rattle.driver.proofs.Still.{childless}
 use Rattle.activation.specs.Ended.{HasClosed}
-use Rattle.stopping.specs.Stops.{MayStop, StopLeft}
-use Rattle.stopping.specs.declared.stops.Stopped.{Stopped}
+use Rattle.stopping.specs.Stops.{HasStopped, MayStop}
 use Rattle.stage_changes.specs.Fails.{IsGivenUp}
 use Rattle.stage_changes.proofs.Closing.{no_other}
 use Rattle.acceptance.specs.Accepts.{IsOpen, IsOpened, crew_of}
+use Rattle.refusal_lines.specs.Statuses.{status_of_outcome}
+use Rattle.deployments.specs.Calls.{IsOrEdge}
+use Rattle.deployments.proofs.Statuses.{outcome_no_restart}
 
 -- ---- whether the call serves an inbox
 
@@ -130,11 +134,52 @@ orderly_none w none = record {
 none_there : (p : Place) (d : Device) (world : World) (told : Told) (living : List ℕ) → Stands p d world told living → world.parts ≡ [] → p.world.parts ≡ []
 none_there p d world told living s none = ap (λ (w : World). w.parts) s.world_is ∙ none
 
-pub open_bare : (p : Place) (d : Device) (world : World) (told : Told) (living : List ℕ) → world.parts ≡ [] → IsOpen p d world told living → IsBare p
-open_bare p d world told living none o = record {
-  parts = childless p.world (stopped_none p.world (none_there p d world told living o.stands none));
+-- Nothing is open, no failure is owed, and all components are stopped.
+pub record IsShut (p : Place) : Type 0 where
+  pub stopped : is_stopped p.world ≡ true
+  pub told : list_any owes p.world.parts ≡ false
+  pub boot : p.boot ≡ None
+  pub boot_end : p.boot_end ≡ None
+  pub over : p.over ≡ false
+  pub cut : p.cut ≡ false
+
+pub open_shut : (p : Place) (d : Device) (world : World) (told : Told) (living : List ℕ) → world.parts ≡ [] → IsOpen p d world told living → IsShut p
+open_shut p d world told living none o = record {
+  stopped = stopped_none p.world (none_there p d world told living o.stands none);
+  told = o.quiet.told;
   boot = o.boot;
+  boot_end = o.boot_end;
+  over = o.over;
+  cut = o.cut;
 }
+
+pub front_shut : (p : Place) (d : Device) (world : World) (told : Told) (living : List ℕ) → IsFront p d world told living → IsShut p
+front_shut p d world told living f = record {
+  stopped = f.between.still.stopped;
+  told = f.between.still.quiet.told;
+  boot = f.between.boot;
+  boot_end = f.between.boot_end;
+  over = f.over;
+  cut = f.between.still.cut;
+}
+
+pub shut_bare : (p : Place) → IsShut p → IsBare p
+shut_bare p s = record { parts = childless p.world s.stopped; boot = s.boot }
+
+-- so a call may end that does nothing
+pub shut_ends : (p : Place) (status : Status) (rose : Bool) → IsShut p → is_restart status ≡ false → IsEnd p status rose
+shut_ends p status rose s other = record {
+  bare = shut_bare p s;
+  stopped = λ stays. s.stopped;
+  cut = λ is. absurd (never p.cut s.cut is);
+  told = λ closed. s.told;
+  recorded = inl s.boot_end;
+  restarts = λ is. absurd (never (is_restart status) other is);
+  over = λ is. absurd (never p.over s.over is);
+}
+
+pub open_bare : (p : Place) (d : Device) (world : World) (told : Told) (living : List ℕ) → world.parts ≡ [] → IsOpen p d world told living → IsBare p
+open_bare p d world told living none o = shut_bare p (open_shut p d world told living none o)
 
 pub open_none : (p : Place) (d : Device) (world : World) (told : Told) (living : List ℕ) → world.parts ≡ [] → IsOpen p d world told living → living ≡ []
 open_none p d world told living none o = bare_none p d world told living o.stands (open_bare p d world told living none o)
@@ -194,7 +239,24 @@ module _ (o : Outcome) (records : List Record) (p : Place) (d : Device) (world :
     children = λ n. no_other p n living c.back.boot (c.stands.children n);
   }
 
--- ---- behind the stop of all
+-- behind the stop of all
+pub stopped_ends : (o : Outcome) (p : Place) (d : Device) (world : World) (told : Told) (living : List ℕ) (status : Status) → HasStopped p d world told living → status ≡ status_of_outcome o → IsEnd p status false
+stopped_ends o p d world told living status s is =
+    subst (λ (x : Status). IsEnd p x false) (sym is)
+    (shut_ends p (status_of_outcome o) false (record { stopped = s.stopped; told = s.quiet.told; boot = s.bare.boot; boot_end = s.boot_end; over = s.over; cut = s.cut }) (outcome_no_restart o))
 
-pub stop_left : (k t : Stopped) (n : ℕ) (q : Place) (d : Device) (world : World) (told : Told) (living : List ℕ) → k ≡ t → StopLeft k n q d world told living → StopLeft t n q d world told living
-stop_left k t n q d world told living is left = subst (λ (x : Stopped). StopLeft x n q d world told living) is left
+-- where a bootstrap asks that the call ends
+pub restart_ends : (p : Place) (d : Device) (world : World) (told : Told) (living : List ℕ) (status again : Status) → IsBetween p d world told living → p.over ≡ true → is_restart again ≡ true → IsOrEdge status again → IsEnd p status false
+restart_ends p d world told living status again b over restarts answers = record {
+  bare = between_bare p d world told living b;
+  stopped = λ stays. b.still.stopped;
+  cut = λ is. absurd (never p.cut b.still.cut is);
+  told = λ closed. b.still.quiet.told;
+  recorded = inl b.boot_end;
+  restarts = λ is. over;
+  over = λ is. ends answers;
+}
+  where
+    ends : IsOrEdge status again → (is_restart status ≡ true) ⊎ (gives_up status ≡ true)
+    ends (inl same) = inl (ap is_restart same ∙ restarts)
+    ends (inr edge) = inr (ap gives_up edge)

@@ -21,7 +21,6 @@ use Rattle.intake.specs.declared.fault.Declined.TheVariants.{Unstaged}
 use Rattle.deployments.specs.Calls.{AnswersOver, EndsClosed, IsOrEdge, Prints, SaysEnding, SaysLine, SaysRefusal, call_lines, opening_line, resumed_line}
 use Rattle.deployments.specs.Declines.{large_line, line_of_declined, mismatch_line, status_of_declined}
 use Rattle.deployments.specs.Endings.{Ending, Closes, Restarts, Reboots, Fails, Breaks, Forgets, Starves, Declines, Full, Idle, line_of_ending}
-use Rattle.deployments.proofs.Statuses.{StopsAs}
 
 front_joined : (a b c : Option (List ℕ)) (x y : List ℕ) → Appends a b x → AppendsFront b c y → AppendsFront a c (x ++ y)
 front_joined a b c x y one two = (
@@ -167,10 +166,3 @@ over_prints sure over.Disk a b c f d records status stable before lines says sil
     told_prints sure a b c f d records lines.0 (lines.1 ∷ []) Fails status (λ none. cc) (λ is. cc) before lines.3 lines.2 (omega arith) (λ other. absurd (other refl)) says
 over_prints sure over.Edge a b c f d records status stable before lines says silent answers =
     subst (λ (x : Option (List ℕ)). Prints a x d records Breaks status sure) (sym (silent refl)) (edge_prints sure a b c d records status (stable refl) before lines answers)
-
--- ---- behind a close
-
--- all components were stopped, or there was no memory for that
-pub stops_ends : {X : Type 0} (o : Outcome) (status : Status) (held : Option (List ℕ)) → StopsAs o status X → SaysEnding held held status (EndsClosed o)
-stops_ends o status held (inl is) = (Closes o, inl refl, says_none held held status refl, inl is)
-stops_ends o status held (inr more) = (Forgets, inr (inl refl), says_none held held status refl, inl more.0)

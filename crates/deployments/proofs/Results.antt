@@ -8,6 +8,7 @@ use Rattle.driver.specs.declared.over.Over.TheVariants as over
 use Rattle.deploying.specs.declared.driven.Driven.{Driven}
 use Rattle.deploying.specs.declared.driven.Driven.TheVariants as driven
 use Rattle.deployments.specs.Calls.{AnswersFor, EndsFor, SaysEnding}
+use Rattle.deployments.specs.Endings.{Ending, Fails}
 use Rattle.deployments.proofs.Statuses.{no_outcome}
 
 module _ {A E : Type 0} where
@@ -38,14 +39,18 @@ module _ {J : Type 0} (status : Status) where
   answers_err r e f is same answers =
       subst (λ (z : Result (Driven J) Over). AnswersFor z status) (sym is) (subst (λ (z : Over). AnswersFor {J = J} (Err z) status) (sym same) answers)
 
-  module _ (old new : Option (List ℕ)) where
-    pub ends_ok : (r : Result (Driven J) Over) (x y : Driven J) → r ≡ Ok x → x ≡ y → SaysEnding old new status (EndsFor (Ok y)) → SaysEnding old new status (EndsFor r)
-    ends_ok r x y is same says =
-        subst (λ (z : Result (Driven J) Over). SaysEnding old new status (EndsFor z)) (sym is) (subst (λ (z : Driven J). SaysEnding old new status (EndsFor (Ok z))) (sym same) says)
+  -- with the cause of a disk that failed
+  abbrev EndsCaused : Type 0 → Result (Driven J) Over → Ending → Type 0
+  EndsCaused R r e = EndsFor r e × (e ≡ Fails → (IsErrOf r over.Disk) ⊎ R)
 
-    pub ends_err : (r : Result (Driven J) Over) (e f : Over) → r ≡ Err e → e ≡ f → SaysEnding old new status (EndsFor {J = J} (Err f)) → SaysEnding old new status (EndsFor r)
-    ends_err r e f is same says =
-        subst (λ (z : Result (Driven J) Over). SaysEnding old new status (EndsFor z)) (sym is) (subst (λ (z : Over). SaysEnding old new status (EndsFor {J = J} (Err z))) (sym same) says)
+  module _ (old new : Option (List ℕ)) where
+    pub ends_ok : {R : Type 0} (r : Result (Driven J) Over) (x y : Driven J) → r ≡ Ok x → x ≡ y → SaysEnding old new status (EndsCaused R (Ok y)) → SaysEnding old new status (EndsCaused R r)
+    ends_ok {R = R} r x y is same says =
+        subst (λ (z : Result (Driven J) Over). SaysEnding old new status (EndsCaused R z)) (sym is) (subst (λ (z : Driven J). SaysEnding old new status (EndsCaused R (Ok z))) (sym same) says)
+
+    pub ends_err : {R : Type 0} (r : Result (Driven J) Over) (e f : Over) → r ≡ Err e → e ≡ f → SaysEnding old new status (EndsCaused R (Err f)) → SaysEnding old new status (EndsCaused R r)
+    ends_err {R = R} r e f is same says =
+        subst (λ (z : Result (Driven J) Over). SaysEnding old new status (EndsCaused R z)) (sym is) (subst (λ (z : Over). SaysEnding old new status (EndsCaused R (Err z))) (sym same) says)
 
 -- it failed, and not at the sink
 pub not_edge : {A : Type 0} (r : Result A Over) (e : Over) → r ≡ Err e → e ≡ over.Disk → IsErrOf r over.Edge → ⊥
@@ -67,7 +72,6 @@ module _ {J : Type 0} (status : Status) where
   answers_own (Ok (driven.Restart s)) (inr is) lib = cc
   answers_own (Ok (driven.Reboot s)) (inl is) lib = cc
   answers_own (Ok (driven.Reboot s)) (inr is) lib = cc
-  answers_own (Ok (driven.More s)) is lib = cc
   answers_own (Err over.Disk) (inl is) lib = cc
   answers_own (Err over.Disk) (inr is) lib = cc
   answers_own (Err over.Edge) is lib = cc

@@ -6,6 +6,7 @@ use Rattle.nuc_base.specs.declared.kinds.Outcome.{Outcome}
 use Rattle.nuc_base.specs.declared.kinds.Outcome.TheVariants as outcome
 use Rattle.nuc_base.specs.declared.status.Status.{Status}
 use Rattle.nuc_base.specs.declared.status.Status.TheVariants as statuses
+use Rattle.session.specs.Courses.{gives_up, is_restart, leaves_open}
 use Rattle.library_core.specs.declared.fault.CandidatesFault.{CandidatesFault}
 use Rattle.library_core.specs.declared.fault.CandidatesFault.TheVariants as gather
 use Rattle.plan_core.specs.declared.fault.PlanFault.{PlanFault}
@@ -53,13 +54,15 @@ of_outcome outcome.RollbackComplete = refl
 of_outcome outcome.RollbackNotRequested = refl
 of_outcome outcome.UnableToRollback = refl
 
+pub outcome_no_restart : (o : Outcome) → is_restart (status_of_outcome o) ≡ false
+outcome_no_restart outcome.Successful = refl
+outcome_no_restart outcome.RollbackComplete = refl
+outcome_no_restart outcome.RollbackNotRequested = refl
+outcome_no_restart outcome.UnableToRollback = refl
+
 -- no outcome has another one
 pub no_outcome : (o : Outcome) (s : Status) → closes s ≡ false → status_of_outcome o ≡ s → ⊥
 no_outcome o s never is = true≢false (sym (of_outcome o) ∙ ap closes is ∙ never)
-
-pub no_close : (o : Outcome) (status s : Status) → closes s ≡ false → IsOrEdge status s → status ≡ status_of_outcome o → ⊥
-no_close o status s never (inl given) is = no_outcome o s never (sym is ∙ given)
-no_close o status s never (inr edge) is = no_outcome o statuses.Edge refl (sym is ∙ edge)
 
 abbrev outcome_of : Status → Outcome
 outcome_of statuses.RolledBack = outcome.RollbackComplete
@@ -76,27 +79,6 @@ back_again outcome.UnableToRollback = refl
 -- each has its own
 pub same_outcome : (a b : Outcome) → status_of_outcome a ≡ status_of_outcome b → a ≡ b
 same_outcome a b is = sym (back_again a) ∙ ap outcome_of is ∙ back_again b
-
--- the status of a close that all components were stopped behind, or want of memory
-abbrev pub StopsAs : Outcome → Status → Type 0 → Type 0
-StopsAs o status X = (status ≡ status_of_outcome o) ⊎ ((status ≡ statuses.Memory) × X)
-
--- with what holds behind the former
-pub stops_as : {X Y : Type 0} (o : Outcome) (status : Status) → ((status ≡ status_of_outcome o) × Y) ⊎ ((status ≡ statuses.Memory) × X) → StopsAs o status X
-stops_as o status (inl both) = inl both.0
-stops_as o status (inr more) = inr more
-
-pub stops_where : {X Y : Type 0} (o : Outcome) (status : Status) → ((status ≡ status_of_outcome o) × Y) ⊎ ((status ≡ statuses.Memory) × X) → status ≡ status_of_outcome o → Y
-stops_where o status (inl both) is = both.1
-stops_where o status (inr more) is = absurd (no_outcome o statuses.Memory refl (sym is ∙ more.0))
-
-pub stops_answer : {X : Type 0} (o : Outcome) (status : Status) → StopsAs o status X → (status ≡ status_of_outcome o) ⊎ (status ≡ statuses.Memory) ⊎ (status ≡ statuses.Disk) ⊎ (status ≡ statuses.Edge)
-stops_answer o status (inl is) = inl is
-stops_answer o status (inr more) = inr (inl more.0)
-
-pub stops_never : {X : Type 0} (o : Outcome) (status s : Status) → closes s ≡ false → (s ≡ statuses.Memory → ⊥) → StopsAs o status X → status ≡ s → ⊥
-stops_never o status s never other (inl given) is = no_outcome o s never (sym given ∙ is)
-stops_never o status s never other (inr more) is = other (sym is ∙ more.0)
 
 -- ---- of a refusal
 
@@ -199,6 +181,35 @@ no_declined (Unstaged (stage.Missing file)) s never disk artifact is = artifact 
 no_declined (Unstaged (stage.TooLarge file bytes)) s never disk artifact is = true≢false (ap may_refuse is ∙ never)
 no_declined (Unstaged (stage.Mismatch file digest)) s never disk artifact is = artifact (sym is)
 no_declined (Unstaged stage.NoMemory) s never disk artifact is = true≢false (ap may_refuse is ∙ never)
+
+-- none asks for a restart
+refuses_no_restart : (s : Status) → may_refuse s ≡ true → is_restart s ≡ false
+refuses_no_restart statuses.Restart is = absurd cc
+refuses_no_restart statuses.Reboot is = absurd cc
+refuses_no_restart s is = refl
+
+pub declined_no_restart : (d : Declined) → is_restart (status_of_declined d) ≡ false
+declined_no_restart (Refused r) = refuses_no_restart (status_of_refusal r) (refuses r)
+declined_no_restart (Unstaged stage.Disk) = refl
+declined_no_restart (Unstaged stage.Library) = refl
+declined_no_restart (Unstaged (stage.Missing file)) = refl
+declined_no_restart (Unstaged (stage.TooLarge file bytes)) = refl
+declined_no_restart (Unstaged (stage.Mismatch file digest)) = refl
+declined_no_restart (Unstaged stage.NoMemory) = refl
+
+pub no_restart : (status given : Status) → IsOrEdge status given → is_restart given ≡ false → is_restart status ≡ false
+no_restart status given (inl same) other = ap is_restart same ∙ other
+no_restart status given (inr edge) other = ap is_restart edge
+
+-- where failures may be left without their records the call gives up
+pub opens_gives : (s : Status) → leaves_open s ≡ true → (gives_up s ≡ true) × (is_restart s ≡ false)
+opens_gives statuses.Disk is = (refl, refl)
+opens_gives statuses.Edge is = (refl, refl)
+opens_gives s is = absurd cc
+
+pub disk_opens : (status : Status) → IsOrEdge status statuses.Disk → leaves_open status ≡ true
+disk_opens status (inl same) = ap leaves_open same
+disk_opens status (inr edge) = ap leaves_open edge
 
 -- with the status of the disk or of the library it failed, and where it failed it has that status
 pub declined_disk : (d : Declined) → status_of_declined d ≡ statuses.Disk → HasDiskFailed (Err d)

@@ -16,13 +16,13 @@ use Rattle.device.specs.Devices.{Device}
 use Rattle.device.specs.Standing.{StandsFor}
 use Rattle.deploy_state.specs.States.{loaded_device}
 use Rattle.step_runner.specs.declared.entries.RunnerEntry.{RunnerEntry}
-use Rattle.supervisor.specs.World.{is_stopped}
-use Rattle.session.specs.Courses.{IsBare}
+use Rattle.session.specs.Courses.{IsEnd}
 use Rattle.session.specs.Happenings.{Happening, records_of}
 use Rattle.session.specs.Once.{TakesOnce}
 use Rattle.session.specs.Places.{Place, left_by}
 use Rattle.driver.specs.Booted.{AsksFor}
 use Rattle.driver.specs.Lines.{id_of, lines_of}
+use Rattle.driver.specs.Over.{StopsAt}
 use Rattle.driver.specs.Went.{StandsForFront, StandsForMost, Went}
 use Rattle.driver.specs.declared.over.Booted.TheVariants as booted
 use Rattle.driver.specs.declared.over.Over.{Over}
@@ -30,12 +30,11 @@ use Rattle.driver.specs.declared.over.Over.TheVariants as over
 use Rattle.supervisor.specs.Fitted.{Fitted}
 use Rattle.supervisor.specs.declared.kinds.Prepared.{Prepared}
 use Rattle.activation.specs.Ended.{ClosesAs}
-use Rattle.activation.specs.Turns.{moments_in, most_turns}
 use Rattle.preparation.specs.Readied.{IsReadied}
 use Rattle.deploying.specs.declared.driven.Driven.{Driven}
 use Rattle.deploying.specs.declared.driven.Driven.TheVariants as driven
 use Rattle.refusal_lines.specs.Statuses.{status_of_outcome}
-use Rattle.deployments.specs.Endings.{Ending, Closes, Restarts, Reboots, Fails, Breaks, Forgets, Starves, Declines, Full, Idle, line_of_ending, status_of_ending}
+use Rattle.deployments.specs.Endings.{Ending, Closes, Restarts, Reboots, Fails, Breaks, Forgets, Starves, Declines, Full, Idle, is_failing, line_of_ending, status_of_ending}
 
 -- ---- lines
 
@@ -88,39 +87,19 @@ abbrev pub IsPendingAs : List ℕ → Device → Type 0
 IsPendingAs id d = IsSomeAnd d.pending (λ q. q.plan.id ≡ id)
 
 -- The last record is that the deployment closed so, and nothing is pending; or it asks for the restart or the reboot of the
--- pending deployment. Want of memory leaves no deployment unfinished that this call began or drove on, unless the history asks
--- for the moment so often. Where none is begun or driven on nothing happens.
+-- pending deployment. Want of memory leaves no deployment unfinished that this call began or drove on. Where none is begun or
+-- driven on nothing happens.
 abbrev pub Ends : Ending → List Happening → Place → Type 0
 Ends (Closes o) h q = ClosesAs o (records_of h) × (q.device.pending ≡ None)
 Ends (Restarts id) h q = AsksFor booted.Restart (records_of h) q.device × IsPendingAs id q.device
 Ends (Reboots id) h q = AsksFor booted.Reboot (records_of h) q.device × IsPendingAs id q.device
 Ends Fails h q = ⊤
 Ends Breaks h q = ⊤
-Ends Forgets h q = ((o : Outcome) × ClosesAs o (records_of h)) ⊎ (most_turns ≤ moments_in h)
+Ends Forgets h q = (o : Outcome) × ClosesAs o (records_of h)
 Ends Starves h q = h ≡ []
 Ends (Declines d) h q = h ≡ []
 Ends (Full at) h q = h ≡ []
 Ends Idle h q = (h ≡ []) × (q.device.pending ≡ None)
-
--- All components are stopped, none was killed for the end of the call, and no end of a bootstrap is still to be recorded.
-pub record AreStopped (q : Place) : Type 0 where
-  pub stopped : is_stopped q.world ≡ true
-  pub cut : q.cut ≡ false
-  pub recorded : q.boot_end ≡ None
-
--- So it is where the call closes its deployment, or ends for the restart or the reboot that a bootstrap asks for.
-abbrev pub Stops : Ending → Place → Type 0
-Stops (Closes o) q = AreStopped q
-Stops (Restarts id) q = AreStopped q × (q.over ≡ true)
-Stops (Reboots id) q = AreStopped q × (q.over ≡ true)
-Stops _ q = ⊤
-
--- so it is where a deployment was driven so and the call ends with this status
-abbrev pub StopsFor : {J : Type 0} → Driven J → Status → Place → Type 0
-StopsFor (driven.Closed s o) status q = status ≡ status_of_outcome o → AreStopped q
-StopsFor (driven.Restart s) status q = AreStopped q × (q.over ≡ true)
-StopsFor (driven.Reboot s) status q = AreStopped q × (q.over ≡ true)
-StopsFor (driven.More s) status q = ⊤
 
 module _ (entries : Image → List (List ℕ) → Type 0) {D : Type 0} (may_leave : D → Image → Type 0) where
   -- each image that a crash may leave now stands for the device that the history leaves
@@ -145,9 +124,11 @@ Spared may_leave moment left_since old new = Leaves moment left_since old new (A
 
 module _ (entries : Image → List (List ℕ) → Type 0) (files : List ℕ → Type 0) {D : Type 0} (may_leave : D → Image → Type 0) (moment : D → ℕ) (left_since : D → ℕ → Image → Type 0) where
   -- Files of artifacts change, then the history goes on from its first record to its last, and then files of artifacts change
-  -- again. At the end no child lives. How the call ends gives its status, its lines, its last record, and what the disk holds: each image stands
-  -- for the device of all records, or of all but the last, whose line is then not written. One plan is accepted at most, and none
-  -- where one was pending.
+  -- again. It ends as that of a session that answers this status: no child lives, and all components are stopped unless the call gives
+  -- up; with another status than 5 and 6 each failure is recorded, and each end of a bootstrap but where the disk failed. How the call
+  -- ends gives its status, its lines, its last record, and what the disk holds: each image stands for the device of all records, or of
+  -- all but the last, whose line is then not written, and behind which nothing is started. One plan is accepted at most, and none where
+  -- one was pending.
   pub record Call (old new : D) (old_list new_list : Option (List RunnerEntry)) (old_held new_held : Option (List ℕ)) (p : Place) (status : Status) : Type 0 where
     pub from : D
     pub to : D
@@ -155,13 +136,13 @@ module _ (entries : Image → List (List ℕ) → Type 0) (files : List ℕ → 
     pub history : List Happening
     pub went : Went entries files may_leave moment left_since from to old_list new_list p history
     pub after : Spared may_leave moment left_since to new
-    pub bare : IsBare (left_by p history)
     pub ending : Ending
     pub answers : IsOrEdge status (status_of_ending ending)
     pub prints : Prints old_held new_held p.device (records_of history) ending status (StandsBehind entries may_leave new p history)
     pub ends : Ends ending history (left_by p history)
-    pub stops : status ≡ status_of_ending ending → Stops ending (left_by p history)
+    pub end : IsEnd (left_by p history) status (is_failing ending)
     pub stands : (c : Image) → may_leave new c → StandsForMost entries p.device (records_of history) c
+    pub doubt : StandsBehind entries may_leave new p history ⊎ StopsAt history
     pub once : TakesOnce p.taken (records_of history)
 
 -- ---- counts of faults
@@ -185,7 +166,6 @@ abbrev pub EndsFor : {J : Type 0} → Result (Driven J) Over → Ending → Type
 EndsFor (Ok (driven.Closed s o)) ending = EndsClosed o ending
 EndsFor (Ok (driven.Restart s)) ending = ending ≡ Restarts (id_of (loaded_device s))
 EndsFor (Ok (driven.Reboot s)) ending = ending ≡ Reboots (id_of (loaded_device s))
-EndsFor (Ok (driven.More s)) ending = ending ≡ Forgets
 EndsFor (Err over.Disk) ending = ending ≡ Fails
 EndsFor (Err over.Edge) ending = ending ≡ Breaks
 
@@ -203,7 +183,6 @@ abbrev pub AnswersFor : {J : Type 0} → Result (Driven J) Over → Status → T
 AnswersFor (Ok (driven.Closed s o)) status = (status ≡ status_of_outcome o) ⊎ (status ≡ statuses.Memory) ⊎ (status ≡ statuses.Disk) ⊎ (status ≡ statuses.Edge)
 AnswersFor (Ok (driven.Restart s)) status = (status ≡ statuses.Restart) ⊎ (status ≡ statuses.Edge)
 AnswersFor (Ok (driven.Reboot s)) status = (status ≡ statuses.Reboot) ⊎ (status ≡ statuses.Edge)
-AnswersFor (Ok (driven.More s)) status = status ≡ statuses.Memory
 AnswersFor (Err e) status = AnswersOver e status
 
 -- what a plan and its way back need is made ready for a device of some origin

@@ -1,5 +1,5 @@
 -- How a call ends that drives one deployment: why, with which status, and with which line.
-use Rattle.std.specs.Prelude.{◌≡◌, ◌⊎◌, ℕ, List, [], ◌++◌, Option, Some, None, ⊤, codes, decimal}
+use Rattle.std.specs.Prelude.{◌≡◌, ◌⊎◌, ℕ, Bool, true, false, List, [], ◌++◌, Option, Some, None, ⊤, codes, decimal}
 use Rattle.nuc_base.specs.declared.kinds.Outcome.{Outcome}
 use Rattle.nuc_base.specs.declared.status.Status.{Status}
 use Rattle.nuc_base.specs.declared.status.Status.TheVariants as statuses
@@ -64,6 +64,11 @@ line_of_ending Starves = []
 line_of_ending (Declines d) = line_of_declined d
 line_of_ending (Full at) = full_line at
 line_of_ending Idle = codes "idle\n"
+
+-- the disk failed in the call
+abbrev pub is_failing : Ending → Bool
+is_failing Fails = true
+is_failing ending = false
 
 -- a deployment was begun or driven on
 abbrev pub IsBegun : Ending → Type 0

@@ -10,15 +10,16 @@ ghost use Rattle.records.specs.Stored.{Record};
 ghost use Rattle.device.specs.Devices.{Device};
 ghost use Rattle.deploy_state.specs.States.{idle_device};
 ghost use Rattle.step_runner.specs.Entries.{Listed};
-ghost use Rattle.session.specs.Courses.{IsBare};
+ghost use Rattle.session.specs.Courses.{IsEnd};
 ghost use Rattle.session.specs.Happenings.{Happening};
 ghost use Rattle.session.specs.Places.{Place, left_by};
 ghost use Rattle.driver.specs.Went.{Acts};
 ghost use Rattle.activation.specs.Ended.{HasClosed};
-ghost use Rattle.activation.specs.Turns.{moments_in, most_turns};
+ghost use Rattle.ending_laws.specs.Drives.{Drives};
 ghost use Rattle.stopping.specs.Stops.{MayStop};
 ghost use Rattle.refusal_lines.specs.Statuses.{status_of_outcome};
-ghost use Rattle.deployments.specs.Calls.{AreStopped, EndsClosed, SaysEnding, Spared};
+ghost use Rattle.deployments.specs.Calls.{EndsClosed, SaysEnding, Spared};
+ghost use Rattle.deployments.specs.Endings.{Fails};
 
 use crate::lines::say_disk;
 use artifact_store::{SweepFault, sweep};
@@ -31,23 +32,20 @@ use nuc_base::{Outcome, Status};
 use refusal_lines::outcome_status;
 use std::alloc::Global;
 use step_runner::Runner;
-use stopping::{Stopped, stop_all_components};
+use stopping::stop_all_components;
 use supervisor::Supervise;
 
 /// Stops all components, and answers how the deployment closed.
 fn stop<R: Runner, S: Supervise>(outcome: Outcome, runner: &mut R, supervisor: &mut S) -> Status
+    requires drives { Drives (S.world supervisor.old) }
     requires placed { (p : Place) × (d : Device) × MayStop p d (S.world supervisor.old) (Listed R.list R.told R.asked runner.old) (R.living runner.old) }
     ensures went { (p : Place) → (d : Device) → MayStop p d (S.world supervisor.old) (Listed R.list R.told R.asked runner.old) (R.living runner.old) →
-        (h : List Happening) × Acts p h (R.list runner.old) (R.list runner.new) × IsBare (left_by p h) × (((result ≡ status_of_outcome outcome) × AreStopped (left_by p h)) ⊎ ((result ≡ statuses.Memory) × (most_turns ≤ moments_in h))) }
+        (h : List Happening) × Acts p h (R.list runner.old) (R.list runner.new) × IsEnd (left_by p h) result false }
+    ensures answers { result ≡ status_of_outcome outcome }
     ensures none { R.living runner.new ≡ [] }
 {
-    match stop_all_components(runner, supervisor) {
-        Stopped::All => outcome_status(outcome),
-        Stopped::More => {
-            kill_all(runner, supervisor);
-            Status::Memory
-        }
-    }
+    stop_all_components(runner, supervisor);
+    outcome_status(outcome)
 }
 
 /// Sweeps stray files, stops all components, and answers how the deployment closed. Where the sweep fails all children are
@@ -61,15 +59,16 @@ pub(crate) fn end_closed<D: Disk, J: Journal + Drop, K: Sink, R: Runner, S: Supe
     runner: &mut R,
     supervisor: &mut S,
 ) -> Status
+    requires drives { Drives (S.world supervisor.old) }
     requires placed { (p : Place) × (records : List Record) × HasClosed outcome records p (idle_device idle.now) (S.world supervisor.old) (Listed R.list R.told R.asked runner.old) (R.living runner.old) × (p.serves ≡ false) }
     ensures went { (p : Place) → (records : List Record) → HasClosed outcome records p (idle_device idle.now) (S.world supervisor.old) (Listed R.list R.told R.asked runner.old) (R.living runner.old) → (p.serves ≡ false) →
-        (h : List Happening) × Acts p h (R.list runner.old) (R.list runner.new) × IsBare (left_by p h) × (result ≡ status_of_outcome outcome → AreStopped (left_by p h)) }
+        (h : List Happening) × Acts p h (R.list runner.old) (R.list runner.new) × IsEnd (left_by p h) result false }
     ensures none { R.living runner.new ≡ [] }
     ensures spared { Spared D.may_leave D.moment D.left_since disk.old disk.new }
     // The device has its artifacts at each moment.
     ensures safe { AllHoldDevice (D.may_leave disk.old) (idle_device idle.now) → Leaves D.moment D.left_since disk.old disk.new (λ c. HoldsDevice c (idle_device idle.now)) }
     ensures others { IsTrue D.tells → Spares (IsBelow artifacts) (D.seen disk.old) (D.seen disk.new) }
-    ensures ends { SaysEnding (K.held sink.old) (K.held sink.new) result (EndsClosed outcome) }
+    ensures ends { SaysEnding (K.held sink.old) (K.held sink.new) result (λ e. EndsClosed outcome e × (e ≡ Fails → Rose (D.faults disk.old) (D.faults disk.new))) }
     ensures answers { (result ≡ status_of_outcome outcome) ⊎ (result ≡ statuses.Memory) ⊎ (result ≡ statuses.Disk) ⊎ (result ≡ statuses.Edge) }
     ensures disk { result ≡ statuses.Disk → Rose (D.faults disk.old) (D.faults disk.new) }
     ensures edge { result ≡ statuses.Edge → Rose (K.faults sink.old) (K.faults sink.new) }

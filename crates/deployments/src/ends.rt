@@ -7,14 +7,16 @@ ghost use Rattle.disk_model.specs.Disk.{Leaves};
 ghost use Rattle.disk_model.specs.Listing.{artifacts, IsBelow};
 ghost use Rattle.disk_model.specs.Spares.{Spares};
 ghost use Rattle.step_runner.specs.Entries.{Listed};
-ghost use Rattle.session.specs.Courses.{IsBare};
+ghost use Rattle.session.specs.Courses.{IsEnd};
 ghost use Rattle.session.specs.Happenings.{Happening};
 ghost use Rattle.session.specs.Places.{Place, left_by};
 ghost use Rattle.deploy_state.specs.States.{loaded_device};
 ghost use Rattle.driver.specs.Lines.{id_of};
 ghost use Rattle.driver.specs.Went.{Acts};
+ghost use Rattle.ending_laws.specs.Drives.{Drives};
 ghost use Rattle.deploying.specs.Driven.{DrivenLeft, driven_device};
-ghost use Rattle.deployments.specs.Calls.{AnswersFor, EndsFor, IsOrEdge, SaysEnding, SaysLine, Spared, StopsFor};
+ghost use Rattle.deployments.specs.Calls.{AnswersFor, EndsFor, IsOrEdge, SaysEnding, SaysLine, Spared};
+ghost use Rattle.deployments.specs.Endings.{Fails};
 
 use crate::closes::end_closed;
 use crate::lines::{pending_id, say, say_disk};
@@ -56,16 +58,17 @@ pub(crate) fn end_call<D: Disk, J: Journal + Drop, K: Sink, R: Runner, S: Superv
     supervisor: &mut S,
 ) -> Status
     requires placed { IfOk driven (λ x. (p : Place) × (h : List Happening) × DrivenLeft x h p (S.world supervisor.old) (Listed R.list R.told R.asked runner.old) (R.living runner.old) × (p.serves ≡ false)) }
+    requires drives { IfOk driven (λ x. Drives (S.world supervisor.old)) }
     requires none { OnErr driven (R.living runner.old ≡ []) }
     ensures went { IfOk driven (λ x. (p : Place) → (h : List Happening) → DrivenLeft x h p (S.world supervisor.old) (Listed R.list R.told R.asked runner.old) (R.living runner.old) → (p.serves ≡ false) →
-        (k : List Happening) × Acts p k (R.list runner.old) (R.list runner.new) × IsBare (left_by p k) × StopsFor x result (left_by p k)) }
+        (k : List Happening) × Acts p k (R.list runner.old) (R.list runner.new) × IsEnd (left_by p k) result false) }
     ensures still { OnErr driven (R.list runner.new ≡ R.list runner.old) }
     ensures none { R.living runner.new ≡ [] }
     ensures spared { Spared D.may_leave D.moment D.left_since disk.old disk.new }
     // The device has its artifacts at each moment.
     ensures safe { IfOk driven (λ x. AllHoldDevice (D.may_leave disk.old) (driven_device x) → Leaves D.moment D.left_since disk.old disk.new (λ c. HoldsDevice c (driven_device x))) }
     ensures others { IsTrue D.tells → Spares (IsBelow artifacts) (D.seen disk.old) (D.seen disk.new) }
-    ensures ends { SaysEnding (K.held sink.old) (K.held sink.new) result (EndsFor driven) }
+    ensures ends { SaysEnding (K.held sink.old) (K.held sink.new) result (λ e. EndsFor driven e × (e ≡ Fails → (IsErrOf driven Over.Disk) ⊎ Rose (D.faults disk.old) (D.faults disk.new))) }
     ensures unswept { OnErr driven (disk.new ≡ disk.old) }
     ensures silent { IsErrOf driven Over.Edge → K.held sink.new ≡ K.held sink.old }
     ensures answers { AnswersFor driven result }
@@ -81,7 +84,6 @@ pub(crate) fn end_call<D: Disk, J: Journal + Drop, K: Sink, R: Runner, S: Superv
         }
         Ok(Driven::Restart(state)) => say_again(&state, sink, "restart ", Status::Restart),
         Ok(Driven::Reboot(state)) => say_again(&state, sink, "reboot ", Status::Reboot),
-        Ok(Driven::More(_)) => Status::Memory,
         Err(Over::Disk) => say_disk(sink),
         Err(Over::Edge) => Status::Edge,
     }

@@ -14,7 +14,7 @@ ghost use Rattle.preparation.specs.Readied.{AreReadiedFor};
 ghost use Rattle.intake.specs.Takes.{LieElsewhere};
 ghost use Rattle.deployments.specs.Calls.{Call, Elsewhere, IsOrEdge, SaysLine, Stays, resumed_line};
 ghost use Rattle.deployments.specs.Documents.{KeepsArtifacts};
-ghost use Rattle.deployments.specs.Endings.{Resumes};
+ghost use Rattle.deployments.specs.Endings.{Fails, Resumes};
 
 use crate::ends::end_call;
 use crate::lines::{pending_id, say};
@@ -78,9 +78,11 @@ where
     requires empty { (S.world supervisor.old).parts ≡ [] }
     requires placed { (p : Place) × IsFront p (loaded_device state) (S.world supervisor.old) (Listed R.list R.told R.asked runner.old) (R.living runner.old) × (p.serves ≡ false) }
     // Where the images at the start have the device's artifacts, each of each moment has those of the device for which it stands.
+    // The call ends as one whose disk failed only where the disk's count rose.
     ensures call { (p : Place) → IsFront p (loaded_device state) (S.world supervisor.old) (Listed R.list R.told R.asked runner.old) (R.living runner.old) → (p.serves ≡ false) → (p.taken ≡ is_some p.device.pending) →
         (c : Call J.entries J.files D.may_leave D.moment D.left_since disk.old disk.new (R.list runner.old) (R.list runner.new) (K.held sink.old) (K.held sink.new) p result) × Resumes (loaded_device state) c.ending
-        × (AllHoldDevice (D.may_leave disk.old) p.device → KeepsArtifacts J.entries J.files D.may_leave D.moment D.left_since disk.old disk.new (R.list runner.old) (R.list runner.new) (K.held sink.old) (K.held sink.new) p result c) }
+        × (AllHoldDevice (D.may_leave disk.old) p.device → KeepsArtifacts J.entries J.files D.may_leave D.moment D.left_since disk.old disk.new (R.list runner.old) (R.list runner.new) (K.held sink.old) (K.held sink.new) p result c)
+        × (c.ending ≡ Fails → Rose (D.faults disk.old) (D.faults disk.new)) }
     ensures own { result ≢ statuses.Library }
     ensures none { R.living runner.new ≡ [] }
     ensures others { IsTrue D.tells → Elsewhere J.files (D.seen disk.old) (D.seen disk.new) }

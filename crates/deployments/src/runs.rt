@@ -22,6 +22,7 @@ ghost use Rattle.intake.specs.Takes.{LieElsewhere, TakesIn};
 ghost use Rattle.intake.specs.declared.fault.Declined.{Declined};
 ghost use Rattle.deployments.specs.Calls.{AllHoldBoth, Elsewhere, IsReadiedOn, Stays};
 ghost use Rattle.deployments.specs.Documents.{DrivesPlan, DrivesTaken, KeepsArtifacts, TakesRead};
+ghost use Rattle.deployments.specs.Endings.{Fails};
 
 use crate::declines::{say_declined, say_full, say_refusal};
 use crate::ends::end_call;
@@ -86,10 +87,12 @@ where
     requires ready { IsReadiedOn (idle_device idle) (plan_view plan) ready.boots ready.backs (S.coming ready.items) (S.coming ready.earlier) }
     requires empty { (S.world supervisor.old).parts ≡ [] }
     requires placed { (p : Place) × IsOpen p (idle_device idle) (S.world supervisor.old) (Listed R.list R.told R.asked runner.old) (R.living runner.old) × (p.serves ≡ false) }
-    // Where the images at the start have the artifacts that are needed, so has each of each moment.
+    // Where the images at the start have the artifacts that are needed, so has each of each moment. The call ends as one whose
+    // disk failed only where the disk's count rose.
     ensures call { (p : Place) → IsOpen p (idle_device idle) (S.world supervisor.old) (Listed R.list R.told R.asked runner.old) (R.living runner.old) → (p.serves ≡ false) →
         (t : DrivesPlan J.entries J.files D.may_leave D.moment D.left_since disk.old disk.new (R.list runner.old) (R.list runner.new) (K.held sink.old) (K.held sink.new) p result (start_of J.end J.number J.turns (idle_log idle) (idle_device idle)) (plan_view plan))
-        × (AllHoldBoth (D.may_leave disk.old) p.device (plan_view plan).items → KeepsArtifacts J.entries J.files D.may_leave D.moment D.left_since disk.old disk.new (R.list runner.old) (R.list runner.new) (K.held sink.old) (K.held sink.new) p result t.0) }
+        × (AllHoldBoth (D.may_leave disk.old) p.device (plan_view plan).items → KeepsArtifacts J.entries J.files D.may_leave D.moment D.left_since disk.old disk.new (R.list runner.old) (R.list runner.new) (K.held sink.old) (K.held sink.new) p result t.0)
+        × (t.0.ending ≡ Fails → Rose (D.faults disk.old) (D.faults disk.new)) }
     ensures own { result ≢ statuses.Library }
     ensures none { R.living runner.new ≡ [] }
     ensures others { IsTrue D.tells → Elsewhere J.files (D.seen disk.old) (D.seen disk.new) }
@@ -131,11 +134,13 @@ where
     // No component stands.
     requires empty { (S.world supervisor.old).parts ≡ [] }
     requires placed { (p : Place) × IsOpen p (idle_device idle) (S.world supervisor.old) (Listed R.list R.told R.asked runner.old) (R.living runner.old) × (p.serves ≡ false) }
-    // Where the images at the start have the artifacts that are needed, so has each of each moment.
+    // Where the images at the start have the artifacts that are needed, so has each of each moment. The call ends as one whose
+    // disk failed only where the disk's count rose.
     ensures call { (p : Place) → IsOpen p (idle_device idle) (S.world supervisor.old) (Listed R.list R.told R.asked runner.old) (R.living runner.old) → (p.serves ≡ false) →
         (taken : Result code.Plan Declined) × ((o : Origin) → (idle_device idle).origin ≡ Some o → TakesIn (idle_device idle) o (L.content library.old) (L.faults library.old) (L.faults library.new) document.now taken)
         × (t : DrivesTaken J.entries J.files D.may_leave D.moment D.left_since disk.old disk.new (R.list runner.old) (R.list runner.new) (K.held sink.old) (K.held sink.new) p result (start_of J.end J.number J.turns (idle_log idle) (idle_device idle)) taken)
-        × (AllHoldDevice (D.may_leave disk.old) p.device → KeepsArtifacts J.entries J.files D.may_leave D.moment D.left_since disk.old disk.new (R.list runner.old) (R.list runner.new) (K.held sink.old) (K.held sink.new) p result t.0) }
+        × (AllHoldDevice (D.may_leave disk.old) p.device → KeepsArtifacts J.entries J.files D.may_leave D.moment D.left_since disk.old disk.new (R.list runner.old) (R.list runner.new) (K.held sink.old) (K.held sink.new) p result t.0)
+        × (t.0.ending ≡ Fails → Rose (D.faults disk.old) (D.faults disk.new)) }
     ensures none { R.living runner.new ≡ [] }
     ensures others { IsTrue D.tells → Elsewhere J.files (D.seen disk.old) (D.seen disk.new) }
     ensures disk { result ≡ statuses.Disk → Rose (D.faults disk.old) (D.faults disk.new) }
@@ -177,11 +182,13 @@ where
     // No component stands.
     requires empty { (S.world supervisor.old).parts ≡ [] }
     requires placed { (p : Place) × IsOpen p (idle_device idle) (S.world supervisor.old) (Listed R.list R.told R.asked runner.old) (R.living runner.old) × (p.serves ≡ false) }
-    // Where the images at the start have the artifacts that are needed, so has each of each moment.
+    // Where the images at the start have the artifacts that are needed, so has each of each moment. The call ends as one whose
+    // disk failed only where the disk's count rose.
     ensures call { (p : Place) → IsOpen p (idle_device idle) (S.world supervisor.old) (Listed R.list R.told R.asked runner.old) (R.living runner.old) → (p.serves ≡ false) →
         (taken : Result code.Plan Declined) × ((o : Origin) → (idle_device idle).origin ≡ Some o → TakesRead (idle_device idle) o (L.content library.old) (L.faults library.old) (L.faults library.new) document.now taken)
         × (t : DrivesTaken J.entries J.files D.may_leave D.moment D.left_since disk.old disk.new (R.list runner.old) (R.list runner.new) (K.held sink.old) (K.held sink.new) p result (start_of J.end J.number J.turns (idle_log idle) (idle_device idle)) taken)
-        × (AllHoldDevice (D.may_leave disk.old) p.device → KeepsArtifacts J.entries J.files D.may_leave D.moment D.left_since disk.old disk.new (R.list runner.old) (R.list runner.new) (K.held sink.old) (K.held sink.new) p result t.0) }
+        × (AllHoldDevice (D.may_leave disk.old) p.device → KeepsArtifacts J.entries J.files D.may_leave D.moment D.left_since disk.old disk.new (R.list runner.old) (R.list runner.new) (K.held sink.old) (K.held sink.new) p result t.0)
+        × (t.0.ending ≡ Fails → Rose (D.faults disk.old) (D.faults disk.new)) }
     ensures none { R.living runner.new ≡ [] }
     ensures others { IsTrue D.tells → Elsewhere J.files (D.seen disk.old) (D.seen disk.new) }
     ensures disk { result ≡ statuses.Disk → Rose (D.faults disk.old) (D.faults disk.new) }

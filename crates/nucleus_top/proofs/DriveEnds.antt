@@ -73,8 +73,8 @@ pub record IsOn (store : Store) (result : Status) : Type 0 where
   pub found : IsFound store device
   pub ends : may_end result ≡ true
 
-module _ {D : Type 0} (may_leave : D → Image → Type 0) (moment : D → ℕ) (left_since : D → ℕ → Image → Type 0) (old new : D) (old_list new_list : Option (List RunnerEntry)) (printed : Printed) (result : Status) (store : Store) where
-  pub deployed_is_on : (input : Input) (library : Shelf) → IsDeployed may_leave moment left_since old new old_list new_list printed result store input library
+module _ {D : Type 0} (may_leave : D → Image → Type 0) (moment : D → ℕ) (left_since : D → ℕ → Image → Type 0) (faults : D → ℕ) (old new : D) (old_list new_list : Option (List RunnerEntry)) (printed : Printed) (result : Status) (store : Store) where
+  pub deployed_is_on : (input : Input) (library : Shelf) → IsDeployed may_leave moment left_since faults old new old_list new_list printed result store input library
       → (on : IsOn store result) × (on.device.pending ≡ None)
   deployed_is_on input library went =
       let on = went.4.2 in (
@@ -86,7 +86,7 @@ module _ {D : Type 0} (may_leave : D → Image → Type 0) (moment : D → ℕ) 
         on.idle,
       )
 
-  pub resumed_is_on : IsResumed may_leave moment left_since old new old_list new_list printed result store → IsOn store result
+  pub resumed_is_on : IsResumed may_leave moment left_since faults old new old_list new_list printed result store → IsOn store result
   resumed_is_on went = record { device = went.0; found = went.1; ends = answered went.2.call.ending result went.2.call.answers }
 
 -- ---- a call that is turned away

@@ -342,12 +342,12 @@ module _ (d : Device) (origin : Origin) (content : Option Content) (before after
   document_takes None front is takes = (front, λ whole told. cc, takes)
   document_takes (Some document) front is takes = (document, λ whole told. cc, whole_takes document front is takes)
 
-module _ {D : Type 0} (may_leave : D → Image → Type 0) (moment : D → ℕ) (left_since : D → ℕ → Image → Type 0) (old new : D) (old_list new_list : Option (List RunnerEntry)) (printed : Printed) (result : Status)
+module _ {D : Type 0} (may_leave : D → Image → Type 0) (moment : D → ℕ) (left_since : D → ℕ → Image → Type 0) (faults : D → ℕ) (old new : D) (old_list new_list : Option (List RunnerEntry)) (printed : Printed) (result : Status)
     (d : Device) (start : ℕ → ℕ) (input : Input) (library : Shelf) where
   -- the document of the source, where its front was deployed
   pub document_deploys : (front : List ℕ) → IfSome input.document (λ whole. front ≡ take 524289 whole) → Consumes input.document input.rest front → length front ≤ 524289
-      → IsDeployedOn may_leave moment left_since old new old_list new_list printed result d start library front
-      → DeploysOn may_leave moment left_since old new old_list new_list printed result d start input library
+      → IsDeployedOn may_leave moment left_since faults old new old_list new_list printed result d start library front
+      → DeploysOn may_leave moment left_since faults old new old_list new_list printed result d start input library
   document_deploys front is consumed short h =
       let document = document_takes d h.origin library.content library.faults_before library.faults_after h.taken input.document front is h.takes in (
         document.0,
@@ -364,6 +364,7 @@ module _ {D : Type 0} (may_leave : D → Image → Type 0) (moment : D → ℕ) 
           takes = document.2;
           call = h.call;
           history = h.history;
+          failed = h.failed;
           images = h.images;
           whole = h.whole;
           lasts = h.lasts;
@@ -420,6 +421,9 @@ front_begun d world told living is none = subst (λ (w : World). IsFront (begun 
 
 -- ---- calls one after another
 
+rose_behind : (a b c : ℕ) → a ≤ b → Rose b c → Rose a c
+rose_behind a b c later rose = omega (arith, later, rose)
+
 module _ {D : Type 0} {tells : Bool} {seen : D → Image} {may_leave : D → Image → Type 0} {moment : D → ℕ} {left_since : D → ℕ → Image → Type 0}
     (laws : DiskLaws tells seen may_leave moment left_since) where
   -- a call that changes nothing
@@ -444,13 +448,13 @@ module _ {D : Type 0} {tells : Bool} {seen : D → Image} {may_leave : D → Ima
       history = call.history;
       went = call.went;
       after = call.after;
-      bare = call.bare;
       ending = call.ending;
       answers = call.answers;
       prints = call.prints;
       ends = call.ends;
-      stops = call.stops;
+      end = call.end;
       stands = call.stands;
+      doubt = call.doubt;
       once = call.once;
     }
 
@@ -460,10 +464,10 @@ module _ {D : Type 0} {tells : Bool} {seen : D → Image} {may_leave : D → Ima
       unfolding call_on
       taken_on call = (call_on p call.0, call.1)
 
-  module _ (old mid new : D) (first : Spared may_leave moment left_since old mid) (old_list new_list : Option (List RunnerEntry)) (printed : Printed) (result : Status) (d : Device)
+  module _ (old mid new : D) (first : Spared may_leave moment left_since old mid) (old_list new_list : Option (List RunnerEntry)) (printed : Printed) (result : Status) (faults : D → ℕ) (later : faults old ≤ faults mid) (d : Device)
       (images : LeavesFronts may_leave moment left_since old mid d []) (stands : IsTrue tells → StandsFor (seen old) d) (whole : KeepsSameWhole may_leave moment left_since seen old mid) where
-    pub deployed_on : (start : ℕ → ℕ) (library : Shelf) (bytes : List ℕ) → IsDeployedOn may_leave moment left_since mid new old_list new_list printed result d start library bytes
-        → IsDeployedOn may_leave moment left_since old new old_list new_list printed result d start library bytes
+    pub deployed_on : (start : ℕ → ℕ) (library : Shelf) (bytes : List ℕ) → IsDeployedOn may_leave moment left_since faults mid new old_list new_list printed result d start library bytes
+        → IsDeployedOn may_leave moment left_since faults old new old_list new_list printed result d start library bytes
     unfolding taken_on call_on
     deployed_on start library bytes h = record {
       place = h.place;
@@ -477,12 +481,13 @@ module _ {D : Type 0} {tells : Bool} {seen : D → Image} {may_leave : D → Ima
       takes = h.takes;
       call = taken_on old mid new first old_list new_list printed.before printed.after result h.place start h.taken h.call;
       history = h.history;
+      failed = λ fails. rose_behind (faults old) (faults mid) (faults new) later (h.failed fails);
       images = fronts_on laws old mid new d (records_of h.call.0.history) images h.images;
       whole = whole_on laws old mid new d (records_of h.call.0.history) stands whole h.whole;
       lasts = h.lasts;
     }
 
-    pub resumed_on : IsResumedOn may_leave moment left_since mid new old_list new_list printed result d → IsResumedOn may_leave moment left_since old new old_list new_list printed result d
+    pub resumed_on : IsResumedOn may_leave moment left_since faults mid new old_list new_list printed result d → IsResumedOn may_leave moment left_since faults old new old_list new_list printed result d
     unfolding call_on
     resumed_on h = record {
       place = h.place;
@@ -492,18 +497,19 @@ module _ {D : Type 0} {tells : Bool} {seen : D → Image} {may_leave : D → Ima
       call = call_on old mid new first old_list new_list printed.before printed.after result h.place h.call;
       resumes = h.resumes;
       history = h.history;
+      failed = λ fails. rose_behind (faults old) (faults mid) (faults new) later (h.failed fails);
       images = fronts_on laws old mid new d (records_of h.call.history) images h.images;
       whole = whole_on laws old mid new d (records_of h.call.history) stands whole h.whole;
     }
 
   -- its document is not read behind such a call, or goes on with the device for which the journal stood
   pub ran_on : (old mid new : D) (first : Spared may_leave moment left_since old mid) (old_list new_list : Option (List RunnerEntry)) (printed : Printed) (result : Status)
-      (store : Store) (input : Input) (library : Shelf) (d : Device) (start : ℕ → ℕ) (Same : Type 0)
+      (faults : D → ℕ) (store : Store) (input : Input) (library : Shelf) (d : Device) (start : ℕ → ℕ) (Same : Type 0) → faults old ≤ faults mid
       → IsFound store d → d.pending ≡ None → (IsTrue store.tells → StartsFrom store.before d start) → (IsTrue tells → StandsFor (seen old) d)
       → LeavesSame may_leave moment left_since seen old mid → KeepsSameWhole may_leave moment left_since seen old mid
-      → (IsUnread mid new input printed result × Same) ⊎ DeploysOn may_leave moment left_since mid new old_list new_list printed result d start input library
-      → (IsTurnedAway seen may_leave moment left_since (λ a. TurnsAway store input a) old new printed result × Same) ⊎ IsDeployed may_leave moment left_since old new old_list new_list printed result store input library
-  ran_on old mid new first old_list new_list printed result store input library d start Same found idle starts stands images whole (inl away) = inl (
+      → (IsUnread mid new input printed result × Same) ⊎ DeploysOn may_leave moment left_since faults mid new old_list new_list printed result d start input library
+      → (IsTurnedAway seen may_leave moment left_since (λ a. TurnsAway store input a) old new printed result × Same) ⊎ IsDeployed may_leave moment left_since faults old new old_list new_list printed result store input library
+  ran_on old mid new first old_list new_list printed result faults store input library d start Same later found idle starts stands images whole (inl away) = inl (
     record {
       answer = away.0.answer;
       why = unread_turns store d found input away.0.answer idle away.0.why;
@@ -514,12 +520,12 @@ module _ {D : Type 0} {tells : Bool} {seen : D → Image} {may_leave : D → Ima
     },
     away.1,
   )
-  ran_on old mid new first old_list new_list printed result store input library d start Same found idle starts stands images whole (inr went) = inr (
+  ran_on old mid new first old_list new_list printed result faults store input library d start Same later found idle starts stands images whole (inr went) = inr (
     d,
     start,
     found,
     starts,
-    (went.0, went.1, deployed_on old mid new first old_list new_list printed result d (same_fronts laws old mid d stands images) stands whole start library went.0 went.2),
+    (went.0, went.1, deployed_on old mid new first old_list new_list printed result faults later d (same_fronts laws old mid d stands images) stands whole start library went.0 went.2),
   )
 
 -- ---- words

@@ -26,7 +26,7 @@ use Rattle.history_laws.specs.Stood.{IsHistory}
 use Rattle.intake.specs.declared.fault.Declined.{Declined}
 use Rattle.deployments.specs.Calls.{Call, Elsewhere, IsPendingAs, Spared}
 use Rattle.deployments.specs.Documents.{DrivesTaken, TakesRead}
-use Rattle.deployments.specs.Endings.{Resumes}
+use Rattle.deployments.specs.Endings.{Fails, Resumes}
 use Rattle.nucleus_top.specs.Answers.{Expects, HasRisen, Input, IsReadUpTo, Printed, Prints, Shelf, Store, Told, damaged_line, none_line, pending_line}
 use Rattle.nucleus_top.specs.Crashes.{KeepsSameWhole, KeepsWhole, LeavesFronts, LeavesSame}
 use Rattle.nucleus_top.specs.Inits.{IsRefusedAt}
@@ -135,7 +135,7 @@ pub record IsDocument (input : Input) (bytes : List ℕ) : Type 0 where
   pub whole : (document : List ℕ) → input.document ≡ Some document → bytes ≡ document
   pub read : IsReadUpTo 524289 input
 
-module _ {D : Type 0} (may_leave : D → Image → Type 0) (moment : D → ℕ) (left_since : D → ℕ → Image → Type 0) (old new : D) (old_list new_list : Option (List RunnerEntry)) (printed : Printed) (result : Status) where
+module _ {D : Type 0} (may_leave : D → Image → Type 0) (moment : D → ℕ) (left_since : D → ℕ → Image → Type 0) (faults : D → ℕ) (old new : D) (old_list new_list : Option (List RunnerEntry)) (printed : Printed) (result : Status) where
   -- Nothing is pending on this device. The document is taken in on it or not, by the checks in their order, and then from the start of the call one
   -- deployment goes on by its plan, or the plan is put off. A crash leaves what a front of the records makes of the device, with
   -- all artifacts of that, where the images at the start had theirs.
@@ -151,6 +151,8 @@ module _ {D : Type 0} (may_leave : D → Image → Type 0) (moment : D → ℕ) 
     pub takes : TakesRead d origin library.content library.faults_before library.faults_after bytes taken
     pub call : DrivesTaken slots_entries slots_files may_leave moment left_since old new old_list new_list printed.before printed.after place result start taken
     pub history : IsHistory place call.0.history
+    -- it ends as one whose disk failed only where the disk's count rose
+    pub failed : call.0.ending ≡ Fails → Rose (faults old) (faults new)
     pub images : LeavesFronts may_leave moment left_since old new d (records_of call.0.history)
     pub whole : KeepsWhole may_leave moment left_since old new d (records_of call.0.history)
     -- what was printed lasts
@@ -176,6 +178,7 @@ module _ {D : Type 0} (may_leave : D → Image → Type 0) (moment : D → ℕ) 
     pub call : Call slots_entries slots_files may_leave moment left_since old new old_list new_list printed.before printed.after place result
     pub resumes : Resumes d call.ending
     pub history : IsHistory place call.history
+    pub failed : call.ending ≡ Fails → Rose (faults old) (faults new)
     pub images : LeavesFronts may_leave moment left_since old new d (records_of call.history)
     pub whole : KeepsWhole may_leave moment left_since old new d (records_of call.history)
 

@@ -143,7 +143,7 @@ fn deploy_document<D: Disk, L: Library, K: Sink, R: Runner>(
 ) -> Status
     requires held { InIdle D.tells D.may_leave slots_stands (λ log. log.live.end) idle disk.old }
     requires none { R.living runner.old ≡ [] }
-    ensures driven { IsDeployedOn D.may_leave D.moment D.left_since disk.old disk.new (R.list runner.old) (R.list runner.new) (printed_of K.held K.faults sink.old sink.new) result
+    ensures driven { IsDeployedOn D.may_leave D.moment D.left_since D.faults disk.old disk.new (R.list runner.old) (R.list runner.new) (printed_of K.held K.faults sink.old sink.new) result
         (idle_device idle) (slots_start (idle_log idle) (idle_device idle)) (shelf_of L.content L.faults library.old library.new) document.now }
     ensures none { R.living runner.new ≡ [] }
     ensures others { IsTrue D.tells → Elsewhere slots_files (D.seen disk.old) (D.seen disk.new) }
@@ -185,7 +185,7 @@ fn deploy_read<D: Disk, L: Library, S: Source, K: Sink, R: Runner>(
     requires held { InIdle D.tells D.may_leave slots_stands (λ log. log.live.end) idle disk.old }
     requires none { R.living runner.old ≡ [] }
     ensures ran { (IsUnread disk.old disk.new (input_of S.left S.faults source.old source.new) (printed_of K.held K.faults sink.old sink.new) result × (runner.new ≡ runner.old))
-        ⊎ DeploysOn D.may_leave D.moment D.left_since disk.old disk.new (R.list runner.old) (R.list runner.new) (printed_of K.held K.faults sink.old sink.new) result
+        ⊎ DeploysOn D.may_leave D.moment D.left_since D.faults disk.old disk.new (R.list runner.old) (R.list runner.new) (printed_of K.held K.faults sink.old sink.new) result
         (idle_device idle) (slots_start (idle_log idle) (idle_device idle)) (input_of S.left S.faults source.old source.new) (shelf_of L.content L.faults library.old library.new) }
     ensures none { R.living runner.new ≡ [] }
     ensures others { IsTrue D.tells → Elsewhere slots_files (D.seen disk.old) (D.seen disk.new) }
@@ -221,7 +221,7 @@ pub(crate) fn deploy<D: Disk, L: Library, S: Source, K: Sink, R: Runner>(
 ) -> Status
     requires none { R.living runner.old ≡ [] }
     ensures ran { (IsTurnedAway D.seen D.may_leave D.moment D.left_since (λ a. TurnsAway (store_of D.tells D.seen D.faults disk.old disk.new) (input_of S.left S.faults source.old source.new) a) disk.old disk.new (printed_of K.held K.faults sink.old sink.new) result × (runner.new ≡ runner.old))
-        ⊎ IsDeployed D.may_leave D.moment D.left_since disk.old disk.new (R.list runner.old) (R.list runner.new) (printed_of K.held K.faults sink.old sink.new) result
+        ⊎ IsDeployed D.may_leave D.moment D.left_since D.faults disk.old disk.new (R.list runner.old) (R.list runner.new) (printed_of K.held K.faults sink.old sink.new) result
         (store_of D.tells D.seen D.faults disk.old disk.new) (input_of S.left S.faults source.old source.new) (shelf_of L.content L.faults library.old library.new) }
     ensures none { R.living runner.new ≡ [] }
     ensures others { IsTrue D.tells → Elsewhere slots_files (D.seen disk.old) (D.seen disk.new) }
@@ -252,7 +252,7 @@ pub(crate) fn resume<D: Disk, K: Sink, R: Runner>(
 ) -> Status
     requires none { R.living runner.old ≡ [] }
     ensures ran { (IsTurnedAway D.seen D.may_leave D.moment D.left_since (λ a. Withholds (store_of D.tells D.seen D.faults disk.old disk.new) a) disk.old disk.new (printed_of K.held K.faults sink.old sink.new) result × (runner.new ≡ runner.old))
-        ⊎ IsResumed D.may_leave D.moment D.left_since disk.old disk.new (R.list runner.old) (R.list runner.new) (printed_of K.held K.faults sink.old sink.new) result
+        ⊎ IsResumed D.may_leave D.moment D.left_since D.faults disk.old disk.new (R.list runner.old) (R.list runner.new) (printed_of K.held K.faults sink.old sink.new) result
         (store_of D.tells D.seen D.faults disk.old disk.new) }
     ensures none { R.living runner.new ≡ [] }
     ensures others { IsTrue D.tells → Elsewhere slots_files (D.seen disk.old) (D.seen disk.new) }

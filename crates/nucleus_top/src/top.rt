@@ -71,13 +71,13 @@ pub fn nucleus<D: Disk, L: Library, S: Source, K: Sink, R: Runner>(
     ensures deploys { (root : List ℕ) → IsOrder (map string_bytes words.now.items) root order.Deploy →
         (IsTurnedAway D.seen D.may_leave D.moment D.left_since (λ a. TurnsAway (store_of D.tells D.seen D.faults disk.old disk.new) (input_of S.left S.faults source.old source.new) a)
         disk.old disk.new (printed_of K.held K.faults sink.old sink.new) result × (runner.new ≡ runner.old))
-        ⊎ IsDeployed D.may_leave D.moment D.left_since disk.old disk.new (R.list runner.old) (R.list runner.new) (printed_of K.held K.faults sink.old sink.new) result
+        ⊎ IsDeployed D.may_leave D.moment D.left_since D.faults disk.old disk.new (R.list runner.old) (R.list runner.new) (printed_of K.held K.faults sink.old sink.new) result
         (store_of D.tells D.seen D.faults disk.old disk.new) (input_of S.left S.faults source.old source.new) (shelf_of L.content L.faults library.old library.new) }
     // `resume`: so it is with the pending deployment, which goes on where there is one.
     ensures resumes { (root : List ℕ) → IsOrder (map string_bytes words.now.items) root order.Resume →
         (IsTurnedAway D.seen D.may_leave D.moment D.left_since (λ a. Withholds (store_of D.tells D.seen D.faults disk.old disk.new) a)
         disk.old disk.new (printed_of K.held K.faults sink.old sink.new) result × (runner.new ≡ runner.old))
-        ⊎ IsResumed D.may_leave D.moment D.left_since disk.old disk.new (R.list runner.old) (R.list runner.new) (printed_of K.held K.faults sink.old sink.new) result
+        ⊎ IsResumed D.may_leave D.moment D.left_since D.faults disk.old disk.new (R.list runner.old) (R.list runner.new) (printed_of K.held K.faults sink.old sink.new) result
         (store_of D.tells D.seen D.faults disk.old disk.new) }
     // Of both: when the refusals of a journal that gives no device come, and of `deploy` that of a pending deployment.
     ensures refused { Drives (map string_bytes words.now.items) → RefusedParts (store_of D.tells D.seen D.faults disk.old disk.new) (printed_of K.held K.faults sink.old sink.new) result }

@@ -21,7 +21,9 @@ use Rattle.session.specs.Places.{Place, leaves}
 use Rattle.session.specs.Follows.{IsBootChild, IsClear, Lives, MayClose as MayEnd, MayFollow}
 use Rattle.session.specs.Courses.{IsBare, Stands}
 use Rattle.driver.specs.Stands.{IsFront}
-use Rattle.driver.specs.Went.{StandsForMost, Went}
+use Rattle.driver.specs.Over.{LeftAt}
+use Rattle.driver.specs.Went.{Went}
+use Rattle.driver.specs.declared.over.Over.TheVariants as over
 use Rattle.driver.proofs.Entries.{never}
 use Rattle.driver.proofs.Joins.{kept_one}
 use Rattle.driver.proofs.Records.{doubt_at}
@@ -176,5 +178,5 @@ module _ (entries : Image → List (List ℕ) → Type 0) (files : List ℕ → 
       → Went entries files may_leave moment left_since old new list list p (Kept Unasked ∷ [])
   items_went old new list p d world told living b allowed notes = close_went old new list p d outcomes.RollbackNotRequested b.comes.stands.device_is (items_follow p d world told living b) allowed notes
 
-  pub close_doubt : (old new : D) (p : Place) (d : Device) (o : Outcome) → p.device ≡ d → Allowed d (stored.Closed o) → Notes old new d o → (c : Image) → may_leave new c → StandsForMost entries p.device ((stored.Closed o) ∷ []) c
-  close_doubt old new p d o same allowed notes c left = doubt_at entries files laws old new p d (stored.Closed o) same allowed notes c left
+  pub close_doubt : (old new : D) (p : Place) (d : Device) (o : Outcome) → p.device ≡ d → Allowed d (stored.Closed o) → Notes old new d o → LeftAt entries may_leave new p (Kept (stored.Closed o) ∷ []) over.Disk
+  close_doubt old new p d o same allowed notes = doubt_at entries files laws old new p d (stored.Closed o) same allowed notes

@@ -39,7 +39,9 @@ below_each (n ∷ ns) each few =
 
 -- ---- the stage
 
-pub record IsStage (d : Device) (q : Pending) (duty : Duty) : Type 0 where
+pub record IsStage (o : Origin) (d : Device) (q : Pending) (duty : Duty) : Type 0 where
+  pub are_items : AreItems o.platform duty.items
+  pub below_each : AllByRecursion (λ (n : ℕ). n < 3) q.failures
   pub items : running d.set q ≡ Some duty.items
   pub counts : duty.counts ≡ q.failures
   pub rise : Rise (map item_name duty.items)
@@ -51,16 +53,19 @@ plan_of : (o : Origin) (x : Option Origin) (P : Origin → Type 0) → x ≡ Som
 plan_of o x P has h = subst (λ (y : Option Origin). IsSomeAnd y P) has h
 
 stage_facts : (d : Device) (q : Pending) (duty : Duty) (items : List Item) (o : Origin) → running d.set q ≡ Some duty.items → duty.counts ≡ q.failures → duty.items ≡ items
-    → AreItems o.platform items → AreCounts items q.failures → has_three duty.counts ≡ false → IsStage d q duty
+    → AreItems o.platform items → AreCounts items q.failures → has_three duty.counts ≡ false → IsStage o d q duty
 stage_facts d q duty items o runs counts same are counted few =
     let many = counted.many in
     let short = are.few in
+    let below = below_each q.failures counted.each (subst (λ (l : List ℕ). has_three l ≡ false) counts few) in
     record {
+      are_items = subst (λ (l : List Item). AreItems o.platform l) (sym same) are;
+      below_each = below;
       items = runs;
       counts = counts;
       rise = subst (λ (l : List Item). Rise (map item_name l)) (sym same) are.rise;
       few = subst (λ (l : List Item). length l ≤ length q.failures) (sym same) (omega (arith, many, short));
-      below = All-from_recursion (λ (n : ℕ). n < 3) q.failures (below_each q.failures counted.each (subst (λ (l : List ℕ). has_three l ≡ false) counts few));
+      below = All-from_recursion (λ (n : ℕ). n < 3) q.failures below;
       long = omega (arith, many);
     }
 
@@ -69,7 +74,7 @@ module _ (d : Device) (o : Origin) (has : d.origin ≡ Some o) (sound : IsSound 
   set_items = subst (λ (x : Option Origin). AreItemsFor x d.set) has sound.set
 
   by_stage : (s : Stage) (q : Pending) → IsSomeAnd d.origin (λ p. IsPlan p.platform q.plan) → IsInStage d.origin d.set (record q { stage = s })
-      → rises (duty_in d (record q { stage = s })).phase ≡ true → has_three (duty_in d (record q { stage = s })).counts ≡ false → IsStage d (record q { stage = s }) (duty_in d (record q { stage = s }))
+      → rises (duty_in d (record q { stage = s })).phase ≡ true → has_three (duty_in d (record q { stage = s })).counts ≡ false → IsStage o d (record q { stage = s }) (duty_in d (record q { stage = s }))
   by_stage stages.Booting q plan in_stage up few = absurd (false≢true up)
   by_stage stages.Activating q plan in_stage up few =
       let qs : Pending = record q { stage = stages.Activating } in
@@ -85,7 +90,7 @@ module _ (d : Device) (o : Origin) (has : d.origin ≡ Some o) (sound : IsSound 
   pub record HasStage (x : Option Pending) (duty : Duty) : Type 0 where
     pub pending : Pending
     pub is : x ≡ Some pending
-    pub stage : IsStage d pending duty
+    pub stage : IsStage o d pending duty
 
   by_pending : (x : Option Pending) → IfSome x (IsUnderWay d) → rises (duty_by x).phase ≡ true → has_three (duty_by x).counts ≡ false → HasStage x (duty_by x)
   by_pending None under up few = absurd (false≢true up)
@@ -94,12 +99,12 @@ module _ (d : Device) (o : Origin) (has : d.origin ≡ Some o) (sound : IsSound 
   pub has_stage : rises (duty_of d).phase ≡ true → has_three (duty_of d).counts ≡ false → HasStage d.pending (duty_of d)
   has_stage up few = by_pending d.pending sound.pending up few
 
-  pub stage_with : (q : Pending) → d.pending ≡ Some q → rises (duty_of d).phase ≡ true → has_three (duty_of d).counts ≡ false → IsStage d q (duty_of d)
+  pub stage_with : (q : Pending) → d.pending ≡ Some q → rises (duty_of d).phase ≡ true → has_three (duty_of d).counts ≡ false → IsStage o d q (duty_of d)
   stage_with q is up few =
       let h = has_stage up few in
       let both : Some h.pending ≡ Some q = sym h.is ∙ is in
       let same : h.pending ≡ q = cc in
-      subst (λ (x : Pending). IsStage d x (duty_of d)) same h.stage
+      subst (λ (x : Pending). IsStage o d x (duty_of d)) same h.stage
 
 pub pending_is : (o : Option code_pending.Pending) (q : code_pending.Pending) → o ≡ Some q → option_map pending_view o ≡ Some (pending_view q)
 pending_is o q is = ap (option_map pending_view) is

@@ -22,11 +22,13 @@ use Rattle.supervisor.specs.World.{World, is_stopped}
 use Rattle.session.specs.Phases.{Crew, duty_of, earlier, leaving}
 use Rattle.session.specs.Happenings.{Kept, records_of}
 use Rattle.session.specs.Places.{Place, leaves}
-use Rattle.session.specs.Follows.{IsClear, MayFollow, MayStopAll}
+use Rattle.session.specs.Follows.{HasNoBacks, IsClear, MayFollow, MayStopAll}
 use Rattle.session.specs.Courses.{IsBare, Stands}
 use Rattle.driver.specs.Lines.{lines_of}
 use Rattle.driver.specs.Stands.{IsFront}
-use Rattle.driver.specs.Went.{StandsForMost, Went}
+use Rattle.driver.specs.Over.{LeftAt}
+use Rattle.driver.specs.Went.{Went}
+use Rattle.driver.specs.declared.over.Over.TheVariants as over
 use Rattle.driver.proofs.Entries.{never}
 use Rattle.driver.proofs.Joins.{kept_one}
 use Rattle.driver.proofs.Records.{doubt_at, front_bare}
@@ -87,12 +89,22 @@ no_line_by d (b ∷ l) n = refl
 pub no_line : (d : Device) (r : Record) → IsWay r → lines_of d (r ∷ []) ≡ []
 no_line d r way = subst (λ (x : Record). lines_of d (x ∷ []) ≡ []) (sym way.2) (no_line_by d way.0 way.1)
 
-follows_by : (p : Place) (l : List (List ℕ)) (n : List ℕ) → IsClear p → p.cut ≡ false → p.over ≡ false → MayFollow p (Kept (break_by l n))
-follows_by p [] n clear cut over = (clear, (λ is. absurd (never p.cut cut is)), over)
-follows_by p (b ∷ l) n clear cut over = (clear, (λ is. absurd (never p.cut cut is)), over)
+-- where it names no bootstraps none is to run again
+is_plain : (d : Device) (r : Record) → IsBreak d r → (way : IsWay r) × (way.0 ≡ [] → HasNoBacks d)
+is_plain d r is = by d.pending is
+  where
+    by : (o : Option Pending) → IsSomeAnd o (λ q. (n : List ℕ) × (failing_name q ≡ Some n) × (r ≡ break_by (backs_now d q) n)) → (way : IsWay r) × (way.0 ≡ [] → IsSomeAnd o (λ q. backs_now d q ≡ []))
+    by None is = absurd is
+    by (Some q) is = ((backs_now d q, is.0, is.2), λ none. none)
 
-follows : (p : Place) (r : Record) → IsWay r → IsClear p → p.cut ≡ false → p.over ≡ false → MayFollow p (Kept r)
-follows p r way clear cut over = subst (λ (x : Record). MayFollow p (Kept x)) (sym way.2) (follows_by p way.0 way.1 clear cut over)
+follows_by : (p : Place) (l : List (List ℕ)) (n : List ℕ) → (l ≡ [] → HasNoBacks p.device) → IsClear p → p.cut ≡ false → p.over ≡ false → MayFollow p (Kept (break_by l n))
+follows_by p [] n plain clear cut over = ((clear, plain refl), (λ is. absurd (never p.cut cut is)), over)
+follows_by p (b ∷ l) n plain clear cut over = (clear, (λ is. absurd (never p.cut cut is)), over)
+
+follows : (p : Place) (d : Device) (r : Record) → p.device ≡ d → IsBreak d r → IsClear p → p.cut ≡ false → p.over ≡ false → MayFollow p (Kept r)
+follows p d r device is clear cut over =
+    let way = is_plain p.device r (subst (λ (x : Device). IsBreak x r) (sym device) is) in
+    subst (λ (x : Record). MayFollow p (Kept x)) (sym way.0.2) (follows_by p way.0.0 way.0.1 way.1 clear cut over)
 
 -- ---- where it leaves the call
 
@@ -152,10 +164,10 @@ front_turned p d e world told living f r same = record {
   over = refl;
 }
 
-module _ (p : Place) (d : Device) (world : World) (told : Told) (living : List ℕ) (f : IsFront p d world told living) (r : Record) (way : IsWay r) where
-  boot_follows : MayFollow p (Kept r)
-  boot_follows = follows p r way (boot_clear p d world told living f) f.between.still.cut f.over
+boot_follows : (p : Place) (d : Device) (world : World) (told : Told) (living : List ℕ) → IsFront p d world told living → (r : Record) → IsBreak d r → MayFollow p (Kept r)
+boot_follows p d world told living f r is = follows p d r f.between.stands.device_is is (boot_clear p d world told living f) f.between.still.cut f.over
 
+module _ (p : Place) (d : Device) (world : World) (told : Told) (living : List ℕ) (f : IsFront p d world told living) (r : Record) (way : IsWay r) where
   pub boot_front : (e : Device) → e ≡ applied d r → IsFront (leaves p (Kept r)) e world told living
   boot_front e same = subst (λ (q : Place). IsFront q e world told living) (sym (place_is p r way)) (front_turned p d e world told living f r same)
 
@@ -166,7 +178,7 @@ module _ (p : Place) (d : Device) (world : World) (told : Told) (living : List �
 
 module _ (p : Place) (d : Device) (world : World) (told : Told) (living : List ℕ) (b : HasBroken p d world told living) (r : Record) (is : IsBreak d r) where
   items_follow : MayFollow p (Kept r)
-  items_follow = follows p r (is_way d r is) (items_clear p d world told living b) b.comes.on.cut b.comes.on.over
+  items_follow = follows p d r b.comes.stands.device_is is (items_clear p d world told living b) b.comes.on.cut b.comes.on.over
 
   pub items_turned : (e : Device) → e ≡ applied d r → IsTurned (leaves p (Kept r)) e world told living
   items_turned e same = subst (λ (q : Place). IsTurned q e world told living) (sym (place_is p r (is_way d r is))) (record {
@@ -210,11 +222,11 @@ module _ (entries : Image → List (List ℕ) → Type 0) (files : List ℕ → 
 
   pub boot_went : (old new : D) (list : Option (List RunnerEntry)) (p : Place) (d : Device) (world : World) (told : Told) (living : List ℕ) → IsFront p d world told living → (r : Record) → IsBreak d r → Allowed d r → Notes old new d r
       → Went entries files may_leave moment left_since old new list list p (Kept r ∷ [])
-  boot_went old new list p d world told living f r is allowed notes = turn_went old new list p d r f.between.stands.device_is (boot_follows p d world told living f r (is_way d r is)) allowed notes
+  boot_went old new list p d world told living f r is allowed notes = turn_went old new list p d r f.between.stands.device_is (boot_follows p d world told living f r is) allowed notes
 
   pub items_went : (old new : D) (list : Option (List RunnerEntry)) (p : Place) (d : Device) (world : World) (told : Told) (living : List ℕ) → HasBroken p d world told living → (r : Record) → IsBreak d r → Allowed d r → Notes old new d r
       → Went entries files may_leave moment left_since old new list list p (Kept r ∷ [])
   items_went old new list p d world told living b r is allowed notes = turn_went old new list p d r b.comes.stands.device_is (items_follow p d world told living b r is) allowed notes
 
-  pub turn_doubt : (old new : D) (p : Place) (d : Device) (r : Record) → p.device ≡ d → Allowed d r → Notes old new d r → (c : Image) → may_leave new c → StandsForMost entries p.device (r ∷ []) c
-  turn_doubt old new p d r same allowed notes c left = doubt_at entries files laws old new p d r same allowed notes c left
+  pub turn_doubt : (old new : D) (p : Place) (d : Device) (r : Record) → p.device ≡ d → Allowed d r → Notes old new d r → LeftAt entries may_leave new p (Kept r ∷ []) over.Disk
+  turn_doubt old new p d r same allowed notes = doubt_at entries files laws old new p d r same allowed notes

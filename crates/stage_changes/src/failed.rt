@@ -18,6 +18,7 @@ ghost use Rattle.driver.specs.Lines.{lines_of};
 ghost use Rattle.driver.specs.Over.{IsOne, Left, Lines};
 ghost use Rattle.driver.specs.Stands.{IsFront};
 ghost use Rattle.driver.specs.Went.{Went};
+ghost use Rattle.ending_laws.specs.Drives.{Drives};
 ghost use Rattle.activation.specs.Ended.{HasClosed};
 ghost use Rattle.stage_changes.specs.Fails.{Breaks, is_to_roll_back};
 
@@ -66,6 +67,7 @@ pub fn keep_again<D: Disk, J: Journal + Drop, K: Sink, S: Supervise>(
     sink: &mut K,
     supervisor: &mut S,
 ) -> Result<Idle<J>, Over>
+    requires drives { Drives (S.world supervisor.old) }
     requires held { InActivating D.tells D.may_leave J.stands J.end state disk.old }
     requires failed { has_three (duty_of (activating_device state)).counts ≡ true }
     requires policy { is_to_roll_back (activating_device state) ≡ false }
@@ -76,6 +78,7 @@ pub fn keep_again<D: Disk, J: Journal + Drop, K: Sink, S: Supervise>(
         × Left J.entries D.may_leave disk.new p h (λ s q. HasClosed outcomes.RollbackNotRequested (records_of h) q (idle_device s) (S.world supervisor.new) told living) result
         × OnErr result (IsBare (left_by p h)) }
     ensures taken { IfOk result (λ s. idle_device s ≡ applied (activating_device state) (stored.Closed outcomes.RollbackNotRequested)) }
+    ensures drives { Drives (S.world supervisor.new) }
     ensures held { IfOk result (λ s. InIdle D.tells D.may_leave J.stands J.end s disk.new) }
     ensures others { IsTrue D.tells → (name : List ℕ) → ¬ (J.files name) → D.seen disk.new name ≡ D.seen disk.old name }
     ensures disk { IsErrOf result Over.Disk → Rose (D.faults disk.old) (D.faults disk.new) }
@@ -104,6 +107,7 @@ pub fn close_again<D: Disk, J: Journal + Drop, K: Sink, S: Supervise>(
     sink: &mut K,
     supervisor: &mut S,
 ) -> Result<Idle<J>, Over>
+    requires drives { Drives (S.world supervisor.old) }
     requires held { InRolling D.tells D.may_leave J.stands J.end state disk.old }
     requires failed { has_three (duty_of (rolling_device state)).counts ≡ true }
     // Where it gives up, no child lives.
@@ -113,6 +117,7 @@ pub fn close_again<D: Disk, J: Journal + Drop, K: Sink, S: Supervise>(
         × Left J.entries D.may_leave disk.new p h (λ s q. HasClosed outcomes.UnableToRollback (records_of h) q (idle_device s) (S.world supervisor.new) told living) result
         × OnErr result (IsBare (left_by p h)) }
     ensures taken { IfOk result (λ s. idle_device s ≡ applied (rolling_device state) (stored.Closed outcomes.UnableToRollback)) }
+    ensures drives { Drives (S.world supervisor.new) }
     ensures held { IfOk result (λ s. InIdle D.tells D.may_leave J.stands J.end s disk.new) }
     ensures others { IsTrue D.tells → (name : List ℕ) → ¬ (J.files name) → D.seen disk.new name ≡ D.seen disk.old name }
     ensures disk { IsErrOf result Over.Disk → Rose (D.faults disk.old) (D.faults disk.new) }

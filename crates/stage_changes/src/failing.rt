@@ -17,6 +17,7 @@ ghost use Rattle.session.specs.Waits.{has_three};
 ghost use Rattle.driver.specs.Over.{Left, Lines};
 ghost use Rattle.driver.specs.Stands.{IsFront};
 ghost use Rattle.driver.specs.Went.{Went};
+ghost use Rattle.ending_laws.specs.Drives.{Drives};
 ghost use Rattle.activation.specs.Ended.{HasBroken, HasClosed};
 ghost use Rattle.stage_changes.specs.Fails.{IsGivenUp, is_to_roll_back};
 
@@ -47,6 +48,7 @@ pub fn keep_booting<D: Disk, J: Journal + Drop, K: Sink, S: Supervise>(
     sink: &mut K,
     supervisor: &mut S,
 ) -> Result<Idle<J>, Over>
+    requires drives { Drives (S.world supervisor.old) }
     requires held { InBooting D.tells D.may_leave J.stands J.end state disk.old }
     requires failed { has_failed (booting_device state) ≡ true }
     requires policy { is_to_roll_back (booting_device state) ≡ false }
@@ -57,6 +59,7 @@ pub fn keep_booting<D: Disk, J: Journal + Drop, K: Sink, S: Supervise>(
         × Left J.entries D.may_leave disk.new p h (λ s q. HasClosed outcomes.RollbackNotRequested (records_of h) q (idle_device s) (S.world supervisor.new) told living) result
         × OnErr result (IsBare (left_by p h)) }
     ensures taken { IfOk result (λ s. idle_device s ≡ applied (booting_device state) (stored.Closed outcomes.RollbackNotRequested)) }
+    ensures drives { Drives (S.world supervisor.new) }
     ensures held { IfOk result (λ s. InIdle D.tells D.may_leave J.stands J.end s disk.new) }
     ensures others { IsTrue D.tells → (name : List ℕ) → ¬ (J.files name) → D.seen disk.new name ≡ D.seen disk.old name }
     ensures disk { IsErrOf result Over.Disk → Rose (D.faults disk.old) (D.faults disk.new) }
@@ -85,6 +88,7 @@ pub fn keep_activating<D: Disk, J: Journal + Drop, K: Sink, S: Supervise>(
     sink: &mut K,
     supervisor: &mut S,
 ) -> Result<Idle<J>, Over>
+    requires drives { Drives (S.world supervisor.old) }
     requires held { InActivating D.tells D.may_leave J.stands J.end state disk.old }
     requires failed { has_three (duty_of (activating_device state)).counts ≡ true }
     requires policy { is_to_roll_back (activating_device state) ≡ false }
@@ -94,6 +98,7 @@ pub fn keep_activating<D: Disk, J: Journal + Drop, K: Sink, S: Supervise>(
         × Left J.entries D.may_leave disk.new p h (λ s q. HasClosed outcomes.RollbackNotRequested (records_of h) q (idle_device s) (S.world supervisor.new) told living) result
         × OnErr result (IsGivenUp (left_by p h) (S.world supervisor.new) told living) }
     ensures taken { IfOk result (λ s. idle_device s ≡ applied (activating_device state) (stored.Closed outcomes.RollbackNotRequested)) }
+    ensures drives { Drives (S.world supervisor.new) }
     ensures held { IfOk result (λ s. InIdle D.tells D.may_leave J.stands J.end s disk.new) }
     ensures others { IsTrue D.tells → (name : List ℕ) → ¬ (J.files name) → D.seen disk.new name ≡ D.seen disk.old name }
     ensures disk { IsErrOf result Over.Disk → Rose (D.faults disk.old) (D.faults disk.new) }
@@ -121,6 +126,7 @@ pub fn close_backing<D: Disk, J: Journal + Drop, K: Sink, S: Supervise>(
     sink: &mut K,
     supervisor: &mut S,
 ) -> Result<Idle<J>, Over>
+    requires drives { Drives (S.world supervisor.old) }
     requires held { InBacking D.tells D.may_leave J.stands J.end state disk.old }
     requires failed { has_failed (backing_device state) ≡ true }
     // Where it gives up, no child lives.
@@ -130,6 +136,7 @@ pub fn close_backing<D: Disk, J: Journal + Drop, K: Sink, S: Supervise>(
         × Left J.entries D.may_leave disk.new p h (λ s q. HasClosed outcomes.UnableToRollback (records_of h) q (idle_device s) (S.world supervisor.new) told living) result
         × OnErr result (IsBare (left_by p h)) }
     ensures taken { IfOk result (λ s. idle_device s ≡ applied (backing_device state) (stored.Closed outcomes.UnableToRollback)) }
+    ensures drives { Drives (S.world supervisor.new) }
     ensures held { IfOk result (λ s. InIdle D.tells D.may_leave J.stands J.end s disk.new) }
     ensures others { IsTrue D.tells → (name : List ℕ) → ¬ (J.files name) → D.seen disk.new name ≡ D.seen disk.old name }
     ensures disk { IsErrOf result Over.Disk → Rose (D.faults disk.old) (D.faults disk.new) }

@@ -6,15 +6,18 @@ ghost use Rattle.step_runner.specs.Entries.{Told};
 ghost use Rattle.supervisor.specs.Answers.{has_answered, standing_count};
 ghost use Rattle.supervisor.specs.Changes.{standing};
 ghost use Rattle.supervisor.specs.Readied.{KeepSteps};
+ghost use Rattle.supervisor.specs.World.{is_stopped};
 ghost use Rattle.session.specs.Happenings.{Happening};
 ghost use Rattle.session.specs.Phases.{duty_of};
 ghost use Rattle.session.specs.Places.{Place, left_by};
 ghost use Rattle.session.specs.Waits.{has_three};
 ghost use Rattle.driver.specs.Went.{Acts};
+ghost use Rattle.ending_laws.specs.Drives.{Rises};
 ghost use Rattle.activation.specs.Runs.{Comes, rises};
 ghost use Rattle.stage_changes.specs.Enters.{AreReady, MayEnter};
 
 use device::Device;
+use ending_laws::ready_items_may_come;
 use supervisor::{Mode, Supervise, marks_are_least};
 use supervisor_laws::{changes_keep, ready_items_are_counted};
 
@@ -27,13 +30,17 @@ pub fn change_items<S: Supervise>(device: &Device, ready: S::Ready, supervisor: 
     requires few { has_three (duty_of (device_view device.now)).counts ≡ false }
     requires sound { IsSound (device_view device.now) }
     requires answered { has_answered (S.world supervisor.old) ≡ true }
+    // None stands, so that none is replaced.
+    requires none { is_stopped (S.world supervisor.old) ≡ true }
     requires same { KeepSteps (S.coming ready) (standing (S.world supervisor.old).parts) }
     ensures went { (p : Place) → (told : Told) → (living : List ℕ) → MayEnter p (device_view device.now) (S.world supervisor.old) told living →
         (h : List Happening) × Acts p h told.list told.list × Comes (left_by p h) (device_view device.now) (S.world supervisor.new) told living }
+    ensures rises { Rises (S.world supervisor.new) }
 {
     marks_are_least();
     changes_keep();
     ready_items_are_counted();
+    ready_items_may_come();
     let Some(pending) = &device.pending else {
         unreachable!();
     };

@@ -9,7 +9,7 @@ ghost use Rattle.step_runner.specs.Entries.{Told};
 ghost use Rattle.supervisor.specs.Answers.{has_answered, standing_count};
 ghost use Rattle.supervisor.specs.Changes.{standing};
 ghost use Rattle.supervisor.specs.Readied.{KeepSteps};
-ghost use Rattle.supervisor.specs.World.{World};
+ghost use Rattle.supervisor.specs.World.{World, is_stopped};
 ghost use Rattle.supervisor_laws.specs.Sound.{IsOrderly};
 ghost use Rattle.session.specs.Courses.{IsBare};
 ghost use Rattle.session.specs.Happenings.{Happening, records_of};
@@ -19,6 +19,7 @@ ghost use Rattle.driver.specs.Lines.{lines_of};
 ghost use Rattle.driver.specs.Over.{IsOne, Left};
 ghost use Rattle.driver.specs.Stands.{IsFront};
 ghost use Rattle.driver.specs.Went.{Went};
+ghost use Rattle.ending_laws.specs.Drives.{Rises};
 ghost use Rattle.activation.specs.Runs.{Comes};
 ghost use Rattle.stage_changes.specs.Enters.{AreReady};
 
@@ -70,6 +71,8 @@ where
     requires ready { AreReady (applied (booting_device state) stored.Activating) (S.coming ready) }
     requires room { standing_count (S.world supervisor.old) ≤ S.room ready }
     requires answered { has_answered (S.world supervisor.old) ≡ true }
+    // None stands, so that none is replaced.
+    requires none { is_stopped (S.world supervisor.old) ≡ true }
     requires same { KeepSteps (S.coming ready) (standing (S.world supervisor.old).parts) }
     // Where it gives up, no child lives.
     ensures went { (p : Place) → (told : Told) → (living : List ℕ) → IsFront p (booting_device state) (S.world supervisor.old) told living → IsOrderly p.world →
@@ -77,6 +80,7 @@ where
         × (lines_of p.device (records_of h) ≡ [])
         × Left J.entries D.may_leave disk.new p h (λ s q. Comes q (activating_device s) (S.world supervisor.new) told living) result
         × OnErr result (IsBare (left_by p h)) × OnErr result (IsOne (records_of h)) }
+    ensures rises { IfOk result (λ s. Rises (S.world supervisor.new)) }
     ensures taken { IfOk result (λ s. activating_device s ≡ applied (booting_device state) stored.Activating) }
     ensures held { IfOk result (λ s. InActivating D.tells D.may_leave J.stands J.end s disk.new) }
     ensures others { IsTrue D.tells → (name : List ℕ) → ¬ (J.files name) → D.seen disk.new name ≡ D.seen disk.old name }

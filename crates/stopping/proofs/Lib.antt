@@ -25,3 +25,4 @@ mod Handing
 mod Waiting
 mod Turning
 mod Ended
+pub mod Falling

@@ -1,18 +1,13 @@
 -- What a turn in which all are stopped leaves.
-use Rattle.std.specs.Prelude.{ℕ, Bool, true, false, not, List, [], ◌∷◌}
-use Rattle.std.proofs.Common.{◌≡◌, ◌∙◌, ◌++◌, sym, ap, subst, arith}
+use Rattle.std.specs.Prelude.{ℕ, Bool, true, false, List}
+use Rattle.std.proofs.Common.{◌≡◌, ◌∙◌, sym, ap}
 use Rattle.device.specs.Devices.{Device}
 use Rattle.step_runner.specs.Entries.{Told}
 use Rattle.supervisor.specs.World.{World, is_stopped}
 use Rattle.session.specs.Places.{Place}
-use Rattle.session.specs.Happenings.{Happening, StopsAll}
-use Rattle.activation.specs.Turns.{moments_in}
-use Rattle.activation.proofs.Turning.{moments_on}
 use Rattle.driver.proofs.Still.{childless}
-use Rattle.stopping.specs.declared.stops.Stopped.{Stopped}
-use Rattle.stopping.specs.declared.stops.Stopped.TheVariants as stopped
 use Rattle.stopping.specs.Runs.{ActLeft, Comes, MaySit}
-use Rattle.stopping.specs.Stops.{HasStopped, StopLeft, TurnLeft}
+use Rattle.stopping.specs.Stops.{HasStopped, TurnLeft}
 use Rattle.stopping.proofs.Entering.{comes_of}
 
 -- ---- the end of a turn
@@ -51,7 +46,5 @@ pub is_stopped_left : (b : Bool) (q : Place) (d : Device) (world : World) (told 
 is_stopped_left true q d world told living is t = t
 is_stopped_left false q d world told living is t = absurd cc
 
--- the moment of the stop was not asked for
-pub stop_left : (s : Stopped) (h : List Happening) (q r : Place) (d : Device) (world : World) (told : Told) (living : List ℕ) → r ≡ q → StopLeft s (moments_in h) q d world told living → StopLeft s (moments_in (h ++ StopsAll ∷ [])) r d world told living
-stop_left stopped.All h q r d world told living is t = subst (λ (x : Place). HasStopped x d world told living) (sym is) t
-stop_left stopped.More h q r d world told living is t = (subst (λ (x : Place). Comes x d world told living) (sym is) t.0, omega (arith, t.1, moments_on (StopsAll ∷ []) h))
+pub apart : true ≡ false → ⊥
+apart is = absurd cc

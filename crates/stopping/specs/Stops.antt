@@ -1,5 +1,5 @@
 -- From where all components may be stopped, and what that leaves.
-use Rattle.std.specs.Prelude.{◌≡◌, ◌≤◌, ℕ, Bool, true, false, List, None}
+use Rattle.std.specs.Prelude.{◌≡◌, ℕ, Bool, true, false, List, None}
 use Rattle.device.specs.Devices.{Device}
 use Rattle.step_runner.specs.Entries.{Told}
 use Rattle.supervisor.specs.World.{World, is_stopped}
@@ -10,10 +10,7 @@ use Rattle.session.specs.Phases.{duty_of}
 use Rattle.session.specs.Places.{Place}
 use Rattle.session.specs.Follows.{MayStopAll}
 use Rattle.session.specs.Courses.{IsBare, Stands}
-use Rattle.activation.specs.Turns.{most_turns}
 use Rattle.stopping.specs.Runs.{Comes, IsGoing}
-use Rattle.stopping.specs.declared.stops.Stopped.{Stopped}
-use Rattle.stopping.specs.declared.stops.Stopped.TheVariants as stopped
 
 -- All components may be stopped here, no failure is still to be recorded, and no bootstrap is about.
 pub record MayStop (p : Place) (d : Device) (world : World) (told : Told) (living : List ℕ) : Type 0 where
@@ -42,8 +39,3 @@ pub record HasStopped (p : Place) (d : Device) (world : World) (told : Told) (li
 abbrev pub TurnLeft : Bool → Place → Device → World → Told → List ℕ → Type 0
 TurnLeft true q d world told living = HasStopped q d world told living
 TurnLeft false q d world told living = Comes q d world told living
-
--- one still stands only where so many moments were asked for
-abbrev pub StopLeft : Stopped → ℕ → Place → Device → World → Told → List ℕ → Type 0
-StopLeft stopped.All n q d world told living = HasStopped q d world told living
-StopLeft stopped.More n q d world told living = Comes q d world told living × (most_turns ≤ n)

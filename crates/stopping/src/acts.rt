@@ -4,6 +4,7 @@ ghost use Rattle.step_runner.specs.Entries.{Listed};
 ghost use Rattle.session.specs.Happenings.{Happening};
 ghost use Rattle.session.specs.Places.{Place, left_by};
 ghost use Rattle.driver.specs.Went.{Acts};
+ghost use Rattle.ending_laws.specs.Drives.{Drives, Falls, NotAbove};
 ghost use Rattle.stopping.specs.Runs.{ActLeft, Runs};
 
 use crate::laws::leaving_laws;
@@ -14,11 +15,14 @@ use supervisor::{Act, Supervise};
 /// Takes the next act. Tells whether there was none. A failure is none: who leaves owes none.
 fn act<R: Runner, S: Supervise>(runner: &mut R, supervisor: &mut S, now: u64) -> bool
     requires now { (R.told runner.old ≡ now) × (now < 2 ^ 62) }
+    requires drives { Drives (S.world supervisor.old) }
     requires placed { (p : Place) × Runs p (S.world supervisor.old) (Listed R.list R.told R.asked runner.old) (R.living runner.old) }
     ensures now { R.told runner.new ≡ now }
     ensures went { (p : Place) → Runs p (S.world supervisor.old) (Listed R.list R.told R.asked runner.old) (R.living runner.old) →
         (h : List Happening) × Acts p h (R.list runner.old) (R.list runner.new)
         × ActLeft (left_by p h) result (S.world supervisor.new) (Listed R.list R.told R.asked runner.new) (R.living runner.new) }
+    ensures not_above { NotAbove (S.world supervisor.old) (S.world supervisor.new) }
+    ensures falls { result ≡ false → Falls (S.world supervisor.old) (S.world supervisor.new) }
 {
     leaving_laws();
     match supervisor.next_act() {
@@ -38,23 +42,20 @@ fn act<R: Runner, S: Supervise>(runner: &mut R, supervisor: &mut S, now: u64) ->
     }
 }
 
-/// Takes acts until none is left, which it tells.
-pub(crate) fn take_acts<R: Runner, S: Supervise>(
-    runner: &mut R,
-    supervisor: &mut S,
-    now: u64,
-) -> bool
+/// Takes acts until none is left.
+pub(crate) fn take_acts<R: Runner, S: Supervise>(runner: &mut R, supervisor: &mut S, now: u64)
     requires now { (R.told runner.old ≡ now) × (now < 2 ^ 62) }
+    requires drives { Drives (S.world supervisor.old) }
     requires placed { (p : Place) × Runs p (S.world supervisor.old) (Listed R.list R.told R.asked runner.old) (R.living runner.old) }
     ensures now { R.told runner.new ≡ now }
     ensures went { (p : Place) → Runs p (S.world supervisor.old) (Listed R.list R.told R.asked runner.old) (R.living runner.old) →
         (h : List Happening) × Acts p h (R.list runner.old) (R.list runner.new)
-        × ActLeft (left_by p h) result (S.world supervisor.new) (Listed R.list R.told R.asked runner.new) (R.living runner.new) }
+        × ActLeft (left_by p h) true (S.world supervisor.new) (Listed R.list R.told R.asked runner.new) (R.living runner.new) }
+    ensures not_above { NotAbove (S.world supervisor.old) (S.world supervisor.new) }
 {
-    for _act in 0..u64::MAX {
+    'acts: loop {
         if act(runner, supervisor, now) {
-            return true;
+            return;
         }
     }
-    false
 }

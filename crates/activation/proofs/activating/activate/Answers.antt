@@ -8,7 +8,6 @@ use Rattle.driver.specs.Same.{IsSameDeployment}
 use Rattle.driver.proofs.Joins.{went_on}
 use Rattle.driver.proofs.Told.{all_told, left_joined, lines_at_joined}
 use Rattle.activation.specs.Coming.{coming_device}
-use Rattle.activation.specs.Turns.{moments_in}
 use Rattle.activation.specs.declared.turns.Turned.TheVariants as turned
 use Rattle.activation.proofs.Parting.{broken_of, closed_on, held_plan, left_plan}
 use Rattle.activation.proofs.Turning.{quits_on}
@@ -20,24 +19,13 @@ come_up-requires-clause-placed g c = c.requires.placed
 pub into_plan-state-requires : goal.into_plan-state-requires
 into_plan-state-requires g c = c.in-Ok.ensures.same
 
-pub returns-in-On-clause-went : goal.returns-in-On-clause-went
-returns-in-On-clause-went g c = λ p comes.
-    let t = c.in-Ok.ensures.went p comes in
-    (t.0, t.1, t.2, left_plan c.in-Ok.coming c.into_plan-state.result c.in-Ok.turned turned.On (moments_in t.0) (left_by p t.0) (g.S.Supervise.world c.come_up.new.supervisor) (Listed g.R.Runner.list g.R.Runner.told g.R.Runner.asked c.come_up.new.runner) (g.R.Runner.living c.come_up.new.runner) c.into_plan-state.ensures c.in-On.is t.3, tt)
-
-pub returns-in-On-clause-held : goal.returns-in-On-clause-held
-returns-in-On-clause-held g c = held_plan g.D.Disk.tells g.D.Disk.may_leave g.J.Journal.stands g.J.Journal.end c.in-Ok.coming c.into_plan-state.result c.come_up.new.disk c.into_plan-state.ensures c.in-Ok.ensures.held
-
-pub returns-in-On-clause-same : goal.returns-in-On-clause-same
-returns-in-On-clause-same g c = subst (λ (d : Device). IsSameDeployment (activating_device c.args.state) d) (ap coming_device c.into_plan-state.ensures) c.in-Ok.ensures.deployment
-
 pub returns-in-Broken-clause-went : goal.returns-in-Broken-clause-went
 returns-in-Broken-clause-went g c = λ p comes.
     let t = c.in-Ok.ensures.went p comes in
     let told = Listed g.R.Runner.list g.R.Runner.told g.R.Runner.asked c.come_up.new.runner in
     let living = g.R.Runner.living c.come_up.new.runner in
     let world = g.S.Supervise.world c.come_up.new.supervisor in
-    let r = left_plan c.in-Ok.coming c.into_plan-state.result c.in-Ok.turned turned.Broken (moments_in t.0) (left_by p t.0) world told living c.into_plan-state.ensures c.in-Broken.is t.3 in
+    let r = left_plan c.in-Ok.coming c.into_plan-state.result c.in-Ok.turned turned.Broken (left_by p t.0) world told living c.into_plan-state.ensures c.in-Broken.is t.3 in
     (t.0, t.1, t.2, broken_of (left_by p t.0) (activating_device c.into_plan-state.result) world told living r, tt)
 
 pub returns-in-Broken-clause-held : goal.returns-in-Broken-clause-held
@@ -55,7 +43,7 @@ close_plan-requires-clause-placed g c =
     let t = c.in-Ok.ensures.went q.0 q.1 in
     let told = Listed g.R.Runner.list g.R.Runner.told g.R.Runner.asked c.come_up.new.runner in
     let living = g.R.Runner.living c.come_up.new.runner in
-    let r = left_plan c.in-Ok.coming c.into_plan-state.result c.in-Ok.turned turned.Settled (moments_in t.0) (left_by q.0 t.0) (g.S.Supervise.world c.come_up.new.supervisor) told living c.into_plan-state.ensures c.in-Settled.is t.3 in
+    let r = left_plan c.in-Ok.coming c.into_plan-state.result c.in-Ok.turned turned.Settled (left_by q.0 t.0) (g.S.Supervise.world c.come_up.new.supervisor) told living c.into_plan-state.ensures c.in-Settled.is t.3 in
     (left_by q.0 t.0, told, living, r.0, r.1)
 
 pub returns-in-Ok-close_plan-clause-went : goal.returns-in-Ok-close_plan-clause-went
@@ -63,7 +51,7 @@ returns-in-Ok-close_plan-clause-went g c = λ p comes.
     let t = c.in-Ok.ensures.went p comes in
     let told = Listed g.R.Runner.list g.R.Runner.told g.R.Runner.asked c.come_up.new.runner in
     let living = g.R.Runner.living c.come_up.new.runner in
-    let r = left_plan c.in-Ok.coming c.into_plan-state.result c.in-Ok.turned turned.Settled (moments_in t.0) (left_by p t.0) (g.S.Supervise.world c.come_up.new.supervisor) told living c.into_plan-state.ensures c.in-Settled.is t.3 in
+    let r = left_plan c.in-Ok.coming c.into_plan-state.result c.in-Ok.turned turned.Settled (left_by p t.0) (g.S.Supervise.world c.come_up.new.supervisor) told living c.into_plan-state.ensures c.in-Settled.is t.3 in
     let u = c.in-Ok-close_plan.ensures.went (left_by p t.0) told living r.0 r.1 in (
       u.0 ++ t.0,
       went_on g.J.Journal.entries g.J.Journal.files g.met.D.Disk.laws c.args.disk.now c.come_up.new.disk c.close_plan.new.disk
@@ -78,7 +66,7 @@ returns-in-Err-close_plan-clause-went g c = λ p comes.
     let t = c.in-Ok.ensures.went p comes in
     let told = Listed g.R.Runner.list g.R.Runner.told g.R.Runner.asked c.come_up.new.runner in
     let living = g.R.Runner.living c.come_up.new.runner in
-    let r = left_plan c.in-Ok.coming c.into_plan-state.result c.in-Ok.turned turned.Settled (moments_in t.0) (left_by p t.0) (g.S.Supervise.world c.come_up.new.supervisor) told living c.into_plan-state.ensures c.in-Settled.is t.3 in
+    let r = left_plan c.in-Ok.coming c.into_plan-state.result c.in-Ok.turned turned.Settled (left_by p t.0) (g.S.Supervise.world c.come_up.new.supervisor) told living c.into_plan-state.ensures c.in-Settled.is t.3 in
     let u = c.in-Err-close_plan.ensures.went (left_by p t.0) told living r.0 r.1 in (
       u.0 ++ t.0,
       went_on g.J.Journal.entries g.J.Journal.files g.met.D.Disk.laws c.args.disk.now c.come_up.new.disk c.close_plan.new.disk
@@ -92,3 +80,12 @@ pub returns-in-Err-clause-went : goal.returns-in-Err-clause-went
 returns-in-Err-clause-went g c = λ p comes.
     let t = c.in-Err.ensures.went p comes in
     (t.0, t.1, t.2, t.3, t.4)
+
+pub close_plan-requires-clause-drives : goal.close_plan-requires-clause-drives
+close_plan-requires-clause-drives g c = c.come_up.ensures.rises.drives
+
+pub returns-in-Broken-clause-drives : goal.returns-in-Broken-clause-drives
+returns-in-Broken-clause-drives g c = c.come_up.ensures.rises.drives
+
+pub returns-in-Err-clause-drives : goal.returns-in-Err-clause-drives
+returns-in-Err-clause-drives g c = c.come_up.ensures.rises.drives

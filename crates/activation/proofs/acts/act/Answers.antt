@@ -1,11 +1,13 @@
-use Rattle.std.proofs.Common.{◌++◌, Some, sym, subst}
+use Rattle.std.proofs.Common.{◌++◌, None, Some, refl, sym, subst}
 use Rattle.step_runner.specs.Entries.{Listed}
-use Rattle.supervisor.specs.Acts.{HandsOut}
+use Rattle.supervisor.specs.Acts.{HandsOut, NextAct}
 use Rattle.supervisor.specs.declared.kinds.Act.{Act}
 use Rattle.session.specs.Places.{Place, left_by}
 use Rattle.session.proofs.Joined.{left-append}
 use Rattle.driver.proofs.Acting.{acts_on}
+use Rattle.ending_laws.proofs.Steps.{falls_after, falls_not_above, next_falling, next_falls, next_not_above, not_above_on}
 use Rattle.activation.specs.Runs.{Runs}
+use Rattle.activation.proofs.Falling.{falling_at}
 use Rattle.activation.proofs.Handing.{broke_at, failed_at, hands_at, moved, quiet_at, starting_at}
 use Rattle.activation.proofs.Starting.{kill_lives, kill_runs}
 use Rattle.activation.proofs.acts.act.Goals as goal
@@ -101,3 +103,89 @@ returns-in-Kill-clause-went g c = λ p runs.
       acts_on p m.h t.h list list (g.R.Runner.list c.kill.new.self) m.acts t.acts,
       subst (λ (x : Place). Runs x w new (g.R.Runner.living c.kill.new.self)) (sym (left-append p t.h m.h)) t.runs,
     )
+
+-- ---- the number
+
+pub returns-in-None-clause-not_above : goal.returns-in-None-clause-not_above
+returns-in-None-clause-not_above g c =
+    let q = c.requires.placed in
+    let v = g.S.Supervise.world c.args.supervisor.now in
+    let w = g.S.Supervise.world c.next_act.new.self in
+    let f = falling_at q.0 v (Listed g.R.Runner.list g.R.Runner.told g.R.Runner.asked c.args.runner.now) (g.R.Runner.living c.args.runner.now) q.1 in
+    next_not_above v w None c.requires.drives f c.in-None.ensures.next
+
+pub returns-in-None-clause-falls : goal.returns-in-None-clause-falls
+returns-in-None-clause-falls g c = λ no. absurd (no refl)
+
+pub start_step-requires-clause-drives : goal.start_step-requires-clause-drives
+start_step-requires-clause-drives g c =
+    let q = c.requires.placed in
+    let v = g.S.Supervise.world c.args.supervisor.now in
+    let w = g.S.Supervise.world c.next_act.new.self in
+    let f = falling_at q.0 v (Listed g.R.Runner.list g.R.Runner.told g.R.Runner.asked c.args.runner.now) (g.R.Runner.living c.args.runner.now) q.1 in
+    ((next_not_above v w _ c.requires.drives f c.in-Some.ensures.next).on.drives, next_falling v w _ c.requires.drives f c.in-Some.ensures.next)
+
+pub returns-in-Start-clause-not_above : goal.returns-in-Start-clause-not_above
+returns-in-Start-clause-not_above g c =
+    let q = c.requires.placed in
+    let v = g.S.Supervise.world c.args.supervisor.now in
+    let w = g.S.Supervise.world c.next_act.new.self in
+    let f = falling_at q.0 v (Listed g.R.Runner.list g.R.Runner.told g.R.Runner.asked c.args.runner.now) (g.R.Runner.living c.args.runner.now) q.1 in
+    let new = g.S.Supervise.world c.start_step.new.supervisor in
+    not_above_on v w new (next_not_above v w _ c.requires.drives f c.in-Some.ensures.next) (falls_not_above w new c.start_step.ensures.falls)
+
+pub returns-in-Start-clause-falls : goal.returns-in-Start-clause-falls
+returns-in-Start-clause-falls g c = λ no.
+    let q = c.requires.placed in
+    let v = g.S.Supervise.world c.args.supervisor.now in
+    let w = g.S.Supervise.world c.next_act.new.self in
+    let f = falling_at q.0 v (Listed g.R.Runner.list g.R.Runner.told g.R.Runner.asked c.args.runner.now) (g.R.Runner.living c.args.runner.now) q.1 in
+    falls_after v w (g.S.Supervise.world c.start_step.new.supervisor) (next_not_above v w _ c.requires.drives f c.in-Some.ensures.next) c.start_step.ensures.falls
+
+pub returns-in-Kill-clause-not_above : goal.returns-in-Kill-clause-not_above
+returns-in-Kill-clause-not_above g c =
+    let q = c.requires.placed in
+    let v = g.S.Supervise.world c.args.supervisor.now in
+    let w = g.S.Supervise.world c.next_act.new.self in
+    let f = falling_at q.0 v (Listed g.R.Runner.list g.R.Runner.told g.R.Runner.asked c.args.runner.now) (g.R.Runner.living c.args.runner.now) q.1 in
+    next_not_above v w _ c.requires.drives f c.in-Some.ensures.next
+
+pub returns-in-Kill-clause-falls : goal.returns-in-Kill-clause-falls
+returns-in-Kill-clause-falls g c = λ no.
+    let q = c.requires.placed in
+    let v = g.S.Supervise.world c.args.supervisor.now in
+    let w = g.S.Supervise.world c.next_act.new.self in
+    let f = falling_at q.0 v (Listed g.R.Runner.list g.R.Runner.told g.R.Runner.asked c.args.runner.now) (g.R.Runner.living c.args.runner.now) q.1 in
+    next_falls v w _ c.requires.drives f (subst (λ (a : Act). NextAct v (Some a) w) c.in-Kill.is c.in-Some.ensures.next) refl
+
+pub returns-in-Failed-clause-not_above : goal.returns-in-Failed-clause-not_above
+returns-in-Failed-clause-not_above g c =
+    let q = c.requires.placed in
+    let v = g.S.Supervise.world c.args.supervisor.now in
+    let w = g.S.Supervise.world c.next_act.new.self in
+    let f = falling_at q.0 v (Listed g.R.Runner.list g.R.Runner.told g.R.Runner.asked c.args.runner.now) (g.R.Runner.living c.args.runner.now) q.1 in
+    next_not_above v w _ c.requires.drives f c.in-Some.ensures.next
+
+pub returns-in-Failed-clause-falls : goal.returns-in-Failed-clause-falls
+returns-in-Failed-clause-falls g c = λ no.
+    let q = c.requires.placed in
+    let v = g.S.Supervise.world c.args.supervisor.now in
+    let w = g.S.Supervise.world c.next_act.new.self in
+    let f = falling_at q.0 v (Listed g.R.Runner.list g.R.Runner.told g.R.Runner.asked c.args.runner.now) (g.R.Runner.living c.args.runner.now) q.1 in
+    next_falls v w _ c.requires.drives f (subst (λ (a : Act). NextAct v (Some a) w) c.in-Failed.is c.in-Some.ensures.next) refl
+
+pub returns-in-Broke-clause-not_above : goal.returns-in-Broke-clause-not_above
+returns-in-Broke-clause-not_above g c =
+    let q = c.requires.placed in
+    let v = g.S.Supervise.world c.args.supervisor.now in
+    let w = g.S.Supervise.world c.next_act.new.self in
+    let f = falling_at q.0 v (Listed g.R.Runner.list g.R.Runner.told g.R.Runner.asked c.args.runner.now) (g.R.Runner.living c.args.runner.now) q.1 in
+    next_not_above v w _ c.requires.drives f c.in-Some.ensures.next
+
+pub returns-in-Broke-clause-falls : goal.returns-in-Broke-clause-falls
+returns-in-Broke-clause-falls g c = λ no.
+    let q = c.requires.placed in
+    let v = g.S.Supervise.world c.args.supervisor.now in
+    let w = g.S.Supervise.world c.next_act.new.self in
+    let f = falling_at q.0 v (Listed g.R.Runner.list g.R.Runner.told g.R.Runner.asked c.args.runner.now) (g.R.Runner.living c.args.runner.now) q.1 in
+    next_falls v w _ c.requires.drives f (subst (λ (a : Act). NextAct v (Some a) w) c.in-Broke.is c.in-Some.ensures.next) refl

@@ -14,6 +14,8 @@ use Rattle.session.specs.Happenings.{Kept, records_of}
 use Rattle.session.specs.Places.{leaves}
 use Rattle.driver.specs.Lines.{id_of}
 use Rattle.driver.proofs.Told.{last_untold}
+use Rattle.ending_laws.specs.Drives.{Drives}
+use Rattle.ending_laws.proofs.Stands.{steady_on}
 use Rattle.activation.specs.Ended.{HasClosed}
 use Rattle.activation.proofs.Closed.{closed_quits, same_owners, steadied_owners, close_doubt, close_went, closed_at, completes, ends_up, last_closed, line_closed, pends_in}
 use Rattle.activation.proofs.closing.close_plan.Goals as goal
@@ -54,7 +56,7 @@ returns-in-Err-tell_close-clause-went g c = λ p told living r up.
       close_went g.J.Journal.entries g.J.Journal.files g.met.D.Disk.laws c.args.disk.now c.complete.new.disk told.list p d _ o world told living r (ends_up p d _ world told living r up) allowed c.complete.ensures.moments,
       subst (λ (l : List ℕ). AppendsFront (g.K.Sink.held c.args.sink.now) (g.K.Sink.held c.tell_close.new.sink) l) (line_closed p d o r.device_is)
           (c.in-Err-tell_close.ensures.line d.closed (id_of d) o (ap (λ (x : Device). x.closed) c.device.ensures ∙ last_closed d e o pending taken)),
-      (λ i left. subst (λ (y : Device). StandsFor g.J.Journal.entries i y) back (in_hand_stands g.met.D.Disk.laws g.met.J.Journal.laws _ c.complete.new.disk e c.in-Ok.ensures.held.0 i left)),
+      (r.runs.within.on.boot_end, λ i left. subst (λ (y : Device). StandsFor g.J.Journal.entries i y) back (in_hand_stands g.met.D.Disk.laws g.met.J.Journal.laws _ c.complete.new.disk e c.in-Ok.ensures.held.0 i left)),
       closed_quits p d _ o world (g.S.Supervise.world c.steady.new.self) told living r (steadied_owners p d _ world (g.S.Supervise.world c.steady.new.self) told living r c.steady.ensures),
     )
 
@@ -70,3 +72,9 @@ returns-in-Err-clause-went g c = λ p told living r up.
       close_doubt g.J.Journal.entries g.J.Journal.files g.met.D.Disk.laws c.args.disk.now c.complete.new.disk p d o r.device_is allowed c.complete.ensures.moments,
       closed_quits p d _ o world world told living r (same_owners p d _ world told living r),
     )
+
+pub returns-in-Ok-tell_close-clause-drives : goal.returns-in-Ok-tell_close-clause-drives
+returns-in-Ok-tell_close-clause-drives g c = subst (λ (w : World). Drives w) (sym c.steady.ensures) (steady_on (g.S.Supervise.world c.args.supervisor.now) c.requires.drives).drives
+
+pub returns-in-Err-tell_close-clause-drives : goal.returns-in-Err-tell_close-clause-drives
+returns-in-Err-tell_close-clause-drives g c = subst (λ (w : World). Drives w) (sym c.steady.ensures) (steady_on (g.S.Supervise.world c.args.supervisor.now) c.requires.drives).drives

@@ -14,6 +14,8 @@ use Rattle.session.specs.Happenings.{Kept, records_of}
 use Rattle.session.specs.Places.{leaves}
 use Rattle.driver.specs.Lines.{id_of}
 use Rattle.driver.proofs.Told.{last_untold}
+use Rattle.ending_laws.specs.Drives.{Drives}
+use Rattle.ending_laws.proofs.Stands.{steady_on}
 use Rattle.activation.specs.Ended.{HasClosed}
 use Rattle.activation.proofs.Closed.{closed_quits, same_owners, steadied_owners, Notes, close_doubt, close_went, closed_at, ends_set, last_closed, line_closed, pends_in, roll_allowed, rolls, set_outcome}
 use Rattle.activation.proofs.closing.close_set.Goals as goal
@@ -51,7 +53,7 @@ returns-in-Err-tell_close-clause-went g c = λ p told living broken r up.
       close_went g.J.Journal.entries g.J.Journal.files g.met.D.Disk.laws c.args.disk.now c.close.new.disk told.list p d broken o world told living r (ends_set p d broken world told living r up) allowed (subst (λ (x : Outcome). Notes g.J.Journal.entries g.J.Journal.files g.met.D.Disk.laws c.args.disk.now c.close.new.disk d (stored.Closed x)) same c.close.ensures.moments),
       subst (λ (l : List ℕ). AppendsFront (g.K.Sink.held c.args.sink.now) (g.K.Sink.held c.tell_close.new.sink) l) (line_closed p d o r.device_is)
           (c.in-Err-tell_close.ensures.line d.closed (id_of d) o (ap (λ (x : Device). x.closed) c.device.ensures ∙ last_closed d e o pending taken)),
-      (λ i left. subst (λ (y : Device). StandsFor g.J.Journal.entries i y) back (in_hand_stands g.met.D.Disk.laws g.met.J.Journal.laws _ c.close.new.disk e c.in-Ok.ensures.held.0 i left)),
+      (r.runs.within.on.boot_end, λ i left. subst (λ (y : Device). StandsFor g.J.Journal.entries i y) back (in_hand_stands g.met.D.Disk.laws g.met.J.Journal.laws _ c.close.new.disk e c.in-Ok.ensures.held.0 i left)),
       closed_quits p d broken o world (g.S.Supervise.world c.steady.new.self) told living r (steadied_owners p d broken world (g.S.Supervise.world c.steady.new.self) told living r c.steady.ensures),
     )
 
@@ -68,3 +70,9 @@ returns-in-Err-clause-went g c = λ p told living broken r up.
       close_doubt g.J.Journal.entries g.J.Journal.files g.met.D.Disk.laws c.args.disk.now c.close.new.disk p d o r.device_is allowed (subst (λ (x : Outcome). Notes g.J.Journal.entries g.J.Journal.files g.met.D.Disk.laws c.args.disk.now c.close.new.disk d (stored.Closed x)) same c.close.ensures.moments),
       closed_quits p d broken o world world told living r (same_owners p d broken world told living r),
     )
+
+pub returns-in-Ok-tell_close-clause-drives : goal.returns-in-Ok-tell_close-clause-drives
+returns-in-Ok-tell_close-clause-drives g c = subst (λ (w : World). Drives w) (sym c.steady.ensures) (steady_on (g.S.Supervise.world c.args.supervisor.now) c.requires.drives).drives
+
+pub returns-in-Err-tell_close-clause-drives : goal.returns-in-Err-tell_close-clause-drives
+returns-in-Err-tell_close-clause-drives g c = subst (λ (w : World). Drives w) (sym c.steady.ensures) (steady_on (g.S.Supervise.world c.args.supervisor.now) c.requires.drives).drives

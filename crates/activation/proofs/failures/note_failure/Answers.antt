@@ -63,7 +63,7 @@ returns-in-Err-tell_failed-clause-went g c = λ p told living h device.
       Kept r ∷ [],
       fail_went g.J.Journal.entries g.J.Journal.files g.met.D.Disk.laws c.args.disk.now c.failed.new.disk told.list p d c.args.who c.args.step c.args.exit n world told living device h can c.failed.ensures.moments,
       subst (λ (l : List ℕ). AppendsFront (g.K.Sink.held c.args.sink.now) (g.K.Sink.held c.tell_failed.new.sink) l) (line_failed p d e n c.args.step c.args.exit device c.in-Ok.ensures.taken) c.in-Err-tell_failed.ensures.line,
-      (λ i left. subst (λ (y : Device). StandsFor g.J.Journal.entries i y) back (coming_stands g.met.D.Disk.laws g.met.J.Journal.laws c.in-Ok.next c.failed.new.disk c.in-Ok.ensures.held i left)),
+      (h.within.on.boot_end, λ i left. subst (λ (y : Device). StandsFor g.J.Journal.entries i y) back (coming_stands g.met.D.Disk.laws g.met.J.Journal.laws c.in-Ok.next c.failed.new.disk c.in-Ok.ensures.held i left)),
       quits_of (left_by p (Kept r ∷ [])) world told living (fail_runs c.driving_laws.ensures p c.args.who c.args.step c.args.exit n world told living h can),
     )
 

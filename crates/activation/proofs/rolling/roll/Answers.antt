@@ -1,14 +1,11 @@
 use Rattle.std.proofs.Common.{◌++◌, true, false, ap, subst}
-use Rattle.device.specs.Devices.{Device}
 use Rattle.step_runner.specs.Entries.{Listed}
 use Rattle.session.specs.Places.{left_by}
 use Rattle.nuc_base.specs.declared.kinds.Outcome.TheVariants as outcomes
 use Rattle.deploy_state.specs.States.{idle_device, rolling_device}
-use Rattle.driver.specs.Same.{IsSameDeployment}
 use Rattle.driver.proofs.Joins.{went_on}
 use Rattle.driver.proofs.Told.{all_told, left_joined, lines_at_joined}
 use Rattle.activation.specs.Coming.{coming_device}
-use Rattle.activation.specs.Turns.{moments_in}
 use Rattle.activation.specs.declared.turns.Turned.TheVariants as turned
 use Rattle.activation.proofs.Parting.{apart, closed_on, held_set, left_set}
 use Rattle.activation.proofs.Turning.{quits_on}
@@ -20,17 +17,6 @@ come_up-requires-clause-placed g c = c.requires.placed
 pub into_set-state-requires : goal.into_set-state-requires
 into_set-state-requires g c = c.in-Ok.ensures.same
 
-pub returns-in-On-clause-went : goal.returns-in-On-clause-went
-returns-in-On-clause-went g c = λ p comes.
-    let t = c.in-Ok.ensures.went p comes in
-    (t.0, t.1, t.2, left_set c.in-Ok.coming c.into_set-state.result c.in-Ok.turned turned.On (moments_in t.0) (left_by p t.0) (g.S.Supervise.world c.come_up.new.supervisor) (Listed g.R.Runner.list g.R.Runner.told g.R.Runner.asked c.come_up.new.runner) (g.R.Runner.living c.come_up.new.runner) c.into_set-state.ensures c.in-On.is t.3, tt)
-
-pub returns-in-On-clause-held : goal.returns-in-On-clause-held
-returns-in-On-clause-held g c = held_set g.D.Disk.tells g.D.Disk.may_leave g.J.Journal.stands g.J.Journal.end c.in-Ok.coming c.into_set-state.result c.come_up.new.disk c.into_set-state.ensures c.in-Ok.ensures.held
-
-pub returns-in-On-clause-same : goal.returns-in-On-clause-same
-returns-in-On-clause-same g c = subst (λ (d : Device). IsSameDeployment (rolling_device c.args.state) d) (ap coming_device c.into_set-state.ensures) c.in-Ok.ensures.deployment
-
 pub close_set-requires-clause-held : goal.close_set-requires-clause-held
 close_set-requires-clause-held g c = held_set g.D.Disk.tells g.D.Disk.may_leave g.J.Journal.stands g.J.Journal.end c.in-Ok.coming c.into_set-state.result c.come_up.new.disk c.into_set-state.ensures c.in-Ok.ensures.held
 
@@ -40,7 +26,7 @@ close_set-requires-clause-placed g c =
     let t = c.in-Ok.ensures.went q.0 q.1 in
     let told = Listed g.R.Runner.list g.R.Runner.told g.R.Runner.asked c.come_up.new.runner in
     let living = g.R.Runner.living c.come_up.new.runner in
-    let r = left_set c.in-Ok.coming c.into_set-state.result c.in-Ok.turned turned.Settled (moments_in t.0) (left_by q.0 t.0) (g.S.Supervise.world c.come_up.new.supervisor) told living c.into_set-state.ensures c.in-Settled.is t.3 in
+    let r = left_set c.in-Ok.coming c.into_set-state.result c.in-Ok.turned turned.Settled (left_by q.0 t.0) (g.S.Supervise.world c.come_up.new.supervisor) told living c.into_set-state.ensures c.in-Settled.is t.3 in
     (left_by q.0 t.0, told, living, false, r.0, λ few. r.1)
 
 pub returns-in-Ok-close_set-clause-went : goal.returns-in-Ok-close_set-clause-went
@@ -48,7 +34,7 @@ returns-in-Ok-close_set-clause-went g c = λ p comes.
     let t = c.in-Ok.ensures.went p comes in
     let told = Listed g.R.Runner.list g.R.Runner.told g.R.Runner.asked c.come_up.new.runner in
     let living = g.R.Runner.living c.come_up.new.runner in
-    let r = left_set c.in-Ok.coming c.into_set-state.result c.in-Ok.turned turned.Settled (moments_in t.0) (left_by p t.0) (g.S.Supervise.world c.come_up.new.supervisor) told living c.into_set-state.ensures c.in-Settled.is t.3 in
+    let r = left_set c.in-Ok.coming c.into_set-state.result c.in-Ok.turned turned.Settled (left_by p t.0) (g.S.Supervise.world c.come_up.new.supervisor) told living c.into_set-state.ensures c.in-Settled.is t.3 in
     let u = c.in-Ok-close_set.ensures.went (left_by p t.0) told living false r.0 (λ few. r.1) in (
       u.0 ++ t.0,
       went_on g.J.Journal.entries g.J.Journal.files g.met.D.Disk.laws c.args.disk.now c.come_up.new.disk c.close_set.new.disk
@@ -63,7 +49,7 @@ returns-in-Err-close_set-clause-went g c = λ p comes.
     let t = c.in-Ok.ensures.went p comes in
     let told = Listed g.R.Runner.list g.R.Runner.told g.R.Runner.asked c.come_up.new.runner in
     let living = g.R.Runner.living c.come_up.new.runner in
-    let r = left_set c.in-Ok.coming c.into_set-state.result c.in-Ok.turned turned.Settled (moments_in t.0) (left_by p t.0) (g.S.Supervise.world c.come_up.new.supervisor) told living c.into_set-state.ensures c.in-Settled.is t.3 in
+    let r = left_set c.in-Ok.coming c.into_set-state.result c.in-Ok.turned turned.Settled (left_by p t.0) (g.S.Supervise.world c.come_up.new.supervisor) told living c.into_set-state.ensures c.in-Settled.is t.3 in
     let u = c.in-Err-close_set.ensures.went (left_by p t.0) told living false r.0 (λ few. r.1) in (
       u.0 ++ t.0,
       went_on g.J.Journal.entries g.J.Journal.files g.met.D.Disk.laws c.args.disk.now c.come_up.new.disk c.close_set.new.disk
@@ -82,7 +68,7 @@ close_set-requires-in-Broken-clause-placed g c =
     let t = c.in-Ok.ensures.went q.0 q.1 in
     let told = Listed g.R.Runner.list g.R.Runner.told g.R.Runner.asked c.come_up.new.runner in
     let living = g.R.Runner.living c.come_up.new.runner in
-    let r = left_set c.in-Ok.coming c.into_set-state.result c.in-Ok.turned turned.Broken (moments_in t.0) (left_by q.0 t.0) (g.S.Supervise.world c.come_up.new.supervisor) told living c.into_set-state.ensures c.in-Broken.is t.3 in
+    let r = left_set c.in-Ok.coming c.into_set-state.result c.in-Ok.turned turned.Broken (left_by q.0 t.0) (g.S.Supervise.world c.come_up.new.supervisor) told living c.into_set-state.ensures c.in-Broken.is t.3 in
     (left_by q.0 t.0, told, living, true, r, λ few. absurd (apart few))
 
 pub returns-in-Ok-close_set-2-clause-went : goal.returns-in-Ok-close_set-2-clause-went
@@ -90,7 +76,7 @@ returns-in-Ok-close_set-2-clause-went g c = λ p comes.
     let t = c.in-Ok.ensures.went p comes in
     let told = Listed g.R.Runner.list g.R.Runner.told g.R.Runner.asked c.come_up.new.runner in
     let living = g.R.Runner.living c.come_up.new.runner in
-    let r = left_set c.in-Ok.coming c.into_set-state.result c.in-Ok.turned turned.Broken (moments_in t.0) (left_by p t.0) (g.S.Supervise.world c.come_up.new.supervisor) told living c.into_set-state.ensures c.in-Broken.is t.3 in
+    let r = left_set c.in-Ok.coming c.into_set-state.result c.in-Ok.turned turned.Broken (left_by p t.0) (g.S.Supervise.world c.come_up.new.supervisor) told living c.into_set-state.ensures c.in-Broken.is t.3 in
     let u = c.in-Ok-close_set-2.ensures.went (left_by p t.0) told living true r (λ few. absurd (apart few)) in (
       u.0 ++ t.0,
       went_on g.J.Journal.entries g.J.Journal.files g.met.D.Disk.laws c.args.disk.now c.come_up.new.disk c.close_set-in-Broken.new.disk
@@ -105,7 +91,7 @@ returns-in-Err-close_set-2-clause-went g c = λ p comes.
     let t = c.in-Ok.ensures.went p comes in
     let told = Listed g.R.Runner.list g.R.Runner.told g.R.Runner.asked c.come_up.new.runner in
     let living = g.R.Runner.living c.come_up.new.runner in
-    let r = left_set c.in-Ok.coming c.into_set-state.result c.in-Ok.turned turned.Broken (moments_in t.0) (left_by p t.0) (g.S.Supervise.world c.come_up.new.supervisor) told living c.into_set-state.ensures c.in-Broken.is t.3 in
+    let r = left_set c.in-Ok.coming c.into_set-state.result c.in-Ok.turned turned.Broken (left_by p t.0) (g.S.Supervise.world c.come_up.new.supervisor) told living c.into_set-state.ensures c.in-Broken.is t.3 in
     let u = c.in-Err-close_set-2.ensures.went (left_by p t.0) told living true r (λ few. absurd (apart few)) in (
       u.0 ++ t.0,
       went_on g.J.Journal.entries g.J.Journal.files g.met.D.Disk.laws c.args.disk.now c.come_up.new.disk c.close_set-in-Broken.new.disk
@@ -119,3 +105,12 @@ pub returns-in-Err-clause-went : goal.returns-in-Err-clause-went
 returns-in-Err-clause-went g c = λ p comes.
     let t = c.in-Err.ensures.went p comes in
     (t.0, t.1, t.2, t.3, t.4)
+
+pub close_set-requires-clause-drives : goal.close_set-requires-clause-drives
+close_set-requires-clause-drives g c = c.come_up.ensures.rises.drives
+
+pub close_set-requires-in-Broken-clause-drives : goal.close_set-requires-in-Broken-clause-drives
+close_set-requires-in-Broken-clause-drives g c = c.come_up.ensures.rises.drives
+
+pub returns-in-Err-clause-drives : goal.returns-in-Err-clause-drives
+returns-in-Err-clause-drives g c = c.come_up.ensures.rises.drives

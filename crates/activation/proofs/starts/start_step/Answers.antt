@@ -5,6 +5,7 @@ use Rattle.supervisor.specs.Events.{later, skipped}
 use Rattle.session.specs.Places.{Place, left_by}
 use Rattle.session.proofs.Joined.{left-append}
 use Rattle.driver.proofs.Acting.{acts_on}
+use Rattle.ending_laws.proofs.Steps.{skip_falls}
 use Rattle.activation.specs.Runs.{Runs}
 use Rattle.activation.proofs.Entering.{later_same}
 use Rattle.activation.proofs.Starting.{handed_world, starting_moment}
@@ -53,3 +54,12 @@ returns-clause-went g c = λ p starting.
       acts_on p s.0 l.0 (g.R.Runner.list c.args.runner.now) (g.R.Runner.list c.is_skipped.new.runner) (g.R.Runner.list c.launch.new.runner) s.1 l.1,
       subst (λ (x : Place). Runs x (g.S.Supervise.world c.launch.new.supervisor) new (g.R.Runner.living c.launch.new.runner)) (sym (left-append p l.0 s.0)) l.2,
     )
+
+pub launch-requires-clause-drives : goal.launch-requires-clause-drives
+launch-requires-clause-drives g c = c.requires.drives
+
+pub returns-then-is_skipped-clause-falls : goal.returns-then-is_skipped-clause-falls
+returns-then-is_skipped-clause-falls g c =
+    let q = c.requires.placed in
+    let world = g.S.Supervise.world c.args.supervisor.now in
+    skip_falls world c.args.now c.requires.drives.0 c.requires.drives.1 (g.S.Supervise.world c.event.new.self) c.args.who c.args.step (handed_world c.args.who c.args.step world q.0.world q.1.world_is q.1.start) c.event.ensures

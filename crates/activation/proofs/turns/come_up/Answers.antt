@@ -1,4 +1,4 @@
-use Rattle.std.proofs.Common.{◌∙◌, ◌++◌, [], refl, sym, subst, arith}
+use Rattle.std.proofs.Common.{◌∙◌, ◌++◌, [], None, Option, Some, refl, sym, subst, arith}
 use Rattle.std.proofs.KnownBytes.{Appends-nil}
 use Rattle.device.specs.Devices.{Device}
 use Rattle.device.specs.Standing.{StandsFor}
@@ -14,19 +14,20 @@ use Rattle.driver.proofs.Told.{all_told, left_joined, lines_at_joined}
 use Rattle.activation.specs.Coming.{coming_device}
 use Rattle.activation.specs.Turns.{TurnLeft}
 use Rattle.activation.specs.declared.turns.Turned.{Turned}
-use Rattle.activation.specs.declared.turns.Turned.TheVariants as turned
+use Rattle.activation.proofs.Falling.{same_err}
 use Rattle.activation.proofs.Stages.{coming_stands}
-use Rattle.activation.proofs.Turning.{more_moments, quits_on}
+use Rattle.activation.proofs.Turning.{quits_on}
 use Rattle.activation.proofs.turns.come_up.Goals as goal
 
-pub loop-turn-init : goal.loop-turn-init
-loop-turn-init g c = record {
+pub turns-init : goal.turns-init
+turns-init g c = record {
   held = c.requires.held;
   same = refl;
   deployment = same_refl (coming_device c.args.state);
   others = λ tells name other. refl;
   quiet_disk = refl;
   quiet_sink = refl;
+  rises = c.requires.rises;
   went = λ p comes. (
     [],
     acted g.J.Journal.entries g.J.Journal.files g.met.D.Disk.laws c.args.disk.now (g.R.Runner.list c.args.runner.now) (g.R.Runner.list c.args.runner.now) p []
@@ -34,100 +35,81 @@ loop-turn-init g c = record {
         (acts_none p (g.R.Runner.list c.args.runner.now) (g.R.Runner.list c.args.runner.now) refl),
     Appends-nil (g.K.Sink.held c.args.sink.now),
     comes,
-    omega arith,
   );
 }
 
 pub turn-requires-clause-held : goal.turn-requires-clause-held
-turn-requires-clause-held g c = c.loop-turn.invariant.held
+turn-requires-clause-held g c = c.turns.invariant.held
 
 pub turn-requires-clause-placed : goal.turn-requires-clause-placed
 turn-requires-clause-placed g c =
     let q = c.requires.placed in
-    let w = c.loop-turn.invariant.went q.0 q.1 in
+    let w = c.turns.invariant.went q.0 q.1 in
     (left_by q.0 w.0, w.3)
 
-pub loop-turn-preserved : goal.loop-turn-preserved
-loop-turn-preserved g c = record {
+pub turns-preserved : goal.turns-preserved
+turns-preserved g c = record {
   held = c.in-Ok.ensures.held;
-  same = c.in-Ok.ensures.same ∙ c.loop-turn.invariant.same;
-  deployment = same_trans (coming_device c.args.state) (coming_device c.loop-turn.state) (coming_device c.in-Ok.next) c.loop-turn.invariant.deployment c.in-Ok.ensures.deployment;
-  others = λ tells name other. c.turn.ensures.others tells name other ∙ c.loop-turn.invariant.others tells name other;
-  quiet_disk = c.in-Ok.ensures.quiet_disk (not_err (c.in-Ok.next, c.in-Ok.turned) over.Disk) ∙ c.loop-turn.invariant.quiet_disk;
-  quiet_sink = c.in-Ok.ensures.quiet_sink (not_err (c.in-Ok.next, c.in-Ok.turned) over.Edge) ∙ c.loop-turn.invariant.quiet_sink;
+  same = c.in-Ok.ensures.same ∙ c.turns.invariant.same;
+  deployment = same_trans (coming_device c.args.state) (coming_device c.turns.state) (coming_device c.in-Ok.next) c.turns.invariant.deployment c.in-Ok.ensures.deployment;
+  others = λ tells name other. c.turn.ensures.others tells name other ∙ c.turns.invariant.others tells name other;
+  quiet_disk = c.in-Ok.ensures.quiet_disk (not_err (c.in-Ok.next, c.in-Ok.turned) over.Disk) ∙ c.turns.invariant.quiet_disk;
+  quiet_sink = c.in-Ok.ensures.quiet_sink (not_err (c.in-Ok.next, c.in-Ok.turned) over.Edge) ∙ c.turns.invariant.quiet_sink;
+  rises = c.turn.ensures.rises;
   went = λ p comes.
-      let w = c.loop-turn.invariant.went p comes in
+      let w = c.turns.invariant.went p comes in
       let t = c.in-Ok.ensures.went (left_by p w.0) w.3 in
       let e = coming_device c.in-Ok.next in
       let new = Listed g.R.Runner.list g.R.Runner.told g.R.Runner.asked c.turn.new.runner in
       let world = g.S.Supervise.world c.turn.new.supervisor in
       let living = g.R.Runner.living c.turn.new.runner in (
         t.0 ++ w.0,
-        went_on g.J.Journal.entries g.J.Journal.files g.met.D.Disk.laws c.args.disk.now c.loop-turn.disk c.turn.new.disk
-            (g.R.Runner.list c.args.runner.now) (g.R.Runner.list c.loop-turn.runner) (g.R.Runner.list c.turn.new.runner) p w.0 t.0 w.1 t.1,
-        all_told (g.K.Sink.held c.args.sink.now) (g.K.Sink.held c.loop-turn.sink) (g.K.Sink.held c.turn.new.sink) p w.0 t.0 w.1.run w.2 t.2,
-        subst (λ (x : Place). TurnLeft turned.On x e world new living) (sym (left-append p t.0 w.0)) (subst (λ (k : Turned). TurnLeft k (left_by (left_by p w.0) t.0) e world new living) c.in-On.is t.3.0),
-        more_moments c.loop-turn._turn w.0 t.0 w.4 t.3.1,
+        went_on g.J.Journal.entries g.J.Journal.files g.met.D.Disk.laws c.args.disk.now c.turns.disk c.turn.new.disk
+            (g.R.Runner.list c.args.runner.now) (g.R.Runner.list c.turns.runner) (g.R.Runner.list c.turn.new.runner) p w.0 t.0 w.1 t.1,
+        all_told (g.K.Sink.held c.args.sink.now) (g.K.Sink.held c.turns.sink) (g.K.Sink.held c.turn.new.sink) p w.0 t.0 w.1.run w.2 t.2,
+        subst (λ (x : Place). TurnLeft None x e world new living) (sym (left-append p t.0 w.0)) (subst (λ (k : Option Turned). TurnLeft k (left_by (left_by p w.0) t.0) e world new living) c.in-None.is t.3),
       );
 }
 
-pub returns-in-Settled-clause-went : goal.returns-in-Settled-clause-went
-returns-in-Settled-clause-went g c = λ p comes.
-    let w = c.loop-turn.invariant.went p comes in
+pub returns-in-Some-clause-went : goal.returns-in-Some-clause-went
+returns-in-Some-clause-went g c = λ p comes.
+    let w = c.turns.invariant.went p comes in
     let t = c.in-Ok.ensures.went (left_by p w.0) w.3 in
     let e = coming_device c.in-Ok.next in
     let new = Listed g.R.Runner.list g.R.Runner.told g.R.Runner.asked c.turn.new.runner in
     let world = g.S.Supervise.world c.turn.new.supervisor in
     let living = g.R.Runner.living c.turn.new.runner in (
       t.0 ++ w.0,
-      went_on g.J.Journal.entries g.J.Journal.files g.met.D.Disk.laws c.args.disk.now c.loop-turn.disk c.turn.new.disk
-          (g.R.Runner.list c.args.runner.now) (g.R.Runner.list c.loop-turn.runner) (g.R.Runner.list c.turn.new.runner) p w.0 t.0 w.1 t.1,
-      all_told (g.K.Sink.held c.args.sink.now) (g.K.Sink.held c.loop-turn.sink) (g.K.Sink.held c.turn.new.sink) p w.0 t.0 w.1.run w.2 t.2,
-      subst (λ (x : Place). TurnLeft turned.Settled x e world new living) (sym (left-append p t.0 w.0)) (subst (λ (k : Turned). TurnLeft k (left_by (left_by p w.0) t.0) e world new living) c.in-Settled.is t.3.0),
+      went_on g.J.Journal.entries g.J.Journal.files g.met.D.Disk.laws c.args.disk.now c.turns.disk c.turn.new.disk
+          (g.R.Runner.list c.args.runner.now) (g.R.Runner.list c.turns.runner) (g.R.Runner.list c.turn.new.runner) p w.0 t.0 w.1 t.1,
+      all_told (g.K.Sink.held c.args.sink.now) (g.K.Sink.held c.turns.sink) (g.K.Sink.held c.turn.new.sink) p w.0 t.0 w.1.run w.2 t.2,
+      subst (λ (x : Place). TurnLeft (Some c.in-Some.turned) x e world new living) (sym (left-append p t.0 w.0)) (subst (λ (k : Option Turned). TurnLeft k (left_by (left_by p w.0) t.0) e world new living) c.in-Some.is t.3),
       tt,
     )
 
-pub returns-in-Settled-clause-deployment : goal.returns-in-Settled-clause-deployment
-returns-in-Settled-clause-deployment g c = same_trans (coming_device c.args.state) (coming_device c.loop-turn.state) (coming_device c.in-Ok.next) c.loop-turn.invariant.deployment c.in-Ok.ensures.deployment
-
-pub returns-in-Broken-clause-went : goal.returns-in-Broken-clause-went
-returns-in-Broken-clause-went g c = λ p comes.
-    let w = c.loop-turn.invariant.went p comes in
-    let t = c.in-Ok.ensures.went (left_by p w.0) w.3 in
-    let e = coming_device c.in-Ok.next in
-    let new = Listed g.R.Runner.list g.R.Runner.told g.R.Runner.asked c.turn.new.runner in
-    let world = g.S.Supervise.world c.turn.new.supervisor in
-    let living = g.R.Runner.living c.turn.new.runner in (
-      t.0 ++ w.0,
-      went_on g.J.Journal.entries g.J.Journal.files g.met.D.Disk.laws c.args.disk.now c.loop-turn.disk c.turn.new.disk
-          (g.R.Runner.list c.args.runner.now) (g.R.Runner.list c.loop-turn.runner) (g.R.Runner.list c.turn.new.runner) p w.0 t.0 w.1 t.1,
-      all_told (g.K.Sink.held c.args.sink.now) (g.K.Sink.held c.loop-turn.sink) (g.K.Sink.held c.turn.new.sink) p w.0 t.0 w.1.run w.2 t.2,
-      subst (λ (x : Place). TurnLeft turned.Broken x e world new living) (sym (left-append p t.0 w.0)) (subst (λ (k : Turned). TurnLeft k (left_by (left_by p w.0) t.0) e world new living) c.in-Broken.is t.3.0),
-      tt,
-    )
-
-pub returns-in-Broken-clause-deployment : goal.returns-in-Broken-clause-deployment
-returns-in-Broken-clause-deployment g c = same_trans (coming_device c.args.state) (coming_device c.loop-turn.state) (coming_device c.in-Ok.next) c.loop-turn.invariant.deployment c.in-Ok.ensures.deployment
+pub returns-in-Some-clause-deployment : goal.returns-in-Some-clause-deployment
+returns-in-Some-clause-deployment g c = same_trans (coming_device c.args.state) (coming_device c.turns.state) (coming_device c.in-Ok.next) c.turns.invariant.deployment c.in-Ok.ensures.deployment
 
 pub returns-in-Err-clause-went : goal.returns-in-Err-clause-went
 returns-in-Err-clause-went g c = λ p comes.
-    let w = c.loop-turn.invariant.went p comes in
+    let w = c.turns.invariant.went p comes in
     let t = c.in-Err.ensures.went (left_by p w.0) w.3 in (
       t.0 ++ w.0,
-      went_on g.J.Journal.entries g.J.Journal.files g.met.D.Disk.laws c.args.disk.now c.loop-turn.disk c.turn.new.disk
-          (g.R.Runner.list c.args.runner.now) (g.R.Runner.list c.loop-turn.runner) (g.R.Runner.list c.turn.new.runner) p w.0 t.0 w.1 t.1,
-      lines_at_joined (g.K.Sink.held c.args.sink.now) (g.K.Sink.held c.loop-turn.sink) (g.K.Sink.held c.turn.new.sink) p w.0 t.0 c.in-Err.over w.1.run w.2 t.2,
+      went_on g.J.Journal.entries g.J.Journal.files g.met.D.Disk.laws c.args.disk.now c.turns.disk c.turn.new.disk
+          (g.R.Runner.list c.args.runner.now) (g.R.Runner.list c.turns.runner) (g.R.Runner.list c.turn.new.runner) p w.0 t.0 w.1 t.1,
+      lines_at_joined (g.K.Sink.held c.args.sink.now) (g.K.Sink.held c.turns.sink) (g.K.Sink.held c.turn.new.sink) p w.0 t.0 c.in-Err.over w.1.run w.2 t.2,
       left_joined g.J.Journal.entries g.D.Disk.may_leave c.turn.new.disk p w.0 t.0 c.in-Err.over w.1.run t.3,
       quits_on p w.0 t.0 (g.S.Supervise.world c.turn.new.supervisor) (Listed g.R.Runner.list g.R.Runner.told g.R.Runner.asked c.turn.new.runner) (g.R.Runner.living c.turn.new.runner) t.4,
     )
 
 pub returns-in-Err-clause-disk : goal.returns-in-Err-clause-disk
-returns-in-Err-clause-disk g c = λ is. let r = c.in-Err.ensures.disk is in omega (arith, r, c.loop-turn.invariant.quiet_disk)
+returns-in-Err-clause-disk g c = λ is. let r = c.in-Err.ensures.disk (same_err c.in-Err.over over.Disk is) in omega (arith, r, c.turns.invariant.quiet_disk)
 
 pub returns-in-Err-clause-edge : goal.returns-in-Err-clause-edge
-returns-in-Err-clause-edge g c = λ is. let r = c.in-Err.ensures.edge is in omega (arith, r, c.loop-turn.invariant.quiet_sink)
+returns-in-Err-clause-edge g c = λ is. let r = c.in-Err.ensures.edge (same_err c.in-Err.over over.Edge is) in omega (arith, r, c.turns.invariant.quiet_sink)
 
-pub returns-clause-went : goal.returns-clause-went
-returns-clause-went g c = λ p comes.
-    let w = c.loop-turn.invariant.went p comes in
-    (w.0, w.1, w.2, (w.3, omega (arith, w.4)), tt)
+pub turn-requires-clause-rises : goal.turn-requires-clause-rises
+turn-requires-clause-rises g c = c.turns.invariant.rises
+
+pub turns-smaller : goal.turns-smaller
+turns-smaller g c = c.in-Ok.ensures.falls c.in-None.is

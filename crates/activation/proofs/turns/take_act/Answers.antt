@@ -10,6 +10,8 @@ use Rattle.driver.proofs.Told.{all_told, left_joined, lines_at_joined}
 use Rattle.activation.specs.Coming.{coming_device}
 use Rattle.activation.specs.Did.{ActLeft}
 use Rattle.activation.proofs.Entering.{never}
+use Rattle.activation.proofs.Falling.{failed_is, something_is}
+use Rattle.activation.proofs.Parting.{apart}
 use Rattle.activation.proofs.Stages.{coming_stands}
 use Rattle.activation.proofs.Turning.{no_lines, quits_on}
 use Rattle.activation.proofs.turns.take_act.Goals as goal
@@ -83,3 +85,12 @@ returns-in-Err-clause-went g c = λ p runs device.
       left_joined g.J.Journal.entries g.D.Disk.may_leave c.note_failure.new.disk p w.0 t.0 c.in-Err.over one.run t.3,
       quits_on p w.0 t.0 (g.S.Supervise.world c.act.new.supervisor) told living t.4,
     )
+
+pub returns-in-Nothing-clause-falls : goal.returns-in-Nothing-clause-falls
+returns-in-Nothing-clause-falls g c = λ some. absurd (apart some)
+
+pub returns-in-Something-clause-falls : goal.returns-in-Something-clause-falls
+returns-in-Something-clause-falls g c = λ some. c.act.ensures.falls (something_is c.act.result c.in-Something.is)
+
+pub returns-in-Ok-clause-falls : goal.returns-in-Ok-clause-falls
+returns-in-Ok-clause-falls g c = λ some. c.act.ensures.falls (failed_is c.act.result c.in-Failed.who c.in-Failed.step c.in-Failed.exit c.in-Failed.is)

@@ -1,4 +1,4 @@
-use Rattle.std.proofs.Common.{◌∙◌, ◌++◌, true, false, sym, subst}
+use Rattle.std.proofs.Common.{◌∙◌, ◌++◌, inl, inr, true, false, refl, sym, subst, arith}
 use Rattle.device.specs.Devices.{Device}
 use Rattle.device.specs.Standing.{StandsFor}
 use Rattle.step_runner.specs.Entries.{Listed}
@@ -6,16 +6,19 @@ use Rattle.session.specs.Places.{Place, left_by}
 use Rattle.session.proofs.Joined.{left-append}
 use Rattle.driver.proofs.Joins.{acted, went_on}
 use Rattle.driver.proofs.Told.{all_told, left_joined, lines_at_joined}
+use Rattle.progress_laws.specs.Rank.{rank}
+use Rattle.ending_laws.proofs.Same.{rises_on}
+use Rattle.ending_laws.proofs.Steps.{measure_less, not_above_on, turn_goes}
 use Rattle.activation.specs.Coming.{coming_device}
 use Rattle.activation.specs.Did.{ActLeft}
 use Rattle.activation.specs.Runs.{Comes}
-use Rattle.activation.proofs.Entering.{comes_of}
+use Rattle.activation.proofs.Falling.{falling_at, sits_time}
 use Rattle.activation.proofs.Stages.{coming_stands}
-use Rattle.activation.proofs.Turning.{no_lines, quits_on, rests, settled_is, sits, some_moments}
+use Rattle.activation.proofs.Turning.{no_lines, quits_on, rests, settled_is, sits}
 use Rattle.activation.proofs.turns.turn.Goals as goal
 
-pub pass-now-requires : goal.pass-now-requires
-pass-now-requires g c = let q = c.requires.placed in record { placed = (q.0, coming_device c.args.state, q.1) }
+pub pass-now-requires-clause-placed : goal.pass-now-requires-clause-placed
+pass-now-requires-clause-placed g c = let q = c.requires.placed in (q.0, coming_device c.args.state, q.1)
 
 pub take_acts-requires-clause-now : goal.take_acts-requires-clause-now
 take_acts-requires-clause-now g c = c.pass-now.ensures.now
@@ -42,26 +45,6 @@ returns-in-Err-clause-went g c = λ p comes.
       quits_on p w.0 t.0 (g.S.Supervise.world c.take_acts.new.supervisor) (Listed g.R.Runner.list g.R.Runner.told g.R.Runner.asked c.take_acts.new.runner) (g.R.Runner.living c.take_acts.new.runner) t.4,
     )
 
-pub returns-then-not-none-clause-went : goal.returns-then-not-none-clause-went
-returns-then-not-none-clause-went g c = λ p comes.
-    let d = coming_device c.args.state in
-    let e = coming_device c.in-Ok.next in
-    let w = c.pass-now.ensures.went p d comes in
-    let device = comes.stands.device_is in
-    let t = c.in-Ok.ensures.went (left_by p w.0) w.2 (w.1.device ∙ device) in
-    let one = acted g.J.Journal.entries g.J.Journal.files g.met.D.Disk.laws c.args.disk.now (g.R.Runner.list c.args.runner.now) (g.R.Runner.list c.pass-now.new.runner) p w.0
-    (λ i left. subst (λ (x : Device). StandsFor g.J.Journal.entries i x) (sym device) (coming_stands g.met.D.Disk.laws g.met.J.Journal.laws c.args.state c.args.disk.now c.requires.held i left)) w.1 in
-    let new = Listed g.R.Runner.list g.R.Runner.told g.R.Runner.asked c.take_acts.new.runner in
-    let world = g.S.Supervise.world c.take_acts.new.supervisor in
-    let living = g.R.Runner.living c.take_acts.new.runner in (
-      t.0 ++ w.0,
-      went_on g.J.Journal.entries g.J.Journal.files g.met.D.Disk.laws c.args.disk.now c.args.disk.now c.take_acts.new.disk
-          (g.R.Runner.list c.args.runner.now) (g.R.Runner.list c.pass-now.new.runner) (g.R.Runner.list c.take_acts.new.runner) p w.0 t.0 one t.1,
-      all_told (g.K.Sink.held c.args.sink.now) (g.K.Sink.held c.args.sink.now) (g.K.Sink.held c.take_acts.new.sink) p w.0 t.0 one.run (no_lines (g.K.Sink.held c.args.sink.now) p.device w.0 w.1.none) t.2,
-      (subst (λ (x : Place). Comes x e world new living) (sym (left-append p t.0 w.0)) (comes_of (left_by (left_by p w.0) t.0) e world new living t.3.runs t.3.device_is), some_moments w.0 t.0 w.3),
-      tt,
-    )
-
 pub returns-then-is_broken-clause-went : goal.returns-then-is_broken-clause-went
 returns-then-is_broken-clause-went g c = λ p comes.
     let d = coming_device c.args.state in
@@ -74,12 +57,12 @@ returns-then-is_broken-clause-went g c = λ p comes.
     let new = Listed g.R.Runner.list g.R.Runner.told g.R.Runner.asked c.take_acts.new.runner in
     let world = g.S.Supervise.world c.take_acts.new.supervisor in
     let living = g.R.Runner.living c.take_acts.new.runner in
-    let a = subst (λ (x : Place). ActLeft x e c.in-Ok.none world new living) (sym (left-append p t.0 w.0)) t.3 in (
+    let a = subst (λ (x : Place). ActLeft x e true world new living) (sym (left-append p t.0 w.0)) t.3 in (
       t.0 ++ w.0,
       went_on g.J.Journal.entries g.J.Journal.files g.met.D.Disk.laws c.args.disk.now c.args.disk.now c.take_acts.new.disk
           (g.R.Runner.list c.args.runner.now) (g.R.Runner.list c.pass-now.new.runner) (g.R.Runner.list c.take_acts.new.runner) p w.0 t.0 one t.1,
       all_told (g.K.Sink.held c.args.sink.now) (g.K.Sink.held c.args.sink.now) (g.K.Sink.held c.take_acts.new.sink) p w.0 t.0 one.run (no_lines (g.K.Sink.held c.args.sink.now) p.device w.0 w.1.none) t.2,
-      (rests (left_by p (t.0 ++ w.0)) e world new living c.in-Ok.none c.is_broken.result true a c.if-not-none.false c.is_broken.ensures c.if-is_broken.true, some_moments w.0 t.0 w.3),
+      rests (left_by p (t.0 ++ w.0)) e world new living true c.is_broken.result true a refl c.is_broken.ensures c.if-is_broken.true,
       tt,
     )
 
@@ -95,14 +78,14 @@ returns-then-settled-clause-went g c = λ p comes.
     let new = Listed g.R.Runner.list g.R.Runner.told g.R.Runner.asked c.take_acts.new.runner in
     let world = g.S.Supervise.world c.take_acts.new.supervisor in
     let living = g.R.Runner.living c.take_acts.new.runner in
-    let a = subst (λ (x : Place). ActLeft x e c.in-Ok.none world new living) (sym (left-append p t.0 w.0)) t.3 in
+    let a = subst (λ (x : Place). ActLeft x e true world new living) (sym (left-append p t.0 w.0)) t.3 in
     let q = left_by p (t.0 ++ w.0) in
-    let r = rests q e world new living c.in-Ok.none c.is_broken.result false a c.if-not-none.false c.is_broken.ensures c.if-is_broken.false in (
+    let r = rests q e world new living true c.is_broken.result false a refl c.is_broken.ensures c.if-is_broken.false in (
       t.0 ++ w.0,
       went_on g.J.Journal.entries g.J.Journal.files g.met.D.Disk.laws c.args.disk.now c.args.disk.now c.take_acts.new.disk
           (g.R.Runner.list c.args.runner.now) (g.R.Runner.list c.pass-now.new.runner) (g.R.Runner.list c.take_acts.new.runner) p w.0 t.0 one t.1,
       all_told (g.K.Sink.held c.args.sink.now) (g.K.Sink.held c.args.sink.now) (g.K.Sink.held c.take_acts.new.sink) p w.0 t.0 one.run (no_lines (g.K.Sink.held c.args.sink.now) p.device w.0 w.1.none) t.2,
-      ((r, settled_is q e false world new living c.settled.result true r c.settled.ensures c.if-settled.true), some_moments w.0 t.0 w.3),
+      (r, settled_is q e false world new living c.settled.result true r c.settled.ensures c.if-settled.true),
       tt,
     )
 
@@ -121,7 +104,7 @@ wait_once-requires-clause-placed g c =
     let world = g.S.Supervise.world c.take_acts.new.supervisor in
     let living = g.R.Runner.living c.take_acts.new.runner in
     let x = left_by (left_by p w.0) t.0 in
-    let r = rests x e world new living c.in-Ok.none c.is_broken.result false t.3 c.if-not-none.false c.is_broken.ensures c.if-is_broken.false in
+    let r = rests x e world new living true c.is_broken.result false t.3 refl c.is_broken.ensures c.if-is_broken.false in
     (x, sits x e world new living c.settled.result r c.settled.ensures c.if-settled.false)
 
 pub returns-else-settled-clause-went : goal.returns-else-settled-clause-went
@@ -141,8 +124,8 @@ returns-else-settled-clause-went g c = λ p comes.
     (g.R.Runner.list c.args.runner.now) (g.R.Runner.list c.pass-now.new.runner) (g.R.Runner.list c.take_acts.new.runner) p w.0 t.0 one t.1 in
     let lines = all_told (g.K.Sink.held c.args.sink.now) (g.K.Sink.held c.args.sink.now) (g.K.Sink.held c.take_acts.new.sink) p w.0 t.0 one.run (no_lines (g.K.Sink.held c.args.sink.now) p.device w.0 w.1.none) t.2 in
     let x = left_by p (t.0 ++ w.0) in
-    let a = subst (λ (y : Place). ActLeft y e c.in-Ok.none world new living) (sym (left-append p t.0 w.0)) t.3 in
-    let r = rests x e world new living c.in-Ok.none c.is_broken.result false a c.if-not-none.false c.is_broken.ensures c.if-is_broken.false in
+    let a = subst (λ (y : Place). ActLeft y e true world new living) (sym (left-append p t.0 w.0)) t.3 in
+    let r = rests x e world new living true c.is_broken.result false a refl c.is_broken.ensures c.if-is_broken.false in
     let u = c.wait_once.ensures.went x e a.device_is (sits x e world new living c.settled.result r c.settled.ensures c.if-settled.false) in
     let slept = acted g.J.Journal.entries g.J.Journal.files g.met.D.Disk.laws c.take_acts.new.disk (g.R.Runner.list c.take_acts.new.runner) (g.R.Runner.list c.wait_once.new.runner) x u.0
     (λ i left. subst (λ (y : Device). StandsFor g.J.Journal.entries i y) (sym a.device_is) (coming_stands g.met.D.Disk.laws g.met.J.Journal.laws c.in-Ok.next c.take_acts.new.disk c.in-Ok.ensures.held i left)) u.1 in (
@@ -150,6 +133,92 @@ returns-else-settled-clause-went g c = λ p comes.
       went_on g.J.Journal.entries g.J.Journal.files g.met.D.Disk.laws c.args.disk.now c.take_acts.new.disk c.take_acts.new.disk
           (g.R.Runner.list c.args.runner.now) (g.R.Runner.list c.take_acts.new.runner) (g.R.Runner.list c.wait_once.new.runner) p (t.0 ++ w.0) u.0 both slept,
       all_told (g.K.Sink.held c.args.sink.now) (g.K.Sink.held c.take_acts.new.sink) (g.K.Sink.held c.take_acts.new.sink) p (t.0 ++ w.0) u.0 both.run lines (no_lines (g.K.Sink.held c.take_acts.new.sink) x.device u.0 u.1.none),
-      (subst (λ (y : Place). Comes y e (g.S.Supervise.world c.wait_once.new.supervisor) last (g.R.Runner.living c.wait_once.new.runner)) (sym (left-append p u.0 (t.0 ++ w.0))) u.2, some_moments (t.0 ++ w.0) u.0 (some_moments w.0 t.0 w.3)),
+      subst (λ (y : Place). Comes y e (g.S.Supervise.world c.wait_once.new.supervisor) last (g.R.Runner.living c.wait_once.new.runner)) (sym (left-append p u.0 (t.0 ++ w.0))) u.2,
       tt,
     )
+
+-- ---- the number
+
+pub pass-now-requires-clause-drives : goal.pass-now-requires-clause-drives
+pass-now-requires-clause-drives g c = c.requires.rises.drives
+
+pub take_acts-requires-clause-drives : goal.take_acts-requires-clause-drives
+take_acts-requires-clause-drives g c = c.pass-now.ensures.not_above.on.drives
+
+pub wait_once-requires-clause-drives : goal.wait_once-requires-clause-drives
+wait_once-requires-clause-drives g c =
+    let q = c.requires.placed in
+    let w = c.pass-now.ensures.went q.0 (coming_device c.args.state) q.1 in
+    let t = c.in-Ok.ensures.went (left_by q.0 w.0) w.2 (w.1.device ∙ q.1.stands.device_is) in
+    let new = Listed g.R.Runner.list g.R.Runner.told g.R.Runner.asked c.take_acts.new.runner in
+    (c.take_acts.ensures.not_above.on.drives, falling_at (left_by (left_by q.0 w.0) t.0) (g.S.Supervise.world c.take_acts.new.supervisor) new (g.R.Runner.living c.take_acts.new.runner) t.3.runs)
+
+pub wait_once-requires-clause-time : goal.wait_once-requires-clause-time
+wait_once-requires-clause-time g c =
+    let q = c.requires.placed in
+    let p = q.0 in
+    let d = coming_device c.args.state in
+    let e = coming_device c.in-Ok.next in
+    let w = c.pass-now.ensures.went p d q.1 in
+    let t = c.in-Ok.ensures.went (left_by p w.0) w.2 (w.1.device ∙ q.1.stands.device_is) in
+    let new = Listed g.R.Runner.list g.R.Runner.told g.R.Runner.asked c.take_acts.new.runner in
+    let world = g.S.Supervise.world c.take_acts.new.supervisor in
+    let living = g.R.Runner.living c.take_acts.new.runner in
+    let x = left_by (left_by p w.0) t.0 in
+    let r = rests x e world new living true c.is_broken.result false t.3 refl c.is_broken.ensures c.if-is_broken.false in
+    let old = g.S.Supervise.world c.args.supervisor.now in
+    let told = g.S.Supervise.world c.pass-now.new.supervisor in
+    let acts = g.S.Supervise.world c.take_acts.new.supervisor in
+    let n = not_above_on old told acts c.pass-now.ensures.not_above c.take_acts.ensures.not_above in
+    sits_time x world new living (sits x e world new living c.settled.result r c.settled.ensures c.if-settled.false) (rises_on old acts n.on c.requires.rises)
+
+pub returns-in-Err-clause-rises : goal.returns-in-Err-clause-rises
+returns-in-Err-clause-rises g c =
+    let old = g.S.Supervise.world c.args.supervisor.now in
+    let told = g.S.Supervise.world c.pass-now.new.supervisor in
+    let acts = g.S.Supervise.world c.take_acts.new.supervisor in
+    let n = not_above_on old told acts c.pass-now.ensures.not_above c.take_acts.ensures.not_above in
+    rises_on old acts n.on c.requires.rises
+
+pub returns-then-is_broken-clause-rises : goal.returns-then-is_broken-clause-rises
+returns-then-is_broken-clause-rises g c =
+    let old = g.S.Supervise.world c.args.supervisor.now in
+    let told = g.S.Supervise.world c.pass-now.new.supervisor in
+    let acts = g.S.Supervise.world c.take_acts.new.supervisor in
+    let n = not_above_on old told acts c.pass-now.ensures.not_above c.take_acts.ensures.not_above in
+    rises_on old acts n.on c.requires.rises
+
+pub returns-then-settled-clause-rises : goal.returns-then-settled-clause-rises
+returns-then-settled-clause-rises g c =
+    let old = g.S.Supervise.world c.args.supervisor.now in
+    let told = g.S.Supervise.world c.pass-now.new.supervisor in
+    let acts = g.S.Supervise.world c.take_acts.new.supervisor in
+    let n = not_above_on old told acts c.pass-now.ensures.not_above c.take_acts.ensures.not_above in
+    rises_on old acts n.on c.requires.rises
+
+pub returns-else-settled-clause-rises : goal.returns-else-settled-clause-rises
+returns-else-settled-clause-rises g c =
+    let old = g.S.Supervise.world c.args.supervisor.now in
+    let told = g.S.Supervise.world c.pass-now.new.supervisor in
+    let acts = g.S.Supervise.world c.take_acts.new.supervisor in
+    let n = not_above_on old told acts c.pass-now.ensures.not_above c.take_acts.ensures.not_above in
+    let last = g.S.Supervise.world c.wait_once.new.supervisor in
+    rises_on old last (not_above_on old acts last n c.wait_once.ensures.not_above).on c.requires.rises
+
+pub returns-then-is_broken-clause-falls : goal.returns-then-is_broken-clause-falls
+returns-then-is_broken-clause-falls g c = λ none. absurd (cc)
+
+pub returns-then-settled-clause-falls : goal.returns-then-settled-clause-falls
+returns-then-settled-clause-falls g c = λ none. absurd (cc)
+
+pub returns-else-settled-clause-falls : goal.returns-else-settled-clause-falls
+returns-else-settled-clause-falls g c = λ none.
+    let old = g.S.Supervise.world c.args.supervisor.now in
+    let told = g.S.Supervise.world c.pass-now.new.supervisor in
+    let acts = g.S.Supervise.world c.take_acts.new.supervisor in
+    let n = not_above_on old told acts c.pass-now.ensures.not_above c.take_acts.ensures.not_above in
+    let last = g.S.Supervise.world c.wait_once.new.supervisor in
+    let before = g.R.Runner.clock c.args.runner.now in
+    let after = g.R.Runner.clock c.wait_once.new.runner in
+    measure_less old last before after (g.met.R.Runner.in_time c.args.runner.now) (g.met.R.Runner.in_time c.wait_once.new.runner)
+    (turn_goes (rank old) (rank acts) (rank last) before c.pass-now.result after n.least c.wait_once.ensures.not_above.least c.pass-now.ensures.clock c.wait_once.ensures.goes_on)

@@ -37,4 +37,4 @@ returns-in-Err-clause-course g c = λ p from.
     let k = c.kill_all.ensures.went (left_by p t.0) t.4 in
     cut_off g.J.Journal.entries g.J.Journal.files c.args.disk.now c.keep_activating.new.disk told.list told.list (g.R.Runner.list c.kill_all.new.runner)
     (g.K.Sink.held c.args.sink.now) (g.K.Sink.held c.keep_activating.new.sink) p t.0 k.0 c.in-Err.over _
-    t.1 t.2 t.3 k.1 k.3
+    t.1 t.2 t.3 k.1 k.2 k.3 k.4

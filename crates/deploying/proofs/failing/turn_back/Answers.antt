@@ -55,4 +55,4 @@ returns-in-Err-clause-course g c = λ p from.
     let k = c.kill_all.ensures.went (left_by p t.0) t.4 in
     cut_off g.J.Journal.entries g.J.Journal.files c.args.disk.now c.break_off_activating.new.disk told.list told.list (g.R.Runner.list c.kill_all.new.runner)
     (g.K.Sink.held c.args.sink.now) (g.K.Sink.held c.args.sink.now) p t.0 k.0 c.in-Err.over _
-    t.1 (none_at (g.K.Sink.held c.args.sink.now) p.device (records_of t.0) c.in-Err.over t.5) t.3 k.1 k.3
+    t.1 (none_at (g.K.Sink.held c.args.sink.now) p.device (records_of t.0) c.in-Err.over t.5) t.3 k.1 k.2 k.3 k.4

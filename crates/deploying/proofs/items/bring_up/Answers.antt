@@ -2,7 +2,6 @@ use Rattle.std.specs.Prelude.{ℕ, List}
 use Rattle.std.proofs.Common.{◌≡◌, ◌∙◌, subst}
 use Rattle.nuc_base.specs.declared.kinds.Outcome.TheVariants as outcomes
 use Rattle.deploy_state.specs.States.{activating_device}
-use Rattle.deploy_state.specs.declared.state.Loaded.TheVariants as loaded
 use Rattle.step_runner.specs.Entries.{Listed, Told}
 use Rattle.supervisor.specs.World.{World}
 use Rattle.session.specs.Happenings.{Happening}
@@ -10,9 +9,9 @@ use Rattle.session.specs.Places.{Place, left_by}
 use Rattle.activation.specs.Ended.{ActivatedLeft, ActivatedSame}
 use Rattle.activation.specs.declared.activating.Activated.{Activated}
 use Rattle.activation.specs.declared.activating.Activated.TheVariants as activated
-use Rattle.giving_up.proofs.GivenUp.{quits_given_up, rising_given_up}
+use Rattle.giving_up.proofs.GivenUp.{quits_given_up}
 use Rattle.deploying.specs.declared.driven.Driven.TheVariants as driven
-use Rattle.deploying.proofs.Endings.{ended, left_off, more_left}
+use Rattle.deploying.proofs.Endings.{ended}
 use Rattle.deploying.proofs.Joining.{cut_off, joined}
 use Rattle.deploying.proofs.Leaving.{driven_on}
 use Rattle.deploying.proofs.Ways.{way_on}
@@ -60,36 +59,19 @@ returns-in-Ok-Broken-clause-course g c = λ p comes.
     (driven_on (g.S.Supervise.world c.fail_items.new.supervisor) last (g.R.Runner.living c.fail_items.new.runner) t.0)
     (c.fail_items.ensures.course (left_by p t.0) left)
 
--- ---- none of both in so many moments
+pub fail_items-requires-clause-drives : goal.fail_items-requires-clause-drives
+fail_items-requires-clause-drives g c = c.activate.ensures.drives
 
-pub kill_all-requires : goal.kill_all-requires
-kill_all-requires g c =
-    let q = c.requires.placed in
-    let t = c.in-Ok-More.ensures.went q.0 q.1 in
-    let new = Listed g.R.Runner.list g.R.Runner.told g.R.Runner.asked c.activate.new.runner in
-    let world = g.S.Supervise.world c.activate.new.supervisor in
-    let living = g.R.Runner.living c.activate.new.runner in
-    let left = left_as c.in-Ok-More.field-0 (activated.More c.in-Ok-More.state) t.0 (left_by q.0 t.0) world new living c.in-Ok-More.field-0-is t.3 in
-    record { placed = (left_by q.0 t.0, rising_given_up (left_by q.0 t.0) (activating_device c.in-Ok-More.state) world new living left.0) }
+pub returns-in-Ok-Closed-clause-drives : goal.returns-in-Ok-Closed-clause-drives
+returns-in-Ok-Closed-clause-drives g c = c.activate.ensures.drives
 
-pub returns-in-Ok-More-clause-course : goal.returns-in-Ok-More-clause-course
-returns-in-Ok-More-clause-course g c = λ p comes.
-    let t = c.in-Ok-More.ensures.went p comes in
-    let new = Listed g.R.Runner.list g.R.Runner.told g.R.Runner.asked c.activate.new.runner in
-    let world = g.S.Supervise.world c.activate.new.supervisor in
-    let living = g.R.Runner.living c.activate.new.runner in
-    let left = left_as c.in-Ok-More.field-0 (activated.More c.in-Ok-More.state) t.0 (left_by p t.0) world new living c.in-Ok-More.field-0-is t.3 in
-    let up = rising_given_up (left_by p t.0) (activating_device c.in-Ok-More.state) world new living left.0 in
-    let k = c.kill_all.ensures.went (left_by p t.0) up in
-    left_off g.J.Journal.entries g.J.Journal.files c.args.disk.now c.activate.new.disk (g.R.Runner.list c.args.runner.now) new.list (g.R.Runner.list c.kill_all.new.runner)
-    (g.K.Sink.held c.args.sink.now) (g.K.Sink.held c.activate.new.sink) p t.0 k.0 (driven.More (loaded.Activating c.in-Ok-More.state)) _
-    t.1 t.2 k.1
-    (more_left (left_by (left_by p t.0) k.0) (activating_device c.in-Ok-More.state) (g.R.Runner.living c.kill_all.new.runner) t.0 k.0 k.3 c.kill_all.ensures.none left.1 (k.1.device ∙ left.0.stands.device_is))
+pub returns-in-Ok-Broken-clause-drives : goal.returns-in-Ok-Broken-clause-drives
+returns-in-Ok-Broken-clause-drives g c = c.fail_items.ensures.drives
 
 -- ---- it gives up
 
-pub kill_all-requires-in-Err : goal.kill_all-requires-in-Err
-kill_all-requires-in-Err g c =
+pub kill_all-requires : goal.kill_all-requires
+kill_all-requires g c =
     let q = c.requires.placed in
     let t = c.in-Err.ensures.went q.0 q.1 in
     let new = Listed g.R.Runner.list g.R.Runner.told g.R.Runner.asked c.activate.new.runner in
@@ -99,7 +81,7 @@ pub returns-in-Err-clause-course : goal.returns-in-Err-clause-course
 returns-in-Err-clause-course g c = λ p comes.
     let t = c.in-Err.ensures.went p comes in
     let new = Listed g.R.Runner.list g.R.Runner.told g.R.Runner.asked c.activate.new.runner in
-    let k = c.kill_all-in-Err.ensures.went (left_by p t.0) (quits_given_up (left_by p t.0) (g.S.Supervise.world c.activate.new.supervisor) new (g.R.Runner.living c.activate.new.runner) t.4) in
-    cut_off g.J.Journal.entries g.J.Journal.files c.args.disk.now c.activate.new.disk (g.R.Runner.list c.args.runner.now) new.list (g.R.Runner.list c.kill_all-in-Err.new.runner)
+    let k = c.kill_all.ensures.went (left_by p t.0) (quits_given_up (left_by p t.0) (g.S.Supervise.world c.activate.new.supervisor) new (g.R.Runner.living c.activate.new.runner) t.4) in
+    cut_off g.J.Journal.entries g.J.Journal.files c.args.disk.now c.activate.new.disk (g.R.Runner.list c.args.runner.now) new.list (g.R.Runner.list c.kill_all.new.runner)
     (g.K.Sink.held c.args.sink.now) (g.K.Sink.held c.activate.new.sink) p t.0 k.0 c.in-Err.over _
-    t.1 t.2 t.3 k.1 k.3
+    t.1 t.2 t.3 k.1 k.2 k.3 k.4

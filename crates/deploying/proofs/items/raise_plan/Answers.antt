@@ -45,6 +45,11 @@ change_items-requires-clause-same g c =
     let world = g.S.Supervise.world c.args.supervisor.now in
     keeps_none (g.S.Supervise.coming c.args.items) world (stopped_in q.0 (activating_device c.args.state) world (Listed g.R.Runner.list g.R.Runner.told g.R.Runner.asked c.args.runner.now) (g.R.Runner.living c.args.runner.now) q.1)
 
+pub change_items-requires-clause-none : goal.change_items-requires-clause-none
+change_items-requires-clause-none g c =
+    let q = c.requires.placed in
+    stopped_in q.0 (activating_device c.args.state) (g.S.Supervise.world c.args.supervisor.now) (Listed g.R.Runner.list g.R.Runner.told g.R.Runner.asked c.args.runner.now) (g.R.Runner.living c.args.runner.now) q.1
+
 -- ---- they come up
 
 pub bring_up-requires-clause-placed : goal.bring_up-requires-clause-placed
@@ -68,3 +73,6 @@ returns-clause-course g c = λ p front.
     (no_lines (g.K.Sink.held c.args.sink.now) p.device t.0 t.1.none)
     (driven_on (g.S.Supervise.world c.bring_up.new.supervisor) last (g.R.Runner.living c.bring_up.new.runner) t.0)
     (c.bring_up.ensures.course (left_by p t.0) t.2)
+
+pub bring_up-requires-clause-rises : goal.bring_up-requires-clause-rises
+bring_up-requires-clause-rises g c = c.change_items.ensures.rises

@@ -3,7 +3,6 @@ use Rattle.std.proofs.Common.{◌≡◌, ◌∙◌, true, false, inr, sym, subst
 use Rattle.device.specs.Devices.{Device, device_view}
 use Rattle.device.specs.Sound.{IsSound}
 use Rattle.deploy_state.specs.States.{rolling_device}
-use Rattle.deploy_state.specs.declared.state.Loaded.TheVariants as loaded
 use Rattle.step_runner.specs.Entries.{Listed}
 use Rattle.session.specs.Phases.{duty_of}
 use Rattle.session.specs.Places.{left_by}
@@ -13,10 +12,10 @@ use Rattle.activation.specs.declared.rolling.Rolled.TheVariants as rolled
 use Rattle.activation.proofs.Turning.{no_lines}
 use Rattle.stage_changes.specs.Enters.{AreReady}
 use Rattle.stage_changes.proofs.Rising.{keeps_none, rises_in, room_for_none, stopped_in}
-use Rattle.giving_up.proofs.GivenUp.{quits_given_up, rising_given_up}
+use Rattle.giving_up.proofs.GivenUp.{quits_given_up}
 use Rattle.deploying.specs.Driven.{DrivenLeft}
 use Rattle.deploying.specs.declared.driven.Driven.TheVariants as driven
-use Rattle.deploying.proofs.Endings.{ended, left_off, more_left}
+use Rattle.deploying.proofs.Endings.{ended}
 use Rattle.deploying.proofs.Entering.{entered}
 use Rattle.deploying.proofs.Hands.{acted_held}
 use Rattle.deploying.proofs.Joining.{cut_off, joined}
@@ -52,6 +51,11 @@ change_items-requires-clause-same g c =
     let world = g.S.Supervise.world c.args.supervisor.now in
     keeps_none (g.S.Supervise.coming c.args.ready) world (stopped_in q.0 (rolling_device c.args.state) world (Listed g.R.Runner.list g.R.Runner.told g.R.Runner.asked c.args.runner.now) (g.R.Runner.living c.args.runner.now) q.1)
 
+pub change_items-requires-clause-none : goal.change_items-requires-clause-none
+change_items-requires-clause-none g c =
+    let q = c.requires.placed in
+    stopped_in q.0 (rolling_device c.args.state) (g.S.Supervise.world c.args.supervisor.now) (Listed g.R.Runner.list g.R.Runner.told g.R.Runner.asked c.args.runner.now) (g.R.Runner.living c.args.runner.now) q.1
+
 -- ---- they come up
 
 pub roll-requires-clause-placed : goal.roll-requires-clause-placed
@@ -82,46 +86,16 @@ returns-in-Ok-Closed-clause-course g c = λ p front.
     (ended g.J.Journal.entries g.J.Journal.files c.args.disk.now c.roll.new.disk told.list last.list (g.K.Sink.held c.args.sink.now) (g.K.Sink.held c.roll.new.sink) (left_by p t.0) u.0 x (λ y h r. DrivenLeft y h r world last next)
     u.1 u.2 (rolled_as c.in-Ok-Closed.field-0 (rolled.Closed c.in-Ok-Closed.idle c.in-Ok-Closed.outcome) u.0 (left_by (left_by p t.0) u.0) world last next c.in-Ok-Closed.field-0-is u.3))
 
--- ---- none of both in so many moments
+pub roll-requires-clause-rises : goal.roll-requires-clause-rises
+roll-requires-clause-rises g c = c.change_items.ensures.rises
 
-pub kill_all-requires : goal.kill_all-requires
-kill_all-requires g c =
-    let q = c.requires.placed in
-    let told = Listed g.R.Runner.list g.R.Runner.told g.R.Runner.asked c.args.runner.now in
-    let new = Listed g.R.Runner.list g.R.Runner.told g.R.Runner.asked c.roll.new.runner in
-    let t = entered q.0 (rolling_device c.args.state) (device_view c.device.result.now) (g.S.Supervise.world c.args.supervisor.now) (g.S.Supervise.world c.change_items.new.supervisor) told (g.R.Runner.living c.args.runner.now)
-    c.device.ensures q.1 c.requires.orderly (inr c.requires.held.1) c.change_items.ensures.went in
-    let u = c.in-Ok-More.ensures.went (left_by q.0 t.0) t.2 in
-    let end = left_by (left_by q.0 t.0) u.0 in
-    let more = rolled_as c.in-Ok-More.field-0 (rolled.More c.in-Ok-More.state) u.0 end (g.S.Supervise.world c.roll.new.supervisor) new (g.R.Runner.living c.roll.new.runner) c.in-Ok-More.field-0-is u.3 in
-    record { placed = (end, rising_given_up end (rolling_device c.in-Ok-More.state) (g.S.Supervise.world c.roll.new.supervisor) new (g.R.Runner.living c.roll.new.runner) more.0) }
-
-pub returns-in-Ok-More-clause-course : goal.returns-in-Ok-More-clause-course
-returns-in-Ok-More-clause-course g c = λ p front.
-    let d = rolling_device c.args.state in
-    let told = Listed g.R.Runner.list g.R.Runner.told g.R.Runner.asked c.args.runner.now in
-    let new = Listed g.R.Runner.list g.R.Runner.told g.R.Runner.asked c.roll.new.runner in
-    let last = Listed g.R.Runner.list g.R.Runner.told g.R.Runner.asked c.kill_all.new.runner in
-    let world = g.S.Supervise.world c.roll.new.supervisor in
-    let t = entered p d (device_view c.device.result.now) (g.S.Supervise.world c.args.supervisor.now) (g.S.Supervise.world c.change_items.new.supervisor) told (g.R.Runner.living c.args.runner.now)
-    c.device.ensures front c.requires.orderly (inr c.requires.held.1) c.change_items.ensures.went in
-    let u = c.in-Ok-More.ensures.went (left_by p t.0) t.2 in
-    let end = left_by (left_by p t.0) u.0 in
-    let more = rolled_as c.in-Ok-More.field-0 (rolled.More c.in-Ok-More.state) u.0 end world new (g.R.Runner.living c.roll.new.runner) c.in-Ok-More.field-0-is u.3 in
-    let k = c.kill_all.ensures.went end (rising_given_up end (rolling_device c.in-Ok-More.state) world new (g.R.Runner.living c.roll.new.runner) more.0) in
-    let x = driven.More (loaded.Rolling c.in-Ok-More.state) in
-    joined g.J.Journal.entries g.J.Journal.files g.met.D.Disk.laws c.args.disk.now c.args.disk.now c.roll.new.disk told.list told.list last.list
-    (g.K.Sink.held c.args.sink.now) (g.K.Sink.held c.args.sink.now) (g.K.Sink.held c.roll.new.sink) p t.0 (Ok x) (λ y h r. DrivenLeft y h r world last (g.R.Runner.living c.kill_all.new.runner))
-    (acted_held g.met.D.Disk.laws g.met.J.Journal.laws _ c.args.disk.now told.list told.list p d t.0 front.between.stands.device_is c.requires.held.0.0 t.1)
-    (no_lines (g.K.Sink.held c.args.sink.now) p.device t.0 t.1.none)
-    (driven_on world last (g.R.Runner.living c.kill_all.new.runner) t.0)
-    (left_off g.J.Journal.entries g.J.Journal.files c.args.disk.now c.roll.new.disk told.list new.list last.list (g.K.Sink.held c.args.sink.now) (g.K.Sink.held c.roll.new.sink) (left_by p t.0) u.0 k.0 x (λ y h r. DrivenLeft y h r world last (g.R.Runner.living c.kill_all.new.runner))
-    u.1 u.2 k.1 (more_left (left_by end k.0) (rolling_device c.in-Ok-More.state) (g.R.Runner.living c.kill_all.new.runner) u.0 k.0 k.3 c.kill_all.ensures.none more.1 (k.1.device ∙ more.0.stands.device_is)))
+pub returns-in-Ok-Closed-clause-drives : goal.returns-in-Ok-Closed-clause-drives
+returns-in-Ok-Closed-clause-drives g c = c.roll.ensures.drives
 
 -- ---- it gives up
 
-pub kill_all-requires-in-Err : goal.kill_all-requires-in-Err
-kill_all-requires-in-Err g c =
+pub kill_all-requires : goal.kill_all-requires
+kill_all-requires g c =
     let q = c.requires.placed in
     let told = Listed g.R.Runner.list g.R.Runner.told g.R.Runner.asked c.args.runner.now in
     let new = Listed g.R.Runner.list g.R.Runner.told g.R.Runner.asked c.roll.new.runner in
@@ -136,17 +110,17 @@ returns-in-Err-clause-course g c = λ p front.
     let d = rolling_device c.args.state in
     let told = Listed g.R.Runner.list g.R.Runner.told g.R.Runner.asked c.args.runner.now in
     let new = Listed g.R.Runner.list g.R.Runner.told g.R.Runner.asked c.roll.new.runner in
-    let last = Listed g.R.Runner.list g.R.Runner.told g.R.Runner.asked c.kill_all-in-Err.new.runner in
+    let last = Listed g.R.Runner.list g.R.Runner.told g.R.Runner.asked c.kill_all.new.runner in
     let world = g.S.Supervise.world c.roll.new.supervisor in
     let t = entered p d (device_view c.device.result.now) (g.S.Supervise.world c.args.supervisor.now) (g.S.Supervise.world c.change_items.new.supervisor) told (g.R.Runner.living c.args.runner.now)
     c.device.ensures front c.requires.orderly (inr c.requires.held.1) c.change_items.ensures.went in
     let u = c.in-Err.ensures.went (left_by p t.0) t.2 in
     let end = left_by (left_by p t.0) u.0 in
-    let k = c.kill_all-in-Err.ensures.went end (quits_given_up end world new (g.R.Runner.living c.roll.new.runner) u.4) in
+    let k = c.kill_all.ensures.went end (quits_given_up end world new (g.R.Runner.living c.roll.new.runner) u.4) in
     joined g.J.Journal.entries g.J.Journal.files g.met.D.Disk.laws c.args.disk.now c.args.disk.now c.roll.new.disk told.list told.list last.list
-    (g.K.Sink.held c.args.sink.now) (g.K.Sink.held c.args.sink.now) (g.K.Sink.held c.roll.new.sink) p t.0 (Err c.in-Err.over) (λ y h r. DrivenLeft y h r world last (g.R.Runner.living c.kill_all-in-Err.new.runner))
+    (g.K.Sink.held c.args.sink.now) (g.K.Sink.held c.args.sink.now) (g.K.Sink.held c.roll.new.sink) p t.0 (Err c.in-Err.over) (λ y h r. DrivenLeft y h r world last (g.R.Runner.living c.kill_all.new.runner))
     (acted_held g.met.D.Disk.laws g.met.J.Journal.laws _ c.args.disk.now told.list told.list p d t.0 front.between.stands.device_is c.requires.held.0.0 t.1)
     (no_lines (g.K.Sink.held c.args.sink.now) p.device t.0 t.1.none)
-    (driven_on world last (g.R.Runner.living c.kill_all-in-Err.new.runner) t.0)
-    (cut_off g.J.Journal.entries g.J.Journal.files c.args.disk.now c.roll.new.disk told.list new.list last.list (g.K.Sink.held c.args.sink.now) (g.K.Sink.held c.roll.new.sink) (left_by p t.0) u.0 k.0 c.in-Err.over (λ y h r. DrivenLeft y h r world last (g.R.Runner.living c.kill_all-in-Err.new.runner))
-    u.1 u.2 u.3 k.1 k.3)
+    (driven_on world last (g.R.Runner.living c.kill_all.new.runner) t.0)
+    (cut_off g.J.Journal.entries g.J.Journal.files c.args.disk.now c.roll.new.disk told.list new.list last.list (g.K.Sink.held c.args.sink.now) (g.K.Sink.held c.roll.new.sink) (left_by p t.0) u.0 k.0 c.in-Err.over (λ y h r. DrivenLeft y h r world last (g.R.Runner.living c.kill_all.new.runner))
+    u.1 u.2 u.3 k.1 k.2 k.3 k.4)

@@ -1,5 +1,6 @@
-use Rattle.std.proofs.Common.{inl, inr, refl, sym, subst}
+use Rattle.std.proofs.Common.{◌∙◌, inl, inr, refl, sym, subst}
 use Rattle.step_runner.specs.Entries.{Listed}
+use Rattle.session.specs.Places.{left_by}
 use Rattle.disk_model.specs.Disk.{Leaves}
 use Rattle.disk_model.specs.Listing.{artifacts, IsBelow}
 use Rattle.nuc_base.specs.declared.status.Status.TheVariants as statuses
@@ -8,21 +9,22 @@ use Rattle.artifact_store.specs.Holding.{AllHoldDevice, HoldsDevice}
 use Rattle.artifact_store.specs.Swept.{IsStray, items_of}
 use Rattle.artifact_store.proofs.Walking.{wider_spares}
 use Rattle.deploy_state.specs.States.{idle_device}
+use Rattle.giving_up.proofs.Ended.{killed_ends}
 use Rattle.deployments.proofs.Places.{closed_given_up, closed_stops}
-use Rattle.deployments.specs.Endings.{Fails, Forgets}
-use Rattle.deployments.proofs.Printing.{says_none, stops_ends}
-use Rattle.deployments.proofs.Statuses.{no_close, no_outcome, stops_answer, stops_as, stops_never, stops_where}
+use Rattle.deployments.specs.Endings.{Closes, Fails, Forgets}
+use Rattle.deployments.proofs.Printing.{says_none}
+use Rattle.deployments.proofs.Statuses.{disk_opens, no_outcome, opens_gives}
 use Rattle.deployments.proofs.closes.end_closed.Goals as goal
 
 -- ---- stray files are swept
 
-pub stop-requires : goal.stop-requires
-stop-requires g c =
+pub stop-requires-clause-placed : goal.stop-requires-clause-placed
+stop-requires-clause-placed g c =
     let q = c.requires.placed in
     let d = idle_device c.args.idle.now in
     let world = g.S.Supervise.world c.args.supervisor.now in
     let told = Listed g.R.Runner.list g.R.Runner.told g.R.Runner.asked c.args.runner.now in
-    record { placed = (q.0, d, closed_stops c.args.outcome q.1 q.0 d world told (g.R.Runner.living c.args.runner.now) q.2 q.3) }
+    (q.0, d, closed_stops c.args.outcome q.1 q.0 d world told (g.R.Runner.living c.args.runner.now) q.2 q.3)
 
 pub returns-in-Ok-clause-went : goal.returns-in-Ok-clause-went
 returns-in-Ok-clause-went g c = λ p records closed serves.
@@ -30,7 +32,7 @@ returns-in-Ok-clause-went g c = λ p records closed serves.
     let world = g.S.Supervise.world c.args.supervisor.now in
     let told = Listed g.R.Runner.list g.R.Runner.told g.R.Runner.asked c.args.runner.now in
     let t = c.stop.ensures.went p d (closed_stops c.args.outcome records p d world told (g.R.Runner.living c.args.runner.now) closed serves) in
-    (t.0, t.1, t.2, stops_where c.args.outcome c.stop.result t.3)
+    (t.0, t.1, t.2)
 
 pub returns-in-Ok-clause-spared : goal.returns-in-Ok-clause-spared
 returns-in-Ok-clause-spared g c = wider_spares g.met.D.Disk.laws (IsStray (items_of (device_view c.device.result.now))) (IsBelow artifacts) c.args.disk.now c.sweep.new.disk (λ name stray. stray.0) c.sweep.ensures.moments
@@ -43,40 +45,16 @@ pub returns-in-Ok-clause-others : goal.returns-in-Ok-clause-others
 returns-in-Ok-clause-others g c = λ told name spared. c.sweep.ensures.others told name (λ stray. spared stray.0)
 
 pub returns-in-Ok-clause-ends : goal.returns-in-Ok-clause-ends
-returns-in-Ok-clause-ends g c =
-    let q = c.requires.placed in
-    let d = idle_device c.args.idle.now in
-    let world = g.S.Supervise.world c.args.supervisor.now in
-    let told = Listed g.R.Runner.list g.R.Runner.told g.R.Runner.asked c.args.runner.now in
-    let t = c.stop.ensures.went q.0 d (closed_stops c.args.outcome q.1 q.0 d world told (g.R.Runner.living c.args.runner.now) q.2 q.3) in
-    stops_ends c.args.outcome c.stop.result (g.K.Sink.held c.args.sink.now) (stops_as c.args.outcome c.stop.result t.3)
+returns-in-Ok-clause-ends g c = (Closes c.args.outcome, (inl refl, λ fails. absurd cc), says_none (g.K.Sink.held c.args.sink.now) (g.K.Sink.held c.args.sink.now) c.stop.result refl, inl c.stop.ensures.answers)
 
 pub returns-in-Ok-clause-answers : goal.returns-in-Ok-clause-answers
-returns-in-Ok-clause-answers g c =
-    let q = c.requires.placed in
-    let d = idle_device c.args.idle.now in
-    let world = g.S.Supervise.world c.args.supervisor.now in
-    let told = Listed g.R.Runner.list g.R.Runner.told g.R.Runner.asked c.args.runner.now in
-    let t = c.stop.ensures.went q.0 d (closed_stops c.args.outcome q.1 q.0 d world told (g.R.Runner.living c.args.runner.now) q.2 q.3) in
-    stops_answer c.args.outcome c.stop.result (stops_as c.args.outcome c.stop.result t.3)
+returns-in-Ok-clause-answers g c = inl c.stop.ensures.answers
 
 pub returns-in-Ok-clause-disk : goal.returns-in-Ok-clause-disk
-returns-in-Ok-clause-disk g c = λ is.
-    let q = c.requires.placed in
-    let d = idle_device c.args.idle.now in
-    let world = g.S.Supervise.world c.args.supervisor.now in
-    let told = Listed g.R.Runner.list g.R.Runner.told g.R.Runner.asked c.args.runner.now in
-    let t = c.stop.ensures.went q.0 d (closed_stops c.args.outcome q.1 q.0 d world told (g.R.Runner.living c.args.runner.now) q.2 q.3) in
-    absurd (stops_never c.args.outcome c.stop.result statuses.Disk refl (λ e. cc) (stops_as c.args.outcome c.stop.result t.3) is)
+returns-in-Ok-clause-disk g c = λ is. absurd (no_outcome c.args.outcome statuses.Disk refl (sym c.stop.ensures.answers ∙ is))
 
 pub returns-in-Ok-clause-edge : goal.returns-in-Ok-clause-edge
-returns-in-Ok-clause-edge g c = λ is.
-    let q = c.requires.placed in
-    let d = idle_device c.args.idle.now in
-    let world = g.S.Supervise.world c.args.supervisor.now in
-    let told = Listed g.R.Runner.list g.R.Runner.told g.R.Runner.asked c.args.runner.now in
-    let t = c.stop.ensures.went q.0 d (closed_stops c.args.outcome q.1 q.0 d world told (g.R.Runner.living c.args.runner.now) q.2 q.3) in
-    absurd (stops_never c.args.outcome c.stop.result statuses.Edge refl (λ e. cc) (stops_as c.args.outcome c.stop.result t.3) is)
+returns-in-Ok-clause-edge g c = λ is. absurd (no_outcome c.args.outcome statuses.Edge refl (sym c.stop.ensures.answers ∙ is))
 
 -- ---- the disk failed
 
@@ -93,8 +71,10 @@ returns-in-Err-Disk-clause-went g c = λ p records closed serves.
     let d = idle_device c.args.idle.now in
     let world = g.S.Supervise.world c.args.supervisor.now in
     let told = Listed g.R.Runner.list g.R.Runner.told g.R.Runner.asked c.args.runner.now in
-    let t = c.kill_all.ensures.went p (closed_given_up c.args.outcome records p d world told (g.R.Runner.living c.args.runner.now) closed) in
-    (t.0, t.1, t.3, λ is. absurd (no_close c.args.outcome c.say_disk.result statuses.Disk refl c.say_disk.ensures.answers is))
+    let living = g.R.Runner.living c.args.runner.now in
+    let up = closed_given_up c.args.outcome records p d world told living closed in
+    let t = c.kill_all.ensures.went p up in
+    (t.0, t.1, killed_ends p (left_by p t.0) world told living c.say_disk.result false up t.2 t.3 (opens_gives c.say_disk.result (disk_opens c.say_disk.result c.say_disk.ensures.answers)).0 (λ kept. closed.back.told))
 
 pub returns-in-Err-Disk-clause-spared : goal.returns-in-Err-Disk-clause-spared
 returns-in-Err-Disk-clause-spared g c = wider_spares g.met.D.Disk.laws (IsStray (items_of (device_view c.device.result.now))) (IsBelow artifacts) c.args.disk.now c.sweep.new.disk (λ name stray. stray.0) c.sweep.ensures.moments
@@ -107,7 +87,7 @@ pub returns-in-Err-Disk-clause-others : goal.returns-in-Err-Disk-clause-others
 returns-in-Err-Disk-clause-others g c = λ told name spared. c.sweep.ensures.others told name (λ stray. spared stray.0)
 
 pub returns-in-Err-Disk-clause-ends : goal.returns-in-Err-Disk-clause-ends
-returns-in-Err-Disk-clause-ends g c = (Fails, inr (inr refl), c.say_disk.ensures.says, c.say_disk.ensures.answers)
+returns-in-Err-Disk-clause-ends g c = (Fails, (inr (inr refl), λ fails. c.in-Err-Disk.ensures.cause), c.say_disk.ensures.says, c.say_disk.ensures.answers)
 
 -- ---- there was no memory
 
@@ -124,8 +104,10 @@ returns-in-Err-NoMemory-clause-went g c = λ p records closed serves.
     let d = idle_device c.args.idle.now in
     let world = g.S.Supervise.world c.args.supervisor.now in
     let told = Listed g.R.Runner.list g.R.Runner.told g.R.Runner.asked c.args.runner.now in
-    let t = c.kill_all-in-Err-NoMemory.ensures.went p (closed_given_up c.args.outcome records p d world told (g.R.Runner.living c.args.runner.now) closed) in
-    (t.0, t.1, t.3, λ is. absurd (no_outcome c.args.outcome statuses.Memory refl (sym is)))
+    let living = g.R.Runner.living c.args.runner.now in
+    let up = closed_given_up c.args.outcome records p d world told living closed in
+    let t = c.kill_all-in-Err-NoMemory.ensures.went p up in
+    (t.0, t.1, killed_ends p (left_by p t.0) world told living statuses.Memory false up t.2 t.3 refl (λ kept. closed.back.told))
 
 pub returns-in-Err-NoMemory-clause-spared : goal.returns-in-Err-NoMemory-clause-spared
 returns-in-Err-NoMemory-clause-spared g c = wider_spares g.met.D.Disk.laws (IsStray (items_of (device_view c.device.result.now))) (IsBelow artifacts) c.args.disk.now c.sweep.new.disk (λ name stray. stray.0) c.sweep.ensures.moments
@@ -139,4 +121,4 @@ returns-in-Err-NoMemory-clause-others g c = λ told name spared. c.sweep.ensures
 
 pub returns-in-Err-NoMemory-clause-ends : goal.returns-in-Err-NoMemory-clause-ends
 returns-in-Err-NoMemory-clause-ends g c =
-    (Forgets, inr (inl refl), says_none (g.K.Sink.held c.args.sink.now) (g.K.Sink.held c.args.sink.now) statuses.Memory refl, inl refl)
+    (Forgets, (inr (inl refl), λ fails. absurd cc), says_none (g.K.Sink.held c.args.sink.now) (g.K.Sink.held c.args.sink.now) statuses.Memory refl, inl refl)

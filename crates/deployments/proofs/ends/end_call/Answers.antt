@@ -10,18 +10,22 @@ use Rattle.driver.proofs.Acting.{acts_none}
 use Rattle.driver.specs.Lines.{id_of}
 use Rattle.driver.specs.declared.over.Over.TheVariants as over
 use Rattle.deploying.specs.declared.driven.Driven.TheVariants as driven
-use Rattle.deployments.proofs.Places.{bare_none, between_bare}
+use Rattle.deployments.proofs.Places.{bare_none, between_bare, restart_ends}
 use Rattle.deployments.proofs.Printing.{says_none}
-use Rattle.deployments.specs.Endings.{Breaks, Fails, Forgets, Reboots, Restarts}
+use Rattle.deployments.specs.Endings.{Breaks, Fails, Reboots, Restarts}
 use Rattle.deployments.proofs.Results.{answers_err, answers_ok, ends_err, ends_ok, err_if, err_on, if_ok, not_edge, ok_if, ok_on, on_err}
 use Rattle.deployments.proofs.ends.end_call.Goals as goal
 
 -- ---- it closed
 
-pub end_closed-requires : goal.end_closed-requires
-end_closed-requires g c =
+pub end_closed-requires-clause-drives : goal.end_closed-requires-clause-drives
+end_closed-requires-clause-drives g c =
+    if_ok _ c.args.driven c.in-Ok-Closed.field-0 (driven.Closed c.in-Ok-Closed.idle c.in-Ok-Closed.outcome) c.in-Ok-Closed.is c.in-Ok-Closed.field-0-is c.requires.drives
+
+pub end_closed-requires-clause-placed : goal.end_closed-requires-clause-placed
+end_closed-requires-clause-placed g c =
     let q = if_ok _ c.args.driven c.in-Ok-Closed.field-0 (driven.Closed c.in-Ok-Closed.idle c.in-Ok-Closed.outcome) c.in-Ok-Closed.is c.in-Ok-Closed.field-0-is c.requires.placed in
-    record { placed = (q.0, records_of q.1, q.2, q.3) }
+    (q.0, records_of q.1, q.2, q.3)
 
 pub returns-in-Ok-Closed-clause-went : goal.returns-in-Ok-Closed-clause-went
 returns-in-Ok-Closed-clause-went g c =
@@ -51,7 +55,7 @@ returns-in-Ok-Closed-clause-edge g c = λ is. inr (c.end_closed.ensures.edge is)
 pub returns-in-Ok-Closed-clause-ends : goal.returns-in-Ok-Closed-clause-ends
 returns-in-Ok-Closed-clause-ends g c =
     ends_ok c.end_closed.result (g.K.Sink.held c.args.sink.now) (g.K.Sink.held c.end_closed.new.sink) c.args.driven c.in-Ok-Closed.field-0 (driven.Closed c.in-Ok-Closed.idle c.in-Ok-Closed.outcome)
-    c.in-Ok-Closed.is c.in-Ok-Closed.field-0-is c.end_closed.ensures.ends
+    c.in-Ok-Closed.is c.in-Ok-Closed.field-0-is (let s = c.end_closed.ensures.ends in (s.0, (s.1.0, λ fails. inr (s.1.1 fails)), s.2, s.3))
 
 pub returns-in-Ok-Closed-clause-unswept : goal.returns-in-Ok-Closed-clause-unswept
 returns-in-Ok-Closed-clause-unswept g c = ok_on _ c.args.driven c.in-Ok-Closed.field-0 c.in-Ok-Closed.is
@@ -63,7 +67,7 @@ returns-in-Ok-Restart-clause-went g c =
     let list = g.R.Runner.list c.args.runner.now in
     let told = Listed g.R.Runner.list g.R.Runner.told g.R.Runner.asked c.args.runner.now in
     ok_if _ c.args.driven c.in-Ok-Restart.field-0 (driven.Restart c.in-Ok-Restart.state) c.in-Ok-Restart.is c.in-Ok-Restart.field-0-is
-    (λ p h left serves. ([], acts_none p list list refl, between_bare p (loaded_device c.in-Ok-Restart.state) (g.S.Supervise.world c.args.supervisor.now) told (g.R.Runner.living c.args.runner.now) left.0, (record { stopped = left.0.still.stopped; cut = left.0.still.cut; recorded = left.0.boot_end }, left.1)))
+    (λ p h left serves. ([], acts_none p list list refl, restart_ends p (loaded_device c.in-Ok-Restart.state) (g.S.Supervise.world c.args.supervisor.now) told (g.R.Runner.living c.args.runner.now) c.say_again.result statuses.Restart left.0 left.1 refl c.say_again.ensures.answers))
 
 pub returns-in-Ok-Restart-clause-still : goal.returns-in-Ok-Restart-clause-still
 returns-in-Ok-Restart-clause-still g c = ok_on _ c.args.driven c.in-Ok-Restart.field-0 c.in-Ok-Restart.is
@@ -94,7 +98,7 @@ returns-in-Ok-Restart-clause-answers g c =
 pub returns-in-Ok-Restart-clause-ends : goal.returns-in-Ok-Restart-clause-ends
 returns-in-Ok-Restart-clause-ends g c =
     ends_ok c.say_again.result (g.K.Sink.held c.args.sink.now) (g.K.Sink.held c.say_again.new.sink) c.args.driven c.in-Ok-Restart.field-0 (driven.Restart c.in-Ok-Restart.state)
-    c.in-Ok-Restart.is c.in-Ok-Restart.field-0-is (Restarts (id_of (loaded_device c.in-Ok-Restart.state)), refl, c.say_again.ensures.says, c.say_again.ensures.answers)
+    c.in-Ok-Restart.is c.in-Ok-Restart.field-0-is (Restarts (id_of (loaded_device c.in-Ok-Restart.state)), (refl, λ fails. absurd cc), c.say_again.ensures.says, c.say_again.ensures.answers)
 
 pub returns-in-Ok-Restart-clause-unswept : goal.returns-in-Ok-Restart-clause-unswept
 returns-in-Ok-Restart-clause-unswept g c = ok_on _ c.args.driven c.in-Ok-Restart.field-0 c.in-Ok-Restart.is
@@ -106,7 +110,7 @@ returns-in-Ok-Reboot-clause-went g c =
     let list = g.R.Runner.list c.args.runner.now in
     let told = Listed g.R.Runner.list g.R.Runner.told g.R.Runner.asked c.args.runner.now in
     ok_if _ c.args.driven c.in-Ok-Reboot.field-0 (driven.Reboot c.in-Ok-Reboot.state) c.in-Ok-Reboot.is c.in-Ok-Reboot.field-0-is
-    (λ p h left serves. ([], acts_none p list list refl, between_bare p (loaded_device c.in-Ok-Reboot.state) (g.S.Supervise.world c.args.supervisor.now) told (g.R.Runner.living c.args.runner.now) left.0, (record { stopped = left.0.still.stopped; cut = left.0.still.cut; recorded = left.0.boot_end }, left.1)))
+    (λ p h left serves. ([], acts_none p list list refl, restart_ends p (loaded_device c.in-Ok-Reboot.state) (g.S.Supervise.world c.args.supervisor.now) told (g.R.Runner.living c.args.runner.now) c.say_again-in-Ok-Reboot.result statuses.Reboot left.0 left.1 refl c.say_again-in-Ok-Reboot.ensures.answers))
 
 pub returns-in-Ok-Reboot-clause-still : goal.returns-in-Ok-Reboot-clause-still
 returns-in-Ok-Reboot-clause-still g c = ok_on _ c.args.driven c.in-Ok-Reboot.field-0 c.in-Ok-Reboot.is
@@ -137,45 +141,10 @@ returns-in-Ok-Reboot-clause-answers g c =
 pub returns-in-Ok-Reboot-clause-ends : goal.returns-in-Ok-Reboot-clause-ends
 returns-in-Ok-Reboot-clause-ends g c =
     ends_ok c.say_again-in-Ok-Reboot.result (g.K.Sink.held c.args.sink.now) (g.K.Sink.held c.say_again-in-Ok-Reboot.new.sink) c.args.driven c.in-Ok-Reboot.field-0 (driven.Reboot c.in-Ok-Reboot.state)
-    c.in-Ok-Reboot.is c.in-Ok-Reboot.field-0-is (Reboots (id_of (loaded_device c.in-Ok-Reboot.state)), refl, c.say_again-in-Ok-Reboot.ensures.says, c.say_again-in-Ok-Reboot.ensures.answers)
+    c.in-Ok-Reboot.is c.in-Ok-Reboot.field-0-is (Reboots (id_of (loaded_device c.in-Ok-Reboot.state)), (refl, λ fails. absurd cc), c.say_again-in-Ok-Reboot.ensures.says, c.say_again-in-Ok-Reboot.ensures.answers)
 
 pub returns-in-Ok-Reboot-clause-unswept : goal.returns-in-Ok-Reboot-clause-unswept
 returns-in-Ok-Reboot-clause-unswept g c = ok_on _ c.args.driven c.in-Ok-Reboot.field-0 c.in-Ok-Reboot.is
-
--- ---- a stage did not end
-
-pub returns-in-Ok-More-clause-went : goal.returns-in-Ok-More-clause-went
-returns-in-Ok-More-clause-went g c =
-    let list = g.R.Runner.list c.args.runner.now in
-    ok_if _ c.args.driven c.in-Ok-More.field-0 (driven.More _) c.in-Ok-More.is c.in-Ok-More.field-0-is
-    (λ p h left serves. ([], acts_none p list list refl, left.0, tt))
-
-pub returns-in-Ok-More-clause-still : goal.returns-in-Ok-More-clause-still
-returns-in-Ok-More-clause-still g c = ok_on _ c.args.driven c.in-Ok-More.field-0 c.in-Ok-More.is
-
-pub returns-in-Ok-More-clause-none : goal.returns-in-Ok-More-clause-none
-returns-in-Ok-More-clause-none g c = (if_ok _ c.args.driven c.in-Ok-More.field-0 (driven.More _) c.in-Ok-More.is c.in-Ok-More.field-0-is c.requires.placed).2.1
-
-pub returns-in-Ok-More-clause-spared : goal.returns-in-Ok-More-clause-spared
-returns-in-Ok-More-clause-spared g c = start_spares g.met.D.Disk.laws (IsBelow artifacts) c.args.disk.now
-
-pub returns-in-Ok-More-clause-ends : goal.returns-in-Ok-More-clause-ends
-returns-in-Ok-More-clause-ends g c =
-    let held = g.K.Sink.held c.args.sink.now in
-    ends_ok statuses.Memory held held c.args.driven c.in-Ok-More.field-0 (driven.More _) c.in-Ok-More.is c.in-Ok-More.field-0-is (Forgets, refl, says_none held held statuses.Memory refl, inl refl)
-
-pub returns-in-Ok-More-clause-unswept : goal.returns-in-Ok-More-clause-unswept
-returns-in-Ok-More-clause-unswept g c = ok_on _ c.args.driven c.in-Ok-More.field-0 c.in-Ok-More.is
-
-pub returns-in-Ok-More-clause-silent : goal.returns-in-Ok-More-clause-silent
-returns-in-Ok-More-clause-silent g c = λ is. refl
-
-pub returns-in-Ok-More-clause-safe : goal.returns-in-Ok-More-clause-safe
-returns-in-Ok-More-clause-safe g c =
-    ok_if _ c.args.driven c.in-Ok-More.field-0 (driven.More _) c.in-Ok-More.is c.in-Ok-More.field-0-is (still_safe g.met.D.Disk.laws _ c.args.disk.now)
-
-pub returns-in-Ok-More-clause-answers : goal.returns-in-Ok-More-clause-answers
-returns-in-Ok-More-clause-answers g c = answers_ok statuses.Memory c.args.driven c.in-Ok-More.field-0 (driven.More _) c.in-Ok-More.is c.in-Ok-More.field-0-is refl
 
 -- ---- it was given up
 
@@ -204,7 +173,7 @@ returns-in-Err-Disk-clause-answers g c = answers_err c.say_disk.result c.args.dr
 pub returns-in-Err-Disk-clause-ends : goal.returns-in-Err-Disk-clause-ends
 returns-in-Err-Disk-clause-ends g c =
     ends_err c.say_disk.result (g.K.Sink.held c.args.sink.now) (g.K.Sink.held c.say_disk.new.sink) c.args.driven c.in-Err-Disk.field-0 over.Disk c.in-Err-Disk.is (rw c.in-Err-Disk.is at c.in-Err-Disk.field-0-is)
-    (Fails, refl, c.say_disk.ensures.says, c.say_disk.ensures.answers)
+    (Fails, (refl, λ fails. inl refl), c.say_disk.ensures.says, c.say_disk.ensures.answers)
 
 pub returns-in-Err-Disk-clause-unswept : goal.returns-in-Err-Disk-clause-unswept
 returns-in-Err-Disk-clause-unswept g c = err_on _ c.args.driven c.in-Err-Disk.field-0 c.in-Err-Disk.is refl
@@ -214,4 +183,4 @@ returns-in-Err-Disk-clause-unswept g c = err_on _ c.args.driven c.in-Err-Disk.fi
 pub returns-clause-ends : goal.returns-clause-ends
 returns-clause-ends g c =
     let held = g.K.Sink.held c.args.sink.now in
-    ends_err statuses.Edge held held c.args.driven c.in-Err-Edge.field-0 over.Edge c.in-Err-Edge.is (rw c.in-Err-Edge.is at c.in-Err-Edge.field-0-is) (Breaks, refl, says_none held held statuses.Edge refl, inl refl)
+    ends_err statuses.Edge held held c.args.driven c.in-Err-Edge.field-0 over.Edge c.in-Err-Edge.is (rw c.in-Err-Edge.is at c.in-Err-Edge.field-0-is) (Breaks, (refl, λ fails. absurd cc), says_none held held statuses.Edge refl, inl refl)

@@ -1,7 +1,9 @@
-use Rattle.std.proofs.Common.{Bool, ℕ, List, inl, inr, refl, sym, ap, subst, ◌∙◌, arith}
+use Rattle.std.specs.Prelude.{IsErrOf}
+use Rattle.std.proofs.Common.{◌≡◌, ◌⊎◌, Bool, ℕ, List, inl, inr, refl, sym, ap, subst, ◌∙◌, arith}
 use Rattle.std.specs.Io.KnownBytes.{Appends}
 use Rattle.edges.specs.Pieces.{AppendsFront}
 use Rattle.disk_model.specs.Listing.{artifacts, IsBelow}
+use Rattle.nuc_base.specs.Faults.{Rose}
 use Rattle.nuc_base.specs.declared.status.Status.TheVariants as statuses
 use Rattle.device.specs.Devices.{Device, IsRegularDevice, Pending, device_view, pending_view}
 use Rattle.device.specs.Sound.{IsSound}
@@ -14,14 +16,14 @@ use Rattle.step_runner.specs.Entries.{Listed}
 use Rattle.session.specs.Happenings.{records_of}
 use Rattle.session.specs.Once.{TakesOnce}
 use Rattle.session.proofs.Once.{takes_once}
+use Rattle.ending_laws.proofs.Comes.{none_drives}
 use Rattle.driver.proofs.Between.{no_living}
-use Rattle.driver.proofs.Records.{front_bare}
 use Rattle.driver.specs.declared.over.Over.TheVariants as over
 use Rattle.deployments.proofs.Ending.{called, nothing_called, placed_at, still_whole}
 use Rattle.deployments.proofs.Faults.{rose_by, rose_on, stays_by, stays_later, stays_on}
 use Rattle.deployments.proofs.Holding.{none_before}
-use Rattle.deployments.proofs.Places.{orderly_none}
-use Rattle.deployments.specs.Endings.{Breaks, Idle, Starves}
+use Rattle.deployments.proofs.Places.{front_shut, orderly_none}
+use Rattle.deployments.specs.Endings.{Breaks, Fails, Idle, Starves}
 use Rattle.deployments.proofs.Printing.{opening_at, said_prints, starved_prints, unopened_prints}
 use Rattle.deployments.proofs.Results.{answers_disk, answers_edge, answers_own}
 use Rattle.deployments.proofs.Resuming.{loaded_hand, loaded_idle, loaded_pending, loaded_stands, resumes_none, resumes_some, some_is, some_mapped}
@@ -41,13 +43,14 @@ returns-in-Idle-clause-call g c = λ p front serves taken.
       nothing_called g.J.Journal.entries g.J.Journal.files g.met.D.Disk.laws c.args.disk.now c.args.disk.now told.list held (g.K.Sink.held c.say.new.sink) p Idle c.say.result
           (start_spares g.met.D.Disk.laws (IsBelow artifacts) c.args.disk.now)
           stands
-          (front_bare p d (g.S.Supervise.world c.args.supervisor.now) told (g.R.Runner.living c.args.runner.now) front)
+          (front_shut p d (g.S.Supervise.world c.args.supervisor.now) told (g.R.Runner.living c.args.runner.now) front)
           c.say.ensures.answers
           (said_prints _ held (g.K.Sink.held c.say.new.sink) p.device Idle c.say.result stands (λ is. cc) before c.say.ensures.says)
           (refl, before)
-          tt,
+          refl,
       resumes_none d Idle none refl,
       (λ holds. still_whole g.J.Journal.entries g.J.Journal.files g.met.D.Disk.laws c.args.disk.now p stands holds),
+      (λ fails. absurd cc),
     )
 
 pub returns-in-Idle-clause-own : goal.returns-in-Idle-clause-own
@@ -89,13 +92,14 @@ returns-in_default-ready_again-clause-call g c = λ p front serves taken.
       nothing_called g.J.Journal.entries g.J.Journal.files g.met.D.Disk.laws c.args.disk.now c.args.disk.now told.list held held p Starves statuses.Memory
           (start_spares g.met.D.Disk.laws (IsBelow artifacts) c.args.disk.now)
           stands
-          (front_bare p d (g.S.Supervise.world c.args.supervisor.now) told (g.R.Runner.living c.args.runner.now) front)
+          (front_shut p d (g.S.Supervise.world c.args.supervisor.now) told (g.R.Runner.living c.args.runner.now) front)
           (inl refl)
           (starved_prints _ held held p.device statuses.Memory stands refl)
           refl
-          tt,
+          refl,
       resumes_some d Starves (loaded_pending g.D.Disk.tells g.D.Disk.may_leave g.J.Journal.stands g.J.Journal.end c.args.state c.args.disk.now c.requires.held c.in_default.not-Idle) (inr refl),
       (λ holds. still_whole g.J.Journal.entries g.J.Journal.files g.met.D.Disk.laws c.args.disk.now p stands holds),
+      (λ fails. absurd cc),
     )
 
 pub returns-in_default-ready_again-clause-none : goal.returns-in_default-ready_again-clause-none
@@ -125,13 +129,14 @@ returns-in_default-say_resumed-clause-call g c = λ p front serves taken.
       nothing_called g.J.Journal.entries g.J.Journal.files g.met.D.Disk.laws c.args.disk.now c.args.disk.now told.list held last p Breaks c.say_resumed.result
           (start_spares g.met.D.Disk.laws (IsBelow artifacts) c.args.disk.now)
           stands
-          (front_bare p d (g.S.Supervise.world c.args.supervisor.now) told (g.R.Runner.living c.args.runner.now) front)
+          (front_shut p d (g.S.Supervise.world c.args.supervisor.now) told (g.R.Runner.living c.args.runner.now) front)
           (inr edge)
           (unopened_prints _ held last p.device c.say_resumed.result stands (subst (λ (l : List ℕ). AppendsFront held last l) opening c.say_resumed.ensures.says.0) edge)
           tt
-          tt,
+          refl,
       resumes_some d Breaks pending (inl tt),
       (λ holds. still_whole g.J.Journal.entries g.J.Journal.files g.met.D.Disk.laws c.args.disk.now p stands holds),
+      (λ fails. absurd cc),
     )
 
 pub returns-in_default-say_resumed-clause-own : goal.returns-in_default-say_resumed-clause-own
@@ -157,6 +162,9 @@ returns-in_default-say_resumed-clause-later g c = (
 pub drive-driven-requires-clause-orderly : goal.drive-driven-requires-clause-orderly
 drive-driven-requires-clause-orderly g c = orderly_none (g.S.Supervise.world c.args.supervisor.now) c.requires.empty
 
+pub drive-driven-requires-clause-drives : goal.drive-driven-requires-clause-drives
+drive-driven-requires-clause-drives g c = none_drives (g.S.Supervise.world c.args.supervisor.now) c.requires.empty
+
 pub drive-driven-requires-clause-placed : goal.drive-driven-requires-clause-placed
 drive-driven-requires-clause-placed g c = let q = c.requires.placed in (q.0, q.1)
 
@@ -180,6 +188,7 @@ returns-in-Done-clause-call g c = λ p front serves taken.
     let call = called g.met.D.Disk.laws g.met.J.Journal.laws c.requires.apart (g.S.Supervise.world c.drive-driven.new.supervisor) last (g.R.Runner.living c.drive-driven.new.runner)
     c.args.disk.now c.drive-driven.new.disk c.end_call.new.disk told.list last.list (g.R.Runner.list c.end_call.new.runner)
     held mid (g.K.Sink.held c.drive-driven.new.sink) (g.K.Sink.held c.end_call.new.sink) p c.drive-driven.result c.end_call.result
+    (λ e. e ≡ Fails → (IsErrOf c.drive-driven.result over.Disk) ⊎ Rose (g.D.Disk.faults c.drive-driven.new.disk) (g.D.Disk.faults c.end_call.new.disk))
     (subst (λ (l : List ℕ). Appends held mid l) opening (c.say_resumed.ensures.says.1 (done_no_edge c.say_resumed.result c.in-Done.is)))
     (c.drive-driven.ensures.course p front)
     serves c.drive-driven.ensures.held c.end_call.ensures.went c.end_call.ensures.still c.end_call.ensures.spared c.end_call.ensures.safe c.end_call.ensures.unswept c.end_call.ensures.ends c.end_call.ensures.silent c.end_call.ensures.answers in
@@ -188,6 +197,8 @@ returns-in-Done-clause-call g c = λ p front serves taken.
       call.0,
       resumes_some d call.0.ending pending (inl call.1),
       (λ holds. call.3 (none_before (g.D.Disk.may_leave c.args.disk.now) p.device (records_of course.history) once holds)),
+      (λ fails.
+          rose_by c.drive-driven.result over.Disk (g.D.Disk.faults c.args.disk.now) (g.D.Disk.faults c.drive-driven.new.disk) (g.D.Disk.faults c.end_call.new.disk) c.drive-driven.ensures.disk c.drive-driven.ensures.quiet_disk c.end_call.ensures.later.0 (call.4 fails)),
     )
 
 pub returns-in-Done-clause-own : goal.returns-in-Done-clause-own

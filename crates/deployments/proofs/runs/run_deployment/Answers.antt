@@ -18,7 +18,7 @@ use Rattle.deployments.specs.Endings.{Starves}
 use Rattle.deployments.proofs.Ending.{declined_called, nothing_called, taken_behind}
 use Rattle.deployments.proofs.Faults.{rose_on, stays_later, stays_on}
 use Rattle.deployments.proofs.Holding.{taken_both, taken_whole}
-use Rattle.deployments.proofs.Places.{open_bare, open_none}
+use Rattle.deployments.proofs.Places.{open_none, open_shut}
 use Rattle.deployments.proofs.Printing.{starved_prints}
 use Rattle.deployments.proofs.Statuses.{declined_disk, declined_library, disk_declined, library_declined, told_is, told_said}
 use Rattle.deployments.proofs.runs.run_deployment.Goals as goal
@@ -32,13 +32,14 @@ returns-in-Err-clause-call g c = λ p opens serves.
     let t = declined_called g.J.Journal.entries g.J.Journal.files g.met.D.Disk.laws (start_of g.J.Journal.end g.J.Journal.number g.J.Journal.turns (idle_log c.args.idle) (idle_device c.args.idle)) c.args.disk.now c.take_in.new.disk told.list (g.K.Sink.held c.args.sink.now) (g.K.Sink.held c.say_declined.new.sink) p c.in-Err.declined c.say_declined.result
     c.take_in.ensures.moments
     (λ i left. subst (λ (e : Device). StandsFor g.J.Journal.entries i e) (sym opens.stands.device_is) (in_hand_stands g.met.D.Disk.laws g.met.J.Journal.laws c.args.idle.log c.take_in.new.disk d c.take_in.ensures.held.0 i left))
-    (open_bare p d (g.S.Supervise.world c.args.supervisor.now) told (g.R.Runner.living c.args.runner.now) c.requires.empty opens)
+    (open_shut p d (g.S.Supervise.world c.args.supervisor.now) told (g.R.Runner.living c.args.runner.now) c.requires.empty opens)
     (ap (λ (e : Device). e.pending) opens.stands.device_is ∙ c.requires.held.1)
     c.say_declined.ensures.says in (
       Err c.in-Err.declined,
       (λ o is. subst (λ (r : Result code.Plan Declined). TakesIn d o (g.L.Library.content c.args.library.now) (g.L.Library.faults c.args.library.now) (g.L.Library.faults c.take_in.new.library) c.args.document.now r) c.in-Err.is (c.take_in.ensures.takes o is)),
       t.0,
       (λ holds. taken_whole g.met.D.Disk.laws g.J.Journal.files g.J.Journal.entries c.requires.apart g.met.J.Journal.laws c.args.idle.log c.args.disk.now c.take_in.new.disk d p opens.stands.device_is c.requires.held.0 c.take_in.ensures.moments c.take_in.ensures.safe holds (records_of t.0.0.history)),
+      (λ fails. absurd (t.2 fails)),
     )
 
 pub returns-in-Err-clause-none : goal.returns-in-Err-clause-none
@@ -92,11 +93,13 @@ returns-in-Ok-ready_for-clause-call g c = λ p opens serves.
     (g.K.Sink.held c.args.sink.now) (g.K.Sink.held c.run_plan.new.sink) p c.run_plan.result c.in-Ok.plan c.take_in.ensures.moments
     (λ holds records. taken_whole g.met.D.Disk.laws g.J.Journal.files g.J.Journal.entries c.requires.apart g.met.J.Journal.laws c.args.idle.log c.args.disk.now c.take_in.new.disk (idle_device c.args.idle) p opens.stands.device_is c.requires.held.0 c.take_in.ensures.moments c.take_in.ensures.safe holds records)
     (λ holds. taken_both g.met.D.Disk.laws c.args.disk.now c.take_in.new.disk (idle_device c.args.idle) p (plan_view c.in-Ok.plan).items opens.stands.device_is c.take_in.ensures.safe c.in-Ok.ensures.files holds)
-    (c.run_plan.ensures.call p opens serves) in (
+    (c.run_plan.ensures.call p opens serves)
+    (rose_on (g.D.Disk.faults c.args.disk.now) (g.D.Disk.faults c.take_in.new.disk) (g.D.Disk.faults c.run_plan.new.disk) c.take_in.ensures.disk_later) in (
       Ok c.in-Ok.plan,
       (λ o is. subst (λ (r : Result code.Plan Declined). TakesIn (idle_device c.args.idle) o (g.L.Library.content c.args.library.now) (g.L.Library.faults c.args.library.now) (g.L.Library.faults c.take_in.new.library) c.args.document.now r) c.in-Ok.is (c.take_in.ensures.takes o is)),
       t.0,
       t.1,
+      t.2,
     )
 
 pub returns-in-Ok-ready_for-clause-others : goal.returns-in-Ok-ready_for-clause-others
@@ -135,14 +138,15 @@ returns-in-Err-ready_for-clause-call g c = λ p opens serves.
         nothing_called g.J.Journal.entries g.J.Journal.files g.met.D.Disk.laws c.args.disk.now c.take_in.new.disk told.list held held p Starves statuses.Memory
             c.take_in.ensures.moments
             stands
-            (open_bare p d (g.S.Supervise.world c.args.supervisor.now) told (g.R.Runner.living c.args.runner.now) c.requires.empty opens)
+            (open_shut p d (g.S.Supervise.world c.args.supervisor.now) told (g.R.Runner.living c.args.runner.now) c.requires.empty opens)
             (inl refl)
             (starved_prints _ held held p.device statuses.Memory stands refl)
             refl
-            tt,
+            refl,
         inl (tt, refl),
       ),
       (λ holds. taken_whole g.met.D.Disk.laws g.J.Journal.files g.J.Journal.entries c.requires.apart g.met.J.Journal.laws c.args.idle.log c.args.disk.now c.take_in.new.disk d p opens.stands.device_is c.requires.held.0 c.take_in.ensures.moments c.take_in.ensures.safe holds []),
+      (λ fails. absurd cc),
     )
 
 pub returns-in-Err-ready_for-clause-none : goal.returns-in-Err-ready_for-clause-none

@@ -21,7 +21,7 @@ use Rattle.deployments.specs.Calls.{SaysRefusal, StandsWhole}
 use Rattle.deployments.proofs.Ending.{declined_called, still_whole}
 use Rattle.deployments.proofs.Taken.{unread_taken}
 use Rattle.deployments.proofs.Faults.{stays_later}
-use Rattle.deployments.proofs.Places.{open_bare, open_none}
+use Rattle.deployments.proofs.Places.{open_none, open_shut}
 use Rattle.deployments.proofs.Statuses.{refusal_never, unread_never}
 use Rattle.deployments.proofs.runs.run_document.Goals as goal
 
@@ -34,13 +34,14 @@ returns-in-Err-clause-call g c = λ p opens serves.
     let t = declined_called g.J.Journal.entries g.J.Journal.files g.met.D.Disk.laws (start_of g.J.Journal.end g.J.Journal.number g.J.Journal.turns (idle_log c.args.idle) (idle_device c.args.idle)) c.args.disk.now c.args.disk.now told.list (g.K.Sink.held c.args.sink.now) (g.K.Sink.held c.say_refusal.new.sink) p declined c.say_refusal.result
     (start_spares g.met.D.Disk.laws (IsBelow artifacts) c.args.disk.now)
     stands
-    (open_bare p d (g.S.Supervise.world c.args.supervisor.now) told (g.R.Runner.living c.args.runner.now) c.requires.empty opens)
+    (open_shut p d (g.S.Supervise.world c.args.supervisor.now) told (g.R.Runner.living c.args.runner.now) c.requires.empty opens)
     (ap (λ (e : Device). e.pending) opens.stands.device_is ∙ c.requires.held.1)
     (subst (λ (r : Refusal). SaysRefusal (g.K.Sink.held c.args.sink.now) (g.K.Sink.held c.say_refusal.new.sink) c.say_refusal.result (status_of_refusal r) (refusal_line r)) c.from.ensures c.say_refusal.ensures.says) in (
       Err declined,
       (λ o is. unread_taken d o (g.L.Library.content c.args.library.now) (g.L.Library.faults c.args.library.now) (g.L.Library.faults c.args.library.now) c.args.document.now c.in-Err.fault c.in-Err.ensures.exact),
       t.0,
       (λ holds. subst (λ (l : List Record). Leaves g.D.Disk.moment g.D.Disk.left_since c.args.disk.now c.args.disk.now (StandsWhole g.J.Journal.entries p.device l)) (sym t.1) (still_whole g.J.Journal.entries g.J.Journal.files g.met.D.Disk.laws c.args.disk.now p stands holds)),
+      (λ fails. absurd (t.2 fails)),
     )
 
 pub returns-in-Ok-clause-call : goal.returns-in-Ok-clause-call
@@ -50,6 +51,7 @@ returns-in-Ok-clause-call g c = λ p opens serves.
       (λ o is. inr (inr (c.in-Ok.document, c.in-Ok.ensures.exact, t.1 o is))),
       t.2,
       t.3,
+      t.4,
     )
 
 pub returns-in-Err-clause-none : goal.returns-in-Err-clause-none

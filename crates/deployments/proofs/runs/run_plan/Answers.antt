@@ -1,7 +1,8 @@
-use Rattle.std.proofs.Common.{ℕ, List, [], inl, inr, refl, sym, ap, subst, ◌∙◌}
-use Rattle.std.specs.Prelude.{Bool, Option}
+use Rattle.std.proofs.Common.{◌≡◌, ◌⊎◌, ℕ, List, [], inl, inr, refl, sym, ap, subst, ◌∙◌}
+use Rattle.std.specs.Prelude.{Bool, Option, Err, IsErrOf}
 use Rattle.disk_model.specs.Disk.{Image, Leaves}
 use Rattle.disk_model.specs.Listing.{artifacts, IsBelow}
+use Rattle.nuc_base.specs.Faults.{Rose}
 use Rattle.nuc_base.specs.declared.status.Status.TheVariants as statuses
 use Rattle.records.specs.Stored.{plan_view}
 use Rattle.device.specs.Devices.{Device}
@@ -17,6 +18,7 @@ use Rattle.session.specs.Happenings.{records_of}
 use Rattle.session.specs.Follows.{MayTakeBy}
 use Rattle.session.specs.Places.{left_by}
 use Rattle.session.proofs.Once.{takes_once}
+use Rattle.ending_laws.proofs.Comes.{none_drives}
 use Rattle.driver.specs.Over.{LeftAt, LinesAt}
 use Rattle.driver.specs.declared.over.Over.{Over}
 use Rattle.driver.specs.declared.over.Over.TheVariants as over
@@ -25,11 +27,11 @@ use Rattle.deploying.proofs.Joining.{joined}
 use Rattle.deploying.proofs.Leaving.{driven_on}
 use Rattle.deployments.specs.Calls.{AllHoldBoth, SaysLine}
 use Rattle.deployments.specs.Documents.{DrivesPlan, FitsFrom, IsPutOff, KeepsArtifacts}
-use Rattle.deployments.specs.Endings.{Ending, Full, full_line}
+use Rattle.deployments.specs.Endings.{Ending, Breaks, Fails, Full, Starves, full_line}
 use Rattle.deployments.proofs.Ending.{begins_by, called, doubt_called, first_of, joined_on, nothing_called, once_after, placed_at, starved_called, still_whole}
 use Rattle.deployments.proofs.Faults.{rose_by, rose_on, stays_by, stays_on}
 use Rattle.deployments.proofs.Holding.{all_before}
-use Rattle.deployments.proofs.Places.{open_bare, open_none, opened_front, orderly_none}
+use Rattle.deployments.proofs.Places.{open_bare, open_none, open_shut, opened_front, orderly_none}
 use Rattle.deployments.proofs.Printing.{opening_none, said_prints, says_none}
 use Rattle.deployments.proofs.Results.{answers_disk, answers_edge, answers_own}
 use Rattle.deployments.proofs.Statuses.{two_never}
@@ -49,6 +51,9 @@ boot-driven-requires-clause-ready g c =
 
 pub boot-driven-requires-clause-orderly : goal.boot-driven-requires-clause-orderly
 boot-driven-requires-clause-orderly g c = orderly_none (g.S.Supervise.world c.args.supervisor.now) c.requires.empty
+
+pub boot-driven-requires-clause-drives : goal.boot-driven-requires-clause-drives
+boot-driven-requires-clause-drives g c = none_drives (g.S.Supervise.world c.args.supervisor.now) c.requires.empty
 
 pub boot-driven-requires-clause-placed : goal.boot-driven-requires-clause-placed
 boot-driven-requires-clause-placed g c =
@@ -104,6 +109,7 @@ returns-in-Ok-Accepted-clause-call g c = λ p opens serves.
     t.1 t.2 (driven_on next last lives t.0) course in
     let call = called g.met.D.Disk.laws g.met.J.Journal.laws c.requires.apart next last lives c.args.disk.now c.boot-driven.new.disk c.end_call.new.disk told.list last.list (g.R.Runner.list c.end_call.new.runner)
     held held (g.K.Sink.held c.boot-driven.new.sink) (g.K.Sink.held c.end_call.new.sink) p c.boot-driven.result c.end_call.result
+    (λ e. e ≡ Fails → (IsErrOf c.boot-driven.result over.Disk) ⊎ Rose (g.D.Disk.faults c.boot-driven.new.disk) (g.D.Disk.faults c.end_call.new.disk))
     (opening_none held p.device (ap (λ (e : Device). e.pending) opens.stands.device_is ∙ c.requires.held.1))
     both.0
     serves c.boot-driven.ensures.held c.end_call.ensures.went c.end_call.ensures.still c.end_call.ensures.spared c.end_call.ensures.safe c.end_call.ensures.unswept c.end_call.ensures.ends c.end_call.ensures.silent c.end_call.ensures.answers in
@@ -115,6 +121,9 @@ returns-in-Ok-Accepted-clause-call g c = λ p opens serves.
     let once = once_after p.taken plan (records_of both.0.history) rest untaken first (takes_once p both.0.history serves both.0.went.proper) in (
       (call.0, begins_by start plan call.0.ending (records_of call.0.history) rest call.1 fits (call.2 ∙ first) once),
       (λ holds. call.3 (all_before (g.D.Disk.may_leave c.args.disk.now) p.device plan (records_of both.0.history) rest first once holds)),
+      (λ fails.
+          rose_on (g.D.Disk.faults c.args.disk.now) (g.D.Disk.faults c.accept_plan.new.disk) (g.D.Disk.faults c.end_call.new.disk) c.accept_plan.ensures.later.0
+          (rose_by c.boot-driven.result over.Disk (g.D.Disk.faults c.accept_plan.new.disk) (g.D.Disk.faults c.boot-driven.new.disk) (g.D.Disk.faults c.end_call.new.disk) c.boot-driven.ensures.disk c.boot-driven.ensures.quiet_disk c.end_call.ensures.later.0 (call.4 fails))),
     )
 
 pub returns-in-Ok-Accepted-clause-own : goal.returns-in-Ok-Accepted-clause-own
@@ -167,21 +176,23 @@ returns-in-Ok-Full-clause-call g c = λ p opens serves.
     let start = start_of g.J.Journal.end g.J.Journal.number g.J.Journal.turns (idle_log c.args.idle) (idle_device c.args.idle) in
     let of : g.row.D.Denot → Type 0 = λ z.
     (t : DrivesPlan g.J.Journal.entries g.J.Journal.files g.D.Disk.may_leave g.D.Disk.moment g.D.Disk.left_since c.args.disk.now z told.list told.list held last p c.say_full.result start plan)
-    × (AllHoldBoth (g.D.Disk.may_leave c.args.disk.now) p.device plan.items → KeepsArtifacts g.J.Journal.entries g.J.Journal.files g.D.Disk.may_leave g.D.Disk.moment g.D.Disk.left_since c.args.disk.now z told.list told.list held last p c.say_full.result t.0) in
+    × (AllHoldBoth (g.D.Disk.may_leave c.args.disk.now) p.device plan.items → KeepsArtifacts g.J.Journal.entries g.J.Journal.files g.D.Disk.may_leave g.D.Disk.moment g.D.Disk.left_since c.args.disk.now z told.list told.list held last p c.say_full.result t.0)
+    × (t.0.ending ≡ Fails → Rose (g.D.Disk.faults c.args.disk.now) (g.D.Disk.faults z)) in
     subst of (sym same) (
       (
         nothing_called g.J.Journal.entries g.J.Journal.files g.met.D.Disk.laws c.args.disk.now c.args.disk.now told.list held last p (Full c.in-Ok-Full.at) c.say_full.result
             (start_spares g.met.D.Disk.laws (IsBelow artifacts) c.args.disk.now)
             stands
-            (open_bare p d (g.S.Supervise.world c.args.supervisor.now) told (g.R.Runner.living c.args.runner.now) c.requires.empty opens)
+            (open_shut p d (g.S.Supervise.world c.args.supervisor.now) told (g.R.Runner.living c.args.runner.now) c.requires.empty opens)
             c.say_full.ensures.answers
             (said_prints _ held last p.device (Full c.in-Ok-Full.at) c.say_full.result stands (λ is. cc) (ap (λ (e : Device). e.pending) opens.stands.device_is ∙ c.requires.held.1)
             (subst (λ (h : Option (List ℕ)). SaysLine h last c.say_full.result (full_line c.in-Ok-Full.at)) silent c.say_full.ensures.says))
             refl
-            tt,
+            refl,
         inl ((full.0, full.1), refl),
       ),
       (λ both. still_whole g.J.Journal.entries g.J.Journal.files g.met.D.Disk.laws c.args.disk.now p stands (λ i left. (both i left).0)),
+      (λ fails. absurd cc),
     )
 
 pub returns-in-Ok-Full-clause-none : goal.returns-in-Ok-Full-clause-none
@@ -210,10 +221,10 @@ returns-in-Ok-NoMemory-clause-call g c = λ p opens serves.
     (c.in-Ok-NoMemory.ensures.unmade (short_back x _ s)) in
     let call = starved_called g.J.Journal.entries g.J.Journal.files g.met.D.Disk.laws c.requires.apart c.args.disk.now c.accept_plan.new.disk told.list (g.K.Sink.held c.args.sink.now) (g.K.Sink.held c.accept_plan.new.sink) p plan back
     (λ i left. subst (λ (e : Device). StandsFor g.J.Journal.entries i e) (same ∙ sym opens.stands.device_is) (in_hand_stands g.met.D.Disk.laws g.met.J.Journal.laws _ c.accept_plan.new.disk _ held.0 i left))
-    (open_bare p d world told living c.requires.empty opens)
+    (open_shut p d world told living c.requires.empty opens)
     (ap g.K.Sink.held (c.in-Ok-NoMemory.ensures.silent (short_back x _ s))) in
     let start = start_of g.J.Journal.end g.J.Journal.number g.J.Journal.turns (idle_log c.args.idle) (idle_device c.args.idle) in
-    ((call.0, inl (subst (λ (e : Ending). IsPutOff start plan e) (sym call.1) tt, call.2)), call.3)
+    ((call.0, inl (subst (λ (e : Ending). IsPutOff start plan e) (sym call.1) tt, call.2)), call.3, λ fails. let no : Starves ≡ Fails = sym call.1 ∙ fails in absurd cc)
 
 pub returns-in-Ok-NoMemory-clause-none : goal.returns-in-Ok-NoMemory-clause-none
 returns-in-Ok-NoMemory-clause-none g c =
@@ -232,11 +243,12 @@ returns-in-Err-Disk-clause-call g c = λ p opens serves.
     let t = c.in-Err-Disk.ensures.went tt p world told living opens in
     let held = g.K.Sink.held c.args.sink.now in
     let mid = g.K.Sink.held c.accept_plan.new.sink in
-    doubt_called g.J.Journal.entries g.J.Journal.files g.met.D.Disk.laws c.requires.apart (start_of g.J.Journal.end g.J.Journal.number g.J.Journal.turns (idle_log c.args.idle) (idle_device c.args.idle)) over.Disk c.args.disk.now c.accept_plan.new.disk told.list held mid (g.K.Sink.held c.say_disk.new.sink) p d world told living (plan_view c.args.plan) t.0 c.say_disk.result
+    let r = doubt_called g.J.Journal.entries g.J.Journal.files g.met.D.Disk.laws c.requires.apart (start_of g.J.Journal.end g.J.Journal.number g.J.Journal.turns (idle_log c.args.idle) (idle_device c.args.idle)) over.Disk c.args.disk.now c.accept_plan.new.disk told.list held mid (g.K.Sink.held c.say_disk.new.sink) p d world told living (plan_view c.args.plan) t.0 c.say_disk.result
     (λ far. c.in-Err-Disk.ensures.fills far) opens serves (open_bare p d world told living c.requires.empty opens) c.requires.lawful c.accept_plan.ensures.moments c.requires.held.1 t.4 t.1.run
     (subst (λ (e : Over). LinesAt held mid p.device (records_of t.0) e) c.in-Err-Disk.field-0-is t.2)
     (subst (λ (e : Over). LeftAt g.J.Journal.entries g.D.Disk.may_leave c.accept_plan.new.disk p t.0 e) c.in-Err-Disk.field-0-is t.3)
-    c.say_disk.ensures.says (λ is. absurd cc) c.say_disk.ensures.answers
+    c.say_disk.ensures.says (λ is. absurd cc) c.say_disk.ensures.answers in
+    (r.0, r.1, λ fails. c.in-Err-Disk.ensures.disk (ap Err c.in-Err-Disk.field-0-is))
 
 pub returns-in-Err-Disk-clause-none : goal.returns-in-Err-Disk-clause-none
 returns-in-Err-Disk-clause-none g c =
@@ -258,11 +270,12 @@ returns-clause-call g c = λ p opens serves.
     let t = c.in-Err-Edge.ensures.went tt p world told living opens in
     let held = g.K.Sink.held c.args.sink.now in
     let mid = g.K.Sink.held c.accept_plan.new.sink in
-    doubt_called g.J.Journal.entries g.J.Journal.files g.met.D.Disk.laws c.requires.apart (start_of g.J.Journal.end g.J.Journal.number g.J.Journal.turns (idle_log c.args.idle) (idle_device c.args.idle)) over.Edge c.args.disk.now c.accept_plan.new.disk told.list held mid mid p d world told living (plan_view c.args.plan) t.0 statuses.Edge
+    let r = doubt_called g.J.Journal.entries g.J.Journal.files g.met.D.Disk.laws c.requires.apart (start_of g.J.Journal.end g.J.Journal.number g.J.Journal.turns (idle_log c.args.idle) (idle_device c.args.idle)) over.Edge c.args.disk.now c.accept_plan.new.disk told.list held mid mid p d world told living (plan_view c.args.plan) t.0 statuses.Edge
     (λ far. c.in-Err-Edge.ensures.fills far) opens serves (open_bare p d world told living c.requires.empty opens) c.requires.lawful c.accept_plan.ensures.moments c.requires.held.1 t.4 t.1.run
     (subst (λ (e : Over). LinesAt held mid p.device (records_of t.0) e) c.in-Err-Edge.field-0-is t.2)
     (subst (λ (e : Over). LeftAt g.J.Journal.entries g.D.Disk.may_leave c.accept_plan.new.disk p t.0 e) c.in-Err-Edge.field-0-is t.3)
-    (says_none mid mid statuses.Edge refl) (λ is. refl) refl
+    (says_none mid mid statuses.Edge refl) (λ is. refl) refl in
+    (r.0, r.1, λ fails. let no : Breaks ≡ Fails = sym r.2 ∙ fails in absurd cc)
 
 pub returns-clause-none : goal.returns-clause-none
 returns-clause-none g c =

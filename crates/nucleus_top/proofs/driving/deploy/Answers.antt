@@ -24,7 +24,7 @@ returns-in-Ok-clause-ran g c =
     let printed : Printed = printed_of g.K.Sink.held g.K.Sink.faults c.args.sink.now c.deploy_read.new.sink in
     ran_on g.met.D.Disk.laws c.args.disk.now c.open_idle.new.disk c.deploy_read.new.disk c.open_idle.ensures.spared
     (g.R.Runner.list c.args.runner.now) (g.R.Runner.list c.deploy_read.new.runner) printed c.deploy_read.result
-    store input library d (slots_start c.in-Ok.idle.log d) (c.deploy_read.new.runner ≡ c.args.runner.now)
+    g.D.Disk.faults store input library d (slots_start c.in-Ok.idle.log d) (c.deploy_read.new.runner ≡ c.args.runner.now) c.open_idle.ensures.later
     c.in-Ok.ensures.opened c.in-Ok.ensures.held.1 c.in-Ok.ensures.start (λ told. (c.in-Ok.ensures.opened told).1)
     c.open_idle.ensures.images c.open_idle.ensures.whole c.deploy_read.ensures.ran
 

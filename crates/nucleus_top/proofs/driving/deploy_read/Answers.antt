@@ -21,10 +21,10 @@ returns-in-Ok-clause-ran g c =
     let input : Input = input_of g.S.Source.left g.S.Source.faults c.args.source.now c.read_up_to.new.source in
     let library : Shelf = shelf_of g.L.Library.content g.L.Library.faults c.args.library.now c.deploy_document.new.library in
     let printed : Printed = printed_of g.K.Sink.held g.K.Sink.faults c.args.sink.now c.deploy_document.new.sink in
-    inr (document_deploys g.D.Disk.may_leave g.D.Disk.moment g.D.Disk.left_since c.args.disk.now c.deploy_document.new.disk
+    inr (document_deploys g.D.Disk.may_leave g.D.Disk.moment g.D.Disk.left_since g.D.Disk.faults c.args.disk.now c.deploy_document.new.disk
     (g.R.Runner.list c.args.runner.now) (g.R.Runner.list c.deploy_document.new.runner) printed c.deploy_document.result d start input library
     c.in-Ok.bytes c.in-Ok.ensures.bytes c.in-Ok.ensures.consumed c.in-Ok.ensures.short
-    (subst (λ (bytes : List ℕ). IsDeployedOn g.D.Disk.may_leave g.D.Disk.moment g.D.Disk.left_since c.args.disk.now c.deploy_document.new.disk
+    (subst (λ (bytes : List ℕ). IsDeployedOn g.D.Disk.may_leave g.D.Disk.moment g.D.Disk.left_since g.D.Disk.faults c.args.disk.now c.deploy_document.new.disk
     (g.R.Runner.list c.args.runner.now) (g.R.Runner.list c.deploy_document.new.runner) printed c.deploy_document.result d start library bytes) c.as_slice.ensures c.deploy_document.ensures.driven))
 
 pub returns-in-Ok-clause-none : goal.returns-in-Ok-clause-none

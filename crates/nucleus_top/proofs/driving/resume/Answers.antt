@@ -38,7 +38,7 @@ returns-in-Ok-clause-ran g c =
       d,
       c.in-Ok.ensures.opened,
       resumed_on g.met.D.Disk.laws c.args.disk.now c.open_swept.new.disk c.resume.new.disk c.open_swept.ensures.spared
-          (g.R.Runner.list c.args.runner.now) (g.R.Runner.list c.resume.new.runner) printed c.resume.result d
+          (g.R.Runner.list c.args.runner.now) (g.R.Runner.list c.resume.new.runner) printed c.resume.result g.D.Disk.faults c.open_swept.ensures.later d
           (same_fronts g.met.D.Disk.laws c.args.disk.now c.open_swept.new.disk d (λ tells. (c.in-Ok.ensures.opened tells).1) c.open_swept.ensures.images)
           (λ tells. (c.in-Ok.ensures.opened tells).1) c.open_swept.ensures.whole
           (record {
@@ -49,6 +49,7 @@ returns-in-Ok-clause-ran g c =
             call = call.0;
             resumes = call.1;
             history = record { start = refl; proper = call.0.went.proper; run = call.0.went.run };
+            failed = call.3;
             images = kept_fronts g.met.D.Disk.laws (slots_elsewhere c.needed_files_stay.ensures.journals) c.open_swept.new.disk c.resume.new.disk
                 (g.R.Runner.list c.args.runner.now) (g.R.Runner.list c.resume.new.runner) (g.K.Sink.held c.args.sink.now) (g.K.Sink.held c.resume.new.sink) (begun d told) c.resume.result
                 (loaded_stands g.met.D.Disk.laws c.in-Ok.state c.open_swept.new.disk c.in-Ok.ensures.held) call.0;

@@ -318,7 +318,7 @@ returns-in-Deploy-clause-refused g c = λ drives.
     let library : Shelf = shelf_of g.L.Library.content g.L.Library.faults c.args.library.now c.deploy.new.library in
     let printed : Printed = printed_of g.K.Sink.held g.K.Sink.faults c.args.sink.now c.deploy.new.sink in
     refused_parts store input printed c.deploy.result
-    (⊎_elim (λ away. inl (away.0.answer, away.0.why, away.0.told)) (λ went. inr (deployed_is_on g.D.Disk.may_leave g.D.Disk.moment g.D.Disk.left_since c.args.disk.now c.deploy.new.disk
+    (⊎_elim (λ away. inl (away.0.answer, away.0.why, away.0.told)) (λ went. inr (deployed_is_on g.D.Disk.may_leave g.D.Disk.moment g.D.Disk.left_since g.D.Disk.faults c.args.disk.now c.deploy.new.disk
     (g.R.Runner.list c.args.runner.now) (g.R.Runner.list c.deploy.new.runner) printed c.deploy.result store input library went).0) c.deploy.ensures.ran)
 
 pub returns-in-Deploy-clause-pending : goal.returns-in-Deploy-clause-pending
@@ -328,7 +328,7 @@ returns-in-Deploy-clause-pending g c = λ root is.
     let library : Shelf = shelf_of g.L.Library.content g.L.Library.faults c.args.library.now c.deploy.new.library in
     let printed : Printed = printed_of g.K.Sink.held g.K.Sink.faults c.args.sink.now c.deploy.new.sink in
     pending_parts store input printed c.deploy.result
-    (⊎_elim (λ away. inl (away.0.answer, away.0.why, away.0.told)) (λ went. inr (deployed_is_on g.D.Disk.may_leave g.D.Disk.moment g.D.Disk.left_since c.args.disk.now c.deploy.new.disk
+    (⊎_elim (λ away. inl (away.0.answer, away.0.why, away.0.told)) (λ went. inr (deployed_is_on g.D.Disk.may_leave g.D.Disk.moment g.D.Disk.left_since g.D.Disk.faults c.args.disk.now c.deploy.new.disk
     (g.R.Runner.list c.args.runner.now) (g.R.Runner.list c.deploy.new.runner) printed c.deploy.result store input library went)) c.deploy.ensures.ran)
 
 pub returns-in-Resume-clause-refused : goal.returns-in-Resume-clause-refused
@@ -337,7 +337,7 @@ returns-in-Resume-clause-refused g c = λ drives.
     let input : Input = input_of g.S.Source.left g.S.Source.faults c.args.source.now c.args.source.now in
     let printed : Printed = printed_of g.K.Sink.held g.K.Sink.faults c.args.sink.now c.resume.new.sink in
     refused_parts store input printed c.resume.result
-    (⊎_elim (λ away. inl (away.0.answer, withholds_turns store input away.0.answer away.0.why, away.0.told)) (λ went. inr (resumed_is_on g.D.Disk.may_leave g.D.Disk.moment g.D.Disk.left_since c.args.disk.now c.resume.new.disk
+    (⊎_elim (λ away. inl (away.0.answer, withholds_turns store input away.0.answer away.0.why, away.0.told)) (λ went. inr (resumed_is_on g.D.Disk.may_leave g.D.Disk.moment g.D.Disk.left_since g.D.Disk.faults c.args.disk.now c.resume.new.disk
     (g.R.Runner.list c.args.runner.now) (g.R.Runner.list c.resume.new.runner) printed c.resume.result store went)) c.resume.ensures.ran)
 
 pub returns-in-Resume-clause-pending : goal.returns-in-Resume-clause-pending

@@ -16,6 +16,8 @@ use Rattle.driver.specs.Lines.{id_of}
 use Rattle.driver.proofs.Told.{last_untold}
 use Rattle.activation.specs.Ended.{HasClosed}
 use Rattle.activation.proofs.Closed.{last_closed, line_closed, pends_in}
+use Rattle.ending_laws.specs.Drives.{Drives}
+use Rattle.ending_laws.proofs.Stands.{steady_on}
 use Rattle.stage_changes.proofs.Closing.{close_doubt, items_closed, items_given_up, items_went, owners_steadied}
 use Rattle.stage_changes.proofs.Policies.{keeps_activating}
 use Rattle.stage_changes.proofs.failing.keep_activating.Goals as goal
@@ -54,7 +56,7 @@ returns-in-Err-tell_close-clause-went g c = λ p told living from.
       items_went g.J.Journal.entries g.J.Journal.files g.met.D.Disk.laws c.args.disk.now c.keep.new.disk told.list p d world told living from allowed c.keep.ensures.moments,
       subst (λ (l : List ℕ). AppendsFront (g.K.Sink.held c.args.sink.now) (g.K.Sink.held c.tell_close.new.sink) l) (line_closed p d o from.comes.stands.device_is)
           (c.in-Err-tell_close.ensures.line d.closed (id_of d) o (ap (λ (x : Device). x.closed) c.device.ensures ∙ last_closed d e o pending taken)),
-      (λ i left. subst (λ (y : Device). StandsFor g.J.Journal.entries i y) back (in_hand_stands g.met.D.Disk.laws g.met.J.Journal.laws _ c.keep.new.disk e c.in-Ok.ensures.held.0 i left)),
+      (from.comes.on.boot_end, λ i left. subst (λ (y : Device). StandsFor g.J.Journal.entries i y) back (in_hand_stands g.met.D.Disk.laws g.met.J.Journal.laws _ c.keep.new.disk e c.in-Ok.ensures.held.0 i left)),
       items_given_up p d world told living from (g.S.Supervise.world c.steady.new.self) (owners_steadied world (g.S.Supervise.world c.steady.new.self) c.steady.ensures),
     )
 
@@ -70,3 +72,9 @@ returns-in-Err-clause-went g c = λ p told living from.
       close_doubt g.J.Journal.entries g.J.Journal.files g.met.D.Disk.laws c.args.disk.now c.keep.new.disk p d o from.comes.stands.device_is allowed c.keep.ensures.moments,
       items_given_up p d world told living from world (λ n. refl),
     )
+
+pub returns-in-Ok-tell_close-clause-drives : goal.returns-in-Ok-tell_close-clause-drives
+returns-in-Ok-tell_close-clause-drives g c = subst (λ (w : World). Drives w) (sym c.steady.ensures) (steady_on (g.S.Supervise.world c.args.supervisor.now) c.requires.drives).drives
+
+pub returns-in-Err-tell_close-clause-drives : goal.returns-in-Err-tell_close-clause-drives
+returns-in-Err-tell_close-clause-drives g c = subst (λ (w : World). Drives w) (sym c.steady.ensures) (steady_on (g.S.Supervise.world c.args.supervisor.now) c.requires.drives).drives

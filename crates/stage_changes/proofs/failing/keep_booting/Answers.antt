@@ -16,6 +16,8 @@ use Rattle.driver.specs.Lines.{id_of}
 use Rattle.driver.proofs.Told.{last_untold}
 use Rattle.activation.specs.Ended.{HasClosed}
 use Rattle.activation.proofs.Closed.{last_closed, line_closed, pends_in}
+use Rattle.ending_laws.specs.Drives.{Drives}
+use Rattle.ending_laws.proofs.Stands.{steady_on}
 use Rattle.stage_changes.proofs.Closing.{boot_bare, boot_closed, boot_went, close_doubt}
 use Rattle.stage_changes.proofs.Policies.{keeps_booting}
 use Rattle.stage_changes.proofs.failing.keep_booting.Goals as goal
@@ -54,7 +56,7 @@ returns-in-Err-tell_close-clause-went g c = λ p told living from orderly.
       boot_went g.J.Journal.entries g.J.Journal.files g.met.D.Disk.laws c.args.disk.now c.keep.new.disk told.list p d o world told living from tt allowed c.keep.ensures.moments,
       subst (λ (l : List ℕ). AppendsFront (g.K.Sink.held c.args.sink.now) (g.K.Sink.held c.tell_close.new.sink) l) (line_closed p d o from.between.stands.device_is)
           (c.in-Err-tell_close.ensures.line d.closed (id_of d) o (ap (λ (x : Device). x.closed) c.device.ensures ∙ last_closed d e o pending taken)),
-      (λ i left. subst (λ (y : Device). StandsFor g.J.Journal.entries i y) back (in_hand_stands g.met.D.Disk.laws g.met.J.Journal.laws _ c.keep.new.disk e c.in-Ok.ensures.held.0 i left)),
+      (from.between.boot_end, λ i left. subst (λ (y : Device). StandsFor g.J.Journal.entries i y) back (in_hand_stands g.met.D.Disk.laws g.met.J.Journal.laws _ c.keep.new.disk e c.in-Ok.ensures.held.0 i left)),
       boot_bare p d o world told living from,
     )
 
@@ -70,3 +72,9 @@ returns-in-Err-clause-went g c = λ p told living from orderly.
       close_doubt g.J.Journal.entries g.J.Journal.files g.met.D.Disk.laws c.args.disk.now c.keep.new.disk p d o from.between.stands.device_is allowed c.keep.ensures.moments,
       boot_bare p d o world told living from,
     )
+
+pub returns-in-Ok-tell_close-clause-drives : goal.returns-in-Ok-tell_close-clause-drives
+returns-in-Ok-tell_close-clause-drives g c = subst (λ (w : World). Drives w) (sym c.steady.ensures) (steady_on (g.S.Supervise.world c.args.supervisor.now) c.requires.drives).drives
+
+pub returns-in-Err-tell_close-clause-drives : goal.returns-in-Err-tell_close-clause-drives
+returns-in-Err-tell_close-clause-drives g c = subst (λ (w : World). Drives w) (sym c.steady.ensures) (steady_on (g.S.Supervise.world c.args.supervisor.now) c.requires.drives).drives

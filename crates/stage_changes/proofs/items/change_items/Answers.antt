@@ -7,6 +7,8 @@ use Rattle.session.specs.Places.{left_by}
 use Rattle.driver.specs.Went.{Acts}
 use Rattle.activation.specs.Runs.{Comes}
 use Rattle.session.specs.Waits.{has_three}
+use Rattle.ending_laws.specs.Drives.{Rises}
+use Rattle.ending_laws.proofs.Comes.{begins}
 use Rattle.stage_changes.proofs.Entered.{entered}
 use Rattle.stage_changes.proofs.Stage.{long_pending, pending_is, stage_with}
 use Rattle.stage_changes.proofs.items.change_items.Goals as goal
@@ -16,20 +18,29 @@ change-requires-clause-few g c =
     let d = device_view c.args.device.now in
     (stage_with d c.requires.ready.0 c.requires.ready.1 c.requires.sound (pending_view c.in-Some.pending) (pending_is c.args.device.now.pending c.in-Some.pending c.in-Some.is) c.requires.stage c.requires.few).below
 
-pub returns : goal.returns
-returns g c = record {
-  went = λ p told living enters.
-      let d = device_view c.args.device.now in
-      let q = pending_view c.in-Some.pending in
-      let is = pending_is c.args.device.now.pending c.in-Some.pending c.in-Some.is in
-      let ready = c.requires.ready in
-      let fitted = g.S.Supervise.coming c.args.ready in
-      let counts : List ℕ = c.in-Some.pending.failures in
-      let stage = stage_with d ready.0 ready.1 c.requires.sound q is c.requires.stage c.requires.few in
-      let counted = c.ready_items_are_counted.ensures.counted ready.0 d q (duty_of d).items fitted is stage.items stage.rise ready.2 stage.few stage.below in
-      let differ = c.ready_items_are_counted.ensures.differ ready.0 (duty_of d).items fitted stage.rise ready.2 in
-      let keeps = c.changes_keep.ensures.keeps d fitted counts p.world (long_pending d q is stage.long) counted differ enters.recorded enters.orderly in
-      let few : has_three counts ≡ false = subst (λ (l : List ℕ). has_three l ≡ false) stage.counts c.requires.few in
-      subst (λ (w : World). (h : List Happening) × Acts p h told.list told.list × Comes (left_by p h) d w told living) (sym c.change.ensures) (entered c.marks_are_least.ensures.first d fitted counts p (g.S.Supervise.world c.args.supervisor.now) told living enters c.requires.stage ready (sym stage.counts) few keeps
-      (λ n. c.changes_keep.ensures.owners n fitted counts false p.world));
-}
+pub returns-clause-went : goal.returns-clause-went
+returns-clause-went g c = λ p told living enters.
+    let d = device_view c.args.device.now in
+    let q = pending_view c.in-Some.pending in
+    let is = pending_is c.args.device.now.pending c.in-Some.pending c.in-Some.is in
+    let ready = c.requires.ready in
+    let fitted = g.S.Supervise.coming c.args.ready in
+    let counts : List ℕ = c.in-Some.pending.failures in
+    let stage = stage_with d ready.0 ready.1 c.requires.sound q is c.requires.stage c.requires.few in
+    let counted = c.ready_items_are_counted.ensures.counted ready.0 d q (duty_of d).items fitted is stage.items stage.rise ready.2 stage.few stage.below in
+    let differ = c.ready_items_are_counted.ensures.differ ready.0 (duty_of d).items fitted stage.rise ready.2 in
+    let keeps = c.changes_keep.ensures.keeps d fitted counts p.world (long_pending d q is stage.long) counted differ enters.recorded enters.orderly in
+    let few : has_three counts ≡ false = subst (λ (l : List ℕ). has_three l ≡ false) stage.counts c.requires.few in
+    subst (λ (w : World). (h : List Happening) × Acts p h told.list told.list × Comes (left_by p h) d w told living) (sym c.change.ensures) (entered c.marks_are_least.ensures.first d fitted counts p (g.S.Supervise.world c.args.supervisor.now) told living enters c.requires.stage ready (sym stage.counts) few keeps
+    (λ n. c.changes_keep.ensures.owners n fitted counts false p.world))
+
+pub returns-clause-rises : goal.returns-clause-rises
+returns-clause-rises g c =
+    let d = device_view c.args.device.now in
+    let q = pending_view c.in-Some.pending in
+    let is = pending_is c.args.device.now.pending c.in-Some.pending c.in-Some.is in
+    let ready = c.requires.ready in
+    let fitted = g.S.Supervise.coming c.args.ready in
+    let counts : List ℕ = c.in-Some.pending.failures in
+    let stage = stage_with d ready.0 ready.1 c.requires.sound q is c.requires.stage c.requires.few in
+    subst (λ (w : World). Rises w) (sym c.change.ensures) (begins fitted counts false (g.S.Supervise.world c.args.supervisor.now) c.requires.none (c.ready_items_may_come.ensures ready.0 (duty_of d).items fitted stage.are_items ready.2) stage.below_each)

@@ -1,14 +1,17 @@
-use Rattle.std.proofs.Common.{◌++◌, Some, false, refl, sym, subst}
+use Rattle.std.proofs.Common.{◌++◌, None, Some, false, refl, sym, subst}
 use Rattle.step_runner.specs.Entries.{Listed}
-use Rattle.supervisor.specs.Acts.{HandsOut}
+use Rattle.supervisor.specs.Acts.{HandsOut, NextAct}
 use Rattle.supervisor.specs.declared.kinds.Act.{Act}
 use Rattle.session.specs.Places.{Place, left_by}
 use Rattle.session.proofs.Joined.{left-append}
 use Rattle.driver.proofs.Acting.{acts_on}
 use Rattle.activation.proofs.Entering.{never}
+use Rattle.ending_laws.proofs.Steps.{falls_after, falls_not_above, next_falling, next_falls, next_not_above, not_above_on}
 use Rattle.stopping.specs.Runs.{Runs}
+use Rattle.stopping.proofs.Falling.{falling_at}
 use Rattle.stopping.proofs.Handing.{hands_at, moved, none_broke, none_failed, quiet_at, starting_at}
 use Rattle.stopping.proofs.Starting.{kill_lives, kill_runs}
+use Rattle.stopping.proofs.Turning.{apart}
 use Rattle.stopping.proofs.acts.act.Goals as goal
 
 pub returns-in-None-clause-went : goal.returns-in-None-clause-went
@@ -111,3 +114,57 @@ unreachable-requires-in-Broke g c =
     let n = c.in-Some.ensures.next in
     let m = moved c.leaving_laws.ensures q.0 v w told living list _ q.1 n in
     absurd (none_broke (left_by q.0 m.h) w told living c.in-Broke._who c.in-Broke._step c.in-Broke._exit m.within (subst (λ (a : Act). HandsOut (left_by q.0 m.h).world (Some a) w) c.in-Broke.is (hands_at q.0 v w told living list _ n m)))
+
+-- ---- the number
+
+pub returns-in-None-clause-not_above : goal.returns-in-None-clause-not_above
+returns-in-None-clause-not_above g c =
+    let q = c.requires.placed in
+    let v = g.S.Supervise.world c.args.supervisor.now in
+    let w = g.S.Supervise.world c.next_act.new.self in
+    let f = falling_at q.0 v (Listed g.R.Runner.list g.R.Runner.told g.R.Runner.asked c.args.runner.now) (g.R.Runner.living c.args.runner.now) q.1 in
+    next_not_above v w None c.requires.drives f c.in-None.ensures.next
+
+pub returns-in-None-clause-falls : goal.returns-in-None-clause-falls
+returns-in-None-clause-falls g c = λ some. absurd (apart some)
+
+pub start_step-requires-clause-drives : goal.start_step-requires-clause-drives
+start_step-requires-clause-drives g c =
+    let q = c.requires.placed in
+    let v = g.S.Supervise.world c.args.supervisor.now in
+    let w = g.S.Supervise.world c.next_act.new.self in
+    let f = falling_at q.0 v (Listed g.R.Runner.list g.R.Runner.told g.R.Runner.asked c.args.runner.now) (g.R.Runner.living c.args.runner.now) q.1 in
+    ((next_not_above v w _ c.requires.drives f c.in-Some.ensures.next).on.drives, next_falling v w _ c.requires.drives f c.in-Some.ensures.next)
+
+pub returns-in-Start-clause-not_above : goal.returns-in-Start-clause-not_above
+returns-in-Start-clause-not_above g c =
+    let q = c.requires.placed in
+    let v = g.S.Supervise.world c.args.supervisor.now in
+    let w = g.S.Supervise.world c.next_act.new.self in
+    let f = falling_at q.0 v (Listed g.R.Runner.list g.R.Runner.told g.R.Runner.asked c.args.runner.now) (g.R.Runner.living c.args.runner.now) q.1 in
+    let new = g.S.Supervise.world c.start_step.new.supervisor in
+    not_above_on v w new (next_not_above v w _ c.requires.drives f c.in-Some.ensures.next) (falls_not_above w new c.start_step.ensures.falls)
+
+pub returns-in-Start-clause-falls : goal.returns-in-Start-clause-falls
+returns-in-Start-clause-falls g c = λ no.
+    let q = c.requires.placed in
+    let v = g.S.Supervise.world c.args.supervisor.now in
+    let w = g.S.Supervise.world c.next_act.new.self in
+    let f = falling_at q.0 v (Listed g.R.Runner.list g.R.Runner.told g.R.Runner.asked c.args.runner.now) (g.R.Runner.living c.args.runner.now) q.1 in
+    falls_after v w (g.S.Supervise.world c.start_step.new.supervisor) (next_not_above v w _ c.requires.drives f c.in-Some.ensures.next) c.start_step.ensures.falls
+
+pub returns-in-Kill-clause-not_above : goal.returns-in-Kill-clause-not_above
+returns-in-Kill-clause-not_above g c =
+    let q = c.requires.placed in
+    let v = g.S.Supervise.world c.args.supervisor.now in
+    let w = g.S.Supervise.world c.next_act.new.self in
+    let f = falling_at q.0 v (Listed g.R.Runner.list g.R.Runner.told g.R.Runner.asked c.args.runner.now) (g.R.Runner.living c.args.runner.now) q.1 in
+    next_not_above v w _ c.requires.drives f c.in-Some.ensures.next
+
+pub returns-in-Kill-clause-falls : goal.returns-in-Kill-clause-falls
+returns-in-Kill-clause-falls g c = λ no.
+    let q = c.requires.placed in
+    let v = g.S.Supervise.world c.args.supervisor.now in
+    let w = g.S.Supervise.world c.next_act.new.self in
+    let f = falling_at q.0 v (Listed g.R.Runner.list g.R.Runner.told g.R.Runner.asked c.args.runner.now) (g.R.Runner.living c.args.runner.now) q.1 in
+    next_falls v w _ c.requires.drives f (subst (λ (a : Act). NextAct v (Some a) w) c.in-Kill.is c.in-Some.ensures.next) refl

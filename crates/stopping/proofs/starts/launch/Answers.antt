@@ -3,6 +3,7 @@ use Rattle.step_runner.specs.Entries.{Listed}
 use Rattle.supervisor.specs.World.{World, owner}
 use Rattle.supervisor.specs.Events.{later, refused, started}
 use Rattle.session.specs.Places.{left_by}
+use Rattle.ending_laws.proofs.Steps.{refuse_falls, start_falls}
 use Rattle.stopping.specs.Runs.{Runs}
 use Rattle.activation.proofs.Entering.{later_same}
 use Rattle.activation.proofs.Starting.{handed_world, owner_handed, prepared_world}
@@ -62,3 +63,15 @@ returns-in-Err-clause-went g c = λ p may.
     let same : later c.args.now world ≡ world = later_same c.args.now world (sym c.requires.now.0 ∙ handed_moment p who step world old (g.R.Runner.living c.args.runner.now) may) in
     let after : g.S.Supervise.world c.event-in-Err.new.self ≡ refused who step world = c.event-in-Err.ensures ∙ ap (λ (w : World). refused who step w) same in
     (e.h, e.acts, subst (λ (w : World). Runs (left_by p e.h) w new (g.R.Runner.living c.start.new.self)) (sym after) e.runs)
+
+pub returns-in-Ok-clause-falls : goal.returns-in-Ok-clause-falls
+returns-in-Ok-clause-falls g c =
+    let q = c.requires.placed in
+    let world = g.S.Supervise.world c.args.supervisor.now in
+    start_falls world c.args.now c.requires.drives.0 c.requires.drives.1 (g.S.Supervise.world c.event.new.self) c.args.who c.in-Ok.child c.args.step (handed_world c.args.who c.args.step world q.0.world q.1.world_is q.1.start) c.event.ensures
+
+pub returns-in-Err-clause-falls : goal.returns-in-Err-clause-falls
+returns-in-Err-clause-falls g c =
+    let q = c.requires.placed in
+    let world = g.S.Supervise.world c.args.supervisor.now in
+    refuse_falls world c.args.now c.requires.drives.0 c.requires.drives.1 (g.S.Supervise.world c.event-in-Err.new.self) c.args.who c.args.step (handed_world c.args.who c.args.step world q.0.world q.1.world_is q.1.start) c.event-in-Err.ensures

@@ -4,6 +4,7 @@ use Rattle.supervisor.specs.World.{World}
 use Rattle.session.specs.Happenings.{Asked}
 use Rattle.session.specs.Places.{leaves}
 use Rattle.stopping.specs.Runs.{Runs}
+use Rattle.ending_laws.proofs.Steps.{pass_not_above}
 use Rattle.stopping.proofs.Entering.{pass_acts, pass_runs}
 use Rattle.stopping.proofs.starts.pass.Goals as goal
 
@@ -24,5 +25,7 @@ returns-clause-went g c = λ p d q.
       pass_acts p d world old (g.R.Runner.living c.args.runner.now) now (g.R.Runner.list c.args.runner.now) (g.R.Runner.list c.moment-now.new.self) q (omega (arith, past, c.moment-now.ensures.later)) c.moment-now.ensures.list,
       subst (λ (w : World). Runs (leaves p (Asked now)) w new (g.R.Runner.living c.moment-now.new.self)) (sym c.event.ensures)
           (pass_runs c.leaving_laws.ensures p d world old new (g.R.Runner.living c.args.runner.now) (g.R.Runner.living c.moment-now.new.self) now q c.moment-now.ensures.told c.moment-now.ensures.asked c.moment-now.ensures.lives),
-      omega arith,
     )
+
+pub returns-clause-not_above : goal.returns-clause-not_above
+returns-clause-not_above g c = pass_not_above (g.S.Supervise.world c.args.supervisor.now) (g.S.Supervise.world c.event.new.self) c.moment-now.result c.requires.drives c.event.ensures
