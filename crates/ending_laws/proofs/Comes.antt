@@ -68,9 +68,9 @@ among : (j : ℕ) (counts : List ℕ) (fs : List Fitted) (n : List ℕ) → IsAm
 among j counts [] n a = absurd (cc)
 among j counts (f ∷ fs) n a = elim (bytes_eq (name_of f) n) as (λ (y : Bool). bytes_eq (name_of f) n ≡ y → (y || list_any (λ (g : Fitted). bytes_eq (name_of g) n) fs) ≡ true
     → is_met (λ q. not (is_leaving q)) (placed (fresh_part (f, get_or counts j 0)) (fresh_of (counted (suc j) counts fs))) n ≡ true) [
-  | true ↦ λ e b. any_placed_first (λ q. bytes_eq (part_name q) n && not (is_leaving q)) (fresh_part (f, get_or counts j 0)) (fresh_of (counted (suc j) counts fs)) (rw e refl)
-  | false ↦ λ e b. any_placed (λ q. bytes_eq (part_name q) n && not (is_leaving q)) (fresh_part (f, get_or counts j 0)) (fresh_of (counted (suc j) counts fs)) (among (suc j) counts fs n b)
-] refl a
+      | true ↦ λ e b. any_placed_first (λ q. bytes_eq (part_name q) n && not (is_leaving q)) (fresh_part (f, get_or counts j 0)) (fresh_of (counted (suc j) counts fs)) (rw e refl)
+      | false ↦ λ e b. any_placed (λ q. bytes_eq (part_name q) n && not (is_leaving q)) (fresh_part (f, get_or counts j 0)) (fresh_of (counted (suc j) counts fs)) (among (suc j) counts fs n b)
+    ] refl a
 
 all_among : (counts : List ℕ) (fs : List Fitted) (ns : List (List ℕ)) → AllByRecursion (IsAmong fs) ns → are_there (fresh_of (counted 0 counts fs)) ns ≡ true
 all_among counts fs [] a = refl

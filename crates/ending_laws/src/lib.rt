@@ -6,6 +6,6 @@
 mod laws;
 
 pub use laws::{
-    changes_drive, drives_end, drives_fall, drives_keep, drives_stop, none_drives, ready_items_may_come,
-    turns_fall,
+    changes_drive, drives_end, drives_fall, drives_keep, drives_stop, none_drives,
+    ready_items_may_come, turns_fall,
 };
