@@ -1,5 +1,5 @@
 -- The close of a deployment in a history.
-use Rattle.std.specs.Prelude.{Contains, ℕ, ◌+◌, ◌==◌, nat_eq, nat_lt, length, Bool, true, false, List, [], ◌∷◌, ◌++◌, Option, Some, None, IsSome, is_some, if◌then◌else◌}
+use Rattle.std.specs.Prelude.{Contains, ℕ, ◌==◌, nat_eq, nat_lt, length, Bool, true, false, List, [], ◌∷◌, ◌++◌, Option, Some, None, IsSome, is_some, if◌then◌else◌}
 use Rattle.std.specs.List.{list_any, position_or_len}
 use Rattle.std.specs.Option.{IsSomeAnd, option_map_or}
 use Rattle.std.proofs.Common.{◌≡◌, ◌↔◌, ◌∙◌, inl, refl, sym, ap, subst, arith}

@@ -1,23 +1,20 @@
 -- What a change to the items of a stage makes of a place.
-use Rattle.std.proofs.Common.{◌≡◌, ◌⊎◌, ℕ, ◌≤◌, List, [], ◌∷◌, Option, Some, None, Bool, true, false, refl, sym, ap, subst, ◌∙◌, inl, inr}
-use Rattle.std.specs.Prelude.{◌↔◌, IfSome, IsSome, Contains}
+use Rattle.std.proofs.Common.{◌≡◌, ℕ, List, [], ◌∷◌, Option, Some, None, true, false, refl, sym, ap, subst, ◌∙◌, inl, inr}
+use Rattle.std.specs.Prelude.{◌↔◌}
 use Rattle.std.proofs.lemmas.Bool.{false≢true}
-use Rattle.records.specs.declared.record.Origin.{Origin}
 use Rattle.device.specs.Devices.{Device, Pending}
 use Rattle.device.specs.declared.staged.Stage.{Stage}
 use Rattle.device.specs.Lawful.{no_failures}
 use Rattle.device.specs.declared.staged.Stage.TheVariants as stages
 use Rattle.step_runner.specs.Entries.{Told}
 use Rattle.supervisor.specs.Fitted.{Fitted}
-use Rattle.supervisor.specs.Answers.{has_answered}
 use Rattle.supervisor.specs.Changes.{changed_to}
-use Rattle.supervisor.specs.Events.{later}
 use Rattle.supervisor.specs.Marks.{HasFirst}
-use Rattle.supervisor.specs.World.{World, owner}
+use Rattle.supervisor.specs.World.{World}
 use Rattle.session.specs.Happenings.{Happening, Changed}
 use Rattle.session.specs.Phases.{Duty, Phase, duty_in, duty_of, is_idle, idle, booting, activating, backing, rolling}
 use Rattle.session.specs.Places.{Place, leaves, left_by}
-use Rattle.session.specs.Follows.{IsBootChild, Lives, MayChange, MayChangeIn, MayFollow}
+use Rattle.session.specs.Follows.{MayChange, MayFollow}
 use Rattle.session.specs.Waits.{has_three}
 use Rattle.driver.specs.Went.{Acts}
 use Rattle.driver.proofs.Acting.{grows_none}

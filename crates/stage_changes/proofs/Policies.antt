@@ -1,5 +1,5 @@
 -- What is lawful of a deployment that fails.
-use Rattle.std.specs.Prelude.{Contains, ℕ, ◌+◌, ◌==◌, nat_eq, nat_lt, length, map, get_or, slice_get, Bool, true, false, List, [], ◌∷◌, Option, Some, None, IsSome, is_some, option_and_then, position, if◌then◌else◌}
+use Rattle.std.specs.Prelude.{ℕ, ◌==◌, nat_eq, nat_lt, length, map, get_or, slice_get, Bool, true, false, List, [], ◌∷◌, Option, Some, None, IsSome, is_some, option_and_then, position, if◌then◌else◌}
 use Rattle.std.specs.List.{list_any, position_or_len}
 use Rattle.std.specs.Option.{IfSome, IsSomeAnd, option_map_or}
 use Rattle.std.proofs.Common.{◌≡◌, ◌<◌, ◌∙◌, inl, inr, refl, sym, ap, subst, arith}

@@ -7,9 +7,9 @@ use Rattle.std.proofs.lemmas.Bool.{false≢true}
 use Rattle.lifecycle.specs.declared.kinds.After.TheVariants as after
 use Rattle.supervisor.specs.Fitted.{Fitted, is_before, is_same_item, name_of}
 use Rattle.supervisor.specs.World.{World, Part, is_gone, is_over, part_name, stops_for_good, under_way}
-use Rattle.supervisor.specs.Marks.{Flagged, HasFirst, Within, flagged, marked, may_replan, reaching, restarted}
+use Rattle.supervisor.specs.Marks.{Flagged, HasFirst, Within, flagged, marked, may_replan, reaching}
 use Rattle.supervisor.specs.Answers.{has_answered}
-use Rattle.supervisor.specs.Changes.{Coming, changed_to, coming_again, coming_for, counted, fate, fresh_part, is_replaced, is_replacing, leaving, meeting, newcomers, placed, replanned, standing, staying, with_items, with_newcomers, with_texts}
+use Rattle.supervisor.specs.Changes.{Coming, changed_to, coming_again, coming_for, counted, fate, fresh_part, is_replaced, is_replacing, leaving, meeting, newcomers, placed, replanned, standing, staying, with_newcomers, with_texts}
 
 abbrev IsShut : Part → Type 0
 IsShut p = p.handed ≡ false

@@ -1,5 +1,5 @@
 -- The record that turns a deployment back, in a history.
-use Rattle.std.specs.Prelude.{Contains, ℕ, Bool, true, false, List, [], ◌∷◌, ◌++◌, Option, Some, None, IsSome, is_some, slice_get, if◌then◌else◌, ◌||◌}
+use Rattle.std.specs.Prelude.{ℕ, Bool, true, false, List, [], ◌∷◌, Option, Some, None, IsSome, is_some, slice_get, if◌then◌else◌, ◌||◌}
 use Rattle.std.specs.List.{AllByRecursion}
 use Rattle.std.specs.Option.{IfSome, IsSomeAnd}
 use Rattle.std.specs.Str.{bytes_eq}
@@ -7,7 +7,6 @@ use Rattle.std.proofs.Common.{◌≡◌, ◌∙◌, refl, sym, ap, subst}
 use Rattle.disk_model.specs.Disk.{Image, Leaves, DiskLaws}
 use Rattle.nuc_base.specs.declared.platform.Platform.{Platform}
 use Rattle.nuc_base.specs.declared.kinds.Policy.TheVariants as policies
-use Rattle.records.specs.Stored as stored
 use Rattle.records.specs.Stored.{Item, Record}
 use Rattle.records.specs.declared.record.Origin.{Origin}
 use Rattle.device.specs.Devices.{Device, Pending}
@@ -19,8 +18,8 @@ use Rattle.deploy_state.specs.Hand.{LeavesEither}
 use Rattle.step_runner.specs.Entries.{Told}
 use Rattle.step_runner.specs.declared.entries.RunnerEntry.{RunnerEntry}
 use Rattle.supervisor.specs.World.{World, is_stopped}
-use Rattle.session.specs.Phases.{Crew, duty_of, earlier, leaving}
-use Rattle.session.specs.Happenings.{Kept, records_of}
+use Rattle.session.specs.Phases.{duty_of, earlier, leaving}
+use Rattle.session.specs.Happenings.{Kept}
 use Rattle.session.specs.Places.{Place, leaves}
 use Rattle.session.specs.Follows.{HasNoBacks, IsClear, MayFollow, MayStopAll}
 use Rattle.session.specs.Courses.{IsBare, Stands}

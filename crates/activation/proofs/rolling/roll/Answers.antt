@@ -1,11 +1,10 @@
-use Rattle.std.proofs.Common.{◌++◌, true, false, ap, subst}
+use Rattle.std.proofs.Common.{◌++◌, true, false}
 use Rattle.step_runner.specs.Entries.{Listed}
 use Rattle.session.specs.Places.{left_by}
 use Rattle.nuc_base.specs.declared.kinds.Outcome.TheVariants as outcomes
-use Rattle.deploy_state.specs.States.{idle_device, rolling_device}
+use Rattle.deploy_state.specs.States.{idle_device}
 use Rattle.driver.proofs.Joins.{went_on}
 use Rattle.driver.proofs.Told.{all_told, left_joined, lines_at_joined}
-use Rattle.activation.specs.Coming.{coming_device}
 use Rattle.activation.specs.declared.turns.Turned.TheVariants as turned
 use Rattle.activation.proofs.Parting.{apart, closed_on, held_set, left_set}
 use Rattle.activation.proofs.Turning.{quits_on}

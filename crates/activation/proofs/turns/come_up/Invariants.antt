@@ -1,4 +1,4 @@
-use Rattle.std.proofs.Common.{◌≡◌, ◌≤◌, List, ℕ, IsTrue}
+use Rattle.std.proofs.Common.{◌≡◌, List, ℕ, IsTrue}
 use Rattle.std.specs.Io.KnownBytes.{Appends}
 use Rattle.step_runner.specs.Entries.{Listed}
 use Rattle.session.specs.Happenings.{Happening, records_of}

@@ -1,4 +1,4 @@
-use Rattle.std.proofs.Common.{◌∙◌, ◌++◌, inl, inr, true, false, refl, sym, subst, arith}
+use Rattle.std.proofs.Common.{◌∙◌, ◌++◌, true, false, refl, sym, subst}
 use Rattle.device.specs.Devices.{Device}
 use Rattle.device.specs.Standing.{StandsFor}
 use Rattle.step_runner.specs.Entries.{Listed}

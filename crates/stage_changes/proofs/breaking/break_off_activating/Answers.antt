@@ -1,4 +1,4 @@
-use Rattle.std.proofs.Common.{List, [], ◌∷◌, refl}
+use Rattle.std.proofs.Common.{[], ◌∷◌, refl}
 use Rattle.deploy_state.proofs.Steps.{some_break}
 use Rattle.deploy_state.specs.States.{activating_device, broken_device}
 use Rattle.session.specs.Happenings.{Kept}

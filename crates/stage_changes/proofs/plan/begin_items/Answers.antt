@@ -1,4 +1,4 @@
-use Rattle.std.proofs.Common.{List, [], ◌∷◌, refl}
+use Rattle.std.proofs.Common.{[], ◌∷◌, refl}
 use Rattle.records.specs.Stored as stored
 use Rattle.device.specs.Lawful.{applied}
 use Rattle.deploy_state.specs.States.{activating_device, booting_device}

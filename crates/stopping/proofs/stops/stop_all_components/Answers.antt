@@ -2,7 +2,7 @@ use Rattle.std.proofs.Common.{◌++◌, [], ◌∷◌, sym, subst}
 use Rattle.step_runner.specs.Entries.{Listed}
 use Rattle.supervisor.specs.World.{World}
 use Rattle.session.specs.Happenings.{StopsAll}
-use Rattle.session.specs.Places.{Place, leaves, left_by}
+use Rattle.session.specs.Places.{Place, leaves}
 use Rattle.session.proofs.Joined.{left-append}
 use Rattle.ending_laws.specs.Drives.{Drives}
 use Rattle.ending_laws.proofs.Stands.{stop_drives}

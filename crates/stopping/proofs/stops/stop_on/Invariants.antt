@@ -1,4 +1,4 @@
-use Rattle.std.proofs.Common.{◌≡◌, List}
+use Rattle.std.proofs.Common.{List}
 use Rattle.device.specs.Devices.{Device}
 use Rattle.step_runner.specs.Entries.{Listed}
 use Rattle.supervisor.specs.Events.{later}
