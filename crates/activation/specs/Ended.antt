@@ -5,7 +5,7 @@ use Rattle.nuc_base.specs.declared.kinds.Outcome.{Outcome}
 use Rattle.nuc_base.specs.declared.kinds.Outcome.TheVariants as outcomes
 use Rattle.records.specs.Stored.{Record, Closed}
 use Rattle.device.specs.Devices.{Device}
-use Rattle.deploy_state.specs.States.{InActivating, InIdle, InRolling, activating_device, idle_device, rolling_device}
+use Rattle.deploy_state.specs.States.{InActivating, InIdle, activating_device, idle_device}
 use Rattle.step_runner.specs.Entries.{Told}
 use Rattle.supervisor.specs.World.{World}
 use Rattle.supervisor.specs.Turns.{IsQuiet}
@@ -19,8 +19,6 @@ use Rattle.driver.specs.Same.{IsSameDeployment}
 use Rattle.activation.specs.Runs.{Comes}
 use Rattle.activation.specs.declared.activating.Activated.{Activated}
 use Rattle.activation.specs.declared.activating.Activated.TheVariants as activated
-use Rattle.activation.specs.declared.rolling.Rolled.{Rolled}
-use Rattle.activation.specs.declared.rolling.Rolled.TheVariants as rolled
 
 -- the last of the records is that the deployment closed so
 abbrev pub ClosesAs : Outcome → List Record → Type 0
@@ -43,21 +41,12 @@ abbrev pub ActivatedLeft : {J : Type 0} → Activated J → List Happening → P
 ActivatedLeft (activated.Closed s) h q world told living = HasClosed outcomes.Successful (records_of h) q (idle_device s) world told living
 ActivatedLeft (activated.Broken s) h q world told living = HasBroken q (activating_device s) world told living
 
-abbrev pub RolledLeft : {J : Type 0} → Rolled J → List Happening → Place → World → Told → List ℕ → Type 0
-RolledLeft (rolled.Closed s outcome) h q world told living = HasClosed outcome (records_of h) q (idle_device s) world told living
-
 -- where the deployment is pending still, it is the same
 abbrev pub ActivatedSame : {J : Type 0} → Device → Activated J → Type 0
 ActivatedSame d (activated.Closed s) = ⊤
 ActivatedSame d (activated.Broken s) = IsSameDeployment d (activating_device s)
 
-abbrev pub RolledSame : {J : Type 0} → Device → Rolled J → Type 0
-RolledSame d (rolled.Closed s outcome) = ⊤
-
 module _ {J D : Type 0} (tells : Bool) (may_leave : D → Image → Type 0) (stands : J → Image → List (List ℕ) → Type 0) (end : J → ℕ) where
   abbrev pub InActivated : Activated J → D → Type 0
   InActivated (activated.Closed s) disk = InIdle tells may_leave stands end s disk
   InActivated (activated.Broken s) disk = InActivating tells may_leave stands end s disk
-
-  abbrev pub InRolled : Rolled J → D → Type 0
-  InRolled (rolled.Closed s outcome) disk = InIdle tells may_leave stands end s disk

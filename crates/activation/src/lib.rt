@@ -19,4 +19,4 @@ mod turns;
 mod waits;
 
 pub use activating::{Activated, activate};
-pub use rolling::{Rolled, roll};
+pub use rolling::roll;

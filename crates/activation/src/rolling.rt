@@ -1,14 +1,14 @@
 // The items of the set are brought up again.
 ghost use Rattle.std.specs.Prelude.{◌≡◌, ℕ, List, IsTrue, IfOk, OnErr, IsErrOf};
 ghost use Rattle.nuc_base.specs.Faults.{Rose};
-ghost use Rattle.deploy_state.specs.States.{InRolling, rolling_device};
+ghost use Rattle.deploy_state.specs.States.{InIdle, InRolling, idle_device, rolling_device};
 ghost use Rattle.step_runner.specs.Entries.{Listed};
 ghost use Rattle.session.specs.Happenings.{Happening, records_of};
 ghost use Rattle.session.specs.Places.{Place, left_by};
 ghost use Rattle.driver.specs.Over.{Left, Lines};
 ghost use Rattle.driver.specs.Went.{Went};
 ghost use Rattle.ending_laws.specs.Drives.{Drives, Rises};
-ghost use Rattle.activation.specs.Ended.{InRolled, RolledLeft, RolledSame};
+ghost use Rattle.activation.specs.Ended.{HasClosed};
 ghost use Rattle.activation.specs.Runs.{Comes, Quits};
 
 use crate::closing::close_set;
@@ -23,34 +23,26 @@ use nuc_base::Outcome;
 use step_runner::Runner;
 use supervisor::Supervise;
 
-/// What became of the items of the set.
-#[derive(Drop)]
-pub enum Rolled<J: Journal + Drop> {
-    /// The deployment closed so: rolled back, or not able to, since one failed three times.
-    Closed(Idle<J>, Outcome),
-}
-
 /// Brings the items of the set up again: until all are, or one failed three times, and closes the deployment as rolled
-/// back or as not able to. Each failure is recorded and its line printed before the next act, and before each wait every
-/// act was taken.
+/// back or as not able to, which it tells. Each failure is recorded and its line printed before the next act, and before
+/// each wait every act was taken.
 pub fn roll<D: Disk, J: Journal + Drop, K: Sink, R: Runner, S: Supervise>(
     state: Rolling<J>,
     disk: &mut D,
     sink: &mut K,
     runner: &mut R,
     supervisor: &mut S,
-) -> Result<Rolled<J>, Over>
+) -> Result<(Idle<J>, Outcome), Over>
     requires held { InRolling D.tells D.may_leave J.stands J.end state disk.old }
     requires rises { Rises (S.world supervisor.old) }
     requires placed { (p : Place) × Comes p (rolling_device state) (S.world supervisor.old) (Listed R.list R.told R.asked runner.old) (R.living runner.old) }
     ensures went { (p : Place) → Comes p (rolling_device state) (S.world supervisor.old) (Listed R.list R.told R.asked runner.old) (R.living runner.old) →
         (h : List Happening) × Went J.entries J.files D.may_leave D.moment D.left_since disk.old disk.new (R.list runner.old) (R.list runner.new) p h
         × Lines (K.held sink.old) (K.held sink.new) p.device (records_of h) result
-        × Left J.entries D.may_leave disk.new p h (λ x q. RolledLeft x h q (S.world supervisor.new) (Listed R.list R.told R.asked runner.new) (R.living runner.new)) result
+        × Left J.entries D.may_leave disk.new p h (λ x q. HasClosed x.1 (records_of h) q (idle_device x.0) (S.world supervisor.new) (Listed R.list R.told R.asked runner.new) (R.living runner.new)) result
         × OnErr result (Quits (left_by p h) (S.world supervisor.new) (Listed R.list R.told R.asked runner.new) (R.living runner.new)) }
     ensures drives { Drives (S.world supervisor.new) }
-    ensures held { IfOk result (λ x. InRolled D.tells D.may_leave J.stands J.end x disk.new) }
-    ensures same { IfOk result (λ x. RolledSame (rolling_device state) x) }
+    ensures held { IfOk result (λ x. InIdle D.tells D.may_leave J.stands J.end x.0 disk.new) }
     ensures others { IsTrue D.tells → (name : List ℕ) → ¬ (J.files name) → D.seen disk.new name ≡ D.seen disk.old name }
     ensures disk { IsErrOf result Over.Disk → Rose (D.faults disk.old) (D.faults disk.new) }
     ensures edge { IsErrOf result Over.Edge → Rose (K.faults sink.old) (K.faults sink.new) }
@@ -62,11 +54,11 @@ pub fn roll<D: Disk, J: Journal + Drop, K: Sink, R: Runner, S: Supervise>(
             let state = coming.into_set();
             match turned {
                 Turned::Settled => match close_set(state, disk, sink, supervisor) {
-                    Ok(idle) => Ok(Rolled::Closed(idle, Outcome::RollbackComplete)),
+                    Ok(idle) => Ok((idle, Outcome::RollbackComplete)),
                     Err(over) => Err(over),
                 },
                 Turned::Broken => match close_set(state, disk, sink, supervisor) {
-                    Ok(idle) => Ok(Rolled::Closed(idle, Outcome::UnableToRollback)),
+                    Ok(idle) => Ok((idle, Outcome::UnableToRollback)),
                     Err(over) => Err(over),
                 },
             }

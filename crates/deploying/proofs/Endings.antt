@@ -13,8 +13,6 @@ use Rattle.session.proofs.Joined.{left-append}
 use Rattle.driver.specs.Lines.{lines_of}
 use Rattle.driver.specs.Went.{Acts, Went}
 use Rattle.driver.proofs.Joins.{records_opened}
-use Rattle.activation.specs.Turns.{moments_in, most_turns}
-use Rattle.activation.proofs.Turning.{moments_on}
 use Rattle.deploying.specs.Driven.{Course}
 use Rattle.deploying.proofs.Joining.{went_acting}
 

@@ -9,8 +9,7 @@ use Rattle.session.specs.Happenings.{Happening, records_of}
 use Rattle.session.specs.Places.{Place}
 use Rattle.session.proofs.Joined.{records-append}
 use Rattle.driver.proofs.Joins.{ends_on}
-use Rattle.activation.specs.Ended.{ClosesAs, RolledLeft}
-use Rattle.activation.specs.declared.rolling.Rolled.{Rolled}
+use Rattle.activation.specs.Ended.{ClosesAs}
 use Rattle.deploying.specs.Driven.{DrivenLeft}
 use Rattle.deploying.specs.declared.driven.Driven.{Driven}
 use Rattle.deploying.specs.declared.driven.Driven.TheVariants as driven
@@ -22,7 +21,3 @@ pub driven_on : {J : Type 0} (world : World) (told : Told) (living : List ℕ) (
 driven_on world told living h (driven.Closed s o) g q c = record { stands = c.stands; back = c.back; closed = closes_on o h g c.closed; orderly = c.orderly }
 driven_on world told living h (driven.Restart s) g q c = (c.0, c.1, (c.2.0, ends_on c.2.0 h g c.2.1, c.2.2))
 driven_on world told living h (driven.Reboot s) g q c = (c.0, c.1, (c.2.0, ends_on c.2.0 h g c.2.1, c.2.2))
-
--- the answer of the stage, as it was told apart
-pub rolled_as : {J : Type 0} (x y : Rolled J) (h : List Happening) (q : Place) (world : World) (told : Told) (living : List ℕ) → x ≡ y → RolledLeft x h q world told living → RolledLeft y h q world told living
-rolled_as x y h q world told living is left = subst (λ (z : Rolled _). RolledLeft z h q world told living) is left

@@ -13,7 +13,7 @@ ghost use Rattle.step_runner.specs.Entries.{Listed};
 ghost use Rattle.supervisor_laws.specs.Sound.{IsOrderly};
 
 use crate::driven::Driven;
-use activation::{Rolled, roll};
+use activation::roll;
 use deploy_state::Rolling;
 use disk_model::Disk;
 use driver::Over;
@@ -56,7 +56,7 @@ where
 {
     change_items(state.device(), ready, supervisor);
     match roll(state, disk, sink, runner, supervisor) {
-        Ok(Rolled::Closed(idle, outcome)) => Ok(Driven::Closed(idle, outcome)),
+        Ok((idle, outcome)) => Ok(Driven::Closed(idle, outcome)),
         Err(over) => {
             kill_all(runner, supervisor);
             Err(over)

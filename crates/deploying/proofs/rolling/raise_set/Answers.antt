@@ -8,7 +8,6 @@ use Rattle.session.specs.Phases.{duty_of}
 use Rattle.session.specs.Places.{left_by}
 use Rattle.session.specs.Waits.{has_three}
 use Rattle.activation.specs.Runs.{rises}
-use Rattle.activation.specs.declared.rolling.Rolled.TheVariants as rolled
 use Rattle.activation.proofs.Turning.{no_lines}
 use Rattle.stage_changes.specs.Enters.{AreReady}
 use Rattle.stage_changes.proofs.Rising.{keeps_none, rises_in, room_for_none, stopped_in}
@@ -19,7 +18,7 @@ use Rattle.deploying.proofs.Endings.{ended}
 use Rattle.deploying.proofs.Entering.{entered}
 use Rattle.deploying.proofs.Hands.{acted_held}
 use Rattle.deploying.proofs.Joining.{cut_off, joined}
-use Rattle.deploying.proofs.Leaving.{driven_on, rolled_as}
+use Rattle.deploying.proofs.Leaving.{driven_on}
 use Rattle.deploying.proofs.rolling.raise_set.Goals as goal
 
 -- ---- what the change of the items asks
@@ -66,8 +65,8 @@ roll-requires-clause-placed g c =
     c.device.ensures q.1 c.requires.orderly (inr c.requires.held.1) c.change_items.ensures.went in
     (left_by q.0 t.0, t.2)
 
-pub returns-in-Ok-Closed-clause-course : goal.returns-in-Ok-Closed-clause-course
-returns-in-Ok-Closed-clause-course g c = λ p front.
+pub returns-in-Ok-clause-course : goal.returns-in-Ok-clause-course
+returns-in-Ok-clause-course g c = λ p front.
     let d = rolling_device c.args.state in
     let told = Listed g.R.Runner.list g.R.Runner.told g.R.Runner.asked c.args.runner.now in
     let last = Listed g.R.Runner.list g.R.Runner.told g.R.Runner.asked c.roll.new.runner in
@@ -76,21 +75,21 @@ returns-in-Ok-Closed-clause-course g c = λ p front.
     let next = g.R.Runner.living c.roll.new.runner in
     let t = entered p d (device_view c.device.result.now) (g.S.Supervise.world c.args.supervisor.now) (g.S.Supervise.world c.change_items.new.supervisor) told living
     c.device.ensures front c.requires.orderly (inr c.requires.held.1) c.change_items.ensures.went in
-    let u = c.in-Ok-Closed.ensures.went (left_by p t.0) t.2 in
-    let x = driven.Closed c.in-Ok-Closed.idle c.in-Ok-Closed.outcome in
+    let u = c.in-Ok.ensures.went (left_by p t.0) t.2 in
+    let x = driven.Closed c.in-Ok.idle c.in-Ok.outcome in
     joined g.J.Journal.entries g.J.Journal.files g.met.D.Disk.laws c.args.disk.now c.args.disk.now c.roll.new.disk told.list told.list last.list
     (g.K.Sink.held c.args.sink.now) (g.K.Sink.held c.args.sink.now) (g.K.Sink.held c.roll.new.sink) p t.0 (Ok x) (λ y h r. DrivenLeft y h r world last next)
     (acted_held g.met.D.Disk.laws g.met.J.Journal.laws _ c.args.disk.now told.list told.list p d t.0 front.between.stands.device_is c.requires.held.0.0 t.1)
     (no_lines (g.K.Sink.held c.args.sink.now) p.device t.0 t.1.none)
     (driven_on world last next t.0)
     (ended g.J.Journal.entries g.J.Journal.files c.args.disk.now c.roll.new.disk told.list last.list (g.K.Sink.held c.args.sink.now) (g.K.Sink.held c.roll.new.sink) (left_by p t.0) u.0 x (λ y h r. DrivenLeft y h r world last next)
-    u.1 u.2 (rolled_as c.in-Ok-Closed.field-0 (rolled.Closed c.in-Ok-Closed.idle c.in-Ok-Closed.outcome) u.0 (left_by (left_by p t.0) u.0) world last next c.in-Ok-Closed.field-0-is u.3))
+    u.1 u.2 u.3)
 
 pub roll-requires-clause-rises : goal.roll-requires-clause-rises
 roll-requires-clause-rises g c = c.change_items.ensures.rises
 
-pub returns-in-Ok-Closed-clause-drives : goal.returns-in-Ok-Closed-clause-drives
-returns-in-Ok-Closed-clause-drives g c = c.roll.ensures.drives
+pub returns-in-Ok-clause-drives : goal.returns-in-Ok-clause-drives
+returns-in-Ok-clause-drives g c = c.roll.ensures.drives
 
 -- ---- it gives up
 
