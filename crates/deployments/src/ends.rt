@@ -1,5 +1,5 @@
 // How a call ends behind the course of its deployment.
-ghost use Rattle.std.specs.Prelude.{◌≡◌, ◌≢◌, ◌⊎◌, ◌≤◌, [], ◌++◌, ℕ, List, false, IsTrue, IfOk, OnOk, OnErr, IsErrOf, codes};
+ghost use Rattle.std.specs.Prelude.{◌≡◌, ◌≢◌, ◌⊎◌, ◌≤◌, [], ◌++◌, ℕ, List, false, IsTrue, IfOk, OnOk, OnErr, IsErrOf, Ok, codes};
 ghost use Rattle.nuc_base.specs.Faults.{Rose};
 ghost use Rattle.nuc_base.specs.declared.status.Status.TheVariants as statuses;
 ghost use Rattle.artifact_store.specs.Holding.{AllHoldDevice, HoldsDevice};
@@ -48,7 +48,42 @@ fn say_again<J: Journal + Drop, K: Sink>(
     say(sink, &[word, pending_id(state), "\n"], status)
 }
 
-/// Ends the call: behind a close as `end_closed`, and else at once.
+/// Ends the call whose deployment was driven so: behind a close as `end_closed`, and else at once.
+fn end_driven<D: Disk, J: Journal + Drop, K: Sink, R: Runner, S: Supervise>(
+    alloc: Global,
+    driven: &Driven<J>,
+    disk: &mut D,
+    sink: &mut K,
+    runner: &mut R,
+    supervisor: &mut S,
+) -> Status
+    requires placed { (p : Place) × (h : List Happening) × DrivenLeft driven.now h p (S.world supervisor.old) (Listed R.list R.told R.asked runner.old) (R.living runner.old) × (p.serves ≡ false) }
+    requires drives { Drives (S.world supervisor.old) }
+    ensures went { (p : Place) → (h : List Happening) → DrivenLeft driven.now h p (S.world supervisor.old) (Listed R.list R.told R.asked runner.old) (R.living runner.old) → (p.serves ≡ false) →
+        (k : List Happening) × Acts p k (R.list runner.old) (R.list runner.new) × IsEnd (left_by p k) result false }
+    ensures none { R.living runner.new ≡ [] }
+    ensures spared { Spared D.may_leave D.moment D.left_since disk.old disk.new }
+    // The device has its artifacts at each moment.
+    ensures safe { AllHoldDevice (D.may_leave disk.old) (driven_device driven.now) → Leaves D.moment D.left_since disk.old disk.new (λ c. HoldsDevice c (driven_device driven.now)) }
+    ensures others { IsTrue D.tells → Spares (IsBelow artifacts) (D.seen disk.old) (D.seen disk.new) }
+    ensures ends { SaysEnding (K.held sink.old) (K.held sink.new) result (λ e. EndsFor (Ok driven.now) e × (e ≡ Fails → Rose (D.faults disk.old) (D.faults disk.new))) }
+    ensures answers { AnswersFor (Ok driven.now) result }
+    ensures disk { result ≡ statuses.Disk → Rose (D.faults disk.old) (D.faults disk.new) }
+    ensures edge { result ≡ statuses.Edge → Rose (K.faults sink.old) (K.faults sink.new) }
+    ensures quiet_disk { result ≢ statuses.Disk → result ≢ statuses.Edge → D.faults disk.new ≡ D.faults disk.old }
+    ensures quiet_sink { result ≢ statuses.Edge → K.faults sink.new ≡ K.faults sink.old }
+    ensures later { (D.faults disk.old ≤ D.faults disk.new) × (K.faults sink.old ≤ K.faults sink.new) }
+{
+    match driven {
+        Driven::Closed(idle, outcome) => {
+            end_closed(alloc, idle, *outcome, disk, sink, runner, supervisor)
+        }
+        Driven::Restart(state) => say_again(state, sink, "restart ", Status::Restart),
+        Driven::Reboot(state) => say_again(state, sink, "reboot ", Status::Reboot),
+    }
+}
+
+/// Ends the call: where its deployment was driven as `end_driven`, and else at once.
 pub(crate) fn end_call<D: Disk, J: Journal + Drop, K: Sink, R: Runner, S: Supervise>(
     alloc: Global,
     driven: Result<Driven<J>, Over>,
@@ -78,12 +113,8 @@ pub(crate) fn end_call<D: Disk, J: Journal + Drop, K: Sink, R: Runner, S: Superv
     ensures quiet_sink { result ≢ statuses.Edge → K.faults sink.new ≡ K.faults sink.old }
     ensures later { (D.faults disk.old ≤ D.faults disk.new) × (K.faults sink.old ≤ K.faults sink.new) }
 {
-    match driven {
-        Ok(Driven::Closed(idle, outcome)) => {
-            end_closed(alloc, &idle, outcome, disk, sink, runner, supervisor)
-        }
-        Ok(Driven::Restart(state)) => say_again(&state, sink, "restart ", Status::Restart),
-        Ok(Driven::Reboot(state)) => say_again(&state, sink, "reboot ", Status::Reboot),
+    match &driven {
+        Ok(driven) => end_driven(alloc, driven, disk, sink, runner, supervisor),
         Err(Over::Disk) => say_disk(sink),
         Err(Over::Edge) => Status::Edge,
     }

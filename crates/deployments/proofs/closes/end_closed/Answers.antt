@@ -1,4 +1,5 @@
-use Rattle.std.proofs.Common.{◌∙◌, inl, inr, refl, sym, subst}
+use Rattle.std.specs.Prelude.{Err}
+use Rattle.std.proofs.Common.{◌∙◌, ap, false, inl, inr, refl, sym, subst}
 use Rattle.step_runner.specs.Entries.{Listed}
 use Rattle.session.specs.Places.{left_by}
 use Rattle.disk_model.specs.Disk.{Leaves}
@@ -87,7 +88,7 @@ pub returns-in-Err-Disk-clause-others : goal.returns-in-Err-Disk-clause-others
 returns-in-Err-Disk-clause-others g c = λ told name spared. c.sweep.ensures.others told name (λ stray. spared stray.0)
 
 pub returns-in-Err-Disk-clause-ends : goal.returns-in-Err-Disk-clause-ends
-returns-in-Err-Disk-clause-ends g c = (Fails, (inr (inr refl), λ fails. c.in-Err-Disk.ensures.cause), c.say_disk.ensures.says, c.say_disk.ensures.answers)
+returns-in-Err-Disk-clause-ends g c = (Fails, (inr (inr refl), λ fails. c.in-Err-Disk.ensures.cause (ap Err c.in-Err-Disk.field-0-is)), c.say_disk.ensures.says, c.say_disk.ensures.answers)
 
 -- ---- there was no memory
 
