@@ -1,6 +1,7 @@
 mod Files
 pub mod Holding
 mod Statuses
+pub mod Sweeping
 mod Results
 mod Places
 mod Faults

@@ -2,3 +2,4 @@ pub mod Declines
 pub mod Endings
 pub mod Calls
 pub mod Documents
+pub mod Sweeping

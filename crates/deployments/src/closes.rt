@@ -3,6 +3,7 @@ ghost use Rattle.std.specs.Prelude.{◌≡◌, ◌≢◌, ◌⊎◌, ◌≤◌, 
 ghost use Rattle.nuc_base.specs.Faults.{Rose};
 ghost use Rattle.nuc_base.specs.declared.status.Status.TheVariants as statuses;
 ghost use Rattle.artifact_store.specs.Holding.{AllHoldDevice, HoldsDevice};
+ghost use Rattle.artifact_store.specs.Swept.{IsSwept, items_of};
 ghost use Rattle.disk_model.specs.Disk.{Leaves};
 ghost use Rattle.disk_model.specs.Listing.{artifacts, IsBelow};
 ghost use Rattle.disk_model.specs.Spares.{Spares};
@@ -75,6 +76,8 @@ pub(crate) fn end_closed<D: Disk, J: Journal + Drop, K: Sink, R: Runner, S: Supe
     ensures quiet_disk { result ≢ statuses.Disk → result ≢ statuses.Edge → D.faults disk.new ≡ D.faults disk.old }
     ensures quiet_sink { result ≢ statuses.Edge → K.faults sink.new ≡ K.faults sink.old }
     ensures later { (D.faults disk.old ≤ D.faults disk.new) × (K.faults sink.old ≤ K.faults sink.new) }
+    // No stray file is left behind the close.
+    ensures swept { IsTrue D.tells → result ≡ status_of_outcome outcome → IsSwept (items_of (idle_device idle.now)) (D.seen disk.new) }
 {
     match sweep(alloc, disk, idle.device()) {
         Ok(()) => stop(outcome, runner, supervisor),

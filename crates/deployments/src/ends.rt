@@ -1,8 +1,10 @@
 // How a call ends behind the course of its deployment.
 ghost use Rattle.std.specs.Prelude.{◌≡◌, ◌≢◌, ◌⊎◌, ◌≤◌, [], ◌++◌, ℕ, List, false, IsTrue, IfOk, OnOk, OnErr, IsErrOf, Ok, codes};
 ghost use Rattle.nuc_base.specs.Faults.{Rose};
+ghost use Rattle.nuc_base.specs.declared.kinds.Outcome.{Outcome};
 ghost use Rattle.nuc_base.specs.declared.status.Status.TheVariants as statuses;
 ghost use Rattle.artifact_store.specs.Holding.{AllHoldDevice, HoldsDevice};
+ghost use Rattle.artifact_store.specs.Swept.{IsSwept, items_of};
 ghost use Rattle.disk_model.specs.Disk.{Leaves};
 ghost use Rattle.disk_model.specs.Listing.{artifacts, IsBelow};
 ghost use Rattle.disk_model.specs.Spares.{Spares};
@@ -17,6 +19,7 @@ ghost use Rattle.ending_laws.specs.Drives.{Drives};
 ghost use Rattle.deploying.specs.Driven.{DrivenLeft, driven_device};
 ghost use Rattle.deployments.specs.Calls.{AnswersFor, EndsFor, IsOrEdge, SaysEnding, SaysLine, Spared};
 ghost use Rattle.deployments.specs.Endings.{Fails};
+ghost use Rattle.refusal_lines.specs.Statuses.{status_of_outcome};
 
 use crate::closes::end_closed;
 use crate::lines::{pending_id, say, say_disk};
@@ -73,6 +76,8 @@ fn end_driven<D: Disk, J: Journal + Drop, K: Sink, R: Runner, S: Supervise>(
     ensures quiet_disk { result ≢ statuses.Disk → result ≢ statuses.Edge → D.faults disk.new ≡ D.faults disk.old }
     ensures quiet_sink { result ≢ statuses.Edge → K.faults sink.new ≡ K.faults sink.old }
     ensures later { (D.faults disk.old ≤ D.faults disk.new) × (K.faults sink.old ≤ K.faults sink.new) }
+    // No stray file is left behind a close.
+    ensures swept { IsTrue D.tells → (o : Outcome) → result ≡ status_of_outcome o → IsSwept (items_of (driven_device driven.now)) (D.seen disk.new) }
 {
     match driven {
         Driven::Closed(idle, outcome) => {
@@ -112,6 +117,7 @@ pub(crate) fn end_call<D: Disk, J: Journal + Drop, K: Sink, R: Runner, S: Superv
     ensures quiet_disk { result ≢ statuses.Disk → result ≢ statuses.Edge → D.faults disk.new ≡ D.faults disk.old }
     ensures quiet_sink { result ≢ statuses.Edge → K.faults sink.new ≡ K.faults sink.old }
     ensures later { (D.faults disk.old ≤ D.faults disk.new) × (K.faults sink.old ≤ K.faults sink.new) }
+    ensures swept { IsTrue D.tells → IfOk driven (λ x. (o : Outcome) → result ≡ status_of_outcome o → IsSwept (items_of (driven_device x)) (D.seen disk.new)) }
 {
     match &driven {
         Ok(driven) => end_driven(alloc, driven, disk, sink, runner, supervisor),

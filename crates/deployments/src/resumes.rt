@@ -15,6 +15,7 @@ ghost use Rattle.intake.specs.Takes.{LieElsewhere};
 ghost use Rattle.deployments.specs.Calls.{Call, Elsewhere, IsOrEdge, SaysLine, Stays, resumed_line};
 ghost use Rattle.deployments.specs.Documents.{KeepsArtifacts};
 ghost use Rattle.deployments.specs.Endings.{Fails, Resumes};
+ghost use Rattle.deployments.specs.Sweeping.{LeavesNoStray};
 
 use crate::ends::end_call;
 use crate::lines::{pending_id, say};
@@ -91,6 +92,7 @@ where
     ensures quiet_disk { result ≢ statuses.Disk → result ≢ statuses.Edge → D.faults disk.new ≡ D.faults disk.old }
     ensures quiet_sink { result ≢ statuses.Edge → K.faults sink.new ≡ K.faults sink.old }
     ensures later { Stays (D.faults disk.old) (D.faults disk.new) × Stays (K.faults sink.old) (K.faults sink.new) }
+    ensures swept { LeavesNoStray D.tells J.entries (loaded_device state) result (D.seen disk.new) }
 {
     if let Loaded::Idle(_) = &state {
         return say(sink, &["idle\n"], Status::Done);

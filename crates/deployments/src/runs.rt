@@ -23,6 +23,7 @@ ghost use Rattle.intake.specs.declared.fault.Declined.{Declined};
 ghost use Rattle.deployments.specs.Calls.{AllHoldBoth, Elsewhere, IsReadiedOn, Stays};
 ghost use Rattle.deployments.specs.Documents.{DrivesPlan, DrivesTaken, KeepsArtifacts, TakesRead};
 ghost use Rattle.deployments.specs.Endings.{Fails};
+ghost use Rattle.deployments.specs.Sweeping.{LeavesNoStray};
 
 use crate::declines::{say_declined, say_full, say_refusal};
 use crate::ends::end_call;
@@ -101,6 +102,7 @@ where
     ensures quiet_disk { result ≢ statuses.Disk → result ≢ statuses.Edge → D.faults disk.new ≡ D.faults disk.old }
     ensures quiet_sink { result ≢ statuses.Edge → K.faults sink.new ≡ K.faults sink.old }
     ensures later { Stays (D.faults disk.old) (D.faults disk.new) × Stays (K.faults sink.old) (K.faults sink.new) }
+    ensures swept { LeavesNoStray D.tells J.entries (idle_device idle) result (D.seen disk.new) }
 {
     match accept_plan(alloc, idle, plan, disk, sink) {
         Ok(Taken::Accepted(state)) => {
@@ -148,6 +150,7 @@ where
     ensures quiet_disk { result ≢ statuses.Disk → result ≢ statuses.Edge → D.faults disk.new ≡ D.faults disk.old }
     ensures quiet_sink { result ≢ statuses.Edge → K.faults sink.new ≡ K.faults sink.old }
     ensures later { Stays (D.faults disk.old) (D.faults disk.new) × Stays (K.faults sink.old) (K.faults sink.new) }
+    ensures swept { LeavesNoStray D.tells J.entries (idle_device idle) result (D.seen disk.new) }
     ensures library { result ≡ statuses.Library → Rose (L.faults library.old) (L.faults library.new) }
     ensures kept { L.content library.new ≡ L.content library.old }
     ensures library_quiet { result ≢ statuses.Library → result ≢ statuses.Edge → L.faults library.new ≡ L.faults library.old }
@@ -196,6 +199,7 @@ where
     ensures quiet_disk { result ≢ statuses.Disk → result ≢ statuses.Edge → D.faults disk.new ≡ D.faults disk.old }
     ensures quiet_sink { result ≢ statuses.Edge → K.faults sink.new ≡ K.faults sink.old }
     ensures later { Stays (D.faults disk.old) (D.faults disk.new) × Stays (K.faults sink.old) (K.faults sink.new) }
+    ensures swept { LeavesNoStray D.tells J.entries (idle_device idle) result (D.seen disk.new) }
     ensures library { result ≡ statuses.Library → Rose (L.faults library.old) (L.faults library.new) }
     ensures kept { L.content library.new ≡ L.content library.old }
     ensures library_quiet { result ≢ statuses.Library → result ≢ statuses.Edge → L.faults library.new ≡ L.faults library.old }

@@ -7,7 +7,7 @@ use Rattle.disk_model.specs.Listing.{artifacts, IsBelow}
 use Rattle.nuc_base.specs.declared.status.Status.TheVariants as statuses
 use Rattle.device.specs.Devices.{Device, device_view}
 use Rattle.artifact_store.specs.Holding.{AllHoldDevice, HoldsDevice}
-use Rattle.artifact_store.specs.Swept.{IsStray, items_of}
+use Rattle.artifact_store.specs.Swept.{IsStray, IsSwept, items_of}
 use Rattle.artifact_store.proofs.Walking.{wider_spares}
 use Rattle.deploy_state.specs.States.{idle_device}
 use Rattle.giving_up.proofs.Ended.{killed_ends}
@@ -15,6 +15,7 @@ use Rattle.deployments.proofs.Places.{closed_given_up, closed_stops}
 use Rattle.deployments.specs.Endings.{Closes, Fails, Forgets}
 use Rattle.deployments.proofs.Printing.{says_none}
 use Rattle.deployments.proofs.Statuses.{disk_opens, no_outcome, opens_gives}
+use Rattle.deployments.proofs.Sweeping.{no_close}
 use Rattle.deployments.proofs.closes.end_closed.Goals as goal
 
 -- ---- stray files are swept
@@ -123,3 +124,14 @@ returns-in-Err-NoMemory-clause-others g c = λ told name spared. c.sweep.ensures
 pub returns-in-Err-NoMemory-clause-ends : goal.returns-in-Err-NoMemory-clause-ends
 returns-in-Err-NoMemory-clause-ends g c =
     (Forgets, (inr (inl refl), λ fails. absurd cc), says_none (g.K.Sink.held c.args.sink.now) (g.K.Sink.held c.args.sink.now) statuses.Memory refl, inl refl)
+
+-- ---- no stray file is left
+
+pub returns-in-Ok-clause-swept : goal.returns-in-Ok-clause-swept
+returns-in-Ok-clause-swept g c = λ told is. subst (λ (d : Device). IsSwept (items_of d) (g.D.Disk.seen c.sweep.new.disk)) c.device.ensures (c.in-Ok.ensures.swept told)
+
+pub returns-in-Err-Disk-clause-swept : goal.returns-in-Err-Disk-clause-swept
+returns-in-Err-Disk-clause-swept g c = λ told is. absurd (no_close c.args.outcome c.say_disk.result statuses.Disk refl c.say_disk.ensures.answers is)
+
+pub returns-in-Err-NoMemory-clause-swept : goal.returns-in-Err-NoMemory-clause-swept
+returns-in-Err-NoMemory-clause-swept g c = λ told is. absurd (no_outcome c.args.outcome statuses.Memory refl (sym is))

@@ -83,3 +83,14 @@ pub returns-clause-ends : goal.returns-clause-ends
 returns-clause-ends g c =
     let held = g.K.Sink.held c.args.sink.now in
     ends_err statuses.Edge held held c.args.driven c.in-Err-Edge.field-0 over.Edge c.in-Err-Edge.is (rw c.in-Err-Edge.is at c.in-Err-Edge.field-0-is) (Breaks, (refl, λ fails. absurd cc), says_none held held statuses.Edge refl, inl refl)
+
+-- ---- no stray file is left behind a close
+
+pub returns-in-Ok-clause-swept : goal.returns-in-Ok-clause-swept
+returns-in-Ok-clause-swept g c = λ told. ok_if _ c.args.driven c.in-Ok.driven c.in-Ok.driven c.in-Ok.is refl (c.end_driven.ensures.swept told)
+
+pub returns-in-Err-Disk-clause-swept : goal.returns-in-Err-Disk-clause-swept
+returns-in-Err-Disk-clause-swept g c = λ told. err_if _ c.args.driven c.in-Err-Disk.field-0 c.in-Err-Disk.is
+
+pub returns-clause-swept : goal.returns-clause-swept
+returns-clause-swept g c = λ told. err_if _ c.args.driven c.in-Err-Edge.field-0 c.in-Err-Edge.is

@@ -5,6 +5,7 @@ use Rattle.disk_model.specs.Listing.{artifacts, IsBelow}
 use Rattle.nuc_base.specs.Faults.{Rose}
 use Rattle.nuc_base.specs.declared.status.Status.TheVariants as statuses
 use Rattle.artifact_store.specs.Holding.{AllHoldDevice, HoldsDevice}
+use Rattle.artifact_store.specs.Swept.{IsSwept, items_of}
 use Rattle.artifact_store.proofs.Sparing.{still_safe}
 use Rattle.artifact_store.proofs.Walking.{start_spares}
 use Rattle.deploy_state.specs.States.{loaded_device}
@@ -18,6 +19,7 @@ use Rattle.deployments.specs.Calls.{AnswersFor, EndsFor, SaysEnding}
 use Rattle.deployments.specs.Endings.{Fails, Reboots, Restarts}
 use Rattle.deployments.proofs.Places.{bare_none, between_bare, restart_ends}
 use Rattle.deployments.proofs.Statuses.{two_never}
+use Rattle.deployments.proofs.Sweeping.{close_is, no_close}
 use Rattle.deployments.proofs.ends.end_driven.Goals as goal
 
 -- ---- it closed
@@ -130,3 +132,16 @@ returns-in-Reboot-clause-ends g c =
 
 pub returns-in-Reboot-clause-disk : goal.returns-in-Reboot-clause-disk
 returns-in-Reboot-clause-disk g c = λ is. absurd (two_never c.say_again-in-Reboot.result statuses.Reboot statuses.Edge statuses.Disk c.say_again-in-Reboot.ensures.answers (λ e. cc) (λ e. cc) is)
+
+-- ---- no stray file is left behind a close
+
+pub returns-in-Closed-clause-swept : goal.returns-in-Closed-clause-swept
+returns-in-Closed-clause-swept g c = λ told o is.
+    subst (λ (x : Driven _). IsSwept (items_of (driven_device x)) (g.D.Disk.seen c.end_closed.new.disk)) (sym c.in-Closed.is)
+    (c.end_closed.ensures.swept told (close_is _ o c.end_closed.result c.end_closed.ensures.answers is))
+
+pub returns-in-Restart-clause-swept : goal.returns-in-Restart-clause-swept
+returns-in-Restart-clause-swept g c = λ told o is. absurd (no_close o c.say_again.result statuses.Restart refl c.say_again.ensures.answers is)
+
+pub returns-in-Reboot-clause-swept : goal.returns-in-Reboot-clause-swept
+returns-in-Reboot-clause-swept g c = λ told o is. absurd (no_close o c.say_again-in-Reboot.result statuses.Reboot refl c.say_again-in-Reboot.ensures.answers is)

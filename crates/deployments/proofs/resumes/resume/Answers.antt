@@ -28,6 +28,7 @@ use Rattle.deployments.proofs.Printing.{opening_at, said_prints, starved_prints,
 use Rattle.deployments.proofs.Results.{answers_disk, answers_edge, answers_own}
 use Rattle.deployments.proofs.Resuming.{loaded_hand, loaded_idle, loaded_pending, loaded_stands, resumes_none, resumes_some, some_is, some_mapped}
 use Rattle.deployments.proofs.Statuses.{done_no_edge, not_done, two_never}
+use Rattle.deployments.proofs.Sweeping.{driven_sweeps, never_closes, none_closes}
 use Rattle.deployments.proofs.resumes.resume.Goals as goal
 
 -- ---- none is pending
@@ -231,3 +232,23 @@ returns-in-Done-clause-later g c = (
   stays_on (g.K.Sink.faults c.args.sink.now) (g.K.Sink.faults c.say_resumed.new.sink) (g.K.Sink.faults c.drive-driven.new.sink) (g.K.Sink.faults c.end_call.new.sink) c.say_resumed.ensures.later
       (stays_by c.drive-driven.result over.Edge (g.K.Sink.faults c.say_resumed.new.sink) (g.K.Sink.faults c.drive-driven.new.sink) c.drive-driven.ensures.edge c.drive-driven.ensures.quiet_sink) c.end_call.ensures.later.1,
 )
+
+-- ---- no stray file is left behind a close
+
+pub returns-in-Idle-clause-swept : goal.returns-in-Idle-clause-swept
+returns-in-Idle-clause-swept g c =
+    none_closes g.met.D.Disk.laws g.met.J.Journal.laws c.args.disk.now (loaded_device c.args.state) c.say.result
+    (loaded_stands g.met.D.Disk.laws g.met.J.Journal.laws c.args.state c.args.disk.now c.requires.held (loaded_device c.args.state) refl)
+
+pub returns-in_default-ready_again-clause-swept : goal.returns-in_default-ready_again-clause-swept
+returns-in_default-ready_again-clause-swept g c = never_closes g.D.Disk.tells g.J.Journal.entries (loaded_device c.args.state) statuses.Memory statuses.Memory (g.D.Disk.seen c.args.disk.now) refl (inl refl)
+
+pub returns-in_default-say_resumed-clause-swept : goal.returns-in_default-say_resumed-clause-swept
+returns-in_default-say_resumed-clause-swept g c =
+    none_closes g.met.D.Disk.laws g.met.J.Journal.laws c.args.disk.now (loaded_device c.args.state) c.say_resumed.result
+    (loaded_stands g.met.D.Disk.laws g.met.J.Journal.laws c.args.state c.args.disk.now c.requires.held (loaded_device c.args.state) refl)
+
+pub returns-in-Done-clause-swept : goal.returns-in-Done-clause-swept
+returns-in-Done-clause-swept g c =
+    driven_sweeps g.met.D.Disk.laws g.met.J.Journal.laws c.requires.apart c.drive-driven.result c.drive-driven.new.disk c.end_call.new.disk (loaded_device c.args.state) c.end_call.result
+    c.drive-driven.ensures.held c.end_call.ensures.spared c.end_call.ensures.answers c.end_call.ensures.swept

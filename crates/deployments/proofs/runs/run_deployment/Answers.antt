@@ -1,4 +1,4 @@
-use Rattle.std.proofs.Common.{inl, inr, refl, sym, ap, subst, ◌∙◌, arith}
+use Rattle.std.proofs.Common.{◌≡◌, inl, inr, refl, sym, ap, subst, ◌∙◌, arith}
 use Rattle.std.specs.Prelude.{[], Result, Ok, Err}
 use Rattle.disk_model.specs.Disk.{Image}
 use Rattle.records.specs.Stored.{plan_view}
@@ -14,13 +14,14 @@ use Rattle.step_runner.specs.Entries.{Listed}
 use Rattle.session.specs.Happenings.{records_of}
 use Rattle.intake.specs.Takes.{TakesIn}
 use Rattle.intake.specs.declared.fault.Declined.{Declined}
-use Rattle.deployments.specs.Endings.{Starves}
+use Rattle.deployments.specs.Endings.{Fails, Starves}
 use Rattle.deployments.proofs.Ending.{declined_called, nothing_called, taken_behind}
 use Rattle.deployments.proofs.Faults.{rose_on, stays_later, stays_on}
 use Rattle.deployments.proofs.Holding.{taken_both, taken_whole}
 use Rattle.deployments.proofs.Places.{open_none, open_shut}
 use Rattle.deployments.proofs.Printing.{starved_prints}
 use Rattle.deployments.proofs.Statuses.{declined_disk, declined_library, disk_declined, library_declined, told_is, told_said}
+use Rattle.deployments.proofs.Sweeping.{never_closes, none_closes}
 use Rattle.deployments.proofs.runs.run_deployment.Goals as goal
 
 -- ---- the document is not taken
@@ -126,6 +127,9 @@ returns-in-Ok-ready_for-clause-later g c = (
 
 -- ---- there is no memory for it
 
+fed_fails : Starves ≡ Fails → ⊥
+fed_fails is = cc
+
 pub returns-in-Err-ready_for-clause-call : goal.returns-in-Err-ready_for-clause-call
 returns-in-Err-ready_for-clause-call g c = λ p opens serves.
     let d = idle_device c.args.idle in
@@ -146,7 +150,7 @@ returns-in-Err-ready_for-clause-call g c = λ p opens serves.
         inl (tt, refl),
       ),
       (λ holds. taken_whole g.met.D.Disk.laws g.J.Journal.files g.J.Journal.entries c.requires.apart g.met.J.Journal.laws c.args.idle.log c.args.disk.now c.take_in.new.disk d p opens.stands.device_is c.requires.held.0 c.take_in.ensures.moments c.take_in.ensures.safe holds []),
-      (λ fails. absurd cc),
+      (λ fails. absurd (fed_fails fails)),
     )
 
 pub returns-in-Err-ready_for-clause-none : goal.returns-in-Err-ready_for-clause-none
@@ -169,3 +173,17 @@ returns-in-Err-ready_for-clause-later g c = (
   stays_later (g.D.Disk.faults c.args.disk.now) (g.D.Disk.faults c.take_in.new.disk) c.take_in.ensures.disk_later,
   stays_later (g.K.Sink.faults c.args.sink.now) (g.K.Sink.faults c.args.sink.now) (omega arith),
 )
+
+-- ---- no stray file is left behind a close
+
+pub returns-in-Err-clause-swept : goal.returns-in-Err-clause-swept
+returns-in-Err-clause-swept g c =
+    let d = idle_device c.args.idle in
+    none_closes g.met.D.Disk.laws g.met.J.Journal.laws c.take_in.new.disk d c.say_declined.result
+    (λ i left. in_hand_stands g.met.D.Disk.laws g.met.J.Journal.laws c.args.idle.log c.take_in.new.disk d c.take_in.ensures.held.0 i left)
+
+pub returns-in-Ok-ready_for-clause-swept : goal.returns-in-Ok-ready_for-clause-swept
+returns-in-Ok-ready_for-clause-swept g c = c.run_plan.ensures.swept
+
+pub returns-in-Err-ready_for-clause-swept : goal.returns-in-Err-ready_for-clause-swept
+returns-in-Err-ready_for-clause-swept g c = never_closes g.D.Disk.tells g.J.Journal.entries (idle_device c.args.idle) statuses.Memory statuses.Memory (g.D.Disk.seen c.take_in.new.disk) refl (inl refl)

@@ -23,6 +23,7 @@ use Rattle.deployments.proofs.Taken.{unread_taken}
 use Rattle.deployments.proofs.Faults.{stays_later}
 use Rattle.deployments.proofs.Places.{open_none, open_shut}
 use Rattle.deployments.proofs.Statuses.{refusal_never, unread_never}
+use Rattle.deployments.proofs.Sweeping.{none_closes}
 use Rattle.deployments.proofs.runs.run_document.Goals as goal
 
 pub returns-in-Err-clause-call : goal.returns-in-Err-clause-call
@@ -73,3 +74,14 @@ returns-in-Err-clause-later g c = (
   stays_later (g.D.Disk.faults c.args.disk.now) (g.D.Disk.faults c.args.disk.now) (omega arith),
   stays_later (g.K.Sink.faults c.args.sink.now) (g.K.Sink.faults c.say_refusal.new.sink) c.say_refusal.ensures.later,
 )
+
+-- ---- no stray file is left behind a close
+
+pub returns-in-Ok-clause-swept : goal.returns-in-Ok-clause-swept
+returns-in-Ok-clause-swept g c = c.run_deployment.ensures.swept
+
+pub returns-in-Err-clause-swept : goal.returns-in-Err-clause-swept
+returns-in-Err-clause-swept g c =
+    let d = idle_device c.args.idle in
+    none_closes g.met.D.Disk.laws g.met.J.Journal.laws c.args.disk.now d c.say_refusal.result
+    (λ i left. in_hand_stands g.met.D.Disk.laws g.met.J.Journal.laws c.args.idle.log c.args.disk.now d c.requires.held.0 i left)

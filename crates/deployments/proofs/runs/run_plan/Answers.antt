@@ -35,6 +35,7 @@ use Rattle.deployments.proofs.Places.{open_bare, open_none, open_shut, opened_fr
 use Rattle.deployments.proofs.Printing.{opening_none, said_prints, says_none}
 use Rattle.deployments.proofs.Results.{answers_disk, answers_edge, answers_own}
 use Rattle.deployments.proofs.Statuses.{two_never}
+use Rattle.deployments.proofs.Sweeping.{driven_sweeps, never_closes}
 use Rattle.deployments.proofs.Taken.{booting_held, fits_taken, full_at, full_back, has_taken, opened_at, short_back, short_device, short_held, taken_ready}
 use Rattle.deployments.proofs.runs.run_plan.Goals as goal
 
@@ -282,3 +283,24 @@ returns-clause-none g c =
     let q = c.requires.placed in
     let told = Listed g.R.Runner.list g.R.Runner.told g.R.Runner.asked c.args.runner.now in
     open_none q.0 (idle_device c.args.idle) (g.S.Supervise.world c.args.supervisor.now) told (g.R.Runner.living c.args.runner.now) c.requires.empty q.1
+
+-- ---- no stray file is left behind a close
+
+pub returns-in-Ok-Accepted-clause-swept : goal.returns-in-Ok-Accepted-clause-swept
+returns-in-Ok-Accepted-clause-swept g c =
+    driven_sweeps g.met.D.Disk.laws g.met.J.Journal.laws c.requires.apart c.boot-driven.result c.boot-driven.new.disk c.end_call.new.disk (idle_device c.args.idle) c.end_call.result
+    c.boot-driven.ensures.held c.end_call.ensures.spared c.end_call.ensures.answers c.end_call.ensures.swept
+
+pub returns-in-Ok-Full-clause-swept : goal.returns-in-Ok-Full-clause-swept
+returns-in-Ok-Full-clause-swept g c =
+    never_closes g.D.Disk.tells g.J.Journal.entries (idle_device c.args.idle) c.say_full.result statuses.Limit (g.D.Disk.seen c.accept_plan.new.disk) refl c.say_full.ensures.answers
+
+pub returns-in-Ok-NoMemory-clause-swept : goal.returns-in-Ok-NoMemory-clause-swept
+returns-in-Ok-NoMemory-clause-swept g c = never_closes g.D.Disk.tells g.J.Journal.entries (idle_device c.args.idle) statuses.Memory statuses.Memory (g.D.Disk.seen c.accept_plan.new.disk) refl (inl refl)
+
+pub returns-in-Err-Disk-clause-swept : goal.returns-in-Err-Disk-clause-swept
+returns-in-Err-Disk-clause-swept g c =
+    never_closes g.D.Disk.tells g.J.Journal.entries (idle_device c.args.idle) c.say_disk.result statuses.Disk (g.D.Disk.seen c.accept_plan.new.disk) refl c.say_disk.ensures.answers
+
+pub returns-clause-swept : goal.returns-clause-swept
+returns-clause-swept g c = never_closes g.D.Disk.tells g.J.Journal.entries (idle_device c.args.idle) statuses.Edge statuses.Edge (g.D.Disk.seen c.accept_plan.new.disk) refl (inl refl)
