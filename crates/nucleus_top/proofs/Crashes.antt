@@ -1,14 +1,15 @@
 -- What a crash leaves of a call that drives a deployment.
-use Rattle.std.proofs.Common.{◌≡◌, ◌⊎◌, ⊎_elim, inl, inr, ℕ, ◌+◌, List, [], ◌∷◌, ◌++◌, Option, refl, sym, subst}
+use Rattle.std.proofs.Common.{◌≡◌, ◌∙◌, ⊎_elim, inl, inr, ℕ, ◌+◌, List, [], ◌∷◌, ◌++◌, Option, ap, refl, sym, subst}
 use Rattle.std.specs.Prelude.{Bool, IsTrue}
 use Rattle.disk_model.specs.Disk.{Image, After, DiskLaws, Leaves}
 use Rattle.disk_model.specs.Listing.{artifacts, IsBelow}
 use Rattle.disk_model.specs.Moments.{joined, now, tells_of, weaker}
 use Rattle.disk_model.specs.Spares.{Spares}
 use Rattle.gate_log.specs.Entries.{journal, ClosedAt, HoldsNone}
+use Rattle.gate_log.specs.Journal.{AreSettled}
 use Rattle.checkpoint_log.specs.Beginnings.{second, slot, IsOlder}
 use Rattle.checkpoint_log.specs.Laws.{of_slots}
-use Rattle.checkpoint_log.specs.Slots.{slots_entries, slots_files, slots_stands}
+use Rattle.checkpoint_log.specs.Slots.{slots_entries, slots_files, slots_none, slots_stands}
 use Rattle.checkpoint_log.specs.declared.slots.Slots.{Slots}
 use Rattle.nuc_base.specs.declared.status.Status.{Status}
 use Rattle.records.specs.Stored.{Record}
@@ -27,18 +28,18 @@ use Rattle.artifact_store.specs.Holding.{HoldsDevice}
 use Rattle.driver.specs.Went.{StandsForFront}
 use Rattle.intake.specs.Takes.{LieElsewhere}
 use Rattle.deployments.specs.Calls.{Call, Spared, StandsWhole}
-use Rattle.nucleus_top.specs.Crashes.{AllowedOrFront, AllowedOrSame, LeavesFronts, LeavesSame}
+use Rattle.nucleus_top.specs.Crashes.{AllowedOrFront, AllowedOrSame, KeepsJournal, LeavesFronts, LeavesSame, SaysSame}
 use Rattle.nucleus_top.specs.Opening.{Stands}
 use Rattle.nucleus_top.proofs.Images.{held_stands}
 use Rattle.nucleus_top.proofs.Standing.{same_device}
 
 -- ---- only the journal's two files matter
 
+none_stays : (a b : Image) → ((name : List ℕ) → slots_files name → b name ≡ a name) → slots_none a → slots_none b
+none_stays a b same none = (subst HoldsNone (sym (same journal (inl refl))) none.0, subst HoldsNone (sym (same second (inr refl))) none.1)
+
 entries_stay : (a b : Image) (payloads : List (List ℕ)) → ((name : List ℕ) → slots_files name → b name ≡ a name) → slots_entries a payloads → slots_entries b payloads
-entries_stay a b payloads same (inl none) = inl (
-  (subst HoldsNone (sym (same journal (inl refl))) none.0.0, subst HoldsNone (sym (same second (inr refl))) none.0.1),
-  none.1,
-)
+entries_stay a b payloads same (inl none) = inl (none_stays a b same none.0, none.1)
 entries_stay a b payloads same (inr live) = inr (
   live.0,
   live.1,
@@ -51,6 +52,13 @@ entries_stay a b payloads same (inr live) = inr (
 
 pub stands_stays : (d : Device) (a b : Image) → ((name : List ℕ) → slots_files name → b name ≡ a name) → Stands a d → Stands b d
 stands_stays d a b same h = record { payloads = h.payloads; live = entries_stay a b h.payloads same h.live; means = h.means; room = h.room }
+
+says_same : (a b : Image) → ((name : List ℕ) → slots_files name → b name ≡ a name) → SaysSame a b
+says_same a b same = record {
+  none = none_stays a b same;
+  no_device = λ none d stands. none d (stands_stays d b a (λ name is. sym (same name is)) stands);
+  device = λ d stands. stands_stays d a b same stands;
+}
 
 -- ---- fronts of records
 
@@ -157,6 +165,12 @@ module _ {D : Type 0} {tells : Bool} {seen : D → Image} {may_leave : D → Ima
         joined laws old opened new (may_leave old) (After (may_leave opened) (Spares (IsBelow artifacts))) (AllowedOrSame (may_leave old) (seen old)) opening spared
         (λ c left. inl left)
         (λ c was. inr (loaded_device s, stands (tells_of laws opened was.0 was.1), stands_stays (loaded_device s) was.0 c (journal_stays was.0 c was.2) (loaded_stands s opened held was.0 was.1)))
+
+    -- what the journal says is stable once it is opened, and then files of artifacts change alone
+    pub opened_says : (old opened new : D) → seen opened ≡ seen old → AreSettled seen may_leave slots_files opened → Spared may_leave moment left_since opened new → KeepsJournal may_leave seen old new
+    opened_says old opened new same settled spared c left =
+        let was = now laws opened new (After (may_leave opened) (Spares (IsBelow artifacts))) spared c left in
+        says_same (seen old) c (λ name is. journal_stays was.0 c was.2 name is ∙ settled name is was.0 was.1 ∙ ap (λ (i : Image). i name) same)
 
     -- a call that changes files of artifacts alone, where each image stands for a front already
     spared_fronts : (old new : D) (d : Device) (records : List Record) → ((c : Image) → may_leave old c → StandsForFront slots_entries d records c) → Spared may_leave moment left_since old new

@@ -1,5 +1,5 @@
 -- What the steps of `deploy` and `resume` come to.
-use Rattle.std.proofs.Common.{◌≡◌, ◌≢◌, ◌∙◌, ◌⊎◌, inl, inr, ℕ, ◌<◌, List, [], ◌∷◌, ◌++◌, length, take, refl, sym, ap, subst, arith, Some, None, IfSome}
+use Rattle.std.proofs.Common.{◌≡◌, ◌≢◌, ◌∙◌, ◌⊎◌, inl, inr, ℕ, ◌<◌, List, [], length, take, refl, sym, ap, subst, arith, Some, None, IfSome}
 use Rattle.std.specs.Option.{IsSomeAnd}
 use Rattle.std.specs.Prelude.{◌≤◌, ⊤, Bool, false, is_some, IsTrue, Option, Result, Ok, Err, true, IfOk, IfErr, IsErrOf, Contains}
 use Rattle.std.proofs.lemmas.Bool.{cases_lt, false≢true}
@@ -15,10 +15,9 @@ use Rattle.command_words.specs.declared.order.Order.{Order}
 use Rattle.command_words.specs.declared.order.Order.TheVariants as orders
 use Rattle.edges.specs.declared.source.ReadFault.{ReadFault}
 use Rattle.edges.specs.declared.source.ReadFault.TheVariants as reading
-use Rattle.disk_model.specs.Disk.{Image, After, DiskLaws, Leaves}
+use Rattle.disk_model.specs.Disk.{Image, DiskLaws, Leaves}
 use Rattle.disk_model.specs.Listing.{artifacts, IsBelow}
 use Rattle.disk_model.specs.Moments.{at_start, none_spares, then_spares, weaker}
-use Rattle.disk_model.specs.Spares.{Spares}
 use Rattle.gate_log.specs.Journal.{JournalLaws}
 use Rattle.checkpoint_log.specs.Beginnings.{FirstSays}
 use Rattle.checkpoint_log.specs.Laws.{slots_laws}
@@ -49,11 +48,13 @@ use Rattle.intake.specs.Takes.{LieElsewhere}
 use Rattle.intake.specs.declared.fault.Declined.{Declined}
 use Rattle.intake.proofs.Staying.{hand_stays}
 use Rattle.acceptance.specs.Accepts.{IsOpen}
-use Rattle.deployments.specs.Calls.{Call, Spared, Stays}
+use Rattle.deployments.specs.Calls.{Call, IsOrEdge, Spared, Stays}
 use Rattle.deployments.specs.Documents.{DrivesTaken, TakesRead}
+use Rattle.deployments.specs.Sweeping.{LeavesNoStray}
+use Rattle.deployments.proofs.Sweeping.{never_closes}
 use Rattle.nucleus_top.specs.Answers.{HasRisen, Input, IsUnchanged, Printed, Prints, Shelf, Store, Told, status_of}
 use Rattle.nucleus_top.specs.Asked.{AsksFor, asked_of}
-use Rattle.nucleus_top.specs.Crashes.{KeepsSameWhole, LeavesFronts, LeavesSame}
+use Rattle.nucleus_top.specs.Crashes.{KeepsJournal, KeepsSameWhole, LeavesFronts, LeavesSame}
 use Rattle.nucleus_top.specs.Drives.{DeploysOn, DriveParts, Drives, GoesUnread, IsDeployed, IsDeployedOn, IsResumedOn, IsTurnedAway, IsUnread, IsUnswept, NamesPendingOf, StartsFrom, TellsSweep, TellsUnread, TurnsAway, Withholds, WithholdsIdle, slots_start}
 use Rattle.nucleus_top.specs.Opening.{HasEntry, Stands as StandsFor}
 use Rattle.nucleus_top.specs.Parts.{Parts}
@@ -238,6 +239,21 @@ tells printed result a is (inr told) = record {
   quiet_sink = λ other. absurd (other told.0);
 }
 
+-- its status is that of no close
+module _ (tells : Bool) (d : Device) (printed : Printed) (result : Status) (image : Image) where
+  told_or_edge : (a : Answer) → Told printed result a → IsOrEdge result (status_of a)
+  told_or_edge a (inl told) = inl told.0
+  told_or_edge a (inr told) = inr told.0
+
+  pub told_sweeps : (a : Answer) → IsFirst a ⊎ IsPending a → Told printed result a → LeavesNoStray tells slots_entries d result image
+  told_sweeps DiskFailed is told = never_closes tells slots_entries d result status.Disk image refl (told_or_edge DiskFailed told)
+  told_sweeps NotInitialised is told = never_closes tells slots_entries d result status.NotInitialised image refl (told_or_edge NotInitialised told)
+  told_sweeps (Damaged place) is told = never_closes tells slots_entries d result status.Damaged image refl (told_or_edge (Damaged place) told)
+  told_sweeps (Pending id) is told = never_closes tells slots_entries d result status.PendingStands image refl (told_or_edge (Pending id) told)
+  told_sweeps NoMemory is told = never_closes tells slots_entries d result status.Memory image refl (told_or_edge NoMemory told)
+  told_sweeps a (inl is) told = absurd is
+  told_sweeps a (inr is) told = absurd is
+
 -- and so of a document that is not read
 pub record TellsNone (f : ReadFault) (printed : Printed) (result : Status) : Type 0 where
   pub disk : result ≡ status.Disk → ⊥
@@ -367,6 +383,7 @@ module _ {D : Type 0} (may_leave : D → Image → Type 0) (moment : D → ℕ) 
           failed = h.failed;
           images = h.images;
           whole = h.whole;
+          met = h.met;
           lasts = h.lasts;
         },
       )
@@ -484,6 +501,7 @@ module _ {D : Type 0} {tells : Bool} {seen : D → Image} {may_leave : D → Ima
       failed = λ fails. rose_behind (faults old) (faults mid) (faults new) later (h.failed fails);
       images = fronts_on laws old mid new d (records_of h.call.0.history) images h.images;
       whole = whole_on laws old mid new d (records_of h.call.0.history) stands whole h.whole;
+      met = h.met;
       lasts = h.lasts;
     }
 
@@ -500,16 +518,17 @@ module _ {D : Type 0} {tells : Bool} {seen : D → Image} {may_leave : D → Ima
       failed = λ fails. rose_behind (faults old) (faults mid) (faults new) later (h.failed fails);
       images = fronts_on laws old mid new d (records_of h.call.history) images h.images;
       whole = whole_on laws old mid new d (records_of h.call.history) stands whole h.whole;
+      met = h.met;
     }
 
   -- its document is not read behind such a call, or goes on with the device for which the journal stood
   pub ran_on : (old mid new : D) (first : Spared may_leave moment left_since old mid) (old_list new_list : Option (List RunnerEntry)) (printed : Printed) (result : Status)
       (faults : D → ℕ) (store : Store) (input : Input) (library : Shelf) (d : Device) (start : ℕ → ℕ) (Same : Type 0) → faults old ≤ faults mid
       → IsFound store d → d.pending ≡ None → (IsTrue store.tells → StartsFrom store.before d start) → (IsTrue tells → StandsFor (seen old) d)
-      → LeavesSame may_leave moment left_since seen old mid → KeepsSameWhole may_leave moment left_since seen old mid
+      → LeavesSame may_leave moment left_since seen old mid → KeepsSameWhole may_leave moment left_since seen old mid → KeepsJournal may_leave seen old mid
       → (IsUnread mid new input printed result × Same) ⊎ DeploysOn may_leave moment left_since faults mid new old_list new_list printed result d start input library
       → (IsTurnedAway seen may_leave moment left_since (λ a. TurnsAway store input a) old new printed result × Same) ⊎ IsDeployed may_leave moment left_since faults old new old_list new_list printed result store input library
-  ran_on old mid new first old_list new_list printed result faults store input library d start Same later found idle starts stands images whole (inl away) = inl (
+  ran_on old mid new first old_list new_list printed result faults store input library d start Same later found idle starts stands images whole ends (inl away) = inl (
     record {
       answer = away.0.answer;
       why = unread_turns store d found input away.0.answer idle away.0.why;
@@ -517,10 +536,11 @@ module _ {D : Type 0} {tells : Bool} {seen : D → Image} {may_leave : D → Ima
       spared = subst (λ (x : D). Spared may_leave moment left_since old x) (sym away.0.same) first;
       images = subst (λ (x : D). LeavesSame may_leave moment left_since seen old x) (sym away.0.same) images;
       whole = subst (λ (x : D). KeepsSameWhole may_leave moment left_since seen old x) (sym away.0.same) whole;
+      ends = inr (λ other. subst (λ (x : D). KeepsJournal may_leave seen old x) (sym away.0.same) ends);
     },
     away.1,
   )
-  ran_on old mid new first old_list new_list printed result faults store input library d start Same later found idle starts stands images whole (inr went) = inr (
+  ran_on old mid new first old_list new_list printed result faults store input library d start Same later found idle starts stands images whole ends (inr went) = inr (
     d,
     start,
     found,
@@ -569,4 +589,5 @@ module _ (words : List (List ℕ)) (store : Store) (input : Input) (library : Sh
     library_failed = λ is. cc;
     library_stays = λ other more. shelf;
     others = λ told name apart outside. ap (λ (i : Image). i name) same;
+    swept = λ d there. never_closes store.tells slots_entries d status.Memory status.Memory store.after refl (inl refl);
   }

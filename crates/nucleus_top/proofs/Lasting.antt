@@ -1,5 +1,5 @@
 -- Nothing that was taken is lost along a run.
-use Rattle.std.proofs.Common.{◌≡◌, ◌∙◌, inl, inr, ℕ, Bool, true, false, List, [], ◌∷◌, ◌++◌, Option, Some, None, refl, sym, ap, subst, append-nil, append_assoc}
+use Rattle.std.proofs.Common.{◌≡◌, ◌∙◌, inl, inr, ℕ, Bool, true, false, List, [], ◌∷◌, ◌++◌, Option, Some, None, refl, sym, ap, subst, append-nil, append_assoc, ◌<◌, length, length-append, arith}
 use Rattle.std.specs.Prelude.{if◌then◌else◌, option_map}
 use Rattle.std.specs.Map.{lookup}
 use Rattle.std.specs.Option.{IsSome, IsSomeAnd}
@@ -11,7 +11,7 @@ use Rattle.records.specs.Stored.{Plan, Record, Accepted, Closed}
 use Rattle.records.specs.declared.record.Origin.{Origin}
 use Rattle.device.specs.After.{Course, closing, course, course_after}
 use Rattle.device.specs.Devices.{Device, Pending}
-use Rattle.device.specs.Lawful.{Allowed, Lawful, MayAccept, Run}
+use Rattle.device.specs.Lawful.{Allowed, Lawful, MayAccept, MayClose, Run, close_pending}
 use Rattle.device.proofs.Course.{run}
 use Rattle.nucleus_top.specs.Lasting.{IsTaken, LosesNothing}
 
@@ -98,3 +98,22 @@ pub runs_take : (d e : Device) (before after : List Record) (plan : Plan) → Ru
 runs_take d e [] after plan along =
     (runs_lose_nothing along.0 e after along.2).taken plan.id (subst (λ (c : Course). IsTaken plan.id c) (sym (one d along.0 (Accepted plan) along.1)) (inl refl))
 runs_take d e (r ∷ before) after plan along = runs_take along.0 e before after plan along.2
+
+-- ---- a close
+
+closes_one : (d : Device) (o : Outcome) (p : Option Pending) → IsSomeAnd p (λ q. MayClose q o) → length d.closed < length (close_pending o d p).closed
+closes_one d o None may = absurd may
+closes_one d o (Some q) may = omega (arith, length-append d.closed ((q.plan.id, o) ∷ []))
+
+closes_behind : (front : List Record) (d e : Device) (o : Outcome) → Run d (front ++ Closed o ∷ []) e → length d.closed < length e.closed
+closes_behind [] d e o run =
+    let same : e ≡ close_pending o d d.pending = run.2 ∙ run.1.leaves in
+    subst (λ (x : Device). length d.closed < length x.closed) (sym same) (closes_one d o d.pending run.1.allowed)
+closes_behind (r ∷ front) d e o run =
+    let c = run.0 in
+    let grows = (runs_lose_nothing d c (r ∷ []) (c, run.1, refl)).closed in
+    let long : length c.closed ≡ length (d.closed ++ grows.0) = ap (λ (l : List (List ℕ × Outcome)). length l) grows.1 in
+    omega (arith, long, length-append d.closed grows.0, closes_behind front c e o run.2)
+
+pub runs_close_more : (d e : Device) (front : List Record) (o : Outcome) → Run d (front ++ Closed o ∷ []) e → length d.closed < length e.closed
+runs_close_more d e front o run = closes_behind front d e o run

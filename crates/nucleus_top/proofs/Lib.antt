@@ -9,6 +9,7 @@ mod Forms
 mod Images
 mod InitEnds
 mod Lasting
+mod Meeting
 mod Orders
 mod Origins
 mod PlanEnds

@@ -1,13 +1,13 @@
 -- What a crash leaves of a call that drives a deployment, at each of its moments.
 use Rattle.std.specs.Prelude.{◌⊎◌, ℕ, List}
 use Rattle.disk_model.specs.Disk.{Image, Leaves}
-use Rattle.checkpoint_log.specs.Slots.{slots_entries}
+use Rattle.checkpoint_log.specs.Slots.{slots_entries, slots_none}
 use Rattle.records.specs.Stored.{Record}
 use Rattle.device.specs.Devices.{Device}
 use Rattle.artifact_store.specs.Holding.{HoldsDevice}
 use Rattle.driver.specs.Went.{StandsForFront}
 use Rattle.deployments.specs.Calls.{StandsWhole}
-use Rattle.nucleus_top.specs.Opening.{Stands}
+use Rattle.nucleus_top.specs.Opening.{Stands, StandsForNone}
 
 -- an image that the call's start allowed, or one that stands for what a front of these records makes of the device
 abbrev pub AllowedOrFront : (Image → Type 0) → Device → List Record → Image → Type 0
@@ -16,6 +16,12 @@ AllowedOrFront allowed d records image = allowed image ⊎ StandsForFront slots_
 -- an image that the start allowed, or one that stands for the device for which the journal stands as it read at the start
 abbrev pub AllowedOrSame : (Image → Type 0) → Image → Image → Type 0
 AllowedOrSame allowed seen image = allowed image ⊎ ((d : Device) × Stands seen d × Stands image d)
+
+-- what the journal of an image says, that of another says too: that it holds no entry, that it stands for no device, or for this one
+pub record SaysSame (old new : Image) : Type 0 where
+  pub none : slots_none old → slots_none new
+  pub no_device : StandsForNone old → StandsForNone new
+  pub device : (d : Device) → Stands old d → Stands new d
 
 -- ---- the artifacts
 
@@ -50,3 +56,9 @@ module _ {D : Type 0} (may_leave : D → Image → Type 0) (moment : D → ℕ) 
 
   abbrev pub KeepsSameWhole : (D → Image) → D → D → Type 0
   KeepsSameWhole seen old new = AllHoldTheirs (may_leave old) → Leaves moment left_since old new (AllowedOrSameWhole (may_leave old) (seen old))
+
+-- ---- at the end
+
+-- each image that a crash may leave then says what the journal said as it read at the start
+abbrev pub KeepsJournal : {D : Type 0} → (D → Image → Type 0) → (D → Image) → D → D → Type 0
+KeepsJournal may_leave seen old new = (c : Image) → may_leave new c → SaysSame (seen old) c

@@ -1,7 +1,6 @@
 -- The commands that drive a deployment, `deploy` and `resume`, and what such a call promises.
-use Rattle.std.specs.Prelude.{◌≡◌, ◌≢◌, ◌⊎◌, ℕ, ◌+◌, false, IsTrue, List, [], ◌∷◌, Option, Some, None, Result, ⊤}
+use Rattle.std.specs.Prelude.{◌≡◌, ◌≢◌, ◌⊎◌, ℕ, ◌+◌, false, IsTrue, List, Option, Some, None, Result, ⊤}
 use Rattle.std.specs.Ordering.{is_lt, nat_cmp}
-use Rattle.std.proofs.Common.{inl, inr}
 use Rattle.disk_model.specs.Disk.{Image}
 use Rattle.nuc_base.specs.Faults.{Rose}
 use Rattle.nuc_base.specs.declared.status.Status.{Status}
@@ -27,10 +26,12 @@ use Rattle.intake.specs.declared.fault.Declined.{Declined}
 use Rattle.deployments.specs.Calls.{Call, Elsewhere, IsPendingAs, Spared}
 use Rattle.deployments.specs.Documents.{DrivesTaken, TakesRead}
 use Rattle.deployments.specs.Endings.{Fails, Resumes}
+use Rattle.deployments.specs.Sweeping.{LeavesNoStray}
 use Rattle.nucleus_top.specs.Answers.{Expects, HasRisen, Input, IsReadUpTo, Printed, Prints, Shelf, Store, Told, damaged_line, none_line, pending_line}
-use Rattle.nucleus_top.specs.Crashes.{KeepsSameWhole, KeepsWhole, LeavesFronts, LeavesSame}
+use Rattle.nucleus_top.specs.Crashes.{KeepsJournal, KeepsSameWhole, KeepsWhole, LeavesFronts, LeavesSame}
 use Rattle.nucleus_top.specs.Inits.{IsRefusedAt}
 use Rattle.nucleus_top.specs.Lasting.{Lasts}
+use Rattle.nucleus_top.specs.Meeting.{StayMet}
 use Rattle.nucleus_top.specs.Opening.{Stands, StandsForNone}
 use Rattle.nucleus_top.specs.Planning.{IsFound, IsPending}
 use Rattle.nucleus_top.specs.Refusing.{Refuses}
@@ -105,7 +106,8 @@ pub record IsUnread {D : Type 0} (old new : D) (input : Input) (printed : Printe
 
 module _ {D : Type 0} (seen : D → Image) (may_leave : D → Image → Type 0) (moment : D → ℕ) (left_since : D → ℕ → Image → Type 0) where
   -- A call is refused before anything of a deployment begins, for this reason: the answer is told, and at most files of
-  -- artifacts change. A crash leaves the device that there was.
+  -- artifacts change. A crash leaves the device that there was. At the end the disk is as it was, or the journal says what it
+  -- said, where the disk did not fail.
   pub record IsTurnedAway (why_so : Answer → Type 0) (old new : D) (printed : Printed) (result : Status) : Type 0 where
     pub answer : Answer
     pub why : why_so answer
@@ -113,6 +115,7 @@ module _ {D : Type 0} (seen : D → Image) (may_leave : D → Image → Type 0) 
     pub spared : Spared may_leave moment left_since old new
     pub images : LeavesSame may_leave moment left_since seen old new
     pub whole : KeepsSameWhole may_leave moment left_since seen old new
+    pub ends : (new ≡ old) ⊎ (answer ≢ DiskFailed → KeepsJournal may_leave seen old new)
 
 -- ---- `deploy`
 
@@ -155,6 +158,8 @@ module _ {D : Type 0} (may_leave : D → Image → Type 0) (moment : D → ℕ) 
     pub failed : call.0.ending ≡ Fails → Rose (faults old) (faults new)
     pub images : LeavesFronts may_leave moment left_since old new d (records_of call.0.history)
     pub whole : KeepsWhole may_leave moment left_since old new d (records_of call.0.history)
+    -- what meets its groups and its items does at each record
+    pub met : StayMet d (records_of call.0.history)
     -- what was printed lasts
     pub lasts : Lasts (may_leave new) call.0.prints.told
 
@@ -181,6 +186,7 @@ module _ {D : Type 0} (may_leave : D → Image → Type 0) (moment : D → ℕ) 
     pub failed : call.ending ≡ Fails → Rose (faults old) (faults new)
     pub images : LeavesFronts may_leave moment left_since old new d (records_of call.history)
     pub whole : KeepsWhole may_leave moment left_since old new d (records_of call.history)
+    pub met : StayMet d (records_of call.history)
 
   -- so it is with the device for which the journal stands, where the disk tells it
   abbrev pub IsResumed : Store → Type 0
@@ -205,7 +211,8 @@ pub record PendingParts (store : Store) (input : Input) (printed : Printed) (res
 -- ---- faults, and files
 
 -- 5, 6 and 7 come only where the count of the disk, of the source or the sink, or of the library rose, and the counts stay
--- where they do not come. No file is changed but the journal's two and those of artifacts.
+-- where they do not come. No file is changed but the journal's two and those of artifacts, and no stray file of an artifact is
+-- left behind the close of a deployment.
 pub record DriveParts (store : Store) (input : Input) (library : Shelf) (printed : Printed) (result : Status) : Type 0 where
   pub disk : result ≡ status.Disk → HasRisen store
   pub disk_stays : result ≢ status.Disk → result ≢ status.Edge → store.faults_after ≡ store.faults_before
@@ -214,3 +221,4 @@ pub record DriveParts (store : Store) (input : Input) (library : Shelf) (printed
   pub library_failed : result ≡ status.Library → Rose library.faults_before library.faults_after
   pub library_stays : result ≢ status.Library → result ≢ status.Edge → library.faults_after ≡ library.faults_before
   pub others : IsTrue store.tells → Elsewhere slots_files store.before store.after
+  pub swept : (d : Device) → Stands store.before d → LeavesNoStray store.tells slots_entries d result store.after

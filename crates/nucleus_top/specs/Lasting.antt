@@ -1,11 +1,11 @@
 -- Nothing that was taken is lost.
-use Rattle.std.specs.Prelude.{◌≡◌, ◌⊎◌, ℕ, List, ◌∷◌, ◌++◌}
+use Rattle.std.specs.Prelude.{◌≡◌, ◌⊎◌, ◌<◌, ℕ, List, [], ◌∷◌, ◌++◌, length}
 use Rattle.std.specs.Map.{lookup}
 use Rattle.std.specs.Option.{IsSome, IsSomeAnd}
 use Rattle.std.specs.Str.{bytes_eq}
 use Rattle.disk_model.specs.Disk.{Image}
 use Rattle.nuc_base.specs.declared.kinds.Outcome.{Outcome}
-use Rattle.records.specs.Stored.{Plan, Record, Accepted}
+use Rattle.records.specs.Stored.{Plan, Record, Accepted, Closed}
 use Rattle.device.specs.After.{Course, course}
 use Rattle.device.specs.Devices.{Device}
 use Rattle.device.specs.Lawful.{Run}
@@ -27,6 +27,10 @@ RunsLoseNothing = (d e : Device) (records : List Record) → Run d records e →
 -- and each plan that a run accepts is taken at its end
 abbrev pub RunsTake : Type 0
 RunsTake = (d e : Device) (before after : List Record) (plan : Plan) → Run d (before ++ Accepted plan ∷ after) e → IsTaken plan.id (course e)
+
+-- and a run that ends with a close has more closed deployments than there were
+abbrev pub RunsCloseMore : Type 0
+RunsCloseMore = (d e : Device) (front : List Record) (o : Outcome) → Run d (front ++ Closed o ∷ []) e → length d.closed < length e.closed
 
 -- Of each plan whose acceptance is among these records, each of these images stands for a device that has it, pending or closed.
 abbrev pub Lasts : (Image → Type 0) → List Record → Type 0

@@ -7,6 +7,7 @@ pub mod Drives
 pub mod Inits
 pub mod Lasting
 pub mod Leaving
+pub mod Meeting
 pub mod Opening
 pub mod Parts
 pub mod Planning

@@ -1,23 +1,29 @@
 -- Calls one after another over one store, and what a crash leaves of the last.
-use Rattle.std.specs.Prelude.{◌≡◌, List, [], ◌∷◌, ◌++◌, ⊤}
-use Rattle.disk_model.specs.Disk.{Image}
+use Rattle.std.specs.Prelude.{◌≡◌, ◌⊎◌, ℕ, List, [], ◌∷◌, ◌++◌, ⊤}
+use Rattle.std.specs.List.{AllByRecursion}
+use Rattle.disk_model.specs.Disk.{Image, Leaves}
 use Rattle.checkpoint_log.specs.Slots.{slots_entries}
 use Rattle.records.specs.Stored.{Record, Genesis}
 use Rattle.records.specs.declared.record.Origin.{Origin}
 use Rattle.device.specs.After.{After, course}
 use Rattle.device.specs.Devices.{Device, no_device}
 use Rattle.device.specs.Lawful.{Run}
-use Rattle.device.specs.Met.{BringMet, Met}
+use Rattle.device.specs.Met.{Met}
 use Rattle.driver.specs.Went.{StandsForFront}
 use Rattle.nucleus_top.specs.Begun.{Begins}
-use Rattle.nucleus_top.specs.Crashes.{AllowedOrFront}
+use Rattle.nucleus_top.specs.Crashes.{AllowedOrFront, LeavesFronts, LeavesSame}
 use Rattle.nucleus_top.specs.Lasting.{LosesNothing}
+use Rattle.nucleus_top.specs.Meeting.{StayMet}
 use Rattle.nucleus_top.specs.Opening.{Stands}
 
 -- one call: the device for which the journal stood when it began, and the records that it kept
 pub record Made : Type 0 where
   pub device : Device
   pub records : List Record
+
+-- the call with this device that keeps no record
+abbrev pub keeps_none : Device → Made
+keeps_none d = record { device = d; records = [] }
 
 -- What a crash inside the last of these calls, or its end, may leave. The last one stands first, and before all of them the
 -- journal stands for d: for no device where it holds no entry.
@@ -35,9 +41,13 @@ abbrev pub AreKept : List Made → List Record → Type 0
 AreKept [] records = records ≡ []
 AreKept (c ∷ before) records = (earlier front rest : List Record) × AreKept before earlier × (c.records ≡ front ++ rest) × (records ≡ earlier ++ front)
 
+-- devices stay met along the records of each call
+abbrev pub AllStayMet : List Made → Type 0
+AllStayMet calls = AllByRecursion (λ c. StayMet c.device c.records) calls
+
 -- The image stands for the device that the records kept so far make of d. Its set, groups and closed list are those that the
--- accepted plans and their closings give in order, and what was taken in d is taken in it. It is met where d and each of
--- these plans is.
+-- accepted plans and their closings give in order, and what was taken in d is taken in it. It is met where d is and devices
+-- stay so along each call.
 pub record IsReached (d : Device) (calls : List Made) (image : Image) : Type 0 where
   pub kept : List Record
   pub are : AreKept calls kept
@@ -46,7 +56,7 @@ pub record IsReached (d : Device) (calls : List Made) (image : Image) : Type 0 w
   pub run : Run d kept device
   pub course_is : course device ≡ After (course d) kept
   pub loses : LosesNothing (course d) (course device)
-  pub met : Met d → BringMet d kept → Met device
+  pub met : Met d → AllStayMet calls → Met device
 
 -- so it is with every image that calls leave
 abbrev pub CallsReach : Type 0
@@ -59,4 +69,34 @@ InitsBegin = (o : Origin) (old new : Image) → Begins o old new → Stands old 
 -- a call that leaves the device as it is keeps no record
 abbrev pub OthersGoOn : Type 0
 OthersGoOn = (d e : Device) (before : List Made) (old new : Image) → Follow d before → LeftBy d before old → Stands old e → Stands new e
-    → Follow d (record { device = e; records = [] } ∷ before) × LeftBy d (record { device = e; records = [] } ∷ before) new
+    → Follow d (keeps_none e ∷ before) × LeftBy d (keeps_none e ∷ before) new
+
+-- ---- the calls of a disk
+
+module _ {D : Type 0} (may_leave : D → Image → Type 0) where
+  -- each image of the disk may have been left by these calls
+  abbrev pub AreLeftBy : Device → List Made → D → Type 0
+  AreLeftBy d before disk = (image : Image) → may_leave disk image → LeftBy d before image
+
+  -- A call begins behind these, on such a disk, and with the device for which one of its images stands.
+  pub record BeginsBehind (d : Device) (before : List Made) (e : Device) (disk : D) : Type 0 where
+    pub follow : Follow d before
+    pub left : AreLeftBy d before disk
+    pub start : Image
+    pub is_one : may_leave disk start
+    pub stands : Stands start e
+
+-- The image may have been left by these calls, or by one more that keeps no record: with the device for which this one stands.
+abbrev pub IsLeftOn : Device → List Made → Image → Image → Type 0
+IsLeftOn d before seen image = LeftBy d before image ⊎ ((e : Device) × Stands seen e × Follow d (keeps_none e ∷ before) × LeftBy d (keeps_none e ∷ before) image)
+
+module _ {D : Type 0} (may_leave : D → Image → Type 0) (moment : D → ℕ) (left_since : D → ℕ → Image → Type 0) where
+  -- What a call that drives a deployment says of its images makes it one more of these calls, with the records that it keeps.
+  abbrev pub DrivesGoOn : Type 0
+  DrivesGoOn = (d e : Device) (before : List Made) (records : List Record) (old new : D) → BeginsBehind may_leave d before e old → LeavesFronts may_leave moment left_since old new e records
+      → Follow d (record { device = e; records = records } ∷ before) × Leaves moment left_since old new (LeftBy d (record { device = e; records = records } ∷ before))
+
+  -- and what one that is turned away says of them, one that keeps no record
+  abbrev pub TurnedGoOn : (D → Image) → Type 0
+  TurnedGoOn seen = (d : Device) (before : List Made) (old new : D) → Follow d before → AreLeftBy may_leave d before old → LeavesSame may_leave moment left_since seen old new
+      → Leaves moment left_since old new (IsLeftOn d before (seen old))

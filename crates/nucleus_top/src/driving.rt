@@ -4,14 +4,16 @@ ghost use Rattle.artifact_store.specs.Holding.{AllHoldDevice, HoldsDevice};
 ghost use Rattle.disk_model.specs.Disk.{Leaves};
 ghost use Rattle.nuc_base.specs.Faults.{Rose};
 ghost use Rattle.nuc_base.specs.declared.status.Status.TheVariants as statuses;
-ghost use Rattle.checkpoint_log.specs.Slots.{slots_files, slots_stands};
+ghost use Rattle.checkpoint_log.specs.Slots.{slots_entries, slots_files, slots_stands};
 ghost use Rattle.deploy_state.specs.Accepting.{idle_log};
 ghost use Rattle.deploy_state.specs.States.{InIdle, InLoaded, idle_device, loaded_device};
+ghost use Rattle.device.specs.Devices.{Device};
 ghost use Rattle.deployments.specs.Calls.{Elsewhere, Spared, Stays};
+ghost use Rattle.deployments.specs.Sweeping.{LeavesNoStray};
 ghost use Rattle.checkpoint_log.specs.declared.slots.Slots.{Slots as Journal};
 ghost use Rattle.deploy_state.specs.declared.state.Idle as idles;
 ghost use Rattle.nucleus_top.specs.Answers.{input_of, printed_of, shelf_of, store_of};
-ghost use Rattle.nucleus_top.specs.Crashes.{KeepsSameWhole, LeavesSame};
+ghost use Rattle.nucleus_top.specs.Crashes.{KeepsJournal, KeepsSameWhole, LeavesSame};
 ghost use Rattle.nucleus_top.specs.Opening.{HasEntry, Stands};
 ghost use Rattle.nucleus_top.specs.Drives.{DeploysOn, IsDeployed, IsDeployedOn, IsResumed, IsTurnedAway, IsUnread, IsUnswept, NamesPendingOf, StartsFrom, TellsSweep, TellsUnread, TurnsAway, Withholds, WithholdsIdle, slots_start};
 
@@ -24,6 +26,7 @@ use deployments::{resume as resume_on, run_document};
 use disk_model::Disk;
 use edges::{ReadFault, Sink, Source, read_up_to};
 use library_core::Library;
+use met_laws::plans_are_met;
 use nuc_base::{Copied, DOCUMENT_LIMIT, Status};
 use std::alloc::Global;
 use step_runner::Runner;
@@ -63,6 +66,7 @@ fn open_swept<D: Disk>(alloc: Global, disk: &mut D) -> Result<Loaded<Slots>, Ans
     ensures held { IfOk result (λ s. InLoaded D.tells D.may_leave slots_stands (λ log. log.live.end) s disk.new) }
     ensures images { LeavesSame D.may_leave D.moment D.left_since D.seen disk.old disk.new }
     ensures whole { KeepsSameWhole D.may_leave D.moment D.left_since D.seen disk.old disk.new }
+    ensures ends { ¬ (IsErrOf result Answer.DiskFailed) → KeepsJournal D.may_leave D.seen disk.old disk.new }
     ensures spared { Spared D.may_leave D.moment D.left_since disk.old disk.new }
     ensures others { IsTrue D.tells → Elsewhere slots_files (D.seen disk.old) (D.seen disk.new) }
     ensures disk { IsErrOf result Answer.DiskFailed → Rose (D.faults disk.old) (D.faults disk.new) }
@@ -108,6 +112,7 @@ fn open_idle<D: Disk>(alloc: Global, disk: &mut D) -> Result<Idle<Slots>, Answer
     ensures held { IfOk result (λ s. InIdle D.tells D.may_leave slots_stands (λ log. log.live.end) s disk.new) }
     ensures images { LeavesSame D.may_leave D.moment D.left_since D.seen disk.old disk.new }
     ensures whole { KeepsSameWhole D.may_leave D.moment D.left_since D.seen disk.old disk.new }
+    ensures ends { ¬ (IsErrOf result Answer.DiskFailed) → KeepsJournal D.may_leave D.seen disk.old disk.new }
     ensures spared { Spared D.may_leave D.moment D.left_since disk.old disk.new }
     ensures others { IsTrue D.tells → Elsewhere slots_files (D.seen disk.old) (D.seen disk.new) }
     ensures disk { IsErrOf result Answer.DiskFailed → Rose (D.faults disk.old) (D.faults disk.new) }
@@ -156,9 +161,11 @@ fn deploy_document<D: Disk, L: Library, K: Sink, R: Runner>(
     ensures library_quiet { result ≢ statuses.Library → result ≢ statuses.Edge → L.faults library.new ≡ L.faults library.old }
     ensures library_later { L.faults library.old ≤ L.faults library.new }
     ensures kept { L.content library.new ≡ L.content library.old }
+    ensures swept { LeavesNoStray D.tells slots_entries (idle_device idle) result (D.seen disk.new) }
 {
-    // The journal does not lie among the files of artifacts.
+    // The journal does not lie among the files of artifacts, and a plan that is taken in is met.
     needed_files_stay();
+    plans_are_met();
     let mut supervisor = Supervisor::new(alloc);
     run_document(
         alloc,
@@ -197,6 +204,7 @@ fn deploy_read<D: Disk, L: Library, S: Source, K: Sink, R: Runner>(
     ensures library_quiet { result ≢ statuses.Library → result ≢ statuses.Edge → L.faults library.new ≡ L.faults library.old }
     ensures library_later { L.faults library.old ≤ L.faults library.new }
     ensures kept { L.content library.new ≡ L.content library.old }
+    ensures swept { LeavesNoStray D.tells slots_entries (idle_device idle) result (D.seen disk.new) }
     ensures edge { result ≡ statuses.Edge → Rose (S.faults source.old) (S.faults source.new) ⊎ Rose (K.faults sink.old) (K.faults sink.new) }
     ensures quiet_source { result ≢ statuses.Edge → S.faults source.new ≡ S.faults source.old }
     ensures source_later { S.faults source.old ≤ S.faults source.new }
@@ -233,6 +241,7 @@ pub(crate) fn deploy<D: Disk, L: Library, S: Source, K: Sink, R: Runner>(
     ensures library_quiet { result ≢ statuses.Library → result ≢ statuses.Edge → L.faults library.new ≡ L.faults library.old }
     ensures library_later { L.faults library.old ≤ L.faults library.new }
     ensures kept { L.content library.new ≡ L.content library.old }
+    ensures swept { (d : Device) → Stands (D.seen disk.old) d → LeavesNoStray D.tells slots_entries d result (D.seen disk.new) }
     ensures edge { result ≡ statuses.Edge → Rose (S.faults source.old) (S.faults source.new) ⊎ Rose (K.faults sink.old) (K.faults sink.new) }
     ensures quiet_source { result ≢ statuses.Edge → S.faults source.new ≡ S.faults source.old }
     ensures source_later { S.faults source.old ≤ S.faults source.new }
@@ -262,6 +271,7 @@ pub(crate) fn resume<D: Disk, K: Sink, R: Runner>(
     ensures quiet_disk { result ≢ statuses.Disk → result ≢ statuses.Edge → D.faults disk.new ≡ D.faults disk.old }
     ensures quiet_sink { result ≢ statuses.Edge → K.faults sink.new ≡ K.faults sink.old }
     ensures later { Stays (D.faults disk.old) (D.faults disk.new) × Stays (K.faults sink.old) (K.faults sink.new) }
+    ensures swept { (d : Device) → Stands (D.seen disk.old) d → LeavesNoStray D.tells slots_entries d result (D.seen disk.new) }
 {
     match open_swept(alloc, disk) {
         Ok(state) => {

@@ -2,7 +2,7 @@
 //!
 //! It promises, in the one contract of `nucleus` and over every disk, source and sink, when each status comes, what is
 //! printed, what the disk holds afterwards and what a crash may leave at each moment; and of the commands that drive a
-//! deployment, over every runner, what happens in their call. Two laws say what holds however many calls are made, each over
+//! deployment, over every runner, what happens in their call. Three laws say what holds however many calls are made, each over
 //! what the one before it left. It stands on `command_words` for what words ask, on `deploy_state` over `checkpoint_log` for
 //! the store, on `status_text` for its status, on `artifact_store` for its files, on `plan_core` and `refusal_lines` for
 //! plans, on `deployments` over `supervisor` for what is driven, and on `edges`, `disk_model`, `library_core` and
@@ -21,5 +21,5 @@ mod planning;
 mod status;
 mod top;
 
-pub use laws::{calls_run_on, nothing_is_lost};
+pub use laws::{calls_go_on, calls_run_on, nothing_is_lost};
 pub use top::nucleus;

@@ -4,7 +4,7 @@ use disk_model::{Disk, FusedDisk, MemoryDisk, Pick};
 use edges::{MemorySink, MemorySource};
 use library_core::MemoryLibrary;
 use nuc_base::{Bytes, List, Status};
-use nucleus_top::nucleus;
+use nucleus_top::{calls_go_on, nucleus};
 use std::alloc::{AllocError, Global};
 use std::test::Fail;
 use step_runner::ScriptedRunner;
@@ -373,4 +373,10 @@ fn lines_that_cannot_be_written_are_status_6(rt: HostRuntime) -> Result<(), Fail
     }
     assert!(rt; is_cut_off(alloc, &SHOW, &mut holding(alloc, &NEW, 0x01)?, 0, "")?);
     Ok(())
+}
+
+/// The law of the calls of a disk holds of a disk in memory.
+#[test]
+fn calls_of_a_disk_in_memory_go_on() {
+    calls_go_on::<MemoryDisk>();
 }

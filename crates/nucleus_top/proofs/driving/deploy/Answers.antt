@@ -1,10 +1,14 @@
-use Rattle.std.proofs.Common.{◌≡◌, ◌∙◌, inl, inr, refl, ap, arith}
+use Rattle.std.proofs.Common.{◌≡◌, ◌∙◌, inl, inr, refl, ap, arith, subst}
 use Rattle.std.specs.Prelude.{Err}
 use Rattle.nuc_base.specs.Faults.{Rose}
+use Rattle.checkpoint_log.specs.Slots.{slots_entries}
+use Rattle.device.specs.Devices.{Device}
 use Rattle.deploy_state.specs.States.{idle_device}
+use Rattle.deployments.specs.Sweeping.{LeavesNoStray}
 use Rattle.nucleus_top.specs.Answers.{Input, Printed, Shelf, Store, input_of, printed_of, shelf_of, store_of}
 use Rattle.nucleus_top.specs.Drives.{slots_start}
-use Rattle.nucleus_top.proofs.Driven.{idle_refusal, idle_turns, ran_on, stays, stays_on, tells}
+use Rattle.nucleus_top.proofs.Driven.{idle_refusal, idle_turns, ran_on, stays, stays_on, tells, told_sweeps}
+use Rattle.nucleus_top.proofs.Standing.{same_device}
 use Rattle.nucleus_top.proofs.driving.deploy.Goals as goal
 
 -- ---- no deployment is pending
@@ -26,7 +30,7 @@ returns-in-Ok-clause-ran g c =
     (g.R.Runner.list c.args.runner.now) (g.R.Runner.list c.deploy_read.new.runner) printed c.deploy_read.result
     g.D.Disk.faults store input library d (slots_start c.in-Ok.idle.log d) (c.deploy_read.new.runner ≡ c.args.runner.now) c.open_idle.ensures.later
     c.in-Ok.ensures.opened c.in-Ok.ensures.held.1 c.in-Ok.ensures.start (λ told. (c.in-Ok.ensures.opened told).1)
-    c.open_idle.ensures.images c.open_idle.ensures.whole c.deploy_read.ensures.ran
+    c.open_idle.ensures.images c.open_idle.ensures.whole (c.in-Ok.ensures.ends (λ is. cc)) c.deploy_read.ensures.ran
 
 pub returns-in-Ok-clause-none : goal.returns-in-Ok-clause-none
 returns-in-Ok-clause-none g c = c.deploy_read.ensures.none
@@ -74,6 +78,7 @@ returns-in-Err-clause-ran g c =
         spared = c.open_idle.ensures.spared;
         images = c.open_idle.ensures.images;
         whole = c.open_idle.ensures.whole;
+        ends = inr (λ other. c.in-Err.ensures.ends (λ is. other (cc)));
       },
       refl {a = c.args.runner.now},
     )
@@ -109,3 +114,16 @@ returns-in-Err-clause-edge g c = λ is.
 pub returns-in-Err-clause-later : goal.returns-in-Err-clause-later
 returns-in-Err-clause-later g c =
     (stays (g.D.Disk.faults c.args.disk.now) (g.D.Disk.faults c.open_idle.new.disk) c.open_idle.ensures.later, stays (g.K.Sink.faults c.args.sink.now) (g.K.Sink.faults c.tell.new.sink) c.tell.ensures.later)
+
+-- ---- no stray file is left behind a close
+
+pub returns-in-Ok-clause-swept : goal.returns-in-Ok-clause-swept
+returns-in-Ok-clause-swept g c = λ d there told.
+    subst (λ (e : Device). LeavesNoStray g.D.Disk.tells slots_entries e c.deploy_read.result (g.D.Disk.seen c.deploy_read.new.disk))
+    (same_device (g.D.Disk.seen c.args.disk.now) (idle_device c.in-Ok.idle) d (c.in-Ok.ensures.opened told).1 there) c.deploy_read.ensures.swept told
+
+pub returns-in-Err-clause-swept : goal.returns-in-Err-clause-swept
+returns-in-Err-clause-swept g c = λ d there.
+    let printed : Printed = printed_of g.K.Sink.held g.K.Sink.faults c.args.sink.now c.tell.new.sink in
+    told_sweeps g.D.Disk.tells d printed c.tell.result (g.D.Disk.seen c.open_idle.new.disk) c.in-Err.answer
+    (idle_refusal (store_of g.D.Disk.tells g.D.Disk.seen g.D.Disk.faults c.args.disk.now c.open_idle.new.disk) c.in-Err.answer c.in-Err.ensures.answers) c.tell.ensures.told

@@ -3,9 +3,11 @@ use Rattle.deploy_state.specs.States.{idle_device}
 use Rattle.step_runner.specs.Entries.{Listed}
 use Rattle.supervisor.specs.World.{World}
 use Rattle.session.specs.Happenings.{records_of}
+use Rattle.nucleus_top.specs.Drives.{slots_start}
 use Rattle.nucleus_top.proofs.Crashes.{kept_fronts}
 use Rattle.nucleus_top.proofs.Driven.{begun, open_begun, slots_elsewhere}
 use Rattle.nucleus_top.proofs.Images.{held_stands}
+use Rattle.nucleus_top.proofs.Meeting.{brought_stay_met, deployed_brings}
 use Rattle.nucleus_top.proofs.Printed.{call_lasts}
 use Rattle.nucleus_top.proofs.Proposals.{some_of}
 use Rattle.nucleus_top.proofs.Whole.{held_whole}
@@ -49,6 +51,9 @@ returns-clause-driven g c =
           (g.R.Runner.list c.args.runner.now) (g.R.Runner.list c.run_document.new.runner) (g.K.Sink.held c.args.sink.now) (g.K.Sink.held c.run_document.new.sink) place c.run_document.result
           (held_stands g.met.D.Disk.laws c.args.idle.log c.args.disk.now d c.requires.held.0) run.2.0;
       whole = held_whole g.met.D.Disk.laws c.args.disk.now c.run_document.new.disk d (records_of run.2.0.history) (held_stands g.met.D.Disk.laws c.args.idle.log c.args.disk.now d c.requires.held.0) run.3;
+      met = brought_stay_met d (records_of run.2.0.history)
+          (deployed_brings c.plans_are_met.ensures d origin.0 (g.L.Library.content c.args.library.now) (g.L.Library.faults c.args.library.now) (g.L.Library.faults c.run_document.new.library)
+          c.args.document.now c.requires.held.0.sound (slots_start c.args.idle.log d) run.2.0.ending (records_of run.2.0.history) run.0 (run.1 origin.0 origin.1) run.2.1);
       lasts = call_lasts g.D.Disk.may_leave g.D.Disk.moment g.D.Disk.left_since c.args.disk.now c.run_document.new.disk
           (g.R.Runner.list c.args.runner.now) (g.R.Runner.list c.run_document.new.runner) (g.K.Sink.held c.args.sink.now) (g.K.Sink.held c.run_document.new.sink) place c.run_document.result run.2.0;
     }
@@ -85,3 +90,6 @@ returns-clause-library_later g c = c.run_document.ensures.library_later
 
 pub returns-clause-kept : goal.returns-clause-kept
 returns-clause-kept g c = c.run_document.ensures.kept
+
+pub returns-clause-swept : goal.returns-clause-swept
+returns-clause-swept g c = c.run_document.ensures.swept

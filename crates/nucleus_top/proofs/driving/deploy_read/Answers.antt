@@ -1,9 +1,12 @@
 use Rattle.std.proofs.Common.{ℕ, List, inl, inr, refl, ap, arith, subst}
 use Rattle.std.specs.Prelude.{Err}
+use Rattle.checkpoint_log.specs.Laws.{slots_laws}
 use Rattle.deploy_state.specs.States.{idle_device}
+use Rattle.deployments.proofs.Sweeping.{none_closes}
 use Rattle.nucleus_top.specs.Answers.{Input, Printed, Shelf, input_of, printed_of, shelf_of}
 use Rattle.nucleus_top.specs.Drives.{IsDeployedOn, slots_start}
 use Rattle.nucleus_top.proofs.Driven.{document_deploys, first_by, stays, tells_none, unread_goes}
+use Rattle.nucleus_top.proofs.Images.{held_stands}
 use Rattle.nucleus_top.proofs.driving.deploy_read.Goals as goal
 
 -- ---- the document is read
@@ -103,3 +106,13 @@ returns-in-Err-clause-quiet_source g c = λ other.
 pub returns-in-Err-clause-later : goal.returns-in-Err-clause-later
 returns-in-Err-clause-later g c =
     (stays (g.D.Disk.faults c.args.disk.now) (g.D.Disk.faults c.args.disk.now) (omega arith), stays (g.K.Sink.faults c.args.sink.now) (g.K.Sink.faults c.tell.new.sink) c.tell.ensures.later)
+
+-- ---- no stray file is left behind a close
+
+pub returns-in-Ok-clause-swept : goal.returns-in-Ok-clause-swept
+returns-in-Ok-clause-swept g c = c.deploy_document.ensures.swept
+
+pub returns-in-Err-clause-swept : goal.returns-in-Err-clause-swept
+returns-in-Err-clause-swept g c =
+    let d = idle_device c.args.idle in
+    none_closes g.met.D.Disk.laws slots_laws c.args.disk.now d c.tell.result (held_stands g.met.D.Disk.laws c.args.idle.log c.args.disk.now d c.requires.held.0)

@@ -33,6 +33,9 @@ returns-in-Ok-clause-images g c = c.open_swept.ensures.images
 pub returns-in-Ok-clause-whole : goal.returns-in-Ok-clause-whole
 returns-in-Ok-clause-whole g c = c.open_swept.ensures.whole
 
+pub returns-in-Ok-clause-ends : goal.returns-in-Ok-clause-ends
+returns-in-Ok-clause-ends g c = λ other. c.in-Ok.ensures.ends (λ is. cc)
+
 pub returns-in-Ok-clause-spared : goal.returns-in-Ok-clause-spared
 returns-in-Ok-clause-spared g c = c.open_swept.ensures.spared
 
@@ -55,6 +58,9 @@ returns-in-Err-clause-images g c = c.open_swept.ensures.images
 
 pub returns-in-Err-clause-whole : goal.returns-in-Err-clause-whole
 returns-in-Err-clause-whole g c = c.open_swept.ensures.whole
+
+pub returns-in-Err-clause-ends : goal.returns-in-Err-clause-ends
+returns-in-Err-clause-ends g c = λ other. c.in-Err.ensures.ends (λ is. other (ap Err (let same : c.in-Err.answer ≡ DiskFailed = cc in same)))
 
 pub returns-in-Err-clause-spared : goal.returns-in-Err-clause-spared
 returns-in-Err-clause-spared g c = c.open_swept.ensures.spared

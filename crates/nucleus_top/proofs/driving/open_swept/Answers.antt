@@ -1,4 +1,4 @@
-use Rattle.std.proofs.Common.{◌≡◌, ◌∙◌, List, ℕ, ap, arith, subst, sym}
+use Rattle.std.proofs.Common.{◌≡◌, ◌∙◌, ap, arith, subst, sym}
 use Rattle.std.specs.Prelude.{Err}
 use Rattle.nuc_base.specs.Faults.{Rose}
 use Rattle.disk_model.specs.Disk.{Image}
@@ -12,8 +12,8 @@ use Rattle.deploy_state.specs.declared.state.Loaded.TheVariants as loaded
 use Rattle.nucleus_top.specs.Answers.{Store, store_of}
 use Rattle.nucleus_top.specs.Drives.{StartsFrom, slots_start}
 use Rattle.nucleus_top.specs.Opening.{HasEntry, Stands}
-use Rattle.nucleus_top.proofs.Crashes.{opened_same, same_left}
-use Rattle.nucleus_top.proofs.Driven.{disk_of, kept_ok, loaded_stays, refused_withholds, same_spared, slots_elsewhere, starts_from, then_spared, unswept_withholds}
+use Rattle.nucleus_top.proofs.Crashes.{opened_same, opened_says, same_left}
+use Rattle.nucleus_top.proofs.Driven.{disk_of, kept_ok, loaded_stays, refused_withholds, same_spared, slots_elsewhere, start_spared, starts_from, then_spared, unswept_withholds}
 use Rattle.nucleus_top.proofs.Faults.{other_fault, refuses}
 use Rattle.nucleus_top.proofs.Whole.{opened_whole, same_kept}
 use Rattle.nucleus_top.proofs.driving.open_swept.Goals as goal
@@ -46,6 +46,11 @@ returns-in-Ok-clause-whole g c =
     opened_whole g.met.D.Disk.laws (slots_elsewhere c.needed_files_stay.ensures.journals) c.args.disk.now c.open.new.disk c.swept.new.disk c.in-Ok.state
     c.open.ensures.moments (λ told. (c.in-Ok.ensures.told told).1) c.in-Ok.ensures.held c.swept.ensures.spared c.swept.ensures.safe
 
+pub returns-in-Ok-clause-ends : goal.returns-in-Ok-clause-ends
+returns-in-Ok-clause-ends g c = λ other.
+    opened_says g.met.D.Disk.laws (slots_elsewhere c.needed_files_stay.ensures.journals) c.args.disk.now c.open.new.disk c.swept.new.disk
+    c.open.ensures.seen (c.in-Ok.ensures.settled (λ is. cc)) c.swept.ensures.spared
+
 pub returns-in-Ok-clause-spared : goal.returns-in-Ok-clause-spared
 returns-in-Ok-clause-spared g c =
     then_spared g.met.D.Disk.laws c.args.disk.now c.open.new.disk c.swept.new.disk (same_spared g.met.D.Disk.laws c.args.disk.now c.open.new.disk c.open.ensures.moments) c.swept.ensures.spared
@@ -65,6 +70,12 @@ returns-in-Err-clause-images g c = same_left g.met.D.Disk.laws c.args.disk.now c
 
 pub returns-in-Err-clause-whole : goal.returns-in-Err-clause-whole
 returns-in-Err-clause-whole g c = same_kept g.met.D.Disk.laws c.args.disk.now c.open.new.disk c.open.ensures.moments
+
+pub returns-in-Err-clause-ends : goal.returns-in-Err-clause-ends
+returns-in-Err-clause-ends g c = λ other.
+    opened_says g.met.D.Disk.laws (slots_elsewhere c.needed_files_stay.ensures.journals) c.args.disk.now c.open.new.disk c.open.new.disk
+    c.open.ensures.seen (c.in-Err.ensures.settled (λ is. other_fault c.in-Err.fault c.refused.result c.refused.ensures (λ same. other (ap Err same)) (cc)))
+    (start_spared g.met.D.Disk.laws c.open.new.disk)
 
 pub returns-in-Err-clause-spared : goal.returns-in-Err-clause-spared
 returns-in-Err-clause-spared g c = same_spared g.met.D.Disk.laws c.args.disk.now c.open.new.disk c.open.ensures.moments

@@ -1,13 +1,19 @@
-use Rattle.std.proofs.Common.{◌∙◌, inl, inr, refl, ap, arith}
+use Rattle.std.proofs.Common.{◌∙◌, inl, inr, refl, ap, arith, subst}
 use Rattle.std.specs.Prelude.{Err}
 use Rattle.nuc_base.specs.Faults.{Rose}
+use Rattle.checkpoint_log.specs.Slots.{slots_entries}
+use Rattle.device.specs.Devices.{Device}
 use Rattle.deploy_state.specs.States.{loaded_device}
+use Rattle.deployments.specs.Sweeping.{LeavesNoStray}
 use Rattle.step_runner.specs.Entries.{Listed}
 use Rattle.supervisor.specs.World.{World}
 use Rattle.session.specs.Happenings.{records_of}
+use Rattle.session.specs.Places.{left_by}
 use Rattle.nucleus_top.specs.Answers.{Printed, printed_of, store_of}
 use Rattle.nucleus_top.proofs.Crashes.{kept_fronts, loaded_sound, loaded_stands, same_fronts}
-use Rattle.nucleus_top.proofs.Driven.{begun, front_begun, resumed_on, slots_elsewhere, stays, stays_on, tells, withheld_first}
+use Rattle.nucleus_top.proofs.Driven.{begun, front_begun, resumed_on, slots_elsewhere, stays, stays_on, tells, told_sweeps, withheld_first}
+use Rattle.nucleus_top.proofs.Standing.{same_device}
+use Rattle.nucleus_top.proofs.Meeting.{brought_stay_met, resumed_brings}
 use Rattle.nucleus_top.proofs.Whole.{held_whole}
 use Rattle.nucleus_top.proofs.driving.resume.Goals as goal
 
@@ -54,6 +60,8 @@ returns-in-Ok-clause-ran g c =
                 (g.R.Runner.list c.args.runner.now) (g.R.Runner.list c.resume.new.runner) (g.K.Sink.held c.args.sink.now) (g.K.Sink.held c.resume.new.sink) (begun d told) c.resume.result
                 (loaded_stands g.met.D.Disk.laws c.in-Ok.state c.open_swept.new.disk c.in-Ok.ensures.held) call.0;
             whole = held_whole g.met.D.Disk.laws c.open_swept.new.disk c.resume.new.disk d (records_of call.0.history) (loaded_stands g.met.D.Disk.laws c.in-Ok.state c.open_swept.new.disk c.in-Ok.ensures.held) call.2;
+            met = brought_stay_met d (records_of call.0.history)
+                (resumed_brings d d.pending call.0.ending call.0.history (left_by (begun d told) call.0.history) call.1 call.0.ends call.0.once);
           }),
     )
 
@@ -95,6 +103,7 @@ returns-in-Err-clause-ran g c =
         spared = c.open_swept.ensures.spared;
         images = c.open_swept.ensures.images;
         whole = c.open_swept.ensures.whole;
+        ends = inr (λ other. c.in-Err.ensures.ends (λ is. other (cc)));
       },
       refl {a = c.args.runner.now},
     )
@@ -130,3 +139,16 @@ returns-in-Err-clause-own g c =
 pub returns-in-Err-clause-later : goal.returns-in-Err-clause-later
 returns-in-Err-clause-later g c =
     (stays (g.D.Disk.faults c.args.disk.now) (g.D.Disk.faults c.open_swept.new.disk) c.open_swept.ensures.later, stays (g.K.Sink.faults c.args.sink.now) (g.K.Sink.faults c.tell.new.sink) c.tell.ensures.later)
+
+-- ---- no stray file is left behind a close
+
+pub returns-in-Ok-clause-swept : goal.returns-in-Ok-clause-swept
+returns-in-Ok-clause-swept g c = λ d there told.
+    subst (λ (e : Device). LeavesNoStray g.D.Disk.tells slots_entries e c.resume.result (g.D.Disk.seen c.resume.new.disk))
+    (same_device (g.D.Disk.seen c.args.disk.now) (loaded_device c.in-Ok.state) d (c.in-Ok.ensures.opened told).1 there) c.resume.ensures.swept told
+
+pub returns-in-Err-clause-swept : goal.returns-in-Err-clause-swept
+returns-in-Err-clause-swept g c = λ d there.
+    let printed : Printed = printed_of g.K.Sink.held g.K.Sink.faults c.args.sink.now c.tell.new.sink in
+    told_sweeps g.D.Disk.tells d printed c.tell.result (g.D.Disk.seen c.open_swept.new.disk) c.in-Err.answer
+    (inl (withheld_first (store_of g.D.Disk.tells g.D.Disk.seen g.D.Disk.faults c.args.disk.now c.open_swept.new.disk) c.in-Err.answer c.in-Err.ensures.answers)) c.tell.ensures.told

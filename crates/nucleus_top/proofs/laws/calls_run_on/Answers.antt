@@ -1,9 +1,13 @@
+use Rattle.nucleus_top.proofs.Meeting.{brought_stay_met}
 use Rattle.nucleus_top.proofs.Origins.{are_found}
 use Rattle.nucleus_top.proofs.Series.{calls_reach, inits_begin, none_met, others_go_on}
 use Rattle.nucleus_top.proofs.laws.calls_run_on.Goals as goal
 
 pub returns-clause-none : goal.returns-clause-none
 returns-clause-none c = none_met
+
+pub returns-clause-met : goal.returns-clause-met
+returns-clause-met c = brought_stay_met
 
 pub returns-clause-init : goal.returns-clause-init
 returns-clause-init c = inits_begin

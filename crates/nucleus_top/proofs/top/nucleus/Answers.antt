@@ -43,6 +43,7 @@ returns-in-NoMemory-clause-deploys g c = λ root asks. inl (
     spared = start_spared g.met.D.Disk.laws c.args.disk.now;
     images = same_left g.met.D.Disk.laws c.args.disk.now c.args.disk.now (at_start g.met.D.Disk.laws c.args.disk.now);
     whole = same_kept g.met.D.Disk.laws c.args.disk.now c.args.disk.now (at_start g.met.D.Disk.laws c.args.disk.now);
+    ends = inl (refl {a = c.args.disk.now});
   },
   refl {a = c.args.runner.now},
 )
@@ -56,6 +57,7 @@ returns-in-NoMemory-clause-resumes g c = λ root asks. inl (
     spared = start_spared g.met.D.Disk.laws c.args.disk.now;
     images = same_left g.met.D.Disk.laws c.args.disk.now c.args.disk.now (at_start g.met.D.Disk.laws c.args.disk.now);
     whole = same_kept g.met.D.Disk.laws c.args.disk.now c.args.disk.now (at_start g.met.D.Disk.laws c.args.disk.now);
+    ends = inl (refl {a = c.args.disk.now});
   },
   refl {a = c.args.runner.now},
 )
@@ -131,6 +133,7 @@ returns-in-Deploy-clause-driven g c = λ drives. record {
   library_failed = c.deploy.ensures.library;
   library_stays = c.deploy.ensures.library_quiet;
   others = c.deploy.ensures.others;
+  swept = c.deploy.ensures.swept;
 }
 
 pub returns-in-Deploy-clause-library_kept : goal.returns-in-Deploy-clause-library_kept
@@ -213,6 +216,7 @@ returns-in-Resume-clause-driven g c = λ drives. record {
   library_failed = λ is. absurd (c.resume.ensures.own is);
   library_stays = λ other more. refl;
   others = c.resume.ensures.others;
+  swept = c.resume.ensures.swept;
 }
 
 pub returns-in-Resume-clause-none : goal.returns-in-Resume-clause-none

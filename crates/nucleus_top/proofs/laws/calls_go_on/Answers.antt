@@ -1,0 +1,8 @@
+use Rattle.nucleus_top.proofs.Series.{drives_go_on, turned_go_on}
+use Rattle.nucleus_top.proofs.laws.calls_go_on.Goals as goal
+
+pub returns-clause-drives : goal.returns-clause-drives
+returns-clause-drives g c = drives_go_on g.met.D.Disk.laws
+
+pub returns-clause-turned : goal.returns-clause-turned
+returns-clause-turned g c = turned_go_on g.met.D.Disk.laws
