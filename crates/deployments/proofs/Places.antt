@@ -2,7 +2,7 @@
 use Rattle.std.specs.Prelude.{ℕ, ◌+◌, zero, Bool, true, false, not, ◌||◌, List, [], ◌∷◌, Option, Some, None, Contains, if◌then◌else◌}
 use Rattle.std.specs.List.{list_any}
 use Rattle.std.specs.Option.{IsSome, IsSomeAnd}
-use Rattle.std.proofs.Common.{◌≡◌, ◌↔◌, ◌⊎◌, ◌∙◌, inl, inr, refl, sym, ap, subst, arith}
+use Rattle.std.proofs.Common.{◌≡◌, ◌⊎◌, ◌∙◌, inl, inr, refl, sym, ap, subst, arith}
 use Rattle.std.proofs.lemmas.Bool.{false≢true}
 use Rattle.nuc_base.specs.declared.kinds.Outcome.{Outcome}
 use Rattle.nuc_base.specs.declared.kinds.Step.{Step}
@@ -12,15 +12,15 @@ use Rattle.device.specs.Devices.{Device}
 use Rattle.step_runner.specs.Entries.{Told}
 use Rattle.step_runner.specs.declared.entries.Seen.{Seen}
 use Rattle.step_runner.specs.declared.entries.Seen.TheVariants as seen
-use Rattle.supervisor.specs.World.{World, Child, Part, is_childless, is_over, is_stopped, owner, owner_from}
+use Rattle.supervisor.specs.World.{World, Child, Part, is_over, is_stopped, owner, owner_from}
 use Rattle.supervisor.specs.Answers.{living_numbers}
 use Rattle.supervisor.specs.Turns.{owes}
 use Rattle.supervisor.specs.declared.kinds.Prepared.{Prepared}
 use Rattle.supervisor_laws.specs.Sound.{AreSound, Differ, HaveOwnNames, IsOrderly}
-use Rattle.session.specs.Phases.{Crew, Phase, activating, backing, booting, duty_of, earlier, idle, is_idle, leaving, rolling}
+use Rattle.session.specs.Phases.{Phase, activating, backing, booting, duty_of, earlier, idle, is_idle, leaving, rolling}
 use Rattle.session.specs.Happenings.{Happening, Ran, Booted, Slept, Cut, Kept, Moved, Asked, Heard, Questioned, Changed, StopsAll}
 use Rattle.session.specs.Places.{Place, booted, cut_off, leaves, left_by}
-use Rattle.session.specs.Follows.{IsBootChild, Lives, MayStopAll}
+use Rattle.session.specs.Follows.{Lives, MayStopAll}
 use Rattle.session.specs.Courses.{IsBare, IsEnd, Stands, gives_up, is_restart}
 use Rattle.driver.specs.Stands.{IsBetween, IsFront}
 use Rattle.driver.proofs.Entries.{never}

@@ -2,10 +2,9 @@
 use Rattle.std.specs.Prelude.{ℕ, List, [], ◌∷◌, ◌++◌, length, Option, Some, None}
 use Rattle.std.specs.Io.KnownBytes.{Appends}
 use Rattle.std.specs.Option.{IsSome}
-use Rattle.std.proofs.Common.{◌≡◌, ◌≢◌, ◌≤◌, ◌⊎◌, ◌∙◌, inl, inr, refl, sym, ap, subst, append_assoc, arith}
+use Rattle.std.proofs.Common.{◌≡◌, ◌≢◌, ◌≤◌, ◌∙◌, inl, refl, sym, ap, subst, append_assoc, arith}
 use Rattle.std.proofs.KnownBytes.{Appends-nil, Appends-trans}
 use Rattle.std.proofs.lemmas.List.{append-nil}
-use Rattle.nuc_base.specs.declared.kinds.Outcome.{Outcome}
 use Rattle.nuc_base.specs.declared.status.Status.{Status}
 use Rattle.nuc_base.specs.declared.status.Status.TheVariants as statuses
 use Rattle.edges.specs.Pieces.{AppendsFront}
@@ -18,7 +17,7 @@ use Rattle.driver.specs.declared.over.Over.TheVariants as over
 use Rattle.artifact_store.specs.declared.fault.StageFault.TheVariants as stage
 use Rattle.intake.specs.declared.fault.Declined.{Declined}
 use Rattle.intake.specs.declared.fault.Declined.TheVariants.{Unstaged}
-use Rattle.deployments.specs.Calls.{AnswersOver, EndsClosed, IsOrEdge, Prints, SaysEnding, SaysLine, SaysRefusal, call_lines, opening_line, resumed_line}
+use Rattle.deployments.specs.Calls.{AnswersOver, IsOrEdge, Prints, SaysLine, SaysRefusal, call_lines, opening_line, resumed_line}
 use Rattle.deployments.specs.Declines.{large_line, line_of_declined, mismatch_line, status_of_declined}
 use Rattle.deployments.specs.Endings.{Ending, Closes, Restarts, Reboots, Fails, Breaks, Forgets, Starves, Declines, Full, Idle, line_of_ending}
 

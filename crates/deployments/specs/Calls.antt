@@ -1,5 +1,5 @@
 -- One deployment in one call: what happens, what is printed, and how the call ends.
-use Rattle.std.specs.Prelude.{◌≡◌, ◌≢◌, ◌⊎◌, ◌≤◌, ◌-◌, ◌^◌, min, ℕ, true, false, List, [], ◌++◌, length, Option, Some, None, Result, Ok, Err, ⊤, codes}
+use Rattle.std.specs.Prelude.{◌≡◌, ◌≢◌, ◌⊎◌, ◌≤◌, ◌-◌, ◌^◌, min, ℕ, List, [], ◌++◌, length, Option, Some, None, Result, Ok, Err, ⊤, codes}
 use Rattle.std.specs.Option.{IsSomeAnd}
 use Rattle.std.specs.Io.KnownBytes.{Appends}
 use Rattle.artifact_store.specs.Holding.{HoldsDevice, HoldsItems}

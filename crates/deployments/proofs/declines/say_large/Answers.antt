@@ -1,4 +1,4 @@
-use Rattle.std.specs.Prelude.{ℕ, List, ◌++◌, codes, decimal}
+use Rattle.std.specs.Prelude.{ℕ, List, ◌++◌, codes}
 use Rattle.std.proofs.Common.{ap, ◌∙◌}
 use Rattle.deployments.proofs.Printing.{says_as}
 use Rattle.deployments.specs.Declines.{file_text, large_line}
