@@ -1,0 +1,213 @@
+// What a supervisor hands out, in words, and how that is answered.
+use device::Device;
+use nuc_base::{Exit, List, NoMemory, Step};
+use recipe_reader::Skip;
+use records::{Item, Origin};
+use std::alloc::Global;
+use supervisor::{Act, Event, Mode, Supervisor, one_platform};
+
+/// What was handed out, in words, and the number of the next child.
+#[derive(Drop)]
+pub(crate) struct Seen {
+    pub(crate) text: String,
+    /// Of a start the name alone is noted.
+    pub(crate) is_brief: bool,
+    pub(crate) next: u64,
+}
+
+impl Seen {
+    pub(crate) fn new(alloc: Global, is_brief: bool) -> Seen {
+        Seen {
+            text: String::new(alloc),
+            is_brief,
+            next: 0,
+        }
+    }
+
+    fn note(&mut self, text: &str) -> Result<(), NoMemory> {
+        self.text.push_str(text)?;
+        Ok(())
+    }
+
+    /// What was noted since it was asked before.
+    pub(crate) fn take(&mut self, alloc: Global) -> String {
+        let text = String::new(alloc);
+        std::mem::replace(&mut self.text, text)
+    }
+}
+
+/// Whether the child of this number lives.
+fn lives(supervisor: &Supervisor, number: u64) -> bool {
+    supervisor.next_living(number.checked_sub(1)) == Some(number)
+}
+
+/// How the start of a step is answered. A step with a probe is skipped, and the script `no` can't be started.
+fn answer_of(supervisor: &Supervisor, who: u32, step: Step, child: u64) -> Event {
+    if supervisor.skip(who, step).is_some() {
+        return Event::Skipped(who, step);
+    }
+    if supervisor.command(who, step).script.as_str() == "no" {
+        return Event::Refused(who, step);
+    }
+    Event::Started(who, step, child)
+}
+
+/// The file that the step's probe looks for.
+fn probed(skip: Option<&Skip>) -> &str {
+    match skip {
+        Some(Skip::Exists(path)) => path.as_str(),
+        _ => "",
+    }
+}
+
+/// Notes a start and its answer.
+fn note_start(
+    alloc: Global,
+    supervisor: &Supervisor,
+    seen: &mut Seen,
+    who: u32,
+    step: Step,
+    answer: Event,
+) -> Result<(), NoMemory> {
+    let name = supervisor.name(who);
+    if seen.is_brief {
+        return seen.note(name.as_str());
+    }
+    let script = supervisor.command(who, step).script.as_str();
+    let file = probed(supervisor.skip(who, step));
+    let text = match answer {
+        Event::Started(_who, _step, child) => {
+            format!(in alloc; "{name} {step:?} {script} as {child};")?
+        }
+        Event::Skipped(_who, _step) => format!(in alloc;
+            "{name} {step:?} {script} skipped {file};"
+        )?,
+        _ => format!(in alloc; "{name} {step:?} {script} refused;")?,
+    };
+    seen.note(&text)
+}
+
+/// Answers the start that was handed out, and notes both.
+fn start(
+    alloc: Global,
+    supervisor: &mut Supervisor,
+    seen: &mut Seen,
+    who: u32,
+    step: Step,
+    now: u64,
+) -> Result<(), NoMemory> {
+    let child = seen.next;
+    if lives(supervisor, child) {
+        // No number is given twice.
+        return Err(NoMemory);
+    }
+    let answer = answer_of(supervisor, who, step, child);
+    note_start(alloc, supervisor, seen, who, step, answer)?;
+    if matches!(answer, Event::Started(..)) {
+        seen.next = child.saturating_add(1);
+    }
+    supervisor.event(answer, now);
+    Ok(())
+}
+
+fn note_failure(
+    alloc: Global,
+    supervisor: &Supervisor,
+    seen: &mut Seen,
+    word: &str,
+    who: u32,
+    step: Step,
+    exit: Exit,
+) -> Result<(), NoMemory> {
+    let name = supervisor.name(who);
+    let text = format!(in alloc; "{word} {name} {step:?} {exit:?};")?;
+    seen.note(&text)
+}
+
+fn note_kill(alloc: Global, seen: &mut Seen, child: u64) -> Result<(), NoMemory> {
+    let text = format!(in alloc; "kill {child};")?;
+    seen.note(&text)
+}
+
+/// Takes the next act and notes it. Tells whether there was one.
+fn take_act(
+    alloc: Global,
+    supervisor: &mut Supervisor,
+    seen: &mut Seen,
+    now: u64,
+) -> Result<bool, NoMemory> {
+    one_platform();
+    let Some(act) = supervisor.next_act() else {
+        return Ok(false);
+    };
+    match act {
+        Act::Start(who, step) => start(alloc, supervisor, seen, who, step, now)?,
+        Act::Kill(child) => note_kill(alloc, seen, child)?,
+        Act::Failed(who, step, exit) => {
+            note_failure(alloc, supervisor, seen, "failed", who, step, exit)?
+        }
+        Act::Broke(who, step, exit) => {
+            note_failure(alloc, supervisor, seen, "broke", who, step, exit)?
+        }
+    }
+    Ok(true)
+}
+
+/// Takes acts until there is none.
+pub(crate) fn take_acts(
+    alloc: Global,
+    supervisor: &mut Supervisor,
+    seen: &mut Seen,
+    now: u64,
+) -> Result<(), NoMemory> {
+    for _act in 0..1000 {
+        if !take_act(alloc, supervisor, seen, now)? {
+            return Ok(());
+        }
+    }
+    Ok(())
+}
+
+/// The child of this number ended so. Tells whether it lived.
+pub(crate) fn end(supervisor: &mut Supervisor, child: u64, exit: Exit, now: u64) -> bool {
+    one_platform();
+    if !lives(supervisor, child) {
+        return false;
+    }
+    supervisor.event(Event::Ended(child, exit), now);
+    true
+}
+
+/// Other items are to run.
+fn change_to(
+    alloc: Global,
+    supervisor: &mut Supervisor,
+    origin: &Origin,
+    items: &List<Item>,
+    mode: Mode,
+) -> Result<(), NoMemory> {
+    one_platform();
+    let ready = supervisor.ready(alloc, origin, items)?;
+    supervisor.change(ready, &[0; 128], mode);
+    Ok(())
+}
+
+/// The items of the device are to run, or those of its plan. Tells whether it has them.
+pub(crate) fn change(
+    alloc: Global,
+    supervisor: &mut Supervisor,
+    device: &Device,
+    is_plan: bool,
+    mode: Mode,
+) -> Result<bool, NoMemory> {
+    let (Some(origin), Some(pending)) = (&device.origin, &device.pending) else {
+        return Ok(false);
+    };
+    let items = if is_plan {
+        &pending.plan.items
+    } else {
+        &device.set
+    };
+    change_to(alloc, supervisor, origin, items, mode)?;
+    Ok(true)
+}
