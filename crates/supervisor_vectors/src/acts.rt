@@ -1,4 +1,18 @@
 // What a supervisor hands out, in words, and how that is answered.
+ghost use Rattle.std.specs.Prelude.{◌≡◌, ◌<◌, ◌^◌, None, IsSome, IfSome, OnOk, is_some, length, map};
+ghost use Rattle.nuc_base.specs.declared.platform.Platform.{Platform};
+ghost use Rattle.records.specs.Stored.{item_view};
+ghost use Rattle.device.specs.Devices.{device_view, IsRegularDevice};
+ghost use Rattle.device.specs.Plans.{AreItems, AreRegularItems};
+ghost use Rattle.device.specs.Sound.{IsSound};
+ghost use Rattle.supervisor.specs.Acts.{HasStart};
+ghost use Rattle.supervisor.specs.Answers.{Answers, HasHanded};
+ghost use Rattle.supervisor.specs.Events.{handed_at, noticed};
+ghost use Rattle.supervisor.specs.Fitted.{prepared_of};
+ghost use Rattle.supervisor.specs.Platforms.{AllRunFor};
+ghost use Rattle.supervisor.specs.World.{At, World, owner};
+ghost use Rattle.supervisor_vectors.specs.Stands.{AreAnswered, Stands};
+
 use device::Device;
 use nuc_base::{Exit, List, NoMemory, Step};
 use recipe_reader::Skip;
@@ -37,12 +51,20 @@ impl Seen {
 }
 
 /// Whether the child of this number lives.
-fn lives(supervisor: &Supervisor, number: u64) -> bool {
+fn lives(supervisor: &Supervisor, number: u64) -> bool
+    ensures { result ≡ is_some (owner number supervisor.now.parts) }
+{
     supervisor.next_living(number.checked_sub(1)) == Some(number)
 }
 
 /// How the start of a step is answered. A step with a probe is skipped, and the script `no` can't be started.
-fn answer_of(supervisor: &Supervisor, who: u32, step: Step, child: u64) -> Event {
+fn answer_of(supervisor: &Supervisor, who: u32, step: Step, child: u64) -> Event
+    requires handed { HasHanded who step supervisor.now }
+    requires prepared { At who (λ p. IsSome (prepared_of p.fitted step)) supervisor.now.parts }
+    requires free { owner child supervisor.now.parts ≡ None }
+    ensures answers { Answers supervisor.now result }
+    ensures answered { (w : World) → AreAnswered w.parts → AreAnswered (noticed result (handed_at who w)).parts }
+{
     if supervisor.skip(who, step).is_some() {
         return Event::Skipped(who, step);
     }
@@ -68,7 +90,9 @@ fn note_start(
     who: u32,
     step: Step,
     answer: Event,
-) -> Result<(), NoMemory> {
+) -> Result<(), NoMemory>
+    requires prepared { At who (λ p. IsSome (prepared_of p.fitted step)) supervisor.now.parts }
+{
     let name = supervisor.name(who);
     if seen.is_brief {
         return seen.note(name.as_str());
@@ -95,7 +119,14 @@ fn start(
     who: u32,
     step: Step,
     now: u64,
-) -> Result<(), NoMemory> {
+) -> Result<(), NoMemory>
+    requires moment { supervisor.old.moment ≡ now }
+    requires in_time { now < 2 ^ 62 }
+    requires handed { (w : World) × (supervisor.old ≡ handed_at who w) × At who (HasStart step) w.parts }
+    ensures moment { supervisor.new.moment ≡ now }
+    ensures answered { OnOk result ((w : World) → supervisor.old ≡ handed_at who w → AreAnswered w.parts → AreAnswered supervisor.new.parts) }
+    ensures ready { (p : Platform) → AllRunFor p supervisor.old.parts → AllRunFor p supervisor.new.parts }
+{
     let child = seen.next;
     if lives(supervisor, child) {
         // No number is given twice.
@@ -118,7 +149,9 @@ fn note_failure(
     who: u32,
     step: Step,
     exit: Exit,
-) -> Result<(), NoMemory> {
+) -> Result<(), NoMemory>
+    requires { who < length supervisor.now.parts }
+{
     let name = supervisor.name(who);
     let text = format!(in alloc; "{word} {name} {step:?} {exit:?};")?;
     seen.note(&text)
@@ -135,8 +168,12 @@ fn take_act(
     supervisor: &mut Supervisor,
     seen: &mut Seen,
     now: u64,
-) -> Result<bool, NoMemory> {
-    one_platform();
+) -> Result<bool, NoMemory>
+    requires moment { supervisor.old.moment ≡ now }
+    requires in_time { now < 2 ^ 62 }
+    ensures moment { supervisor.new.moment ≡ now }
+    ensures stands { OnOk result ((p : Platform) → Stands p supervisor.old → Stands p supervisor.new) }
+{
     let Some(act) = supervisor.next_act() else {
         return Ok(false);
     };
@@ -159,7 +196,12 @@ pub(crate) fn take_acts(
     supervisor: &mut Supervisor,
     seen: &mut Seen,
     now: u64,
-) -> Result<(), NoMemory> {
+) -> Result<(), NoMemory>
+    requires moment { supervisor.old.moment ≡ now }
+    requires in_time { now < 2 ^ 62 }
+    ensures moment { supervisor.new.moment ≡ now }
+    ensures stands { OnOk result ((p : Platform) → Stands p supervisor.old → Stands p supervisor.new) }
+{
     for _act in 0..1000 {
         if !take_act(alloc, supervisor, seen, now)? {
             return Ok(());
@@ -169,8 +211,12 @@ pub(crate) fn take_acts(
 }
 
 /// The child of this number ended so. Tells whether it lived.
-pub(crate) fn end(supervisor: &mut Supervisor, child: u64, exit: Exit, now: u64) -> bool {
-    one_platform();
+pub(crate) fn end(supervisor: &mut Supervisor, child: u64, exit: Exit, now: u64) -> bool
+    requires moment { supervisor.old.moment ≡ now }
+    requires in_time { now < 2 ^ 62 }
+    ensures moment { supervisor.new.moment ≡ now }
+    ensures stands { (p : Platform) → Stands p supervisor.old → Stands p supervisor.new }
+{
     if !lives(supervisor, child) {
         return false;
     }
@@ -185,7 +231,13 @@ fn change_to(
     origin: &Origin,
     items: &List<Item>,
     mode: Mode,
-) -> Result<(), NoMemory> {
+) -> Result<(), NoMemory>
+    requires items { AreItems origin.now.platform (map item_view items.now) }
+    requires regular { AreRegularItems (map item_view items.now) }
+    requires stands { Stands origin.now.platform supervisor.old }
+    ensures moment { supervisor.new.moment ≡ supervisor.old.moment }
+    ensures stands { Stands origin.now.platform supervisor.new }
+{
     one_platform();
     let ready = supervisor.ready(alloc, origin, items)?;
     supervisor.change(ready, &[0; 128], mode);
@@ -199,7 +251,13 @@ pub(crate) fn change(
     device: &Device,
     is_plan: bool,
     mode: Mode,
-) -> Result<bool, NoMemory> {
+) -> Result<bool, NoMemory>
+    requires sound { IsSound (device_view device.now) }
+    requires regular { IsRegularDevice (device_view device.now) }
+    requires stands { IfSome device.now.origin (λ o. Stands o.platform supervisor.old) }
+    ensures moment { supervisor.new.moment ≡ supervisor.old.moment }
+    ensures stands { IfSome device.now.origin (λ o. Stands o.platform supervisor.new) }
+{
     let (Some(origin), Some(pending)) = (&device.origin, &device.pending) else {
         return Ok(false);
     };

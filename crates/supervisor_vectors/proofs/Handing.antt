@@ -1,0 +1,90 @@
+-- What is known of an act that was handed out.
+use Rattle.std.proofs.Common.{◌≡◌, ◌∙◌, ◌<◌, ℕ, suc, zero, List, [], ◌∷◌, length, true, false, Option, Some, None, refl, sym, ap, subst, arith}
+use Rattle.std.specs.Prelude.{IsSome}
+use Rattle.nuc_base.specs.declared.kinds.Exit.{Exit}
+use Rattle.nuc_base.specs.declared.kinds.Step.{Step}
+use Rattle.nuc_base.specs.declared.platform.Platform.{Platform}
+use Rattle.supervisor.specs.Acts.{NextAct, OwesAt, HasStart}
+use Rattle.supervisor.specs.Answers.{HasHanded}
+use Rattle.supervisor.specs.Events.{handed_at, later, noticed, told_at}
+use Rattle.supervisor.specs.Fitted.{prepared_of}
+use Rattle.supervisor.specs.Turns.{is_begun}
+use Rattle.supervisor.specs.World.{World, Part, At, changed_at, place_of, is_broken, part_name}
+use Rattle.supervisor.specs.declared.kinds.Act.TheVariants as acts
+use Rattle.supervisor.specs.declared.kinds.Event.TheVariants.{Started, Refused, Skipped}
+use Rattle.supervisor.proofs.Each.{at_below, length_changed}
+use Rattle.supervisor.proofs.Handed.{refused-handed, skipped-handed, started-handed}
+use Rattle.supervisor.proofs.Platforms.{run_next}
+use Rattle.supervisor_vectors.specs.Stands.{Stands}
+use Rattle.supervisor_vectors.proofs.Free.{AreFree, free_ended, free_killed, free_quietly, free_refused, free_skipped, free_started, free_told}
+
+at_changed : (k : ℕ) (f : Part → Part) (ps : List Part) (P Q : Part → Type 0) → ((p : Part) → P p → Q (f p)) → At k P ps → At k Q (changed_at k f ps)
+at_changed k f [] P Q g h = absurd h
+at_changed zero f (p ∷ ps) P Q g h = g p h
+at_changed (suc k) f (p ∷ ps) P Q g h = at_changed k f ps P Q g h
+
+-- ---- a start
+
+pub handed_start : (k : ℕ) (t : Step) (w v : World) → NextAct w (Some (acts.Start k t)) v → (u : World) × (v ≡ handed_at k u) × At k (HasStart t) u.parts
+handed_start k t w v n = (n.seen, n.hands.2, n.hands.1)
+
+pub has_handed : (k : ℕ) (t : Step) (v w : World) → v ≡ handed_at k w → At k (HasStart t) w.parts → HasHanded k t v
+has_handed k t v w is start =
+    subst (λ (x : World). HasHanded k t x) (sym is)
+    (at_changed k (λ p. record p { handed = true }) w.parts (HasStart t) (λ p. (p.handed ≡ true) × (is_begun t p ≡ true)) (λ p h. (refl, h.begun)) start)
+
+pub has_prepared : (k : ℕ) (t : Step) (v w : World) → v ≡ handed_at k w → At k (HasStart t) w.parts → At k (λ p. IsSome (prepared_of p.fitted t)) v.parts
+has_prepared k t v w is start =
+    subst (λ (x : World). At k (λ p. IsSome (prepared_of p.fitted t)) x.parts) (sym is)
+    (at_changed k (λ p. record p { handed = true }) w.parts (HasStart t) (λ p. IsSome (prepared_of p.fitted t)) (λ p h. h.prepared) start)
+
+-- once it is answered no start is open
+pub free_start : (k : ℕ) (s : Step) (n : ℕ) (w : World) → AreFree w.parts → AreFree (noticed (Started k s n) (handed_at k w)).parts
+free_start k s n w a = subst (λ (x : World). AreFree x.parts) (sym (started-handed k s n w)) (free_started k s n w a)
+
+pub free_refusal : (k : ℕ) (s : Step) (w : World) → AreFree w.parts → AreFree (noticed (Refused k s) (handed_at k w)).parts
+free_refusal k s w a = subst (λ (x : World). AreFree x.parts) (sym (refused-handed k s w)) (free_refused k s w a)
+
+pub free_skip : (k : ℕ) (s : Step) (w : World) → AreFree w.parts → AreFree (noticed (Skipped k s) (handed_at k w)).parts
+free_skip k s w a = subst (λ (x : World). AreFree x.parts) (sym (skipped-handed k w)) (free_skipped k w a)
+
+-- ---- a failure
+
+owes_below : (k : ℕ) (s : Step) (e : Exit) (b : Bool) (u v : World) → OwesAt u k s e b → v ≡ told_at k u → k < length v.parts
+owes_below k s e b u v owes is =
+    let below : k < length u.parts = at_below (λ p. (p.owed ≡ Some (s, e)) × (is_broken p.life.state ≡ b) × (place_of (part_name p) u.parts ≡ Some k)) u.parts k owes in
+    let same : length v.parts ≡ length u.parts = ap (λ (x : World). length x.parts) is ∙ length_changed k (λ p. record p { owed = None }) u.parts in
+    omega (arith, below, same)
+
+pub failed_below : (k : ℕ) (s : Step) (e : Exit) (w v : World) → NextAct w (Some (acts.Failed k s e)) v → k < length v.parts
+failed_below k s e w v n = owes_below k s e false n.seen v n.hands.0 n.hands.1
+
+pub broke_below : (k : ℕ) (s : Step) (e : Exit) (w v : World) → NextAct w (Some (acts.Broke k s e)) v → k < length v.parts
+broke_below k s e w v n = owes_below k s e true n.seen v n.hands.0 n.hands.1
+
+-- ---- what stays
+
+module _ (platform : Platform) where
+  pub stands_none : (w v : World) → NextAct w None v → Stands platform w → Stands platform v
+  stands_none w v n h = record {
+    answered = subst (λ (x : World). AreFree x.parts) (sym n.hands.1) (free_quietly n.made w n.seen n.quietly h.answered);
+    ready = run_next platform w None v n h.ready;
+  }
+
+  pub stands_killed : (c : ℕ) (w v : World) → NextAct w (Some (acts.Kill c)) v → Stands platform w → Stands platform v
+  stands_killed c w v n h = record {
+    answered = subst (λ (x : World). AreFree x.parts) (sym n.hands.4) (free_killed c n.seen (free_quietly n.made w n.seen n.quietly h.answered));
+    ready = run_next platform w (Some (acts.Kill c)) v n h.ready;
+  }
+
+  pub stands_failed : (k : ℕ) (s : Step) (e : Exit) (w v : World) → NextAct w (Some (acts.Failed k s e)) v → Stands platform w → Stands platform v
+  stands_failed k s e w v n h = record {
+    answered = subst (λ (x : World). AreFree x.parts) (sym n.hands.1) (free_told k n.seen (free_quietly n.made w n.seen n.quietly h.answered));
+    ready = run_next platform w (Some (acts.Failed k s e)) v n h.ready;
+  }
+
+  pub stands_broke : (k : ℕ) (s : Step) (e : Exit) (w v : World) → NextAct w (Some (acts.Broke k s e)) v → Stands platform w → Stands platform v
+  stands_broke k s e w v n h = record {
+    answered = subst (λ (x : World). AreFree x.parts) (sym n.hands.1) (free_told k n.seen (free_quietly n.made w n.seen n.quietly h.answered));
+    ready = run_next platform w (Some (acts.Broke k s e)) v n h.ready;
+  }

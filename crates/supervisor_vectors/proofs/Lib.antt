@@ -1,0 +1,4 @@
+mod Free
+mod Moments
+mod Handing
+mod Sound
