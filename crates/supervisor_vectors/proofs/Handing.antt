@@ -1,22 +1,25 @@
 -- What is known of an act that was handed out.
-use Rattle.std.proofs.Common.{◌≡◌, ◌∙◌, ◌<◌, ℕ, suc, zero, List, [], ◌∷◌, length, true, false, Option, Some, None, refl, sym, ap, subst, arith}
-use Rattle.std.specs.Prelude.{IsSome}
+use Rattle.std.proofs.Common.{◌≡◌, ◌∙◌, ◌<◌, ℕ, suc, zero, List, [], ◌∷◌, length, Bool, true, false, Option, Some, None, refl, sym, ap, subst, arith}
+use Rattle.std.specs.Prelude.{IfSome, IsSome}
+use Rattle.records.specs.declared.record.Origin.{Origin}
 use Rattle.nuc_base.specs.declared.kinds.Exit.{Exit}
 use Rattle.nuc_base.specs.declared.kinds.Step.{Step}
 use Rattle.nuc_base.specs.declared.platform.Platform.{Platform}
 use Rattle.supervisor.specs.Acts.{NextAct, OwesAt, HasStart}
 use Rattle.supervisor.specs.Answers.{HasHanded}
 use Rattle.supervisor.specs.Events.{handed_at, later, noticed, told_at}
-use Rattle.supervisor.specs.Fitted.{prepared_of}
+use Rattle.supervisor.specs.Changes.{all_stopped, changed_to, steadied}
+use Rattle.supervisor.specs.Fitted.{Fitted, prepared_of}
+use Rattle.supervisor.specs.Platforms.{AllFor, AllRunFor}
 use Rattle.supervisor.specs.Turns.{is_begun}
 use Rattle.supervisor.specs.World.{World, Part, At, changed_at, place_of, is_broken, part_name}
 use Rattle.supervisor.specs.declared.kinds.Act.TheVariants as acts
 use Rattle.supervisor.specs.declared.kinds.Event.TheVariants.{Started, Refused, Skipped}
 use Rattle.supervisor.proofs.Each.{at_below, length_changed}
 use Rattle.supervisor.proofs.Handed.{refused-handed, skipped-handed, started-handed}
-use Rattle.supervisor.proofs.Platforms.{run_next}
+use Rattle.supervisor.proofs.Platforms.{run_change, run_next, run_steadied, run_stopped}
 use Rattle.supervisor_vectors.specs.Stands.{Stands}
-use Rattle.supervisor_vectors.proofs.Free.{AreFree, free_ended, free_killed, free_quietly, free_refused, free_skipped, free_started, free_told}
+use Rattle.supervisor_vectors.proofs.Free.{AreFree, free_change, free_killed, free_quietly, free_refused, free_skipped, free_started, free_steadied, free_stopped, free_told}
 
 at_changed : (k : ℕ) (f : Part → Part) (ps : List Part) (P Q : Part → Type 0) → ((p : Part) → P p → Q (f p)) → At k P ps → At k Q (changed_at k f ps)
 at_changed k f [] P Q g h = absurd h
@@ -63,6 +66,28 @@ pub broke_below : (k : ℕ) (s : Step) (e : Exit) (w v : World) → NextAct w (S
 broke_below k s e w v n = owes_below k s e true n.seen v n.hands.0 n.hands.1
 
 -- ---- what stays
+
+pub if_stands : (o : Option Origin) (w v : World) → ((p : Platform) → Stands p w → Stands p v) → IfSome o (λ (x : Origin). Stands x.platform w) → IfSome o (λ (x : Origin). Stands x.platform v)
+if_stands None w v f h = tt
+if_stands (Some o) w v f h = f o.platform h
+
+pub stands_new : (o : Option Origin) (w : World) → w.parts ≡ [] → IfSome o (λ (x : Origin). Stands x.platform w)
+stands_new None w is = tt
+stands_new (Some o) w is = record { answered = subst AreFree (sym is) tt; ready = subst (AllRunFor o.platform) (sym is) tt }
+
+pub stands_stopped : (platform : Platform) (w v : World) → v ≡ all_stopped w → Stands platform w → Stands platform v
+stands_stopped platform w v is h = subst (λ (x : World). Stands platform x) (sym is) (record { answered = free_stopped w h.answered; ready = run_stopped platform w h.ready })
+
+pub stands_steadied : (platform : Platform) (w v : World) → v ≡ steadied w → Stands platform w → Stands platform v
+stands_steadied platform w v is h = subst (λ (x : World). Stands platform x) (sym is) (record { answered = free_steadied w h.answered; ready = run_steadied platform w h.ready })
+
+pub stands_later : (platform : Platform) (m : ℕ) (w v : World) → v ≡ later m w → Stands platform w → Stands platform v
+stands_later platform m w v is h = subst (λ (x : World). Stands platform x) (sym is) (record { answered = h.answered; ready = h.ready })
+
+pub stands_changed : (platform : Platform) (fs : List Fitted) (counts : List ℕ) (steady : Bool) (w v : World) → v ≡ changed_to fs counts steady w → AllFor platform fs → Stands platform w → Stands platform v
+stands_changed platform fs counts steady w v is all h =
+    subst (λ (x : World). Stands platform x) (sym is)
+    (record { answered = free_change fs counts steady w h.answered; ready = run_change platform fs counts steady w all h.ready })
 
 module _ (platform : Platform) where
   pub stands_none : (w v : World) → NextAct w None v → Stands platform w → Stands platform v

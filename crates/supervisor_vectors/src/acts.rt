@@ -1,5 +1,5 @@
 // What a supervisor hands out, in words, and how that is answered.
-ghost use Rattle.std.specs.Prelude.{◌≡◌, ◌<◌, ◌^◌, None, IsSome, IfSome, OnOk, is_some, length, map};
+ghost use Rattle.std.specs.Prelude.{◌≡◌, ◌<◌, ◌^◌, ℕ, All, None, IsSome, IfSome, OnOk, is_some, length, map};
 ghost use Rattle.nuc_base.specs.declared.platform.Platform.{Platform};
 ghost use Rattle.records.specs.Stored.{item_view};
 ghost use Rattle.device.specs.Devices.{device_view, IsRegularDevice};
@@ -123,7 +123,7 @@ fn start(
     requires moment { supervisor.old.moment ≡ now }
     requires in_time { now < 2 ^ 62 }
     requires handed { (w : World) × (supervisor.old ≡ handed_at who w) × At who (HasStart step) w.parts }
-    ensures moment { supervisor.new.moment ≡ now }
+    ensures moment { OnOk result (supervisor.new.moment ≡ now) }
     ensures answered { OnOk result ((w : World) → supervisor.old ≡ handed_at who w → AreAnswered w.parts → AreAnswered supervisor.new.parts) }
     ensures ready { (p : Platform) → AllRunFor p supervisor.old.parts → AllRunFor p supervisor.new.parts }
 {
@@ -171,21 +171,21 @@ fn take_act(
 ) -> Result<bool, NoMemory>
     requires moment { supervisor.old.moment ≡ now }
     requires in_time { now < 2 ^ 62 }
-    ensures moment { supervisor.new.moment ≡ now }
+    ensures moment { OnOk result (supervisor.new.moment ≡ now) }
     ensures stands { OnOk result ((p : Platform) → Stands p supervisor.old → Stands p supervisor.new) }
 {
-    let Some(act) = supervisor.next_act() else {
-        return Ok(false);
-    };
-    match act {
-        Act::Start(who, step) => start(alloc, supervisor, seen, who, step, now)?,
-        Act::Kill(child) => note_kill(alloc, seen, child)?,
-        Act::Failed(who, step, exit) => {
-            note_failure(alloc, supervisor, seen, "failed", who, step, exit)?
-        }
-        Act::Broke(who, step, exit) => {
-            note_failure(alloc, supervisor, seen, "broke", who, step, exit)?
-        }
+    match supervisor.next_act() {
+        None => return Ok(false),
+        Some(act) => match act {
+            Act::Start(who, step) => start(alloc, supervisor, seen, who, step, now)?,
+            Act::Kill(child) => note_kill(alloc, seen, child)?,
+            Act::Failed(who, step, exit) => {
+                note_failure(alloc, supervisor, seen, "failed", who, step, exit)?
+            }
+            Act::Broke(who, step, exit) => {
+                note_failure(alloc, supervisor, seen, "broke", who, step, exit)?
+            }
+        },
     }
     Ok(true)
 }
@@ -199,7 +199,7 @@ pub(crate) fn take_acts(
 ) -> Result<(), NoMemory>
     requires moment { supervisor.old.moment ≡ now }
     requires in_time { now < 2 ^ 62 }
-    ensures moment { supervisor.new.moment ≡ now }
+    ensures moment { OnOk result (supervisor.new.moment ≡ now) }
     ensures stands { OnOk result ((p : Platform) → Stands p supervisor.old → Stands p supervisor.new) }
 {
     for _act in 0..1000 {
@@ -224,6 +224,13 @@ pub(crate) fn end(supervisor: &mut Supervisor, child: u64, exit: Exit, now: u64)
     true
 }
 
+/// No failures of any item.
+fn no_failures() -> [u8; 128]
+    ensures { All (λ (n : ℕ). n < 3) result }
+{
+    [0; 128]
+}
+
 /// Other items are to run.
 fn change_to(
     alloc: Global,
@@ -240,7 +247,7 @@ fn change_to(
 {
     one_platform();
     let ready = supervisor.ready(alloc, origin, items)?;
-    supervisor.change(ready, &[0; 128], mode);
+    supervisor.change(ready, &no_failures(), mode);
     Ok(())
 }
 

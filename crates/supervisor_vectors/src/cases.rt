@@ -1,4 +1,10 @@
 // What befalls components, moment by moment, and what is handed out.
+ghost use Rattle.std.specs.Prelude.{◌≡◌, ◌<◌, ◌^◌, IfSome, OnOk};
+ghost use Rattle.nuc_base.specs.declared.platform.Platform.{Platform};
+ghost use Rattle.device.specs.Devices.{device_view, IsRegularDevice};
+ghost use Rattle.device.specs.Sound.{IsSound};
+ghost use Rattle.supervisor_vectors.specs.Stands.{Stands};
+
 use crate::acts::{Seen, change, end, take_acts};
 use crate::devices::device_of;
 use device::Device;
@@ -97,7 +103,12 @@ fn standing(alloc: Global, supervisor: &Supervisor) -> Result<String, NoMemory> 
 }
 
 /// A child ended, as these words say.
-fn end_by(supervisor: &mut Supervisor, word: &str, now: u64) -> bool {
+fn end_by(supervisor: &mut Supervisor, word: &str, now: u64) -> bool
+    requires moment { supervisor.old.moment ≡ now }
+    requires in_time { now < 2 ^ 62 }
+    ensures moment { supervisor.new.moment ≡ now }
+    ensures stands { (p : Platform) → Stands p supervisor.old → Stands p supervisor.new }
+{
     let mut words = word.splitn(2, '=');
     let child = words.next().unwrap_or("").parse::<u64>();
     let exit = match words.next().unwrap_or("").parse::<i32>() {
@@ -117,7 +128,15 @@ fn tell(
     device: &Device,
     word: &str,
     now: u64,
-) -> Result<bool, NoMemory> {
+) -> Result<bool, NoMemory>
+    requires sound { IsSound (device_view device.now) }
+    requires regular { IsRegularDevice (device_view device.now) }
+    requires moment { supervisor.old.moment ≡ now }
+    requires in_time { now < 2 ^ 62 }
+    requires stands { IfSome device.now.origin (λ o. Stands o.platform supervisor.old) }
+    ensures moment { supervisor.new.moment ≡ now }
+    ensures stands { IfSome device.now.origin (λ o. Stands o.platform supervisor.new) }
+{
     match word {
         "serve" => change(alloc, supervisor, device, false, Mode::Steady),
         "begin" => change(alloc, supervisor, device, false, Mode::Deployment),
@@ -141,7 +160,15 @@ fn tell_all(
     device: &Device,
     words: &str,
     now: u64,
-) -> Result<bool, NoMemory> {
+) -> Result<bool, NoMemory>
+    requires sound { IsSound (device_view device.now) }
+    requires regular { IsRegularDevice (device_view device.now) }
+    requires moment { supervisor.old.moment ≡ now }
+    requires in_time { now < 2 ^ 62 }
+    requires stands { IfSome device.now.origin (λ o. Stands o.platform supervisor.old) }
+    ensures moment { supervisor.new.moment ≡ now }
+    ensures stands { IfSome device.now.origin (λ o. Stands o.platform supervisor.new) }
+{
     for word in words.split_whitespace() {
         if !tell(alloc, supervisor, device, word, now)? {
             return Ok(false);
@@ -157,7 +184,12 @@ fn is_answer(
     seen: &mut Seen,
     now: u64,
     want: (&str, &str),
-) -> Result<bool, NoMemory> {
+) -> Result<bool, NoMemory>
+    requires moment { supervisor.old.moment ≡ now }
+    requires in_time { now < 2 ^ 62 }
+    ensures moment { OnOk result (supervisor.new.moment ≡ now) }
+    ensures stands { OnOk result ((p : Platform) → Stands p supervisor.old → Stands p supervisor.new) }
+{
     take_acts(alloc, supervisor, seen, now)?;
     let acts = seen.take(alloc);
     let stands = standing(alloc, supervisor)?;
@@ -172,7 +204,16 @@ fn is_line(
     device: &Device,
     line: &str,
     now: &mut u64,
-) -> Result<bool, NoMemory> {
+) -> Result<bool, NoMemory>
+    requires sound { IsSound (device_view device.now) }
+    requires regular { IsRegularDevice (device_view device.now) }
+    requires moment { supervisor.old.moment ≡ now.old }
+    requires in_time { now.old < 2 ^ 62 }
+    requires stands { IfSome device.now.origin (λ o. Stands o.platform supervisor.old) }
+    ensures moment { OnOk result (supervisor.new.moment ≡ now.new) }
+    ensures in_time { now.new < 2 ^ 62 }
+    ensures stands { OnOk result (IfSome device.now.origin (λ o. Stands o.platform supervisor.new)) }
+{
     let mut fields = line.splitn(4, '|');
     let moment = fields.next().unwrap_or("").parse::<u64>().unwrap_or(0);
     let told = fields.next().unwrap_or("");
@@ -186,7 +227,8 @@ fn is_line(
     if !tell_all(alloc, supervisor, device, told, moment)? {
         return Ok(false);
     }
-    is_answer(alloc, supervisor, seen, moment, (acts, stands))
+    let fits = is_answer(alloc, supervisor, seen, moment, (acts, stands))?;
+    Ok(fits)
 }
 
 /// The first line of which something else comes, or none.
@@ -194,7 +236,10 @@ fn first_wrong(
     alloc: Global,
     device: &Device,
     lines: &'static str,
-) -> Result<&'static str, NoMemory> {
+) -> Result<&'static str, NoMemory>
+    requires sound { IsSound (device_view device.now) }
+    requires regular { IsRegularDevice (device_view device.now) }
+{
     let mut supervisor = Supervisor::new(alloc);
     let mut seen = Seen::new(alloc, false);
     let mut now = 0;

@@ -12,3 +12,5 @@ mod cases;
 mod devices;
 #[cfg(test)]
 mod shapes;
+#[cfg(test)]
+mod steps;

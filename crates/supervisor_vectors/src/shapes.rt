@@ -1,5 +1,9 @@
 // Twenty components that need one another in chains and diamonds. Each starts up and shuts down by a step, and the steps end
 // in several orders.
+ghost use Rattle.std.specs.Prelude.{◌≡◌, OnOk};
+ghost use Rattle.device.specs.Devices.{device_view, IsRegularDevice};
+ghost use Rattle.device.specs.Sound.{IsSound};
+
 use crate::acts::{Seen, change, end, take_acts};
 use crate::devices::device_of;
 use device::Device;
@@ -84,7 +88,10 @@ fn next_end(supervisor: &Supervisor, order: &str, turn: u32) -> Option<u64> {
 }
 
 /// A child ends, in this order. Tells whether there was one.
-fn end_next(supervisor: &mut Supervisor, order: &str, turn: u32) -> bool {
+fn end_next(supervisor: &mut Supervisor, order: &str, turn: u32) -> bool
+    requires { supervisor.old.moment ≡ 0 }
+    ensures { supervisor.new.moment ≡ 0 }
+{
     match next_end(supervisor, order, turn) {
         Some(child) => end(supervisor, child, Exit::Code(0), 0),
         None => false,
@@ -97,7 +104,10 @@ fn go_on(
     supervisor: &mut Supervisor,
     seen: &mut Seen,
     order: &str,
-) -> Result<String, NoMemory> {
+) -> Result<String, NoMemory>
+    requires { supervisor.old.moment ≡ 0 }
+    ensures { OnOk result (supervisor.new.moment ≡ 0) }
+{
     for turn in 0..100 {
         take_acts(alloc, supervisor, seen, 0)?;
         if !end_next(supervisor, order, turn) {
@@ -109,7 +119,10 @@ fn go_on(
 }
 
 /// Whether the components come up and are stopped as the line says.
-fn is_line(alloc: Global, device: &Device, line: &str) -> Result<bool, NoMemory> {
+fn is_line(alloc: Global, device: &Device, line: &str) -> Result<bool, NoMemory>
+    requires sound { IsSound (device_view device.now) }
+    requires regular { IsRegularDevice (device_view device.now) }
+{
     let mut supervisor = Supervisor::new(alloc);
     let mut seen = Seen::new(alloc, true);
     let mut fields = line.split(' ');
@@ -129,7 +142,10 @@ fn first_wrong(
     alloc: Global,
     device: &Device,
     lines: &'static str,
-) -> Result<&'static str, NoMemory> {
+) -> Result<&'static str, NoMemory>
+    requires sound { IsSound (device_view device.now) }
+    requires regular { IsRegularDevice (device_view device.now) }
+{
     for line in lines.lines() {
         if !is_line(alloc, device, line)? {
             return Ok(line);

@@ -1,0 +1,16 @@
+use Rattle.std.proofs.Common.{sym, subst}
+use Rattle.supervisor.specs.Events.{later}
+use Rattle.supervisor.specs.World.{World}
+use Rattle.supervisor.specs.declared.kinds.Event.TheVariants.{Ended}
+use Rattle.supervisor.proofs.Platforms.{run_noticed}
+use Rattle.supervisor_vectors.specs.Stands.{Stands}
+use Rattle.supervisor_vectors.proofs.Free.{free_ended}
+use Rattle.supervisor_vectors.proofs.acts.end.Goals as goal
+
+pub returns-clause-stands : goal.returns-clause-stands
+returns-clause-stands c = λ p h.
+    let old = c.args.supervisor.now in
+    subst (λ (w : World). Stands p w) (sym c.event.ensures) (record {
+      answered = free_ended c.args.child c.args.exit (later c.args.now old) h.answered;
+      ready = run_noticed p (Ended c.args.child c.args.exit) (later c.args.now old) h.ready;
+    })
