@@ -7,10 +7,10 @@ use Rattle.nuc_base.specs.declared.kinds.Step.{Step}
 use Rattle.nuc_base.specs.declared.platform.Platform.{Platform}
 use Rattle.supervisor.specs.Acts.{NextAct, OwesAt, HasStart}
 use Rattle.supervisor.specs.Answers.{HasHanded}
-use Rattle.supervisor.specs.Events.{handed_at, later, noticed, told_at}
+use Rattle.supervisor.specs.Events.{handed_at, noticed, told_at}
 use Rattle.supervisor.specs.Changes.{all_stopped, changed_to, steadied}
 use Rattle.supervisor.specs.Fitted.{Fitted, prepared_of}
-use Rattle.supervisor.specs.Platforms.{AllFor, AllRunFor}
+use Rattle.supervisor.specs.Platforms.{AllFor}
 use Rattle.supervisor.specs.Turns.{is_begun}
 use Rattle.supervisor.specs.World.{World, Part, At, changed_at, place_of, is_broken, part_name}
 use Rattle.supervisor.specs.declared.kinds.Act.TheVariants as acts
@@ -27,9 +27,6 @@ at_changed zero f (p ∷ ps) P Q g h = g p h
 at_changed (suc k) f (p ∷ ps) P Q g h = at_changed k f ps P Q g h
 
 -- ---- a start
-
-pub handed_start : (k : ℕ) (t : Step) (w v : World) → NextAct w (Some (acts.Start k t)) v → (u : World) × (v ≡ handed_at k u) × At k (HasStart t) u.parts
-handed_start k t w v n = (n.seen, n.hands.2, n.hands.1)
 
 pub has_handed : (k : ℕ) (t : Step) (v w : World) → v ≡ handed_at k w → At k (HasStart t) w.parts → HasHanded k t v
 has_handed k t v w is start =
@@ -71,18 +68,11 @@ pub if_stands : (o : Option Origin) (w v : World) → ((p : Platform) → Stands
 if_stands None w v f h = tt
 if_stands (Some o) w v f h = f o.platform h
 
-pub stands_new : (o : Option Origin) (w : World) → w.parts ≡ [] → IfSome o (λ (x : Origin). Stands x.platform w)
-stands_new None w is = tt
-stands_new (Some o) w is = record { answered = subst AreFree (sym is) tt; ready = subst (AllRunFor o.platform) (sym is) tt }
-
 pub stands_stopped : (platform : Platform) (w v : World) → v ≡ all_stopped w → Stands platform w → Stands platform v
 stands_stopped platform w v is h = subst (λ (x : World). Stands platform x) (sym is) (record { answered = free_stopped w h.answered; ready = run_stopped platform w h.ready })
 
 pub stands_steadied : (platform : Platform) (w v : World) → v ≡ steadied w → Stands platform w → Stands platform v
 stands_steadied platform w v is h = subst (λ (x : World). Stands platform x) (sym is) (record { answered = free_steadied w h.answered; ready = run_steadied platform w h.ready })
-
-pub stands_later : (platform : Platform) (m : ℕ) (w v : World) → v ≡ later m w → Stands platform w → Stands platform v
-stands_later platform m w v is h = subst (λ (x : World). Stands platform x) (sym is) (record { answered = h.answered; ready = h.ready })
 
 pub stands_changed : (platform : Platform) (fs : List Fitted) (counts : List ℕ) (steady : Bool) (w v : World) → v ≡ changed_to fs counts steady w → AllFor platform fs → Stands platform w → Stands platform v
 stands_changed platform fs counts steady w v is all h =

@@ -1,4 +1,4 @@
 mod Free
 mod Moments
 mod Handing
-mod Sound
+mod Recipes

@@ -2,25 +2,13 @@
 use Rattle.std.proofs.Common.{◌≡◌, ◌∙◌, ℕ, List, [], ◌∷◌, Bool, true, false, Option, Some, None, refl, ap}
 use Rattle.std.specs.Prelude.{if◌then◌else◌}
 use Rattle.nuc_base.specs.declared.kinds.Step.{Step}
-use Rattle.nuc_base.specs.declared.kinds.Step.TheVariants as step
 use Rattle.lifecycle.specs.declared.kinds.LifeEvent.{LifeEvent}
-use Rattle.lifecycle.specs.declared.kinds.LifeEvent.TheVariants as event
 use Rattle.supervisor.specs.Acts.{Move, NextAct, HandsOut, Quietly}
-use Rattle.supervisor.specs.Events.{gone_by, is_orphan_at, kill_event_at, killed, launched, noticed}
+use Rattle.supervisor.specs.Events.{gone_by, is_orphan_at, kill_event_at, killed}
 use Rattle.supervisor.specs.Lives.{lived_at}
 use Rattle.supervisor.specs.World.{World, child_gone, owner}
 use Rattle.supervisor.specs.declared.kinds.Act.{Act}
 use Rattle.supervisor.specs.declared.kinds.Act.TheVariants as acts
-use Rattle.supervisor.specs.declared.kinds.Event.{Event}
-use Rattle.supervisor.specs.declared.kinds.Event.TheVariants.{Started, Refused, Skipped, Ended, Passed}
-
-moment_launched : (s : Step) (k : ℕ) (w : World) → (launched s k w).moment ≡ w.moment
-moment_launched step.Install k w = refl
-moment_launched step.Run k w = refl
-moment_launched step.Startup k w = refl
-moment_launched step.Shutdown k w = refl
-moment_launched step.Recover k w = refl
-moment_launched step.Bootstrap k w = refl
 
 moment_gone : (o : Option LifeEvent) (k : ℕ) (s : Step) (n : ℕ) (w : World) → (gone_by o k s n w).moment ≡ w.moment
 moment_gone None k s n w = refl
@@ -29,17 +17,6 @@ moment_gone (Some e) k s n w = by (is_orphan_at k s w)
     by : (b : Bool) → (if b then child_gone k n w else lived_at k e (child_gone k n w)).moment ≡ w.moment
     by true = refl
     by false = refl
-
-pub moment_noticed : (e : Event) (w : World) → (noticed e w).moment ≡ w.moment
-moment_noticed (Started k s n) w = moment_launched s k _
-moment_noticed (Refused k s) w = refl
-moment_noticed (Skipped k s) w = refl
-moment_noticed (Ended n x) w = by (owner n w.parts)
-  where
-    by : (o : Option (ℕ × Step)) → (elim o as (λ y. World) [ None ↦ w | Some y ↦ gone_by (Some (event.Ended y.1 x)) y.0 y.1 n w ]).moment ≡ w.moment
-    by None = refl
-    by (Some y) = moment_gone (Some (event.Ended y.1 x)) y.0 y.1 n w
-moment_noticed Passed w = refl
 
 moment_killed : (n : ℕ) (w : World) → (killed n w).moment ≡ w.moment
 moment_killed n w = by (owner n w.parts)

@@ -5,7 +5,7 @@ use Rattle.supervisor.specs.Platforms.{RunsFor}
 use Rattle.supervisor.proofs.Changed.{all_standing}
 use Rattle.supervisor_vectors.proofs.Free.{free_answered}
 use Rattle.supervisor_vectors.proofs.Handing.{stands_changed}
-use Rattle.supervisor_vectors.proofs.Sound.{some_recipes}
+use Rattle.supervisor_vectors.proofs.Recipes.{some_recipes}
 use Rattle.supervisor_vectors.proofs.acts.change_to.Goals as goal
 
 pub ready-requires-clause-recipes : goal.ready-requires-clause-recipes

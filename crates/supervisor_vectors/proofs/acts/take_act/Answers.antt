@@ -2,7 +2,7 @@ use Rattle.std.proofs.Common.{◌≡◌, ◌∙◌, Some, subst}
 use Rattle.supervisor.specs.Acts.{NextAct}
 use Rattle.supervisor.specs.World.{World}
 use Rattle.supervisor.specs.declared.kinds.Act.{Act}
-use Rattle.supervisor.specs.declared.kinds.Act.TheVariants.{Start, Kill, Failed, Broke}
+use Rattle.supervisor.specs.declared.kinds.Act.TheVariants.{Start}
 use Rattle.supervisor.proofs.Platforms.{run_next}
 use Rattle.supervisor_vectors.proofs.Free.{free_quietly}
 use Rattle.supervisor_vectors.proofs.Handing.{broke_below, failed_below, stands_broke, stands_failed, stands_killed, stands_none}
