@@ -77,7 +77,7 @@ fn count_again(alloc: Global) -> Result<Option<u64>, Fail> {
             if !runs_again(alloc, &disk)? {
                 return Ok(None);
             }
-            found += 1;
+            found = found.saturating_add(1);
         }
     }
     Ok(None)
