@@ -36,7 +36,7 @@ use Rattle.artifact_store.specs.Filled.{Filled}
 use Rattle.artifact_store.specs.Staged.{IsOutside, draft_lines}
 use Rattle.artifact_store.specs.declared.fault.StageFault.{StageFault}
 use Rattle.artifact_store.specs.declared.fault.StageFault.TheVariants as stage
-use Rattle.intake.specs.Takes.{HasDiskFailed, HasLibraryFailed, IsFilled, TakesIn}
+use Rattle.intake.specs.Takes.{HasDiskFailed, HasLibraryFailed, IsFilled, IsRefused, TakesIn}
 use Rattle.intake.specs.declared.fault.Declined.{Declined}
 use Rattle.intake.specs.declared.fault.Declined.TheVariants.{Refused, Unstaged}
 use Rattle.intake.specs.Drafts.{MayStage, MayTakeFilled}
@@ -185,6 +185,10 @@ pending_none o e = ap (option_map pending_view) e
 
 pub none_pending : (o : Option code_pending.Pending) → option_map pending_view o ≡ None → o ≡ None
 none_pending o e = none_of pending_view o e
+
+-- no check fails where a file is not taken in
+pub unstaged_passes : (r : Answer) (f : StageFault) → IsErrAnd r (λ e. e ≡ Unstaged f) → IsRefused r → ⊥
+unstaged_passes r f h is = subst IsRefused (err_of r (Unstaged f) h) is
 
 -- ---- what failed outside
 

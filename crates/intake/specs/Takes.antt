@@ -1,5 +1,5 @@
 -- What taking in a document answers: the checks of its plan in their order, and then those of its files.
-use Rattle.std.specs.Prelude.{◌≡◌, ◌⊎◌, ℕ, List, Option, Some, Result, Ok, Err}
+use Rattle.std.specs.Prelude.{◌≡◌, ◌⊎◌, ℕ, List, Option, Some, Result, Ok, Err, ⊤}
 use Rattle.nuc_base.specs.Tables.{AllHold, IsFirst}
 use Rattle.recipe_reader.specs.declared.candidate.Candidate.{Candidate}
 use Rattle.library_core.specs.Library.{Content}
@@ -41,6 +41,12 @@ Takes f (Err (Unstaged a)) = PassesAll f plan_checks × IsUnfilled f.content f.d
 -- by some candidates and a draft
 abbrev pub TakesIn : Device → Origin → Option Content → ℕ → ℕ → Document → Result code.Plan Declined → Type 0
 TakesIn d o content before after document result = (cs : List Candidate) × (draft : Draft) × Takes (facts d o content before after document cs draft) result
+
+-- a check fails
+abbrev pub IsRefused : Result code.Plan Declined → Type 0
+IsRefused (Ok plan) = ⊥
+IsRefused (Err (Refused a)) = ⊤
+IsRefused (Err (Unstaged f)) = ⊥
 
 -- ---- what failed outside
 

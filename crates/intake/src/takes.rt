@@ -17,7 +17,7 @@ ghost use Rattle.deployment_doc.specs.Sound.{AreSound};
 ghost use Rattle.artifact_store.specs.Holding.{AllHoldDevice, AllHoldItems, HoldsDevice};
 ghost use Rattle.deploy_state.specs.States.{InIdle, idle_device};
 ghost use Rattle.intake.specs.Drafts.{MayStage, MayTakeFilled};
-ghost use Rattle.intake.specs.Takes.{HasDiskFailed, HasLibraryFailed, LieElsewhere, TakesIn};
+ghost use Rattle.intake.specs.Takes.{HasDiskFailed, HasLibraryFailed, IsRefused, LieElsewhere, TakesIn};
 
 use crate::fault::Declined;
 use artifact_store::{needed_files_stay, stage};
@@ -81,6 +81,8 @@ pub fn take_in<D: Disk, J: Journal + Drop, L: Library>(
     // A crash at any moment of the call changes files of artifacts alone.
     ensures moments { Leaves D.moment D.left_since disk.old disk.new (After (D.may_leave disk.old) (Spares (IsBelow artifacts))) }
     ensures others { IsTrue D.tells → Spares (IsBelow artifacts) (D.seen disk.old) (D.seen disk.new) }
+    // Where a check fails no file is touched.
+    ensures untouched { IsRefused result → disk.new ≡ disk.old }
     // The device has its files at each moment, where it had them before, and the plan then has its own.
     ensures safe { AllHoldDevice (D.may_leave disk.old) (idle_device idle.now) → Leaves D.moment D.left_since disk.old disk.new (λ c. HoldsDevice c (idle_device idle.now)) }
     ensures files { IfOk result (λ plan. AllHoldDevice (D.may_leave disk.old) (idle_device idle.now) → AllHoldItems (D.may_leave disk.new) (map item_view plan.items)) }

@@ -13,7 +13,7 @@ use Rattle.artifact_store.proofs.Sparing.{still_safe}
 use Rattle.deploy_state.specs.States.{idle_device}
 use Rattle.intake.specs.Takes.{TakesIn}
 use Rattle.intake.proofs.Staying.{hand_stays}
-use Rattle.intake.proofs.Taking.{refused, unstaged, taken, none_pending, refused_disk, refused_library, library_refused, unstaged_disk, disk_unstaged, unstaged_library, library_unstaged}
+use Rattle.intake.proofs.Taking.{refused, unstaged, unstaged_passes, taken, none_pending, refused_disk, refused_library, library_refused, unstaged_disk, disk_unstaged, unstaged_library, library_unstaged}
 use Rattle.intake.proofs.takes.take_in.Goals as goal
 
 -- ---- what the checks ask of the device
@@ -104,6 +104,9 @@ returns-in_err-plan-clause-held g c = (
 pub returns-in_err-plan-clause-others : goal.returns-in_err-plan-clause-others
 returns-in_err-plan-clause-others g c = λ told name spared.
     c.stage.ensures.others told name (λ is. spared ((c.needed_files_stay.ensures.below (map item_view c.device-device.result.now.set) (draft_view c.in_ok-draft.draft) (map item_view c.device-device.result.now.set) name).0 is))
+
+pub returns-in_err-plan-clause-untouched : goal.returns-in_err-plan-clause-untouched
+returns-in_err-plan-clause-untouched g c = λ is. absurd (unstaged_passes c.from_residual-in_err-plan.result c.in_err-plan.field-0.0 c.from_residual-in_err-plan.ensures.1 is)
 
 pub returns-in_err-plan-clause-safe : goal.returns-in_err-plan-clause-safe
 returns-in_err-plan-clause-safe g c = λ holds.
