@@ -1,6 +1,6 @@
--- No stray file of an artifact is left behind a close.
+-- No stray file of an artifact is left with the status of a close.
 use Rattle.std.specs.Prelude.{ℕ, Bool, false, IsTrue, List, Result, Ok, Err, IfOk}
-use Rattle.std.proofs.Common.{◌≡◌, ◌⊎◌, ◌∙◌, inl, inr, refl, sym, ap, subst}
+use Rattle.std.proofs.Common.{◌≡◌, ◌⊎◌, ◌∙◌, inl, inr, refl, sym, subst}
 use Rattle.disk_model.specs.Disk.{DiskLaws, Image}
 use Rattle.gate_log.specs.Journal.{JournalLaws}
 use Rattle.nuc_base.specs.declared.kinds.Outcome.{Outcome}
@@ -10,17 +10,22 @@ use Rattle.device.specs.Devices.{Device}
 use Rattle.device.specs.Standing.{StandsFor}
 use Rattle.device.proofs.OneDevice.{same_device_for}
 use Rattle.artifact_store.specs.Swept.{IsSwept, items_of}
+use Rattle.artifact_store.specs.declared.fault.StageFault.{StageFault}
+use Rattle.artifact_store.specs.declared.fault.StageFault.TheVariants as stage
 use Rattle.refusal_lines.specs.Statuses.{status_of_outcome}
 use Rattle.deploy_state.specs.Hand.{IsInHand}
 use Rattle.deploy_state.proofs.Steps.{in_hand_stands}
 use Rattle.driver.specs.declared.over.Over.{Over}
 use Rattle.driver.specs.declared.over.Over.TheVariants as over
-use Rattle.intake.specs.Takes.{LieElsewhere}
+use Rattle.intake.specs.Takes.{IsRefused, LieElsewhere}
+use Rattle.intake.specs.declared.fault.Declined.{Declined}
+use Rattle.intake.specs.declared.fault.Declined.TheVariants.{Refused, Unstaged}
 use Rattle.intake.proofs.Staying.{hand_stays}
 use Rattle.deploying.specs.Driven.{InDriven, driven_device}
 use Rattle.deploying.specs.declared.driven.Driven.{Driven}
 use Rattle.deploying.specs.declared.driven.Driven.TheVariants as driven
 use Rattle.deployments.specs.Calls.{AnswersFor, IsOrEdge, Spared}
+use Rattle.deployments.specs.Declines.{status_of_declined}
 use Rattle.deployments.specs.Sweeping.{LeavesNoStray}
 use Rattle.deployments.proofs.Resuming.{loaded_hand}
 use Rattle.deployments.proofs.Statuses.{closes, no_outcome}
@@ -38,9 +43,23 @@ pub no_close : (o : Outcome) (status s : Status) → closes s ≡ false → IsOr
 no_close o status s never (inl given) is = no_outcome o s never (sym is ∙ given)
 no_close o status s never (inr edge) is = no_outcome o statuses.Edge refl (sym is ∙ edge)
 
+-- a file that is not taken in has no status of a close
+unstaged_never : (f : StageFault) → closes (status_of_declined (Unstaged f)) ≡ false
+unstaged_never stage.Disk = refl
+unstaged_never stage.Library = refl
+unstaged_never (stage.Missing file) = refl
+unstaged_never (stage.TooLarge file bytes) = refl
+unstaged_never (stage.Mismatch file digest) = refl
+unstaged_never stage.NoMemory = refl
+
+no_unstaged : (f : StageFault) (o : Outcome) (status : Status) → (status ≡ status_of_declined (Unstaged f)) ⊎ (status ≡ statuses.Memory) ⊎ (status ≡ statuses.Edge) → status ≡ status_of_outcome o → ⊥
+no_unstaged f o status (inl given) is = no_outcome o (status_of_declined (Unstaged f)) (unstaged_never f) (sym is ∙ given)
+no_unstaged f o status (inr (inl given)) is = no_outcome o statuses.Memory refl (sym is ∙ given)
+no_unstaged f o status (inr (inr given)) is = no_outcome o statuses.Edge refl (sym is ∙ given)
+
 -- a call with another status
-pub never_closes : (tells : Bool) (entries : Image → List (List ℕ) → Type 0) (d : Device) (status s : Status) (image : Image) → closes s ≡ false → IsOrEdge status s → LeavesNoStray tells entries d status image
-never_closes tells entries d status s image never answers told o is e there changed = absurd (no_close o status s never answers is)
+pub never_closes : (tells : Bool) (entries : Image → List (List ℕ) → Type 0) (status s : Status) (image : Image) → closes s ≡ false → IsOrEdge status s → LeavesNoStray tells entries status image
+never_closes tells entries status s image never answers told o is e there = absurd (no_close o status s never answers is)
 
 module _ {D J : Type 0} {tells : Bool} {seen : D → Image} {may_leave : D → Image → Type 0} {moment : D → ℕ} {left_since : D → ℕ → Image → Type 0}
     (laws : DiskLaws tells seen may_leave moment left_since)
@@ -50,9 +69,16 @@ module _ {D J : Type 0} {tells : Bool} {seen : D → Image} {may_leave : D → I
   same_now : (disk : D) (d e : Device) → ((c : Image) → may_leave disk c → StandsFor entries c d) → IsTrue tells → StandsFor entries (seen disk) e → e ≡ d
   same_now disk d e each told there = same_device_for journal (seen disk) e d there (each (seen disk) (laws.reads disk told))
 
-  -- no deployment closed
-  pub none_closes : (disk : D) (d : Device) (status : Status) → ((c : Image) → may_leave disk c → StandsFor entries c d) → LeavesNoStray tells entries d status (seen disk)
-  none_closes disk d status each told o is e there changed = absurd (changed (ap (λ (x : Device). x.closed) (same_now disk d e each told there)))
+  -- nothing was done, and no stray file was there
+  pub none_closes : (disk : D) (d : Device) (status : Status) → ((c : Image) → may_leave disk c → StandsFor entries c d) → (IsTrue tells → IsSwept (items_of d) (seen disk)) → LeavesNoStray tells entries status (seen disk)
+  none_closes disk d status each clean told o is e there = subst (λ (z : Device). IsSwept (items_of z) (seen disk)) (sym (same_now disk d e each told there)) (clean told)
+
+  -- a document was not taken: with the status of a close it is refused, and no file was touched
+  pub declined_sweeps : (old new : D) (d : Device) (why : Declined) (status : Status) → (status ≡ status_of_declined why) ⊎ (status ≡ statuses.Memory) ⊎ (status ≡ statuses.Edge)
+      → (IsRefused (Err why) → new ≡ old) → ((c : Image) → may_leave new c → StandsFor entries c d) → (IsTrue tells → IsSwept (items_of d) (seen old)) → LeavesNoStray tells entries status (seen new)
+  declined_sweeps old new d (Refused r) status answers same each clean told o is e there =
+      none_closes new d status each (λ now. subst (λ (z : D). IsSwept (items_of d) (seen z)) (sym (same tt)) (clean now)) told o is e there
+  declined_sweeps old new d (Unstaged f) status answers same each clean told o is e there = absurd (no_unstaged f o status answers is)
 
   driven_in : (x : Driven J) (disk : D) → InDriven tells may_leave stands end x disk → (log : J) × IsInHand tells may_leave stands end log disk (driven_device x)
   driven_in (driven.Closed s o) disk hand = (s.log, hand.0)
@@ -60,13 +86,13 @@ module _ {D J : Type 0} {tells : Bool} {seen : D → Image} {may_leave : D → I
   driven_in (driven.Reboot s) disk hand = loaded_hand tells may_leave stands end s disk hand
 
   -- a deployment was driven, and files are swept behind it
-  pub driven_sweeps : LieElsewhere files → (r : Result (Driven J) Over) (to new : D) (d : Device) (status : Status) → IfOk r (λ x. InDriven tells may_leave stands end x to)
+  pub driven_sweeps : LieElsewhere files → (r : Result (Driven J) Over) (to new : D) (status : Status) → IfOk r (λ x. InDriven tells may_leave stands end x to)
       → Spared may_leave moment left_since to new → AnswersFor r status → (IsTrue tells → IfOk r (λ x. (o : Outcome) → status ≡ status_of_outcome o → IsSwept (items_of (driven_device x)) (seen new)))
-      → LeavesNoStray tells entries d status (seen new)
-  driven_sweeps apart (Ok x) to new d status held spared answers swept told o is e there changed =
+      → LeavesNoStray tells entries status (seen new)
+  driven_sweeps apart (Ok x) to new status held spared answers swept told o is e there =
       let hand = driven_in x to held in
       let left = driven_device x in
       let same = same_now new left e (λ c may. in_hand_stands laws journal hand.0 new left (hand_stays laws journal apart hand.0 left to new spared hand.1) c may) told there in
       subst (λ (z : Device). IsSwept (items_of z) (seen new)) (sym same) (swept told o is)
-  driven_sweeps apart (Err over.Disk) to new d status held spared answers swept told o is e there changed = absurd (no_close o status statuses.Disk refl answers is)
-  driven_sweeps apart (Err over.Edge) to new d status held spared answers swept told o is e there changed = absurd (no_outcome o statuses.Edge refl (sym is ∙ answers))
+  driven_sweeps apart (Err over.Disk) to new status held spared answers swept told o is e there = absurd (no_close o status statuses.Disk refl answers is)
+  driven_sweeps apart (Err over.Edge) to new status held spared answers swept told o is e there = absurd (no_outcome o statuses.Edge refl (sym is ∙ answers))

@@ -1,6 +1,7 @@
 //! A pending deployment is driven on.
 ghost use Rattle.std.specs.Prelude.{◌≡◌, ◌≢◌, ◌⊎◌, ◌≤◌, [], ℕ, List, false, None, IsSome, IsTrue, IfOk, is_some, map};
 ghost use Rattle.artifact_store.specs.Holding.{AllHoldDevice};
+ghost use Rattle.artifact_store.specs.Swept.{IsSwept, items_of};
 ghost use Rattle.nuc_base.specs.Faults.{Rose};
 ghost use Rattle.nuc_base.specs.declared.status.Status.TheVariants as statuses;
 ghost use Rattle.device.specs.Devices.{IsRegularDevice, device_view};
@@ -92,7 +93,8 @@ where
     ensures quiet_disk { result ≢ statuses.Disk → result ≢ statuses.Edge → D.faults disk.new ≡ D.faults disk.old }
     ensures quiet_sink { result ≢ statuses.Edge → K.faults sink.new ≡ K.faults sink.old }
     ensures later { Stays (D.faults disk.old) (D.faults disk.new) × Stays (K.faults sink.old) (K.faults sink.new) }
-    ensures swept { LeavesNoStray D.tells J.entries (loaded_device state) result (D.seen disk.new) }
+    // No stray file is left where none was there at the start.
+    ensures swept { (IsTrue D.tells → IsSwept (items_of (loaded_device state)) (D.seen disk.old)) → LeavesNoStray D.tells J.entries result (D.seen disk.new) }
 {
     if let Loaded::Idle(_) = &state {
         return say(sink, &["idle\n"], Status::Done);

@@ -1,6 +1,7 @@
 //! A document is deployed.
 ghost use Rattle.std.specs.Prelude.{◌≡◌, ◌≢◌, ◌⊎◌, ◌≤◌, [], ℕ, List, false, None, Some, IsSome, IsTrue, IfOk, Result, map};
 ghost use Rattle.artifact_store.specs.Holding.{AllHoldDevice};
+ghost use Rattle.artifact_store.specs.Swept.{IsSwept, items_of};
 ghost use Rattle.nuc_base.specs.Faults.{Rose};
 ghost use Rattle.nuc_base.specs.declared.status.Status.TheVariants as statuses;
 ghost use Rattle.records.specs.Stored as stored;
@@ -102,7 +103,7 @@ where
     ensures quiet_disk { result ≢ statuses.Disk → result ≢ statuses.Edge → D.faults disk.new ≡ D.faults disk.old }
     ensures quiet_sink { result ≢ statuses.Edge → K.faults sink.new ≡ K.faults sink.old }
     ensures later { Stays (D.faults disk.old) (D.faults disk.new) × Stays (K.faults sink.old) (K.faults sink.new) }
-    ensures swept { LeavesNoStray D.tells J.entries (idle_device idle) result (D.seen disk.new) }
+    ensures swept { LeavesNoStray D.tells J.entries result (D.seen disk.new) }
 {
     match accept_plan(alloc, idle, plan, disk, sink) {
         Ok(Taken::Accepted(state)) => {
@@ -150,7 +151,8 @@ where
     ensures quiet_disk { result ≢ statuses.Disk → result ≢ statuses.Edge → D.faults disk.new ≡ D.faults disk.old }
     ensures quiet_sink { result ≢ statuses.Edge → K.faults sink.new ≡ K.faults sink.old }
     ensures later { Stays (D.faults disk.old) (D.faults disk.new) × Stays (K.faults sink.old) (K.faults sink.new) }
-    ensures swept { LeavesNoStray D.tells J.entries (idle_device idle) result (D.seen disk.new) }
+    // No stray file is left where none was there at the start.
+    ensures swept { (IsTrue D.tells → IsSwept (items_of (idle_device idle)) (D.seen disk.old)) → LeavesNoStray D.tells J.entries result (D.seen disk.new) }
     ensures library { result ≡ statuses.Library → Rose (L.faults library.old) (L.faults library.new) }
     ensures kept { L.content library.new ≡ L.content library.old }
     ensures library_quiet { result ≢ statuses.Library → result ≢ statuses.Edge → L.faults library.new ≡ L.faults library.old }
@@ -199,7 +201,8 @@ where
     ensures quiet_disk { result ≢ statuses.Disk → result ≢ statuses.Edge → D.faults disk.new ≡ D.faults disk.old }
     ensures quiet_sink { result ≢ statuses.Edge → K.faults sink.new ≡ K.faults sink.old }
     ensures later { Stays (D.faults disk.old) (D.faults disk.new) × Stays (K.faults sink.old) (K.faults sink.new) }
-    ensures swept { LeavesNoStray D.tells J.entries (idle_device idle) result (D.seen disk.new) }
+    // No stray file is left where none was there at the start.
+    ensures swept { (IsTrue D.tells → IsSwept (items_of (idle_device idle)) (D.seen disk.old)) → LeavesNoStray D.tells J.entries result (D.seen disk.new) }
     ensures library { result ≡ statuses.Library → Rose (L.faults library.old) (L.faults library.new) }
     ensures kept { L.content library.new ≡ L.content library.old }
     ensures library_quiet { result ≢ statuses.Library → result ≢ statuses.Edge → L.faults library.new ≡ L.faults library.old }

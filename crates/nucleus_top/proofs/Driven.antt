@@ -240,17 +240,17 @@ tells printed result a is (inr told) = record {
 }
 
 -- its status is that of no close
-module _ (tells : Bool) (d : Device) (printed : Printed) (result : Status) (image : Image) where
+module _ (tells : Bool) (printed : Printed) (result : Status) (image : Image) where
   told_or_edge : (a : Answer) → Told printed result a → IsOrEdge result (status_of a)
   told_or_edge a (inl told) = inl told.0
   told_or_edge a (inr told) = inr told.0
 
-  pub told_sweeps : (a : Answer) → IsFirst a ⊎ IsPending a → Told printed result a → LeavesNoStray tells slots_entries d result image
-  told_sweeps DiskFailed is told = never_closes tells slots_entries d result status.Disk image refl (told_or_edge DiskFailed told)
-  told_sweeps NotInitialised is told = never_closes tells slots_entries d result status.NotInitialised image refl (told_or_edge NotInitialised told)
-  told_sweeps (Damaged place) is told = never_closes tells slots_entries d result status.Damaged image refl (told_or_edge (Damaged place) told)
-  told_sweeps (Pending id) is told = never_closes tells slots_entries d result status.PendingStands image refl (told_or_edge (Pending id) told)
-  told_sweeps NoMemory is told = never_closes tells slots_entries d result status.Memory image refl (told_or_edge NoMemory told)
+  pub told_sweeps : (a : Answer) → IsFirst a ⊎ IsPending a → Told printed result a → LeavesNoStray tells slots_entries result image
+  told_sweeps DiskFailed is told = never_closes tells slots_entries result status.Disk image refl (told_or_edge DiskFailed told)
+  told_sweeps NotInitialised is told = never_closes tells slots_entries result status.NotInitialised image refl (told_or_edge NotInitialised told)
+  told_sweeps (Damaged place) is told = never_closes tells slots_entries result status.Damaged image refl (told_or_edge (Damaged place) told)
+  told_sweeps (Pending id) is told = never_closes tells slots_entries result status.PendingStands image refl (told_or_edge (Pending id) told)
+  told_sweeps NoMemory is told = never_closes tells slots_entries result status.Memory image refl (told_or_edge NoMemory told)
   told_sweeps a (inl is) told = absurd is
   told_sweeps a (inr is) told = absurd is
 
@@ -589,5 +589,5 @@ module _ (words : List (List ℕ)) (store : Store) (input : Input) (library : Sh
     library_failed = λ is. cc;
     library_stays = λ other more. shelf;
     others = λ told name apart outside. ap (λ (i : Image). i name) same;
-    swept = λ d there. never_closes store.tells slots_entries d status.Memory status.Memory store.after refl (inl refl);
+    swept = never_closes store.tells slots_entries status.Memory status.Memory store.after refl (inl refl);
   }

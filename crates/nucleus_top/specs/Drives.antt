@@ -212,7 +212,7 @@ pub record PendingParts (store : Store) (input : Input) (printed : Printed) (res
 
 -- 5, 6 and 7 come only where the count of the disk, of the source or the sink, or of the library rose, and the counts stay
 -- where they do not come. No file is changed but the journal's two and those of artifacts, and no stray file of an artifact is
--- left behind the close of a deployment.
+-- left with the status of a close, also where it is answered for a repeated id or for want of a pending deployment.
 pub record DriveParts (store : Store) (input : Input) (library : Shelf) (printed : Printed) (result : Status) : Type 0 where
   pub disk : result ≡ status.Disk → HasRisen store
   pub disk_stays : result ≢ status.Disk → result ≢ status.Edge → store.faults_after ≡ store.faults_before
@@ -221,4 +221,4 @@ pub record DriveParts (store : Store) (input : Input) (library : Shelf) (printed
   pub library_failed : result ≡ status.Library → Rose library.faults_before library.faults_after
   pub library_stays : result ≢ status.Library → result ≢ status.Edge → library.faults_after ≡ library.faults_before
   pub others : IsTrue store.tells → Elsewhere slots_files store.before store.after
-  pub swept : (d : Device) → Stands store.before d → LeavesNoStray store.tells slots_entries d result store.after
+  pub swept : LeavesNoStray store.tells slots_entries result store.after

@@ -1,6 +1,7 @@
 // The commands that drive a deployment: `deploy` and `resume`.
 ghost use Rattle.std.specs.Prelude.{◌≡◌, ◌≢◌, ◌⊎◌, ◌≤◌, [], IsTrue, IfOk, IfErr, IsErrOf};
 ghost use Rattle.artifact_store.specs.Holding.{AllHoldDevice, HoldsDevice};
+ghost use Rattle.artifact_store.specs.Swept.{IsSwept, items_of};
 ghost use Rattle.disk_model.specs.Disk.{Leaves};
 ghost use Rattle.nuc_base.specs.Faults.{Rose};
 ghost use Rattle.nuc_base.specs.declared.status.Status.TheVariants as statuses;
@@ -47,6 +48,7 @@ fn swept<T: HasDevice + Drop, D: Disk>(alloc: Global, state: T, disk: &mut D) ->
     ensures kept { IfOk result (λ s. s ≡ state) }
     ensures spared { Spared D.may_leave D.moment D.left_since disk.old disk.new }
     ensures safe { AllHoldDevice (D.may_leave disk.old) (T.stands_for state) → Leaves D.moment D.left_since disk.old disk.new (λ c. HoldsDevice c (T.stands_for state)) }
+    ensures clean { IsTrue D.tells → IfOk result (λ s. IsSwept (items_of (T.stands_for s)) (D.seen disk.new)) }
     ensures others { IsTrue D.tells → Elsewhere slots_files (D.seen disk.old) (D.seen disk.new) }
     ensures disk { IsErrOf result Answer.DiskFailed → Rose (D.faults disk.old) (D.faults disk.new) }
     ensures quiet { ¬ (IsErrOf result Answer.DiskFailed) → D.faults disk.new ≡ D.faults disk.old }
@@ -68,6 +70,7 @@ fn open_swept<D: Disk>(alloc: Global, disk: &mut D) -> Result<Loaded<Slots>, Ans
     ensures whole { KeepsSameWhole D.may_leave D.moment D.left_since D.seen disk.old disk.new }
     ensures ends { ¬ (IsErrOf result Answer.DiskFailed) → KeepsJournal D.may_leave D.seen disk.old disk.new }
     ensures spared { Spared D.may_leave D.moment D.left_since disk.old disk.new }
+    ensures clean { IsTrue D.tells → IfOk result (λ s. IsSwept (items_of (loaded_device s)) (D.seen disk.new)) }
     ensures others { IsTrue D.tells → Elsewhere slots_files (D.seen disk.old) (D.seen disk.new) }
     ensures disk { IsErrOf result Answer.DiskFailed → Rose (D.faults disk.old) (D.faults disk.new) }
     ensures quiet { ¬ (IsErrOf result Answer.DiskFailed) → D.faults disk.new ≡ D.faults disk.old }
@@ -114,6 +117,7 @@ fn open_idle<D: Disk>(alloc: Global, disk: &mut D) -> Result<Idle<Slots>, Answer
     ensures whole { KeepsSameWhole D.may_leave D.moment D.left_since D.seen disk.old disk.new }
     ensures ends { ¬ (IsErrOf result Answer.DiskFailed) → KeepsJournal D.may_leave D.seen disk.old disk.new }
     ensures spared { Spared D.may_leave D.moment D.left_since disk.old disk.new }
+    ensures clean { IsTrue D.tells → IfOk result (λ s. IsSwept (items_of (idle_device s)) (D.seen disk.new)) }
     ensures others { IsTrue D.tells → Elsewhere slots_files (D.seen disk.old) (D.seen disk.new) }
     ensures disk { IsErrOf result Answer.DiskFailed → Rose (D.faults disk.old) (D.faults disk.new) }
     ensures quiet { ¬ (IsErrOf result Answer.DiskFailed) → D.faults disk.new ≡ D.faults disk.old }
@@ -161,7 +165,8 @@ fn deploy_document<D: Disk, L: Library, K: Sink, R: Runner>(
     ensures library_quiet { result ≢ statuses.Library → result ≢ statuses.Edge → L.faults library.new ≡ L.faults library.old }
     ensures library_later { L.faults library.old ≤ L.faults library.new }
     ensures kept { L.content library.new ≡ L.content library.old }
-    ensures swept { LeavesNoStray D.tells slots_entries (idle_device idle) result (D.seen disk.new) }
+    // No stray file is left where none was there at the start.
+    ensures swept { (IsTrue D.tells → IsSwept (items_of (idle_device idle)) (D.seen disk.old)) → LeavesNoStray D.tells slots_entries result (D.seen disk.new) }
 {
     // The journal does not lie among the files of artifacts, and a plan that is taken in is met.
     needed_files_stay();
@@ -204,7 +209,8 @@ fn deploy_read<D: Disk, L: Library, S: Source, K: Sink, R: Runner>(
     ensures library_quiet { result ≢ statuses.Library → result ≢ statuses.Edge → L.faults library.new ≡ L.faults library.old }
     ensures library_later { L.faults library.old ≤ L.faults library.new }
     ensures kept { L.content library.new ≡ L.content library.old }
-    ensures swept { LeavesNoStray D.tells slots_entries (idle_device idle) result (D.seen disk.new) }
+    // No stray file is left where none was there at the start.
+    ensures swept { (IsTrue D.tells → IsSwept (items_of (idle_device idle)) (D.seen disk.old)) → LeavesNoStray D.tells slots_entries result (D.seen disk.new) }
     ensures edge { result ≡ statuses.Edge → Rose (S.faults source.old) (S.faults source.new) ⊎ Rose (K.faults sink.old) (K.faults sink.new) }
     ensures quiet_source { result ≢ statuses.Edge → S.faults source.new ≡ S.faults source.old }
     ensures source_later { S.faults source.old ≤ S.faults source.new }
@@ -241,7 +247,7 @@ pub(crate) fn deploy<D: Disk, L: Library, S: Source, K: Sink, R: Runner>(
     ensures library_quiet { result ≢ statuses.Library → result ≢ statuses.Edge → L.faults library.new ≡ L.faults library.old }
     ensures library_later { L.faults library.old ≤ L.faults library.new }
     ensures kept { L.content library.new ≡ L.content library.old }
-    ensures swept { (d : Device) → Stands (D.seen disk.old) d → LeavesNoStray D.tells slots_entries d result (D.seen disk.new) }
+    ensures swept { LeavesNoStray D.tells slots_entries result (D.seen disk.new) }
     ensures edge { result ≡ statuses.Edge → Rose (S.faults source.old) (S.faults source.new) ⊎ Rose (K.faults sink.old) (K.faults sink.new) }
     ensures quiet_source { result ≢ statuses.Edge → S.faults source.new ≡ S.faults source.old }
     ensures source_later { S.faults source.old ≤ S.faults source.new }
@@ -271,7 +277,7 @@ pub(crate) fn resume<D: Disk, K: Sink, R: Runner>(
     ensures quiet_disk { result ≢ statuses.Disk → result ≢ statuses.Edge → D.faults disk.new ≡ D.faults disk.old }
     ensures quiet_sink { result ≢ statuses.Edge → K.faults sink.new ≡ K.faults sink.old }
     ensures later { Stays (D.faults disk.old) (D.faults disk.new) × Stays (K.faults sink.old) (K.faults sink.new) }
-    ensures swept { (d : Device) → Stands (D.seen disk.old) d → LeavesNoStray D.tells slots_entries d result (D.seen disk.new) }
+    ensures swept { LeavesNoStray D.tells slots_entries result (D.seen disk.new) }
 {
     match open_swept(alloc, disk) {
         Ok(state) => {

@@ -241,7 +241,7 @@ returns-in-Idle-clause-swept g c =
     (loaded_stands g.met.D.Disk.laws g.met.J.Journal.laws c.args.state c.args.disk.now c.requires.held (loaded_device c.args.state) refl)
 
 pub returns-in_default-ready_again-clause-swept : goal.returns-in_default-ready_again-clause-swept
-returns-in_default-ready_again-clause-swept g c = never_closes g.D.Disk.tells g.J.Journal.entries (loaded_device c.args.state) statuses.Memory statuses.Memory (g.D.Disk.seen c.args.disk.now) refl (inl refl)
+returns-in_default-ready_again-clause-swept g c = λ clean. never_closes g.D.Disk.tells g.J.Journal.entries statuses.Memory statuses.Memory (g.D.Disk.seen c.args.disk.now) refl (inl refl)
 
 pub returns-in_default-say_resumed-clause-swept : goal.returns-in_default-say_resumed-clause-swept
 returns-in_default-say_resumed-clause-swept g c =
@@ -249,6 +249,6 @@ returns-in_default-say_resumed-clause-swept g c =
     (loaded_stands g.met.D.Disk.laws g.met.J.Journal.laws c.args.state c.args.disk.now c.requires.held (loaded_device c.args.state) refl)
 
 pub returns-in-Done-clause-swept : goal.returns-in-Done-clause-swept
-returns-in-Done-clause-swept g c =
-    driven_sweeps g.met.D.Disk.laws g.met.J.Journal.laws c.requires.apart c.drive-driven.result c.drive-driven.new.disk c.end_call.new.disk (loaded_device c.args.state) c.end_call.result
+returns-in-Done-clause-swept g c = λ clean.
+    driven_sweeps g.met.D.Disk.laws g.met.J.Journal.laws c.requires.apart c.drive-driven.result c.drive-driven.new.disk c.end_call.new.disk c.end_call.result
     c.drive-driven.ensures.held c.end_call.ensures.spared c.end_call.ensures.answers c.end_call.ensures.swept

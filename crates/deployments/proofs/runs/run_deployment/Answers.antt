@@ -21,7 +21,7 @@ use Rattle.deployments.proofs.Holding.{taken_both, taken_whole}
 use Rattle.deployments.proofs.Places.{open_none, open_shut}
 use Rattle.deployments.proofs.Printing.{starved_prints}
 use Rattle.deployments.proofs.Statuses.{declined_disk, declined_library, disk_declined, library_declined, told_is, told_said}
-use Rattle.deployments.proofs.Sweeping.{never_closes, none_closes}
+use Rattle.deployments.proofs.Sweeping.{declined_sweeps, never_closes}
 use Rattle.deployments.proofs.runs.run_deployment.Goals as goal
 
 -- ---- the document is not taken
@@ -179,11 +179,11 @@ returns-in-Err-ready_for-clause-later g c = (
 pub returns-in-Err-clause-swept : goal.returns-in-Err-clause-swept
 returns-in-Err-clause-swept g c =
     let d = idle_device c.args.idle in
-    none_closes g.met.D.Disk.laws g.met.J.Journal.laws c.take_in.new.disk d c.say_declined.result
+    declined_sweeps g.met.D.Disk.laws g.met.J.Journal.laws c.args.disk.now c.take_in.new.disk d c.in-Err.declined c.say_declined.result c.say_declined.ensures.answers c.in-Err.ensures.untouched
     (λ i left. in_hand_stands g.met.D.Disk.laws g.met.J.Journal.laws c.args.idle.log c.take_in.new.disk d c.take_in.ensures.held.0 i left)
 
 pub returns-in-Ok-ready_for-clause-swept : goal.returns-in-Ok-ready_for-clause-swept
-returns-in-Ok-ready_for-clause-swept g c = c.run_plan.ensures.swept
+returns-in-Ok-ready_for-clause-swept g c = λ clean. c.run_plan.ensures.swept
 
 pub returns-in-Err-ready_for-clause-swept : goal.returns-in-Err-ready_for-clause-swept
-returns-in-Err-ready_for-clause-swept g c = never_closes g.D.Disk.tells g.J.Journal.entries (idle_device c.args.idle) statuses.Memory statuses.Memory (g.D.Disk.seen c.take_in.new.disk) refl (inl refl)
+returns-in-Err-ready_for-clause-swept g c = λ clean. never_closes g.D.Disk.tells g.J.Journal.entries statuses.Memory statuses.Memory (g.D.Disk.seen c.take_in.new.disk) refl (inl refl)

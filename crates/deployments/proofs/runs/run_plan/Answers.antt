@@ -288,19 +288,19 @@ returns-clause-none g c =
 
 pub returns-in-Ok-Accepted-clause-swept : goal.returns-in-Ok-Accepted-clause-swept
 returns-in-Ok-Accepted-clause-swept g c =
-    driven_sweeps g.met.D.Disk.laws g.met.J.Journal.laws c.requires.apart c.boot-driven.result c.boot-driven.new.disk c.end_call.new.disk (idle_device c.args.idle) c.end_call.result
+    driven_sweeps g.met.D.Disk.laws g.met.J.Journal.laws c.requires.apart c.boot-driven.result c.boot-driven.new.disk c.end_call.new.disk c.end_call.result
     c.boot-driven.ensures.held c.end_call.ensures.spared c.end_call.ensures.answers c.end_call.ensures.swept
 
 pub returns-in-Ok-Full-clause-swept : goal.returns-in-Ok-Full-clause-swept
 returns-in-Ok-Full-clause-swept g c =
-    never_closes g.D.Disk.tells g.J.Journal.entries (idle_device c.args.idle) c.say_full.result statuses.Limit (g.D.Disk.seen c.accept_plan.new.disk) refl c.say_full.ensures.answers
+    never_closes g.D.Disk.tells g.J.Journal.entries c.say_full.result statuses.Limit (g.D.Disk.seen c.accept_plan.new.disk) refl c.say_full.ensures.answers
 
 pub returns-in-Ok-NoMemory-clause-swept : goal.returns-in-Ok-NoMemory-clause-swept
-returns-in-Ok-NoMemory-clause-swept g c = never_closes g.D.Disk.tells g.J.Journal.entries (idle_device c.args.idle) statuses.Memory statuses.Memory (g.D.Disk.seen c.accept_plan.new.disk) refl (inl refl)
+returns-in-Ok-NoMemory-clause-swept g c = never_closes g.D.Disk.tells g.J.Journal.entries statuses.Memory statuses.Memory (g.D.Disk.seen c.accept_plan.new.disk) refl (inl refl)
 
 pub returns-in-Err-Disk-clause-swept : goal.returns-in-Err-Disk-clause-swept
 returns-in-Err-Disk-clause-swept g c =
-    never_closes g.D.Disk.tells g.J.Journal.entries (idle_device c.args.idle) c.say_disk.result statuses.Disk (g.D.Disk.seen c.accept_plan.new.disk) refl c.say_disk.ensures.answers
+    never_closes g.D.Disk.tells g.J.Journal.entries c.say_disk.result statuses.Disk (g.D.Disk.seen c.accept_plan.new.disk) refl c.say_disk.ensures.answers
 
 pub returns-clause-swept : goal.returns-clause-swept
-returns-clause-swept g c = never_closes g.D.Disk.tells g.J.Journal.entries (idle_device c.args.idle) statuses.Edge statuses.Edge (g.D.Disk.seen c.accept_plan.new.disk) refl (inl refl)
+returns-clause-swept g c = never_closes g.D.Disk.tells g.J.Journal.entries statuses.Edge statuses.Edge (g.D.Disk.seen c.accept_plan.new.disk) refl (inl refl)

@@ -1,14 +1,10 @@
-use Rattle.std.proofs.Common.{◌≡◌, ◌∙◌, inl, inr, refl, ap, arith, subst}
+use Rattle.std.proofs.Common.{◌≡◌, ◌∙◌, inl, inr, refl, ap, arith}
 use Rattle.std.specs.Prelude.{Err}
 use Rattle.nuc_base.specs.Faults.{Rose}
-use Rattle.checkpoint_log.specs.Slots.{slots_entries}
-use Rattle.device.specs.Devices.{Device}
 use Rattle.deploy_state.specs.States.{idle_device}
-use Rattle.deployments.specs.Sweeping.{LeavesNoStray}
 use Rattle.nucleus_top.specs.Answers.{Input, Printed, Shelf, Store, input_of, printed_of, shelf_of, store_of}
 use Rattle.nucleus_top.specs.Drives.{slots_start}
 use Rattle.nucleus_top.proofs.Driven.{idle_refusal, idle_turns, ran_on, stays, stays_on, tells, told_sweeps}
-use Rattle.nucleus_top.proofs.Standing.{same_device}
 use Rattle.nucleus_top.proofs.driving.deploy.Goals as goal
 
 -- ---- no deployment is pending
@@ -118,12 +114,10 @@ returns-in-Err-clause-later g c =
 -- ---- no stray file is left behind a close
 
 pub returns-in-Ok-clause-swept : goal.returns-in-Ok-clause-swept
-returns-in-Ok-clause-swept g c = λ d there told.
-    subst (λ (e : Device). LeavesNoStray g.D.Disk.tells slots_entries e c.deploy_read.result (g.D.Disk.seen c.deploy_read.new.disk))
-    (same_device (g.D.Disk.seen c.args.disk.now) (idle_device c.in-Ok.idle) d (c.in-Ok.ensures.opened told).1 there) c.deploy_read.ensures.swept told
+returns-in-Ok-clause-swept g c = c.deploy_read.ensures.swept c.in-Ok.ensures.clean
 
 pub returns-in-Err-clause-swept : goal.returns-in-Err-clause-swept
-returns-in-Err-clause-swept g c = λ d there.
+returns-in-Err-clause-swept g c =
     let printed : Printed = printed_of g.K.Sink.held g.K.Sink.faults c.args.sink.now c.tell.new.sink in
-    told_sweeps g.D.Disk.tells d printed c.tell.result (g.D.Disk.seen c.open_idle.new.disk) c.in-Err.answer
+    told_sweeps g.D.Disk.tells printed c.tell.result (g.D.Disk.seen c.open_idle.new.disk) c.in-Err.answer
     (idle_refusal (store_of g.D.Disk.tells g.D.Disk.seen g.D.Disk.faults c.args.disk.now c.open_idle.new.disk) c.in-Err.answer c.in-Err.ensures.answers) c.tell.ensures.told

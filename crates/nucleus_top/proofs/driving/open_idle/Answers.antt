@@ -1,5 +1,6 @@
 use Rattle.std.proofs.Common.{◌≡◌, ap}
 use Rattle.std.specs.Prelude.{Err}
+use Rattle.artifact_store.specs.Swept.{IsSwept, items_of}
 use Rattle.checkpoint_log.specs.Slots.{slots_stands}
 use Rattle.checkpoint_log.specs.declared.slots.Slots.{Slots}
 use Rattle.deploy_state.specs.States.{InLoaded, idle_device, loaded_device}
@@ -41,6 +42,10 @@ returns-in-Ok-clause-spared g c = c.open_swept.ensures.spared
 
 pub returns-in-Ok-clause-others : goal.returns-in-Ok-clause-others
 returns-in-Ok-clause-others g c = c.open_swept.ensures.others
+
+pub returns-in-Ok-clause-clean : goal.returns-in-Ok-clause-clean
+returns-in-Ok-clause-clean g c = λ told.
+    idle_ok (λ (s : Loaded Slots). IsSwept (items_of (loaded_device s)) (g.D.Disk.seen c.open_swept.new.disk)) (λ (s : Idle Slots). loaded.Idle s) c.in-Ok.state c.idle_of.result c.idle_of.ensures.idle (c.in-Ok.ensures.clean told)
 
 pub returns-in-Ok-clause-disk : goal.returns-in-Ok-clause-disk
 returns-in-Ok-clause-disk g c = λ is. absurd (pending_no_disk (loaded_device c.in-Ok.state) c.idle_of.result c.idle_of.ensures.answers is)

@@ -58,6 +58,9 @@ returns-in-Ok-clause-spared g c =
 pub returns-in-Ok-clause-others : goal.returns-in-Ok-clause-others
 returns-in-Ok-clause-others g c = λ told name apart outside. c.swept.ensures.others told name apart outside ∙ ap (λ (i : Image). i name) c.open.ensures.seen
 
+pub returns-in-Ok-clause-clean : goal.returns-in-Ok-clause-clean
+returns-in-Ok-clause-clean g c = c.swept.ensures.clean
+
 pub returns-in-Ok-clause-disk : goal.returns-in-Ok-clause-disk
 returns-in-Ok-clause-disk g c = λ is.
     let rose : Rose (g.D.Disk.faults c.args.disk.now) (g.D.Disk.faults c.swept.new.disk) = omega (arith, c.swept.ensures.disk is, c.open.ensures.later) in rose

@@ -1,10 +1,7 @@
-use Rattle.std.proofs.Common.{◌∙◌, inl, inr, refl, ap, arith, subst}
+use Rattle.std.proofs.Common.{◌∙◌, inl, inr, refl, ap, arith}
 use Rattle.std.specs.Prelude.{Err}
 use Rattle.nuc_base.specs.Faults.{Rose}
-use Rattle.checkpoint_log.specs.Slots.{slots_entries}
-use Rattle.device.specs.Devices.{Device}
 use Rattle.deploy_state.specs.States.{loaded_device}
-use Rattle.deployments.specs.Sweeping.{LeavesNoStray}
 use Rattle.step_runner.specs.Entries.{Listed}
 use Rattle.supervisor.specs.World.{World}
 use Rattle.session.specs.Happenings.{records_of}
@@ -12,7 +9,6 @@ use Rattle.session.specs.Places.{left_by}
 use Rattle.nucleus_top.specs.Answers.{Printed, printed_of, store_of}
 use Rattle.nucleus_top.proofs.Crashes.{kept_fronts, loaded_sound, loaded_stands, same_fronts}
 use Rattle.nucleus_top.proofs.Driven.{begun, front_begun, resumed_on, slots_elsewhere, stays, stays_on, tells, told_sweeps, withheld_first}
-use Rattle.nucleus_top.proofs.Standing.{same_device}
 use Rattle.nucleus_top.proofs.Meeting.{brought_stay_met, resumed_brings}
 use Rattle.nucleus_top.proofs.Whole.{held_whole}
 use Rattle.nucleus_top.proofs.driving.resume.Goals as goal
@@ -143,12 +139,10 @@ returns-in-Err-clause-later g c =
 -- ---- no stray file is left behind a close
 
 pub returns-in-Ok-clause-swept : goal.returns-in-Ok-clause-swept
-returns-in-Ok-clause-swept g c = λ d there told.
-    subst (λ (e : Device). LeavesNoStray g.D.Disk.tells slots_entries e c.resume.result (g.D.Disk.seen c.resume.new.disk))
-    (same_device (g.D.Disk.seen c.args.disk.now) (loaded_device c.in-Ok.state) d (c.in-Ok.ensures.opened told).1 there) c.resume.ensures.swept told
+returns-in-Ok-clause-swept g c = c.resume.ensures.swept c.in-Ok.ensures.clean
 
 pub returns-in-Err-clause-swept : goal.returns-in-Err-clause-swept
-returns-in-Err-clause-swept g c = λ d there.
+returns-in-Err-clause-swept g c =
     let printed : Printed = printed_of g.K.Sink.held g.K.Sink.faults c.args.sink.now c.tell.new.sink in
-    told_sweeps g.D.Disk.tells d printed c.tell.result (g.D.Disk.seen c.open_swept.new.disk) c.in-Err.answer
+    told_sweeps g.D.Disk.tells printed c.tell.result (g.D.Disk.seen c.open_swept.new.disk) c.in-Err.answer
     (inl (withheld_first (store_of g.D.Disk.tells g.D.Disk.seen g.D.Disk.faults c.args.disk.now c.open_swept.new.disk) c.in-Err.answer c.in-Err.ensures.answers)) c.tell.ensures.told

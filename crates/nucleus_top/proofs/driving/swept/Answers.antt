@@ -4,7 +4,7 @@ use Rattle.disk_model.specs.Disk.{Leaves}
 use Rattle.disk_model.specs.Listing.{artifacts, IsBelow}
 use Rattle.device.specs.Devices.{Device, device_view}
 use Rattle.artifact_store.specs.Holding.{AllHoldDevice, HoldsDevice}
-use Rattle.artifact_store.specs.Swept.{items_of, IsStray}
+use Rattle.artifact_store.specs.Swept.{items_of, IsStray, IsSwept}
 use Rattle.artifact_store.proofs.Walking.{wider_spares}
 use Rattle.nucleus_top.proofs.Driven.{disk_swept, swept_disk, swept_unswept}
 use Rattle.nucleus_top.proofs.driving.swept.Goals as goal
@@ -19,6 +19,9 @@ returns-in-Ok-clause-safe g c =
 
 pub returns-in-Ok-clause-others : goal.returns-in-Ok-clause-others
 returns-in-Ok-clause-others g c = λ told name apart outside. c.sweep.ensures.others told name (λ is. outside is.0)
+
+pub returns-in-Ok-clause-clean : goal.returns-in-Ok-clause-clean
+returns-in-Ok-clause-clean g c = λ told. subst (λ (d : Device). IsSwept (items_of d) (g.D.Disk.seen c.sweep.new.disk)) c.stored.ensures (c.in-Ok.ensures.swept told)
 
 pub returns-in-Ok-clause-quiet : goal.returns-in-Ok-clause-quiet
 returns-in-Ok-clause-quiet g c = λ other. c.in-Ok.ensures.quiet (λ is. cc)
