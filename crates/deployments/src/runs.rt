@@ -19,7 +19,7 @@ ghost use Rattle.deployment_doc.specs.Sound.{AreSound};
 ghost use Rattle.step_runner.specs.Entries.{Listed};
 ghost use Rattle.session.specs.Places.{Place};
 ghost use Rattle.acceptance.specs.Accepts.{IsOpen};
-ghost use Rattle.intake.specs.Takes.{LieElsewhere, TakesIn};
+ghost use Rattle.intake.specs.Takes.{HasDiskFailed, HasLibraryFailed, LieElsewhere, TakesIn};
 ghost use Rattle.intake.specs.declared.fault.Declined.{Declined};
 ghost use Rattle.deployments.specs.Calls.{AllHoldBoth, Elsewhere, IsReadiedOn, Stays};
 ghost use Rattle.deployments.specs.Documents.{DrivesPlan, DrivesTaken, KeepsArtifacts, TakesRead};
@@ -138,12 +138,15 @@ where
     requires empty { (S.world supervisor.old).parts ≡ [] }
     requires placed { (p : Place) × IsOpen p (idle_device idle) (S.world supervisor.old) (Listed R.list R.told R.asked runner.old) (R.living runner.old) × (p.serves ≡ false) }
     // Where the images at the start have the artifacts that are needed, so has each of each moment. The call ends as one whose
-    // disk failed only where the disk's count rose.
+    // disk failed only where the disk's count rose, and its document is declined for the disk or for the library only where the
+    // count of that rose.
     ensures call { (p : Place) → IsOpen p (idle_device idle) (S.world supervisor.old) (Listed R.list R.told R.asked runner.old) (R.living runner.old) → (p.serves ≡ false) →
         (taken : Result code.Plan Declined) × ((o : Origin) → (idle_device idle).origin ≡ Some o → TakesIn (idle_device idle) o (L.content library.old) (L.faults library.old) (L.faults library.new) document.now taken)
         × (t : DrivesTaken J.entries J.files D.may_leave D.moment D.left_since disk.old disk.new (R.list runner.old) (R.list runner.new) (K.held sink.old) (K.held sink.new) p result (start_of J.end J.number J.turns (idle_log idle) (idle_device idle)) taken)
         × (AllHoldDevice (D.may_leave disk.old) p.device → KeepsArtifacts J.entries J.files D.may_leave D.moment D.left_since disk.old disk.new (R.list runner.old) (R.list runner.new) (K.held sink.old) (K.held sink.new) p result t.0)
-        × (t.0.ending ≡ Fails → Rose (D.faults disk.old) (D.faults disk.new)) }
+        × (t.0.ending ≡ Fails → Rose (D.faults disk.old) (D.faults disk.new))
+        × (HasDiskFailed taken → Rose (D.faults disk.old) (D.faults disk.new))
+        × (HasLibraryFailed taken → Rose (L.faults library.old) (L.faults library.new)) }
     ensures none { R.living runner.new ≡ [] }
     ensures others { IsTrue D.tells → Elsewhere J.files (D.seen disk.old) (D.seen disk.new) }
     ensures disk { result ≡ statuses.Disk → Rose (D.faults disk.old) (D.faults disk.new) }
@@ -188,12 +191,15 @@ where
     requires empty { (S.world supervisor.old).parts ≡ [] }
     requires placed { (p : Place) × IsOpen p (idle_device idle) (S.world supervisor.old) (Listed R.list R.told R.asked runner.old) (R.living runner.old) × (p.serves ≡ false) }
     // Where the images at the start have the artifacts that are needed, so has each of each moment. The call ends as one whose
-    // disk failed only where the disk's count rose.
+    // disk failed only where the disk's count rose, and its document is declined for the disk or for the library only where the
+    // count of that rose.
     ensures call { (p : Place) → IsOpen p (idle_device idle) (S.world supervisor.old) (Listed R.list R.told R.asked runner.old) (R.living runner.old) → (p.serves ≡ false) →
         (taken : Result code.Plan Declined) × ((o : Origin) → (idle_device idle).origin ≡ Some o → TakesRead (idle_device idle) o (L.content library.old) (L.faults library.old) (L.faults library.new) document.now taken)
         × (t : DrivesTaken J.entries J.files D.may_leave D.moment D.left_since disk.old disk.new (R.list runner.old) (R.list runner.new) (K.held sink.old) (K.held sink.new) p result (start_of J.end J.number J.turns (idle_log idle) (idle_device idle)) taken)
         × (AllHoldDevice (D.may_leave disk.old) p.device → KeepsArtifacts J.entries J.files D.may_leave D.moment D.left_since disk.old disk.new (R.list runner.old) (R.list runner.new) (K.held sink.old) (K.held sink.new) p result t.0)
-        × (t.0.ending ≡ Fails → Rose (D.faults disk.old) (D.faults disk.new)) }
+        × (t.0.ending ≡ Fails → Rose (D.faults disk.old) (D.faults disk.new))
+        × (HasDiskFailed taken → Rose (D.faults disk.old) (D.faults disk.new))
+        × (HasLibraryFailed taken → Rose (L.faults library.old) (L.faults library.new)) }
     ensures none { R.living runner.new ≡ [] }
     ensures others { IsTrue D.tells → Elsewhere J.files (D.seen disk.old) (D.seen disk.new) }
     ensures disk { result ≡ statuses.Disk → Rose (D.faults disk.old) (D.faults disk.new) }

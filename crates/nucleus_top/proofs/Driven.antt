@@ -381,6 +381,8 @@ module _ {D : Type 0} (may_leave : D → Image → Type 0) (moment : D → ℕ) 
           call = h.call;
           history = h.history;
           failed = h.failed;
+          disk_cause = h.disk_cause;
+          library_cause = h.library_cause;
           images = h.images;
           whole = h.whole;
           met = h.met;
@@ -499,6 +501,8 @@ module _ {D : Type 0} {tells : Bool} {seen : D → Image} {may_leave : D → Ima
       call = taken_on old mid new first old_list new_list printed.before printed.after result h.place start h.taken h.call;
       history = h.history;
       failed = λ fails. rose_behind (faults old) (faults mid) (faults new) later (h.failed fails);
+      disk_cause = λ failed. rose_behind (faults old) (faults mid) (faults new) later (h.disk_cause failed);
+      library_cause = h.library_cause;
       images = fronts_on laws old mid new d (records_of h.call.0.history) images h.images;
       whole = whole_on laws old mid new d (records_of h.call.0.history) stands whole h.whole;
       met = h.met;

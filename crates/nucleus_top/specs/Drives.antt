@@ -22,6 +22,7 @@ use Rattle.step_runner.specs.declared.entries.RunnerEntry.{RunnerEntry}
 use Rattle.session.specs.Happenings.{records_of}
 use Rattle.session.specs.Places.{Place}
 use Rattle.history_laws.specs.Stood.{IsHistory}
+use Rattle.intake.specs.Takes.{HasDiskFailed, HasLibraryFailed}
 use Rattle.intake.specs.declared.fault.Declined.{Declined}
 use Rattle.deployments.specs.Calls.{Call, Elsewhere, IsPendingAs, Spared}
 use Rattle.deployments.specs.Documents.{DrivesTaken, TakesRead}
@@ -154,8 +155,11 @@ module _ {D : Type 0} (may_leave : D → Image → Type 0) (moment : D → ℕ) 
     pub takes : TakesRead d origin library.content library.faults_before library.faults_after bytes taken
     pub call : DrivesTaken slots_entries slots_files may_leave moment left_since old new old_list new_list printed.before printed.after place result start taken
     pub history : IsHistory place call.0.history
-    -- it ends as one whose disk failed only where the disk's count rose
+    -- it ends as one whose disk failed only where the disk's count rose, and its document is declined for the disk or for the
+    -- library only where the count of that rose
     pub failed : call.0.ending ≡ Fails → Rose (faults old) (faults new)
+    pub disk_cause : HasDiskFailed taken → Rose (faults old) (faults new)
+    pub library_cause : HasLibraryFailed taken → Rose library.faults_before library.faults_after
     pub images : LeavesFronts may_leave moment left_since old new d (records_of call.0.history)
     pub whole : KeepsWhole may_leave moment left_since old new d (records_of call.0.history)
     -- what meets its groups and its items does at each record

@@ -41,6 +41,8 @@ returns-in-Err-clause-call g c = λ p opens serves.
       t.0,
       (λ holds. taken_whole g.met.D.Disk.laws g.J.Journal.files g.J.Journal.entries c.requires.apart g.met.J.Journal.laws c.args.idle.log c.args.disk.now c.take_in.new.disk d p opens.stands.device_is c.requires.held.0 c.take_in.ensures.moments c.take_in.ensures.safe holds (records_of t.0.0.history)),
       (λ fails. absurd (t.2 fails)),
+      c.in-Err.ensures.disk_cause,
+      c.in-Err.ensures.library_cause,
     )
 
 pub returns-in-Err-clause-none : goal.returns-in-Err-clause-none
@@ -101,6 +103,8 @@ returns-in-Ok-ready_for-clause-call g c = λ p opens serves.
       t.0,
       t.1,
       t.2,
+      (λ failed. absurd failed),
+      (λ failed. absurd failed),
     )
 
 pub returns-in-Ok-ready_for-clause-others : goal.returns-in-Ok-ready_for-clause-others
@@ -151,6 +155,8 @@ returns-in-Err-ready_for-clause-call g c = λ p opens serves.
       ),
       (λ holds. taken_whole g.met.D.Disk.laws g.J.Journal.files g.J.Journal.entries c.requires.apart g.met.J.Journal.laws c.args.idle.log c.args.disk.now c.take_in.new.disk d p opens.stands.device_is c.requires.held.0 c.take_in.ensures.moments c.take_in.ensures.safe holds []),
       (λ fails. absurd (fed_fails fails)),
+      (λ failed. absurd failed),
+      (λ failed. absurd failed),
     )
 
 pub returns-in-Err-ready_for-clause-none : goal.returns-in-Err-ready_for-clause-none

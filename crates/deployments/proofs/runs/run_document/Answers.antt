@@ -22,7 +22,7 @@ use Rattle.deployments.proofs.Ending.{declined_called, still_whole}
 use Rattle.deployments.proofs.Taken.{unread_taken}
 use Rattle.deployments.proofs.Faults.{stays_later}
 use Rattle.deployments.proofs.Places.{open_none, open_shut}
-use Rattle.deployments.proofs.Statuses.{refusal_never, unread_never}
+use Rattle.deployments.proofs.Statuses.{refusal_never, unread_library, unread_never}
 use Rattle.deployments.proofs.Sweeping.{none_closes}
 use Rattle.deployments.proofs.runs.run_document.Goals as goal
 
@@ -43,6 +43,8 @@ returns-in-Err-clause-call g c = λ p opens serves.
       t.0,
       (λ holds. subst (λ (l : List Record). Leaves g.D.Disk.moment g.D.Disk.left_since c.args.disk.now c.args.disk.now (StandsWhole g.J.Journal.entries p.device l)) (sym t.1) (still_whole g.J.Journal.entries g.J.Journal.files g.met.D.Disk.laws c.args.disk.now p stands holds)),
       (λ fails. absurd (t.2 fails)),
+      (λ failed. absurd failed),
+      (λ failed. absurd (unread_library c.in-Err.fault (ap status_of_refusal failed))),
     )
 
 pub returns-in-Ok-clause-call : goal.returns-in-Ok-clause-call
@@ -53,6 +55,8 @@ returns-in-Ok-clause-call g c = λ p opens serves.
       t.2,
       t.3,
       t.4,
+      t.5,
+      t.6,
     )
 
 pub returns-in-Err-clause-none : goal.returns-in-Err-clause-none

@@ -47,6 +47,8 @@ returns-clause-driven g c =
       call = run.2;
       history = record { start = refl; proper = run.2.0.went.proper; run = run.2.0.went.run };
       failed = run.4;
+      disk_cause = run.5;
+      library_cause = run.6;
       images = kept_fronts g.met.D.Disk.laws (slots_elsewhere c.needed_files_stay.ensures.journals) c.args.disk.now c.run_document.new.disk
           (g.R.Runner.list c.args.runner.now) (g.R.Runner.list c.run_document.new.runner) (g.K.Sink.held c.args.sink.now) (g.K.Sink.held c.run_document.new.sink) place c.run_document.result
           (held_stands g.met.D.Disk.laws c.args.idle.log c.args.disk.now d c.requires.held.0) run.2.0;
