@@ -1,5 +1,5 @@
 -- Calls one after another over one store, and what a crash leaves of the last.
-use Rattle.std.specs.Prelude.{◌≡◌, ◌⊎◌, ℕ, List, [], ◌∷◌, ◌++◌, ⊤}
+use Rattle.std.specs.Prelude.{◌≡◌, ◌⊎◌, ◌≤◌, ℕ, Bool, true, false, IsTrue, List, [], ◌∷◌, ◌++◌, length, ⊤}
 use Rattle.std.specs.List.{AllByRecursion}
 use Rattle.disk_model.specs.Disk.{Image, Leaves}
 use Rattle.checkpoint_log.specs.Slots.{slots_entries}
@@ -9,37 +9,56 @@ use Rattle.device.specs.After.{After, course}
 use Rattle.device.specs.Devices.{Device, no_device}
 use Rattle.device.specs.Lawful.{Run}
 use Rattle.device.specs.Met.{Met}
-use Rattle.driver.specs.Went.{StandsForFront}
+use Rattle.driver.specs.Went.{StandsForMost}
 use Rattle.nucleus_top.specs.Begun.{Begins}
-use Rattle.nucleus_top.specs.Crashes.{AllowedOrFront, LeavesFronts, LeavesSame}
+use Rattle.nucleus_top.specs.Crashes.{AllowedOrFront, KeepsJournal, LeavesFronts, LeavesSame}
 use Rattle.nucleus_top.specs.Lasting.{LosesNothing}
 use Rattle.nucleus_top.specs.Meeting.{StayMet}
 use Rattle.nucleus_top.specs.Opening.{Stands}
 
--- one call: the device for which the journal stood when it began, and the records that it kept
+-- one call: the device for which the journal stood when it began, the records that it kept, and whether it came to its end
 pub record Made : Type 0 where
   pub device : Device
   pub records : List Record
+  pub ended : Bool
+
+-- the call with this device and these records, at some moment, or at its end
+abbrev pub stopped : Device → List Record → Made
+stopped d records = record { device = d; records = records; ended = false }
+
+abbrev pub finished : Device → List Record → Made
+finished d records = record { device = d; records = records; ended = true }
 
 -- the call with this device that keeps no record
 abbrev pub keeps_none : Device → Made
-keeps_none d = record { device = d; records = [] }
+keeps_none d = finished d []
+
+-- What such a call may leave, where these images were there before it. At its end each image stands for the device of all its
+-- records, or of all but the last. Inside it is one of those, or stands for what a front of the records makes.
+abbrev pub LeftAs : Bool → (Image → Type 0) → Device → List Record → Image → Type 0
+LeftAs true before d records = StandsForMost slots_entries d records
+LeftAs false before d records = AllowedOrFront before d records
 
 -- What a crash inside the last of these calls, or its end, may leave. The last one stands first, and before all of them the
 -- journal stands for d: for no device where it holds no entry.
 abbrev pub LeftBy : Device → List Made → Image → Type 0
 LeftBy d [] = λ image. Stands image d
-LeftBy d (c ∷ before) = AllowedOrFront (LeftBy d before) c.device c.records
+LeftBy d (c ∷ before) = LeftAs c.ended (LeftBy d before) c.device c.records
 
 -- each call began with an image that may have been left by the one before it
 abbrev pub Follow : Device → List Made → Type 0
 Follow d [] = ⊤
 Follow d (c ∷ before) = Follow d before × ((image : Image) × LeftBy d before image × Stands image c.device)
 
--- the records kept so far: of each call a front
+-- a front of the records of a call, with the rest: where it came to its end, at most the last one is missing
+pub record IsFrontOf (c : Made) (front rest : List Record) : Type 0 where
+  pub split : c.records ≡ front ++ rest
+  pub few : IsTrue c.ended → length rest ≤ 1
+
+-- the records kept so far: such a front of each call
 abbrev pub AreKept : List Made → List Record → Type 0
 AreKept [] records = records ≡ []
-AreKept (c ∷ before) records = (earlier front rest : List Record) × AreKept before earlier × (c.records ≡ front ++ rest) × (records ≡ earlier ++ front)
+AreKept (c ∷ before) records = (earlier front rest : List Record) × AreKept before earlier × IsFrontOf c front rest × (records ≡ earlier ++ front)
 
 -- devices stay met along the records of each call
 abbrev pub AllStayMet : List Made → Type 0
@@ -62,9 +81,9 @@ pub record IsReached (d : Device) (calls : List Made) (image : Image) : Type 0 w
 abbrev pub CallsReach : Type 0
 CallsReach = (d : Device) (calls : List Made) (image : Image) → Follow d calls → LeftBy d calls image → IsReached d calls image
 
--- `init` begins where there is no device, and leaves what a front of the first record makes of none
+-- `init` begins where there is no device, and at each moment leaves that or what the first record makes of it, as at its end
 abbrev pub InitsBegin : Type 0
-InitsBegin = (o : Origin) (old new : Image) → Begins o old new → Stands old no_device × StandsForFront slots_entries no_device (Genesis o ∷ []) new
+InitsBegin = (o : Origin) (old new : Image) → Begins o old new → Stands old no_device × StandsForMost slots_entries no_device (Genesis o ∷ []) new
 
 -- a call that leaves the device as it is keeps no record
 abbrev pub OthersGoOn : Type 0
@@ -94,9 +113,21 @@ module _ {D : Type 0} (may_leave : D → Image → Type 0) (moment : D → ℕ) 
   -- What a call that drives a deployment says of its images makes it one more of these calls, with the records that it keeps.
   abbrev pub DrivesGoOn : Type 0
   DrivesGoOn = (d e : Device) (before : List Made) (records : List Record) (old new : D) → BeginsBehind may_leave d before e old → LeavesFronts may_leave moment left_since old new e records
-      → Follow d (record { device = e; records = records } ∷ before) × Leaves moment left_since old new (LeftBy d (record { device = e; records = records } ∷ before))
+      → Follow d (stopped e records ∷ before) × Leaves moment left_since old new (LeftBy d (stopped e records ∷ before))
 
   -- and what one that is turned away says of them, one that keeps no record
   abbrev pub TurnedGoOn : (D → Image) → Type 0
   TurnedGoOn seen = (d : Device) (before : List Made) (old new : D) → Follow d before → AreLeftBy may_leave d before old → LeavesSame may_leave moment left_since seen old new
       → Leaves moment left_since old new (IsLeftOn d before (seen old))
+
+module _ {D : Type 0} (may_leave : D → Image → Type 0) where
+  -- What a call that drives a deployment says of the images at its end makes it one that came to its end.
+  abbrev pub DrivesEnd : Type 0
+  DrivesEnd = (d e : Device) (before : List Made) (records : List Record) (old new : D) → BeginsBehind may_leave d before e old
+      → ((c : Image) → may_leave new c → StandsForMost slots_entries e records c)
+      → Follow d (finished e records ∷ before) × AreLeftBy may_leave d (finished e records ∷ before) new
+
+  -- So does what one that is turned away says of what the journal says then: with the device for which it stood as it read.
+  abbrev pub TurnedEnd : Bool → (D → Image) → Type 0
+  TurnedEnd tells seen = (d e : Device) (before : List Made) (old new : D) → IsTrue tells → Follow d before → AreLeftBy may_leave d before old → Stands (seen old) e
+      → KeepsJournal may_leave seen old new → Follow d (keeps_none e ∷ before) × AreLeftBy may_leave d (keeps_none e ∷ before) new

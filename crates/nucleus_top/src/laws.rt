@@ -3,7 +3,7 @@ ghost use Rattle.device.specs.Met.{Met};
 ghost use Rattle.nucleus_top.specs.Lasting.{RunsCloseMore, RunsLoseNothing, RunsTake};
 ghost use Rattle.nucleus_top.specs.Meeting.{BroughtStayMet};
 ghost use Rattle.nucleus_top.specs.Opening.{AreFound};
-ghost use Rattle.nucleus_top.specs.Series.{CallsReach, DrivesGoOn, InitsBegin, OthersGoOn, TurnedGoOn};
+ghost use Rattle.nucleus_top.specs.Series.{CallsReach, DrivesEnd, DrivesGoOn, InitsBegin, OthersGoOn, TurnedEnd, TurnedGoOn};
 
 use disk_model::Disk;
 
@@ -16,7 +16,8 @@ pub fn nothing_is_lost()
 {}
 
 /// However calls are stopped, each image that they leave stands for the device that the records kept so far make of the one
-/// at their start, where each call begins with an image that a crash inside the call before it, or its end, may have left.
+/// at their start, where each call begins with an image that a crash inside the call before it, or its end, may have left: of
+/// a call that came to its end these are all its records, or all but the last, and of one that was stopped some front.
 /// Its set, groups and closed list are those that the closed deployments give in order, and no deployment is lost that was
 /// accepted before. It is met where the one at the start is and devices stay so along each call, as they do along the records
 /// of `init` and of calls that bring no plan or one that is met. The calls of `deploy` and `resume` are such calls
@@ -34,8 +35,11 @@ pub fn calls_run_on()
 
 /// What is said of the images of `deploy` and `resume` makes them such calls as `calls_run_on` takes: behind calls that may
 /// have left each image at their start, a call that drives a deployment is one more, which begins with the device for which
-/// one of these images stands and keeps its records, and one that is turned away keeps none. It does nothing.
+/// one of these images stands and keeps its records, and one that is turned away keeps none. So is each that came to its end,
+/// by what it says of the images that a crash may leave then. It does nothing.
 pub fn calls_go_on<D: Disk>()
     ensures drives { DrivesGoOn D.may_leave D.moment D.left_since }
     ensures turned { TurnedGoOn D.may_leave D.moment D.left_since D.seen }
+    ensures drives_end { DrivesEnd D.may_leave }
+    ensures turned_end { TurnedEnd D.may_leave D.tells D.seen }
 {}

@@ -1,4 +1,4 @@
-use Rattle.nucleus_top.proofs.Series.{drives_go_on, turned_go_on}
+use Rattle.nucleus_top.proofs.Series.{drives_end, drives_go_on, turned_end, turned_go_on}
 use Rattle.nucleus_top.proofs.laws.calls_go_on.Goals as goal
 
 pub returns-clause-drives : goal.returns-clause-drives
@@ -6,3 +6,9 @@ returns-clause-drives g c = drives_go_on g.met.D.Disk.laws
 
 pub returns-clause-turned : goal.returns-clause-turned
 returns-clause-turned g c = turned_go_on g.met.D.Disk.laws
+
+pub returns-clause-drives_end : goal.returns-clause-drives_end
+returns-clause-drives_end g c = drives_end g.met.D.Disk.laws
+
+pub returns-clause-turned_end : goal.returns-clause-turned_end
+returns-clause-turned_end g c = turned_end g.met.D.Disk.laws
