@@ -541,6 +541,7 @@ module _ {D : Type 0} {tells : Bool} {seen : D → Image} {may_leave : D → Ima
       images = subst (λ (x : D). LeavesSame may_leave moment left_since seen old x) (sym away.0.same) images;
       whole = subst (λ (x : D). KeepsSameWhole may_leave moment left_since seen old x) (sym away.0.same) whole;
       ends = inr (λ other. subst (λ (x : D). KeepsJournal may_leave seen old x) (sym away.0.same) ends);
+      reads = inl (subst (λ (x : D). KeepsJournal may_leave seen old x) (sym away.0.same) ends);
     },
     away.1,
   )

@@ -1,5 +1,5 @@
 -- What a crash leaves of a call that drives a deployment, at each of its moments.
-use Rattle.std.specs.Prelude.{◌⊎◌, ℕ, List}
+use Rattle.std.specs.Prelude.{◌≡◌, ◌⊎◌, ℕ, List}
 use Rattle.disk_model.specs.Disk.{Image, Leaves}
 use Rattle.checkpoint_log.specs.Slots.{slots_entries, slots_none}
 use Rattle.records.specs.Stored.{Record}
@@ -62,3 +62,7 @@ module _ {D : Type 0} (may_leave : D → Image → Type 0) (moment : D → ℕ) 
 -- each image that a crash may leave then says what the journal said as it read at the start
 abbrev pub KeepsJournal : {D : Type 0} → (D → Image → Type 0) → (D → Image) → D → D → Type 0
 KeepsJournal may_leave seen old new = (c : Image) → may_leave new c → SaysSame (seen old) c
+
+-- so it is, or every file reads as it did
+abbrev pub KeepsOrReads : {D : Type 0} → (D → Image → Type 0) → (D → Image) → D → D → Type 0
+KeepsOrReads may_leave seen old new = KeepsJournal may_leave seen old new ⊎ (seen new ≡ seen old)

@@ -29,7 +29,7 @@ use Rattle.deployments.specs.Documents.{DrivesTaken, TakesRead}
 use Rattle.deployments.specs.Endings.{Fails, Resumes}
 use Rattle.deployments.specs.Sweeping.{LeavesNoStray}
 use Rattle.nucleus_top.specs.Answers.{Expects, HasRisen, Input, IsReadUpTo, Printed, Prints, Shelf, Store, Told, damaged_line, none_line, pending_line}
-use Rattle.nucleus_top.specs.Crashes.{KeepsJournal, KeepsSameWhole, KeepsWhole, LeavesFronts, LeavesSame}
+use Rattle.nucleus_top.specs.Crashes.{KeepsJournal, KeepsOrReads, KeepsSameWhole, KeepsWhole, LeavesFronts, LeavesSame}
 use Rattle.nucleus_top.specs.Inits.{IsRefusedAt}
 use Rattle.nucleus_top.specs.Lasting.{Lasts}
 use Rattle.nucleus_top.specs.Meeting.{StayMet}
@@ -108,7 +108,7 @@ pub record IsUnread {D : Type 0} (old new : D) (input : Input) (printed : Printe
 module _ {D : Type 0} (seen : D → Image) (may_leave : D → Image → Type 0) (moment : D → ℕ) (left_since : D → ℕ → Image → Type 0) where
   -- A call is refused before anything of a deployment begins, for this reason: the answer is told, and at most files of
   -- artifacts change. A crash leaves the device that there was. At the end the disk is as it was, or the journal says what it
-  -- said, where the disk did not fail.
+  -- said, where the disk did not fail; and where it failed, the journal does so or every file reads as it did.
   pub record IsTurnedAway (why_so : Answer → Type 0) (old new : D) (printed : Printed) (result : Status) : Type 0 where
     pub answer : Answer
     pub why : why_so answer
@@ -117,6 +117,7 @@ module _ {D : Type 0} (seen : D → Image) (may_leave : D → Image → Type 0) 
     pub images : LeavesSame may_leave moment left_since seen old new
     pub whole : KeepsSameWhole may_leave moment left_since seen old new
     pub ends : (new ≡ old) ⊎ (answer ≢ DiskFailed → KeepsJournal may_leave seen old new)
+    pub reads : KeepsOrReads may_leave seen old new
 
 -- ---- `deploy`
 

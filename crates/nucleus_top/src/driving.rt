@@ -14,7 +14,7 @@ ghost use Rattle.deployments.specs.Sweeping.{LeavesNoStray};
 ghost use Rattle.checkpoint_log.specs.declared.slots.Slots.{Slots as Journal};
 ghost use Rattle.deploy_state.specs.declared.state.Idle as idles;
 ghost use Rattle.nucleus_top.specs.Answers.{input_of, printed_of, shelf_of, store_of};
-ghost use Rattle.nucleus_top.specs.Crashes.{KeepsJournal, KeepsSameWhole, LeavesSame};
+ghost use Rattle.nucleus_top.specs.Crashes.{KeepsJournal, KeepsOrReads, KeepsSameWhole, LeavesSame};
 ghost use Rattle.nucleus_top.specs.Opening.{HasEntry, Stands};
 ghost use Rattle.nucleus_top.specs.Drives.{DeploysOn, IsDeployed, IsDeployedOn, IsResumed, IsTurnedAway, IsUnread, IsUnswept, NamesPendingOf, StartsFrom, TellsSweep, TellsUnread, TurnsAway, Withholds, WithholdsIdle, slots_start};
 
@@ -69,6 +69,7 @@ fn open_swept<D: Disk>(alloc: Global, disk: &mut D) -> Result<Loaded<Slots>, Ans
     ensures images { LeavesSame D.may_leave D.moment D.left_since D.seen disk.old disk.new }
     ensures whole { KeepsSameWhole D.may_leave D.moment D.left_since D.seen disk.old disk.new }
     ensures ends { ¬ (IsErrOf result Answer.DiskFailed) → KeepsJournal D.may_leave D.seen disk.old disk.new }
+    ensures reads { KeepsOrReads D.may_leave D.seen disk.old disk.new }
     ensures spared { Spared D.may_leave D.moment D.left_since disk.old disk.new }
     ensures clean { IsTrue D.tells → IfOk result (λ s. IsSwept (items_of (loaded_device s)) (D.seen disk.new)) }
     ensures others { IsTrue D.tells → Elsewhere slots_files (D.seen disk.old) (D.seen disk.new) }
@@ -116,6 +117,7 @@ fn open_idle<D: Disk>(alloc: Global, disk: &mut D) -> Result<Idle<Slots>, Answer
     ensures images { LeavesSame D.may_leave D.moment D.left_since D.seen disk.old disk.new }
     ensures whole { KeepsSameWhole D.may_leave D.moment D.left_since D.seen disk.old disk.new }
     ensures ends { ¬ (IsErrOf result Answer.DiskFailed) → KeepsJournal D.may_leave D.seen disk.old disk.new }
+    ensures reads { KeepsOrReads D.may_leave D.seen disk.old disk.new }
     ensures spared { Spared D.may_leave D.moment D.left_since disk.old disk.new }
     ensures clean { IsTrue D.tells → IfOk result (λ s. IsSwept (items_of (idle_device s)) (D.seen disk.new)) }
     ensures others { IsTrue D.tells → Elsewhere slots_files (D.seen disk.old) (D.seen disk.new) }

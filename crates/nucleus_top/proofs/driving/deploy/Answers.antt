@@ -75,6 +75,7 @@ returns-in-Err-clause-ran g c =
         images = c.open_idle.ensures.images;
         whole = c.open_idle.ensures.whole;
         ends = inr (λ other. c.in-Err.ensures.ends (λ is. other (cc)));
+        reads = c.open_idle.ensures.reads;
       },
       refl {a = c.args.runner.now},
     )

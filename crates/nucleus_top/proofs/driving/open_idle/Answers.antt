@@ -37,6 +37,9 @@ returns-in-Ok-clause-whole g c = c.open_swept.ensures.whole
 pub returns-in-Ok-clause-ends : goal.returns-in-Ok-clause-ends
 returns-in-Ok-clause-ends g c = λ other. c.in-Ok.ensures.ends (λ is. cc)
 
+pub returns-in-Ok-clause-reads : goal.returns-in-Ok-clause-reads
+returns-in-Ok-clause-reads g c = c.open_swept.ensures.reads
+
 pub returns-in-Ok-clause-spared : goal.returns-in-Ok-clause-spared
 returns-in-Ok-clause-spared g c = c.open_swept.ensures.spared
 
@@ -66,6 +69,9 @@ returns-in-Err-clause-whole g c = c.open_swept.ensures.whole
 
 pub returns-in-Err-clause-ends : goal.returns-in-Err-clause-ends
 returns-in-Err-clause-ends g c = λ other. c.in-Err.ensures.ends (λ is. other (ap Err (let same : c.in-Err.answer ≡ DiskFailed = cc in same)))
+
+pub returns-in-Err-clause-reads : goal.returns-in-Err-clause-reads
+returns-in-Err-clause-reads g c = c.open_swept.ensures.reads
 
 pub returns-in-Err-clause-spared : goal.returns-in-Err-clause-spared
 returns-in-Err-clause-spared g c = c.open_swept.ensures.spared

@@ -1,4 +1,4 @@
-use Rattle.std.proofs.Common.{◌≡◌, ◌∙◌, ap, arith, subst, sym}
+use Rattle.std.proofs.Common.{◌≡◌, ◌∙◌, inl, inr, ap, arith, subst, sym}
 use Rattle.std.specs.Prelude.{Err}
 use Rattle.nuc_base.specs.Faults.{Rose}
 use Rattle.disk_model.specs.Disk.{Image}
@@ -51,6 +51,11 @@ returns-in-Ok-clause-ends g c = λ other.
     opened_says g.met.D.Disk.laws (slots_elsewhere c.needed_files_stay.ensures.journals) c.args.disk.now c.open.new.disk c.swept.new.disk
     c.open.ensures.seen (c.in-Ok.ensures.settled (λ is. cc)) c.swept.ensures.spared
 
+pub returns-in-Ok-clause-reads : goal.returns-in-Ok-clause-reads
+returns-in-Ok-clause-reads g c =
+    inl (opened_says g.met.D.Disk.laws (slots_elsewhere c.needed_files_stay.ensures.journals) c.args.disk.now c.open.new.disk c.swept.new.disk
+    c.open.ensures.seen (c.in-Ok.ensures.settled (λ is. cc)) c.swept.ensures.spared)
+
 pub returns-in-Ok-clause-spared : goal.returns-in-Ok-clause-spared
 returns-in-Ok-clause-spared g c =
     then_spared g.met.D.Disk.laws c.args.disk.now c.open.new.disk c.swept.new.disk (same_spared g.met.D.Disk.laws c.args.disk.now c.open.new.disk c.open.ensures.moments) c.swept.ensures.spared
@@ -79,6 +84,9 @@ returns-in-Err-clause-ends g c = λ other.
     opened_says g.met.D.Disk.laws (slots_elsewhere c.needed_files_stay.ensures.journals) c.args.disk.now c.open.new.disk c.open.new.disk
     c.open.ensures.seen (c.in-Err.ensures.settled (λ is. other_fault c.in-Err.fault c.refused.result c.refused.ensures (λ same. other (ap Err same)) (cc)))
     (start_spared g.met.D.Disk.laws c.open.new.disk)
+
+pub returns-in-Err-clause-reads : goal.returns-in-Err-clause-reads
+returns-in-Err-clause-reads g c = inr c.open.ensures.seen
 
 pub returns-in-Err-clause-spared : goal.returns-in-Err-clause-spared
 returns-in-Err-clause-spared g c = same_spared g.met.D.Disk.laws c.args.disk.now c.open.new.disk c.open.ensures.moments

@@ -100,6 +100,7 @@ returns-in-Err-clause-ran g c =
         images = c.open_swept.ensures.images;
         whole = c.open_swept.ensures.whole;
         ends = inr (λ other. c.in-Err.ensures.ends (λ is. other (cc)));
+        reads = c.open_swept.ensures.reads;
       },
       refl {a = c.args.runner.now},
     )

@@ -44,6 +44,7 @@ returns-in-NoMemory-clause-deploys g c = λ root asks. inl (
     images = same_left g.met.D.Disk.laws c.args.disk.now c.args.disk.now (at_start g.met.D.Disk.laws c.args.disk.now);
     whole = same_kept g.met.D.Disk.laws c.args.disk.now c.args.disk.now (at_start g.met.D.Disk.laws c.args.disk.now);
     ends = inl (refl {a = c.args.disk.now});
+    reads = inr (refl {a = g.D.Disk.seen c.args.disk.now});
   },
   refl {a = c.args.runner.now},
 )
@@ -58,6 +59,7 @@ returns-in-NoMemory-clause-resumes g c = λ root asks. inl (
     images = same_left g.met.D.Disk.laws c.args.disk.now c.args.disk.now (at_start g.met.D.Disk.laws c.args.disk.now);
     whole = same_kept g.met.D.Disk.laws c.args.disk.now c.args.disk.now (at_start g.met.D.Disk.laws c.args.disk.now);
     ends = inl (refl {a = c.args.disk.now});
+    reads = inr (refl {a = g.D.Disk.seen c.args.disk.now});
   },
   refl {a = c.args.runner.now},
 )
