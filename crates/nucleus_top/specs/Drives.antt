@@ -39,6 +39,10 @@ use Rattle.nucleus_top.specs.Refusing.{Refuses}
 use Rattle.nucleus_top.specs.declared.answer.Answer.{Answer}
 use Rattle.nucleus_top.specs.declared.answer.Answer.TheVariants.{Damaged, DiskFailed, NoMemory, NotInitialised, Pending, SourceFailed}
 
+-- the words ask to deploy, at some root
+abbrev pub Deploys : List (List ℕ) → Type 0
+Deploys words = (root : List ℕ) × IsOrder words root Deploy
+
 -- the words ask to deploy or to resume, at some root
 abbrev pub Drives : List (List ℕ) → Type 0
 Drives words = (root : List ℕ) × (IsOrder words root Deploy ⊎ IsOrder words root Resume)

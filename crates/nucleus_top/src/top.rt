@@ -5,7 +5,7 @@ ghost use Rattle.command_words.specs.Words.{IsOrder};
 ghost use Rattle.command_words.specs.declared.order.Order.{Order};
 ghost use Rattle.command_words.specs.declared.order.Order.TheVariants as order;
 ghost use Rattle.deployments.specs.Calls.{Stays};
-ghost use Rattle.nucleus_top.specs.Drives.{DriveParts, Drives, IsDeployed, IsResumed, IsTurnedAway, PendingParts, RefusedParts, TurnsAway, Withholds};
+ghost use Rattle.nucleus_top.specs.Drives.{Deploys, DriveParts, Drives, IsDeployed, IsResumed, IsTurnedAway, PendingParts, RefusedParts, TurnsAway, Withholds};
 ghost use Rattle.nucleus_top.specs.Words.{Asks};
 ghost use Rattle.nucleus_top.specs.Answers.{store_of, input_of, shelf_of, printed_of};
 ghost use Rattle.nucleus_top.specs.Leaving.{IsDurable, MayLeave, files_of};
@@ -53,9 +53,9 @@ pub fn nucleus<D: Disk, L: Library, S: Source, K: Sink, R: Runner>(
     ensures parts { (Drives (map string_bytes words.now.items) → ⊥) → Parts (map string_bytes words.now.items) (store_of D.tells D.seen D.faults disk.old disk.new)
         (input_of S.left S.faults source.old source.new) (shelf_of L.content L.faults library.old library.new)
         (printed_of K.held K.faults sink.old sink.new) result }
-    // Beside those that drive, `plan` alone reads from the source and asks the library.
-    ensures unread { (Drives (map string_bytes words.now.items) → ⊥) → (Asks (map string_bytes words.now.items) order.Plan → ⊥) → source.new ≡ source.old }
-    ensures unasked { (Drives (map string_bytes words.now.items) → ⊥) → (Asks (map string_bytes words.now.items) order.Plan → ⊥) → library.new ≡ library.old }
+    // `deploy` and `plan` alone read from the source and ask the library.
+    ensures unread { (Deploys (map string_bytes words.now.items) → ⊥) → (Asks (map string_bytes words.now.items) order.Plan → ⊥) → source.new ≡ source.old }
+    ensures unasked { (Deploys (map string_bytes words.now.items) → ⊥) → (Asks (map string_bytes words.now.items) order.Plan → ⊥) → library.new ≡ library.old }
     ensures library_kept { L.content library.new ≡ L.content library.old }
     // Whenever a crash comes during the call, it leaves an image that the start allowed, or what the command may make of one.
     ensures moments { (Drives (map string_bytes words.now.items) → ⊥) → Leaves D.moment D.left_since disk.old disk.new (MayLeave (map string_bytes words.now.items) (D.may_leave disk.old)) }

@@ -85,13 +85,13 @@ pub returns-in-Deploy-clause-unread : goal.returns-in-Deploy-clause-unread
 returns-in-Deploy-clause-unread g c = λ other.
     let words : List (List ℕ) = map string_bytes c.args.words.now.items in
     let asks : AsksFor words asked.Deploy = c.in-Deploy.ensures in
-    absurd (other (asks.0, inl asks.1))
+    absurd (other asks)
 
 pub returns-in-Deploy-clause-unasked : goal.returns-in-Deploy-clause-unasked
 returns-in-Deploy-clause-unasked g c = λ other.
     let words : List (List ℕ) = map string_bytes c.args.words.now.items in
     let asks : AsksFor words asked.Deploy = c.in-Deploy.ensures in
-    absurd (other (asks.0, inl asks.1))
+    absurd (other asks)
 
 pub returns-in-Deploy-clause-moments : goal.returns-in-Deploy-clause-moments
 returns-in-Deploy-clause-moments g c = λ other.
@@ -160,18 +160,6 @@ returns-in-Deploy-clause-sink_later g c = c.deploy.ensures.later.1
 
 pub returns-in-Resume-clause-parts : goal.returns-in-Resume-clause-parts
 returns-in-Resume-clause-parts g c = λ other.
-    let words : List (List ℕ) = map string_bytes c.args.words.now.items in
-    let asks : AsksFor words asked.Resume = c.in-Resume.ensures in
-    absurd (other (asks.0, inr asks.1))
-
-pub returns-in-Resume-clause-unread : goal.returns-in-Resume-clause-unread
-returns-in-Resume-clause-unread g c = λ other.
-    let words : List (List ℕ) = map string_bytes c.args.words.now.items in
-    let asks : AsksFor words asked.Resume = c.in-Resume.ensures in
-    absurd (other (asks.0, inr asks.1))
-
-pub returns-in-Resume-clause-unasked : goal.returns-in-Resume-clause-unasked
-returns-in-Resume-clause-unasked g c = λ other.
     let words : List (List ℕ) = map string_bytes c.args.words.now.items in
     let asks : AsksFor words asked.Resume = c.in-Resume.ensures in
     absurd (other (asks.0, inr asks.1))
