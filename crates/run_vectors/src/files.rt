@@ -7,12 +7,16 @@ use nuc_base::{Bytes, Label, List, Name};
 use std::alloc::Global;
 use std::test::Fail;
 
-/// A component with one file: without a digest, with the SHA-256 of `abc`, and with that of no bytes (FIPS 180-4).
+/// A component with one file: without a digest, with the SHA-256 of `abc` in both spellings, and with that of no bytes (FIPS
+/// 180-4).
 const PLAIN: &str =
     r#"{"RecipeFormatVersion":"2020-01-25","ComponentName":"com.x","ComponentVersion":"1.0.0","Manifests":[{"Lifecycle":{"run":"s"},"Artifacts":[{"URI":"s3://b/f"}]}]}"#;
 
 const GIVEN: &str =
     r#"{"RecipeFormatVersion":"2020-01-25","ComponentName":"com.x","ComponentVersion":"1.0.0","Manifests":[{"Lifecycle":{"run":"s"},"Artifacts":[{"URI":"s3://b/f","Digest":"ungWv48Bz+pBQUDeXa4iI7ADYaOWF3qctBD/YfIAFa0="}]}]}"#;
+
+const SPELLED: &str =
+    r#"{"RecipeFormatVersion":"2020-01-25","ComponentName":"com.x","ComponentVersion":"1.0.0","Manifests":[{"Lifecycle":{"run":"s"},"Artifacts":[{"URI":"s3://b/f","Digest":"ba7816bf8f01cfea414140de5dae2223b00361a396177a9cb410ff61f20015ad"}]}]}"#;
 
 const OTHER: &str =
     r#"{"RecipeFormatVersion":"2020-01-25","ComponentName":"com.x","ComponentVersion":"1.0.0","Manifests":[{"Lifecycle":{"run":"s"},"Artifacts":[{"URI":"s3://b/f","Digest":"e3b0c44298fc1c149afbf4c8996fb92427ae41e4649b934ca495991b7852b855"}]}]}"#;
@@ -89,6 +93,7 @@ fn files_are_taken_in_by_their_digests(rt: HostRuntime) -> Result<(), Fail> {
     let alloc = rt.alloc();
     assert!(rt; is_row(alloc, PLAIN, true, CLOSED, b"abc", b"abc")?);
     assert!(rt; is_row(alloc, GIVEN, true, CLOSED, b"abc", b"abc")?);
+    assert!(rt; is_row(alloc, SPELLED, true, CLOSED, b"abc", b"abc")?);
     assert!(rt; is_row(alloc, PLAIN, false, MISSING, b"", b"")?);
     // A file that was taken in for a plan that is refused stays until it is swept.
     assert!(rt; is_row(alloc, OTHER, true, MISMATCH, b"abc", b"")?);
