@@ -3,7 +3,7 @@ use npm_ranges::Range;
 use nuc_base::{Label, List, Name, Policy};
 
 /// A component that a deployment requires.
-#[derive(Drop)]
+#[derive(Debug, Drop)]
 pub struct Root {
     pub name: Name,
     pub range: Range,
@@ -12,7 +12,7 @@ pub struct Root {
 }
 
 /// What a deployment asks of a group of devices.
-#[derive(Drop)]
+#[derive(Debug, Drop)]
 pub struct Document {
     /// The deployment's id, or the SHA-256 of the document's bytes where it gives none.
     pub id: Label,

@@ -19,7 +19,7 @@ use records::{Group, Plan};
 use std::alloc::Global;
 
 /// What the steps up to the close of a plan need that takes memory, made beforehand.
-#[derive(Drop)]
+#[derive(Debug, Drop)]
 pub struct Spare {
     /// The closed deployments with the plan's behind them, whose outcome is written at the close.
     pub(crate) closed: Closed,

@@ -198,15 +198,11 @@ fn next_artifact(alloc: Global, earlier: &[Artifact], value: &Tree) -> Result<Ar
         (IsArtifact (view value.now))
         result }
 {
-    match artifact_of(alloc, value) {
-        Ok(artifact) => {
-            if has_name(earlier, &artifact.file) {
-                return Err(RecipeFault::DuplicateArtifact);
-            }
-            Ok(artifact)
-        }
-        Err(fault) => Err(fault),
+    let artifact = artifact_of(alloc, value)?;
+    if has_name(earlier, &artifact.file) {
+        return Err(RecipeFault::DuplicateArtifact);
     }
+    Ok(artifact)
 }
 
 fn artifacts_among(alloc: Global, values: &Vec<Tree>) -> Result<List<Artifact>, RecipeFault>

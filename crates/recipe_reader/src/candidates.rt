@@ -14,7 +14,7 @@ use std::marker::Model;
 use std::mem;
 
 /// Why a candidate was not added. It comes back.
-#[derive(Drop)]
+#[derive(Debug, Drop)]
 pub enum AddRefusal {
     /// One of the same name and version stands there with other bytes.
     Clash(Candidate),
@@ -23,7 +23,7 @@ pub enum AddRefusal {
 
 /// Candidates in the order of their names, and those of one name in the order of their versions. Contracts see them
 /// as that list.
-#[derive(Drop)]
+#[derive(Debug, Drop)]
 pub struct Candidates {
     alloc: Global,
     list: List<Candidate>,

@@ -55,9 +55,8 @@ pub fn chosen_of(alloc: Global, platform: &Platform, recipe: &Tree) -> Result<Ch
         (IsChosen (manifest_of platform.now (view recipe.now)))
         result }
 {
-    match choice(platform, recipe) {
-        Ok(Some(manifest)) => chosen_in(alloc, manifest),
-        Ok(None) => Ok(nothing_chosen(alloc)),
-        Err(fault) => Err(fault),
+    match choice(platform, recipe)? {
+        Some(manifest) => chosen_in(alloc, manifest),
+        None => Ok(nothing_chosen(alloc)),
     }
 }

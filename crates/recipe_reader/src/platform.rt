@@ -233,16 +233,15 @@ fn choice_among<'t>(
         (Finds (λ t. view t.now) (chosen platform.now (map view manifests.now.items)))
         result }
 {
-    match first_fit(platform, manifests) {
-        Ok(Some(manifest)) => Ok(Some(manifest)),
-        Ok(None) => {
+    match first_fit(platform, manifests)? {
+        Some(manifest) => Ok(Some(manifest)),
+        None => {
             if manifests.is_empty() {
                 Ok(None)
             } else {
                 Err(RecipeFault::NoManifest)
             }
         }
-        Err(fault) => Err(fault),
     }
 }
 

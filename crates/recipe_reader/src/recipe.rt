@@ -5,7 +5,7 @@ use nuc_base::{Artifact, List, Name, Step, Text};
 use tree_core::Tree;
 
 /// A component that another needs.
-#[derive(Drop)]
+#[derive(Debug, Drop)]
 pub struct Dependency {
     pub name: Name,
     pub range: Range,
@@ -14,7 +14,7 @@ pub struct Dependency {
 }
 
 /// When a step is skipped.
-#[derive(Drop)]
+#[derive(Debug, Drop)]
 pub enum Skip {
     /// A program of this name is found on the path.
     OnPath(Text),
@@ -23,7 +23,7 @@ pub enum Skip {
 }
 
 /// A step of a component's lifecycle.
-#[derive(Drop)]
+#[derive(Debug, Drop)]
 pub struct StepDef {
     /// What the shell runs.
     pub script: Text,
@@ -35,7 +35,7 @@ pub struct StepDef {
 }
 
 /// What a recipe says for one platform.
-#[derive(Drop)]
+#[derive(Debug, Drop)]
 pub struct Recipe {
     pub name: Name,
     pub version: Version,
