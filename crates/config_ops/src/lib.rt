@@ -18,6 +18,3 @@ pub use join::{fill, merge};
 pub use laws::{config_is_object, config_stays, join_laws, reset_laws};
 pub use resetting::reset;
 pub use update::Update;
-
-#[cfg(test)]
-mod tests;

@@ -35,6 +35,3 @@ pub struct Edges {
     pub nodes: u32,
     pub needs: List<Need>,
 }
-
-#[cfg(test)]
-mod tests;

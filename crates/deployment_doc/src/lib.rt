@@ -21,6 +21,3 @@ pub use document::{Document, Root};
 pub use fault::{DocFault, Key};
 pub use laws::document_laws;
 pub use update::read_update;
-
-#[cfg(test)]
-mod tests;

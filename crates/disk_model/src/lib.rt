@@ -19,6 +19,3 @@ pub use fused::FusedDisk;
 pub use image::Pick;
 pub use laws::steps_are_one_sentence;
 pub use memory::MemoryDisk;
-
-#[cfg(test)]
-mod tests;

@@ -18,6 +18,3 @@ pub use entry::EntryFault;
 pub use find::{FindFault, length_in};
 pub use journal::Journal;
 pub use log::{AppendFault, JOURNAL, Log, MOST_FILE, MOST_PAYLOAD, open_gate};
-
-#[cfg(test)]
-mod tests;

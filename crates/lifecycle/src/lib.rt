@@ -15,6 +15,3 @@ mod laws;
 pub use component::Component;
 pub use kinds::{After, LifeAct, LifeEvent, State, StepSet};
 pub use laws::life_laws;
-
-#[cfg(test)]
-mod tests;

@@ -9,6 +9,10 @@ mod configuration;
 #[cfg(test)]
 mod documents;
 #[cfg(test)]
+mod operations;
+#[cfg(test)]
+mod orders;
+#[cfg(test)]
 mod ranges;
 #[cfg(test)]
 mod recipes;

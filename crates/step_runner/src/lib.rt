@@ -16,6 +16,3 @@ pub use ends::{ScriptedEnd, forget_child};
 pub use entries::{RunnerEntry, Seen};
 pub use runner::{Runner, RunnerFault, Waited};
 pub use scripted::ScriptedRunner;
-
-#[cfg(test)]
-mod tests;

@@ -1,5 +1,5 @@
 use Rattle.std.proofs.Common.{◌≡◌, ◌+◌, Bool, IsTrue, ℕ, [], length, ap, arith, subst}
-use Rattle.checkpoint_log.proofs.tests.turn.Goals as goal
+use Rattle.journal_vectors.proofs.slots.turn.Goals as goal
 
 pub put-requires-clause-room : goal.put-requires-clause-room
 put-requires-clause-room g c turns =

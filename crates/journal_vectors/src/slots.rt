@@ -1,7 +1,7 @@
 ghost use Rattle.std.specs.Prelude.{◌≡◌, ◌∷◌, ◌++◌, [], ℕ, List};
 ghost use Rattle.std.specs.Int.{w64, to_be_bytes};
 
-use crate::Slots;
+use checkpoint_log::Slots;
 use disk_model::{Disk, DiskFault, FusedDisk, MemoryDisk, Pick};
 use gate_log::{FindFault, Journal, Log};
 use nuc_base::List;

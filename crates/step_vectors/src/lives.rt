@@ -1,4 +1,4 @@
-use super::*;
+use lifecycle::{After, Component, LifeAct, LifeEvent, State, StepSet, life_laws};
 use nuc_base::{Exit, Step};
 
 /// An event, the act that it gives, and the state and the failures after it.

@@ -1,7 +1,7 @@
 ghost use Rattle.std.specs.Prelude.{IfOk};
 ghost use Rattle.dep_order.specs.Orders.{AreNodes};
 
-use super::*;
+use dep_order::{OrderFault, hard_dependents, order};
 use nuc_base::NoMemory;
 use std::alloc::Global;
 use std::test::Fail;

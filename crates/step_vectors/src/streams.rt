@@ -1,4 +1,7 @@
-use super::*;
+use edges::{
+    EdgeFault, Inbox, InboxFault, Incoming, Kind, MemoryInbox, MemorySink, MemorySource, ReadFault,
+    ReadSource, Sink, Source, WriteSink, read_up_to, write_pieces,
+};
 use nuc_base::{Bytes, List};
 use std::alloc::{AllocError, Global};
 use std::test::Fail;

@@ -1,4 +1,4 @@
-use super::*;
+use disk_model::{Disk, DiskFault, FusedDisk, ListFault, MemoryDisk, Pick};
 use nuc_base::List;
 use std::alloc::Global;
 use std::test::Fail;

@@ -1,5 +1,5 @@
 // Each call once.
-use crate::{Update, fill, merge, new_config, reset};
+use config_ops::{Update, fill, merge, new_config, reset};
 use nuc_base::{List, Pointer};
 use std::test::Fail;
 use tree_core::Tree;
