@@ -43,7 +43,7 @@ pub use laws::{
     devices_are_sound, met_devices_stay_met, none_is_stuck, revisions_rise,
     runs_give_the_plain_course,
 };
-pub use limits::{MOST_CLOSED, MOST_GROUPS};
+pub use limits::{MOST_CLOSED, MOST_CONFIG, MOST_ELEMENTS, MOST_GROUPS};
 pub use mark::Mark;
 pub use plan_sizes::plans_are_short;
 pub use records::Group;

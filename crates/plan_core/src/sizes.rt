@@ -12,16 +12,10 @@ ghost use Rattle.plan_core.specs.declared.fault.PlanFault.TheVariants.{NoMemory 
 
 use crate::fault::PlanFault;
 use deployment_doc::Document;
-use device::{Device, MOST_CLOSED, MOST_GROUPS};
+use device::{Device, MOST_CLOSED, MOST_CONFIG, MOST_ELEMENTS, MOST_GROUPS};
 use nuc_base::{Copied, NoMemory};
 use records::Item;
 use std::alloc::Global;
-
-/// The most components of a set.
-const MOST_ITEMS: usize = 128;
-
-/// The most bytes of a configuration's text.
-const CONFIG_LIMIT: usize = 65_536;
 
 /// Whether one more deployment may close, of this group.
 pub(crate) fn check_room(device: &Device, document: &Document) -> Result<(), PlanFault>
@@ -44,7 +38,7 @@ pub(crate) fn check_count(count: usize) -> Result<(), PlanFault>
     requires { count < 2 ^ 32 }
     ensures { MatchResult result (λ _. count ≤ 128) (λ f. (f ≡ PlanFault.TooManyComponents count) × (128 < count)) }
 {
-    if count > MOST_ITEMS {
+    if count > MOST_ELEMENTS {
         return Err(PlanFault::TooManyComponents(count as u32));
     }
     Ok(())
@@ -55,7 +49,7 @@ fn check_config(alloc: Global, item: &Item) -> Result<(), PlanFault>
     ensures { MatchResult result (λ _. AllHold (config_lines (item_view item.now))) (Faults OutOfMemory (config_lines (item_view item.now))) }
 {
     let text = item.config.write(alloc)?;
-    if text.len() > CONFIG_LIMIT {
+    if text.len() > MOST_CONFIG {
         let name = item.name.copy(alloc)?;
         return Err(PlanFault::ConfigTooLarge(name, text.len() as u64));
     }
