@@ -6,6 +6,7 @@ pub mod Deadline
 pub mod Deeds
 pub mod Each
 pub mod Flags
+pub mod Found
 pub mod Goings
 pub mod Handed
 pub mod Kept

@@ -14,6 +14,8 @@ ghost use Rattle.supervisor.specs.World.{At, changed_at, part_name, is_to_stop, 
 
 use crate::befall::{kill_child, live_at};
 use crate::kinds::Act;
+use crate::needs::{Need, User};
+use crate::places::{found_place, user_after};
 use crate::slot::Slot;
 use lifecycle::{After, LifeEvent};
 use nuc_base::{Name, Step};
@@ -32,52 +34,102 @@ pub enum Deed {
 fn stands_as(slot: &Slot, name: &Name) -> bool
     ensures { result ≡ (bytes_eq (part_name slot.now) name.now && stands slot.now) }
 {
-    *slot.name() == *name && slot.stands_up()
+    slot.stands_up() && *slot.name() == *name
 }
 
 /// Whether it has this name and is enough for one that needs it softly.
 fn serves_as(slot: &Slot, name: &Name) -> bool
     ensures { result ≡ (bytes_eq (part_name slot.now) name.now && serves_softly slot.now) }
 {
-    *slot.name() == *name && slot.serves_softly()
+    slot.serves_softly() && *slot.name() == *name
 }
 
-fn is_up(slots: &[Slot], name: &Name) -> bool
+fn any_stands(slots: &[Slot], name: &Name) -> bool
     ensures { result ≡ is_met stands slots.now name.now }
 {
     slots.iter().any(|slot| stands_as(slot, name))
 }
 
-fn is_served(slots: &[Slot], name: &Name) -> bool
+fn any_serves(slots: &[Slot], name: &Name) -> bool
     ensures { result ≡ is_met serves_softly slots.now name.now }
 {
     slots.iter().any(|slot| serves_as(slot, name))
 }
 
-fn are_up(slots: &[Slot], names: &[Name]) -> bool
-    ensures { result ≡ list_all (is_met stands slots.now) names.now }
+/// Whether the one that is needed stands up.
+fn is_up(slots: &[Slot], need: &Need) -> bool
+    requires { AreNamesApart (map part_name slots.now) }
+    ensures { result ≡ is_met stands slots.now need.now }
 {
-    names.iter().all(|name| is_up(slots, name))
+    match found_place(slots, need) {
+        Some(at) => slots[at].stands_up(),
+        None => any_stands(slots, need.name()),
+    }
 }
 
-fn are_served(slots: &[Slot], names: &[Name]) -> bool
-    ensures { result ≡ list_all (is_met serves_softly slots.now) names.now }
+/// Whether the one that is needed softly is enough.
+fn is_served(slots: &[Slot], need: &Need) -> bool
+    requires { AreNamesApart (map part_name slots.now) }
+    ensures { result ≡ is_met serves_softly slots.now need.now }
 {
-    names.iter().all(|name| is_served(slots, name))
+    match found_place(slots, need) {
+        Some(at) => slots[at].serves_softly(),
+        None => any_serves(slots, need.name()),
+    }
+}
+
+/// Whether the need of this number is there and not met.
+fn is_missing(slots: &[Slot], needs: &[Need], at: usize) -> bool
+    requires { AreNamesApart (map part_name slots.now) }
+    ensures { result ≡ true → list_all (is_met stands slots.now) needs.now ≡ false }
+{
+    at < needs.len() && !is_up(slots, &needs[at])
+}
+
+/// Keeps the number of the first hard need that is not met.
+fn note_missing(slots: &[Slot], slot: &Slot)
+    requires { AreNamesApart (map part_name slots.now) }
+{
+    if let Some(at) = slot.hard().iter().position(|need| !is_up(slots, need)) {
+        slot.set_missing(at);
+    }
+}
+
+/// Whether all that it needs hard stand up. The need that was not met the last time is asked first.
+fn are_up(slots: &[Slot], slot: &Slot) -> bool
+    requires { AreNamesApart (map part_name slots.now) }
+    ensures { result ≡ list_all (is_met stands slots.now) slot.now.fitted.hard }
+{
+    if is_missing(slots, slot.hard(), slot.missing()) {
+        return false;
+    }
+    let all = slot.hard().iter().all(|need| is_up(slots, need));
+    if !all {
+        note_missing(slots, slot);
+    }
+    all
+}
+
+fn are_served(slots: &[Slot], needs: &[Need]) -> bool
+    requires { AreNamesApart (map part_name slots.now) }
+    ensures { result ≡ list_all (is_met serves_softly slots.now) needs.now }
+{
+    needs.iter().all(|need| is_served(slots, need))
 }
 
 /// Whether the component may begin among these.
 fn may_begin(slots: &[Slot], slot: &Slot) -> bool
+    requires { AreNamesApart (map part_name slots.now) }
     ensures { result ≡ may_begin_among (at_moment slots.now 0 true) slot.now }
 {
-    slot.waits() && (are_up(slots, slot.hard()) && are_served(slots, slot.soft()))
+    slot.waits() && (are_up(slots, slot) && are_served(slots, slot.soft()))
 }
 
 /// Whether it needs this name hard.
 fn needs(slot: &Slot, name: &Name) -> bool
     ensures { result ≡ list_any (bytes_eq name.now) slot.now.fitted.hard }
 {
-    slot.hard().iter().any(|need| *name == *need)
+    slot.hard().iter().any(|need| *name == *need.name())
 }
 
 /// Whether it is to be stopped and needs this name hard.
@@ -87,10 +139,49 @@ fn holds(slot: &Slot, name: &Name) -> bool
     slot.is_to_stop() && needs(slot, name)
 }
 
-fn is_held(slots: &[Slot], name: &Name) -> bool
-    ensures { result ≡ is_held_among name.now slots.now }
+/// Whether the need of this number is one of this name.
+fn is_need_at(needs: &[Need], at: usize, name: &Name) -> bool
+    ensures { result ≡ true → list_any (bytes_eq name.now) needs.now ≡ true }
 {
-    slots.iter().any(|slot| holds(slot, name))
+    at < needs.len() && *name == *needs[at].name()
+}
+
+/// Whether this user of this name is to be stopped.
+fn is_held_by(slots: &[Slot], user: User, name: &Name) -> bool
+    ensures { result ≡ true → is_held_among name.now slots.now ≡ true }
+{
+    if user.component >= slots.len() {
+        return false;
+    }
+    let slot = &slots[user.component];
+    slot.is_to_stop() && is_need_at(slot.hard(), user.need, name)
+}
+
+/// Whether one of those that are known to need it is to be stopped.
+fn is_held_by_user(slots: &[Slot], slot: &Slot) -> bool
+    ensures { result ≡ true → is_held_among (part_name slot.now) slots.now ≡ true }
+{
+    let mut user = slot.first_user();
+    for turn in 0..slots.len() {
+        let Some(this) = user else {
+            return false;
+        };
+        if is_held_by(slots, this, slot.name()) {
+            return true;
+        }
+        user = user_after(slots, this);
+    }
+    false
+}
+
+/// Whether one that needs it hard is to be stopped. Those that are known are asked first.
+fn is_held(slots: &[Slot], slot: &Slot) -> bool
+    ensures { result ≡ is_held_among (part_name slot.now) slots.now }
+{
+    if is_held_by_user(slots, slot) {
+        return true;
+    }
+    slots.iter().any(|other| holds(other, slot.name()))
 }
 
 /// The stop of the component that may be given among these.
@@ -101,7 +192,7 @@ fn stop_of(slots: &[Slot], slot: &Slot) -> Option<After>
     match slot.due_stop() {
         None => None,
         Some(after) => {
-            if is_held(slots, slot.name()) {
+            if is_held(slots, slot) {
                 None
             } else {
                 Some(after)
@@ -114,6 +205,7 @@ fn stop_of(slots: &[Slot], slot: &Slot) -> Option<After>
 fn deed_at(slots: &[Slot], at: u32, moment: u64) -> Option<Deed>
     requires at { at < length slots.now }
     requires apart { AreApart (living_numbers slots.now) }
+    requires names { AreNamesApart (map part_name slots.now) }
     requires whole { AreWhole slots.now }
     ensures none { result ≡ None → At at (λ p. may_act (at_moment slots.now moment true) p ≡ false) slots.now }
     ensures some { IfSome result (MayDo (at_moment slots.now moment true) at) }
@@ -128,6 +220,7 @@ fn deed_at(slots: &[Slot], at: u32, moment: u64) -> Option<Deed>
 fn first_deed(slots: &[Slot], moment: u64) -> Option<(u32, Deed)>
     requires few { length slots.now < 2 ^ 32 }
     requires apart { AreApart (living_numbers slots.now) }
+    requires names { AreNamesApart (map part_name slots.now) }
     requires whole { AreWhole slots.now }
     ensures { IsFirst (at_moment slots.now moment true) result }
 {

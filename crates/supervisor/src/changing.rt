@@ -1,7 +1,9 @@
-//! What befalls all components at once.
+//! What befalls all components at once. Those that took another item since the last change may need other components, so
+//! each is linked anew.
 ghost use Rattle.std.specs.Prelude.{◌≡◌, map};
 ghost use Rattle.supervisor.specs.Changes.{leaving, forgetting};
 
+use crate::places::link;
 use crate::slot::Slot;
 
 fn leave_each(slots: &mut [Slot])
@@ -25,6 +27,7 @@ pub(crate) fn leave_all(slots: &mut Vec<Slot>)
     ensures { slots.new.items ≡ map leaving slots.old.items }
 {
     leave_each(slots.as_mut_slice());
+    link(slots.as_slice());
 }
 
 /// The failures of all are forgotten.
@@ -32,4 +35,5 @@ pub(crate) fn forget_all(slots: &mut Vec<Slot>)
     ensures { slots.new.items ≡ map forgetting slots.old.items }
 {
     forget_each(slots.as_mut_slice());
+    link(slots.as_slice());
 }

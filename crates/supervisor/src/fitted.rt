@@ -13,6 +13,7 @@ ghost use Rattle.supervisor.specs.Made.{IsFittedAt, hard_names, soft_names};
 ghost use Rattle.supervisor.specs.Runs.{IsFittedBy, AreFirst, AreLast, AreFit, IsShort, IsFit};
 
 use crate::kinds::Prepared;
+use crate::needs::Need;
 use crate::prepared::{known_recipe, prepare_step};
 use device::scope_of;
 use interpolation::Scope;
@@ -59,14 +60,14 @@ impl Drop for LastSteps {
     }
 }
 
-/// The names that an item needs.
+/// What an item needs.
 #[derive(Drop)]
 struct Needs {
-    hard: List<Name>,
-    soft: List<Name>,
+    hard: Vec<Need>,
+    soft: Vec<Need>,
 }
 
-/// An item with the names that it needs and its steps with all variables expanded, beside its configuration as text.
+/// An item with what it needs and its steps with all variables expanded, beside its configuration as text.
 pub struct FittedItem {
     item: Item,
     config: Text,
@@ -101,35 +102,35 @@ impl Model for FittedItem {
 
     ghost coded = { Prim.hlevel (codes, data_code) };
 
-    ghost view = { λ f. record { item = item_view f.item; hard = f.needs.hard; soft = f.needs.soft; install = f.first.install; run = f.first.run; startup = f.first.startup; shutdown = f.last.shutdown; recover = f.last.recover } };
+    ghost view = { λ f. record { item = item_view f.item; hard = f.needs.hard.items; soft = f.needs.soft.items; install = f.first.install; run = f.first.run; startup = f.first.startup; shutdown = f.last.shutdown; recover = f.last.recover } };
 
     ghost invariant = { λ f. AreFit f.first.install f.first.run f.first.startup f.last.shutdown f.last.recover × (f.config ≡ compact_text (tree_view f.item.config)) };
 }
 
-/// The names that are needed hard.
-fn hard_of(alloc: Global, dependencies: &[Dependency]) -> Result<List<Name>, NoMemory>
-    ensures { IfOk result (λ names. names ≡ hard_names dependencies.now) }
+/// What is needed hard.
+fn hard_of(alloc: Global, dependencies: &[Dependency]) -> Result<Vec<Need>, NoMemory>
+    ensures { IfOk result (λ needs. needs.items ≡ hard_names dependencies.now) }
 {
-    let mut names = Vec::with_capacity(alloc, dependencies.len())?;
+    let mut needs = Vec::with_capacity(alloc, dependencies.len())?;
     for dependency in dependencies {
         if dependency.hard {
-            names.push(dependency.name.copy(alloc)?)?;
+            needs.push(Need::new(dependency.name.copy(alloc)?))?;
         }
     }
-    Ok(List::new(names))
+    Ok(needs)
 }
 
-/// The names that are needed softly.
-fn soft_of(alloc: Global, dependencies: &[Dependency]) -> Result<List<Name>, NoMemory>
-    ensures { IfOk result (λ names. names ≡ soft_names dependencies.now) }
+/// What is needed softly.
+fn soft_of(alloc: Global, dependencies: &[Dependency]) -> Result<Vec<Need>, NoMemory>
+    ensures { IfOk result (λ needs. needs.items ≡ soft_names dependencies.now) }
 {
-    let mut names = Vec::with_capacity(alloc, dependencies.len())?;
+    let mut needs = Vec::with_capacity(alloc, dependencies.len())?;
     for dependency in dependencies {
         if !dependency.hard {
-            names.push(dependency.name.copy(alloc)?)?;
+            needs.push(Need::new(dependency.name.copy(alloc)?))?;
         }
     }
-    Ok(List::new(names))
+    Ok(needs)
 }
 
 fn is_short(step: &Option<Prepared>) -> bool
@@ -145,8 +146,8 @@ fn is_short(step: &Option<Prepared>) -> bool
 }
 
 fn needs_of(alloc: Global, dependencies: &[Dependency]) -> Result<Needs, NoMemory>
-    ensures hard { IfOk result (λ n. n.hard ≡ hard_names dependencies.now) }
-    ensures soft { IfOk result (λ n. n.soft ≡ soft_names dependencies.now) }
+    ensures hard { IfOk result (λ n. n.hard.items ≡ hard_names dependencies.now) }
+    ensures soft { IfOk result (λ n. n.soft.items ≡ soft_names dependencies.now) }
 {
     let hard = hard_of(alloc, dependencies)?;
     let soft = soft_of(alloc, dependencies)?;
@@ -207,8 +208,8 @@ struct Parts {
 
 fn parts_by(alloc: Global, recipe: &Recipe, scope: &Scope) -> Result<Parts, NoMemory>
     requires { HasRegularConfigs scope.now }
-    ensures hard { IfOk result (λ p. p.needs.hard ≡ hard_names recipe.now.dependencies) }
-    ensures soft { IfOk result (λ p. p.needs.soft ≡ soft_names recipe.now.dependencies) }
+    ensures hard { IfOk result (λ p. p.needs.hard.items ≡ hard_names recipe.now.dependencies) }
+    ensures soft { IfOk result (λ p. p.needs.soft.items ≡ soft_names recipe.now.dependencies) }
     ensures first { IfOk result (λ p. AreFirst scope.now recipe.now p.first.install p.first.run p.first.startup) }
     ensures last { IfOk result (λ p. AreLast scope.now recipe.now p.last.shutdown p.last.recover) }
 {
@@ -220,7 +221,7 @@ fn parts_by(alloc: Global, recipe: &Recipe, scope: &Scope) -> Result<Parts, NoMe
 
 fn fit_with(item: Item, config: Text, parts: Parts) -> Result<FittedItem, NoMemory>
     requires { config ≡ compact_text (tree_view item.config) }
-    ensures { IfOk result (λ f. f ≡ record { item = item_view item; hard = parts.needs.hard; soft = parts.needs.soft; install = parts.first.install; run = parts.first.run; startup = parts.first.startup; shutdown = parts.last.shutdown; recover = parts.last.recover }) }
+    ensures { IfOk result (λ f. f ≡ record { item = item_view item; hard = parts.needs.hard.items; soft = parts.needs.soft.items; install = parts.first.install; run = parts.first.run; startup = parts.first.startup; shutdown = parts.last.shutdown; recover = parts.last.recover }) }
 {
     if !are_fit(&parts.first, &parts.last) {
         return Err(NoMemory);
@@ -293,13 +294,13 @@ impl FittedItem {
         &self.item.name
     }
 
-    pub(crate) fn hard(&self) -> &[Name]
+    pub(crate) fn hard(&self) -> &[Need]
         ensures { result.now ≡ self.now.hard }
     {
         self.needs.hard.as_slice()
     }
 
-    pub(crate) fn soft(&self) -> &[Name]
+    pub(crate) fn soft(&self) -> &[Need]
         ensures { result.now ≡ self.now.soft }
     {
         self.needs.soft.as_slice()

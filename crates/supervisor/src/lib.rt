@@ -3,7 +3,8 @@
 //! It promises that a step is made ready as its recipe says (`step_of`, `Supervisor::ready`), and that what befalls the
 //! components leaves exactly what the definitions say; these and their laws stand in `specs/`. Contracts see a `Supervisor`
 //! as its world of components. It stands on `device` for scopes, on `interpolation` for texts, and on `lifecycle` for the
-//! table by which each component moves.
+//! table by which each component moves. Where those stand that are needed is kept in cells, which only save searches: no
+//! contract rests on it.
 #![tactic(auto)]
 
 mod acting;
@@ -17,6 +18,8 @@ mod laws;
 mod lives;
 mod marks;
 mod merging;
+mod needs;
+mod places;
 mod prepared;
 mod ready;
 mod slot;

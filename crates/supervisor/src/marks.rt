@@ -7,6 +7,7 @@ ghost use Rattle.supervisor.specs.Flags.{with_flags, may_by, joins as joins_at, 
 ghost use Rattle.supervisor.specs.Changes.{is_replacing, replanned};
 ghost use Rattle.supervisor.specs.Marks.{is_flagged as is_named_flagged, needs_flagged as are_needs_flagged, reaching, marked, restarted, flagged, flagged_at, may_restart};
 
+use crate::needs::Need;
 use crate::slot::Slot;
 use nuc_base::Name;
 
@@ -32,13 +33,13 @@ fn is_flagged(slots: &[Slot], flags: &[bool], name: &Name) -> bool
     false
 }
 
-/// Whether one of these names has a flag.
-fn needs_flagged(slots: &[Slot], flags: &[bool], names: &[Name]) -> bool
+/// Whether one of those that are needed has a flag.
+fn needs_flagged(slots: &[Slot], flags: &[bool], needs: &[Need]) -> bool
     requires { length flags.now ≡ length slots.now }
-    ensures { result ≡ are_needs_flagged names.now (with_flags slots.now flags.now) }
+    ensures { result ≡ are_needs_flagged needs.now (with_flags slots.now flags.now) }
 {
-    for name in names {
-        if is_flagged(slots, flags, name) {
+    for need in needs {
+        if is_flagged(slots, flags, need.name()) {
             return true;
         }
     }

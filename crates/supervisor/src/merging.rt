@@ -1,7 +1,6 @@
 //! A change to other items: those that stand meet what comes for them, and the others are put among them.
 ghost use Rattle.std.specs.Prelude.{◌≡◌, ◌<◌, ◌≤◌, ◌+◌, ◌^◌, ◌∷◌, [], ℕ, length, map, All, vec_len, vec_capacity};
 ghost use Rattle.std.specs.List.{find, insert};
-ghost use Rattle.std.specs.Str.{bytes_eq};
 ghost use Rattle.supervisor.specs.Answers.{is_steady as is_mode_steady};
 ghost use Rattle.supervisor.specs.Changes.{counted, fate, fresh_part, is_replacing, placed, replanned, standing, with_items, with_newcomers};
 ghost use Rattle.supervisor.specs.Fitted.{is_before as is_name_before, name_of};
@@ -13,6 +12,7 @@ ghost use Rattle.supervisor.specs.World.{At, Part, part_name, place_of as place_
 
 use crate::kinds::Mode;
 use crate::marks::replan;
+use crate::places::{is_named_at, link};
 use crate::ready::Ready;
 use crate::slot::Slot;
 use nuc_base::Name;
@@ -51,13 +51,6 @@ fn drop_over(slots: &mut Vec<Slot>)
     ensures { slots.new.items ≡ standing slots.old.items }
 {
     slots.retain(|slot| !slot.is_over());
-}
-
-fn is_named_at(slots: &[Slot], at: usize, name: &Name) -> bool
-    requires { at < length slots.now }
-    ensures { At at (λ p. result ≡ bytes_eq name.now (part_name p)) slots.now }
-{
-    *name == *slots[at].name()
 }
 
 /// The place of the first one of this name.
@@ -282,4 +275,5 @@ pub(crate) fn change_in(
     swap(flags, &mut marks);
     drop(room);
     drop(marks);
+    link(slots.as_slice());
 }

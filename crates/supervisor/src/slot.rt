@@ -24,8 +24,10 @@ use crate::children::{
 use crate::fitted::FittedItem;
 use crate::kinds::Prepared;
 use crate::lives;
+use crate::needs::{Need, User};
 use lifecycle::{After, Component, LifeEvent};
 use nuc_base::{Exit, Name, Step};
+use std::cell::Cell;
 use std::marker::Model;
 use std::mem::{replace, swap};
 
@@ -42,6 +44,10 @@ pub struct Slot {
     stop: Option<After>,
     /// The item, None where it is its own, and the failures that it takes once it is stopped with Again.
     next: Option<(Option<FittedItem>, u8)>,
+    /// The first of those that need it hard, as far as they are known.
+    first_user: Cell<Option<User>>,
+    /// The number of a hard need that was not met the last time.
+    missing: Cell<usize>,
 }
 
 impl Model for Slot {
@@ -444,16 +450,40 @@ impl Slot {
         }
     }
 
-    pub(crate) fn hard(&self) -> &[Name]
+    pub(crate) fn hard(&self) -> &[Need]
         ensures { result.now ≡ self.now.fitted.hard }
     {
         self.fitted.hard()
     }
 
-    pub(crate) fn soft(&self) -> &[Name]
+    pub(crate) fn soft(&self) -> &[Need]
         ensures { result.now ≡ self.now.fitted.soft }
     {
         self.fitted.soft()
+    }
+
+    /// The item that takes the place of its own, where there is another one.
+    pub(crate) fn coming(&self) -> Option<&FittedItem> {
+        match &self.next {
+            None => None,
+            Some(next) => next.0.as_ref(),
+        }
+    }
+
+    pub(crate) fn first_user(&self) -> Option<User> {
+        self.first_user.get()
+    }
+
+    pub(crate) fn set_first_user(&self, user: Option<User>) {
+        self.first_user.set(user);
+    }
+
+    pub(crate) fn missing(&self) -> usize {
+        self.missing.get()
+    }
+
+    pub(crate) fn set_missing(&self, need: usize) {
+        self.missing.set(need);
     }
 
     /// It is to be stopped for good.
@@ -616,6 +646,8 @@ impl Slot {
             owed: None,
             stop: None,
             next: None,
+            first_user: Cell::new(None),
+            missing: Cell::new(0),
         }
     }
 }

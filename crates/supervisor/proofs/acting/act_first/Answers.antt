@@ -13,6 +13,9 @@ first_deed-requires-clause-few c = c.turns.invariant.so_far.sound.kept.few
 pub first_deed-requires-clause-apart : goal.first_deed-requires-clause-apart
 first_deed-requires-clause-apart c = c.turns.invariant.so_far.sound.kept.apart
 
+pub first_deed-requires-clause-names : goal.first_deed-requires-clause-names
+first_deed-requires-clause-names c = c.turns.invariant.so_far.sound.kept.names
+
 pub first_deed-requires-clause-whole : goal.first_deed-requires-clause-whole
 first_deed-requires-clause-whole c = c.turns.invariant.so_far.sound.whole
 
