@@ -7,7 +7,7 @@ use Rattle.supervisor.specs.Answers.{child_numbers, living_numbers}
 use Rattle.supervisor.specs.Changes.{Coming, coming_again, coming_for, changed_to, counted, fate, fresh_part, is_replaced, is_replacing, leaving, meeting, newcomers, placed, replacing, replanned, standing, staying, with_items, with_newcomers, with_texts}
 use Rattle.supervisor.specs.Fitted.{Fitted, name_of, is_before, is_same_item}
 use Rattle.supervisor.specs.Marks.{may_replan}
-use Rattle.supervisor.specs.Readied.{AreApart, AreNamesApart, AreNear, IsKept, IsNamed, IsNear}
+use Rattle.supervisor.specs.Readied.{AreApart, AreNamesApart, AreNear, HaveNames, IsKept, IsNamed, IsNear}
 use Rattle.supervisor.specs.World.{Child, Part, World, is_over, part_name, stops_for_good}
 use Rattle.supervisor.proofs.Apart.{apart_kids, near_kids}
 use Rattle.supervisor.proofs.Kept.{leaving_children, length_kids, stays_leaving}
@@ -251,6 +251,11 @@ new_same ps qs (n ∷ ns) e h = (ap (λ (xs : List (List ℕ)). list_any (bytes_
 
 pub replanned_length : (ps : List Part) → length (replanned ps) ≡ length ps
 replanned_length ps = length_kids (replanned ps) ps (kids_restarted may_replan is_replacing ps)
+
+pub fated_names : (ns : List Coming) (ps : List Part) → HaveNames ps → AreNamesApart (names (map (fate ns) (standing ps)))
+fated_names ns ps h =
+    let met = stay_mapped (fate ns) (stays_fate ns) (standing ps) (all_standing IsNamed ps h.named) in
+    subst AreNamesApart (sym met.0) (apart_filter (λ (p : Part). not (is_over p)) ps h.apart)
 
 pub changed_kept : (w : World) (fs : List Fitted) (counts : List ℕ) (steady : Bool) → IsKept w → AreNamesApart (map name_of fs) → length (with_items (counted 0 counts fs) (standing w.parts)) < 2 ^ 32 → IsKept (changed_to fs counts steady w)
 changed_kept w fs counts steady k a few =

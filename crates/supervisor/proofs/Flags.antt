@@ -9,7 +9,7 @@ use Rattle.std.specs.Prelude.{◌&&◌, ◌||◌, not, if◌then◌else◌, slic
 use Rattle.supervisor.specs.World.{Part, At, part_name}
 use Rattle.supervisor.specs.Changes.{is_replacing, replanned}
 use Rattle.supervisor.specs.Marks.{Flagged, grown, reaching, is_flagged, needs_flagged, flagged, flagged_at, marked, restarted, may_restart, may_replan, Within, IsClosedBack}
-use Rattle.supervisor.specs.Flags.{with_flags, free, may_by, joins, Under, Spreads}
+use Rattle.supervisor.specs.Flags.{with_flags, free, may_by, joins, Under, Grows, Spreads}
 use Rattle.supervisor.proofs.Each.{at_more}
 use Rattle.supervisor.proofs.Closes.{within_refl, trans, needs_more, most, closes, least}
 
@@ -187,19 +187,25 @@ spreads_of ps old bs grew k m l p = record {
 
 -- ---- all passes
 
-pub record Rounds (ps : List Part) (first bs : List Bool) : Type 0 where
-  pub many : length bs ≡ length first
-  pub more : Within (with_flags ps first) (with_flags ps bs)
-  pub under : Under ps first bs
+pub grows_none : (ps : List Part) (bs : List Bool) → Grows ps bs bs
+grows_none ps bs = record { many = refl; more = within_refl (with_flags ps bs); under = under_refl ps bs }
 
-pub rounds_none : (ps : List Part) (first : List Bool) → Rounds ps first first
-rounds_none ps first = record { many = refl; more = within_refl (with_flags ps first); under = under_refl ps first }
+pub grows_more : (ps : List Part) (first bs new : List Bool) → Grows ps first bs → Grows ps bs new → Grows ps first new
+grows_more ps first bs new g h = record {
+  many = h.many ∙ g.many;
+  more = trans (with_flags ps first) (with_flags ps bs) (with_flags ps new) g.more h.more;
+  under = λ hs w c. h.under hs (g.under hs w c) c;
+}
 
-pub rounds_more : (ps : List Part) (first bs new : List Bool) (grew : Bool) → Rounds ps first bs → Spreads ps bs new grew → Rounds ps first new
-rounds_more ps first bs new grew r s = record {
-  many = s.many ∙ r.many;
-  more = trans (with_flags ps first) (with_flags ps bs) (with_flags ps new) r.more s.more;
-  under = λ hs w c. s.under hs (r.under hs w c) c;
+pub grows_spread : (ps : List Part) (first bs new : List Bool) (grew : Bool) → Grows ps first bs → Spreads ps bs new grew → Grows ps first new
+grows_spread ps first bs new grew g s = grows_more ps first bs new g (record { many = s.many; more = s.more; under = s.under })
+
+-- one that needs a flagged one gets a flag
+pub grows_join : (ps : List Part) (bs : List Bool) (k : ℕ) → At k (λ p. needs_flagged p.fitted.hard (with_flags ps bs) ≡ true) ps → Grows ps bs (set bs k true)
+grows_join ps bs k n = record {
+  many = length-set bs k;
+  more = within_set ps bs k;
+  under = join_under ps bs bs k (under_refl ps bs) n;
 }
 
 with_length : (ps : List Part) (bs : List Bool) → length bs ≡ length ps → length (with_flags ps bs) ≡ length ps
@@ -207,7 +213,7 @@ with_length [] bs e = refl
 with_length (p ∷ ps) [] e = absurd (omega (arith, e))
 with_length (p ∷ ps) (b ∷ bs) e = ap suc (with_length ps bs (omega (arith, e)))
 
-pub reached : (ps : List Part) (first bs : List Bool) → length first ≡ length ps → Rounds ps first bs → IsClosedBack (with_flags ps bs) → with_flags ps bs ≡ reaching (length ps) (with_flags ps first)
+pub reached : (ps : List Part) (first bs : List Bool) → length first ≡ length ps → Grows ps first bs → IsClosedBack (with_flags ps bs) → with_flags ps bs ≡ reaching (length ps) (with_flags ps first)
 reached ps first bs m r c =
     let fs = with_flags ps first in
     let e = with_length ps first m in

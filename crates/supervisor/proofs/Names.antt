@@ -18,7 +18,7 @@ use Rattle.supervisor.specs.Fitted.{Fitted, name_of, steps_of}
 use Rattle.supervisor.specs.World.{World, Part, changed_at, part_name, is_again}
 use Rattle.supervisor.specs.Marks.{Flagged, grown, reaching, flagged, flagged_at, marked, restarted, may_restart}
 use Rattle.supervisor.specs.Lives.{lived, lived_at, drops_at, replaced}
-use Rattle.supervisor.specs.Readied.{AreNamesApart, IsNamed}
+use Rattle.supervisor.specs.Readied.{AreNamesApart, HaveNames, IsNamed}
 use Rattle.supervisor.specs.Rows.{succeeds_from, completed_from}
 use Rattle.supervisor.proofs.Lived.{lived_row, lived_none, settled_part}
 
@@ -95,6 +95,13 @@ pub stay_changed : (f : Part → Part) → ((p : Part) → IsNamed p → Stays p
 stay_changed f s k [] h = (refl, tt)
 stay_changed f s zero (p ∷ ps) h = let t = s p h.0 in (ap (λ (n : List ℕ). n ∷ names ps) t.0, (t.1, h.1))
 stay_changed f s (suc k) (p ∷ ps) h = let t = stay_changed f s k ps h.1 in (ap (λ (ns : List (List ℕ)). part_name p ∷ ns) t.0, (h.0, t.1))
+
+-- names stand once among those that stay what they are
+pub names_stay : (ps qs : List Part) → AllStay ps qs → HaveNames ps → HaveNames qs
+names_stay ps qs s h = record { apart = subst AreNamesApart (sym s.0) h.apart; named = s.1 }
+
+pub names_changed : (f : Part → Part) → ((p : Part) → IsNamed p → Stays p (f p)) → (k : ℕ) (ps qs : List Part) → qs ≡ changed_at k f ps → HaveNames ps → HaveNames qs
+names_changed f s k ps qs e h = subst HaveNames (sym e) (names_stay ps (changed_at k f ps) (stay_changed f s k ps h.named) h)
 
 pub stay_mapped : (f : Part → Part) → ((p : Part) → IsNamed p → Stays p (f p)) → (ps : List Part) → AllByRecursion IsNamed ps → AllStay ps (map f ps)
 stay_mapped f s [] h = (refl, tt)

@@ -28,6 +28,12 @@ joins ps bs at p = not (get_or bs at false) && needs_flagged p.fitted.hard (with
 abbrev pub Under : List Part → List Bool → List Bool → Type 0
 Under ps old new = (hs : Flagged) → Within (with_flags ps old) hs → IsClosedBack hs → Within (with_flags ps new) hs
 
+-- some more have a flag, all of which reach one that had one
+pub record Grows (ps : List Part) (old new : List Bool) : Type 0 where
+  pub many : length new ≡ length old
+  pub more : Within (with_flags ps old) (with_flags ps new)
+  pub under : Under ps old new
+
 -- one pass: none joins any more, or fewer have no flag
 pub record Spreads (ps : List Part) (old new : List Bool) (grew : Bool) : Type 0 where
   pub many : length new ≡ length old

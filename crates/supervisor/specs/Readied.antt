@@ -52,6 +52,11 @@ AreNamesApart (n ∷ ns) = (list_any (bytes_eq n) ns ≡ false) × AreNamesApart
 abbrev pub IsNamed : Part → Type 0
 IsNamed p = IfSome p.next (λ n. name_of n.0 ≡ part_name p)
 
+-- each has a name of its own, also once another item takes its place
+pub record HaveNames (parts : List Part) : Type 0 where
+  pub apart : AreNamesApart (map part_name parts)
+  pub named : AllByRecursion IsNamed parts
+
 -- what a supervisor keeps
 pub record IsKept (w : World) : Type 0 where
   pub few : length w.parts < 2 ^ 32

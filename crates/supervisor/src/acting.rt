@@ -6,7 +6,7 @@ ghost use Rattle.supervisor.specs.Acts.{HandsOut, NextAct};
 ghost use Rattle.supervisor.specs.Answers.{living_numbers};
 ghost use Rattle.supervisor.specs.Deeds.{MayDo, IsFirst, IsDone, IsOwed, IsOwing, IsTold};
 ghost use Rattle.supervisor.specs.Flags.{at_moment};
-ghost use Rattle.supervisor.specs.Readied.{AreApart, AreNamesApart, IsKept};
+ghost use Rattle.supervisor.specs.Readied.{AreApart, AreNamesApart, HaveNames, IsKept};
 ghost use Rattle.supervisor.specs.Rows.{is_stop_ready};
 ghost use Rattle.supervisor.specs.Turns.{may_act, may_begin as may_begin_among, may_stop, is_met, is_held as is_held_among, serves_softly, owes};
 ghost use Rattle.supervisor.specs.Whole.{AreWhole};
@@ -251,6 +251,7 @@ fn perform(
     requires at { at < length slots.old }
     requires few { length slots.old < 2 ^ 32 }
     requires many { length flags.old ≡ length slots.old }
+    requires names { HaveNames slots.old }
     ensures done { IsDone (at_moment slots.old moment steady) at deed result (at_moment slots.new moment steady) }
     ensures many { length flags.new ≡ length slots.new }
 {

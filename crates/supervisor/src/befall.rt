@@ -4,7 +4,7 @@ ghost use Rattle.supervisor.specs.Answers.{Answers};
 ghost use Rattle.supervisor.specs.Events.{started, refused, skipped, ended, killed, gone_by, noticed, kill_event, with_child, is_orphan_at};
 ghost use Rattle.supervisor.specs.Fitted.{prepared_of, limit_of};
 ghost use Rattle.supervisor.specs.Flags.{at_moment};
-ghost use Rattle.supervisor.specs.Readied.{StartsShort};
+ghost use Rattle.supervisor.specs.Readied.{HaveNames, StartsShort};
 ghost use Rattle.supervisor.specs.Runs.{IsShort};
 ghost use Rattle.supervisor.specs.Lives.{lived, lived_at, drops_at};
 ghost use Rattle.supervisor.specs.Turns.{is_begun};
@@ -36,6 +36,7 @@ pub(crate) fn live_at(
 )
     requires at { at < length slots.old }
     requires many { length flags.old ≡ length slots.old }
+    requires names { HaveNames slots.old }
     ensures lived { (m : ℕ) → at_moment slots.new m steady ≡ lived_at at event (at_moment slots.old m steady) }
     ensures many { length flags.new ≡ length flags.old }
     ensures parts { length slots.new ≡ length slots.old }
@@ -80,6 +81,7 @@ fn start(
     requires time { moment < 2 ^ 62 }
     requires begun { At at (λ p. is_begun step p ≡ true) slots.old }
     requires many { length flags.old ≡ length slots.old }
+    requires names { HaveNames slots.old }
     ensures started { at_moment slots.new moment steady ≡ started at step number (at_moment slots.old moment steady) }
     ensures short { At at (λ p. IsShort (limit_of (prepared_of p.fitted step))) slots.old }
     ensures many { length flags.new ≡ length slots.new }
@@ -94,6 +96,7 @@ fn start(
 fn answer(slots: &mut [Slot], flags: &mut [bool], at: u32, event: LifeEvent, steady: bool)
     requires at { at < length slots.old }
     requires many { length flags.old ≡ length slots.old }
+    requires names { HaveNames slots.old }
     ensures answered { (m : ℕ) → at_moment slots.new m steady ≡ lived_at at event (at_moment (changed_at at (λ p. record p { handed = false }) slots.old) m steady) }
     ensures many { length flags.new ≡ length slots.new }
 {
@@ -120,6 +123,7 @@ fn child_gone(
 )
     requires at { at < length slots.old }
     requires many { length flags.old ≡ length slots.old }
+    requires names { HaveNames slots.old }
     ensures gone { (m : ℕ) → at_moment slots.new m steady ≡ gone_by event at step number (at_moment slots.old m steady) }
     ensures many { length flags.new ≡ length slots.new }
 {
@@ -135,6 +139,7 @@ fn child_gone(
 fn end_child(slots: &mut [Slot], flags: &mut [bool], number: u64, exit: Exit, steady: bool)
     requires few { length slots.old < 2 ^ 32 }
     requires many { length flags.old ≡ length slots.old }
+    requires names { HaveNames slots.old }
     ensures ended { (m : ℕ) → at_moment slots.new m steady ≡ ended number exit (at_moment slots.old m steady) }
     ensures many { length flags.new ≡ length slots.new }
 {
@@ -168,6 +173,7 @@ pub(crate) fn kill_child(
 )
     requires few { length slots.old < 2 ^ 32 }
     requires many { length flags.old ≡ length slots.old }
+    requires names { HaveNames slots.old }
     ensures killed { at_moment slots.new moment steady ≡ killed number (at_moment slots.old moment steady) }
     ensures many { length flags.new ≡ length slots.new }
 {
@@ -183,6 +189,7 @@ fn befall(slots: &mut [Slot], flags: &mut [bool], event: Event, moment: u64, ste
     requires time { moment < 2 ^ 62 }
     requires answers { Answers (at_moment slots.old moment steady) event }
     requires many { length flags.old ≡ length slots.old }
+    requires names { HaveNames slots.old }
     ensures noticed { at_moment slots.new moment steady ≡ noticed event (at_moment slots.old moment steady) }
     ensures short { StartsShort event slots.old }
     ensures many { length flags.new ≡ length slots.new }
@@ -214,6 +221,7 @@ pub(crate) fn befall_in(
     requires time { moment < 2 ^ 62 }
     requires answers { Answers (at_moment slots.old.items moment steady) event }
     requires many { length flags.old.items ≡ length slots.old.items }
+    requires names { HaveNames slots.old.items }
     ensures noticed { at_moment slots.new.items moment steady ≡ noticed event (at_moment slots.old.items moment steady) }
     ensures short { StartsShort event slots.old.items }
     ensures many { length flags.new.items ≡ length slots.new.items }

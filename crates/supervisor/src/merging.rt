@@ -7,7 +7,7 @@ ghost use Rattle.supervisor.specs.Fitted.{is_before as is_name_before, name_of};
 ghost use Rattle.supervisor.specs.Flags.{with_flags};
 ghost use Rattle.supervisor.specs.Marks.{flagged};
 ghost use Rattle.supervisor.specs.Merges.{has_name, unmet, without};
-ghost use Rattle.supervisor.specs.Readied.{AreFresh, AreNamesApart, KeepSteps, coming_of};
+ghost use Rattle.supervisor.specs.Readied.{AreFresh, AreNamesApart, HaveNames, KeepSteps, coming_of};
 ghost use Rattle.supervisor.specs.World.{At, Part, part_name, place_of as place_of_name};
 
 use crate::kinds::Mode;
@@ -139,6 +139,7 @@ fn flag_replacing(slots: &Vec<Slot>, flags: &mut Vec<bool>)
 fn replan_in(slots: &mut Vec<Slot>, flags: &mut Vec<bool>)
     requires flags { with_flags slots.old.items flags.old.items ≡ flagged is_replacing slots.old.items }
     requires many { length flags.old.items ≡ length slots.old.items }
+    requires names { AreNamesApart (map part_name slots.old.items) }
     ensures replanned { slots.new.items ≡ replanned slots.old.items }
     ensures many { length flags.new.items ≡ length flags.old.items }
     ensures capacity { vec_capacity flags.new ≡ vec_capacity flags.old }
@@ -150,6 +151,7 @@ fn replan_in(slots: &mut Vec<Slot>, flags: &mut Vec<bool>)
 fn restart_all(slots: &mut Vec<Slot>, flags: &mut Vec<bool>)
     requires empty { flags.old.items ≡ [] }
     requires room { length slots.old.items ≤ vec_capacity flags.old }
+    requires names { AreNamesApart (map part_name slots.old.items) }
     ensures replanned { slots.new.items ≡ replanned slots.old.items }
     ensures many { length flags.new.items ≡ length slots.old.items }
     ensures capacity { vec_capacity flags.new ≡ vec_capacity flags.old }
@@ -232,7 +234,7 @@ fn place_all(room: &mut Vec<Slot>, flags: &mut Vec<bool>, mut coming: Vec<Slot>)
 /// Those that stand meet what comes for them, and those are restarted that reach a replaced one.
 fn meet_all(slots: &mut Vec<Slot>, coming: &mut Vec<Slot>, flags: &mut Vec<bool>)
     requires fresh { AreFresh coming.old.items }
-    requires apart { AreNamesApart (map part_name slots.old.items) }
+    requires names { HaveNames slots.old.items }
     requires coming_apart { AreNamesApart (map part_name coming.old.items) }
     requires same { KeepSteps (map (λ (p : Part). p.fitted) coming.old.items) (standing slots.old.items) }
     requires empty { flags.old.items ≡ [] }
@@ -257,7 +259,7 @@ pub(crate) fn change_in(
 )
     requires room { length (standing slots.old.items) ≤ ready.room }
     requires few { All (λ (n : ℕ). n < 3) failures.now }
-    requires apart { AreNamesApart (map part_name slots.old.items) }
+    requires names { HaveNames slots.old.items }
     requires same { KeepSteps ready.coming (standing slots.old.items) }
     ensures changed { slots.new.items ≡ with_items (counted 0 failures.now ready.coming) (standing slots.old.items) }
     ensures many { length flags.new.items ≡ length slots.new.items }

@@ -62,6 +62,30 @@ pub(crate) fn link(slots: &[Slot]) {
     chain_each(slots);
 }
 
+/// The first one of those that need the component there hard.
+pub(crate) fn first_user(slots: &[Slot], at: usize) -> Option<User> {
+    slots.get(at)?.first_user()
+}
+
+/// Where it is one, it is put before the others that are still to be gone on from. The answer is the first one then.
+pub(crate) fn put_where(
+    slots: &[Slot],
+    is_one: bool,
+    at: usize,
+    first: Option<usize>,
+) -> Option<usize> {
+    if !is_one {
+        return first;
+    }
+    slots.get(at)?.set_rest(first);
+    Some(at)
+}
+
+/// The first one of those that it was put before.
+pub(crate) fn rest_after(slots: &[Slot], at: usize) -> Option<usize> {
+    slots.get(at)?.rest()
+}
+
 /// The one that comes after that user among those that need the same component.
 pub(crate) fn user_after(slots: &[Slot], user: User) -> Option<User> {
     let slot = slots.get(user.component)?;

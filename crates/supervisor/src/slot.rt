@@ -48,6 +48,8 @@ pub struct Slot {
     first_user: Cell<Option<User>>,
     /// The number of a hard need that was not met the last time.
     missing: Cell<usize>,
+    /// While marks spread, the next one that is still to be gone on from.
+    rest: Cell<Option<usize>>,
 }
 
 impl Model for Slot {
@@ -486,6 +488,14 @@ impl Slot {
         self.missing.set(need);
     }
 
+    pub(crate) fn rest(&self) -> Option<usize> {
+        self.rest.get()
+    }
+
+    pub(crate) fn set_rest(&self, first: Option<usize>) {
+        self.rest.set(first);
+    }
+
     /// It is to be stopped for good.
     pub(crate) fn leave(&mut self)
         ensures { self.new ≡ leaving self.old }
@@ -648,6 +658,7 @@ impl Slot {
             next: None,
             first_user: Cell::new(None),
             missing: Cell::new(0),
+            rest: Cell::new(None),
         }
     }
 }

@@ -40,6 +40,9 @@ perform-act-requires-clause-at c =
 pub perform-act-requires-clause-few : goal.perform-act-requires-clause-few
 perform-act-requires-clause-few c = c.turns.invariant.so_far.sound.kept.few
 
+pub perform-act-requires-clause-names : goal.perform-act-requires-clause-names
+perform-act-requires-clause-names c = record { apart = c.turns.invariant.so_far.sound.kept.names; named = c.turns.invariant.so_far.sound.kept.named }
+
 pub returns-then-is_some-clause-next : goal.returns-then-is_some-clause-next
 returns-then-is_some-clause-next c =
     let m = c.args.moment in

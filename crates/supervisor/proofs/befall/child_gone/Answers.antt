@@ -1,9 +1,14 @@
-use Rattle.std.proofs.Common.{ap, sym, ◌∙◌, Option}
+use Rattle.std.proofs.Common.{ap, refl, sym, ◌∙◌, Option}
 use Rattle.lifecycle.specs.declared.kinds.LifeEvent.{LifeEvent}
 use Rattle.supervisor.specs.Events.{gone_by}
 use Rattle.supervisor.specs.Flags.{at_moment}
+use Rattle.supervisor.specs.World.{without_child}
+use Rattle.supervisor.proofs.Names.{names_changed}
 use Rattle.supervisor.proofs.Worlds.{gone_orphan, gone_living}
 use Rattle.supervisor.proofs.befall.child_gone.Goals as goal
+
+pub live_at-requires-clause-names : goal.live_at-requires-clause-names
+live_at-requires-clause-names c = names_changed (without_child c.args.number) (λ p h. (refl, h)) c.args.at c.args.slots.now c.remove_at.new.slots c.remove_at.ensures c.requires.names
 
 pub returns-then-not-orphan-clause-gone : goal.returns-then-not-orphan-clause-gone
 returns-then-not-orphan-clause-gone c = λ m.

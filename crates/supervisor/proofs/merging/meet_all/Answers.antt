@@ -4,13 +4,13 @@ use Rattle.supervisor.specs.Changes.{fate, replanned}
 use Rattle.supervisor.specs.Merges.{unmet}
 use Rattle.supervisor.specs.Readied.{AreNamesApart, KeepSteps, coming_of}
 use Rattle.supervisor.specs.World.{Part, is_over}
-use Rattle.supervisor.proofs.Changed.{replanned_length}
+use Rattle.supervisor.proofs.Changed.{fated_names, replanned_length}
 use Rattle.supervisor.proofs.Meets.{apart_filter, fits}
 use Rattle.supervisor.proofs.Names.{names}
 use Rattle.supervisor.proofs.merging.meet_all.Goals as goal
 
 pub meet_in-requires-clause-apart : goal.meet_in-requires-clause-apart
-meet_in-requires-clause-apart c = subst (λ (ps : List Part). AreNamesApart (names ps)) (sym c.drop_over.ensures) (apart_filter (λ (p : Part). not (is_over p)) c.args.slots.now.items c.requires.apart)
+meet_in-requires-clause-apart c = subst (λ (ps : List Part). AreNamesApart (names ps)) (sym c.drop_over.ensures) (apart_filter (λ (p : Part). not (is_over p)) c.args.slots.now.items c.requires.names.apart)
 
 pub meet_in-requires-clause-same : goal.meet_in-requires-clause-same
 meet_in-requires-clause-same c =
@@ -22,6 +22,11 @@ restart_all-requires-clause-room c =
     let f = fate (map coming_of c.args.coming.now.items) in
     let e = ap length c.meet_in.ensures.met ∙ length-map c.drop_over.new.slots.items f ∙ ap length c.drop_over.ensures in
     omega (arith, e, c.requires.room)
+
+pub restart_all-requires-clause-names : goal.restart_all-requires-clause-names
+restart_all-requires-clause-names c =
+    let f = fate (map coming_of c.args.coming.now.items) in
+    subst (λ (ps : List Part). AreNamesApart (names ps)) (sym (c.meet_in.ensures.met ∙ ap (λ (ps : List Part). map f ps) c.drop_over.ensures)) (fated_names (map coming_of c.args.coming.now.items) c.args.slots.now.items c.requires.names)
 
 pub returns-clause-met : goal.returns-clause-met
 returns-clause-met c =

@@ -12,8 +12,8 @@ use Rattle.supervisor.proofs.supervisor.Supervisor.change.Goals as goal
 pub change_in-requires-clause-room : goal.change_in-requires-clause-room
 change_in-requires-clause-room c = rw (← c.self.view_is) at c.requires.room
 
-pub change_in-requires-clause-apart : goal.change_in-requires-clause-apart
-change_in-requires-clause-apart c = c.self.invariant.0.names
+pub change_in-requires-clause-names : goal.change_in-requires-clause-names
+change_in-requires-clause-names c = record { apart = c.self.invariant.0.names; named = c.self.invariant.0.named }
 
 pub change_in-requires-clause-same : goal.change_in-requires-clause-same
 change_in-requires-clause-same c = rw (← c.self.view_is) at c.requires.same

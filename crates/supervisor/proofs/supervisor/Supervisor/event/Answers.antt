@@ -13,6 +13,9 @@ befall_in-requires-clause-answers c =
     let w : World = record { parts = i.slots.items; moment = i.moment; steady = i.steady } in
     answers_later w c.args.moment c.args.event (rw (← c.self.view_is) at c.requires.answers)
 
+pub befall_in-requires-clause-names : goal.befall_in-requires-clause-names
+befall_in-requires-clause-names c = record { apart = c.self.invariant.0.names; named = c.self.invariant.0.named }
+
 pub invariant_of-self : goal.invariant_of-self
 invariant_of-self c =
     let i = c.self.inside in

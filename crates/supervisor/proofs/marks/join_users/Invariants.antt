@@ -1,0 +1,5 @@
+use Rattle.supervisor.specs.Flags.{Grows}
+use Rattle.supervisor.proofs.marks.join_users.Given as goal
+
+abbrev pub invariant-loop-turn : goal.invariant-loop-turn
+invariant-loop-turn l = Grows l.slots l.fn.flags l.flags
