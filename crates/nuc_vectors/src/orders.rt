@@ -1,8 +1,8 @@
 ghost use Rattle.std.specs.Prelude.{IfOk};
 ghost use Rattle.dep_order.specs.Orders.{AreNodes};
 
-use dep_order::{OrderFault, hard_dependents, order};
-use nuc_base::NoMemory;
+use dep_order::{Edges, Need, OrderFault, hard_dependents, order};
+use nuc_base::{List, NoMemory};
 use std::alloc::Global;
 use std::test::Fail;
 
