@@ -15,6 +15,7 @@ mod Origins
 mod PlanEnds
 mod Printed
 mod Proposals
+mod Reading
 mod Series
 mod Standing
 pub mod Unrefused

@@ -5,7 +5,6 @@ use Rattle.std.proofs.lemmas.List.{take_all, length-take}
 use Rattle.std.specs.Option.{IsSome}
 use Rattle.std.specs.Result.{IsErrOf}
 use Rattle.std.specs.declared.option.Option.{Option}
-use Rattle.std.specs.Io.KnownBytes.{Consumes}
 use Rattle.nuc_base.specs.Faults.{Rose}
 use Rattle.nuc_base.specs.declared.status.Status.TheVariants as status
 use Rattle.tree_core.specs.Reading.{IsFirstFault}
@@ -74,10 +73,10 @@ some_of (Some o) some = (o, refl)
 
 pub proposed : (d : Device) (input : Input) (library : Shelf) (front : List ℕ) (result : Result Draft Refusal)
     → IsSome d.origin → d.pending ≡ None
-    → IfSome input.document (λ whole. front ≡ take 524289 whole) → Consumes input.document input.rest front → length front ≤ 524289
+    → IfSome input.document (λ whole. front ≡ take 524289 whole)
     → ((o : Origin) → d.origin ≡ Some o → ProposesRead d o library.content library.faults_before library.faults_after front result)
     → IsProposed d input library result
-proposed d input library front result some idle is consumed short comes =
+proposed d input library front result some idle is comes =
     let origin = some_of d.origin some in
     let document = document_comes d origin.0 library.content library.faults_before library.faults_after result input.document front is (comes origin.0 origin.1) in
     record {
@@ -86,7 +85,6 @@ proposed d input library front result some idle is consumed short comes =
       origin_is = origin.1;
       bytes = document.0;
       document = document.1;
-      read = record { bytes = front; consumed = consumed; short = short };
       comes = document.2;
     }
 

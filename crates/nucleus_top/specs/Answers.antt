@@ -1,7 +1,7 @@
 -- The answers of a call: what each prints, and with which status it ends.
 use Rattle.std.specs.Prelude.{◌≡◌, ◌≢◌, ◌⊎◌, ℕ, ◌≤◌, List, ◌++◌, length, Bool, codes}
 use Rattle.std.specs.declared.option.Option.{Option}
-use Rattle.std.specs.Io.KnownBytes.{Appends, Consumes}
+use Rattle.std.specs.Io.KnownBytes.{Appends}
 use Rattle.disk_model.specs.Disk.{Image}
 use Rattle.nuc_base.specs.declared.status.Status.{Status}
 use Rattle.nuc_base.specs.declared.status.Status.TheVariants as status
@@ -91,12 +91,6 @@ pub record Input : Type 0 where
 
 abbrev pub input_of : {S : Type 0} → (S → Option (List ℕ)) → (S → ℕ) → S → S → Input
 input_of left faults old new = record { document = left old; rest = left new; faults_before = faults old; faults_after = faults new }
-
--- What was read is gone from the document: at most so many bytes.
-pub record IsReadUpTo (limit : ℕ) (input : Input) : Type 0 where
-  pub bytes : List ℕ
-  pub consumed : Consumes input.document input.rest bytes
-  pub short : length bytes ≤ limit
 
 -- The library of a call: what it holds, where it tells that, and its counts of faults.
 pub record Shelf : Type 0 where

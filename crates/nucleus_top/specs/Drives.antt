@@ -28,7 +28,7 @@ use Rattle.deployments.specs.Calls.{Call, Elsewhere, IsPendingAs, Spared}
 use Rattle.deployments.specs.Documents.{DrivesTaken, TakesRead}
 use Rattle.deployments.specs.Endings.{Fails, Resumes}
 use Rattle.deployments.specs.Sweeping.{LeavesNoStray}
-use Rattle.nucleus_top.specs.Answers.{Expects, HasRisen, Input, IsReadUpTo, Printed, Prints, Shelf, Store, Told, damaged_line, none_line, pending_line}
+use Rattle.nucleus_top.specs.Answers.{Expects, HasRisen, Input, Printed, Prints, Shelf, Store, Told, damaged_line, none_line, pending_line}
 use Rattle.nucleus_top.specs.Crashes.{KeepsJournal, KeepsOrReads, KeepsSameWhole, KeepsWhole, LeavesFronts, LeavesSame}
 use Rattle.nucleus_top.specs.Inits.{IsRefusedAt}
 use Rattle.nucleus_top.specs.Lasting.{Lasts}
@@ -138,11 +138,9 @@ pub record StartsFrom (image : Image) (d : Device) (start : ℕ → ℕ) : Type 
   pub live : IsLive image number end payloads
   pub start_is : start ≡ starts_at (can_turn (is_lt (nat_cmp number 18446744073709551615)) number) end (front_bytes (number + 1) d)
 
--- The document is all that the source had left, where it tells that, and at most one byte past the limit of a document was
--- read of it.
+-- the document is all that the source had left, where it tells that
 pub record IsDocument (input : Input) (bytes : List ℕ) : Type 0 where
   pub whole : (document : List ℕ) → input.document ≡ Some document → bytes ≡ document
-  pub read : IsReadUpTo 524289 input
 
 module _ {D : Type 0} (may_leave : D → Image → Type 0) (moment : D → ℕ) (left_since : D → ℕ → Image → Type 0) (faults : D → ℕ) (old new : D) (old_list new_list : Option (List RunnerEntry)) (printed : Printed) (result : Status) where
   -- Nothing is pending on this device. The document is taken in on it or not, by the checks in their order, and then from the start of the call one

@@ -20,21 +20,20 @@ use Rattle.refusal_lines.specs.Statuses.{status_of_refusal}
 use Rattle.nucleus_top.specs.Opening.{Stands, HasEntry, StandsForNone}
 use Rattle.nucleus_top.specs.Inits.{IsRefusedAt}
 use Rattle.nucleus_top.specs.Refusing.{Refuses}
-use Rattle.nucleus_top.specs.Answers.{Store, Input, Shelf, Printed, IsUnchanged, IsReadUpTo, Prints, Expects, none_line, damaged_line, pending_line, library_line, status_of, lines_of}
+use Rattle.nucleus_top.specs.Answers.{Store, Input, Shelf, Printed, IsUnchanged, Prints, Expects, none_line, damaged_line, pending_line, library_line, status_of, lines_of}
 use Rattle.nucleus_top.specs.declared.answer.Answer.{Answer}
 use Rattle.nucleus_top.specs.declared.answer.Answer.TheVariants.{Planned, Unplanned, Pending, DiskFailed, SourceFailed, LibraryFailed, NotInitialised, Damaged, NoMemory}
 
 -- ---- a device without a pending deployment
 
 -- What comes of the document on the device: the draft of a plan, or the first refusal. The document is all that the
--- source had left, where it tells that, and at most one byte past the limit of a document was read of it.
+-- source had left, where it tells that.
 pub record IsProposed (d : Device) (input : Input) (library : Shelf) (result : Result Draft Refusal) : Type 0 where
   pub idle : d.pending ≡ None
   pub origin : Origin
   pub origin_is : d.origin ≡ Some origin
   pub bytes : List ℕ
   pub document : (whole : List ℕ) → input.document ≡ Some whole → bytes ≡ whole
-  pub read : IsReadUpTo 524289 input
   pub comes : ProposesRead d origin library.content library.faults_before library.faults_after bytes result
 
 -- the lines of the draft, or want of memory

@@ -13,6 +13,7 @@ ghost use Rattle.deployments.specs.Calls.{Elsewhere, Spared, Stays};
 ghost use Rattle.deployments.specs.Sweeping.{LeavesNoStray};
 ghost use Rattle.checkpoint_log.specs.declared.slots.Slots.{Slots as Journal};
 ghost use Rattle.deploy_state.specs.declared.state.Idle as idles;
+ghost use Rattle.edges.specs.Reading.{ReadsUpTo};
 ghost use Rattle.nucleus_top.specs.Answers.{input_of, printed_of, shelf_of, store_of};
 ghost use Rattle.nucleus_top.specs.Crashes.{KeepsJournal, KeepsOrReads, KeepsSameWhole, LeavesSame};
 ghost use Rattle.nucleus_top.specs.Opening.{HasEntry, Stands};
@@ -215,6 +216,7 @@ fn deploy_read<D: Disk, L: Library, S: Source, K: Sink, R: Runner>(
     ensures swept { (IsTrue D.tells → IsSwept (items_of (idle_device idle)) (D.seen disk.old)) → LeavesNoStray D.tells slots_entries result (D.seen disk.new) }
     ensures edge { result ≡ statuses.Edge → Rose (S.faults source.old) (S.faults source.new) ⊎ Rose (K.faults sink.old) (K.faults sink.new) }
     ensures quiet_source { result ≢ statuses.Edge → S.faults source.new ≡ S.faults source.old }
+    ensures read { ReadsUpTo 524289 (S.left source.old) (S.left source.new) }
     ensures source_later { S.faults source.old ≤ S.faults source.new }
 {
     match read_up_to(alloc, source, DOCUMENT_LIMIT + 1) {
@@ -252,6 +254,7 @@ pub(crate) fn deploy<D: Disk, L: Library, S: Source, K: Sink, R: Runner>(
     ensures swept { LeavesNoStray D.tells slots_entries result (D.seen disk.new) }
     ensures edge { result ≡ statuses.Edge → Rose (S.faults source.old) (S.faults source.new) ⊎ Rose (K.faults sink.old) (K.faults sink.new) }
     ensures quiet_source { result ≢ statuses.Edge → S.faults source.new ≡ S.faults source.old }
+    ensures read { ReadsUpTo 524289 (S.left source.old) (S.left source.new) }
     ensures source_later { S.faults source.old ≤ S.faults source.new }
 {
     match open_idle(alloc, disk) {

@@ -4,6 +4,7 @@ ghost use Rattle.disk_model.specs.Disk.{Leaves};
 ghost use Rattle.nuc_base.specs.declared.status.Status.TheVariants as status;
 ghost use Rattle.command_words.specs.declared.order.Order.{Order};
 ghost use Rattle.command_words.specs.declared.order.Order.TheVariants as order;
+ghost use Rattle.edges.specs.Reading.{ReadsUpTo};
 ghost use Rattle.nucleus_top.specs.Words.{Asks};
 ghost use Rattle.nucleus_top.specs.Answers.{store_of, input_of, shelf_of, printed_of, IsQuiet, IsStill};
 ghost use Rattle.nucleus_top.specs.Leaving.{IsDurable, Keeps, MayLeave, files_of};
@@ -22,6 +23,7 @@ use nuc_base::Status;
 use std::alloc::Global;
 
 /// Does all but the printing.
+#[tactic(auto, using(crate::proofs::Reading::reads_none))]
 fn answer<D: Disk, L: Library, S: Source>(
     alloc: Global,
     words: &Vec<String>,
@@ -41,6 +43,7 @@ fn answer<D: Disk, L: Library, S: Source>(
         (name : List ℕ) → ¬ (files_of order name) → D.seen disk.new name ≡ D.seen disk.old name }
     ensures disk_later { D.faults disk.old ≤ D.faults disk.new }
     ensures library_later { L.faults library.old ≤ L.faults library.new }
+    ensures read { ReadsUpTo 524289 (S.left source.old) (S.left source.new) }
     ensures source_later { S.faults source.old ≤ S.faults source.new }
 {
     words_ask_one_thing();
@@ -85,6 +88,7 @@ pub(crate) fn look<D: Disk, L: Library, S: Source, K: Sink>(
         (name : List ℕ) → ¬ (files_of order name) → D.seen disk.new name ≡ D.seen disk.old name }
     ensures disk_later { D.faults disk.old ≤ D.faults disk.new }
     ensures library_later { L.faults library.old ≤ L.faults library.new }
+    ensures read { ReadsUpTo 524289 (S.left source.old) (S.left source.new) }
     ensures source_later { S.faults source.old ≤ S.faults source.new }
     ensures sink_later { K.faults sink.old ≤ K.faults sink.new }
 {

@@ -6,6 +6,7 @@ ghost use Rattle.command_words.specs.declared.order.Order.TheVariants as order;
 ghost use Rattle.deploy_state.specs.Loading.{IsReady};
 ghost use Rattle.device.specs.Devices.{device_view, IsRegularDevice};
 ghost use Rattle.device.specs.Sound.{IsSound};
+ghost use Rattle.edges.specs.Reading.{ReadsUpTo};
 ghost use Rattle.nucleus_top.specs.Answers.{store_of, input_of, shelf_of, IsQuiet, IsStill};
 ghost use Rattle.nucleus_top.specs.Leaving.{Keeps};
 ghost use Rattle.nucleus_top.specs.Planning.{TellsDraft, TellsRefusal, Tells, NamesPending, PlansOn, Plans};
@@ -69,6 +70,7 @@ fn plan_idle<L: Library, S: Source>(
     ensures kept { L.content library.new ≡ L.content library.old }
     ensures quiet { result ≢ Answer.SourceFailed → S.faults source.new ≡ S.faults source.old }
     ensures library_later { L.faults library.old ≤ L.faults library.new }
+    ensures read { ReadsUpTo 524289 (S.left source.old) (S.left source.new) }
     ensures source_later { S.faults source.old ≤ S.faults source.new }
 {
     let bytes = match read_up_to(alloc, source, DOCUMENT_LIMIT + 1) {
@@ -90,6 +92,7 @@ fn pending(alloc: Global, id: &Label) -> Answer
     }
 }
 
+#[tactic(auto, using(crate::proofs::Reading::reads_none))]
 fn plan_on<L: Library, S: Source>(
     alloc: Global,
     device: &Device,
@@ -104,6 +107,7 @@ fn plan_on<L: Library, S: Source>(
     ensures kept { L.content library.new ≡ L.content library.old }
     ensures quiet { result ≢ Answer.SourceFailed → S.faults source.new ≡ S.faults source.old }
     ensures library_later { L.faults library.old ≤ L.faults library.new }
+    ensures read { ReadsUpTo 524289 (S.left source.old) (S.left source.new) }
     ensures source_later { S.faults source.old ≤ S.faults source.new }
 {
     match &device.pending {
@@ -125,6 +129,7 @@ fn plan_stored<T: HasDevice + Drop, L: Library, S: Source>(
     ensures kept { L.content library.new ≡ L.content library.old }
     ensures quiet { result ≢ Answer.SourceFailed → S.faults source.new ≡ S.faults source.old }
     ensures library_later { L.faults library.old ≤ L.faults library.new }
+    ensures read { ReadsUpTo 524289 (S.left source.old) (S.left source.new) }
     ensures source_later { S.faults source.old ≤ S.faults source.new }
 {
     plan_on(alloc, state.stored(), library, source)
@@ -132,6 +137,7 @@ fn plan_stored<T: HasDevice + Drop, L: Library, S: Source>(
 
 /// What the document of the source would do to the device for which the journal stands, with the recipes of the library.
 /// It writes nothing to the disk, and a pending deployment is refused before the source is read.
+#[tactic(auto, using(crate::proofs::Reading::reads_none))]
 pub fn plan<D: Disk, L: Library, S: Source>(
     alloc: Global,
     disk: &mut D,
@@ -147,6 +153,7 @@ pub fn plan<D: Disk, L: Library, S: Source>(
     ensures seen { D.seen disk.new ≡ D.seen disk.old }
     ensures disk_later { D.faults disk.old ≤ D.faults disk.new }
     ensures library_later { L.faults library.old ≤ L.faults library.new }
+    ensures read { ReadsUpTo 524289 (S.left source.old) (S.left source.new) }
     ensures source_later { S.faults source.old ≤ S.faults source.new }
 {
     match open(alloc, disk) {

@@ -5,6 +5,7 @@ ghost use Rattle.command_words.specs.Words.{IsOrder};
 ghost use Rattle.command_words.specs.declared.order.Order.{Order};
 ghost use Rattle.command_words.specs.declared.order.Order.TheVariants as order;
 ghost use Rattle.deployments.specs.Calls.{Stays};
+ghost use Rattle.edges.specs.Reading.{ReadsUpTo};
 ghost use Rattle.nucleus_top.specs.Drives.{Deploys, DriveParts, Drives, IsDeployed, IsResumed, IsTurnedAway, PendingParts, RefusedParts, TurnsAway, Withholds};
 ghost use Rattle.nucleus_top.specs.Words.{Asks};
 ghost use Rattle.nucleus_top.specs.Answers.{store_of, input_of, shelf_of, printed_of};
@@ -93,6 +94,8 @@ pub fn nucleus<D: Disk, L: Library, S: Source, K: Sink, R: Runner>(
     ensures disk_later { Stays (D.faults disk.old) (D.faults disk.new) }
     ensures disk_grows { (Drives (map string_bytes words.now.items) → ⊥) → D.faults disk.old ≤ D.faults disk.new }
     ensures library_later { L.faults library.old ≤ L.faults library.new }
+    // At most one byte past the limit of a document is read, whatever is answered.
+    ensures read { ReadsUpTo 524289 (S.left source.old) (S.left source.new) }
     ensures source_later { S.faults source.old ≤ S.faults source.new }
     ensures sink_later { Stays (K.faults sink.old) (K.faults sink.new) }
     ensures sink_grows { (Drives (map string_bytes words.now.items) → ⊥) → K.faults sink.old ≤ K.faults sink.new }

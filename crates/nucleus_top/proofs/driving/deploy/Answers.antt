@@ -5,6 +5,7 @@ use Rattle.deploy_state.specs.States.{idle_device}
 use Rattle.nucleus_top.specs.Answers.{Input, Printed, Shelf, Store, input_of, printed_of, shelf_of, store_of}
 use Rattle.nucleus_top.specs.Drives.{slots_start}
 use Rattle.nucleus_top.proofs.Driven.{idle_refusal, idle_turns, ran_on, stays, stays_on, tells, told_sweeps}
+use Rattle.nucleus_top.proofs.Reading.{reads_none}
 use Rattle.nucleus_top.proofs.driving.deploy.Goals as goal
 
 -- ---- no deployment is pending
@@ -122,3 +123,8 @@ returns-in-Err-clause-swept g c =
     let printed : Printed = printed_of g.K.Sink.held g.K.Sink.faults c.args.sink.now c.tell.new.sink in
     told_sweeps g.D.Disk.tells printed c.tell.result (g.D.Disk.seen c.open_idle.new.disk) c.in-Err.answer
     (idle_refusal (store_of g.D.Disk.tells g.D.Disk.seen g.D.Disk.faults c.args.disk.now c.open_idle.new.disk) c.in-Err.answer c.in-Err.ensures.answers) c.tell.ensures.told
+
+-- ---- what is read of the source
+
+pub returns-in-Err-clause-read : goal.returns-in-Err-clause-read
+returns-in-Err-clause-read g c = reads_none 524289 (g.S.Source.left c.args.source.now)

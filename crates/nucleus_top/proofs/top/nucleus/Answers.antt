@@ -12,6 +12,7 @@ use Rattle.nucleus_top.proofs.Driven.{no_quiet, not_both, start_spared, stays, u
 use Rattle.nucleus_top.proofs.Images.{by_none}
 use Rattle.disk_model.specs.Moments.{at_start}
 use Rattle.nucleus_top.proofs.Whole.{same_kept}
+use Rattle.nucleus_top.proofs.Reading.{reads_none}
 use Rattle.nucleus_top.proofs.top.nucleus.Goals as goal
 
 -- ---- want of memory
@@ -349,3 +350,17 @@ pub returns-in-Other-clause-pending : goal.returns-in-Other-clause-pending
 returns-in-Other-clause-pending g c = λ root is.
     let asks : AsksFor (map string_bytes c.args.words.now.items) asked.Other = c.in-Other.ensures in
     absurd (asks (root, inl is))
+
+-- ---- what is read of the source
+
+pub returns-in-NoMemory-clause-read : goal.returns-in-NoMemory-clause-read
+returns-in-NoMemory-clause-read g c = reads_none 524289 (g.S.Source.left c.args.source.now)
+
+pub returns-in-Resume-clause-read : goal.returns-in-Resume-clause-read
+returns-in-Resume-clause-read g c = reads_none 524289 (g.S.Source.left c.args.source.now)
+
+pub returns-in-Deploy-clause-read : goal.returns-in-Deploy-clause-read
+returns-in-Deploy-clause-read g c = c.deploy.ensures.read
+
+pub returns-in-Other-clause-read : goal.returns-in-Other-clause-read
+returns-in-Other-clause-read g c = c.look.ensures.read
