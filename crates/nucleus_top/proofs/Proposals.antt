@@ -1,5 +1,5 @@
 -- From what comes of a document to the answer of `plan`.
-use Rattle.std.proofs.Common.{◌≡◌, ◌∙◌, inl, inr, ℕ, ◌≤◌, ◌<◌, List, length, take, refl, sym, ap, subst, arith, Result, Ok, Err, Some, None, IfSome}
+use Rattle.std.proofs.Common.{◌≡◌, ◌∙◌, inl, inr, ℕ, ◌<◌, List, length, take, refl, sym, ap, subst, arith, Result, Ok, Err, Some, None, IfSome}
 use Rattle.std.proofs.lemmas.Bool.{cases_lt, false≢true}
 use Rattle.std.proofs.lemmas.List.{take_all, length-take}
 use Rattle.std.specs.Option.{IsSome}
