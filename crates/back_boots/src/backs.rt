@@ -1,5 +1,5 @@
 //! The bootstrap steps that run again, one after another.
-ghost use Rattle.std.specs.Prelude.{◌≡◌, ◌≤◌, [], ℕ, List, is_none, None, IfOk, IfSome, IsErrOf, IsTrue, OnErr, option_map, slice_get};
+ghost use Rattle.std.specs.Prelude.{◌≡◌, ◌≤◌, [], ℕ, List, is_none, None, IfOk, IfSome, IsErrOf, IsTrue, OnErr};
 ghost use Rattle.nuc_base.specs.Faults.{Rose};
 ghost use Rattle.device.specs.declared.staged.Stage.TheVariants as stages;
 ghost use Rattle.deploy_state.specs.States.{InBacked, InBacking, IsIn, backed_device, backing_device};
@@ -19,10 +19,9 @@ ghost use Rattle.back_boots.specs.Backs.{AreMadeAgain, IsStaged};
 use crate::turns::run_turn;
 use deploy_state::{Backed, Backing};
 use disk_model::Disk;
-use driver::{Booted, Over};
+use driver::{Booted, Over, restart_of, step_at};
 use edges::Sink;
 use gate_log::Journal;
-use nuc_base::Exit;
 use step_runner::Runner;
 use supervisor::Prepared;
 
@@ -45,15 +44,6 @@ fn is_last<J: Journal + Drop>(state: &Backed<J>) -> bool
     }
 }
 
-fn step_at(made: &[Prepared], at: u32) -> Option<&Prepared>
-    ensures { option_map (λ m. m.now) result ≡ slice_get made.now at }
-{
-    match made.get(at as usize) {
-        Some(step) => Some(step),
-        None => None,
-    }
-}
-
 /// The bootstrap step whose turn it is.
 fn next_step<'a, J: Journal + Drop>(
     state: &Backing<J>,
@@ -71,25 +61,6 @@ fn next_step<'a, J: Journal + Drop>(
         Some(pending) => step_at(made, pending.ended),
         None => None,
     }
-}
-
-/// The end of the call for which the end of a step asks, which may be the last one.
-fn restart_of(exit: Exit, is_last: bool) -> Option<Booted>
-    ensures { result ≡ restart_of exit is_last }
-{
-    let Exit::Code(code) = exit else {
-        return None;
-    };
-    if code == 100 {
-        return Some(Booted::Restart);
-    }
-    if code == 101 {
-        return Some(Booted::Reboot);
-    }
-    if code == 0 && is_last {
-        return Some(Booted::Restart);
-    }
-    None
 }
 
 /// Runs the bootstrap steps that run again on the way back, one after another, from the first that is not ended: until none

@@ -22,11 +22,9 @@ ghost use Rattle.driver.specs.Turns.{Begins, Ends, Turns};
 ghost use Rattle.driver.specs.Went.{Went};
 ghost use Rattle.back_boots.specs.Backs.{IsStillBacking};
 
-use crate::lines::tell_failed_boot;
-use crate::steps::run_step;
 use deploy_state::{Backed, Backing};
 use disk_model::Disk;
-use driver::Over;
+use driver::{Over, goes_on, run_step, tell_failed_boot};
 use edges::{EdgeFault, Sink};
 use gate_log::Journal;
 use nuc_base::Exit;
@@ -55,16 +53,6 @@ fn begin<D: Disk, J: Journal + Drop>(state: Backing<J>, disk: &mut D) -> Result<
     match state.begin(disk) {
         Ok(next) => Ok(next),
         Err(_) => Err(Over::Disk),
-    }
-}
-
-/// Whether the end is no failure.
-fn goes_on(exit: Exit) -> bool
-    ensures { result ≡ goes_on exit }
-{
-    match exit {
-        Exit::Code(code) => code == 0 || code == 100 || code == 101,
-        Exit::Signal | Exit::TimedOut | Exit::NotStarted | Exit::Lost => false,
     }
 }
 

@@ -33,7 +33,8 @@ fn is_through<J: Journal + Drop>(state: &Booting<J>) -> bool
     state.failed() || state.next().is_none()
 }
 
-fn step_at(made: &[Prepared], at: u32) -> Option<&Prepared>
+/// The prepared step at this place, where there is one.
+pub fn step_at(made: &[Prepared], at: u32) -> Option<&Prepared>
     ensures { option_map (λ m. m.now) result ≡ slice_get made.now at }
 {
     match made.get(at as usize) {
@@ -62,7 +63,7 @@ fn next_step<'a, J: Journal + Drop>(
 }
 
 /// The end of the call for which the end of a step asks, which may be the last one.
-fn restart_of(exit: Exit, is_last: bool) -> Option<Booted>
+pub fn restart_of(exit: Exit, is_last: bool) -> Option<Booted>
     ensures { result ≡ restart_of exit is_last }
 {
     let Exit::Code(code) = exit else {

@@ -12,6 +12,8 @@ mod over;
 mod steps;
 mod turns;
 
-pub use boots::run_boots;
-pub use lines::acknowledge;
+pub use boots::{restart_of, run_boots, step_at};
+pub use lines::{acknowledge, tell_exit, tell_failed_boot};
 pub use over::{Booted, Over};
+pub use steps::{probes, run_step};
+pub use turns::goes_on;

@@ -21,7 +21,7 @@ pub fn acknowledge<K: Sink>(sink: &mut K, receipt: &Receipt) -> Result<(), EdgeF
 }
 
 /// Prints how a step ended, and the line's end.
-fn tell_exit<K: Sink>(sink: &mut K, exit: Exit) -> Result<(), EdgeFault>
+pub fn tell_exit<K: Sink>(sink: &mut K, exit: Exit) -> Result<(), EdgeFault>
     ensures line { Writes (K.held sink.old) (K.held sink.new) (exit_text exit ++ codes "\n") result }
     ensures cause { HasCause (K.faults sink.old) (K.faults sink.new) result }
     ensures quiet { OnOk result (K.faults sink.new ≡ K.faults sink.old) }
@@ -39,7 +39,7 @@ fn tell_exit<K: Sink>(sink: &mut K, exit: Exit) -> Result<(), EdgeFault>
 }
 
 /// Prints that the bootstrap step of a component failed.
-pub(crate) fn tell_failed_boot<K: Sink>(
+pub fn tell_failed_boot<K: Sink>(
     sink: &mut K,
     id: &Label,
     name: &Name,

@@ -16,8 +16,8 @@ use recipe_reader::Skip;
 use step_runner::{Runner, Waited};
 use supervisor::Prepared;
 
-/// What the probe says.
-fn probes<R: Runner>(runner: &mut R, skip: &Skip) -> bool
+/// What the probe says, which is asked once.
+pub fn probes<R: Runner>(runner: &mut R, skip: &Skip) -> bool
     ensures notes { Notes (Listed R.list R.told R.asked runner.old) (Listed R.list R.told R.asked runner.new) (probe_seen skip.now result) }
     ensures lives { R.living runner.new ≡ R.living runner.old }
 {
@@ -86,7 +86,7 @@ fn deadline_of(step: &Prepared, now: u64) -> u64
 }
 
 /// How the bootstrap step ends that is run now: skipped, refused, ended, or killed at its deadline.
-pub(crate) fn run_step<R: Runner>(runner: &mut R, step: &Prepared) -> Exit
+pub fn run_step<R: Runner>(runner: &mut R, step: &Prepared) -> Exit
     requires none { R.living runner.old ≡ [] }
     requires limit { IsSomeAnd step.now.limit_ms (λ l. l ≤ 1000000000) }
     ensures went { (p : Place) → MayStep p step.now (Listed R.list R.told R.asked runner.old) →

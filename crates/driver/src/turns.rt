@@ -58,7 +58,7 @@ fn begin<D: Disk, J: Journal + Drop>(state: Booting<J>, disk: &mut D) -> Result<
 }
 
 /// Whether the end is no failure.
-fn goes_on(exit: Exit) -> bool
+pub fn goes_on(exit: Exit) -> bool
     ensures { result ≡ goes_on exit }
 {
     match exit {
