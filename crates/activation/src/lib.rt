@@ -19,4 +19,5 @@ mod turns;
 mod waits;
 
 pub use activating::{Activated, activate};
+pub use lines::tell_close;
 pub use rolling::roll;

@@ -8,8 +8,8 @@ ghost use Rattle.status_text.specs.Words.{outcome_text};
 ghost use Rattle.driver.specs.Lines.{closed_line, exit_text, failed_line, step_text};
 
 use device::Device;
+use driver::tell_exit;
 use edges::{EdgeFault, Sink, write_pieces};
-use itoa::Buffer;
 use nuc_base::{Exit, Label, Name, Outcome, Step};
 use status_text::outcome_word;
 
@@ -24,24 +24,6 @@ fn step_word(step: Step) -> &'static str
         Step::Shutdown => "shutdown",
         Step::Recover => "recover",
         Step::Bootstrap => "bootstrap",
-    }
-}
-
-/// Prints how a step ended, and the line's end.
-fn tell_exit<K: Sink>(sink: &mut K, exit: Exit) -> Result<(), EdgeFault>
-    ensures line { Writes (K.held sink.old) (K.held sink.new) (exit_text exit ++ codes "\n") result }
-    ensures cause { HasCause (K.faults sink.old) (K.faults sink.new) result }
-    ensures quiet { OnOk result (K.faults sink.new ≡ K.faults sink.old) }
-{
-    match exit {
-        Exit::Code(code) => {
-            let mut digits = Buffer::new();
-            write_pieces(sink, &["code ", digits.format(code), "\n"])
-        }
-        Exit::Signal => write_pieces(sink, &["signal\n"]),
-        Exit::TimedOut => write_pieces(sink, &["timeout\n"]),
-        Exit::NotStarted => write_pieces(sink, &["notstarted\n"]),
-        Exit::Lost => write_pieces(sink, &["lost\n"]),
     }
 }
 
@@ -91,7 +73,7 @@ fn tell_closed<K: Sink>(sink: &mut K, id: &Label, outcome: Outcome) -> Result<()
 }
 
 /// Prints how the deployment closed that closed last.
-pub(crate) fn tell_close<K: Sink>(sink: &mut K, device: &Device) -> Result<(), EdgeFault>
+pub fn tell_close<K: Sink>(sink: &mut K, device: &Device) -> Result<(), EdgeFault>
     ensures line { (closed : List (List ℕ × Outcomes)) → (id : List ℕ) → (outcome : Outcomes) → (device_view device.now).closed ≡ closed ++ (id, outcome) ∷ [] →
         Writes (K.held sink.old) (K.held sink.new) (closed_line id outcome) result }
     ensures cause { HasCause (K.faults sink.old) (K.faults sink.new) result }

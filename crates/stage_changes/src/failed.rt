@@ -22,7 +22,7 @@ ghost use Rattle.ending_laws.specs.Drives.{Drives};
 ghost use Rattle.activation.specs.Ended.{HasClosed};
 ghost use Rattle.stage_changes.specs.Fails.{Breaks, is_to_roll_back};
 
-use crate::lines::tell_close;
+use activation::tell_close;
 use deploy_state::{Activating, BrokeOff, Idle, Rolling};
 use disk_model::Disk;
 use driver::Over;

@@ -21,7 +21,7 @@ ghost use Rattle.ending_laws.specs.Drives.{Drives};
 ghost use Rattle.activation.specs.Ended.{HasBroken, HasClosed};
 ghost use Rattle.stage_changes.specs.Fails.{IsGivenUp, is_to_roll_back};
 
-use crate::lines::tell_close;
+use activation::tell_close;
 use deploy_state::{Activating, Backing, Booting, Idle};
 use device::Device;
 use disk_model::Disk;

@@ -10,7 +10,6 @@ mod breaking;
 mod failed;
 mod failing;
 mod items;
-mod lines;
 mod plan;
 
 pub use breaking::{break_off_activating, break_off_booting};
