@@ -81,7 +81,7 @@ answered_at w v m is answered = ap has_answered is ∙ answered
 -- ---- from a front
 
 module _ (p : Place) (d : Device) (world : World) (told : Told) (living : List ℕ) (f : IsFront p d world told living) where
-  pub enters : IsOrderly p.world → rises (duty_of d).phase ≡ true → MayEnter p d world told living
+  enters : IsOrderly p.world → rises (duty_of d).phase ≡ true → MayEnter p d world told living
   enters orderly up =
       let s = f.between.stands in
       let still = f.between.still in

@@ -16,4 +16,4 @@ pub use breaking::{break_off_activating, break_off_booting};
 pub use failed::{break_off_again, close_again, keep_again};
 pub use failing::{close_backing, is_to_roll_back, keep_activating, keep_booting};
 pub use items::change_items;
-pub use plan::{begin_items, enter_plan};
+pub use plan::begin_items;
