@@ -21,3 +21,4 @@ mod waits;
 pub use activating::{Activated, activate};
 pub use lines::tell_close;
 pub use rolling::roll;
+pub use waits::longest_wait;

@@ -16,15 +16,18 @@ use crate::laws::driving_laws;
 use step_runner::{Runner, Waited};
 use supervisor::{Event, Supervise};
 
-/// How long may be waited: to the next deadline, or for 1,000 ms where there is none.
-fn longest_wait<S: Supervise>(supervisor: &S, now: u64) -> u64
+/// How long is waited where there is no deadline, in milliseconds: then all is looked at again.
+const LOOK_AGAIN_MS: u64 = 1_000;
+
+/// How long may be waited, in milliseconds: to the next deadline, or where there is none, until all is looked at again.
+pub fn longest_wait<S: Supervise>(supervisor: &S, now: u64) -> u64
     requires { (S.world supervisor.now).moment ≡ now }
     ensures limit { result ≡ until (least_deadline (S.world supervisor.now)) now }
     ensures near { result ≤ 1000000000 }
 {
     match supervisor.next_deadline() {
         Some(deadline) => deadline.saturating_sub(now),
-        None => 1000,
+        None => LOOK_AGAIN_MS,
     }
 }
 

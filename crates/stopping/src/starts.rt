@@ -1,19 +1,18 @@
 // The moment, and the start of one step.
 ghost use Rattle.std.specs.Prelude.{◌≡◌, ◌≤◌, ◌<◌, ◌^◌, ℕ, List, true, false};
 ghost use Rattle.device.specs.Devices.{Device};
-ghost use Rattle.step_runner.specs.Entries.{Listed, Notes};
+ghost use Rattle.step_runner.specs.Entries.{Listed};
 ghost use Rattle.supervisor.specs.Events.{skipped};
 ghost use Rattle.session.specs.Happenings.{Happening};
 ghost use Rattle.session.specs.Places.{Place, left_by};
-ghost use Rattle.driver.specs.Steps.{probe_seen};
 ghost use Rattle.driver.specs.Went.{Acts};
 ghost use Rattle.progress_laws.specs.Kept.{IsFalling};
 ghost use Rattle.ending_laws.specs.Drives.{Drives, Falls, NotAbove};
 ghost use Rattle.stopping.specs.Runs.{Comes, IsStarting, MayLaunch, Runs};
 
 use crate::laws::leaving_laws;
+use driver::probes;
 use nuc_base::Step;
-use recipe_reader::Skip;
 use step_runner::Runner;
 use supervisor::{Event, Supervise};
 
@@ -32,17 +31,6 @@ pub(crate) fn pass<R: Runner, S: Supervise>(runner: &mut R, supervisor: &mut S) 
     let now = runner.moment();
     supervisor.event(Event::Passed, now);
     now
-}
-
-/// What the probe says.
-fn probes<R: Runner>(runner: &mut R, skip: &Skip) -> bool
-    ensures notes { Notes (Listed R.list R.told R.asked runner.old) (Listed R.list R.told R.asked runner.new) (probe_seen skip.now result) }
-    ensures lives { R.living runner.new ≡ R.living runner.old }
-{
-    match skip {
-        Skip::Exists(path) => runner.exists(path),
-        Skip::OnPath(word) => runner.on_path(word),
-    }
 }
 
 /// Whether the step is to be skipped that is to be started, which its probe says.

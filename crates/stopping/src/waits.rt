@@ -1,8 +1,7 @@
 // One wait.
-ghost use Rattle.std.specs.Prelude.{◌≡◌, ◌⊎◌, ◌≤◌, ◌<◌, ◌+◌, ◌^◌, ℕ, List};
+ghost use Rattle.std.specs.Prelude.{◌≡◌, ◌⊎◌, ◌<◌, ◌+◌, ◌^◌, ℕ, List};
 ghost use Rattle.device.specs.Devices.{Device};
 ghost use Rattle.step_runner.specs.Entries.{Listed};
-ghost use Rattle.supervisor.specs.Deadlines.{least_deadline, until};
 ghost use Rattle.session.specs.Happenings.{Happening};
 ghost use Rattle.session.specs.Places.{Place, left_by};
 ghost use Rattle.driver.specs.Went.{Acts};
@@ -13,20 +12,9 @@ ghost use Rattle.ending_laws.specs.Drives.{Drives, NotAbove};
 ghost use Rattle.stopping.specs.Runs.{Comes, MaySit};
 
 use crate::laws::leaving_laws;
+use activation::longest_wait;
 use step_runner::{Runner, Waited};
 use supervisor::{Event, Supervise};
-
-/// How long may be waited: to the next deadline, or for 1,000 ms where there is none.
-fn longest_wait<S: Supervise>(supervisor: &S, now: u64) -> u64
-    requires { (S.world supervisor.now).moment ≡ now }
-    ensures limit { result ≡ until (least_deadline (S.world supervisor.now)) now }
-    ensures near { result ≤ 1000000000 }
-{
-    match supervisor.next_deadline() {
-        Some(deadline) => deadline.saturating_sub(now),
-        None => 1000,
-    }
-}
 
 /// Waits for the end of a child or to the next deadline, and tells what came.
 pub(crate) fn wait_once<R: Runner, S: Supervise>(runner: &mut R, supervisor: &mut S, now: u64)
