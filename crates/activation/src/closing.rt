@@ -51,7 +51,10 @@ pub(crate) fn close_plan<D: Disk, J: Journal + Drop, K: Sink, S: Supervise>(
             supervisor.steady();
             match tell_close(sink, idle.device()) {
                 Ok(()) => Ok(idle),
-                Err(_) => Err(Over::Edge),
+                Err(_) => {
+                    drop(idle);
+                    Err(Over::Edge)
+                }
             }
         }
         Err(_) => Err(Over::Disk),
@@ -87,7 +90,10 @@ pub(crate) fn close_set<D: Disk, J: Journal + Drop, K: Sink, S: Supervise>(
             supervisor.steady();
             match tell_close(sink, idle.device()) {
                 Ok(()) => Ok(idle),
-                Err(_) => Err(Over::Edge),
+                Err(_) => {
+                    drop(idle);
+                    Err(Over::Edge)
+                }
             }
         }
         Err(_) => Err(Over::Disk),

@@ -74,7 +74,10 @@ pub(crate) fn note_failure<D: Disk, J: Journal + Drop, K: Sink, S: Supervise>(
     match state.failed(disk, name, step, exit) {
         Ok(next) => match tell_failed(&next, sink, name, step, exit) {
             Ok(()) => Ok(next),
-            Err(_) => Err(Over::Edge),
+            Err(_) => {
+                drop(next);
+                Err(Over::Edge)
+            }
         },
         Err(_) => Err(Over::Disk),
     }

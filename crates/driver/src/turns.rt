@@ -118,7 +118,10 @@ fn end<D: Disk, J: Journal + Drop, K: Sink>(
     match state.ended(disk, exit) {
         Ok(next) => match tell_end(&next, sink, exit) {
             Ok(()) => Ok(next),
-            Err(_) => Err(Over::Edge),
+            Err(_) => {
+                drop(next);
+                Err(Over::Edge)
+            }
         },
         Err(_) => Err(Over::Disk),
     }

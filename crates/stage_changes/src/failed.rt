@@ -92,7 +92,10 @@ pub fn keep_again<D: Disk, J: Journal + Drop, K: Sink, S: Supervise>(
             supervisor.steady();
             match tell_close(sink, idle.device()) {
                 Ok(()) => Ok(idle),
-                Err(_) => Err(Over::Edge),
+                Err(_) => {
+                    drop(idle);
+                    Err(Over::Edge)
+                }
             }
         }
         Err(_) => Err(Over::Disk),
@@ -131,7 +134,10 @@ pub fn close_again<D: Disk, J: Journal + Drop, K: Sink, S: Supervise>(
             supervisor.steady();
             match tell_close(sink, idle.device()) {
                 Ok(()) => Ok(idle),
-                Err(_) => Err(Over::Edge),
+                Err(_) => {
+                    drop(idle);
+                    Err(Over::Edge)
+                }
             }
         }
         Err(_) => Err(Over::Disk),

@@ -73,7 +73,10 @@ pub fn keep_booting<D: Disk, J: Journal + Drop, K: Sink, S: Supervise>(
             supervisor.steady();
             match tell_close(sink, idle.device()) {
                 Ok(()) => Ok(idle),
-                Err(_) => Err(Over::Edge),
+                Err(_) => {
+                    drop(idle);
+                    Err(Over::Edge)
+                }
             }
         }
         Err(_) => Err(Over::Disk),
@@ -112,7 +115,10 @@ pub fn keep_activating<D: Disk, J: Journal + Drop, K: Sink, S: Supervise>(
             supervisor.steady();
             match tell_close(sink, idle.device()) {
                 Ok(()) => Ok(idle),
-                Err(_) => Err(Over::Edge),
+                Err(_) => {
+                    drop(idle);
+                    Err(Over::Edge)
+                }
             }
         }
         Err(_) => Err(Over::Disk),
@@ -150,7 +156,10 @@ pub fn close_backing<D: Disk, J: Journal + Drop, K: Sink, S: Supervise>(
             supervisor.steady();
             match tell_close(sink, idle.device()) {
                 Ok(()) => Ok(idle),
-                Err(_) => Err(Over::Edge),
+                Err(_) => {
+                    drop(idle);
+                    Err(Over::Edge)
+                }
             }
         }
         Err(_) => Err(Over::Disk),
