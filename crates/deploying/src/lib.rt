@@ -2,8 +2,8 @@
 //!
 //! It promises that what happens is a history that `session` allows, that at every moment each image that a crash may leave
 //! stands for the device that a front of its records gives, that the lines are those of the records, and that no child
-//! lives where the call gives up. It joins the calls of `driver`, `activation`, `stage_changes`, `stopping` and
-//! `back_boots`.
+//! lives where the call gives up. It joins the calls of `driver`, `activation`, `stage_changes`, `stopping`, `back_boots`
+//! and `giving_up`, over what `preparation` made ready.
 #![tactic(auto)]
 
 mod backing;
