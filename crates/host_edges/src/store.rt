@@ -39,9 +39,9 @@ pub struct Store<'a, R: Files<File = File>> {
     /// The name of the file that `other` is.
     named: String,
     /// A folder which was synced, as all above it were, and nothing in these was made or removed since.
-    linked: String,
+    synced: String,
     /// Whether there is one.
-    is_linked: bool,
+    has_synced: bool,
     begun: bool,
     failed: bool,
 }
@@ -60,8 +60,8 @@ impl<'a, R: Files<File = File> + AllocGlobal> Store<'a, R> {
             second: Slot::new(alloc, true)?,
             other: Slot::new(alloc, false)?,
             named: String::with_capacity(alloc, LONGEST_NAME)?,
-            linked: String::with_capacity(alloc, LONGEST_NAME)?,
-            is_linked: false,
+            synced: String::with_capacity(alloc, LONGEST_NAME)?,
+            has_synced: false,
             begun: false,
             failed: false,
         })
@@ -174,15 +174,15 @@ impl<'a, R: Files<File = File> + AllocGlobal> Store<'a, R> {
         if !self.is_synced(folder) {
             return Ok(());
         }
-        self.is_linked = !folder.is_empty();
-        self.linked.clear();
-        self.linked.push_str(folder_of(folder))?;
+        self.has_synced = !folder.is_empty();
+        self.synced.clear();
+        self.synced.push_str(folder_of(folder))?;
         Ok(())
     }
 
     /// Whether the folder is known to be synced since something in it was made or removed last.
     fn is_synced(&self, folder: &str) -> bool {
-        self.is_linked && is_within(folder, self.linked.as_str())
+        self.has_synced && is_within(folder, self.synced.as_str())
     }
 
     pub fn length(&mut self, file: &str) -> io::Result<u64> {
@@ -216,9 +216,9 @@ impl<'a, R: Files<File = File> + AllocGlobal> Store<'a, R> {
         let folder = folder_of(file);
         if !self.is_synced(folder) {
             self.sync_way(folder)?;
-            self.linked.clear();
-            self.linked.push_str(folder)?;
-            self.is_linked = true;
+            self.synced.clear();
+            self.synced.push_str(folder)?;
+            self.has_synced = true;
         }
         self.failed = false;
         Ok(())
