@@ -23,18 +23,21 @@ const PAUSE_MS: u64 = 5;
 /// Folders are their owner's alone.
 const FOLDER_MODE: u32 = 0o700;
 
-/// Runs each command as `sh -c SCRIPT` in its folder, which is made as needed, with the command's variables added to the
-/// environment. A child reads nothing, and what it prints is dropped, on the standard error too: what it starts may live
-/// on, and whoever reads this program's output would wait for that. Where the system has the program `setsid`, each child
-/// leads a process group of its own. A kill ends the child and what else lives in its group, and waits for the child. Ends
-/// are found by asking each child in turn, with a pause between. It tells no list. Moments are milliseconds since it was
-/// made.
+/// Runs each command as `sh -c SCRIPT` in its folder, which is made as needed, with the command's variables added to
+/// the environment. `sh` is that of the PATH of its own that the program began with, whatever PATH the command sets. A
+/// child reads nothing, and what it prints is dropped, on the standard error too: what it starts may live on, and
+/// whoever reads this program's output would wait for that. Where the system has the program `setsid`, each child leads
+/// a process group of its own. A kill ends the child and what else lives in its group, and waits for the child. Ends
+/// are found by asking each child in turn, with a pause between. It tells no list. Moments are milliseconds since it
+/// was made.
 #[derive(Drop)]
 pub struct ShellRunner<'a, R: Processes + Clock> {
     rt: &'a R,
     alloc: Global,
     /// What makes its caller the leader of a group and then runs a program in its place.
     setsid: Option<String>,
+    /// The shell, where PATH had it.
+    shell: Option<String>,
     start: Option<Instant>,
     living: Vec<u64>,
     children: Vec<Child<R::Started>>,
@@ -60,7 +63,8 @@ impl<'a, R: Processes + Clock + Files<File = File> + Env + AllocGlobal> ShellRun
         ShellRunner {
             rt,
             alloc,
-            setsid: find_setsid(rt),
+            setsid: find_program(rt, "setsid"),
+            shell: find_program(rt, "sh"),
             start: Instant::now(rt).ok(),
             living: Vec::new(alloc),
             children: Vec::new(alloc),
@@ -155,11 +159,19 @@ fn find_on_path<R: Files + Env + AllocGlobal>(rt: &R, word: &str) -> io::Result<
     Ok(None)
 }
 
-/// The path of `setsid`, which is to mean the same in each folder.
-fn find_setsid<R: Files + Env + AllocGlobal>(rt: &R) -> Option<String> {
-    match find_on_path(rt, "setsid") {
+/// The path of a program, which is to mean the same in each folder, whatever PATH a command sets.
+fn find_program<R: Files + Env + AllocGlobal>(rt: &R, word: &str) -> Option<String> {
+    match find_on_path(rt, word) {
         Ok(Some(path)) if path.as_str().starts_with('/') => Some(path),
         _ => None,
+    }
+}
+
+/// What the shell is started as. A word without a path would be looked for in the command's own PATH.
+fn shell_word(shell: &Option<String>) -> &str {
+    match shell {
+        Some(path) => path.as_str(),
+        None => "sh",
     }
 }
 
@@ -176,14 +188,15 @@ fn silent(alloc: Global, program: &str) -> Result<process::Command, AllocError> 
 fn prepared(
     alloc: Global,
     setsid: &Option<String>,
+    shell: &str,
     command: &Command,
 ) -> Result<process::Command, AllocError> {
     let mut child = match setsid {
         Some(setsid) => silent(alloc, setsid.as_str())?,
-        None => silent(alloc, "sh")?,
+        None => silent(alloc, shell)?,
     };
     if setsid.is_some() {
-        child.arg("sh")?;
+        child.arg(shell)?;
     }
     child.arg("-c")?.arg(command.script.as_str())?;
     for (name, value) in command.env.as_slice() {
@@ -197,10 +210,11 @@ fn spawn<R: Processes + Files>(
     rt: &R,
     alloc: Global,
     setsid: &Option<String>,
+    shell: &str,
     command: &Command,
 ) -> io::Result<Child<R::Started>> {
     make_folder(rt, command.folder.as_str())?;
-    prepared(alloc, setsid, command)?.spawn(rt)
+    prepared(alloc, setsid, shell, command)?.spawn(rt)
 }
 
 /// Ends what lives in the group that this process leads. It was not waited for, so its number is still its own.
@@ -239,7 +253,8 @@ impl<'a, R: Processes + Clock + Files<File = File> + Env + AllocGlobal> ShellRun
         }
         self.living.reserve(1)?;
         self.children.reserve(1)?;
-        let child = spawn(self.rt, self.alloc, &self.setsid, command)?;
+        let shell = shell_word(&self.shell);
+        let child = spawn(self.rt, self.alloc, &self.setsid, shell, command)?;
         self.children.insert(0, child)?;
         self.living.insert(0, number)?;
         self.next = number + 1;

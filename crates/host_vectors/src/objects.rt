@@ -120,7 +120,18 @@ fn command(alloc: Global, folder: &str, script: &str) -> Result<Command, NoMemor
     })
 }
 
-/// What a child with this script ends with, where that is within ten seconds.
+/// What a child of this command ends with, where that is within ten seconds.
+fn end_of<R: Runner>(runner: &mut R, command: &Command) -> Option<Exit> {
+    let Ok(child) = runner.start(command) else {
+        return None;
+    };
+    match runner.wait(10_000) {
+        Waited::Ended(which, exit) if which == child => Some(exit),
+        _ => None,
+    }
+}
+
+/// What a child with this script ends with.
 fn ended<R: Runner>(
     alloc: Global,
     runner: &mut R,
@@ -128,13 +139,19 @@ fn ended<R: Runner>(
     script: &str,
 ) -> Result<Option<Exit>, NoMemory> {
     let command = command(alloc, folder, script)?;
-    let Ok(child) = runner.start(&command) else {
-        return Ok(None);
-    };
-    match runner.wait(10_000) {
-        Waited::Ended(which, exit) if which == child => Ok(Some(exit)),
-        _ => Ok(None),
-    }
+    Ok(end_of(runner, &command))
+}
+
+/// What a child ends with that is given a PATH without any program.
+fn ended_off_path<R: Runner>(
+    alloc: Global,
+    runner: &mut R,
+    folder: &str,
+) -> Result<Option<Exit>, NoMemory> {
+    let mut command = command(alloc, folder, "exit $END")?;
+    let path = (text(alloc, "PATH")?, text(alloc, "/no-such")?);
+    command.env.push(path)?;
+    Ok(end_of(runner, &command))
 }
 
 /// Whether a child is ended before its time, and no end of it is told.
@@ -209,12 +226,15 @@ fn children_run_in_their_folder_and_end(rt: HostRuntime) -> Result<(), Fail> {
     let is_killed = is_killed(alloc, &mut runner, root)?;
     let is_told_late = is_told_late(&rt, &mut runner, root)?;
     let ends_group = ends_group(&rt, &mut runner, root)?;
+    let off_path = ended_off_path(alloc, &mut runner, root)?;
     fs::remove_dir_all(&rt, root)?;
     assert!(rt;
         is_made && is_killed && code == Some(Exit::Code(3)) && signal == Some(Exit::Signal)
     );
     assert!(rt; is_told_late && ends_group);
-    let is_found = runner.on_path(&text(alloc, "sh")?) == env::var(&rt, "PATH").is_ok();
+    let has_path = env::var(&rt, "PATH").is_ok();
+    assert!(rt; off_path == Some(Exit::Code(3)) || !has_path);
+    let is_found = runner.on_path(&text(alloc, "sh")?) == has_path;
     assert!(rt; is_found && !runner.on_path(&text(alloc, "no-such")?));
     Ok(())
 }
