@@ -48,7 +48,7 @@ pub fn is_file<R: Files, P: AsPath>(files: &R, path: P) -> io::Result<bool> {
     }
 }
 
-/// The file's bytes, or the first so many of them.
+/// The file's bytes, or the first so many of them. Room that they don't fill is given back.
 pub fn read_front<R: Files<File = File>>(
     alloc: Global,
     files: &R,
@@ -61,5 +61,6 @@ pub fn read_front<R: Files<File = File>>(
     let mut bytes = vec![in alloc; 0; most]?;
     let count = read_full(&file, 0, bytes.as_mut_slice())?;
     bytes.truncate(count);
+    bytes.shrink_to_fit();
     Ok(Bytes::new(bytes))
 }
