@@ -11,8 +11,8 @@ struct Found {
     files: Vec<FileName>,
 }
 
-/// The names of the files below a folder that are not empty, rising by their bytes. What is neither a folder nor a plain
-/// file, and a name that is no UTF-8, is an error.
+/// The names of all that stands below a folder and is no folder, rising by their bytes: files, and links, pipes and the
+/// like too, which are not followed. A name that is no UTF-8 is an error.
 pub fn list_files<R: Files<File = File> + AllocGlobal + Clone + Drop>(
     files: &R,
     paths: &mut Paths<'_>,
@@ -52,6 +52,7 @@ fn list_folder<R: Files<File = File> + AllocGlobal + Clone + Drop>(
     Ok(())
 }
 
+/// Adds what has that name in the folder. What is gone by now, as where a component cleans up, is passed over.
 fn add_entry<R: Files<File = File> + AllocGlobal + Clone + Drop>(
     files: &R,
     folder: &str,
@@ -61,13 +62,11 @@ fn add_entry<R: Files<File = File> + AllocGlobal + Clone + Drop>(
     let alloc = files.alloc();
     let name = entry.file_name();
     let path = format!(in alloc; "{folder}/{name}")?;
-    let metadata = entry.metadata()?;
-    if metadata.is_dir() {
-        found.folders.push(path)?;
-    } else if !metadata.is_file() {
-        return Err(io::Error::from(ErrorKind::InvalidInput));
-    } else if metadata.len() > 0 {
-        found.files.push(FileName::new(path))?;
+    match entry.metadata() {
+        Ok(metadata) if metadata.is_dir() => found.folders.push(path)?,
+        Ok(_) => found.files.push(FileName::new(path))?,
+        Err(error) if error.kind() == ErrorKind::NotFound => {}
+        Err(error) => return Err(error),
     }
     Ok(())
 }

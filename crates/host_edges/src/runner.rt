@@ -24,7 +24,7 @@ const PAUSE_MS: u64 = 5;
 const FOLDER_MODE: u32 = 0o700;
 
 /// Runs each command as `sh -c SCRIPT` in its folder, which is made as needed, with the command's variables added to
-/// the environment. `sh` is that of the PATH of its own that the program began with, whatever PATH the command sets. A
+/// the environment. `sh` is that of the PATH with which the program was started, whatever PATH the command sets. A
 /// child reads nothing, and what it prints is dropped, on the standard error too: what it starts may live on, and
 /// whoever reads this program's output would wait for that. Where the system has the program `setsid`, each child leads
 /// a process group of its own. A kill ends the child and what else lives in its group, and waits for the child. Ends

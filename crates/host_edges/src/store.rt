@@ -240,13 +240,14 @@ impl<'a, R: Files<File = File> + AllocGlobal> Store<'a, R> {
         Ok(())
     }
 
-    /// Removes the file where it is there.
+    /// Removes what has that name, where it is there and no folder. A link is removed itself, and none on the way is followed.
     pub fn remove(&mut self, file: &str) -> io::Result<()> {
         self.turn_to(file)?;
         self.slot(file).close();
-        self.change_folder(folder_of(file))?;
-        let path = self.paths.plain_file(self.files, file)?;
-        match fs::remove_file(self.files, path) {
+        let folder = folder_of(file);
+        self.change_folder(folder)?;
+        self.paths.check_folder(self.files, folder)?;
+        match fs::remove_file(self.files, self.paths.below(file)?) {
             Ok(()) => Ok(()),
             Err(error) if error.kind() == ErrorKind::NotFound => Ok(()),
             Err(error) => Err(error),
@@ -255,7 +256,7 @@ impl<'a, R: Files<File = File> + AllocGlobal> Store<'a, R> {
 }
 
 impl<'a, R: Files<File = File> + AllocGlobal + Clone + Drop> Store<'a, R> {
-    /// The names of all artifacts that are not empty, rising by their bytes.
+    /// The names of all that stands below the folder of the artifacts and is no folder, rising by their bytes.
     pub fn list(&mut self) -> io::Result<List<FileName>> {
         self.begin()?;
         self.paths.check_folder(self.files, ARTIFACTS)?;

@@ -13,13 +13,15 @@ use step_runner::{Command, Runner, Waited};
 
 const FILE: &str = "packages/artifacts/A/1.0.0/f";
 
-/// Whether it lists that file alone.
-fn lists<D: Disk>(alloc: Global, disk: &mut D, file: &str) -> bool {
+/// Whether it lists these names and no other.
+fn lists<D: Disk>(alloc: Global, disk: &mut D, files: &[&str]) -> bool {
     match disk.list(alloc) {
-        Ok(names) => match names.as_slice() {
-            [name] => name.as_str() == file,
-            _ => false,
-        },
+        Ok(names) => names.len() == files.len()
+            && names
+                .as_slice()
+                .iter()
+                .zip(files.iter())
+                .all(|(name, file)| name.as_str() == *file),
         Err(_) => false,
     }
 }
@@ -39,7 +41,7 @@ fn stores(alloc: Global, disk: &mut FileDisk<'_, HostRuntime>) -> Result<bool, D
     disk.write_at(FILE, 0, b"xyz")?;
     disk.sync(FILE)?;
     let is_kept = reads(disk, "journal", 1, b"bc")? && disk.length(FILE)? == 3;
-    let is_listed = lists(alloc, disk, FILE);
+    let is_listed = lists(alloc, disk, &[FILE]);
     disk.remove(FILE)?;
     disk.sync(FILE)?;
     disk.sync("packages/artifacts/B/1.0.0/f")?;
@@ -71,6 +73,59 @@ fn a_disk_keeps_what_is_written(rt: HostRuntime) -> Result<(), Fail> {
     let is_guarded = is_guarded(&rt, root)?;
     fs::remove_dir_all(&rt, root)?;
     assert!(rt; is_stored && is_guarded);
+    Ok(())
+}
+
+/// Whether what scripts left is listed and can be removed, and a link is not read.
+fn removes_strays(
+    alloc: Global,
+    disk: &mut FileDisk<'_, HostRuntime>,
+    strays: &[&str],
+) -> Result<bool, DiskFault> {
+    let are_listed = lists(alloc, disk, strays);
+    let is_read = disk.length("packages/artifacts/A/1.0.0/link").is_ok();
+    for stray in strays {
+        disk.remove(*stray)?;
+    }
+    Ok(are_listed && !is_read && lists(alloc, disk, &[]))
+}
+
+#[test]
+fn a_disk_removes_what_scripts_leave(rt: HostRuntime) -> Result<(), Fail> {
+    let root = "strays-of-a-test";
+    fs::create_dir_all(&rt, "strays-of-a-test/packages/artifacts/A/1.0.0/made")?;
+    fs::write(&rt, "strays-of-a-test/kept", "x")?;
+    fs::write(
+        &rt,
+        "strays-of-a-test/packages/artifacts/A/1.0.0/made/empty",
+        "",
+    )?;
+    symlink(
+        &rt,
+        "..",
+        "strays-of-a-test/packages/artifacts/A/1.0.0/above",
+    )?;
+    symlink(
+        &rt,
+        "../../../../kept",
+        "strays-of-a-test/packages/artifacts/A/1.0.0/link",
+    )?;
+    symlink(
+        &rt,
+        "no-such",
+        "strays-of-a-test/packages/artifacts/A/1.0.0/made/nothing",
+    )?;
+    let mut disk = FileDisk::new(&rt, root, Access::Write)?;
+    let strays = [
+        "packages/artifacts/A/1.0.0/above",
+        "packages/artifacts/A/1.0.0/link",
+        "packages/artifacts/A/1.0.0/made/empty",
+        "packages/artifacts/A/1.0.0/made/nothing",
+    ];
+    let are_removed = removes_strays(rt.alloc(), &mut disk, &strays)?;
+    let is_kept = fs::exists(&rt, "strays-of-a-test/kept")?;
+    fs::remove_dir_all(&rt, root)?;
+    assert!(rt; are_removed && is_kept);
     Ok(())
 }
 
