@@ -151,11 +151,8 @@ impl Slot {
         }
     }
 
-    /// Keeps so many bytes of the file.
+    /// Keeps so many bytes of the file, which is open.
     pub fn cut(&mut self, len: u64) -> io::Result<()> {
-        if self.opened.is_none() && len == 0 {
-            return Ok(());
-        }
         self.window.forget();
         self.change()?;
         match &self.opened {

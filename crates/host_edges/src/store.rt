@@ -203,8 +203,13 @@ impl<'a, R: Files<File = File> + AllocGlobal> Store<'a, R> {
         self.slot(file).write(at, bytes)
     }
 
+    /// Keeps so many bytes. A cut to nothing makes a file that is not there, so that an empty one stands there.
     pub fn cut(&mut self, file: &str, len: u64) -> io::Result<()> {
-        self.open(file)?;
+        if len == 0 {
+            self.make(file)?;
+        } else {
+            self.open(file)?;
+        }
         self.slot(file).cut(len)
     }
 
