@@ -18,7 +18,8 @@ use std::io::ErrorKind;
 /// A program that may write is alone: where another one holds the lock, the first call fails. Where a sync failed all
 /// later calls fail, since the system may have dropped what was not written. No symbolic link below the folder is followed,
 /// and nothing but plain files is opened. Whatever is no folder is listed, also what is empty or no plain file, and can be
-/// removed. A cut to nothing makes a file that is not there.
+/// removed. A cut to nothing makes a file that is not there. Folders of artifacts that are empty go with the last file in
+/// them, or where the artifacts are listed.
 #[derive(Drop)]
 pub struct FileDisk<'a, R: Files<File = File>> {
     store: Store<'a, R>,

@@ -1,26 +1,31 @@
 use crate::paths::Paths;
-use nuc_base::{FileName, List};
+use nuc_base::FileName;
 use std::fs::{DirEntry, File, Files};
 use std::io::ErrorKind;
 use std::{fs, io};
 
 /// What a walk below a folder found.
 #[derive(Drop)]
-struct Found {
+pub struct Found {
+    /// Those that are not looked into yet.
     folders: Vec<String>,
-    files: Vec<FileName>,
+    /// Folders in which nothing stands.
+    pub empty: Vec<String>,
+    /// Whatever is no folder, rising by the bytes.
+    pub files: Vec<FileName>,
 }
 
-/// The names of all that stands below a folder and is no folder, rising by their bytes: files, and links, pipes and the
-/// like too, which are not followed. A name that is no UTF-8 is an error.
+/// The names of all that stands below a folder: files, and links, pipes and the like too, which are not followed. A name
+/// that is no UTF-8 is an error.
 pub fn list_files<R: Files<File = File> + AllocGlobal + Clone + Drop>(
     files: &R,
     paths: &mut Paths<'_>,
     folder: &str,
-) -> io::Result<List<FileName>> {
+) -> io::Result<Found> {
     let alloc = files.alloc();
     let mut found = Found {
         folders: Vec::new(alloc),
+        empty: Vec::new(alloc),
         files: Vec::new(alloc),
     };
     found.folders.push(String::from_str(alloc, folder)?)?;
@@ -28,28 +33,32 @@ pub fn list_files<R: Files<File = File> + AllocGlobal + Clone + Drop>(
         let Some(name) = found.folders.pop() else {
             break;
         };
-        list_folder(files, paths, name.as_str(), &mut found)?;
+        if list_folder(files, paths, name.as_str(), &mut found)? {
+            found.empty.push(name)?;
+        }
     }
     found.files.sort()?;
-    Ok(List::new(found.files))
+    Ok(found)
 }
 
-/// Adds what stands in one folder.
+/// Adds what stands in one folder. Answers whether it is there and nothing stands in it.
 fn list_folder<R: Files<File = File> + AllocGlobal + Clone + Drop>(
     files: &R,
     paths: &mut Paths<'_>,
     folder: &str,
     found: &mut Found,
-) -> io::Result<()> {
+) -> io::Result<bool> {
     let entries = match fs::read_dir(files, paths.below(folder)?) {
         Ok(entries) => entries,
-        Err(error) if error.kind() == ErrorKind::NotFound => return Ok(()),
+        Err(error) if error.kind() == ErrorKind::NotFound => return Ok(false),
         Err(error) => return Err(error),
     };
+    let mut is_empty = true;
     for entry in entries {
         add_entry(files, folder, &entry?, found)?;
+        is_empty = false;
     }
-    Ok(())
+    Ok(is_empty)
 }
 
 /// Adds what has that name in the folder. What is gone by now, as where a component cleans up, is passed over.

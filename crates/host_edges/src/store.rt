@@ -245,7 +245,8 @@ impl<'a, R: Files<File = File> + AllocGlobal> Store<'a, R> {
         Ok(())
     }
 
-    /// Removes what has that name, where it is there and no folder. A link is removed itself, and none on the way is followed.
+    /// Removes what has that name, where it is there and no folder, and the folders of artifacts that are empty then. A link
+    /// is removed itself, and none on the way is followed.
     pub fn remove(&mut self, file: &str) -> io::Result<()> {
         self.turn_to(file)?;
         self.slot(file).close();
@@ -253,19 +254,55 @@ impl<'a, R: Files<File = File> + AllocGlobal> Store<'a, R> {
         self.change_folder(folder)?;
         self.paths.check_folder(self.files, folder)?;
         match fs::remove_file(self.files, self.paths.below(file)?) {
-            Ok(()) => Ok(()),
-            Err(error) if error.kind() == ErrorKind::NotFound => Ok(()),
-            Err(error) => Err(error),
+            Ok(()) => {}
+            Err(error) if error.kind() == ErrorKind::NotFound => {}
+            Err(error) => return Err(error),
         }
+        self.remove_folders(folder)
+    }
+
+    /// Removes the folder, and those above it, as far as they are empty and stand below that of the artifacts. One that can't
+    /// be removed stays, which does no harm.
+    fn remove_folders(&mut self, folder: &str) -> io::Result<()> {
+        let mut name = folder;
+        for _ in 0..folder.len() {
+            if !self.remove_folder(name)? {
+                break;
+            }
+            name = folder_of(name);
+        }
+        Ok(())
+    }
+
+    /// Answers whether it was removed.
+    fn remove_folder(&mut self, folder: &str) -> io::Result<bool> {
+        if folder == ARTIFACTS || !is_within(ARTIFACTS, folder) {
+            return Ok(false);
+        }
+        self.change_folder(folder_of(folder))?;
+        Ok(fs::remove_dir(self.files, self.paths.below(folder)?).is_ok())
     }
 }
 
 impl<'a, R: Files<File = File> + AllocGlobal + Clone + Drop> Store<'a, R> {
-    /// The names of all that stands below the folder of the artifacts and is no folder, rising by their bytes.
+    /// The names of all that stands below the folder of the artifacts and is no folder, rising by their bytes. Of a program
+    /// that may write, empty folders there are removed.
     pub fn list(&mut self) -> io::Result<List<FileName>> {
         self.begin()?;
         self.paths.check_folder(self.files, ARTIFACTS)?;
-        list_files(self.files, &mut self.paths, ARTIFACTS)
+        let found = list_files(self.files, &mut self.paths, ARTIFACTS)?;
+        if self.access == Access::Write {
+            self.remove_all(found.empty.as_slice())?;
+        }
+        Ok(List::new(found.files))
+    }
+
+    /// Removes each of these folders, and those above it that are empty then.
+    fn remove_all(&mut self, folders: &[String]) -> io::Result<()> {
+        for folder in folders {
+            self.remove_folders(folder.as_str())?;
+        }
+        Ok(())
     }
 }
 

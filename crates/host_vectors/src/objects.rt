@@ -48,6 +48,16 @@ fn stores(alloc: Global, disk: &mut FileDisk<'_, HostRuntime>) -> Result<bool, D
     Ok(is_kept && is_listed && disk.length(FILE)? == 0)
 }
 
+/// Makes an empty file by a cut, and another one twice, which is removed in between with its folders.
+fn makes_again(disk: &mut FileDisk<'_, HostRuntime>) -> Result<(), DiskFault> {
+    disk.cut("packages/artifacts/B/1.0.0/empty", 0)?;
+    disk.sync("packages/artifacts/B/1.0.0/empty")?;
+    disk.write_at(FILE, 0, b"x")?;
+    disk.remove(FILE)?;
+    disk.write_at(FILE, 0, b"y")?;
+    disk.sync(FILE)
+}
+
 /// Whether a second writer is refused, a reader reads, and links are not followed.
 fn is_guarded(rt: &HostRuntime, root: &str) -> Result<bool, Fail> {
     let mut second = FileDisk::new(rt, root, Access::Write)?;
@@ -71,8 +81,13 @@ fn a_disk_keeps_what_is_written(rt: HostRuntime) -> Result<(), Fail> {
     let mut disk = FileDisk::new(&rt, root, Access::Write)?;
     let is_stored = stores(rt.alloc(), &mut disk)?;
     let is_guarded = is_guarded(&rt, root)?;
+    let is_left = fs::exists(&rt, "disk-of-a-test/packages/artifacts/A")?;
+    makes_again(&mut disk)?;
+    let is_empty = fs::read(&rt, "disk-of-a-test/packages/artifacts/B/1.0.0/empty")?.is_empty();
+    let is_again = reads(&mut disk, FILE, 0, b"y")?;
     fs::remove_dir_all(&rt, root)?;
     assert!(rt; is_stored && is_guarded);
+    assert!(rt; !is_left && is_empty && is_again);
     Ok(())
 }
 
@@ -94,6 +109,7 @@ fn removes_strays(
 fn a_disk_removes_what_scripts_leave(rt: HostRuntime) -> Result<(), Fail> {
     let root = "strays-of-a-test";
     fs::create_dir_all(&rt, "strays-of-a-test/packages/artifacts/A/1.0.0/made")?;
+    fs::create_dir_all(&rt, "strays-of-a-test/packages/artifacts/B/1.0.0/none/none")?;
     fs::write(&rt, "strays-of-a-test/kept", "x")?;
     fs::write(
         &rt,
@@ -124,8 +140,10 @@ fn a_disk_removes_what_scripts_leave(rt: HostRuntime) -> Result<(), Fail> {
     ];
     let are_removed = removes_strays(rt.alloc(), &mut disk, &strays)?;
     let is_kept = fs::exists(&rt, "strays-of-a-test/kept")?;
+    // Nothing is left below the folder of the artifacts, which stays.
+    let is_bare = fs::remove_dir(&rt, "strays-of-a-test/packages/artifacts").is_ok();
     fs::remove_dir_all(&rt, root)?;
-    assert!(rt; are_removed && is_kept);
+    assert!(rt; are_removed && is_kept && is_bare);
     Ok(())
 }
 
