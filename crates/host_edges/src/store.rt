@@ -261,8 +261,8 @@ impl<'a, R: Files<File = File> + AllocGlobal> Store<'a, R> {
         self.remove_folders(folder)
     }
 
-    /// Removes the folder, and those above it, as far as they are empty and stand below that of the artifacts. One that can't
-    /// be removed stays, which does no harm.
+    /// Removes the folder, and those above it, as far as they are empty and stand below that of the artifacts. One that
+    /// can't be removed stays, which does no harm.
     fn remove_folders(&mut self, folder: &str) -> io::Result<()> {
         let mut name = folder;
         for _ in 0..folder.len() {
