@@ -22,13 +22,22 @@ pub fn json_names<R: Files<File = File> + AllocGlobal + Clone + Drop>(
         Err(error) => return Err(error),
     };
     for entry in entries {
-        let entry = entry?;
-        if is_document(files, &entry)? {
-            names.push(String::from_str(alloc, entry.file_name())?)?;
-        }
+        add_name(files, &entry?, &mut names)?;
     }
     names.sort()?;
     Ok(names)
+}
+
+/// Adds the entry's name, where it is a document.
+fn add_name<R: Files<File = File> + AllocGlobal + Clone + Drop>(
+    files: &R,
+    entry: &DirEntry<R>,
+    names: &mut Vec<String>,
+) -> io::Result<()> {
+    if is_document(files, entry)? {
+        names.push(String::from_str(files.alloc(), entry.file_name())?)?;
+    }
+    Ok(())
 }
 
 /// Whether it is a file that ends in `.json`. A link counts as what it leads to.

@@ -191,19 +191,31 @@ fn prepared(
     shell: &str,
     command: &Command,
 ) -> Result<process::Command, AllocError> {
-    let mut child = match setsid {
-        Some(setsid) => silent(alloc, setsid.as_str())?,
-        None => silent(alloc, shell)?,
+    let program = match setsid {
+        Some(setsid) => setsid.as_str(),
+        None => shell,
     };
+    let mut child = silent(alloc, program)?;
     if setsid.is_some() {
         child.arg(shell)?;
     }
+    match add_command(&mut child, command) {
+        Ok(()) => Ok(child),
+        Err(error) => {
+            drop(child);
+            Err(error)
+        }
+    }
+}
+
+/// Adds the script, the variables and the folder.
+fn add_command(child: &mut process::Command, command: &Command) -> Result<(), AllocError> {
     child.arg("-c")?.arg(command.script.as_str())?;
     for (name, value) in command.env.as_slice() {
         child.env(name.as_str(), value.as_str())?;
     }
     child.current_dir(command.folder.as_str())?;
-    Ok(child)
+    Ok(())
 }
 
 fn spawn<R: Processes + Files>(
@@ -214,17 +226,24 @@ fn spawn<R: Processes + Files>(
     command: &Command,
 ) -> io::Result<Child<R::Started>> {
     make_folder(rt, command.folder.as_str())?;
-    prepared(alloc, setsid, shell, command)?.spawn(rt)
+    let mut prepared = prepared(alloc, setsid, shell, command)?;
+    let child = prepared.spawn(rt);
+    drop(prepared);
+    child
 }
 
 /// Ends what lives in the group that this process leads. It was not waited for, so its number is still its own.
 fn end_group<R: Processes>(rt: &R, alloc: Global, leader: u32) -> io::Result<()> {
     let group = format!(in alloc; "-{leader}")?;
     let mut killer = silent(alloc, "sh")?;
-    killer
-        .arg("-c")?
-        .arg("kill -s KILL -- \"$0\"")?
-        .arg(group.as_str())?;
+    let killed = kill_group(rt, &mut killer, group.as_str());
+    drop(killer);
+    killed
+}
+
+/// Has this shell end the group.
+fn kill_group<R: Processes>(rt: &R, killer: &mut process::Command, group: &str) -> io::Result<()> {
+    killer.arg("-c")?.arg("kill -s KILL -- \"$0\"")?.arg(group)?;
     killer.status(rt)?;
     Ok(())
 }
