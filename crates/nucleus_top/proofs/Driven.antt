@@ -360,13 +360,13 @@ module _ (d : Device) (origin : Origin) (content : Option Content) (before after
 module _ {D : Type 0} (may_leave : D → Image → Type 0) (moment : D → ℕ) (left_since : D → ℕ → Image → Type 0) (faults : D → ℕ) (old new : D) (old_list new_list : Option (List RunnerEntry)) (printed : Printed) (result : Status)
     (d : Device) (start : ℕ → ℕ) (input : Input) (library : Shelf) where
   -- the document of the source, where its front was deployed
-  pub document_deploys : (front : List ℕ) → IfSome input.document (λ whole. front ≡ take 524289 whole)
+  pub document_deploys : input.faults_after ≡ input.faults_before → (front : List ℕ) → IfSome input.document (λ whole. front ≡ take 524289 whole)
       → IsDeployedOn may_leave moment left_since faults old new old_list new_list printed result d start library front
       → DeploysOn may_leave moment left_since faults old new old_list new_list printed result d start input library
-  document_deploys front is h =
+  document_deploys quiet front is h =
       let document = document_takes d h.origin library.content library.faults_before library.faults_after h.taken input.document front is h.takes in (
         document.0,
-        record { whole = document.1 },
+        record { whole = document.1; quiet = quiet },
         record {
           place = h.place;
           serves = h.serves;

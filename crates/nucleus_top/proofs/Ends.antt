@@ -121,9 +121,9 @@ module _ (words : List (List ℕ)) (store : Store) (input : Input) (library : Sh
   disk_stays a quiet (inr told) other more = absurd (more told.0)
 
   edge : (a : Answer) → Comes words store input library a → IsQuiet store input a → IsStill library a → Told printed result a → result ≡ status.Edge
-      → IsSourceFault store input library printed ⊎ ((answer : Answer) × Comes words store input library answer × IsQuiet store input answer × IsStill library answer × IsCutShort printed answer)
+      → IsSourceFault words store input library printed ⊎ ((answer : Answer) × Comes words store input library answer × IsQuiet store input answer × IsStill library answer × IsCutShort printed answer)
   edge a comes quiet still (inr told) is = inr (a, comes, quiet, still, told.1)
-  edge SourceFailed comes quiet still (inl told) is = inl (record { rose = source comes; line = told.1; disk_stays = quiet.disk (λ other. cc); library_stays = still (λ other. cc); sink_stays = told.2 })
+  edge SourceFailed comes quiet still (inl told) is = inl (record { comes = comes; rose = source comes; line = told.1; disk_stays = quiet.disk (λ other. cc); library_stays = still (λ other. cc); sink_stays = told.2 })
   edge (Unplanned r text) comes quiet still (inl told) is = absurd (no_refusal r status.Edge refl (sym told.0 ∙ is))
   edge a comes quiet still (inl told) is = cc
 

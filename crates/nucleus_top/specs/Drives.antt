@@ -138,9 +138,11 @@ pub record StartsFrom (image : Image) (d : Device) (start : ℕ → ℕ) : Type 
   pub live : IsLive image number end payloads
   pub start_is : start ≡ starts_at (can_turn (is_lt (nat_cmp number 18446744073709551615)) number) end (front_bytes (number + 1) d)
 
--- the document is all that the source had left, where it tells that
+-- The document is all that the source had left, where it tells that. The source did not fail: nothing is deployed where it
+-- did, not even a document that a further read would have given whole.
 pub record IsDocument (input : Input) (bytes : List ℕ) : Type 0 where
   pub whole : (document : List ℕ) → input.document ≡ Some document → bytes ≡ document
+  pub quiet : input.faults_after ≡ input.faults_before
 
 module _ {D : Type 0} (may_leave : D → Image → Type 0) (moment : D → ℕ) (left_since : D → ℕ → Image → Type 0) (faults : D → ℕ) (old new : D) (old_list new_list : Option (List RunnerEntry)) (printed : Printed) (result : Status) where
   -- Nothing is pending on this device. The document is taken in on it or not, by the checks in their order, and then from the start of the call one

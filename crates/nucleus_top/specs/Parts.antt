@@ -15,7 +15,7 @@ use Rattle.nucleus_top.specs.Inits.{Inits, InitParts}
 use Rattle.nucleus_top.specs.Planning.{Plans, PlanParts}
 use Rattle.nucleus_top.specs.Shows.{Shows, StatusParts}
 use Rattle.nucleus_top.specs.declared.answer.Answer.{Answer}
-use Rattle.nucleus_top.specs.declared.answer.Answer.TheVariants.{WrongWords, NoMemory}
+use Rattle.nucleus_top.specs.declared.answer.Answer.TheVariants.{WrongWords, SourceFailed, NoMemory}
 
 -- why an answer of a command comes
 abbrev pub ComesOf : Order → Store → Input → Shelf → Answer → Type 0
@@ -32,8 +32,9 @@ Comes words store input library answer =
     ⊎ ((answer ≡ WrongWords) × AsksNothing words × IsUnchanged store)
     ⊎ ((answer ≡ NoMemory) × IsUnchanged store)
 
--- the source failed, and that was printed
-pub record IsSourceFault (store : Store) (input : Input) (library : Shelf) (printed : Printed) : Type 0 where
+-- the source failed in its turn, where nothing that is asked before it had answered, and that was printed
+pub record IsSourceFault (words : List (List ℕ)) (store : Store) (input : Input) (library : Shelf) (printed : Printed) : Type 0 where
+  pub comes : Comes words store input library SourceFailed
   pub rose : Rose input.faults_before input.faults_after
   pub line : Prints printed (codes "fault 6 source\n")
   pub disk_stays : store.faults_after ≡ store.faults_before
@@ -47,10 +48,10 @@ pub record Parts (words : List (List ℕ)) (store : Store) (input : Input) (libr
   -- 5 comes exactly where the disk's count rose, unless the sink fails besides.
   pub disk : result ≡ status.Disk → HasRisen store × Prints printed (codes "fault 5 disk\n")
   pub disk_stays : result ≢ status.Disk → result ≢ status.Edge → store.faults_after ≡ store.faults_before
-  -- 6 comes exactly where the count of the source or the sink rose. The source's fault is printed whole, and the other
-  -- counts stay. Where the sink failed, a front was printed of the lines of an answer that comes by its cause, leaves
+  -- 6 comes exactly where the count of the source or the sink rose. The source's fault comes in its turn
+  -- and is printed whole, and the other counts stay. Where the sink failed, a front was printed of the lines of an answer that comes by its cause, leaves
   -- what it leaves and counts no fault but its own.
-  pub edge : result ≡ status.Edge → IsSourceFault store input library printed
+  pub edge : result ≡ status.Edge → IsSourceFault words store input library printed
       ⊎ ((answer : Answer) × Comes words store input library answer × IsQuiet store input answer × IsStill library answer × IsCutShort printed answer)
   pub edges_stay : result ≢ status.Edge → (input.faults_after ≡ input.faults_before) × (printed.faults_after ≡ printed.faults_before)
   -- 7 comes exactly where the library's count rose, unless the sink fails besides.

@@ -26,7 +26,7 @@ returns-in-Ok-clause-ran g c =
     let printed : Printed = printed_of g.K.Sink.held g.K.Sink.faults c.args.sink.now c.deploy_document.new.sink in
     inr (document_deploys g.D.Disk.may_leave g.D.Disk.moment g.D.Disk.left_since g.D.Disk.faults c.args.disk.now c.deploy_document.new.disk
     (g.R.Runner.list c.args.runner.now) (g.R.Runner.list c.deploy_document.new.runner) printed c.deploy_document.result d start input library
-    c.in-Ok.bytes c.in-Ok.ensures.bytes
+    (c.in-Ok.ensures.quiet (λ is. cc)) c.in-Ok.bytes c.in-Ok.ensures.bytes
     (subst (λ (bytes : List ℕ). IsDeployedOn g.D.Disk.may_leave g.D.Disk.moment g.D.Disk.left_since g.D.Disk.faults c.args.disk.now c.deploy_document.new.disk
     (g.R.Runner.list c.args.runner.now) (g.R.Runner.list c.deploy_document.new.runner) printed c.deploy_document.result d start library bytes) c.as_slice.ensures c.deploy_document.ensures.driven))
 
