@@ -1,7 +1,8 @@
 // The fronts of devices, restored from their records and taken from a journal.
 ghost use Rattle.std.specs.Prelude.{IfOk};
 ghost use Rattle.std.specs.List.{AllByRecursion};
-ghost use Rattle.device.specs.Fronts.{IsRegularEntry};
+ghost use Rattle.device.specs.Devices.{IsRegularDevice, device_view};
+ghost use Rattle.device.specs.Fronts.{HasFront, IsRegularEntry};
 
 use crate::histories::{Found, found_in, push_entry, record_named};
 use device::{ApplyFault, Device, RestoreFault};
@@ -33,13 +34,11 @@ fn records_of(alloc: Global, payloads: &[&[u8]]) -> Result<List<Record>, Fail>
     Ok(records)
 }
 
-/// How many places of the front of the restored device have these bytes, or `None` where they are no front.
-fn count_restored(alloc: Global, payloads: &[&[u8]]) -> Result<Option<usize>, Fail> {
-    let device = match Device::restore(alloc, records_of(alloc, payloads)?) {
-        Ok(device) => device,
-        Err(RestoreFault::NotSound) => return Ok(None),
-        Err(RestoreFault::NoMemory) => Err(ApplyFault::NoMemory)?,
-    };
+/// How many places of the front of the device have these bytes.
+fn count_places(alloc: Global, device: &Device, payloads: &[&[u8]]) -> Result<usize, Fail>
+    requires front { HasFront (device_view device.now) }
+    requires regular { IsRegularDevice (device_view device.now) }
+{
     let mut count = 0usize;
     for at in 0..device.front_count() {
         let bytes = device.front(alloc, 2, at)?;
@@ -47,7 +46,20 @@ fn count_restored(alloc: Global, payloads: &[&[u8]]) -> Result<Option<usize>, Fa
             count = count.saturating_add(1);
         }
     }
-    Ok(Some(count))
+    Ok(count)
+}
+
+/// The same of the restored device, or `None` where the bytes are no front.
+fn count_restored(alloc: Global, payloads: &[&[u8]]) -> Result<Option<usize>, Fail> {
+    match Device::restore(alloc, records_of(alloc, payloads)?) {
+        Ok(device) => {
+            let count = count_places(alloc, &device, payloads);
+            drop(device);
+            Ok(Some(count?))
+        }
+        Err(RestoreFault::NotSound) => Ok(None),
+        Err(RestoreFault::NoMemory) => Err(ApplyFault::NoMemory)?,
+    }
 }
 
 #[test]

@@ -355,13 +355,25 @@ fn are_taken(alloc: Global, device: &mut Device, history: &str) -> Result<bool, 
     Ok(true)
 }
 
+/// Whether the payload's record is lawful on this device after a history, all of which is.
+fn follows_on(
+    alloc: Global,
+    device: &mut Device,
+    history: &str,
+    payload: &[u8],
+) -> Result<Option<bool>, Fail> {
+    if !are_taken(alloc, device, history)? {
+        return Ok(None);
+    }
+    Ok(Some(is_taken(alloc, device, payload)?))
+}
+
 /// Whether the payload's record is lawful after a history, all of which is.
 fn follows(alloc: Global, history: &str, payload: &[u8]) -> Result<Option<bool>, Fail> {
     let mut device = Device::empty(alloc);
-    if !are_taken(alloc, &mut device, history)? {
-        return Ok(None);
-    }
-    Ok(Some(is_taken(alloc, &mut device, payload)?))
+    let answer = follows_on(alloc, &mut device, history, payload);
+    drop(device);
+    answer
 }
 
 /// The device of a journal with these records' entries, where it stands for one.
@@ -421,6 +433,15 @@ fn is_at_rest(device: &Device, thing: &str, groups: usize) -> bool {
     }
 }
 
+/// What is found where this is the journal's device, which is to be one at rest.
+fn found_at_rest(device: &Device, groups: usize) -> Found {
+    if is_at_rest(device, "t1", groups) {
+        Found::Device(device.closed.len())
+    } else {
+        Found::Failed
+    }
+}
+
 /// What is found of the journal on the disk, where its device is one at rest.
 fn found_on(alloc: Global, disk: &mut MemoryDisk, groups: usize) -> Found {
     let log = match Log::find(disk) {
@@ -430,8 +451,11 @@ fn found_on(alloc: Global, disk: &mut MemoryDisk, groups: usize) -> Found {
         Err(FindFault::Disk) => return Found::Failed,
     };
     match replay(alloc, &log, disk) {
-        Ok(device) if is_at_rest(&device, "t1", groups) => Found::Device(device.closed.len()),
-        Ok(_) => Found::Failed,
+        Ok(device) => {
+            let found = found_at_rest(&device, groups);
+            drop(device);
+            found
+        }
         Err(ReplayFault::Damaged(at)) => Found::Damaged(at),
         Err(_) => Found::Failed,
     }

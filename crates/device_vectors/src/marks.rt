@@ -36,14 +36,32 @@ fn close(alloc: Global, device: &mut Device) -> Result<bool, Fail>
     Ok(&bytes[..size] == record_named("close-successful"))
 }
 
-/// Whether the mark of a close was written, and how many closed deployments, groups and components there are then.
-fn closed(alloc: Global) -> Result<(bool, usize, usize, usize), Fail> {
-    let Some(mut device) = replayed(alloc, "genesis bare activate")? else {
-        return Ok((false, 0, 0, 0));
-    };
-    let is_written = close(alloc, &mut device)?;
-    let counts = (device.closed.len(), device.groups.len(), device.set.len());
-    Ok((is_written, counts.0, counts.1, counts.2))
+/// What came of a close: whether its mark was written, and how many closed deployments, groups and components there are then.
+type Close = (bool, usize, usize, usize);
+
+/// What comes of a close on this device.
+fn closed_on(alloc: Global, device: &mut Device) -> Result<Close, Fail>
+    requires { IsSound (device_view device.old) }
+{
+    let is_written = close(alloc, device)?;
+    Ok((
+        is_written,
+        device.closed.len(),
+        device.groups.len(),
+        device.set.len(),
+    ))
+}
+
+/// What comes of a close on the device of a journal.
+fn closed(alloc: Global) -> Result<Close, Fail> {
+    match replayed(alloc, "genesis bare activate")? {
+        Some(mut device) => {
+            let answer = closed_on(alloc, &mut device);
+            drop(device);
+            answer
+        }
+        None => Ok((false, 0, 0, 0)),
+    }
 }
 
 #[test]

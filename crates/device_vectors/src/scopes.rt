@@ -48,20 +48,44 @@ fn count_in(alloc: Global, origin: &Origin, items: &List<Item>) -> Result<usize,
         return Ok(0);
     };
     match Recipe::read(alloc, item.recipe.as_slice(), &origin.platform) {
-        Ok(_) => count_texts(alloc, &scope_of(alloc, origin, items, 0)?, TEXTS),
+        Ok(recipe) => {
+            drop(recipe);
+            let scope = scope_of(alloc, origin, items, 0)?;
+            let count = count_texts(alloc, &scope, TEXTS);
+            drop(scope);
+            count
+        }
         Err(_) => Ok(0),
     }
 }
 
-/// The same for the plan of the table, in a device that has started.
-fn counted(alloc: Global) -> Result<usize, Fail> {
-    let start = Record::read(alloc, record_named("genesis"))?;
-    let accepted = Record::read(alloc, record_named("scoped"))?;
-    match (start, accepted) {
-        (Some(Record::Genesis(origin)), Some(Record::Accepted(plan))) => {
-            count_in(alloc, &origin, &plan.items)
+/// The same for the plan of the table, in a device of this origin.
+fn count_accepted(alloc: Global, origin: &Origin) -> Result<usize, Fail> {
+    match Record::read(alloc, record_named("scoped"))? {
+        Some(Record::Accepted(plan)) => {
+            let count = count_in(alloc, origin, &plan.items);
+            drop(plan);
+            count
         }
-        _ => Ok(0),
+        other => {
+            drop(other);
+            Ok(0)
+        }
+    }
+}
+
+/// The same in a device that has started.
+fn counted(alloc: Global) -> Result<usize, Fail> {
+    match Record::read(alloc, record_named("genesis"))? {
+        Some(Record::Genesis(origin)) => {
+            let count = count_accepted(alloc, &origin);
+            drop(origin);
+            count
+        }
+        other => {
+            drop(other);
+            Ok(0)
+        }
     }
 }
 

@@ -124,15 +124,28 @@ fn shows(alloc: Global, device: &Device, lines: &str, json: &str) -> Result<bool
     Ok(printed.as_str() == lines && text.as_str() == json)
 }
 
-/// Whether the records are lawful, and the device that they leave has these lines and this JSON text.
-fn prints(alloc: Global, entries: &[&[u8]], lines: &str, json: &str) -> Result<bool, NoMemory> {
-    let mut device = Device::empty(alloc);
+/// Whether the records are lawful on the device.
+fn take_all(alloc: Global, device: &mut Device, entries: &[&[u8]]) -> Result<bool, NoMemory>
+    requires { IsRegularDevice (device_view device.old) }
+    ensures { IsRegularDevice (device_view device.new) }
+{
     for bytes in entries {
-        if !take(alloc, &mut device, bytes)? {
+        if !take(alloc, device, bytes)? {
             return Ok(false);
         }
     }
-    shows(alloc, &device, lines, json)
+    Ok(true)
+}
+
+/// Whether the records are lawful, and the device that they leave has these lines and this JSON text.
+fn prints(alloc: Global, entries: &[&[u8]], lines: &str, json: &str) -> Result<bool, NoMemory> {
+    let mut device = Device::empty(alloc);
+    let answer = match take_all(alloc, &mut device, entries) {
+        Ok(true) => shows(alloc, &device, lines, json),
+        other => other,
+    };
+    drop(device);
+    answer
 }
 
 fn are_moments_printed(alloc: Global) -> Result<bool, NoMemory> {

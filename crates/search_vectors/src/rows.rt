@@ -144,14 +144,16 @@ fn candidate_of(alloc: Global, platform: &Platform, row: &str) -> Result<Candida
 }
 
 fn add(alloc: Global, candidates: &mut Candidates, row: &str) -> Result<(), Fail> {
-    let platform = linux(alloc)?;
-    let candidate = candidate_of(alloc, &platform, row)?;
     if candidates.list().len() > 1000 {
         return Err(Fail::from("many"));
     }
-    match candidates.add(candidate) {
+    let platform = linux(alloc)?;
+    match candidates.add(candidate_of(alloc, &platform, row)?) {
         Ok(()) => Ok(()),
-        Err(_) => Err(Fail::from("clash")),
+        Err(refusal) => {
+            drop(refusal);
+            Err(Fail::from("clash"))
+        }
     }
 }
 
