@@ -223,7 +223,10 @@ fn deploy_read<D: Disk, L: Library, S: Source, K: Sink, R: Runner>(
         Ok(bytes) => deploy_document(alloc, idle, bytes.as_slice(), disk, library, sink, runner),
         Err(fault) => {
             drop(idle);
-            unread(fault).tell(sink)
+            let answer = unread(fault);
+            let status = answer.tell(sink);
+            drop(answer);
+            status
         }
     }
 }
@@ -259,7 +262,11 @@ pub(crate) fn deploy<D: Disk, L: Library, S: Source, K: Sink, R: Runner>(
 {
     match open_idle(alloc, disk) {
         Ok(idle) => deploy_read(alloc, idle, disk, library, source, sink, runner),
-        Err(answer) => answer.tell(sink),
+        Err(answer) => {
+            let status = answer.tell(sink);
+            drop(answer);
+            status
+        }
     }
 }
 
@@ -291,6 +298,10 @@ pub(crate) fn resume<D: Disk, K: Sink, R: Runner>(
             let mut supervisor = Supervisor::new(alloc);
             resume_on(alloc, state, disk, sink, runner, &mut supervisor)
         }
-        Err(answer) => answer.tell(sink),
+        Err(answer) => {
+            let status = answer.tell(sink);
+            drop(answer);
+            status
+        }
     }
 }

@@ -39,7 +39,10 @@ fn begin<D: Disk>(alloc: Global, origin: Origin, disk: &mut D) -> Answer
     };
     let made: Result<Idle<Slots>, CreateFault> = Idle::create(alloc, disk, origin);
     match made {
-        Ok(_) => Answer::Made(thing),
+        Ok(idle) => {
+            drop(idle);
+            Answer::Made(thing)
+        }
         Err(fault) => match fault {
             CreateFault::Disk => Answer::DiskFailed,
             CreateFault::NoMemory => Answer::NoMemory,

@@ -94,5 +94,7 @@ pub(crate) fn look<D: Disk, L: Library, S: Source, K: Sink>(
 {
     words_ask_one_thing();
     let answer = answer(alloc, words, disk, library, source);
-    answer.tell(sink)
+    let status = answer.tell(sink);
+    drop(answer);
+    status
 }

@@ -37,10 +37,16 @@ fn unplanned(alloc: Global, refusal: Refusal) -> Answer
     ensures { TellsRefusal refusal result }
 {
     match refusal_status(&refusal) {
-        Status::Library => Answer::LibraryFailed,
+        Status::Library => {
+            drop(refusal);
+            Answer::LibraryFailed
+        }
         _ => match refusal_text(alloc, &refusal) {
             Ok(text) => Answer::Unplanned(refusal, text),
-            Err(_) => Answer::NoMemory,
+            Err(_) => {
+                drop(refusal);
+                Answer::NoMemory
+            }
         },
     }
 }

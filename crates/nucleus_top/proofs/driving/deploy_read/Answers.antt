@@ -67,9 +67,9 @@ returns-in-Err-clause-ran g c =
     let input : Input = input_of g.S.Source.left g.S.Source.faults c.args.source.now c.read_up_to.new.source in
     inl (
       record {
-        answer = c.unread.result;
-        why = unread_goes input c.in-Err.fault c.unread.result c.unread.ensures (λ is. c.in-Err.ensures.cause (ap Err is));
-        told = c.tell.ensures.told;
+        answer = c.unread-answer.result;
+        why = unread_goes input c.in-Err.fault c.unread-answer.result c.unread-answer.ensures (λ is. c.in-Err.ensures.cause (ap Err is));
+        told = c.tell-status.ensures.told;
         same = refl {a = c.args.disk.now};
       },
       refl {a = c.args.runner.now},
@@ -80,32 +80,32 @@ returns-in-Err-clause-others g c = λ told name apart outside. refl
 
 pub returns-in-Err-clause-disk : goal.returns-in-Err-clause-disk
 returns-in-Err-clause-disk g c = λ is.
-    let printed : Printed = printed_of g.K.Sink.held g.K.Sink.faults c.args.sink.now c.tell.new.sink in
-    absurd ((tells_none printed c.tell.result c.in-Err.fault c.unread.result c.unread.ensures c.tell.ensures.told).disk is)
+    let printed : Printed = printed_of g.K.Sink.held g.K.Sink.faults c.args.sink.now c.tell-status.new.sink in
+    absurd ((tells_none printed c.tell-status.result c.in-Err.fault c.unread-answer.result c.unread-answer.ensures c.tell-status.ensures.told).disk is)
 
 pub returns-in-Err-clause-quiet_sink : goal.returns-in-Err-clause-quiet_sink
 returns-in-Err-clause-quiet_sink g c =
-    let printed : Printed = printed_of g.K.Sink.held g.K.Sink.faults c.args.sink.now c.tell.new.sink in
-    (tells_none printed c.tell.result c.in-Err.fault c.unread.result c.unread.ensures c.tell.ensures.told).quiet_sink
+    let printed : Printed = printed_of g.K.Sink.held g.K.Sink.faults c.args.sink.now c.tell-status.new.sink in
+    (tells_none printed c.tell-status.result c.in-Err.fault c.unread-answer.result c.unread-answer.ensures c.tell-status.ensures.told).quiet_sink
 
 pub returns-in-Err-clause-library : goal.returns-in-Err-clause-library
 returns-in-Err-clause-library g c = λ is.
-    let printed : Printed = printed_of g.K.Sink.held g.K.Sink.faults c.args.sink.now c.tell.new.sink in
-    absurd ((tells_none printed c.tell.result c.in-Err.fault c.unread.result c.unread.ensures c.tell.ensures.told).library is)
+    let printed : Printed = printed_of g.K.Sink.held g.K.Sink.faults c.args.sink.now c.tell-status.new.sink in
+    absurd ((tells_none printed c.tell-status.result c.in-Err.fault c.unread-answer.result c.unread-answer.ensures c.tell-status.ensures.told).library is)
 
 pub returns-in-Err-clause-edge : goal.returns-in-Err-clause-edge
 returns-in-Err-clause-edge g c = λ is.
-    let printed : Printed = printed_of g.K.Sink.held g.K.Sink.faults c.args.sink.now c.tell.new.sink in
-    first_by (λ same. c.in-Err.ensures.cause (ap Err same)) ((tells_none printed c.tell.result c.in-Err.fault c.unread.result c.unread.ensures c.tell.ensures.told).edge is)
+    let printed : Printed = printed_of g.K.Sink.held g.K.Sink.faults c.args.sink.now c.tell-status.new.sink in
+    first_by (λ same. c.in-Err.ensures.cause (ap Err same)) ((tells_none printed c.tell-status.result c.in-Err.fault c.unread-answer.result c.unread-answer.ensures c.tell-status.ensures.told).edge is)
 
 pub returns-in-Err-clause-quiet_source : goal.returns-in-Err-clause-quiet_source
 returns-in-Err-clause-quiet_source g c = λ other.
-    let printed : Printed = printed_of g.K.Sink.held g.K.Sink.faults c.args.sink.now c.tell.new.sink in
-    c.in-Err.ensures.quiet (λ is. (tells_none printed c.tell.result c.in-Err.fault c.unread.result c.unread.ensures c.tell.ensures.told).quiet other (cc))
+    let printed : Printed = printed_of g.K.Sink.held g.K.Sink.faults c.args.sink.now c.tell-status.new.sink in
+    c.in-Err.ensures.quiet (λ is. (tells_none printed c.tell-status.result c.in-Err.fault c.unread-answer.result c.unread-answer.ensures c.tell-status.ensures.told).quiet other (cc))
 
 pub returns-in-Err-clause-later : goal.returns-in-Err-clause-later
 returns-in-Err-clause-later g c =
-    (stays (g.D.Disk.faults c.args.disk.now) (g.D.Disk.faults c.args.disk.now) (omega arith), stays (g.K.Sink.faults c.args.sink.now) (g.K.Sink.faults c.tell.new.sink) c.tell.ensures.later)
+    (stays (g.D.Disk.faults c.args.disk.now) (g.D.Disk.faults c.args.disk.now) (omega arith), stays (g.K.Sink.faults c.args.sink.now) (g.K.Sink.faults c.tell-status.new.sink) c.tell-status.ensures.later)
 
 -- ---- no stray file is left behind a close
 
@@ -115,4 +115,4 @@ returns-in-Ok-clause-swept g c = c.deploy_document.ensures.swept
 pub returns-in-Err-clause-swept : goal.returns-in-Err-clause-swept
 returns-in-Err-clause-swept g c =
     let d = idle_device c.args.idle in
-    none_closes g.met.D.Disk.laws slots_laws c.args.disk.now d c.tell.result (held_stands g.met.D.Disk.laws c.args.idle.log c.args.disk.now d c.requires.held.0)
+    none_closes g.met.D.Disk.laws slots_laws c.args.disk.now d c.tell-status.result (held_stands g.met.D.Disk.laws c.args.idle.log c.args.disk.now d c.requires.held.0)

@@ -8,7 +8,7 @@ use Rattle.nucleus_top.proofs.init.begin.Goals as goal
 
 pub returns-in-Ok-made-clause-comes : goal.returns-in-Ok-made-clause-comes
 returns-in-Ok-made-clause-comes g c =
-    let s = c.in-Ok-made.field-0 in
+    let s = c.in-Ok-made.idle in
     let image = g.D.Disk.seen c.create-made.new.disk in (
       c.in-Ok.ensures,
       λ tells. record {
@@ -25,7 +25,7 @@ returns-in-Ok-made-clause-moments g c =
 
 pub returns-in-Ok-made-clause-keeps : goal.returns-in-Ok-made-clause-keeps
 returns-in-Ok-made-clause-keeps g c = λ done image left.
-    let s = c.in-Ok-made.field-0 in
+    let s = c.in-Ok-made.idle in
     subst (λ (d : Device). Stands image d) c.in-Ok-made.ensures.made
     (held_stands g.met.D.Disk.laws s.log c.create-made.new.disk (idle_device s) c.in-Ok-made.ensures.held.0 image left)
 
