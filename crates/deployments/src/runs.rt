@@ -110,10 +110,24 @@ where
             let driven = boot(state, ready, disk, sink, runner, supervisor);
             end_call(alloc, driven, disk, sink, runner, supervisor)
         }
-        Ok(Taken::Full(_, at)) => say_full(at, sink),
-        Ok(Taken::NoMemory(_)) => Status::Memory,
-        Err(Over::Disk) => say_disk(sink),
-        Err(Over::Edge) => Status::Edge,
+        Ok(Taken::Full(idle, at)) => {
+            drop(idle);
+            drop(ready);
+            say_full(at, sink)
+        }
+        Ok(Taken::NoMemory(idle)) => {
+            drop(idle);
+            drop(ready);
+            Status::Memory
+        }
+        Err(Over::Disk) => {
+            drop(ready);
+            say_disk(sink)
+        }
+        Err(Over::Edge) => {
+            drop(ready);
+            Status::Edge
+        }
     }
 }
 
@@ -163,11 +177,20 @@ where
 {
     let plan = match take_in(alloc, &idle, document, disk, library) {
         Ok(plan) => plan,
-        Err(declined) => return say_declined(alloc, &declined, sink),
+        Err(declined) => {
+            drop(idle);
+            let status = say_declined(alloc, &declined, sink);
+            drop(declined);
+            return status;
+        }
     };
     match ready_for(alloc, &idle, &plan, supervisor) {
         Ok(ready) => run_plan(alloc, idle, plan, ready, disk, sink, runner, supervisor),
-        Err(_) => Status::Memory,
+        Err(_) => {
+            drop(plan);
+            drop(idle);
+            Status::Memory
+        }
     }
 }
 

@@ -30,12 +30,12 @@ pub returns-in-Err-clause-call : goal.returns-in-Err-clause-call
 returns-in-Err-clause-call g c = λ p opens serves.
     let d = idle_device c.args.idle in
     let told = Listed g.R.Runner.list g.R.Runner.told g.R.Runner.asked c.args.runner.now in
-    let t = declined_called g.J.Journal.entries g.J.Journal.files g.met.D.Disk.laws (start_of g.J.Journal.end g.J.Journal.number g.J.Journal.turns (idle_log c.args.idle) (idle_device c.args.idle)) c.args.disk.now c.take_in.new.disk told.list (g.K.Sink.held c.args.sink.now) (g.K.Sink.held c.say_declined.new.sink) p c.in-Err.declined c.say_declined.result
+    let t = declined_called g.J.Journal.entries g.J.Journal.files g.met.D.Disk.laws (start_of g.J.Journal.end g.J.Journal.number g.J.Journal.turns (idle_log c.args.idle) (idle_device c.args.idle)) c.args.disk.now c.take_in.new.disk told.list (g.K.Sink.held c.args.sink.now) (g.K.Sink.held c.say_declined-status.new.sink) p c.in-Err.declined c.say_declined-status.result
     c.take_in.ensures.moments
     (λ i left. subst (λ (e : Device). StandsFor g.J.Journal.entries i e) (sym opens.stands.device_is) (in_hand_stands g.met.D.Disk.laws g.met.J.Journal.laws c.args.idle.log c.take_in.new.disk d c.take_in.ensures.held.0 i left))
     (open_shut p d (g.S.Supervise.world c.args.supervisor.now) told (g.R.Runner.living c.args.runner.now) c.requires.empty opens)
     (ap (λ (e : Device). e.pending) opens.stands.device_is ∙ c.requires.held.1)
-    c.say_declined.ensures.says in (
+    c.say_declined-status.ensures.says in (
       Err c.in-Err.declined,
       (λ o is. subst (λ (r : Result code.Plan Declined). TakesIn d o (g.L.Library.content c.args.library.now) (g.L.Library.faults c.args.library.now) (g.L.Library.faults c.take_in.new.library) c.args.document.now r) c.in-Err.is (c.take_in.ensures.takes o is)),
       t.0,
@@ -56,28 +56,28 @@ returns-in-Err-clause-others g c = λ told name apart below. c.take_in.ensures.o
 
 pub returns-in-Err-clause-disk : goal.returns-in-Err-clause-disk
 returns-in-Err-clause-disk g c = λ is.
-    c.in-Err.ensures.disk_cause (declined_disk c.in-Err.declined (told_is c.say_declined.result _ statuses.Disk c.say_declined.ensures.answers (λ e. cc) (λ e. cc) is))
+    c.in-Err.ensures.disk_cause (declined_disk c.in-Err.declined (told_is c.say_declined-status.result _ statuses.Disk c.say_declined-status.ensures.answers (λ e. cc) (λ e. cc) is))
 
 pub returns-in-Err-clause-library : goal.returns-in-Err-clause-library
 returns-in-Err-clause-library g c = λ is.
-    c.in-Err.ensures.library_cause (declined_library c.in-Err.declined (told_is c.say_declined.result _ statuses.Library c.say_declined.ensures.answers (λ e. cc) (λ e. cc) is))
+    c.in-Err.ensures.library_cause (declined_library c.in-Err.declined (told_is c.say_declined-status.result _ statuses.Library c.say_declined-status.ensures.answers (λ e. cc) (λ e. cc) is))
 
 pub returns-in-Err-clause-quiet_disk : goal.returns-in-Err-clause-quiet_disk
 returns-in-Err-clause-quiet_disk g c = λ disk edge.
     c.in-Err.ensures.disk_quiet (λ failed.
     let is = disk_declined c.in-Err.declined failed in
-    told_said c.say_declined.result _ statuses.Disk c.say_declined.ensures.answers is (c.say_declined.ensures.outside (inl is)) disk edge)
+    told_said c.say_declined-status.result _ statuses.Disk c.say_declined-status.ensures.answers is (c.say_declined-status.ensures.outside (inl is)) disk edge)
 
 pub returns-in-Err-clause-library_quiet : goal.returns-in-Err-clause-library_quiet
 returns-in-Err-clause-library_quiet g c = λ library edge.
     c.in-Err.ensures.library_quiet (λ failed.
     let is = library_declined c.in-Err.declined failed in
-    told_said c.say_declined.result _ statuses.Library c.say_declined.ensures.answers is (c.say_declined.ensures.outside (inr is)) library edge)
+    told_said c.say_declined-status.result _ statuses.Library c.say_declined-status.ensures.answers is (c.say_declined-status.ensures.outside (inr is)) library edge)
 
 pub returns-in-Err-clause-later : goal.returns-in-Err-clause-later
 returns-in-Err-clause-later g c = (
   stays_later (g.D.Disk.faults c.args.disk.now) (g.D.Disk.faults c.take_in.new.disk) c.take_in.ensures.disk_later,
-  stays_later (g.K.Sink.faults c.args.sink.now) (g.K.Sink.faults c.say_declined.new.sink) c.say_declined.ensures.later,
+  stays_later (g.K.Sink.faults c.args.sink.now) (g.K.Sink.faults c.say_declined-status.new.sink) c.say_declined-status.ensures.later,
 )
 
 -- ---- what making ready asks
@@ -185,7 +185,7 @@ returns-in-Err-ready_for-clause-later g c = (
 pub returns-in-Err-clause-swept : goal.returns-in-Err-clause-swept
 returns-in-Err-clause-swept g c =
     let d = idle_device c.args.idle in
-    declined_sweeps g.met.D.Disk.laws g.met.J.Journal.laws c.args.disk.now c.take_in.new.disk d c.in-Err.declined c.say_declined.result c.say_declined.ensures.answers c.in-Err.ensures.untouched
+    declined_sweeps g.met.D.Disk.laws g.met.J.Journal.laws c.args.disk.now c.take_in.new.disk d c.in-Err.declined c.say_declined-status.result c.say_declined-status.ensures.answers c.in-Err.ensures.untouched
     (λ i left. in_hand_stands g.met.D.Disk.laws g.met.J.Journal.laws c.args.idle.log c.take_in.new.disk d c.take_in.ensures.held.0 i left)
 
 pub returns-in-Ok-ready_for-clause-swept : goal.returns-in-Ok-ready_for-clause-swept

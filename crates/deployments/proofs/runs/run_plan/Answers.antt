@@ -262,8 +262,8 @@ returns-in-Err-Disk-clause-own g c = two_never c.say_disk.result statuses.Disk s
 
 -- ---- its line was not printed
 
-pub returns-clause-call : goal.returns-clause-call
-returns-clause-call g c = λ p opens serves.
+pub returns-in-Err-Edge-clause-call : goal.returns-in-Err-Edge-clause-call
+returns-in-Err-Edge-clause-call g c = λ p opens serves.
     let d = idle_device c.args.idle in
     let world = g.S.Supervise.world c.args.supervisor.now in
     let told = Listed g.R.Runner.list g.R.Runner.told g.R.Runner.asked c.args.runner.now in
@@ -278,8 +278,8 @@ returns-clause-call g c = λ p opens serves.
     (says_none mid mid statuses.Edge refl) (λ is. refl) refl in
     (r.0, r.1, λ fails. let no : Breaks ≡ Fails = sym r.2 ∙ fails in absurd cc)
 
-pub returns-clause-none : goal.returns-clause-none
-returns-clause-none g c =
+pub returns-in-Err-Edge-clause-none : goal.returns-in-Err-Edge-clause-none
+returns-in-Err-Edge-clause-none g c =
     let q = c.requires.placed in
     let told = Listed g.R.Runner.list g.R.Runner.told g.R.Runner.asked c.args.runner.now in
     open_none q.0 (idle_device c.args.idle) (g.S.Supervise.world c.args.supervisor.now) told (g.R.Runner.living c.args.runner.now) c.requires.empty q.1
@@ -302,5 +302,5 @@ pub returns-in-Err-Disk-clause-swept : goal.returns-in-Err-Disk-clause-swept
 returns-in-Err-Disk-clause-swept g c =
     never_closes g.D.Disk.tells g.J.Journal.entries c.say_disk.result statuses.Disk (g.D.Disk.seen c.accept_plan.new.disk) refl c.say_disk.ensures.answers
 
-pub returns-clause-swept : goal.returns-clause-swept
-returns-clause-swept g c = never_closes g.D.Disk.tells g.J.Journal.entries statuses.Edge statuses.Edge (g.D.Disk.seen c.accept_plan.new.disk) refl (inl refl)
+pub returns-in-Err-Edge-clause-swept : goal.returns-in-Err-Edge-clause-swept
+returns-in-Err-Edge-clause-swept g c = never_closes g.D.Disk.tells g.J.Journal.entries statuses.Edge statuses.Edge (g.D.Disk.seen c.accept_plan.new.disk) refl (inl refl)
