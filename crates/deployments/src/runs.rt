@@ -238,9 +238,19 @@ where
     ensures library_later { L.faults library.old ≤ L.faults library.new }
 {
     match Document::read(alloc, document) {
-        Ok(document) => run_deployment(
-            alloc, idle, &document, disk, library, sink, runner, supervisor,
-        ),
-        Err(fault) => say_refusal(alloc, &Refusal::from(fault), sink),
+        Ok(document) => {
+            let status = run_deployment(
+                alloc, idle, &document, disk, library, sink, runner, supervisor,
+            );
+            drop(document);
+            status
+        }
+        Err(fault) => {
+            drop(idle);
+            let refusal = Refusal::from(fault);
+            let status = say_refusal(alloc, &refusal, sink);
+            drop(refusal);
+            status
+        }
     }
 }

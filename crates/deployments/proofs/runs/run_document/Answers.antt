@@ -32,12 +32,12 @@ returns-in-Err-clause-call g c = λ p opens serves.
     let told = Listed g.R.Runner.list g.R.Runner.told g.R.Runner.asked c.args.runner.now in
     let stands : (i : Image) → g.D.Disk.may_leave c.args.disk.now i → StandsFor g.J.Journal.entries i p.device = λ i left. subst (λ (e : Device). StandsFor g.J.Journal.entries i e) (sym opens.stands.device_is) (in_hand_stands g.met.D.Disk.laws g.met.J.Journal.laws c.args.idle.log c.args.disk.now d c.requires.held.0 i left) in
     let declined = Refused (document_refusal c.in-Err.fault) in
-    let t = declined_called g.J.Journal.entries g.J.Journal.files g.met.D.Disk.laws (start_of g.J.Journal.end g.J.Journal.number g.J.Journal.turns (idle_log c.args.idle) (idle_device c.args.idle)) c.args.disk.now c.args.disk.now told.list (g.K.Sink.held c.args.sink.now) (g.K.Sink.held c.say_refusal.new.sink) p declined c.say_refusal.result
+    let t = declined_called g.J.Journal.entries g.J.Journal.files g.met.D.Disk.laws (start_of g.J.Journal.end g.J.Journal.number g.J.Journal.turns (idle_log c.args.idle) (idle_device c.args.idle)) c.args.disk.now c.args.disk.now told.list (g.K.Sink.held c.args.sink.now) (g.K.Sink.held c.say_refusal-status.new.sink) p declined c.say_refusal-status.result
     (start_spares g.met.D.Disk.laws (IsBelow artifacts) c.args.disk.now)
     stands
     (open_shut p d (g.S.Supervise.world c.args.supervisor.now) told (g.R.Runner.living c.args.runner.now) c.requires.empty opens)
     (ap (λ (e : Device). e.pending) opens.stands.device_is ∙ c.requires.held.1)
-    (subst (λ (r : Refusal). SaysRefusal (g.K.Sink.held c.args.sink.now) (g.K.Sink.held c.say_refusal.new.sink) c.say_refusal.result (status_of_refusal r) (refusal_line r)) c.from.ensures c.say_refusal.ensures.says) in (
+    (subst (λ (r : Refusal). SaysRefusal (g.K.Sink.held c.args.sink.now) (g.K.Sink.held c.say_refusal-status.new.sink) c.say_refusal-status.result (status_of_refusal r) (refusal_line r)) c.from-refusal.ensures c.say_refusal-status.ensures.says) in (
       Err declined,
       (λ o is. unread_taken d o (g.L.Library.content c.args.library.now) (g.L.Library.faults c.args.library.now) (g.L.Library.faults c.args.library.now) c.args.document.now c.in-Err.fault c.in-Err.ensures.exact),
       t.0,
@@ -49,7 +49,7 @@ returns-in-Err-clause-call g c = λ p opens serves.
 
 pub returns-in-Ok-clause-call : goal.returns-in-Ok-clause-call
 returns-in-Ok-clause-call g c = λ p opens serves.
-    let t = c.run_deployment.ensures.call p opens serves in (
+    let t = c.run_deployment-status.ensures.call p opens serves in (
       t.0,
       (λ o is. inr (inr (c.in-Ok.document, c.in-Ok.ensures.exact, t.1 o is))),
       t.2,
@@ -66,26 +66,26 @@ returns-in-Err-clause-none g c =
     open_none q.0 (idle_device c.args.idle) (g.S.Supervise.world c.args.supervisor.now) told (g.R.Runner.living c.args.runner.now) c.requires.empty q.1
 
 pub returns-in-Err-clause-disk : goal.returns-in-Err-clause-disk
-returns-in-Err-clause-disk g c = λ is. absurd (refusal_never _ c.say_refusal.result statuses.Disk c.say_refusal.ensures.answers refl (λ e. cc) is)
+returns-in-Err-clause-disk g c = λ is. absurd (refusal_never _ c.say_refusal-status.result statuses.Disk c.say_refusal-status.ensures.answers refl (λ e. cc) is)
 
 pub returns-in-Err-clause-library : goal.returns-in-Err-clause-library
 returns-in-Err-clause-library g c = λ is.
-    absurd (unread_never c.in-Err.fault c.say_refusal.result
-    (subst (λ (r : Refusal). (c.say_refusal.result ≡ status_of_refusal r) ⊎ (c.say_refusal.result ≡ statuses.Memory) ⊎ (c.say_refusal.result ≡ statuses.Edge)) c.from.ensures c.say_refusal.ensures.answers) is)
+    absurd (unread_never c.in-Err.fault c.say_refusal-status.result
+    (subst (λ (r : Refusal). (c.say_refusal-status.result ≡ status_of_refusal r) ⊎ (c.say_refusal-status.result ≡ statuses.Memory) ⊎ (c.say_refusal-status.result ≡ statuses.Edge)) c.from-refusal.ensures c.say_refusal-status.ensures.answers) is)
 
 pub returns-in-Err-clause-later : goal.returns-in-Err-clause-later
 returns-in-Err-clause-later g c = (
   stays_later (g.D.Disk.faults c.args.disk.now) (g.D.Disk.faults c.args.disk.now) (omega arith),
-  stays_later (g.K.Sink.faults c.args.sink.now) (g.K.Sink.faults c.say_refusal.new.sink) c.say_refusal.ensures.later,
+  stays_later (g.K.Sink.faults c.args.sink.now) (g.K.Sink.faults c.say_refusal-status.new.sink) c.say_refusal-status.ensures.later,
 )
 
 -- ---- no stray file is left behind a close
 
 pub returns-in-Ok-clause-swept : goal.returns-in-Ok-clause-swept
-returns-in-Ok-clause-swept g c = c.run_deployment.ensures.swept
+returns-in-Ok-clause-swept g c = c.run_deployment-status.ensures.swept
 
 pub returns-in-Err-clause-swept : goal.returns-in-Err-clause-swept
 returns-in-Err-clause-swept g c =
     let d = idle_device c.args.idle in
-    none_closes g.met.D.Disk.laws g.met.J.Journal.laws c.args.disk.now d c.say_refusal.result
+    none_closes g.met.D.Disk.laws g.met.J.Journal.laws c.args.disk.now d c.say_refusal-status.result
     (λ i left. in_hand_stands g.met.D.Disk.laws g.met.J.Journal.laws c.args.idle.log c.args.disk.now d c.requires.held.0 i left)
