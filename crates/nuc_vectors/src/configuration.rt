@@ -104,15 +104,30 @@ fn optional(alloc: Global, text: &str) -> Result<Option<Tree>, Fail>
     Ok(Some(read(alloc, text)?))
 }
 
-fn pointers(alloc: Global, text: &str) -> Result<List<Pointer>, Fail> {
-    let mut pointers = List::empty(alloc);
-    if let Tree::Items(items) = read(alloc, text)? {
-        for item in &items {
-            if let Some(text) = item.as_text() {
-                pointers.push(Pointer::read(alloc, text.as_str())?)?;
-            }
+/// Adds the pointer that an item spells.
+fn push_pointer(alloc: Global, pointers: &mut List<Pointer>, item: &Tree) -> Result<(), Fail> {
+    if let Some(text) = item.as_text() {
+        let pointer = Pointer::read(alloc, text.as_str())?;
+        pointers.push(pointer)?;
+    }
+    Ok(())
+}
+
+fn push_pointers(alloc: Global, pointers: &mut List<Pointer>, tree: &Tree) -> Result<(), Fail> {
+    if let Tree::Items(items) = tree {
+        for item in items {
+            push_pointer(alloc, pointers, item)?;
         }
     }
+    Ok(())
+}
+
+fn pointers(alloc: Global, text: &str) -> Result<List<Pointer>, Fail> {
+    let tree = read(alloc, text)?;
+    let mut pointers = List::empty(alloc);
+    let pushed = push_pointers(alloc, &mut pointers, &tree);
+    drop(tree);
+    pushed?;
     Ok(pointers)
 }
 
@@ -127,19 +142,68 @@ fn update(alloc: Global, resets: &str, merge: &str) -> Result<Option<Update>, Fa
     Ok(Some(Update { resets, merge }))
 }
 
-/// The configuration that the first four parts of a row make is the last.
-fn gives(alloc: Global, default: &str, kept: &str, asked: &str) -> Result<bool, Fail> {
+fn is_written(alloc: Global, tree: &Tree, wanted: &str) -> Result<bool, Fail>
+    requires { IsRegular (view tree.now) }
+{
+    Ok(tree.write(alloc)?.as_str() == wanted)
+}
+
+/// The configuration that an update makes is the wanted one.
+fn makes(
+    alloc: Global,
+    default: &Tree,
+    kept: Option<&Tree>,
+    update: Option<&Update>,
+    wanted: &str,
+) -> Result<bool, Fail>
+    requires default { IsRegular (view default.now) }
+    requires kept { IfSome kept (λ t. IsRegular (view t.now)) }
+    requires update { IfSome update (λ u. IsRegularUpdate u.now) }
+{
+    let tree = new_config(alloc, kept, default, update)?;
+    let is_wanted = is_written(alloc, &tree, wanted);
+    drop(tree);
+    is_wanted
+}
+
+/// The same, of an update and a configuration that are written out.
+fn makes_as_asked(
+    alloc: Global,
+    default: &Tree,
+    kept: Option<&Tree>,
+    asked: &str,
+) -> Result<bool, Fail>
+    requires default { IsRegular (view default.now) }
+    requires kept { IfSome kept (λ t. IsRegular (view t.now)) }
+{
     let Some((resets, rest)) = asked.split_once(';') else {
         return Ok(false);
     };
     let Some((merge, wanted)) = rest.split_once(';') else {
         return Ok(false);
     };
-    let default = read(alloc, default)?;
-    let kept = optional(alloc, kept)?;
     let update = update(alloc, resets, merge)?;
-    let tree = new_config(alloc, kept.as_ref(), &default, update.as_ref())?;
-    Ok(tree.write(alloc)?.as_str() == wanted)
+    let is_wanted = makes(alloc, default, kept, update.as_ref(), wanted);
+    drop(update);
+    is_wanted
+}
+
+/// The same, and what is kept is written out too.
+fn gives_of(alloc: Global, default: &Tree, kept: &str, asked: &str) -> Result<bool, Fail>
+    requires { IsRegular (view default.now) }
+{
+    let kept = optional(alloc, kept)?;
+    let is_wanted = makes_as_asked(alloc, default, kept.as_ref(), asked);
+    drop(kept);
+    is_wanted
+}
+
+/// The configuration that the first four parts of a row make is the last.
+fn gives(alloc: Global, default: &str, kept: &str, asked: &str) -> Result<bool, Fail> {
+    let default = read(alloc, default)?;
+    let is_wanted = gives_of(alloc, &default, kept, asked);
+    drop(default);
+    is_wanted
 }
 
 fn is_row(alloc: Global, row: &str) -> Result<bool, Fail> {
@@ -152,14 +216,37 @@ fn is_row(alloc: Global, row: &str) -> Result<bool, Fail> {
     gives(alloc, default, kept, asked)
 }
 
-fn names(alloc: Global, pointer: &str, wanted: &str) -> Result<bool, Fail> {
-    let tree = Tree::read(alloc, DOCUMENT.as_bytes(), 1000)?;
-    let wanted = read(alloc, wanted)?;
-    let at = Pointer::read(alloc, pointer)?;
-    Ok(match tree.get(&at) {
-        Some(node) => *node == wanted,
+fn is_node(tree: &Tree, at: &Pointer, wanted: &Tree) -> bool
+    requires { IsRegular (view tree.now) }
+{
+    match tree.get(at) {
+        Some(node) => *node == *wanted,
         None => false,
-    })
+    }
+}
+
+fn names_in(alloc: Global, tree: &Tree, pointer: &str, wanted: &Tree) -> Result<bool, Fail>
+    requires { IsRegular (view tree.now) }
+{
+    let at = Pointer::read(alloc, pointer)?;
+    Ok(is_node(tree, &at, wanted))
+}
+
+fn names_written(alloc: Global, tree: &Tree, pointer: &str, wanted: &str) -> Result<bool, Fail>
+    requires { IsRegular (view tree.now) }
+{
+    let wanted = read(alloc, wanted)?;
+    let is_named = names_in(alloc, tree, pointer, &wanted);
+    drop(wanted);
+    is_named
+}
+
+/// The pointer names the wanted node of the document.
+fn names(alloc: Global, pointer: &str, wanted: &str) -> Result<bool, Fail> {
+    let tree = read(alloc, DOCUMENT)?;
+    let is_named = names_written(alloc, &tree, pointer, wanted);
+    drop(tree);
+    is_named
 }
 
 fn is_named(alloc: Global, row: &str) -> Result<bool, Fail> {

@@ -1,4 +1,5 @@
 // Documents, each with the fault that the first failing line names, or with what is read.
+use config_ops::Update;
 use deployment_doc::{DocFault, Document, Root};
 use nuc_base::{List, Pointer, Policy, Text};
 use std::alloc::Global;
@@ -130,8 +131,15 @@ d g ROLLBACK A 1.0.0 update merge Fields([("a", Whole(-1)), ("b", Items([Null]))
 d g ROLLBACK A 1.0.0 update merge Fields([("a", Text("x")), ("b", Flag(true))])|{"merge":" {\"b\":true,\"a\":\"x\"} "}"#;
 
 fn answer(alloc: Global, text: &str) -> Result<String, Fail> {
-    match Document::read(alloc, text.as_bytes()) {
-        Ok(document) => shown(alloc, &document),
+    let read = Document::read(alloc, text.as_bytes());
+    let answer = answer_of(alloc, &read);
+    drop(read);
+    answer
+}
+
+fn answer_of(alloc: Global, read: &Result<Document, DocFault>) -> Result<String, Fail> {
+    match read {
+        Ok(document) => shown(alloc, document),
         Err(fault) => Ok(fault.to_string(alloc)?),
     }
 }
@@ -142,23 +150,38 @@ fn shown(alloc: Global, document: &Document) -> Result<String, Fail> {
         Policy::DoNothing => "DO_NOTHING",
     };
     let mut text = format!(in alloc; "{} {} {policy}", document.id, document.group)?;
-    if document.revision > 0 {
-        text.push_str(&format!(in alloc; " revision {}", document.revision)?)?;
-    }
-    for root in document.roots.as_slice() {
-        add_root(alloc, &mut text, root)?;
-    }
+    add_revision(alloc, &mut text, document.revision)?;
+    add_roots(alloc, &mut text, document.roots.as_slice())?;
     Ok(text)
+}
+
+fn add_revision(alloc: Global, text: &mut String, revision: u64) -> Result<(), Fail> {
+    if revision > 0 {
+        text.push_str(&format!(in alloc; " revision {revision}")?)?;
+    }
+    Ok(())
+}
+
+fn add_roots(alloc: Global, text: &mut String, roots: &[Root]) -> Result<(), Fail> {
+    for root in roots {
+        add_root(alloc, text, root)?;
+    }
+    Ok(())
 }
 
 fn add_root(alloc: Global, text: &mut String, root: &Root) -> Result<(), Fail> {
     text.push_str(&format!(in alloc; " {} {}", root.name, root.range.text())?)?;
     if let Some(update) = &root.update {
-        text.push_str(" update")?;
-        add_resets(text, &update.resets)?;
-        if let Some(merge) = &update.merge {
-            text.push_str(&format!(in alloc; " merge {merge:?}")?)?;
-        }
+        add_update(alloc, text, update)?;
+    }
+    Ok(())
+}
+
+fn add_update(alloc: Global, text: &mut String, update: &Update) -> Result<(), Fail> {
+    text.push_str(" update")?;
+    add_resets(text, &update.resets)?;
+    if let Some(merge) = &update.merge {
+        text.push_str(&format!(in alloc; " merge {merge:?}")?)?;
     }
     Ok(())
 }
@@ -174,14 +197,23 @@ fn add_resets(text: &mut String, resets: &List<Pointer>) -> Result<(), Fail> {
     Ok(())
 }
 
+fn is_answered(alloc: Global, text: &str, wanted: &str) -> Result<bool, Fail> {
+    Ok(answer(alloc, text)?.as_str() == wanted)
+}
+
+fn joined(alloc: Global, front: &str, middle: &str, back: &str) -> Result<Text, Fail> {
+    let mut text = Text::from_str(alloc, front)?;
+    text.push_str(middle)?;
+    text.push_str(back)?;
+    Ok(text)
+}
+
 fn is_row(alloc: Global, front: &str, row: &str, back: &str) -> Result<bool, Fail> {
     let Some((wanted, middle)) = row.split_once('|') else {
         return Ok(false);
     };
-    let mut text = Text::from_str(alloc, front)?;
-    text.push_str(middle)?;
-    text.push_str(back)?;
-    Ok(answer(alloc, text.as_str())?.as_str() == wanted)
+    let text = joined(alloc, front, middle, back)?;
+    is_answered(alloc, text.as_str(), wanted)
 }
 
 /// The first row of a table that is not answered as it says, or the empty text.
@@ -209,6 +241,21 @@ const MANY_RESETS: &str = r#"TooMany reset|257||
 WrongKind reset|256||
 BadPointer A|256|"|""#;
 
+fn add_part(alloc: Global, text: &mut String, part: (&str, &str), i: u32) -> Result<(), Fail> {
+    if i > 0 {
+        text.push(',')?;
+    }
+    text.push_str(&format!(in alloc; "{}{i}{}", part.0, part.1)?)?;
+    Ok(())
+}
+
+fn add_parts(alloc: Global, text: &mut String, part: (&str, &str), count: u32) -> Result<(), Fail> {
+    for i in 0..count {
+        add_part(alloc, text, part, i)?;
+    }
+    Ok(())
+}
+
 /// A document with so many parts of one form.
 fn repeated(
     alloc: Global,
@@ -218,12 +265,7 @@ fn repeated(
     back: &str,
 ) -> Result<String, Fail> {
     let mut text = String::from_str(alloc, front)?;
-    for i in 0..count {
-        if i > 0 {
-            text.push(',')?;
-        }
-        text.push_str(&format!(in alloc; "{}{i}{}", part.0, part.1)?)?;
-    }
+    add_parts(alloc, &mut text, part, count)?;
     text.push_str(back)?;
     Ok(text)
 }
@@ -242,7 +284,7 @@ fn is_repeated_row(alloc: Global, front: &str, row: &str, back: &str) -> Result<
         return Ok(false);
     };
     let text = repeated(alloc, front, part, count, back)?;
-    Ok(answer(alloc, text.as_str())?.as_str() == wanted)
+    is_answered(alloc, text.as_str(), wanted)
 }
 
 fn first_wrong_repeated<'t>(
@@ -265,36 +307,65 @@ const RESETS: &str =
 const PARTS: &str = r#"{"targetArn":"g","components":{"#;
 
 fn is_too_large(alloc: Global, bytes: &[u8]) -> bool {
-    match Document::read(alloc, bytes) {
-        Err(DocFault::Tree(TreeFault::TooLarge)) => true,
-        _ => false,
-    }
+    let read = Document::read(alloc, bytes);
+    let is_too_large = matches!(&read, Err(DocFault::Tree(TreeFault::TooLarge)));
+    drop(read);
+    is_too_large
+}
+
+fn is_read(alloc: Global, bytes: &[u8]) -> bool {
+    let read = Document::read(alloc, bytes);
+    let is_read = read.is_ok();
+    drop(read);
+    is_read
+}
+
+/// A document with blanks at its end, of so many bytes.
+fn padded(alloc: Global, length: usize) -> Result<Vec<u8>, Fail> {
+    let document = r#"{"deploymentId":"d","targetArn":"g"}"#;
+    let mut bytes = Vec::from_slice(alloc, document.as_bytes())?;
+    bytes.resize(length, b' ')?;
+    Ok(bytes)
 }
 
 /// With blanks at its end a document is read up to 524,288 bytes.
 fn is_limited(alloc: Global) -> Result<bool, Fail> {
-    let document = r#"{"deploymentId":"d","targetArn":"g"}"#;
-    let blanks = vec![in alloc; b' '; 524_288usize.saturating_sub(document.len())]?;
-    let mut bytes = Vec::new(alloc);
-    bytes.extend_from_slice(document.as_bytes())?;
-    bytes.extend_from_slice(&blanks)?;
-    let read = Document::read(alloc, bytes.as_slice()).is_ok();
+    let mut bytes = padded(alloc, 524_288)?;
+    let is_read = is_read(alloc, bytes.as_slice());
     bytes.push(b' ')?;
-    Ok(read && is_too_large(alloc, bytes.as_slice()))
+    Ok(is_read && is_too_large(alloc, bytes.as_slice()))
+}
+
+fn count_roots(alloc: Global, text: &str) -> Result<usize, Fail> {
+    let document = Document::read(alloc, text.as_bytes())?;
+    let count = document.roots.len();
+    drop(document);
+    Ok(count)
 }
 
 fn roots_of(alloc: Global, count: u32) -> Result<usize, Fail> {
     let part = (r#""A"#, r#"":{"componentVersion":"1.0.0"}"#);
     let text = repeated(alloc, PARTS, part, count, "}}")?;
-    Ok(Document::read(alloc, text.as_bytes())?.roots.len())
+    count_roots(alloc, text.as_str())
+}
+
+fn add_letters(text: &mut String, count: usize) -> Result<(), Fail> {
+    for _ in 0..count {
+        text.push('i')?;
+    }
+    Ok(())
+}
+
+/// A document whose id has so many letters.
+fn text_with_id(alloc: Global, length: usize) -> Result<String, Fail> {
+    let mut text = String::from_str(alloc, r#"{"targetArn":"g","deploymentId":""#)?;
+    add_letters(&mut text, length)?;
+    text.push_str(r#""}"#)?;
+    Ok(text)
 }
 
 fn id_answer(alloc: Global, length: usize) -> Result<String, Fail> {
-    let mut text = String::from_str(alloc, r#"{"targetArn":"g","deploymentId":""#)?;
-    for _ in 0..length {
-        text.push('i')?;
-    }
-    text.push_str(r#""}"#)?;
+    let text = text_with_id(alloc, length)?;
     answer(alloc, text.as_str())
 }
 

@@ -335,26 +335,39 @@ fn many_needs(alloc: Global) -> Result<Vec<(u32, u32, bool)>, NoMemory> {
 fn is_ordered(alloc: Global, edges: &Edges, case: &Case) -> bool
     requires { AreNodes edges.now }
 {
-    match order(alloc, edges) {
+    let found = order(alloc, edges);
+    let is_ordered = match &found {
         Ok(list) => !case.has_cycle && list.as_slice() == case.order,
         Err(OrderFault::Cycle(list)) => case.has_cycle && is_cycle(edges, list.as_slice()),
         Err(OrderFault::NoMemory) => false,
-    }
+    };
+    drop(found);
+    is_ordered
+}
+
+/// Whether the case has the order that is wanted, or a cycle where that is.
+fn is_case_ordered(alloc: Global, case: &Case) -> Result<bool, NoMemory> {
+    let edges = edges_of(alloc, case.nodes, case.needs)?;
+    let is_ordered = is_ordered(alloc, &edges, case);
+    drop(edges);
+    Ok(is_ordered)
+}
+
+/// Whether the hard dependents are those that are wanted.
+fn has_dependents(alloc: Global, case: &Case) -> Result<bool, NoMemory> {
+    let edges = edges_of(alloc, case.nodes, case.needs)?;
+    let found = hard_dependents(alloc, &edges, case.of);
+    drop(edges);
+    Ok(found?.as_slice() == case.dependents)
 }
 
 #[test]
 fn orders_cycles_and_dependents(rt: HostRuntime) -> Result<(), Fail> {
     let alloc = rt.alloc();
     for case in &CASES {
-        let edges = edges_of(alloc, case.nodes, case.needs)?;
+        assert!(rt; is_case_ordered(alloc, case)?, "order of {:?}", case.needs);
         assert!(rt;
-            is_ordered(alloc, &edges, case),
-            "order of {:?}",
-            case.needs
-        );
-        let found = hard_dependents(alloc, &edges, case.of)?;
-        assert!(rt;
-            found.as_slice() == case.dependents,
+            has_dependents(alloc, case)?,
             "dependents in {:?}",
             case.needs
         );
@@ -362,25 +375,60 @@ fn orders_cycles_and_dependents(rt: HostRuntime) -> Result<(), Fail> {
     Ok(())
 }
 
+/// The first place that does not stand as far from the front as its number is from 1023, or none.
+fn first_out_of_order(list: &[u32]) -> Option<usize> {
+    for (index, place) in list.iter().enumerate() {
+        if index + *place as usize != 1023 {
+            return Some(index);
+        }
+    }
+    None
+}
+
+/// The first number that does not stand at its own place, or none.
+fn first_misplaced(list: &[u32]) -> Option<usize> {
+    for (index, place) in list.iter().enumerate() {
+        if index != *place as usize {
+            return Some(index);
+        }
+    }
+    None
+}
+
+/// How many places the order of many needs has, and the first that stands wrong there.
+fn many_ordered(alloc: Global, edges: &Edges) -> Result<(usize, Option<usize>), Fail>
+    requires { AreNodes edges.now }
+{
+    let Ok(list) = order(alloc, edges) else {
+        return Err(Fail::from(NoMemory));
+    };
+    Ok((list.len(), first_out_of_order(list.as_slice())))
+}
+
+/// How many need the last place, and the first of them that stands wrong.
+fn many_dependents(alloc: Global, edges: &Edges) -> Result<(usize, Option<usize>), Fail>
+    requires { AreNodes edges.now }
+{
+    let found = hard_dependents(alloc, edges, 1023)?;
+    Ok((found.len(), first_misplaced(found.as_slice())))
+}
+
+fn is_with_cycle(alloc: Global, edges: &Edges) -> bool
+    requires { AreNodes edges.now }
+{
+    matches!(order(alloc, edges), Err(OrderFault::Cycle(_)))
+}
+
 #[test]
 fn many_needs_are_ordered(rt: HostRuntime) -> Result<(), Fail> {
     let alloc = rt.alloc();
     let mut needs = many_needs(alloc)?;
     let edges = edges_of(alloc, 1024, &needs)?;
-    let Ok(list) = order(alloc, &edges) else {
-        return Err(Fail::from(NoMemory));
-    };
-    assert!(rt; list.len() == 1024);
-    for (index, place) in list.as_slice().iter().enumerate() {
-        assert!(rt; index + *place as usize == 1023, "order at {index}");
-    }
-    let found = hard_dependents(alloc, &edges, 1023)?;
-    assert!(rt; found.len() == 1023);
-    for (index, place) in found.as_slice().iter().enumerate() {
-        assert!(rt; index == *place as usize, "dependent at {index}");
-    }
+    assert_eq!(rt; many_ordered(alloc, &edges)?, (1024, None));
+    assert_eq!(rt; many_dependents(alloc, &edges)?, (1023, None));
+    drop(edges);
     needs.push((1023, 0, false))?;
     let edges = edges_of(alloc, 1024, &needs)?;
-    assert!(rt; matches!(order(alloc, &edges), Err(OrderFault::Cycle(_))));
+    assert!(rt; is_with_cycle(alloc, &edges));
     Ok(())
 }

@@ -411,23 +411,59 @@ v1.0.0;;no version
 2.0.0-100000000000000000000;2.0.0;below
 2.0.0;18446744073709551615.0.0;below";
 
+/// A copy of the range that is read.
+fn range_of(alloc: Global, text: &str) -> Result<Range, Fail> {
+    let range = Range::read(alloc, text.as_bytes())?;
+    let copy = range.copy(alloc);
+    drop(range);
+    Ok(copy?)
+}
+
+/// A copy of the version that is read.
+fn version_of(alloc: Global, text: &str) -> Result<Version, Fail> {
+    let version = Version::read(alloc, text.as_bytes())?;
+    let copy = version.copy(alloc);
+    drop(version);
+    Ok(copy?)
+}
+
+fn holds(alloc: Global, range: &Range, version: &str) -> Result<bool, Fail> {
+    let version = version_of(alloc, version)?;
+    let is_held = range.holds(&version);
+    drop(version);
+    Ok(is_held)
+}
+
 fn is_held(alloc: Global, range: &str, version: &str) -> Result<bool, Fail> {
-    let range = Range::read(alloc, range.as_bytes())?.copy(alloc)?;
-    let version = Version::read(alloc, version.as_bytes())?.copy(alloc)?;
-    Ok(range.holds(&version))
+    let range = range_of(alloc, range)?;
+    let is_held = holds(alloc, &range, version);
+    drop(range);
+    is_held
+}
+
+fn is_second_above(alloc: Global, first: &Version, high: &str) -> Result<bool, Fail> {
+    let second = Version::read(alloc, high.as_bytes())?;
+    let is_above = first.compare(&second) == Ordering::Less && second > *first;
+    drop(second);
+    Ok(is_above)
 }
 
 fn is_below(alloc: Global, low: &str, high: &str) -> Result<bool, Fail> {
     let first = Version::read(alloc, low.as_bytes())?;
-    let second = Version::read(alloc, high.as_bytes())?;
-    Ok(first.compare(&second) == Ordering::Less && second > first && first.text().as_str() == low)
+    let is_below = is_second_above(alloc, &first, high);
+    let is_itself = first.text().as_str() == low;
+    drop(first);
+    Ok(is_below? && is_itself)
 }
 
 fn is_range(alloc: Global, text: &str) -> bool {
-    match Range::read(alloc, text.as_bytes()) {
+    let read = Range::read(alloc, text.as_bytes());
+    let is_range = match &read {
         Ok(range) => range.text().as_str() == text,
         Err(_) => false,
-    }
+    };
+    drop(read);
+    is_range
 }
 
 fn is_refused(alloc: Global, bytes: &[u8], fault: RangeFault) -> bool {

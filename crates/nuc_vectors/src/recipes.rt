@@ -246,18 +246,25 @@ fn is_answer(
     }
 }
 
-/// Reads a recipe of three parts.
-fn read(
+/// Whether what is read of the bytes is as it says.
+fn is_answered(
     alloc: Global,
     platform: &Platform,
-    front: &str,
-    middle: &str,
-    back: &str,
-) -> Result<Result<Recipe, RecipeFault>, Fail> {
+    bytes: &[u8],
+    wanted: &str,
+) -> Result<bool, Fail> {
+    let read = Recipe::read(alloc, bytes, platform);
+    let is_answer = is_answer(alloc, &read, wanted);
+    drop(read);
+    is_answer
+}
+
+/// A recipe of three parts.
+fn joined(alloc: Global, front: &str, middle: &str, back: &str) -> Result<Text, Fail> {
     let mut text = Text::from_str(alloc, front)?;
     text.push_str(middle)?;
     text.push_str(back)?;
-    Ok(Recipe::read(alloc, text.as_bytes(), platform))
+    Ok(text)
 }
 
 fn is_row(
@@ -270,21 +277,31 @@ fn is_row(
     let Some((answer, middle)) = row.split_once('|') else {
         return Ok(false);
     };
-    let result = read(alloc, platform, front, middle, back)?;
-    is_answer(alloc, &result, answer)
+    let text = joined(alloc, front, middle, back)?;
+    is_answered(alloc, platform, text.as_bytes(), answer)
+}
+
+fn is_read(alloc: Global, platform: &Platform, bytes: &[u8]) -> bool {
+    let read = Recipe::read(alloc, bytes, platform);
+    let is_read = read.is_ok();
+    drop(read);
+    is_read
+}
+
+/// A recipe with blanks at its end, of so many bytes.
+fn padded(alloc: Global, length: usize) -> Result<Vec<u8>, Fail> {
+    let mut bytes = Vec::from_slice(alloc, HELLO.as_bytes())?;
+    bytes.resize(length, b' ')?;
+    Ok(bytes)
 }
 
 /// With blanks at its end a recipe is read up to 65,536 bytes.
 fn is_limited(alloc: Global, platform: &Platform) -> Result<bool, Fail> {
-    let mut bytes = Vec::new(alloc);
-    bytes.extend_from_slice(HELLO.as_bytes())?;
-    for _ in HELLO.len()..65_536 {
-        bytes.push(b' ')?;
-    }
-    let read = Recipe::read(alloc, bytes.as_slice(), platform).is_ok();
+    let mut bytes = padded(alloc, 65_536)?;
+    let is_read = is_read(alloc, platform, bytes.as_slice());
     bytes.push(b' ')?;
-    let refused = Recipe::read(alloc, bytes.as_slice(), platform);
-    Ok(read && is_answer(alloc, &refused, "TooLarge")?)
+    let is_refused = is_answered(alloc, platform, bytes.as_slice(), "TooLarge")?;
+    Ok(is_read && is_refused)
 }
 
 /// The number from 1 of the first row of a table that is not answered as it says, or 0.
@@ -305,45 +322,48 @@ fn first_wrong(
     Ok(0)
 }
 
-/// The same behind the three keys that must be there.
-fn first_wrong_body(
+/// The same on Linux.
+fn first_wrong_on_linux(
     alloc: Global,
-    platform: &Platform,
-    opening: &str,
+    front: &str,
     table: &str,
     back: &str,
 ) -> Result<usize, Fail> {
-    let mut front = Text::from_str(alloc, HEAD)?;
-    front.push_str(opening)?;
-    first_wrong(alloc, platform, front.as_str(), table, back)
+    let platform = linux(alloc)?;
+    let wrong = first_wrong(alloc, &platform, front, table, back);
+    drop(platform);
+    wrong
+}
+
+/// The same behind the three keys that must be there.
+fn first_wrong_body(alloc: Global, opening: &str, table: &str, back: &str) -> Result<usize, Fail> {
+    let front = joined(alloc, HEAD, opening, "")?;
+    first_wrong_on_linux(alloc, front.as_str(), table, back)
+}
+
+fn is_limited_on_linux(alloc: Global) -> Result<bool, Fail> {
+    let platform = linux(alloc)?;
+    let is_limited = is_limited(alloc, &platform);
+    drop(platform);
+    is_limited
 }
 
 #[test]
 fn recipes_are_read_or_refused(rt: HostRuntime) -> Result<(), Fail> {
     let alloc = rt.alloc();
-    let platform = linux(alloc)?;
-    assert_eq!(rt; first_wrong(alloc, &platform, "", WHOLE, "")?, 0);
-    assert_eq!(rt; first_wrong_body(alloc, &platform, "", BODIES, "}")?, 0);
+    assert_eq!(rt; first_wrong_on_linux(alloc, "", WHOLE, "")?, 0);
+    assert_eq!(rt; first_wrong_body(alloc, "", BODIES, "}")?, 0);
     assert_eq!(rt;
-        first_wrong_body(alloc, &platform, r#""Manifests":["#, MANIFESTS, "]}")?,
+        first_wrong_body(alloc, r#""Manifests":["#, MANIFESTS, "]}")?,
         0
     );
     let opening = r#""Manifests":[{"Lifecycle":{"run":"here"},"Platform":"#;
-    assert_eq!(rt;
-        first_wrong_body(alloc, &platform, opening, PLATFORMS, "}]}")?,
-        0
-    );
+    assert_eq!(rt; first_wrong_body(alloc, opening, PLATFORMS, "}]}")?, 0);
     let opening = r#""Manifests":[{"Lifecycle":"#;
-    assert_eq!(rt;
-        first_wrong_body(alloc, &platform, opening, LIFECYCLES, "}]}")?,
-        0
-    );
+    assert_eq!(rt; first_wrong_body(alloc, opening, LIFECYCLES, "}]}")?, 0);
     let opening = r#""Manifests":[{"Artifacts":"#;
-    assert_eq!(rt;
-        first_wrong_body(alloc, &platform, opening, ARTIFACTS, "}]}")?,
-        0
-    );
-    assert!(rt; is_limited(alloc, &platform)?);
+    assert_eq!(rt; first_wrong_body(alloc, opening, ARTIFACTS, "}]}")?, 0);
+    assert!(rt; is_limited_on_linux(alloc)?);
     Ok(())
 }
 
@@ -514,32 +534,60 @@ fn has_second_manifest(recipe: &Recipe) -> bool {
         && recipe.artifacts.is_empty()
 }
 
-fn is_hello(alloc: Global, platform: &Platform) -> Result<bool, Fail> {
-    let recipe = Recipe::read(alloc, HELLO.as_bytes(), platform)?;
-    Ok(
-        is_named(&recipe, "com.example.HelloWorld", "1.0.0")
-            && has_message(&recipe, "world")
-            && has_plain_artifact(&recipe, "hello_world.py")
-            && runs(&recipe, HELLO_SCRIPT),
-    )
+fn is_hello(recipe: &Recipe) -> bool {
+    is_named(recipe, "com.example.HelloWorld", "1.0.0")
+        && has_message(recipe, "world")
+        && has_plain_artifact(recipe, "hello_world.py")
+        && runs(recipe, HELLO_SCRIPT)
 }
 
-fn is_in_need(alloc: Global, platform: &Platform) -> Result<bool, Fail> {
-    let recipe = Recipe::read(alloc, NEEDS.as_bytes(), platform)?;
-    Ok(needs_two(&recipe) && installs(&recipe) && has_digest(&recipe))
+fn is_in_need(recipe: &Recipe) -> bool {
+    needs_two(recipe) && installs(recipe) && has_digest(recipe)
 }
 
-fn is_one_of_several(alloc: Global, platform: &Platform) -> Result<bool, Fail> {
-    let recipe = Recipe::read(alloc, SEVERAL.as_bytes(), platform)?;
-    Ok(has_second_manifest(&recipe))
+/// One of the guide's recipes, by what it shows.
+#[derive(Clone, Copy)]
+enum Shown {
+    Hello,
+    Needs,
+    Several,
+}
+
+fn text_of(shown: Shown) -> &'static str {
+    match shown {
+        Shown::Hello => HELLO,
+        Shown::Needs => NEEDS,
+        Shown::Several => SEVERAL,
+    }
+}
+
+fn is_shown(recipe: &Recipe, shown: Shown) -> bool {
+    match shown {
+        Shown::Hello => is_hello(recipe),
+        Shown::Needs => is_in_need(recipe),
+        Shown::Several => has_second_manifest(recipe),
+    }
+}
+
+fn is_read_as_shown(alloc: Global, platform: &Platform, shown: Shown) -> Result<bool, Fail> {
+    let recipe = Recipe::read(alloc, text_of(shown).as_bytes(), platform)?;
+    let is_shown = is_shown(&recipe, shown);
+    drop(recipe);
+    Ok(is_shown)
+}
+
+fn is_read_on_linux(alloc: Global, shown: Shown) -> Result<bool, Fail> {
+    let platform = linux(alloc)?;
+    let is_read = is_read_as_shown(alloc, &platform, shown);
+    drop(platform);
+    is_read
 }
 
 #[test]
 fn recipes_of_the_guide_are_read(rt: HostRuntime) -> Result<(), Fail> {
     let alloc = rt.alloc();
-    let platform = linux(alloc)?;
-    assert!(rt; is_hello(alloc, &platform)?);
-    assert!(rt; is_in_need(alloc, &platform)?);
-    assert!(rt; is_one_of_several(alloc, &platform)?);
+    assert!(rt; is_read_on_linux(alloc, Shown::Hello)?);
+    assert!(rt; is_read_on_linux(alloc, Shown::Needs)?);
+    assert!(rt; is_read_on_linux(alloc, Shown::Several)?);
     Ok(())
 }

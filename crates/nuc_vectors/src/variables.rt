@@ -138,26 +138,64 @@ fn first_wrong<'t>(alloc: Global, scope: &Scope, rows: &'t str) -> Result<&'t st
     Ok("")
 }
 
+/// The same in the scope of the configuration above.
+fn first_wrong_above(alloc: Global) -> Result<&'static str, Fail> {
+    let scope = scope_with(alloc, CONFIG)?;
+    let wrong = first_wrong(alloc, &scope, ROWS);
+    drop(scope);
+    wrong
+}
+
+/// A text of so many letters as JSON.
+fn quoted(alloc: Global, letters: usize) -> Result<String, Fail> {
+    let mut text = String::new(alloc);
+    text.push('"')?;
+    for _ in 0..letters {
+        text.push('x')?;
+    }
+    text.push('"')?;
+    Ok(text)
+}
+
+/// How many bytes `{configuration:}` becomes.
+fn expanded_length(alloc: Global, scope: &Scope) -> Result<usize, Fail>
+    requires { HasRegularConfigs scope.now }
+{
+    let text = Text::from_str(alloc, "{configuration:}")?;
+    Ok(expand(alloc, &text, scope)?.len())
+}
+
+/// The same where the configuration is what is written.
+fn expanded_length_with(alloc: Global, config: &str) -> Result<usize, Fail> {
+    let scope = scope_with(alloc, config)?;
+    let length = expanded_length(alloc, &scope);
+    drop(scope);
+    length
+}
+
 /// Whether `{configuration:}` is replaced where the configuration is a text of so many bytes.
 fn is_put_in(alloc: Global, bytes: usize) -> Result<bool, Fail> {
-    let mut config = String::new(alloc);
-    config.push('"')?;
-    for _ in 0..bytes {
-        config.push('x')?;
-    }
-    config.push('"')?;
-    let scope = scope_with(alloc, config.as_str())?;
-    let text = Text::from_str(alloc, "{configuration:}")?;
-    Ok(expand(alloc, &text, &scope)?.len() == bytes)
+    let config = quoted(alloc, bytes)?;
+    Ok(expanded_length_with(alloc, config.as_str())? == bytes)
+}
+
+fn is_work_folder(alloc: Global, scope: &Scope, wanted: &str) -> Result<bool, Fail> {
+    let folder = work_folder(alloc, &scope.root, &scope.own.name)?;
+    Ok(folder.as_str() == wanted)
+}
+
+fn works_in(alloc: Global, wanted: &str) -> Result<bool, Fail> {
+    let scope = scope_with(alloc, CONFIG)?;
+    let is_wanted = is_work_folder(alloc, &scope, wanted);
+    drop(scope);
+    is_wanted
 }
 
 #[test]
 fn variables_are_replaced(rt: HostRuntime) -> Result<(), Fail> {
     let alloc = rt.alloc();
-    let scope = scope_with(alloc, CONFIG)?;
-    assert_eq!(rt; first_wrong(alloc, &scope, ROWS)?, "");
+    assert_eq!(rt; first_wrong_above(alloc)?, "");
     assert!(rt; is_put_in(alloc, 4096)? && !is_put_in(alloc, 4097)?);
-    let folder = work_folder(alloc, &scope.root, &scope.own.name)?;
-    assert_eq!(rt; folder.as_str(), "/gg/work/A");
+    assert!(rt; works_in(alloc, "/gg/work/A")?);
     Ok(())
 }
