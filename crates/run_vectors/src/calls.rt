@@ -7,8 +7,9 @@ ghost use Rattle.step_runner.specs.declared.ends.ScriptedEnd.{ScriptedEnd};
 
 use disk_model::{Disk, MemoryDisk};
 use edges::{MemorySink, MemorySource};
-use library_core::MemoryLibrary;
-use nuc_base::{Bytes, Exit, List, NoMemory, Text};
+use library_core::{MemoryLibrary, Stored};
+use npm_ranges::Version;
+use nuc_base::{Bytes, Exit, Label, List, Name, NoMemory, Status, Text};
 use nucleus_top::nucleus;
 use std::alloc::{AllocError, Global};
 use std::test::Fail;
@@ -28,57 +29,164 @@ fn step_of(alloc: Global, step: &str, script: &str) -> Result<String, AllocError
     }
 }
 
+/// The front of a recipe, up to its first step.
+fn recipe_front(alloc: Global, name: &str, version: &str) -> Result<String, AllocError> {
+    format!(in alloc;
+        r#"{{"RecipeFormatVersion":"2020-01-25","ComponentName":"{name}","ComponentVersion":"{version}","Manifests":[{{"Lifecycle":{{"#
+    )
+}
+
+/// Adds this text, and drops it.
+fn add(document: &mut String, text: String) -> Result<(), AllocError> {
+    let added = document.push_str(text.as_str());
+    drop(text);
+    added
+}
+
+/// Adds a step and its script, behind a comma where it is not the first.
+fn add_step(
+    alloc: Global,
+    recipe: &mut String,
+    is_first: bool,
+    step: &str,
+    script: &str,
+) -> Result<(), AllocError> {
+    if !is_first {
+        recipe.push_str(",")?;
+    }
+    add(recipe, step_of(alloc, step, script)?)
+}
+
+/// Adds the steps of these words, and what ends a recipe.
+fn add_steps(alloc: Global, recipe: &mut String, component: &str) -> Result<(), AllocError> {
+    let mut words = component.split(' ');
+    let _name = words.next();
+    let _version = words.next();
+    let mut is_first = true;
+    while let Some(step) = words.next() {
+        let script = words.next().unwrap_or("");
+        add_step(alloc, recipe, is_first, step, script)?;
+        is_first = false;
+    }
+    recipe.push_str("}}]}")
+}
+
 /// A recipe of these words: a name, a version, and then a step and its script, any number of times.
 fn recipe_of(alloc: Global, component: &str) -> Result<String, AllocError> {
     let mut words = component.split(' ');
     let name = words.next().unwrap_or("");
     let version = words.next().unwrap_or("");
-    let mut recipe = format!(in alloc;
-        r#"{{"RecipeFormatVersion":"2020-01-25","ComponentName":"{name}","ComponentVersion":"{version}","Manifests":[{{"Lifecycle":{{"#
-    )?;
-    let mut is_first = true;
-    while let Some(step) = words.next() {
-        let script = words.next().unwrap_or("");
-        if !is_first {
-            recipe.push_str(",")?;
+    let mut recipe = recipe_front(alloc, name, version)?;
+    match add_steps(alloc, &mut recipe, component) {
+        Ok(()) => Ok(recipe),
+        Err(fault) => {
+            drop(recipe);
+            Err(fault)
         }
-        recipe.push_str(step_of(alloc, step, script)?.as_str())?;
-        is_first = false;
     }
-    recipe.push_str("}}]}")?;
-    Ok(recipe)
+}
+
+/// The bytes of a recipe of these words.
+fn recipe_bytes(alloc: Global, component: &str) -> Result<Bytes, Fail> {
+    let recipe = recipe_of(alloc, component)?;
+    let bytes = Bytes::from_slice(alloc, recipe.as_bytes());
+    drop(recipe);
+    Ok(bytes?)
 }
 
 pub(crate) fn library_of(alloc: Global, components: &str) -> Result<MemoryLibrary, Fail> {
     let mut recipes = List::empty(alloc);
     for component in components.split_terminator(';') {
-        recipes.push(Bytes::from_slice(alloc, recipe_of(alloc, component)?.as_bytes())?)?;
+        recipes.push(recipe_bytes(alloc, component)?)?;
     }
     Ok(MemoryLibrary::new(recipes, List::empty(alloc), List::empty(alloc)))
 }
 
-/// The document of these words: an id, with `@` and a revision behind it or without; a policy; and then a component and its
-/// range, any number of times.
-pub(crate) fn document_of(alloc: Global, words: &str) -> Result<String, AllocError> {
-    let mut words = words.split_whitespace();
-    let mut named = words.next().unwrap_or("").splitn(2, '@');
+/// The file of this name of version 1.0.0 of a component, with the bytes `abc`.
+fn stored_of(alloc: Global, component: &[u8], file: &[u8]) -> Result<Stored, Fail> {
+    let bytes = Bytes::from_slice(alloc, b"abc")?;
+    let file = Label::read(alloc, file)?;
+    let name = Name::read(alloc, component)?;
+    let version = Version::read(alloc, b"1.0.0")?;
+    Ok(Stored {
+        name,
+        version,
+        file,
+        bytes,
+    })
+}
+
+/// The files of a library that has that one alone.
+pub(crate) fn files_of(alloc: Global, component: &[u8], file: &[u8]) -> Result<List<Stored>, Fail> {
+    let stored = stored_of(alloc, component, file)?;
+    let mut files = List::empty(alloc);
+    files.push(stored)?;
+    Ok(files)
+}
+
+/// The recipes of a library that has this one alone.
+pub(crate) fn recipes_of(alloc: Global, recipe: &str) -> Result<List<Bytes>, Fail> {
+    let bytes = Bytes::from_slice(alloc, recipe.as_bytes())?;
+    let mut recipes = List::empty(alloc);
+    recipes.push(bytes)?;
+    Ok(recipes)
+}
+
+/// The front of a document, up to its first component: its id, with `@` and a revision behind it or without, and its policy.
+fn document_front(alloc: Global, named: &str, policy: &str) -> Result<String, AllocError> {
+    let mut named = named.splitn(2, '@');
     let id = named.next().unwrap_or("");
     let revision = named.next().unwrap_or("null");
-    let policy = words.next().unwrap_or("");
-    let mut document = format!(in alloc;
+    format!(in alloc;
         r#"{{"deploymentId":"{id}","revision":{revision},"targetArn":"g","deploymentPolicies":{{"failureHandlingPolicy":"{policy}"}},"components":{{"#
-    )?;
+    )
+}
+
+/// Adds a component and its range, behind a comma where it is not the first.
+fn add_component(
+    alloc: Global,
+    document: &mut String,
+    is_first: bool,
+    name: &str,
+    range: &str,
+) -> Result<(), AllocError> {
+    if !is_first {
+        document.push_str(",")?;
+    }
+    add(
+        document,
+        format!(in alloc; r#""{name}":{{"componentVersion":"{range}"}}"#)?,
+    )
+}
+
+/// Adds the components of these words, and what ends a document.
+fn add_components(alloc: Global, document: &mut String, words: &str) -> Result<(), AllocError> {
+    let mut words = words.split_whitespace();
+    let _id = words.next();
+    let _policy = words.next();
     let mut is_first = true;
     while let Some(name) = words.next() {
         let range = words.next().unwrap_or("");
-        if !is_first {
-            document.push_str(",")?;
-        }
-        document.push_str(&format!(in alloc; r#""{name}":{{"componentVersion":"{range}"}}"#)?)?;
+        add_component(alloc, document, is_first, name, range)?;
         is_first = false;
     }
-    document.push_str("}}")?;
-    Ok(document)
+    document.push_str("}}")
+}
+
+/// The document of these words: an id, with `@` and a revision behind it or without; a policy; and then a component and its
+/// range, any number of times.
+fn document_of(alloc: Global, words: &str) -> Result<String, AllocError> {
+    let mut front = words.split_whitespace();
+    let named = front.next().unwrap_or("");
+    let policy = front.next().unwrap_or("");
+    let mut document = document_front(alloc, named, policy)?;
+    match add_components(alloc, &mut document, words) {
+        Ok(()) => Ok(document),
+        Err(fault) => {
+            drop(document);
+            Err(fault)
+        }
+    }
 }
 
 fn number_of(word: Option<&str>) -> u64 {
@@ -140,16 +248,21 @@ pub(crate) fn runner_of(alloc: Global, ends: &str) -> Result<ScriptedRunner, Fai
     Ok(ScriptedRunner::new(alloc, played, refused_of(alloc, ends)?, present))
 }
 
-/// The words of a call.
-fn words_of(alloc: Global, command: &str) -> Result<Vec<String>, AllocError> {
+/// The words of a line, which has one blank between two.
+fn split_words(alloc: Global, line: &str) -> Result<Vec<String>, AllocError> {
     let mut all = Vec::new(alloc);
-    for word in ["nucleus", "--root", "/gg"] {
-        all.push(String::from_str(alloc, word)?)?;
-    }
-    for word in command.split(' ') {
+    for word in line.split(' ') {
         all.push(String::from_str(alloc, word)?)?;
     }
     Ok(all)
+}
+
+/// The words of a call.
+fn words_of(alloc: Global, command: &str) -> Result<Vec<String>, AllocError> {
+    let line = format!(in alloc; "nucleus --root /gg {command}")?;
+    let words = split_words(alloc, line.as_str());
+    drop(line);
+    words
 }
 
 /// A call over some disk.
@@ -161,26 +274,10 @@ pub(crate) struct Asked<'a> {
     pub(crate) ends: &'a str,
 }
 
-/// What the call of the words prints, with `;` for each line feed, behind the status. The document is these bytes, and the
-/// sink fails these calls.
-pub(crate) fn answer<D: Disk>(
-    alloc: Global,
-    disk: &mut D,
-    library: &mut MemoryLibrary,
-    runner: &mut ScriptedRunner,
-    command: &str,
-    document: &str,
-    failing: List<u64>,
-) -> Result<String, Fail>
-    requires none { living_of runner.old ≡ [] }
-{
-    let words = words_of(alloc, command)?;
-    let bytes = Bytes::from_slice(alloc, document.as_bytes())?;
-    let mut source = MemorySource::new(bytes, List::empty(alloc));
-    let mut sink = MemorySink::new(alloc, failing);
-    let status = nucleus(alloc, &words, disk, library, &mut source, &mut sink, runner);
+/// The status, and behind it what is printed, with `;` for each line feed.
+fn told(alloc: Global, status: Status, printed: &[u8]) -> Result<String, AllocError> {
     let mut text = format!(in alloc; "{}|", status.number())?;
-    for byte in sink.bytes() {
+    for byte in printed {
         text.push(if *byte == b'\n' {
             ';'
         } else {
@@ -190,34 +287,149 @@ pub(crate) fn answer<D: Disk>(
     Ok(text)
 }
 
-/// The same of a call that is written in a few words.
-pub(crate) fn call<D: Disk>(alloc: Global, disk: &mut D, asked: Asked<'_>) -> Result<String, Fail> {
-    let mut library = library_of(alloc, asked.recipes)?;
-    let document = document_of(alloc, asked.document)?;
-    let mut runner = runner_of(alloc, asked.ends)?;
-    answer(
+fn source_of(alloc: Global, document: &str) -> Result<MemorySource, Fail> {
+    let bytes = Bytes::from_slice(alloc, document.as_bytes())?;
+    Ok(MemorySource::new(bytes, List::empty(alloc)))
+}
+
+/// What the call of these words prints over this source.
+fn answer_from<D: Disk>(
+    alloc: Global,
+    disk: &mut D,
+    library: &mut MemoryLibrary,
+    runner: &mut ScriptedRunner,
+    words: &Vec<String>,
+    source: &mut MemorySource,
+    failing: &[u64],
+) -> Result<String, Fail>
+    requires none { living_of runner.old ≡ [] }
+{
+    let failing = List::new(Vec::from_slice(alloc, failing)?);
+    let mut sink = MemorySink::new(alloc, failing);
+    let status = nucleus(alloc, words, disk, library, source, &mut sink, runner);
+    let text = told(alloc, status, sink.bytes());
+    drop(sink);
+    Ok(text?)
+}
+
+/// What the call of the words prints, with `;` for each line feed, behind the status. The document is these bytes, and the
+/// sink fails these calls.
+pub(crate) fn answer<D: Disk>(
+    alloc: Global,
+    disk: &mut D,
+    library: &mut MemoryLibrary,
+    runner: &mut ScriptedRunner,
+    command: &str,
+    document: &str,
+    failing: &[u64],
+) -> Result<String, Fail>
+    requires none { living_of runner.old ≡ [] }
+{
+    let mut source = source_of(alloc, document)?;
+    match words_of(alloc, command) {
+        Ok(words) => {
+            let text = answer_from(alloc, disk, library, runner, &words, &mut source, failing);
+            drop(words);
+            drop(source);
+            text
+        }
+        Err(fault) => {
+            drop(source);
+            Err(fault.into())
+        }
+    }
+}
+
+/// The same with a runner of its own, all of whose children run on.
+pub(crate) fn answer_alone<D: Disk>(
+    alloc: Global,
+    disk: &mut D,
+    library: &mut MemoryLibrary,
+    command: &str,
+    document: &str,
+    failing: &[u64],
+) -> Result<String, Fail> {
+    let mut runner = runner_of(alloc, "")?;
+    let text = answer(
         alloc,
         disk,
-        &mut library,
+        library,
         &mut runner,
+        command,
+        document,
+        failing,
+    );
+    drop(runner);
+    text
+}
+
+/// The same over a library of these recipes.
+fn answer_over<D: Disk>(
+    alloc: Global,
+    disk: &mut D,
+    recipes: &str,
+    runner: &mut ScriptedRunner,
+    command: &str,
+    document: &str,
+) -> Result<String, Fail>
+    requires none { living_of runner.old ≡ [] }
+{
+    let mut library = library_of(alloc, recipes)?;
+    let text = answer(alloc, disk, &mut library, runner, command, document, &[]);
+    drop(library);
+    text
+}
+
+/// The same of a call that is written in a few words, with this runner.
+pub(crate) fn call_with<D: Disk>(
+    alloc: Global,
+    disk: &mut D,
+    asked: Asked<'_>,
+    runner: &mut ScriptedRunner,
+) -> Result<String, Fail>
+    requires none { living_of runner.old ≡ [] }
+{
+    let document = document_of(alloc, asked.document)?;
+    let text = answer_over(
+        alloc,
+        disk,
+        asked.recipes,
+        runner,
         asked.command,
         document.as_str(),
-        List::empty(alloc),
-    )
+    );
+    drop(document);
+    text
+}
+
+/// The same with a runner that plays the ends of the call.
+pub(crate) fn call<D: Disk>(alloc: Global, disk: &mut D, asked: Asked<'_>) -> Result<String, Fail> {
+    let mut runner = runner_of(alloc, asked.ends)?;
+    let text = call_with(alloc, disk, asked, &mut runner);
+    drop(runner);
+    text
+}
+
+/// Makes a store.
+fn init(alloc: Global, disk: &mut MemoryDisk) -> Result<(), Fail> {
+    let asked = Asked {
+        recipes: "",
+        command: "init --thing t1 --nucleus 2.12.0 --os linux --arch amd64",
+        document: "",
+        ends: "",
+    };
+    drop(call(alloc, disk, asked)?);
+    Ok(())
 }
 
 /// A disk with a new store.
 pub(crate) fn begin(alloc: Global) -> Result<MemoryDisk, Fail> {
     let mut disk = MemoryDisk::new(alloc);
-    call(
-        alloc,
-        &mut disk,
-        Asked {
-            recipes: "",
-            command: "init --thing t1 --nucleus 2.12.0 --os linux --arch amd64",
-            document: "",
-            ends: "",
-        },
-    )?;
-    Ok(disk)
+    match init(alloc, &mut disk) {
+        Ok(()) => Ok(disk),
+        Err(fault) => {
+            drop(disk);
+            Err(fault)
+        }
+    }
 }

@@ -1,10 +1,10 @@
 // The file of a component: one that the library has or lacks, and digests that recipes give.
-use crate::calls::{answer, begin, runner_of};
+use crate::calls::{answer_alone, begin, files_of, recipes_of};
 use disk_model::MemoryDisk;
-use library_core::{MemoryLibrary, Stored};
-use npm_ranges::Version;
-use nuc_base::{Bytes, Label, List, Name};
+use library_core::MemoryLibrary;
+use nuc_base::List;
 use std::alloc::Global;
+use std::process::Abort;
 use std::test::Fail;
 
 /// A component with one file: without a digest, with the SHA-256 of `abc` in both spellings, and with that of no bytes (FIPS
@@ -35,43 +35,61 @@ const MISMATCH: &str =
 
 /// A library of this recipe, and of the bytes `abc` as the component's file or of no file.
 fn library_of(alloc: Global, recipe: &str, has_file: bool) -> Result<MemoryLibrary, Fail> {
-    let mut recipes = List::empty(alloc);
-    recipes.push(Bytes::from_slice(alloc, recipe.as_bytes())?)?;
-    let mut files = List::empty(alloc);
-    if has_file {
-        files.push(Stored {
-            name: Name::read(alloc, b"com.x")?,
-            version: Version::read(alloc, b"1.0.0")?,
-            file: Label::read(alloc, b"f")?,
-            bytes: Bytes::from_slice(alloc, b"abc")?,
-        })?;
-    }
+    let recipes = recipes_of(alloc, recipe)?;
+    let files = if has_file {
+        files_of(alloc, b"com.x", b"f")?
+    } else {
+        List::empty(alloc)
+    };
     Ok(MemoryLibrary::new(recipes, files, List::empty(alloc)))
 }
 
-/// What a call over that library prints.
-fn said(
+/// Whether a call over that library prints this.
+fn prints(
     alloc: Global,
     disk: &mut MemoryDisk,
-    recipe: &str,
-    has_file: bool,
+    library: &mut MemoryLibrary,
     command: &str,
-) -> Result<String, Fail> {
-    let mut library = library_of(alloc, recipe, has_file)?;
-    let mut runner = runner_of(alloc, "")?;
-    answer(
-        alloc,
-        disk,
-        &mut library,
-        &mut runner,
-        command,
-        DOCUMENT,
-        List::empty(alloc),
-    )
+    want: &str,
+) -> Result<bool, Fail> {
+    let text = answer_alone(alloc, disk, library, command, DOCUMENT, &[])?;
+    let is_wanted = text.as_str() == want;
+    drop(text);
+    Ok(is_wanted)
 }
 
-/// Whether `deploy` over a new store prints this and leaves these bytes in the component's file, and what the next call leaves
+/// The same of a call over a library that is made for it.
+fn says(
+    alloc: Global,
+    disk: &mut MemoryDisk,
+    held: (&str, bool),
+    command: &str,
+    want: &str,
+) -> Result<bool, Fail> {
+    let mut library = library_of(alloc, held.0, held.1)?;
+    let is_wanted = prints(alloc, disk, &mut library, command, want);
+    drop(library);
+    is_wanted
+}
+
+/// Whether `deploy` over that store prints this and leaves these bytes in the component's file, and what the next call leaves
 /// there.
+fn takes_in(
+    alloc: Global,
+    disk: &mut MemoryDisk,
+    held: (&str, bool),
+    lines: &str,
+    file: &[u8],
+    later: &[u8],
+) -> Result<bool, Fail> {
+    let is_said = says(alloc, disk, held, "deploy", lines)?;
+    let is_left = disk.file(FILE) == file;
+    let is_idle = says(alloc, disk, held, "resume", "0|idle;")?;
+    let is_swept = disk.file(FILE) == later;
+    Ok(is_said && is_idle && is_left && is_swept)
+}
+
+/// The same over a new store.
 fn is_row(
     alloc: Global,
     recipe: &str,
@@ -81,19 +99,23 @@ fn is_row(
     later: &[u8],
 ) -> Result<bool, Fail> {
     let mut disk = begin(alloc)?;
-    let first = said(alloc, &mut disk, recipe, has_file, "deploy")?;
-    let is_left = disk.file(FILE) == file;
-    let next = said(alloc, &mut disk, recipe, has_file, "resume")?;
-    let is_swept = disk.file(FILE) == later;
-    Ok(first.as_str() == lines && next.as_str() == "0|idle;" && is_left && is_swept)
+    let is_right = takes_in(alloc, &mut disk, (recipe, has_file), lines, file, later);
+    drop(disk);
+    is_right
+}
+
+/// A file that agrees with its digest or has none is taken in.
+fn files_that_agree(rt: &impl Abort, alloc: Global) -> Result<(), Fail> {
+    assert!(rt; is_row(alloc, PLAIN, true, CLOSED, b"abc", b"abc")?);
+    assert!(rt; is_row(alloc, GIVEN, true, CLOSED, b"abc", b"abc")?);
+    assert!(rt; is_row(alloc, SPELLED, true, CLOSED, b"abc", b"abc")?);
+    Ok(())
 }
 
 #[test]
 fn files_are_taken_in_by_their_digests(rt: HostRuntime) -> Result<(), Fail> {
     let alloc = rt.alloc();
-    assert!(rt; is_row(alloc, PLAIN, true, CLOSED, b"abc", b"abc")?);
-    assert!(rt; is_row(alloc, GIVEN, true, CLOSED, b"abc", b"abc")?);
-    assert!(rt; is_row(alloc, SPELLED, true, CLOSED, b"abc", b"abc")?);
+    files_that_agree(&rt, alloc)?;
     assert!(rt; is_row(alloc, PLAIN, false, MISSING, b"", b"")?);
     // A file that was taken in for a plan that is refused stays until it is swept.
     assert!(rt; is_row(alloc, OTHER, true, MISMATCH, b"abc", b"")?);

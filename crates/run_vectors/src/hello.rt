@@ -1,10 +1,13 @@
 // The first component of the developer guide, with its file, and files that the library lacks or has otherwise.
-use crate::calls::{answer, begin, runner_of};
-use disk_model::{FusedDisk, MemoryDisk, Pick};
-use library_core::{MemoryLibrary, Stored};
-use npm_ranges::Version;
-use nuc_base::{Bytes, Label, List, Name};
+ghost use Rattle.std.specs.Prelude.{◌≡◌, []};
+ghost use Rattle.step_runner.specs.Scripted.{living_of};
+
+use crate::calls::{answer, answer_alone, begin, files_of, recipes_of, runner_of};
+use disk_model::{Disk, FusedDisk, MemoryDisk, Pick};
+use library_core::MemoryLibrary;
+use nuc_base::List;
 use std::alloc::Global;
+use std::process::Abort;
 use std::test::Fail;
 use step_runner::{RunnerEntry, ScriptedRunner, Seen};
 
@@ -27,16 +30,9 @@ const STATUS: &str =
 
 /// A library of this recipe, with a file of the bytes `abc`, that fails these calls.
 fn library(alloc: Global, failing: &[u64]) -> Result<MemoryLibrary, Fail> {
-    let mut recipes = List::empty(alloc);
-    recipes.push(Bytes::from_slice(alloc, RECIPE.as_bytes())?)?;
-    let mut files = List::empty(alloc);
-    files.push(Stored {
-        name: Name::read(alloc, b"com.example.HelloWorld")?,
-        version: Version::read(alloc, b"1.0.0")?,
-        file: Label::read(alloc, b"hello_world.py")?,
-        bytes: Bytes::from_slice(alloc, b"abc")?,
-    })?;
     let failing = List::new(Vec::from_slice(alloc, failing)?);
+    let recipes = recipes_of(alloc, RECIPE)?;
+    let files = files_of(alloc, b"com.example.HelloWorld", b"hello_world.py")?;
     Ok(MemoryLibrary::new(recipes, files, failing))
 }
 
@@ -49,17 +45,34 @@ fn answer_to(
     faults: (&[u64], &[u64]),
 ) -> Result<String, Fail> {
     let mut library = library(alloc, faults.0)?;
-    let mut runner = runner_of(alloc, "")?;
-    let failing = List::new(Vec::from_slice(alloc, faults.1)?);
-    answer(
-        alloc,
-        disk,
-        &mut library,
-        &mut runner,
-        command,
-        document,
-        failing,
-    )
+    let text = answer_alone(alloc, disk, &mut library, command, document, faults.1);
+    drop(library);
+    text
+}
+
+/// Whether that is this.
+fn prints(
+    alloc: Global,
+    disk: &mut MemoryDisk,
+    command: &str,
+    document: &str,
+    faults: (&[u64], &[u64]),
+    want: &str,
+) -> Result<bool, Fail> {
+    let text = answer_to(alloc, disk, command, document, faults)?;
+    let is_wanted = text.as_str() == want;
+    drop(text);
+    Ok(is_wanted)
+}
+
+/// What `deploy` over that library prints with this runner.
+fn deploy<D: Disk>(alloc: Global, disk: &mut D, runner: &mut ScriptedRunner) -> Result<String, Fail>
+    requires none { living_of runner.old ≡ [] }
+{
+    let mut library = library(alloc, &[])?;
+    let text = answer(alloc, disk, &mut library, runner, "deploy", DOCUMENT, &[]);
+    drop(library);
+    text
 }
 
 /// Whether child 0 was started with the script of the recipe, in the component's folder.
@@ -82,84 +95,144 @@ fn starts_and_kills(runner: &ScriptedRunner) -> bool {
     }
 }
 
-#[test]
-fn hello_world_is_deployed(rt: HostRuntime) -> Result<(), Fail> {
-    let alloc = rt.alloc();
-    let mut disk = begin(alloc)?;
-    let mut library = library(alloc, &[])?;
-    let mut runner = runner_of(alloc, "")?;
-    let said = answer(
-        alloc,
-        &mut disk,
-        &mut library,
-        &mut runner,
-        "deploy",
-        DOCUMENT,
-        List::empty(alloc),
-    )?;
+/// Deploys the component with this runner.
+fn hello_world_runs(
+    rt: &impl Abort,
+    alloc: Global,
+    disk: &mut MemoryDisk,
+    runner: &mut ScriptedRunner,
+) -> Result<(), Fail>
+    requires none { living_of runner.old ≡ [] }
+{
+    let said = deploy(alloc, disk, runner)?;
     assert_eq!(rt; said.as_str(), "0|accepted d1;closed d1 SUCCESSFUL;");
-    assert!(rt; starts_and_kills(&runner));
-    assert_eq!(rt;
-        answer_to(alloc, &mut disk, "status", "", (&[], &[]))?.as_str(),
-        STATUS
-    );
-    assert_eq!(rt;
-        answer_to(alloc, &mut disk, "audit", "", (&[], &[]))?.as_str(),
-        "0|whole;"
-    );
+    drop(said);
+    assert!(rt; starts_and_kills(runner));
+    Ok(())
+}
+
+/// Deploys the component.
+fn hello_world_comes(rt: &impl Abort, alloc: Global, disk: &mut MemoryDisk) -> Result<(), Fail> {
+    let mut runner = runner_of(alloc, "")?;
+    let run = hello_world_runs(rt, alloc, disk, &mut runner);
+    drop(runner);
+    run
+}
+
+/// Looks at what the device has then.
+fn hello_world_is_there(rt: &impl Abort, alloc: Global, disk: &mut MemoryDisk) -> Result<(), Fail> {
+    assert!(rt; prints(alloc, disk, "status", "", (&[], &[]), STATUS)?);
+    assert!(rt; prints(alloc, disk, "audit", "", (&[], &[]), "0|whole;")?);
     assert!(rt; disk.file(FILE) == b"abc".as_slice());
-    // A document without components takes all away.
-    let said = answer_to(alloc, &mut disk, "deploy", NOTHING, (&[], &[]))?;
-    assert_eq!(rt; said.as_str(), "0|accepted d2;closed d2 SUCCESSFUL;");
+    Ok(())
+}
+
+/// A document without components takes all away.
+fn hello_world_is_taken_away(
+    rt: &impl Abort,
+    alloc: Global,
+    disk: &mut MemoryDisk,
+) -> Result<(), Fail> {
+    let closed = "0|accepted d2;closed d2 SUCCESSFUL;";
+    assert!(rt; prints(alloc, disk, "deploy", NOTHING, (&[], &[]), closed)?);
     assert!(rt; disk.file(FILE).is_empty());
     Ok(())
 }
 
-/// Whether each image that the stop may leave has the files of its device, and is resumed to the close of the deployment, or to
-/// none where it was not acknowledged.
+/// Deploys the component, and then nothing.
+fn hello_world_comes_and_goes(
+    rt: &impl Abort,
+    alloc: Global,
+    disk: &mut MemoryDisk,
+) -> Result<(), Fail> {
+    hello_world_comes(rt, alloc, disk)?;
+    hello_world_is_there(rt, alloc, disk)?;
+    hello_world_is_taken_away(rt, alloc, disk)
+}
+
+#[test]
+fn hello_world_is_deployed(rt: HostRuntime) -> Result<(), Fail> {
+    let mut disk = begin(rt.alloc())?;
+    let gone = hello_world_comes_and_goes(&rt, rt.alloc(), &mut disk);
+    drop(disk);
+    gone
+}
+
+/// Whether `resume` closes the deployment, or there is none.
+fn resumes(alloc: Global, image: &mut MemoryDisk) -> Result<bool, Fail> {
+    let resume = answer_to(alloc, image, "resume", "", (&[], &[]))?;
+    let is_idle = resume.as_str() == "0|idle;";
+    let is_resumed = resume.as_str() == "0|resumed d1;closed d1 SUCCESSFUL;";
+    drop(resume);
+    Ok(is_idle || is_resumed)
+}
+
+/// Whether this image has the files of its device, and is resumed to the close of the deployment, or to none where it was not
+/// acknowledged.
+fn is_resumed(alloc: Global, image: &mut MemoryDisk, is_said: bool) -> Result<bool, Fail> {
+    let is_whole = prints(alloc, image, "audit", "", (&[], &[]), "0|whole;")?;
+    let is_right = resumes(alloc, image)?;
+    let is_closed = prints(alloc, image, "status", "", (&[], &[]), STATUS)?;
+    Ok(is_whole && is_right && (is_closed || !is_said))
+}
+
+/// Whether each image that the stop may leave goes on so.
 fn goes_on(alloc: Global, disk: &FusedDisk, is_said: bool) -> Result<bool, Fail> {
     for pick in [Pick::Old, Pick::New, Pick::Fill(0x01)] {
         let mut image = disk.disk().image(alloc, pick)?;
-        let audit = answer_to(alloc, &mut image, "audit", "", (&[], &[]))?;
-        let resume = answer_to(alloc, &mut image, "resume", "", (&[], &[]))?;
-        let is_idle = resume.as_str() == "0|idle;";
-        let is_resumed = resume.as_str() == "0|resumed d1;closed d1 SUCCESSFUL;";
-        let status = answer_to(alloc, &mut image, "status", "", (&[], &[]))?;
-        let is_closed = status.as_str() == STATUS;
-        if audit.as_str() != "0|whole;" || !(is_idle || is_resumed) || (is_said && !is_closed) {
+        let is_right = is_resumed(alloc, &mut image, is_said);
+        drop(image);
+        if !is_right? {
             return Ok(false);
         }
     }
     Ok(true)
 }
 
-/// The deployment over a disk that stops after so many calls, and what it says.
-fn stopped(alloc: Global, store: &MemoryDisk, stop: u64) -> Result<(FusedDisk, String), Fail> {
-    let stable = store.image(alloc, Pick::New)?;
-    let mut disk = FusedDisk::new(stable, stop, List::empty(alloc));
-    let mut library = library(alloc, &[])?;
-    let mut runner = runner_of(alloc, "")?;
-    let said = answer(
-        alloc,
-        &mut disk,
-        &mut library,
-        &mut runner,
-        "deploy",
-        DOCUMENT,
-        List::empty(alloc),
-    )?;
-    Ok((disk, said))
+/// What comes of a deployment over a disk that stops.
+#[derive(Clone, Copy, Drop)]
+struct Cut {
+    /// Whether the device goes on from each image that the stop may leave.
+    goes_on: bool,
+    /// Whether the deployment ended before the stop.
+    has_ended: bool,
 }
 
-#[test]
-fn a_stopped_hello_world_is_resumed(rt: HostRuntime) -> Result<(), Fail> {
-    let alloc = rt.alloc();
-    let store = begin(alloc)?;
+/// What the deployment says over that disk.
+fn said(alloc: Global, disk: &mut FusedDisk) -> Result<String, Fail> {
+    let mut runner = runner_of(alloc, "")?;
+    let text = deploy(alloc, disk, &mut runner);
+    drop(runner);
+    text
+}
+
+/// The deployment over that disk.
+fn cut_off(alloc: Global, disk: &mut FusedDisk) -> Result<Cut, Fail> {
+    let said = said(alloc, disk)?;
+    let is_said = said.as_str().contains("|accepted d1;");
+    let has_ended = !said.as_str().starts_with("5|");
+    drop(said);
+    Ok(Cut {
+        goes_on: goes_on(alloc, disk, is_said)?,
+        has_ended,
+    })
+}
+
+/// The deployment over a disk that stops after so many calls.
+fn stopped(alloc: Global, store: &MemoryDisk, stop: u64) -> Result<Cut, Fail> {
+    let stable = store.image(alloc, Pick::New)?;
+    let mut disk = FusedDisk::new(stable, stop, List::empty(alloc));
+    let stopped = cut_off(alloc, &mut disk);
+    drop(disk);
+    stopped
+}
+
+/// Stops the deployment after each count of calls, up to its end.
+fn each_stop_is_resumed(rt: &impl Abort, alloc: Global, store: &MemoryDisk) -> Result<(), Fail> {
     for stop in 0..400u64 {
-        let (disk, said) = stopped(alloc, &store, stop)?;
-        let is_said = said.as_str().contains("|accepted d1;");
-        assert!(rt; goes_on(alloc, &disk, is_said)?, "after {stop} calls");
-        if !said.as_str().starts_with("5|") {
+        let stopped = stopped(alloc, store, stop)?;
+        assert!(rt; stopped.goes_on, "after {stop} calls");
+        if stopped.has_ended {
             return Ok(());
         }
     }
@@ -168,19 +241,40 @@ fn a_stopped_hello_world_is_resumed(rt: HostRuntime) -> Result<(), Fail> {
 }
 
 #[test]
-fn faults_of_the_library_and_the_sink_are_told(rt: HostRuntime) -> Result<(), Fail> {
-    let alloc = rt.alloc();
-    let mut disk = begin(alloc)?;
+fn a_stopped_hello_world_is_resumed(rt: HostRuntime) -> Result<(), Fail> {
+    let store = begin(rt.alloc())?;
+    let resumed = each_stop_is_resumed(&rt, rt.alloc(), &store);
+    drop(store);
+    resumed
+}
+
+/// Fails a call of the library, which leaves nothing to resume.
+fn library_fails(rt: &impl Abort, alloc: Global, disk: &mut MemoryDisk) -> Result<(), Fail> {
     // Call 0 of the library counts its recipes, and call 1 reads the first.
-    let said = answer_to(alloc, &mut disk, "deploy", DOCUMENT, (&[1], &[]))?;
-    assert_eq!(rt; said.as_str(), "7|refused 7 library;");
-    assert_eq!(rt;
-        answer_to(alloc, &mut disk, "resume", "", (&[], &[]))?.as_str(),
-        "0|idle;"
-    );
-    let said = answer_to(alloc, &mut disk, "deploy", DOCUMENT, (&[], &[0]))?;
-    assert_eq!(rt; said.as_str(), "6|");
-    let said = answer_to(alloc, &mut disk, "resume", "", (&[], &[]))?;
-    assert_eq!(rt; said.as_str(), "0|resumed d1;closed d1 SUCCESSFUL;");
+    let refused = "7|refused 7 library;";
+    assert!(rt; prints(alloc, disk, "deploy", DOCUMENT, (&[1], &[]), refused)?);
+    assert!(rt; prints(alloc, disk, "resume", "", (&[], &[]), "0|idle;")?);
     Ok(())
+}
+
+/// Fails a call of the sink, and resumes behind it.
+fn sink_fails(rt: &impl Abort, alloc: Global, disk: &mut MemoryDisk) -> Result<(), Fail> {
+    assert!(rt; prints(alloc, disk, "deploy", DOCUMENT, (&[], &[0]), "6|")?);
+    let closed = "0|resumed d1;closed d1 SUCCESSFUL;";
+    assert!(rt; prints(alloc, disk, "resume", "", (&[], &[]), closed)?);
+    Ok(())
+}
+
+/// Both, one after the other.
+fn faults_are_told(rt: &impl Abort, alloc: Global, disk: &mut MemoryDisk) -> Result<(), Fail> {
+    library_fails(rt, alloc, disk)?;
+    sink_fails(rt, alloc, disk)
+}
+
+#[test]
+fn faults_of_the_library_and_the_sink_are_told(rt: HostRuntime) -> Result<(), Fail> {
+    let mut disk = begin(rt.alloc())?;
+    let told = faults_are_told(&rt, rt.alloc(), &mut disk);
+    drop(disk);
+    told
 }

@@ -67,31 +67,47 @@ fn is_row(alloc: Global, store: &mut Store, row: &'static str) -> Result<bool, F
         document,
         ends,
     };
-    Ok(call(alloc, &mut store.disk, asked)?.as_str() == want)
+    let printed = call(alloc, &mut store.disk, asked)?;
+    let is_wanted = printed.as_str() == want;
+    drop(printed);
+    Ok(is_wanted)
+}
+
+/// A new store whose library has these recipes.
+fn store_of(alloc: Global, recipes: &'static str) -> Result<Store, Fail> {
+    Ok(Store {
+        disk: begin(alloc)?,
+        recipes,
+    })
+}
+
+/// Begins the store of the row, or makes its call: whether that comes to what the row says.
+fn goes(alloc: Global, store: &mut Store, row: &'static str) -> Result<bool, Fail> {
+    match row.strip_prefix("store|") {
+        Some(recipes) => {
+            *store = store_of(alloc, recipes)?;
+            Ok(true)
+        }
+        None => is_row(alloc, store, row),
+    }
+}
+
+/// The first line of which something else comes, from this store on, or none.
+fn first_wrong_from(alloc: Global, store: &mut Store) -> Result<&'static str, Fail> {
+    for row in ROWS.lines() {
+        if !goes(alloc, store, row)? {
+            return Ok(row);
+        }
+    }
+    Ok("")
 }
 
 /// The first line of which something else comes, or none.
 fn first_wrong(alloc: Global) -> Result<&'static str, Fail> {
-    let mut store = Store {
-        disk: begin(alloc)?,
-        recipes: "",
-    };
-    for row in ROWS.lines() {
-        match row.strip_prefix("store|") {
-            Some(recipes) => {
-                store = Store {
-                    disk: begin(alloc)?,
-                    recipes,
-                }
-            }
-            None => {
-                if !is_row(alloc, &mut store, row)? {
-                    return Ok(row);
-                }
-            }
-        }
-    }
-    Ok("")
+    let mut store = store_of(alloc, "")?;
+    let wrong = first_wrong_from(alloc, &mut store);
+    drop(store);
+    wrong
 }
 
 #[test]

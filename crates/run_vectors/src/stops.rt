@@ -40,9 +40,13 @@ fn asked_of(scene: Scene, command: &str) -> Asked<'_> {
     }
 }
 
-/// The disk behind `d1`, with a restart where its bootstraps ask for one.
-fn first(alloc: Global, scene: Scene, document: &str) -> Result<MemoryDisk, Fail> {
-    let mut disk = begin(alloc)?;
+/// Deploys `d1`, with a restart where its bootstraps ask for one.
+fn deploy_first(
+    alloc: Global,
+    scene: Scene,
+    disk: &mut MemoryDisk,
+    document: &str,
+) -> Result<(), Fail> {
     for command in ["deploy", "resume"] {
         let asked = Asked {
             recipes: scene.recipes,
@@ -50,16 +54,35 @@ fn first(alloc: Global, scene: Scene, document: &str) -> Result<MemoryDisk, Fail
             document,
             ends: ALL_WELL,
         };
-        call(alloc, &mut disk, asked)?;
+        drop(call(alloc, disk, asked)?);
     }
-    Ok(disk)
+    Ok(())
+}
+
+/// The disk behind `d1`.
+fn first(alloc: Global, scene: Scene, document: &str) -> Result<MemoryDisk, Fail> {
+    let mut disk = begin(alloc)?;
+    match deploy_first(alloc, scene, &mut disk, document) {
+        Ok(()) => Ok(disk),
+        Err(fault) => {
+            drop(disk);
+            Err(fault)
+        }
+    }
+}
+
+/// Gives `resume`, and whether the device asks to be restarted.
+fn restarts(alloc: Global, scene: Scene, disk: &mut MemoryDisk) -> Result<bool, Fail> {
+    let answer = call(alloc, disk, asked_of(scene, "resume"))?;
+    let is_asked = answer.as_str().starts_with("100|");
+    drop(answer);
+    Ok(is_asked)
 }
 
 /// Gives `resume` until the device does not ask to be restarted, and then `status`.
 fn resumed(alloc: Global, scene: Scene, disk: &mut MemoryDisk) -> Result<String, Fail> {
     for _call in 0..4u8 {
-        let answer = call(alloc, disk, asked_of(scene, "resume"))?;
-        if !answer.as_str().starts_with("100|") {
+        if !restarts(alloc, scene, disk)? {
             break;
         }
     }
@@ -69,7 +92,29 @@ fn resumed(alloc: Global, scene: Scene, disk: &mut MemoryDisk) -> Result<String,
 /// Whether `status` has these lines behind those of the device and its group.
 fn shows(alloc: Global, status: &str, lines: &str) -> Result<bool, AllocError> {
     let whole = format!(in alloc; "0|thing t1;nucleus 2.12.0;group g;{lines}")?;
-    Ok(status == whole.as_str())
+    let is_shown = status == whole.as_str();
+    drop(whole);
+    Ok(is_shown)
+}
+
+/// Whether `status` shows the device of before or of behind, and the latter where the deployment was acknowledged.
+fn is_device(alloc: Global, scene: Scene, status: &str, said: bool) -> Result<bool, AllocError> {
+    let is_behind = shows(alloc, status, scene.behind)?;
+    let is_before = shows(alloc, status, scene.before)?;
+    Ok(is_behind || (is_before && !said))
+}
+
+/// Whether the image is resumed to that device.
+fn goes_on_over(
+    alloc: Global,
+    scene: Scene,
+    image: &mut MemoryDisk,
+    said: bool,
+) -> Result<bool, Fail> {
+    let status = resumed(alloc, scene, image)?;
+    let is_device = is_device(alloc, scene, status.as_str(), said);
+    drop(status);
+    Ok(is_device?)
 }
 
 /// Whether each image that the stop may leave is resumed to the device of before or of behind, and to the latter where the
@@ -77,32 +122,54 @@ fn shows(alloc: Global, status: &str, lines: &str) -> Result<bool, AllocError> {
 fn goes_on(alloc: Global, scene: Scene, disk: &FusedDisk, said: bool) -> Result<bool, Fail> {
     for pick in [Pick::Old, Pick::New, Pick::Fill(0x01), Pick::Fill(0xff)] {
         let mut image = disk.disk().image(alloc, pick)?;
-        let status = resumed(alloc, scene, &mut image)?;
-        let is_behind = shows(alloc, status.as_str(), scene.behind)?;
-        let is_before = shows(alloc, status.as_str(), scene.before)?;
-        if !is_behind && (said || !is_before) {
+        let is_right = goes_on_over(alloc, scene, &mut image, said);
+        drop(image);
+        if !is_right? {
             return Ok(false);
         }
     }
     Ok(true)
 }
 
+/// What comes of a deployment over a disk that stops.
+#[derive(Clone, Copy, Drop)]
+struct Cut {
+    /// Whether the device goes on from each image that the stop may leave.
+    goes_on: bool,
+    /// Whether the deployment ended before the stop.
+    has_ended: bool,
+}
+
+/// The deployment over that disk.
+fn cut_off(alloc: Global, scene: Scene, fused: &mut FusedDisk) -> Result<Cut, Fail> {
+    let answer = call(alloc, fused, asked_of(scene, "deploy"))?;
+    let said = answer.as_str().contains("|accepted d2;");
+    let has_ended = !answer.as_str().starts_with("5|");
+    drop(answer);
+    Ok(Cut {
+        goes_on: goes_on(alloc, scene, fused, said)?,
+        has_ended,
+    })
+}
+
+/// The deployment over a disk that stops after so many calls.
+fn stopped(alloc: Global, scene: Scene, disk: &MemoryDisk, stop: u64) -> Result<Cut, Fail> {
+    let stable = disk.image(alloc, Pick::New)?;
+    let mut fused = FusedDisk::new(stable, stop, List::empty(alloc));
+    let stopped = cut_off(alloc, scene, &mut fused);
+    drop(fused);
+    stopped
+}
+
 /// Stops the deployment after each count of calls of the disk. The first count of which a device is lost, or none; the calls
 /// that it makes in all are fewer than these.
 fn first_lost(alloc: Global, scene: Scene, disk: &MemoryDisk) -> Result<Option<u64>, Fail> {
     for stop in 0..400u64 {
-        let stable = disk.image(alloc, Pick::New)?;
-        let mut fused = FusedDisk::new(stable, stop, List::empty(alloc));
-        let answer = call(alloc, &mut fused, asked_of(scene, "deploy"))?;
-        if !goes_on(
-            alloc,
-            scene,
-            &fused,
-            answer.as_str().contains("|accepted d2;"),
-        )? {
+        let stopped = stopped(alloc, scene, disk, stop)?;
+        if !stopped.goes_on {
             return Ok(Some(stop));
         }
-        if !answer.as_str().starts_with("5|") {
+        if stopped.has_ended {
             return Ok(None);
         }
     }
@@ -134,13 +201,27 @@ fn scene_of(line: &'static str) -> (Scene, &'static str) {
     )
 }
 
+/// The first count of calls of which the device of the scene is lost, behind this deployment, or none.
+fn lost_behind(alloc: Global, scene: Scene, earlier: &str) -> Result<Option<u64>, Fail> {
+    let disk = first(alloc, scene, earlier)?;
+    let lost = first_lost(alloc, scene, &disk);
+    drop(disk);
+    lost
+}
+
+/// The same of the scene of a line.
+fn lost_of(alloc: Global, line: &'static str) -> Result<Option<u64>, Fail> {
+    let (scene, earlier) = scene_of(line);
+    let named = format!(in alloc; "d1 ROLLBACK {earlier}")?;
+    let lost = lost_behind(alloc, scene, named.as_str());
+    drop(named);
+    lost
+}
+
 /// The first scene of which a device is lost, with the count of calls, or none.
 fn first_wrong(alloc: Global) -> Result<Option<(&'static str, u64)>, Fail> {
     for line in SCENES.lines() {
-        let (scene, earlier) = scene_of(line);
-        let named = format!(in alloc; "d1 ROLLBACK {earlier}")?;
-        let disk = first(alloc, scene, named.as_str())?;
-        if let Some(stop) = first_lost(alloc, scene, &disk)? {
+        if let Some(stop) = lost_of(alloc, line)? {
             return Ok(Some((line, stop)));
         }
     }
