@@ -1,14 +1,14 @@
 // Files of artifacts compared by the top call, over stores in memory.
-use disk_model::{Disk, MemoryDisk};
-use edges::{MemorySink, MemorySource};
+use crate::calls;
+use disk_model::{Disk, DiskFault, MemoryDisk};
+use edges::MemorySource;
 use library_core::MemoryLibrary;
 use nuc_base::{Bytes, List};
-use nucleus_top::nucleus;
-use std::alloc::{AllocError, Global};
+use std::alloc::Global;
+use std::process::Abort;
 use std::test::Fail;
-use step_runner::ScriptedRunner;
 
-const AUDIT: [&str; 4] = ["nucleus", "--root", "/gg", "audit"];
+const AUDIT: &str = "nucleus --root /gg audit";
 
 /// A journal: a start, and a deployment `d1` of the component `com.x` 1.0.0 with the file `f`, which is kept with the digest
 /// of the bytes `abc` (the first example of FIPS 180-2) and closed as successful.
@@ -25,73 +25,69 @@ const EMPTY: &str =
 const OTHER: &str =
     "20|refused 20 Differs com.x/1.0.0/f a52d159f262b2c6ddb724a61840befc36eb30c88877a4030b65cbe86298449c9;";
 
-fn words(alloc: Global) -> Result<Vec<String>, AllocError> {
-    let mut all = Vec::new(alloc);
-    for word in AUDIT {
-        all.push(String::from_str(alloc, word)?)?;
-    }
-    Ok(all)
-}
-
-/// A disk that holds this journal and this file.
-fn holding(alloc: Global, journal: &[u8], file: &[u8]) -> Result<MemoryDisk, Fail> {
-    let mut disk = MemoryDisk::new(alloc);
+/// Writes this journal and this file.
+fn hold(disk: &mut MemoryDisk, journal: &[u8], file: &[u8]) -> Result<(), DiskFault> {
     disk.write_at("journal", 0, journal)?;
     disk.sync("journal")?;
     disk.write_at(FILE, 0, file)?;
-    disk.sync(FILE)?;
-    Ok(disk)
+    disk.sync(FILE)
+}
+
+/// A disk that holds them.
+fn holding(alloc: Global, journal: &[u8], file: &[u8]) -> Result<MemoryDisk, Fail> {
+    let mut disk = MemoryDisk::new(alloc);
+    match hold(&mut disk, journal, file) {
+        Ok(()) => Ok(disk),
+        Err(fault) => {
+            drop(disk);
+            Err(fault.into())
+        }
+    }
 }
 
 /// The status and what is printed, with `;` for each line feed.
 fn answer(alloc: Global, disk: &mut MemoryDisk) -> Result<String, Fail> {
     let mut source = MemorySource::new(Bytes::empty(alloc), List::empty(alloc));
-    let mut sink = MemorySink::new(alloc, List::empty(alloc));
     let mut library = MemoryLibrary::new(
         List::empty(alloc),
         List::empty(alloc),
         List::empty(alloc),
     );
-    let words = words(alloc)?;
-    let mut runner = ScriptedRunner::new(
-        alloc,
-        List::empty(alloc),
-        List::empty(alloc),
-        List::empty(alloc),
-    );
-    let status = nucleus(
-        alloc,
-        &words,
-        disk,
-        &mut library,
-        &mut source,
-        &mut sink,
-        &mut runner,
-    );
-    let mut text = format!(in alloc; "{}|", status.number())?;
-    for byte in sink.bytes() {
-        text.push(if *byte == b'\n' {
-            ';'
-        } else {
-            char::from(*byte)
-        })?;
-    }
-    Ok(text)
+    let text = calls::answer(alloc, AUDIT, disk, &mut library, &mut source);
+    drop(library);
+    drop(source);
+    text
+}
+
+/// Whether the audit answers and prints this.
+fn prints(alloc: Global, disk: &mut MemoryDisk, want: &str) -> Result<bool, Fail> {
+    let text = answer(alloc, disk)?;
+    let is_wanted = text.as_str() == want;
+    drop(text);
+    Ok(is_wanted)
 }
 
 /// Whether the audit over this journal and this file answers and prints this, and leaves both.
 fn answers(alloc: Global, journal: &[u8], file: &[u8], want: &str) -> Result<bool, Fail> {
     let mut disk = holding(alloc, journal, file)?;
-    let text = answer(alloc, &mut disk)?;
-    Ok(text.as_str() == want && disk.file("journal") == journal && disk.file(FILE) == file)
+    let is_wanted = prints(alloc, &mut disk, want);
+    let is_left = disk.file("journal") == journal && disk.file(FILE) == file;
+    drop(disk);
+    Ok(is_wanted? && is_left)
+}
+
+/// Audits of a store whose file is whole, is empty, or has other bytes.
+fn files_are_compared(rt: &impl Abort, alloc: Global) -> Result<(), Fail> {
+    assert!(rt; answers(alloc, JOURNAL, b"abc", "0|whole;")?);
+    assert!(rt; answers(alloc, JOURNAL, b"", EMPTY)?);
+    assert!(rt; answers(alloc, JOURNAL, b"abd", OTHER)?);
+    Ok(())
 }
 
 #[test]
 fn a_file_that_differs_is_named(rt: HostRuntime) -> Result<(), Fail> {
     let alloc = rt.alloc();
-    assert!(rt; answers(alloc, JOURNAL, b"abc", "0|whole;")?);
-    assert!(rt; answers(alloc, JOURNAL, b"", EMPTY)?);
-    assert!(rt; answers(alloc, JOURNAL, b"abd", OTHER)?);
+    files_are_compared(&rt, alloc)?;
     assert!(rt; answers(alloc, b"", b"abc", "8|refused 8 NotInitialised;")?);
     assert!(rt; answers(alloc, &JOURNAL[..40], b"abc", "9|refused 9 Damaged 0;")?);
     Ok(())

@@ -1,14 +1,13 @@
 // Plans by the top call, over stores, libraries and documents in memory.
-use disk_model::{Disk, MemoryDisk};
-use edges::{MemorySink, MemorySource};
+use crate::calls;
+use disk_model::{Disk, DiskFault, MemoryDisk};
+use edges::MemorySource;
 use library_core::MemoryLibrary;
 use nuc_base::{Bytes, List};
-use nucleus_top::nucleus;
 use std::alloc::{AllocError, Global};
 use std::test::Fail;
-use step_runner::ScriptedRunner;
 
-const PLAN: [&str; 4] = ["nucleus", "--root", "/gg", "plan"];
+const PLAN: &str = "nucleus --root /gg plan";
 
 /// Records by names for the table below, each as the bytes that a journal holds of it: a start; a deployment `r5` of
 /// nothing to the group `g`, with revision 5; one to the group `ga`, which wants `X` from 1.0.0 on and before 2.0.0 and
@@ -122,77 +121,93 @@ fn recipe_of(alloc: Global, component: &str) -> Result<String, AllocError> {
     recipe_with(alloc, &head, needed, words.next().unwrap_or(""))
 }
 
-/// A library of these recipes, whose calls with these numbers fail.
-fn library_of(alloc: Global, components: &str, failing: &[u64]) -> Result<MemoryLibrary, Fail> {
+/// The bytes of that recipe.
+fn recipe_bytes(alloc: Global, component: &str) -> Result<Bytes, Fail> {
+    let recipe = recipe_of(alloc, component)?;
+    let bytes = Bytes::from_slice(alloc, recipe.as_bytes());
+    drop(recipe);
+    Ok(bytes?)
+}
+
+/// These recipes.
+fn recipes_of(alloc: Global, components: &str) -> Result<List<Bytes>, Fail> {
     let mut recipes = List::empty(alloc);
     for component in components.split(';') {
-        recipes.push(Bytes::from_slice(alloc, recipe_of(alloc, component)?.as_bytes())?)?;
+        recipes.push(recipe_bytes(alloc, component)?)?;
     }
-    let failing = List::new(Vec::from_slice(alloc, failing)?);
+    Ok(recipes)
+}
+
+/// What a call goes to, and which of the calls to it fail.
+#[derive(Clone, Copy, Drop)]
+struct Given<'a> {
+    text: &'a str,
+    failing: &'a [u64],
+}
+
+/// A library of the recipes of the text.
+fn library_of(alloc: Global, given: Given<'_>) -> Result<MemoryLibrary, Fail> {
+    let failing = List::new(Vec::from_slice(alloc, given.failing)?);
+    let recipes = recipes_of(alloc, given.text)?;
     Ok(MemoryLibrary::new(recipes, List::empty(alloc), failing))
 }
 
-/// A source of this document, whose calls with these numbers fail.
-fn source_of(alloc: Global, document: &str, failing: &[u64]) -> Result<MemorySource, Fail> {
-    let bytes = Bytes::from_slice(alloc, document.as_bytes())?;
-    let failing = List::new(Vec::from_slice(alloc, failing)?);
+/// A source of the document that is the text.
+fn source_of(alloc: Global, given: Given<'_>) -> Result<MemorySource, Fail> {
+    let bytes = Bytes::from_slice(alloc, given.text.as_bytes())?;
+    let failing = List::new(Vec::from_slice(alloc, given.failing)?);
     Ok(MemorySource::new(bytes, failing))
 }
 
-fn words(alloc: Global) -> Result<Vec<String>, AllocError> {
-    let mut all = Vec::new(alloc);
-    for word in PLAN {
-        all.push(String::from_str(alloc, word)?)?;
-    }
-    Ok(all)
+/// Writes a journal of these bytes.
+fn hold(disk: &mut MemoryDisk, journal: &[u8]) -> Result<(), DiskFault> {
+    disk.write_at("journal", 0, journal)?;
+    disk.sync("journal")
 }
 
 /// A disk whose journal is these bytes.
 fn holding(alloc: Global, journal: &[u8]) -> Result<MemoryDisk, Fail> {
     let mut disk = MemoryDisk::new(alloc);
-    disk.write_at("journal", 0, journal)?;
-    disk.sync("journal")?;
-    Ok(disk)
+    match hold(&mut disk, journal) {
+        Ok(()) => Ok(disk),
+        Err(fault) => {
+            drop(disk);
+            Err(fault.into())
+        }
+    }
 }
 
-/// What is printed, with `;` for each line feed, behind the status; and whether the journal is as it was.
-fn answer(
+/// Whether the plan answers and prints this, with `;` for each line feed, behind the status.
+fn prints(
+    alloc: Global,
+    disk: &mut MemoryDisk,
+    library: &mut MemoryLibrary,
+    source: &mut MemorySource,
+    want: &str,
+) -> Result<bool, Fail> {
+    let text = calls::answer(alloc, PLAN, disk, library, source)?;
+    let is_wanted = text.as_str() == want;
+    drop(text);
+    Ok(is_wanted)
+}
+
+/// Whether the plan over this journal answers and prints this, and leaves the journal.
+fn leaves(
     alloc: Global,
     journal: &[u8],
     library: &mut MemoryLibrary,
     source: &mut MemorySource,
-) -> Result<(String, bool), Fail> {
+    want: &str,
+) -> Result<bool, Fail> {
     let mut disk = holding(alloc, journal)?;
-    let mut sink = MemorySink::new(alloc, List::empty(alloc));
-    let words = words(alloc)?;
-    let mut runner = ScriptedRunner::new(
-        alloc,
-        List::empty(alloc),
-        List::empty(alloc),
-        List::empty(alloc),
-    );
-    let status = nucleus(
-        alloc,
-        &words,
-        &mut disk,
-        library,
-        source,
-        &mut sink,
-        &mut runner,
-    );
-    let mut text = format!(in alloc; "{}|", status.number())?;
-    for byte in sink.bytes() {
-        text.push(if *byte == b'\n' {
-            ';'
-        } else {
-            char::from(*byte)
-        })?;
-    }
-    Ok((text, disk.file("journal") == journal))
+    let is_wanted = prints(alloc, &mut disk, library, source, want);
+    let is_kept = disk.file("journal") == journal;
+    drop(disk);
+    Ok(is_wanted? && is_kept)
 }
 
-/// Whether the plan answers and prints this, and leaves the journal.
-fn answers(
+/// The same of the journal of these records.
+fn answers_over(
     alloc: Global,
     history: &str,
     library: &mut MemoryLibrary,
@@ -200,17 +215,50 @@ fn answers(
     want: &str,
 ) -> Result<bool, Fail> {
     let journal = journal_of(alloc, history)?;
-    let (text, is_kept) = answer(alloc, &journal, library, source)?;
-    Ok(is_kept && text.as_str() == want)
+    let is_right = leaves(alloc, &journal, library, source, want);
+    drop(journal);
+    is_right
+}
+
+/// The same with this source.
+fn answers_from(
+    alloc: Global,
+    history: &str,
+    library: &mut MemoryLibrary,
+    document: Given<'_>,
+    want: &str,
+) -> Result<bool, Fail> {
+    let mut source = source_of(alloc, document)?;
+    let is_right = answers_over(alloc, history, library, &mut source, want);
+    drop(source);
+    is_right
+}
+
+/// The same over this library.
+fn answers(
+    alloc: Global,
+    history: &str,
+    recipes: Given<'_>,
+    document: Given<'_>,
+    want: &str,
+) -> Result<bool, Fail> {
+    let mut library = library_of(alloc, recipes)?;
+    let is_right = answers_from(alloc, history, &mut library, document, want);
+    drop(library);
+    is_right
+}
+
+fn given_of(text: &str) -> Given<'_> {
+    Given { text, failing: &[] }
 }
 
 fn is_row(alloc: Global, row: &str) -> Result<bool, Fail> {
     let mut fields = row.splitn(4, '|');
     let history = fields.next().unwrap_or("");
-    let mut library = library_of(alloc, fields.next().unwrap_or(""), &[])?;
-    let mut source = source_of(alloc, fields.next().unwrap_or(""), &[])?;
+    let recipes = given_of(fields.next().unwrap_or(""));
+    let document = given_of(fields.next().unwrap_or(""));
     let want = fields.next().unwrap_or("?");
-    answers(alloc, history, &mut library, &mut source, want)
+    answers(alloc, history, recipes, document, want)
 }
 
 /// The first line of which something else comes, or none.
@@ -231,24 +279,34 @@ fn plans_are_printed_or_refused(rt: HostRuntime) -> Result<(), Fail> {
 
 const DOCUMENT: &str = r#"{"deploymentId":"d1","targetArn":"g","components":{}}"#;
 
+/// Whether the plan over a new store prints this where this call of the library fails.
+fn answers_without_library(alloc: Global, failing: u64, want: &str) -> Result<bool, Fail> {
+    let recipes = Given {
+        text: "A 1.0.0",
+        failing: &[failing],
+    };
+    answers(alloc, "genesis", recipes, given_of(DOCUMENT), want)
+}
+
 #[test]
 fn a_failing_library_is_status_7(rt: HostRuntime) -> Result<(), Fail> {
     let alloc = rt.alloc();
     for failing in 0..2u64 {
-        let mut library = library_of(alloc, "A 1.0.0", &[failing])?;
-        let mut source = source_of(alloc, DOCUMENT, &[])?;
         assert!(rt;
-            answers(
-                alloc,
-                "genesis",
-                &mut library,
-                &mut source,
-                "7|refused 7 library;"
-            )?,
+            answers_without_library(alloc, failing, "7|refused 7 library;")?,
             "call {failing}"
         );
     }
     Ok(())
+}
+
+/// Whether the plan over a new store prints this where this call of the source fails.
+fn answers_without_source(alloc: Global, failing: u64, want: &str) -> Result<bool, Fail> {
+    let document = Given {
+        text: DOCUMENT,
+        failing: &[failing],
+    };
+    answers(alloc, "genesis", given_of("A 1.0.0"), document, want)
 }
 
 #[test]
@@ -260,10 +318,8 @@ fn a_failing_source_is_status_6(rt: HostRuntime) -> Result<(), Fail> {
         (1, "6|fault 6 source;"),
         (2, "0|"),
     ] {
-        let mut library = library_of(alloc, "A 1.0.0", &[])?;
-        let mut source = source_of(alloc, DOCUMENT, &[failing])?;
         assert!(rt;
-            answers(alloc, "genesis", &mut library, &mut source, want)?,
+            answers_without_source(alloc, failing, want)?,
             "call {failing}"
         );
     }

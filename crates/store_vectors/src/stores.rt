@@ -1,39 +1,24 @@
 // Stores made and looked at by the top call, over disks in memory. The journal's bytes are worked out by hand from the
 // layout of records.
-use disk_model::{Disk, FusedDisk, MemoryDisk, Pick};
+use crate::calls::call;
+use disk_model::{Disk, DiskFault, FusedDisk, MemoryDisk, Pick};
 use edges::{MemorySink, MemorySource};
 use library_core::MemoryLibrary;
 use nuc_base::{Bytes, List, Status};
-use nucleus_top::{calls_go_on, nucleus};
+use nucleus_top::calls_go_on;
 use std::alloc::{AllocError, Global};
+use std::process::Abort;
 use std::test::Fail;
-use step_runner::ScriptedRunner;
 
-const INIT: [&str; 12] = [
-    "nucleus",
-    "--root",
-    "/gg",
-    "init",
-    "--thing",
-    "t1",
-    "--nucleus",
-    "2.12.0",
-    "--os",
-    "linux",
-    "--arch",
-    "amd64",
-];
+const INIT: &str = "nucleus --root /gg init --thing t1 --nucleus 2.12.0 --os linux --arch amd64";
 
-const SHOW: [&str; 4] = ["nucleus", "--root", "/gg", "status"];
+const SHOW: &str = "nucleus --root /gg status";
 
-const SHOW_JSON: [&str; 5] = ["nucleus", "--root", "/gg", "status", "--json"];
+const SHOW_JSON: &str = "nucleus --root /gg status --json";
 
 /// The journal of a new store: one entry of 42 bytes, and a closed gate.
-const NEW: [u8; 48] = [
-    0x01, 0x00, 0x00, 0x00, 0x2a, 0x11, 0x00, 0x00, 0x00, 0x03, 0x2f, 0x67, 0x67, 0x00, 0x00, 0x00,
-    0x02, 0x74, 0x31, 0x00, 0x00, 0x00, 0x06, 0x32, 0x2e, 0x31, 0x32, 0x2e, 0x30, 0x00, 0x00, 0x00,
-    0x05, 0x6c, 0x69, 0x6e, 0x75, 0x78, 0x00, 0x00, 0x00, 0x05, 0x61, 0x6d, 0x64, 0x36, 0x34, 0x00,
-];
+const NEW: &[u8] =
+    b"\x01\0\0\0\x2a\x11\0\0\0\x03/gg\0\0\0\x02t1\0\0\0\x062.12.0\0\0\0\x05linux\0\0\0\x05amd64\0";
 
 /// A journal of the one record that all boots are ended, which begins no device.
 const NO_GENESIS: [u8; 7] = [0x01, 0x00, 0x00, 0x00, 0x01, 0x15, 0x00];
@@ -60,70 +45,84 @@ struct Ran {
     printed: Vec<u8>,
 }
 
-fn strings(alloc: Global, words: &[&str]) -> Result<Vec<String>, AllocError> {
-    let mut all = Vec::new(alloc);
-    for word in words {
-        all.push(String::from_str(alloc, word)?)?;
-    }
-    Ok(all)
-}
-
-/// Runs the words over a disk, without a document, to a sink that fails these calls.
-fn run<D: Disk>(alloc: Global, words: &[&str], disk: &mut D, failing: &[u64]) -> Result<Ran, Fail> {
-    let words = strings(alloc, words)?;
+/// The status of the words over a disk, without a document, to this sink.
+fn run_to<D: Disk>(
+    alloc: Global,
+    words: &str,
+    disk: &mut D,
+    sink: &mut MemorySink,
+) -> Result<Status, AllocError> {
     let mut source = MemorySource::new(Bytes::empty(alloc), List::empty(alloc));
-    let failing = List::new(Vec::from_slice(alloc, failing)?);
-    let mut sink = MemorySink::new(alloc, failing);
     let recipes = List::empty(alloc);
     let mut library = MemoryLibrary::new(recipes, List::empty(alloc), List::empty(alloc));
-    let mut runner = ScriptedRunner::new(
-        alloc,
-        List::empty(alloc),
-        List::empty(alloc),
-        List::empty(alloc),
-    );
-    let status = nucleus(
-        alloc,
-        &words,
-        disk,
-        &mut library,
-        &mut source,
-        &mut sink,
-        &mut runner,
-    );
+    let status = call(alloc, words, disk, &mut library, &mut source, sink);
+    drop(library);
+    drop(source);
+    status
+}
+
+/// What the words answer and print over a disk, without a document, to this sink.
+fn ran_to<D: Disk>(
+    alloc: Global,
+    words: &str,
+    disk: &mut D,
+    sink: &mut MemorySink,
+) -> Result<Ran, Fail> {
+    let status = run_to(alloc, words, disk, sink)?;
     Ok(Ran {
         status,
         printed: sink.bytes().to_vec(alloc)?,
     })
 }
 
+/// Runs the words over a disk, without a document, to a sink that fails these calls.
+fn run<D: Disk>(alloc: Global, words: &str, disk: &mut D, failing: &[u64]) -> Result<Ran, Fail> {
+    let failing = List::new(Vec::from_slice(alloc, failing)?);
+    let mut sink = MemorySink::new(alloc, failing);
+    let ran = ran_to(alloc, words, disk, &mut sink);
+    drop(sink);
+    ran
+}
+
 /// Whether the call answers and prints this.
 fn answers<D: Disk>(
     alloc: Global,
-    words: &[&str],
+    words: &str,
     disk: &mut D,
     status: Status,
     printed: &str,
 ) -> Result<bool, Fail> {
     let ran = run(alloc, words, disk, &[])?;
-    Ok(ran.status == status && ran.printed.as_slice() == printed.as_bytes())
+    let is_right = ran.status == status && ran.printed.as_slice() == printed.as_bytes();
+    drop(ran);
+    Ok(is_right)
+}
+
+/// Writes a file of these bytes, the first of them changed.
+fn hold(disk: &mut MemoryDisk, file: &str, bytes: &[u8], first: u8) -> Result<(), DiskFault> {
+    disk.write_at(file, 0, bytes)?;
+    if !bytes.is_empty() {
+        disk.write_at(file, 0, &[first])?;
+    }
+    disk.sync(file)
 }
 
 /// A disk whose journal is these bytes, the first of them changed.
 fn holding(alloc: Global, bytes: &[u8], first: u8) -> Result<MemoryDisk, Fail> {
     let mut disk = MemoryDisk::new(alloc);
-    disk.write_at("journal", 0, bytes)?;
-    if !bytes.is_empty() {
-        disk.write_at("journal", 0, &[first])?;
+    match hold(&mut disk, "journal", bytes, first) {
+        Ok(()) => Ok(disk),
+        Err(fault) => {
+            drop(disk);
+            Err(fault.into())
+        }
     }
-    disk.sync("journal")?;
-    Ok(disk)
 }
 
 /// Whether the words over that journal answer and print this, and leave these bytes.
 fn leaves(
     alloc: Global,
-    words: &[&str],
+    words: &str,
     disk: &mut MemoryDisk,
     answer: (Status, &str),
     after: &[u8],
@@ -136,20 +135,51 @@ fn leaves(
 /// The journal of a new store twice: its second record is none that the device takes.
 fn twice(alloc: Global) -> Result<Vec<u8>, AllocError> {
     let mut bytes = NEW[..47].to_vec(alloc)?;
-    bytes.extend_from_slice(&NEW)?;
+    bytes.extend_from_slice(NEW)?;
     Ok(bytes)
+}
+
+/// Makes a store where there is none, and looks at it.
+fn store_is_made(rt: &impl Abort, alloc: Global, disk: &mut MemoryDisk) -> Result<(), Fail> {
+    assert!(rt; leaves(alloc, SHOW, disk, (Status::NotInitialised, NONE), b"")?);
+    assert!(rt; leaves(alloc, INIT, disk, (Status::Done, MADE), NEW)?);
+    Ok(())
+}
+
+/// Looks at the store that stands, and is refused another.
+fn store_stands(rt: &impl Abort, alloc: Global, disk: &mut MemoryDisk) -> Result<(), Fail> {
+    assert!(rt; leaves(alloc, INIT, disk, (Status::Initialised, STANDS), NEW)?);
+    assert!(rt; leaves(alloc, SHOW, disk, (Status::Done, LINES), NEW)?);
+    assert!(rt; leaves(alloc, SHOW_JSON, disk, (Status::Done, JSON), NEW)?);
+    Ok(())
+}
+
+/// Both, one after the other.
+fn store_is_made_once(rt: &impl Abort, alloc: Global, disk: &mut MemoryDisk) -> Result<(), Fail> {
+    store_is_made(rt, alloc, disk)?;
+    store_stands(rt, alloc, disk)
 }
 
 #[test]
 fn a_store_is_made_once(rt: HostRuntime) -> Result<(), Fail> {
     let alloc = rt.alloc();
     let mut disk = MemoryDisk::new(alloc);
-    assert!(rt; leaves(alloc, &SHOW, &mut disk, (Status::NotInitialised, NONE), b"")?);
-    assert!(rt; leaves(alloc, &INIT, &mut disk, (Status::Done, MADE), &NEW)?);
-    assert!(rt; leaves(alloc, &INIT, &mut disk, (Status::Initialised, STANDS), &NEW)?);
-    assert!(rt; leaves(alloc, &SHOW, &mut disk, (Status::Done, LINES), &NEW)?);
-    assert!(rt; leaves(alloc, &SHOW_JSON, &mut disk, (Status::Done, JSON), &NEW)?);
-    Ok(())
+    let made = store_is_made_once(&rt, alloc, &mut disk);
+    drop(disk);
+    made
+}
+
+/// Whether `status` and `init` over that disk have these answers.
+fn answer_so(
+    alloc: Global,
+    disk: &mut MemoryDisk,
+    show: (Status, &str),
+    init: (Status, &str),
+) -> Result<bool, Fail> {
+    if !answers(alloc, SHOW, disk, show.0, show.1)? {
+        return Ok(false);
+    }
+    answers(alloc, INIT, disk, init.0, init.1)
 }
 
 /// Whether `status` and `init` over the journal of these bytes, the first of them changed, have these answers.
@@ -161,26 +191,43 @@ fn have_answers(
     init: (Status, &str),
 ) -> Result<bool, Fail> {
     let mut disk = holding(alloc, bytes, first)?;
-    if !answers(alloc, &SHOW, &mut disk, show.0, show.1)? {
-        return Ok(false);
-    }
-    answers(alloc, &INIT, &mut disk, init.0, init.1)
+    let is_right = answer_so(alloc, &mut disk, show, init);
+    drop(disk);
+    is_right
+}
+
+/// Journals that are none, and one that stands.
+fn journals_stand(rt: &impl Abort, alloc: Global) -> Result<(), Fail> {
+    let none = (Status::NotInitialised, NONE);
+    let made = (Status::Done, MADE);
+    assert!(rt; have_answers(alloc, &NEW[..1], 0x07, none, made)?);
+    assert!(rt; have_answers(alloc, NEW, 0x00, none, made)?);
+    let stands = (Status::Initialised, STANDS);
+    assert!(rt; have_answers(alloc, NEW, 0xff, (Status::Done, LINES), stands)?);
+    Ok(())
+}
+
+/// Whether `status` and `init` over the journal of these bytes find it damaged, and say this.
+fn are_damaged(alloc: Global, bytes: &[u8], lines: &str) -> Result<bool, Fail> {
+    let damaged = (Status::Damaged, lines);
+    have_answers(alloc, bytes, 0x01, damaged, damaged)
+}
+
+/// The same of the journal of a new store twice.
+fn is_twice_damaged(alloc: Global, lines: &str) -> Result<bool, Fail> {
+    let bytes = twice(alloc)?;
+    let is_damaged = are_damaged(alloc, &bytes, lines);
+    drop(bytes);
+    is_damaged
 }
 
 #[test]
 fn each_journal_has_its_answer(rt: HostRuntime) -> Result<(), Fail> {
     let alloc = rt.alloc();
-    let none = (Status::NotInitialised, NONE);
-    let made = (Status::Done, MADE);
-    assert!(rt; have_answers(alloc, &NEW[..1], 0x07, none, made)?);
-    assert!(rt; have_answers(alloc, &NEW, 0x00, none, made)?);
-    let stands = (Status::Initialised, STANDS);
-    assert!(rt; have_answers(alloc, &NEW, 0xff, (Status::Done, LINES), stands)?);
-    let damaged = (Status::Damaged, "refused 9 Damaged 0\n");
-    assert!(rt; have_answers(alloc, &NEW[..47], 0x01, damaged, damaged)?);
-    assert!(rt; have_answers(alloc, &NO_GENESIS, 0x01, damaged, damaged)?);
-    let second = (Status::Damaged, "refused 9 Damaged 47\n");
-    assert!(rt; have_answers(alloc, &twice(alloc)?, 0x01, second, second)?);
+    journals_stand(&rt, alloc)?;
+    assert!(rt; are_damaged(alloc, &NEW[..47], "refused 9 Damaged 0\n")?);
+    assert!(rt; are_damaged(alloc, &NO_GENESIS, "refused 9 Damaged 0\n")?);
+    assert!(rt; is_twice_damaged(alloc, "refused 9 Damaged 47\n")?);
     Ok(())
 }
 
@@ -198,7 +245,20 @@ fn turned(alloc: Global) -> Result<Vec<u8>, AllocError> {
     Ok(bytes)
 }
 
-/// Whether `status` and `init` over a new store beside this second slot, its first byte changed, have these answers.
+/// Whether `status` and `init` over that disk, with this second slot and its first byte changed, have these answers.
+fn answer_beside(
+    alloc: Global,
+    disk: &mut MemoryDisk,
+    second: &[u8],
+    first: u8,
+    show: (Status, &str),
+    init: (Status, &str),
+) -> Result<bool, Fail> {
+    hold(disk, "journal.b", second, first)?;
+    answer_so(alloc, disk, show, init)
+}
+
+/// The same over a new store.
 fn have_answers_beside(
     alloc: Global,
     second: &[u8],
@@ -206,59 +266,94 @@ fn have_answers_beside(
     show: (Status, &str),
     init: (Status, &str),
 ) -> Result<bool, Fail> {
-    let mut disk = holding(alloc, &NEW, 0x01)?;
-    disk.write_at("journal.b", 0, second)?;
-    disk.write_at("journal.b", 0, &[first])?;
-    disk.sync("journal.b")?;
-    if !answers(alloc, &SHOW, &mut disk, show.0, show.1)? {
-        return Ok(false);
-    }
-    answers(alloc, &INIT, &mut disk, init.0, init.1)
+    let mut disk = holding(alloc, NEW, 0x01)?;
+    let is_right = answer_beside(alloc, &mut disk, second, first, show, init);
+    drop(disk);
+    is_right
+}
+
+/// The second slot with the greater number is live, and one whose turn was not ended is not.
+fn slot_counts(rt: &impl Abort, alloc: Global, second: &[u8]) -> Result<(), Fail> {
+    let other = (Status::Done, "thing t2\nnucleus 2.12.0\n");
+    let other_stands = (Status::Initialised, "refused 16 Initialised t2\n");
+    assert!(rt; have_answers_beside(alloc, second, 0x01, other, other_stands)?);
+    // A turn that was not ended leaves the first slot live.
+    let stands = (Status::Initialised, STANDS);
+    assert!(rt; have_answers_beside(alloc, second, 0x00, (Status::Done, LINES), stands)?);
+    Ok(())
 }
 
 #[test]
 fn the_slot_with_the_greater_number_counts(rt: HostRuntime) -> Result<(), Fail> {
     let alloc = rt.alloc();
     let second = turned(alloc)?;
-    let other = (Status::Done, "thing t2\nnucleus 2.12.0\n");
-    let other_stands = (Status::Initialised, "refused 16 Initialised t2\n");
-    assert!(rt; have_answers_beside(alloc, &second, 0x01, other, other_stands)?);
-    // A turn that was not ended leaves the first slot live.
-    let stands = (Status::Initialised, STANDS);
-    assert!(rt; have_answers_beside(alloc, &second, 0x00, (Status::Done, LINES), stands)?);
+    let counts = slot_counts(&rt, alloc, &second);
+    drop(second);
+    counts?;
     // A second slot begins with a turn of an odd number.
     let damaged = (Status::Damaged, "refused 9 Damaged 0\n");
-    assert!(rt; have_answers_beside(alloc, &NEW, 0x01, damaged, damaged)?);
+    assert!(rt; have_answers_beside(alloc, NEW, 0x01, damaged, damaged)?);
     Ok(())
-}
-
-/// `init` over a disk that stops after so many calls, and whether it said that the store is made.
-fn stopped(alloc: Global, stop: u64) -> Result<(FusedDisk, bool), Fail> {
-    let mut disk = FusedDisk::new(MemoryDisk::new(alloc), stop, List::empty(alloc));
-    let ran = run(alloc, &INIT, &mut disk, &[])?;
-    Ok((disk, ran.status == Status::Done))
 }
 
 /// Whether over that image `status` finds the store, or none where it was not said to be made, and `init` then refuses or
 /// makes it.
-fn goes_on(alloc: Global, disk: &FusedDisk, pick: Pick, is_made: bool) -> Result<bool, Fail> {
-    let mut image = disk.disk().image(alloc, pick)?;
-    if answers(alloc, &SHOW, &mut image, Status::Done, LINES)? {
-        return answers(alloc, &INIT, &mut image, Status::Initialised, STANDS);
+fn goes_on_over(alloc: Global, image: &mut MemoryDisk, is_made: bool) -> Result<bool, Fail> {
+    if answers(alloc, SHOW, image, Status::Done, LINES)? {
+        return answers(alloc, INIT, image, Status::Initialised, STANDS);
     }
-    let none = answers(alloc, &SHOW, &mut image, Status::NotInitialised, NONE)?;
-    Ok(none && !is_made && leaves(alloc, &INIT, &mut image, (Status::Done, MADE), &NEW)?)
+    let none = answers(alloc, SHOW, image, Status::NotInitialised, NONE)?;
+    Ok(none && !is_made && leaves(alloc, INIT, image, (Status::Done, MADE), NEW)?)
+}
+
+/// Whether each image that the stop may leave goes on so.
+fn goes_on(alloc: Global, disk: &FusedDisk, is_made: bool) -> Result<bool, Fail> {
+    for pick in [Pick::Old, Pick::New, Pick::Fill(0x01)] {
+        let mut image = disk.disk().image(alloc, pick)?;
+        let is_right = goes_on_over(alloc, &mut image, is_made);
+        drop(image);
+        if !is_right? {
+            return Ok(false);
+        }
+    }
+    Ok(true)
+}
+
+/// What comes of `init` over a disk that stops.
+#[derive(Clone, Copy, Drop)]
+struct Cut {
+    /// Whether each image that the stop may leave goes on.
+    goes_on: bool,
+    /// Whether it said that the store is made.
+    is_made: bool,
+}
+
+/// `init` over that disk.
+fn cut_off(alloc: Global, disk: &mut FusedDisk) -> Result<Cut, Fail> {
+    let ran = run(alloc, INIT, disk, &[])?;
+    let is_made = ran.status == Status::Done;
+    drop(ran);
+    Ok(Cut {
+        goes_on: goes_on(alloc, disk, is_made)?,
+        is_made,
+    })
+}
+
+/// `init` over a disk that stops after so many calls.
+fn stopped(alloc: Global, stop: u64) -> Result<Cut, Fail> {
+    let mut disk = FusedDisk::new(MemoryDisk::new(alloc), stop, List::empty(alloc));
+    let cut = cut_off(alloc, &mut disk);
+    drop(disk);
+    cut
 }
 
 #[test]
 fn a_stopped_init_leaves_a_store_or_none(rt: HostRuntime) -> Result<(), Fail> {
     let alloc = rt.alloc();
     for stop in 0..64u64 {
-        let (disk, is_made) = stopped(alloc, stop)?;
-        for pick in [Pick::Old, Pick::New, Pick::Fill(0x01)] {
-            assert!(rt; goes_on(alloc, &disk, pick, is_made)?, "after {stop} calls");
-        }
-        if is_made {
+        let cut = stopped(alloc, stop)?;
+        assert!(rt; cut.goes_on, "after {stop} calls");
+        if cut.is_made {
             return Ok(());
         }
     }
@@ -267,7 +362,7 @@ fn a_stopped_init_leaves_a_store_or_none(rt: HostRuntime) -> Result<(), Fail> {
 }
 
 /// What the words answer over a disk that holds this journal and fails this call alone.
-fn ran_failing(alloc: Global, words: &[&str], bytes: &[u8], failing: u64) -> Result<Ran, Fail> {
+fn ran_failing(alloc: Global, words: &str, bytes: &[u8], failing: u64) -> Result<Ran, Fail> {
     let calls = List::new(Vec::from_slice(alloc, &[failing])?);
     let mut disk = FusedDisk::new(holding(alloc, bytes, 0x01)?, u64::MAX, calls);
     run(alloc, words, &mut disk, &[])
@@ -276,7 +371,7 @@ fn ran_failing(alloc: Global, words: &[&str], bytes: &[u8], failing: u64) -> Res
 /// Whether each call that fails is the fault of the disk, up to the first number that no call has, and at least so many.
 fn are_disk_faults(
     alloc: Global,
-    words: &[&str],
+    words: &str,
     bytes: &[u8],
     least: u64,
     status: Status,
@@ -297,81 +392,107 @@ fn are_disk_faults(
 fn a_failing_disk_is_status_5(rt: HostRuntime) -> Result<(), Fail> {
     let alloc = rt.alloc();
     // Each slot is synced and looked at, and the entry is read.
-    assert!(rt; are_disk_faults(alloc, &SHOW, &NEW, 6, Status::Done)?);
-    assert!(rt; are_disk_faults(alloc, &INIT, &NEW, 6, Status::Initialised)?);
+    assert!(rt; are_disk_faults(alloc, SHOW, NEW, 6, Status::Done)?);
+    assert!(rt; are_disk_faults(alloc, INIT, NEW, 6, Status::Initialised)?);
     // Behind these a journal is made and one entry is added, with two syncs each at least.
-    assert!(rt; are_disk_faults(alloc, &INIT, b"", 8, Status::Done)?);
+    assert!(rt; are_disk_faults(alloc, INIT, b"", 8, Status::Done)?);
     Ok(())
 }
 
 /// Words that ask nothing: an unknown command, and none for a folder.
-const NOTHING: [&[&str]; 2] = [
-    &["nucleus", "--root", "/gg", "deploys"],
-    &["nucleus", "deploy"],
-];
+const NOTHING: [&str; 2] = ["nucleus --root /gg deploys", "nucleus deploy"];
+
+/// Whether the words over a new store answer and print this, and leave it.
+fn leaves_new(alloc: Global, words: &str, answer: (Status, &str)) -> Result<bool, Fail> {
+    let mut disk = holding(alloc, NEW, 0x01)?;
+    let is_right = leaves(alloc, words, &mut disk, answer, NEW);
+    drop(disk);
+    is_right
+}
 
 #[test]
 fn other_words_are_usage(rt: HostRuntime) -> Result<(), Fail> {
     let alloc = rt.alloc();
-    let mut disk = holding(alloc, &NEW, 0x01)?;
     for words in NOTHING {
-        assert!(rt; leaves(alloc, words, &mut disk, (Status::Usage, USAGE), &NEW)?);
+        assert!(rt; leaves_new(alloc, words, (Status::Usage, USAGE))?);
     }
     Ok(())
 }
 
 /// The words of `status` in another order and spelling.
-const SHOW_TURNED: [&str; 4] = ["nucleus", "status", "--json", "--root=/gg"];
+const SHOW_TURNED: &str = "nucleus status --json --root=/gg";
 
 /// A command that is not built yet.
-const WHY: [&str; 4] = ["nucleus", "--root", "/gg", "why"];
+const WHY: &str = "nucleus --root /gg why";
 
 #[test]
 fn words_have_no_order_and_what_is_not_built_is_refused(rt: HostRuntime) -> Result<(), Fail> {
     let alloc = rt.alloc();
-    let mut disk = holding(alloc, &NEW, 0x01)?;
-    assert!(rt; leaves(alloc, &SHOW_TURNED, &mut disk, (Status::Done, JSON), &NEW)?);
-    assert!(rt; leaves(alloc, &WHY, &mut disk, (Status::Usage, USAGE), &NEW)?);
+    assert!(rt; leaves_new(alloc, SHOW_TURNED, (Status::Done, JSON))?);
+    assert!(rt; leaves_new(alloc, WHY, (Status::Usage, USAGE))?);
     Ok(())
 }
 
 /// Whether the call answers 6 where the sink fails this call, prints this front, and leaves this journal.
 fn is_cut_off(
     alloc: Global,
-    words: &[&str],
+    words: &str,
     disk: &mut MemoryDisk,
     failing: u64,
     front: &str,
 ) -> Result<bool, Fail> {
     let ran = run(alloc, words, disk, &[failing])?;
-    let printed = ran.printed.as_slice() == front.as_bytes();
-    Ok(ran.status == Status::Edge && printed && disk.file("journal") == NEW.as_slice())
+    let is_edge = ran.status == Status::Edge && ran.printed.as_slice() == front.as_bytes();
+    drop(ran);
+    Ok(is_edge && disk.file("journal") == NEW)
+}
+
+/// The same of `init` where there is no store.
+fn is_init_cut_off(alloc: Global, failing: u64, front: &str) -> Result<bool, Fail> {
+    let mut disk = MemoryDisk::new(alloc);
+    let is_right = is_cut_off(alloc, INIT, &mut disk, failing, front);
+    drop(disk);
+    is_right
+}
+
+/// The same of the words over a new store.
+fn is_cut_off_over(alloc: Global, words: &str, failing: u64, front: &str) -> Result<bool, Fail> {
+    let mut disk = holding(alloc, NEW, 0x01)?;
+    let is_right = is_cut_off(alloc, words, &mut disk, failing, front);
+    drop(disk);
+    is_right
+}
+
+/// Whether `init` where there is no store says that it is made, though the sink fails this call.
+fn is_made_all_the_same(alloc: Global, failing: u64) -> Result<bool, Fail> {
+    let mut disk = MemoryDisk::new(alloc);
+    let ran = run(alloc, INIT, &mut disk, &[failing]);
+    drop(disk);
+    let beyond = ran?;
+    Ok(beyond.status == Status::Done && beyond.printed.as_slice() == MADE.as_bytes())
+}
+
+/// The line of a store that is made is cut off, up to its end.
+fn made_is_cut_off(rt: &impl Abort, alloc: Global) -> Result<(), Fail> {
+    for (failing, front) in [(0, ""), (1, "initialised "), (2, "initialised t1")] {
+        assert!(rt; is_init_cut_off(alloc, failing, front)?);
+    }
+    assert!(rt; is_made_all_the_same(alloc, 3)?);
+    Ok(())
 }
 
 #[test]
 fn lines_that_cannot_be_written_are_status_6(rt: HostRuntime) -> Result<(), Fail> {
     let alloc = rt.alloc();
-    for (failing, front) in [(0, ""), (1, "initialised "), (2, "initialised t1")] {
-        assert!(rt; is_cut_off(alloc, &INIT, &mut MemoryDisk::new(alloc), failing, front)?);
-    }
-    let beyond = run(alloc, &INIT, &mut MemoryDisk::new(alloc), &[3])?;
-    assert!(rt; beyond.status == Status::Done && beyond.printed.as_slice() == MADE.as_bytes());
+    made_is_cut_off(&rt, alloc)?;
     for (failing, front) in [
         (0, ""),
         (1, "refused 16 Initialised "),
         (2, "refused 16 Initialised t1"),
     ] {
-        assert!(rt;
-            is_cut_off(
-                alloc,
-                &INIT,
-                &mut holding(alloc, &NEW, 0x01)?,
-                failing,
-                front
-            )?
-        );
+        assert!(rt; is_cut_off_over(alloc, INIT, failing, front)?);
     }
-    assert!(rt; is_cut_off(alloc, &SHOW, &mut holding(alloc, &NEW, 0x01)?, 0, "")?);
+    assert!(rt; is_cut_off_over(alloc, SHOW, 0, "")?);
     Ok(())
 }
 

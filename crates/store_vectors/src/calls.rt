@@ -1,0 +1,69 @@
+// Calls of the top call whose words are written with one blank between two, and in which no child is started.
+use disk_model::Disk;
+use edges::{MemorySink, MemorySource};
+use library_core::MemoryLibrary;
+use nuc_base::{List, Status};
+use nucleus_top::nucleus;
+use std::alloc::{AllocError, Global};
+use std::test::Fail;
+use step_runner::ScriptedRunner;
+
+fn words_of(alloc: Global, words: &str) -> Result<Vec<String>, AllocError> {
+    let mut all = Vec::new(alloc);
+    for word in words.split(' ') {
+        all.push(String::from_str(alloc, word)?)?;
+    }
+    Ok(all)
+}
+
+/// The status of the call of these words.
+pub(crate) fn call<D: Disk>(
+    alloc: Global,
+    words: &str,
+    disk: &mut D,
+    library: &mut MemoryLibrary,
+    source: &mut MemorySource,
+    sink: &mut MemorySink,
+) -> Result<Status, AllocError> {
+    let words = words_of(alloc, words)?;
+    let mut runner = ScriptedRunner::new(
+        alloc,
+        List::empty(alloc),
+        List::empty(alloc),
+        List::empty(alloc),
+    );
+    let status = nucleus(alloc, &words, disk, library, source, sink, &mut runner);
+    drop(runner);
+    drop(words);
+    Ok(status)
+}
+
+/// The status, and behind it what is printed, with `;` for each line feed.
+fn told(alloc: Global, status: Status, printed: &[u8]) -> Result<String, AllocError> {
+    let mut text = format!(in alloc; "{}|", status.number())?;
+    for byte in printed {
+        text.push(if *byte == b'\n' {
+            ';'
+        } else {
+            char::from(*byte)
+        })?;
+    }
+    Ok(text)
+}
+
+/// What the call prints, with `;` for each line feed, behind the status.
+pub(crate) fn answer<D: Disk>(
+    alloc: Global,
+    words: &str,
+    disk: &mut D,
+    library: &mut MemoryLibrary,
+    source: &mut MemorySource,
+) -> Result<String, Fail> {
+    let mut sink = MemorySink::new(alloc, List::empty(alloc));
+    let text = match call(alloc, words, disk, library, source, &mut sink) {
+        Ok(status) => told(alloc, status, sink.bytes()),
+        Err(fault) => Err(fault),
+    };
+    drop(sink);
+    Ok(text?)
+}
