@@ -7,7 +7,7 @@ use disk_model::{Disk, MemoryDisk};
 use gate_log::{Journal, Log};
 use library_core::MemoryLibrary;
 use nuc_base::{Bytes, List};
-use plan_core::propose_read;
+use plan_core::{Refusal, propose_read};
 use records::Draft;
 use std::alloc::Global;
 use std::test::Fail;
@@ -65,20 +65,50 @@ fn push_entry(journal: &mut Vec<u8>, payload: &[u8]) -> Result<(), Fail> {
     Ok(())
 }
 
+fn push_entries(journal: &mut Vec<u8>, history: &str) -> Result<(), Fail> {
+    for name in history.split_whitespace() {
+        push_entry(journal, record_named(name))?;
+    }
+    journal.push(0)?;
+    Ok(())
+}
+
+/// A journal with these records.
+fn journal_of(alloc: Global, history: &str) -> Result<Vec<u8>, Fail> {
+    let mut journal = Vec::new(alloc);
+    push_entries(&mut journal, history)?;
+    Ok(journal)
+}
+
+fn replayed(alloc: Global, disk: &mut MemoryDisk) -> Result<Device, Fail>
+    ensures regular { IfOk result (λ d. IsRegularDevice (device_view d)) }
+    ensures sound { IfOk result (λ d. IsSound (device_view d)) }
+{
+    let log = Log::find(disk)?;
+    Ok(replay(alloc, &log, disk)?)
+}
+
+/// The device whose journal has these bytes.
+fn device_from(alloc: Global, journal: &[u8]) -> Result<Device, Fail>
+    ensures regular { IfOk result (λ d. IsRegularDevice (device_view d)) }
+    ensures sound { IfOk result (λ d. IsSound (device_view d)) }
+{
+    let mut disk = MemoryDisk::new(alloc);
+    disk.write_at("journal", 0, journal)?;
+    let device = replayed(alloc, &mut disk);
+    drop(disk);
+    device
+}
+
 /// The device of a journal with these records.
 fn device_of(alloc: Global, history: &str) -> Result<Device, Fail>
     ensures regular { IfOk result (λ d. IsRegularDevice (device_view d)) }
     ensures sound { IfOk result (λ d. IsSound (device_view d)) }
 {
-    let mut journal = Vec::new(alloc);
-    for name in history.split_whitespace() {
-        push_entry(&mut journal, record_named(name))?;
-    }
-    journal.push(0)?;
-    let mut disk = MemoryDisk::new(alloc);
-    disk.write_at("journal", 0, &journal)?;
-    let log = Log::find(&mut disk)?;
-    Ok(replay(alloc, &log, &mut disk)?)
+    let journal = journal_of(alloc, history)?;
+    let device = device_from(alloc, &journal);
+    drop(journal);
+    device
 }
 
 /// The recipe that is written out or of these words.
@@ -101,11 +131,27 @@ fn recipe_of(alloc: Global, component: &str) -> Result<String, Fail> {
     )?)
 }
 
-fn library_of(alloc: Global, components: &str) -> Result<MemoryLibrary, Fail> {
+fn recipe_bytes(alloc: Global, component: &str) -> Result<Bytes, Fail> {
+    let recipe = recipe_of(alloc, component)?;
+    Ok(Bytes::from_slice(alloc, recipe.as_bytes())?)
+}
+
+fn push_recipe(alloc: Global, recipes: &mut List<Bytes>, component: &str) -> Result<(), Fail> {
+    let recipe = recipe_bytes(alloc, component)?;
+    recipes.push(recipe)?;
+    Ok(())
+}
+
+fn recipes_of(alloc: Global, components: &str) -> Result<List<Bytes>, Fail> {
     let mut recipes = List::empty(alloc);
     for component in components.split(';') {
-        recipes.push(Bytes::from_slice(alloc, recipe_of(alloc, component)?.as_bytes())?)?;
+        push_recipe(alloc, &mut recipes, component)?;
     }
+    Ok(recipes)
+}
+
+fn library_of(alloc: Global, components: &str) -> Result<MemoryLibrary, Fail> {
+    let recipes = recipes_of(alloc, components)?;
     Ok(MemoryLibrary::new(recipes, List::empty(alloc), List::empty(alloc)))
 }
 
@@ -137,6 +183,13 @@ fn text_of(alloc: Global, draft: &Draft) -> Result<String, Fail> {
     Ok(text)
 }
 
+fn answer_of(alloc: Global, proposed: &Result<Draft, Refusal>) -> Result<String, Fail> {
+    match proposed {
+        Ok(draft) => text_of(alloc, draft),
+        Err(fault) => Ok(format!(in alloc; "{fault:?}")?),
+    }
+}
+
 /// What comes of the document.
 fn answer(alloc: Global, device: &Device, components: &str, document: &str) -> Result<String, Fail>
     requires sound { IsSound (device_view device.now) }
@@ -146,19 +199,37 @@ fn answer(alloc: Global, device: &Device, components: &str, document: &str) -> R
         return Ok(format!(in alloc; "busy")?);
     }
     let mut library = library_of(alloc, components)?;
-    match propose_read(alloc, device, &mut library, document.as_bytes()) {
-        Ok(draft) => text_of(alloc, &draft),
-        Err(fault) => Ok(format!(in alloc; "{fault:?}")?),
-    }
+    let proposed = propose_read(alloc, device, &mut library, document.as_bytes());
+    drop(library);
+    let answer = answer_of(alloc, &proposed);
+    drop(proposed);
+    answer
+}
+
+/// Whether this comes of the document on the device.
+fn is_answer(
+    alloc: Global,
+    device: &Device,
+    components: &str,
+    document: &str,
+    want: &str,
+) -> Result<bool, Fail>
+    requires sound { IsSound (device_view device.now) }
+    requires regular { IsRegularDevice (device_view device.now) }
+{
+    Ok(answer(alloc, device, components, document)?.as_str() == want)
 }
 
 fn is_row(alloc: Global, row: &str) -> Result<bool, Fail> {
     let mut fields = row.split('|');
-    let device = device_of(alloc, fields.next().unwrap_or(""))?;
+    let history = fields.next().unwrap_or("");
     let components = fields.next().unwrap_or("");
     let document = fields.next().unwrap_or("");
     let want = fields.next().unwrap_or("?");
-    Ok(answer(alloc, &device, components, document)?.as_str() == want)
+    let device = device_of(alloc, history)?;
+    let is_answer = is_answer(alloc, &device, components, document, want);
+    drop(device);
+    is_answer
 }
 
 /// The first line of which something else comes, or none.

@@ -93,17 +93,46 @@ fn item(alloc: Global, name: &str, version: &str) -> Result<DraftItem, Fail> {
     })
 }
 
+fn push_draft_item(
+    alloc: Global,
+    items: &mut List<DraftItem>,
+    name: &str,
+    version: &str,
+) -> Result<(), Fail> {
+    let item = item(alloc, name, version)?;
+    items.push(item)?;
+    Ok(())
+}
+
+fn draft_items(alloc: Global) -> Result<List<DraftItem>, Fail> {
+    let mut items = List::empty(alloc);
+    push_draft_item(alloc, &mut items, "A", "2.0.0")?;
+    push_draft_item(alloc, &mut items, "B", "1.0.0")?;
+    Ok(items)
+}
+
+fn push_boot(alloc: Global, boots: &mut List<Name>, name: &str) -> Result<(), Fail> {
+    let name = Name::read(alloc, name.as_bytes())?;
+    boots.push(name)?;
+    Ok(())
+}
+
+fn draft_boots(alloc: Global) -> Result<List<Name>, Fail> {
+    let mut boots = List::empty(alloc);
+    push_boot(alloc, &mut boots, "B")?;
+    push_boot(alloc, &mut boots, "A")?;
+    Ok(boots)
+}
+
 /// A plan of `A` 2.0.0 and `B` 1.0.0, whose bootstraps run in the other order.
 fn draft(alloc: Global) -> Result<Draft, Fail> {
-    let mut items = List::empty(alloc);
-    items.push(item(alloc, "A", "2.0.0")?)?;
-    items.push(item(alloc, "B", "1.0.0")?)?;
-    let mut boots = List::empty(alloc);
-    boots.push(Name::read(alloc, b"B")?)?;
-    boots.push(Name::read(alloc, b"A")?)?;
+    let id = Label::read(alloc, b"d1")?;
+    let group = Label::read(alloc, b"g")?;
+    let boots = draft_boots(alloc)?;
+    let items = draft_items(alloc)?;
     Ok(Draft {
-        id: Label::read(alloc, b"d1")?,
-        group: Label::read(alloc, b"g")?,
+        id,
+        group,
         revision: 0,
         policy: Policy::Rollback,
         requirements: List::empty(alloc),
@@ -112,11 +141,25 @@ fn draft(alloc: Global) -> Result<Draft, Fail> {
     })
 }
 
+fn is_refusal_told(alloc: Global, refusal: &Refusal, status: u8, line: &str) -> Result<bool, Fail> {
+    let text = refusal_text(alloc, refusal)?;
+    Ok(refusal_status(refusal).number() == status && text.as_str() == line)
+}
+
 /// Whether the refusal of that row has this status and this line.
 fn is_told(alloc: Global, row: usize, status: u8, line: &str) -> Result<bool, Fail> {
     let refusal = refusal_of(alloc, row)?;
-    let text = refusal_text(alloc, &refusal)?;
-    Ok(refusal_status(&refusal).number() == status && text.as_str() == line)
+    let is_told = is_refusal_told(alloc, &refusal, status, line);
+    drop(refusal);
+    is_told
+}
+
+/// Whether the plan has these lines.
+fn is_planned(alloc: Global, lines: &str) -> Result<bool, Fail> {
+    let draft = draft(alloc)?;
+    let text = plan_text(alloc, &draft);
+    drop(draft);
+    Ok(text?.as_str() == lines)
 }
 
 #[test]
@@ -125,7 +168,6 @@ fn refusals_and_plans_are_told(rt: HostRuntime) -> Result<(), Fail> {
     for (row, (status, line)) in ROWS.iter().enumerate() {
         assert!(rt; is_told(alloc, row, *status, line)?, "{line}");
     }
-    let text = plan_text(alloc, &draft(alloc)?)?;
-    assert!(rt; text.as_str() == "plan A 2.0.0\nplan B 1.0.0\nboot B\nboot A\n");
+    assert!(rt; is_planned(alloc, "plan A 2.0.0\nplan B 1.0.0\nboot B\nboot A\n")?);
     Ok(())
 }
