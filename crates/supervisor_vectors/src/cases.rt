@@ -102,6 +102,12 @@ fn standing(alloc: Global, supervisor: &Supervisor) -> Result<String, NoMemory> 
     Ok(text)
 }
 
+/// Whether they stand so.
+fn is_standing(alloc: Global, supervisor: &Supervisor, want: &str) -> Result<bool, NoMemory> {
+    let text = standing(alloc, supervisor)?;
+    Ok(text.trim() == want)
+}
+
 /// A child ended, as these words say.
 fn end_by(supervisor: &mut Supervisor, word: &str, now: u64) -> bool
     requires moment { supervisor.old.moment ≡ now }
@@ -192,8 +198,10 @@ fn is_answer(
 {
     take_acts(alloc, supervisor, seen, now)?;
     let acts = seen.take(alloc);
-    let stands = standing(alloc, supervisor)?;
-    Ok(acts.as_str() == want.0 && stands.trim() == want.1)
+    let is_standing = is_standing(alloc, supervisor, want.1);
+    let is_seen = acts.as_str() == want.0;
+    drop(acts);
+    Ok(is_standing? && is_seen)
 }
 
 /// Whether it comes as the line says. Then its moment is the moment.
@@ -231,7 +239,29 @@ fn is_line(
     Ok(fits)
 }
 
-/// The first line of which something else comes, or none.
+/// The first line of which something else comes, or none, from moment 0 on.
+fn first_wrong_of(
+    alloc: Global,
+    supervisor: &mut Supervisor,
+    seen: &mut Seen,
+    device: &Device,
+    lines: &'static str,
+) -> Result<&'static str, NoMemory>
+    requires sound { IsSound (device_view device.now) }
+    requires regular { IsRegularDevice (device_view device.now) }
+    requires moment { supervisor.old.moment ≡ 0 }
+    requires stands { IfSome device.now.origin (λ o. Stands o.platform supervisor.old) }
+{
+    let mut now = 0;
+    for line in lines.lines() {
+        if !is_line(alloc, supervisor, seen, device, line, &mut now)? {
+            return Ok(line);
+        }
+    }
+    Ok("")
+}
+
+/// The same where no component runs yet.
 fn first_wrong(
     alloc: Global,
     device: &Device,
@@ -242,20 +272,29 @@ fn first_wrong(
 {
     let mut supervisor = Supervisor::new(alloc);
     let mut seen = Seen::new(alloc, false);
-    let mut now = 0;
-    for line in lines.lines() {
-        if !is_line(alloc, &mut supervisor, &mut seen, device, line, &mut now)? {
-            return Ok(line);
-        }
-    }
-    Ok("")
+    let wrong = first_wrong_of(alloc, &mut supervisor, &mut seen, device, lines);
+    drop(seen);
+    drop(supervisor);
+    wrong
+}
+
+/// The same of a case.
+fn wrong_of(
+    alloc: Global,
+    set: &str,
+    plan: &str,
+    lines: &'static str,
+) -> Result<&'static str, Fail> {
+    let device = device_of(alloc, set, plan)?;
+    let wrong = first_wrong(alloc, &device, lines);
+    drop(device);
+    Ok(wrong?)
 }
 
 /// The same of all cases.
 fn wrong_line(alloc: Global) -> Result<&'static str, Fail> {
     for (set, plan, lines) in CASES {
-        let device = device_of(alloc, set, plan)?;
-        let wrong = first_wrong(alloc, &device, lines)?;
+        let wrong = wrong_of(alloc, set, plan, lines)?;
         if wrong != "" {
             return Ok(wrong);
         }

@@ -48,20 +48,30 @@ fn push_step(alloc: Global, recipe: &mut String, key: &str, script: &str) -> Res
     push_member(recipe, &member)
 }
 
+fn push_all_needs(alloc: Global, recipe: &mut String, pairs: &str) -> Result<(), NoMemory> {
+    let mut words = pairs.split_whitespace();
+    while let Some(key) = words.next() {
+        push_needs(alloc, recipe, key, words.next().unwrap_or(""))?;
+    }
+    Ok(())
+}
+
+fn push_steps(alloc: Global, recipe: &mut String, pairs: &str) -> Result<(), NoMemory> {
+    let mut words = pairs.split_whitespace();
+    while let Some(key) = words.next() {
+        push_step(alloc, recipe, key, words.next().unwrap_or(""))?;
+    }
+    Ok(())
+}
+
 /// The recipe of a name, a version and pairs of words.
 fn recipe_of(alloc: Global, name: &str, version: &str, pairs: &str) -> Result<String, NoMemory> {
     let mut recipe = format!(in alloc;
         r#"{{"RecipeFormatVersion":"2020-01-25","ComponentName":"{name}","ComponentVersion":"{version}","ComponentDependencies":{{"#
     )?;
-    let mut words = pairs.split_whitespace();
-    while let Some(key) = words.next() {
-        push_needs(alloc, &mut recipe, key, words.next().unwrap_or(""))?;
-    }
+    push_all_needs(alloc, &mut recipe, pairs)?;
     recipe.push_str(r#"},"Manifests":[{"Lifecycle":{"#)?;
-    let mut words = pairs.split_whitespace();
-    while let Some(key) = words.next() {
-        push_step(alloc, &mut recipe, key, words.next().unwrap_or(""))?;
-    }
+    push_steps(alloc, &mut recipe, pairs)?;
     recipe.push_str("}}]}")?;
     Ok(recipe)
 }
@@ -78,37 +88,69 @@ fn put_text(bytes: &mut Vec<u8>, text: &str) -> Result<(), NoMemory> {
     Ok(())
 }
 
-/// Adds an item as records have it.
+/// Adds an item as records have it, without files.
+fn put_parts(
+    bytes: &mut Vec<u8>,
+    name: &str,
+    version: &str,
+    recipe: &str,
+    config: &str,
+) -> Result<(), NoMemory> {
+    put_text(bytes, name)?;
+    put_text(bytes, version)?;
+    put_text(bytes, recipe)?;
+    put_text(bytes, config)?;
+    put_size(bytes, 0)
+}
+
+/// Adds the item of a component.
 fn put_item(alloc: Global, bytes: &mut Vec<u8>, component: &str) -> Result<(), NoMemory> {
     let mut words = component.splitn(4, ' ');
     let name = words.next().unwrap_or("");
     let version = words.next().unwrap_or("");
     let config = words.next().unwrap_or("");
     let recipe = recipe_of(alloc, name, version, words.next().unwrap_or(""))?;
-    put_text(bytes, name)?;
-    put_text(bytes, version)?;
-    put_text(bytes, &recipe)?;
-    put_text(bytes, config)?;
+    put_parts(bytes, name, version, &recipe, config)
+}
+
+/// Adds the items of components, and tells how many they are.
+fn put_items(alloc: Global, bytes: &mut Vec<u8>, components: &str) -> Result<usize, NoMemory> {
+    let mut many = 0usize;
+    for component in components.split_terminator(';') {
+        put_item(alloc, bytes, component)?;
+        many = many.saturating_add(1);
+    }
+    Ok(many)
+}
+
+/// Adds the record of a plan of this id with so many items, and no bootstrap that is to run.
+fn put_plan(bytes: &mut Vec<u8>, id: &str, many: usize, items: &[u8]) -> Result<(), NoMemory> {
+    bytes.push(0x12)?;
+    put_text(bytes, id)?;
+    put_text(bytes, "g")?;
+    bytes.push(0)?;
+    put_size(bytes, 0)?;
+    put_size(bytes, many)?;
+    bytes.extend_from_slice(items)?;
     put_size(bytes, 0)
 }
 
-/// The record of a plan of this id with these components, and no bootstrap that is to run.
-fn accepted(alloc: Global, id: &str, components: &str) -> Result<Vec<u8>, NoMemory> {
+/// Adds the record of a plan of this id with these components.
+fn put_accepted(
+    alloc: Global,
+    bytes: &mut Vec<u8>,
+    id: &str,
+    components: &str,
+) -> Result<(), NoMemory> {
     let mut items = Vec::new(alloc);
-    let mut many = 0usize;
-    for component in components.split_terminator(';') {
-        put_item(alloc, &mut items, component)?;
-        many = many.saturating_add(1);
-    }
+    let many = put_items(alloc, &mut items, components)?;
+    put_plan(bytes, id, many, &items)
+}
+
+/// The same alone.
+fn accepted(alloc: Global, id: &str, components: &str) -> Result<Vec<u8>, NoMemory> {
     let mut bytes = Vec::new(alloc);
-    bytes.push(0x12)?;
-    put_text(&mut bytes, id)?;
-    put_text(&mut bytes, "g")?;
-    bytes.push(0)?;
-    put_size(&mut bytes, 0)?;
-    put_size(&mut bytes, many)?;
-    bytes.extend_from_slice(&items)?;
-    put_size(&mut bytes, 0)?;
+    put_accepted(alloc, &mut bytes, id, components)?;
     Ok(bytes)
 }
 
@@ -120,16 +162,57 @@ fn put_entry(journal: &mut Vec<u8>, payload: &[u8]) -> Result<(), NoMemory> {
     Ok(())
 }
 
+/// Adds the entry of a plan of this id with these components.
+fn put_plan_entry(
+    alloc: Global,
+    journal: &mut Vec<u8>,
+    id: &str,
+    components: &str,
+) -> Result<(), NoMemory> {
+    let payload = accepted(alloc, id, components)?;
+    put_entry(journal, &payload)
+}
+
+fn put_entries(
+    alloc: Global,
+    journal: &mut Vec<u8>,
+    set: &str,
+    plan: &str,
+) -> Result<(), NoMemory> {
+    put_entry(journal, GENESIS)?;
+    put_plan_entry(alloc, journal, "d1", set)?;
+    put_entry(journal, b"\x15")?;
+    put_entry(journal, b"\x18\x01")?;
+    put_plan_entry(alloc, journal, "d2", plan)?;
+    journal.push(0)?;
+    Ok(())
+}
+
 /// A journal of a deployment of the first components that closed, and one of the second ones that is pending.
 fn journal_of(alloc: Global, set: &str, plan: &str) -> Result<Vec<u8>, NoMemory> {
     let mut journal = Vec::new(alloc);
-    put_entry(&mut journal, GENESIS)?;
-    put_entry(&mut journal, &accepted(alloc, "d1", set)?)?;
-    put_entry(&mut journal, b"\x15")?;
-    put_entry(&mut journal, b"\x18\x01")?;
-    put_entry(&mut journal, &accepted(alloc, "d2", plan)?)?;
-    journal.push(0)?;
+    put_entries(alloc, &mut journal, set, plan)?;
     Ok(journal)
+}
+
+fn replayed(alloc: Global, disk: &mut MemoryDisk) -> Result<Device, Fail>
+    ensures regular { IfOk result (λ d. IsRegularDevice (device_view d)) }
+    ensures sound { IfOk result (λ d. IsSound (device_view d)) }
+{
+    let log = Log::find(disk)?;
+    Ok(replay(alloc, &log, disk)?)
+}
+
+/// The device whose journal has these bytes.
+fn device_from(alloc: Global, journal: &[u8]) -> Result<Device, Fail>
+    ensures regular { IfOk result (λ d. IsRegularDevice (device_view d)) }
+    ensures sound { IfOk result (λ d. IsSound (device_view d)) }
+{
+    let mut disk = MemoryDisk::new(alloc);
+    disk.write_at("journal", 0, journal)?;
+    let device = replayed(alloc, &mut disk);
+    drop(disk);
+    device
 }
 
 /// A device that has the first components, and is to have the second ones. Each is a name, a version, a configuration, and
@@ -139,8 +222,7 @@ pub(crate) fn device_of(alloc: Global, set: &str, plan: &str) -> Result<Device, 
     ensures sound { IfOk result (λ d. IsSound (device_view d)) }
 {
     let journal = journal_of(alloc, set, plan)?;
-    let mut disk = MemoryDisk::new(alloc);
-    disk.write_at("journal", 0, &journal)?;
-    let log = Log::find(&mut disk)?;
-    Ok(replay(alloc, &log, &mut disk)?)
+    let device = device_from(alloc, &journal);
+    drop(journal);
+    device
 }

@@ -1,8 +1,9 @@
 // Twenty components that need one another in chains and diamonds. Each starts up and shuts down by a step, and the steps end
 // in several orders.
-ghost use Rattle.std.specs.Prelude.{◌≡◌, OnOk};
+ghost use Rattle.std.specs.Prelude.{◌≡◌, IfOk, IfSome, OnOk};
 ghost use Rattle.device.specs.Devices.{device_view, IsRegularDevice};
 ghost use Rattle.device.specs.Sound.{IsSound};
+ghost use Rattle.supervisor_vectors.specs.Stands.{Stands};
 
 use crate::acts::{Seen, change, end, take_acts};
 use crate::devices::device_of;
@@ -118,6 +119,59 @@ fn go_on(
     Ok(seen.take(alloc))
 }
 
+/// Whether the components come up as it says.
+fn comes_up(
+    alloc: Global,
+    supervisor: &mut Supervisor,
+    seen: &mut Seen,
+    order: &str,
+    want: Option<&str>,
+) -> Result<bool, NoMemory>
+    requires { supervisor.old.moment ≡ 0 }
+    ensures { OnOk result (supervisor.new.moment ≡ 0) }
+{
+    let up = go_on(alloc, supervisor, seen, order)?;
+    Ok(supervisor.settled() && want == Some(up.as_str()))
+}
+
+/// Whether the components are stopped as it says.
+fn goes_down(
+    alloc: Global,
+    supervisor: &mut Supervisor,
+    seen: &mut Seen,
+    order: &str,
+    want: Option<&str>,
+) -> Result<bool, NoMemory>
+    requires { supervisor.old.moment ≡ 0 }
+{
+    supervisor.stop_all();
+    let down = go_on(alloc, supervisor, seen, order)?;
+    Ok(supervisor.stopped() && want == Some(down.as_str()))
+}
+
+/// Whether the components of a device come up and are stopped as the line says, where none runs yet.
+fn is_line_of(
+    alloc: Global,
+    supervisor: &mut Supervisor,
+    seen: &mut Seen,
+    device: &Device,
+    line: &str,
+) -> Result<bool, NoMemory>
+    requires sound { IsSound (device_view device.now) }
+    requires regular { IsRegularDevice (device_view device.now) }
+    requires moment { supervisor.old.moment ≡ 0 }
+    requires stands { IfSome device.now.origin (λ o. Stands o.platform supervisor.old) }
+{
+    let mut fields = line.split(' ');
+    let order = fields.next().unwrap_or("");
+    if !change(alloc, supervisor, device, true, Mode::Deployment)? {
+        return Ok(false);
+    }
+    let is_up = comes_up(alloc, supervisor, seen, order, fields.next())?;
+    let is_down = goes_down(alloc, supervisor, seen, order, fields.next())?;
+    Ok(is_up && is_down)
+}
+
 /// Whether the components come up and are stopped as the line says.
 fn is_line(alloc: Global, device: &Device, line: &str) -> Result<bool, NoMemory>
     requires sound { IsSound (device_view device.now) }
@@ -125,16 +179,10 @@ fn is_line(alloc: Global, device: &Device, line: &str) -> Result<bool, NoMemory>
 {
     let mut supervisor = Supervisor::new(alloc);
     let mut seen = Seen::new(alloc, true);
-    let mut fields = line.split(' ');
-    let order = fields.next().unwrap_or("");
-    if !change(alloc, &mut supervisor, device, true, Mode::Deployment)? {
-        return Ok(false);
-    }
-    let up = go_on(alloc, &mut supervisor, &mut seen, order)?;
-    let is_up = supervisor.settled() && fields.next() == Some(up.as_str());
-    supervisor.stop_all();
-    let down = go_on(alloc, &mut supervisor, &mut seen, order)?;
-    Ok(is_up && supervisor.stopped() && fields.next() == Some(down.as_str()))
+    let is_line = is_line_of(alloc, &mut supervisor, &mut seen, device, line);
+    drop(seen);
+    drop(supervisor);
+    is_line
 }
 
 /// The first line of which something else comes, or none.
@@ -154,11 +202,29 @@ fn first_wrong(
     Ok("")
 }
 
+/// A device that is to have the components.
+fn shaped(alloc: Global, shape: &str) -> Result<Device, Fail>
+    ensures regular { IfOk result (λ d. IsRegularDevice (device_view d)) }
+    ensures sound { IfOk result (λ d. IsSound (device_view d)) }
+{
+    let components = components_of(alloc, shape)?;
+    let device = device_of(alloc, "", &components);
+    drop(components);
+    device
+}
+
+/// The same of a shape.
+fn wrong_of(alloc: Global, shape: &str, lines: &'static str) -> Result<&'static str, Fail> {
+    let device = shaped(alloc, shape)?;
+    let wrong = first_wrong(alloc, &device, lines);
+    drop(device);
+    Ok(wrong?)
+}
+
 /// The same of all shapes.
 fn wrong_line(alloc: Global) -> Result<&'static str, Fail> {
     for (shape, lines) in SHAPES {
-        let device = device_of(alloc, "", &components_of(alloc, shape)?)?;
-        let wrong = first_wrong(alloc, &device, lines)?;
+        let wrong = wrong_of(alloc, shape, lines)?;
         if wrong != "" {
             return Ok(wrong);
         }

@@ -1,10 +1,13 @@
 // Steps of an item with their variables expanded.
 ghost use Rattle.std.specs.Prelude.{map};
 ghost use Rattle.records.specs.Stored.{item_view};
+ghost use Rattle.device.specs.Devices.{device_view, IsRegularDevice};
 ghost use Rattle.device.specs.Plans.{AreRegularItems};
 ghost use Rattle.device.specs.Scopes.{HasScope};
+ghost use Rattle.device.specs.Sound.{IsSound};
 
 use crate::devices::device_of;
+use device::Device;
 use nuc_base::{List, NoMemory, Step};
 use recipe_reader::{Recipe, Skip};
 use records::{Item, Origin};
@@ -54,8 +57,9 @@ fn is_step(
     requires regular { AreRegularItems (map item_view items.now) }
 {
     let prepared = step_of(alloc, origin, items, 0, step)?;
-    let text = text_of(alloc, &prepared)?;
-    Ok(text.as_str() == want)
+    let text = text_of(alloc, &prepared);
+    drop(prepared);
+    Ok(text?.as_str() == want)
 }
 
 /// How many steps of the first item are so.
@@ -80,18 +84,34 @@ fn count_in(alloc: Global, origin: &Origin, items: &List<Item>) -> Result<usize,
         return Ok(0);
     };
     match Recipe::read(alloc, item.recipe.as_slice(), &origin.platform) {
-        Ok(_) => count_steps(alloc, origin, items),
-        Err(_) => Ok(0),
+        Ok(recipe) => {
+            drop(recipe);
+            count_steps(alloc, origin, items)
+        }
+        Err(fault) => {
+            drop(fault);
+            Ok(0)
+        }
+    }
+}
+
+/// The same of the items that are pending on the device.
+fn counted_on(alloc: Global, device: &Device) -> Result<usize, NoMemory>
+    requires sound { IsSound (device_view device.now) }
+    requires regular { IsRegularDevice (device_view device.now) }
+{
+    match (&device.origin, &device.pending) {
+        (Some(origin), Some(pending)) => count_in(alloc, origin, &pending.plan.items),
+        _ => Ok(0),
     }
 }
 
 /// The same of a device with the component.
 fn counted(alloc: Global) -> Result<usize, Fail> {
     let device = device_of(alloc, "", COMPONENT)?;
-    match (&device.origin, &device.pending) {
-        (Some(origin), Some(pending)) => Ok(count_in(alloc, origin, &pending.plan.items)?),
-        _ => Ok(0),
-    }
+    let count = counted_on(alloc, &device);
+    drop(device);
+    Ok(count?)
 }
 
 #[test]

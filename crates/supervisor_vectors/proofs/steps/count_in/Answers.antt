@@ -12,6 +12,6 @@ count_steps-requires-clause-recipe c =
     record {
       item = item_view x;
       there = slice_get-map item_view items 0 ∙ ap (option_map item_view) there;
-      recipe = c.in-Ok.field-0;
-      reads = subst (λ bytes. Reads bytes c.args.origin.now.platform c.in-Ok.field-0) c.as_slice-2.ensures c.in-Ok.ensures.exact;
+      recipe = c.in-Ok.recipe;
+      reads = subst (λ bytes. Reads bytes c.args.origin.now.platform c.in-Ok.recipe) c.as_slice-2.ensures c.in-Ok.ensures.exact;
     }
