@@ -1,4 +1,8 @@
 // Rows of the records' bytes, and a copy of each part of a plan.
+ghost use Rattle.std.specs.Prelude.{IfSome};
+ghost use Rattle.records.specs.Layout.{IsWritable};
+ghost use Rattle.records.specs.Stored.{record_view};
+
 use nuc_base::{Copied, NoMemory};
 use records::{Group, Held, Item, Origin, Plan, Record, Requirement, bytes_spell_one_record};
 use std::alloc::Global;
@@ -53,15 +57,30 @@ const OTHERS: &[&[u8]] = &[
     b"\x12\0\0\0\x02d1\0\0\0\x01g\x01\0\0\0\x01\0\0\0\x01a\0\0\0\x83>=1 >=1 >=1 >=1 >=1 >=1 >=1 >=1 >=1 >=1 >=1 >=1 >=1 >=1 >=1 >=1 >=1 >=1 >=1 >=1 >=1 >=1 >=1 >=1 >=1 >=1 >=1 >=1 >=1 >=1 >=1 >=1 >=1\0\0\0\0\0\0\0\0",
 ];
 
-/// Whether the bytes are a record's, and then whether it gives them when it is written again.
-fn spelled(alloc: Global, bytes: &[u8]) -> Result<Option<bool>, NoMemory> {
-    match Record::read(alloc, bytes)? {
-        Some(record) => {
-            let written = record.write(alloc)?;
-            Ok(Some(written.as_slice() == bytes))
-        }
+/// Whether the record gives the bytes when it is written again.
+fn gives(alloc: Global, found: &Record, bytes: &[u8]) -> Result<bool, NoMemory>
+    requires { IsWritable (record_view found.now) }
+{
+    let written = found.write(alloc)?;
+    Ok(written.as_slice() == bytes)
+}
+
+/// Whether there is a record, and then whether it gives the bytes when it is written again.
+fn spells(alloc: Global, found: Option<&Record>, bytes: &[u8]) -> Result<Option<bool>, NoMemory>
+    requires { IfSome found (λ r. IsWritable (record_view r.now)) }
+{
+    match found {
+        Some(found) => Ok(Some(gives(alloc, found, bytes)?)),
         None => Ok(None),
     }
+}
+
+/// Whether the bytes are a record's, and then whether it gives them when it is written again.
+fn spelled(alloc: Global, bytes: &[u8]) -> Result<Option<bool>, NoMemory> {
+    let record = Record::read(alloc, bytes)?;
+    let spelled = spells(alloc, record.as_ref(), bytes);
+    drop(record);
+    spelled
 }
 
 /// Whether the bytes are read, and give themselves when they are written again.
@@ -166,22 +185,30 @@ fn is_group(group: &Group) -> bool {
 /// Whether the origin and its copy are the one that is spelled.
 fn is_origin_copied(alloc: Global, origin: &Origin) -> Result<bool, NoMemory> {
     let copy = origin.copy(alloc)?;
-    Ok(is_origin(origin) && is_origin(&copy))
+    let is_copied = is_origin(origin) && is_origin(&copy);
+    drop(copy);
+    Ok(is_copied)
 }
 
 fn is_requirement_copied(alloc: Global, requirement: &Requirement) -> Result<bool, NoMemory> {
     let copy = requirement.copy(alloc)?;
-    Ok(is_requirement(&copy))
+    let is_copied = is_requirement(&copy);
+    drop(copy);
+    Ok(is_copied)
 }
 
 fn is_item_copied(alloc: Global, item: &Item) -> Result<bool, NoMemory> {
     let copy = item.copy(alloc)?;
-    Ok(is_item(&copy))
+    let is_copied = is_item(&copy);
+    drop(copy);
+    Ok(is_copied)
 }
 
 fn is_held_copied(alloc: Global, held: &Held) -> Result<bool, NoMemory> {
     let copy = held.copy(alloc)?;
-    Ok(is_held(&copy))
+    let is_copied = is_held(&copy);
+    drop(copy);
+    Ok(is_copied)
 }
 
 /// Whether the copies of an item and of its held file are those that are spelled.
@@ -205,7 +232,9 @@ fn is_plan_copied(alloc: Global, plan: &Plan) -> Result<bool, NoMemory> {
 /// Whether the group and its copy are the one that is spelled.
 fn is_group_copied(alloc: Global, group: &Group) -> Result<bool, NoMemory> {
     let copy = group.copy(alloc)?;
-    Ok(is_group(group) && is_group(&copy))
+    let is_copied = is_group(group) && is_group(&copy);
+    drop(copy);
+    Ok(is_copied)
 }
 
 /// Whether the parts of the record and their copies are those that are spelled.
@@ -218,11 +247,18 @@ fn is_copied(alloc: Global, record: &Record) -> Result<bool, NoMemory> {
     }
 }
 
-fn are_bytes_copied(alloc: Global, bytes: &[u8]) -> Result<bool, NoMemory> {
-    match Record::read(alloc, bytes)? {
-        Some(record) => is_copied(alloc, &record),
+fn is_some_copied(alloc: Global, record: Option<&Record>) -> Result<bool, NoMemory> {
+    match record {
+        Some(record) => is_copied(alloc, record),
         None => Ok(false),
     }
+}
+
+fn are_bytes_copied(alloc: Global, bytes: &[u8]) -> Result<bool, NoMemory> {
+    let record = Record::read(alloc, bytes)?;
+    let is_copied = is_some_copied(alloc, record.as_ref());
+    drop(record);
+    is_copied
 }
 
 #[test]

@@ -1,5 +1,6 @@
 // One table of words and what they ask.
 use command_words::{Order, WordsFault, read_words};
+use nuc_base::Text;
 use std::alloc::{AllocError, Global};
 use std::test::Fail;
 
@@ -61,12 +62,23 @@ deploy => usage
 --root|/gg|config-get|--component|A|--pointer|a => usage
 --root|/g\x1fg|deploy => usage";
 
+fn push_word(alloc: Global, words: &mut Vec<String>, word: &str) -> Result<(), AllocError> {
+    let word = String::from_str(alloc, word)?;
+    words.push(word)?;
+    Ok(())
+}
+
+fn push_words(alloc: Global, words: &mut Vec<String>, line: &str) -> Result<(), AllocError> {
+    push_word(alloc, words, "nucleus")?;
+    for word in line.split('|') {
+        push_word(alloc, words, word)?;
+    }
+    Ok(())
+}
+
 fn words_of(alloc: Global, line: &str) -> Result<Vec<String>, AllocError> {
     let mut words = Vec::new(alloc);
-    words.push(String::from_str(alloc, "nucleus")?)?;
-    for word in line.split('|') {
-        words.push(String::from_str(alloc, word)?)?;
-    }
+    push_words(alloc, &mut words, line)?;
     Ok(words)
 }
 
@@ -106,13 +118,24 @@ fn root_text(alloc: Global, root: &str, order: &Order) -> Result<String, AllocEr
     format!(in alloc; "{root}: {text}")
 }
 
-fn asked(alloc: Global, line: &str) -> Result<String, AllocError> {
-    let words = words_of(alloc, line)?;
-    match read_words(alloc, &words) {
-        Ok((root, order)) => root_text(alloc, root.as_str(), &order),
+fn answer_text(
+    alloc: Global,
+    read: &Result<(Text, Order), WordsFault>,
+) -> Result<String, AllocError> {
+    match read {
+        Ok((root, order)) => root_text(alloc, root.as_str(), order),
         Err(WordsFault::Usage) => String::from_str(alloc, "usage"),
         Err(WordsFault::NoMemory) => String::from_str(alloc, "memory"),
     }
+}
+
+fn asked(alloc: Global, line: &str) -> Result<String, AllocError> {
+    let words = words_of(alloc, line)?;
+    let read = read_words(alloc, &words);
+    drop(words);
+    let text = answer_text(alloc, &read);
+    drop(read);
+    text
 }
 
 /// Whether the words of a line ask what the line says.
@@ -123,20 +146,32 @@ fn is_answered(alloc: Global, line: &str) -> Result<bool, AllocError> {
     Ok(asked(alloc, words)?.as_str() == wanted)
 }
 
-/// Whether `deploy` over a root of this many bytes is refused.
-fn is_refused_at(alloc: Global, length: usize) -> Result<bool, AllocError> {
+/// The words `deploy` over a root of this many bytes.
+fn line_at(alloc: Global, length: usize) -> Result<String, AllocError> {
     let mut line = String::from_str(alloc, "deploy|--root=")?;
     for _ in 0..length {
         line.push('r')?;
     }
-    Ok(asked(alloc, &line)?.as_str() == "usage")
+    Ok(line)
+}
+
+fn is_refused(alloc: Global, line: &str) -> Result<bool, AllocError> {
+    Ok(asked(alloc, line)?.as_str() == "usage")
+}
+
+/// Whether `deploy` over a root of this many bytes is refused.
+fn is_refused_at(alloc: Global, length: usize) -> Result<bool, AllocError> {
+    let line = line_at(alloc, length)?;
+    is_refused(alloc, &line)
 }
 
 fn is_nothing_refused(alloc: Global) -> bool {
-    match read_words(alloc, &Vec::new(alloc)) {
-        Err(WordsFault::Usage) => true,
-        _ => false,
-    }
+    let words = Vec::new(alloc);
+    let read = read_words(alloc, &words);
+    drop(words);
+    let is_refused = matches!(&read, Err(WordsFault::Usage));
+    drop(read);
+    is_refused
 }
 
 #[test]
