@@ -31,6 +31,7 @@ fn create<D: Disk, J: Journal + Drop>(
 {
     let found: Result<J, FindFault> = J::find(disk);
     let Err(FindFault::NotInitialised) = found else {
+        drop(origin);
         return None;
     };
     match Idle::<J>::create(alloc, disk, origin) {
@@ -46,7 +47,10 @@ fn origin_of(alloc: Global) -> Option<Origin> {
     };
     match read? {
         Record::Genesis(origin) => Some(origin),
-        _ => None,
+        record => {
+            drop(record);
+            None
+        }
     }
 }
 
@@ -57,12 +61,17 @@ fn begin<D: Disk, J: Journal + Drop>(alloc: Global, disk: &mut D) -> Option<(Idl
 {
     let origin = origin_of(alloc)?;
     if origin.root.as_str().len() > 1024 {
+        drop(origin);
         return None;
     }
     let Ok(copy) = origin.copy(alloc) else {
+        drop(origin);
         return None;
     };
-    let idle = create(alloc, disk, origin)?;
+    let Some(idle) = create(alloc, disk, origin) else {
+        drop(copy);
+        return None;
+    };
     let mut twin = Device::empty(alloc);
     twin.origin = Some(copy);
     Some((idle, twin))
@@ -79,7 +88,10 @@ fn plan_of(alloc: Global, bytes: &[u8]) -> Option<Plan>
     };
     match read? {
         Record::Accepted(plan) => Some(plan),
-        _ => None,
+        record => {
+            drop(record);
+            None
+        }
     }
 }
 
@@ -94,7 +106,10 @@ fn take_plan(alloc: Global, twin: &mut Device, bytes: &[u8]) -> Option<Plan>
     let plan = plan_of(alloc, bytes)?;
     match twin.apply(alloc, Record::Accepted(taken)) {
         Ok(()) => Some(plan),
-        Err(_) => None,
+        Err(_) => {
+            drop(plan);
+            None
+        }
     }
 }
 
@@ -112,12 +127,18 @@ fn accept<D: Disk, J: Journal + Drop>(
     ensures held { IfSome result (λ s. InBooting D.tells D.may_leave J.stands J.end s disk.new) }
     ensures twin { IfSome result (λ s. device_view twin.new ≡ booting_device s) }
 {
-    let plan = take_plan(alloc, twin, bytes)?;
+    let Some(plan) = take_plan(alloc, twin, bytes) else {
+        drop(idle);
+        return None;
+    };
     match idle.accept(alloc, disk, plan) {
         Ok((booting, receipt)) => {
-            if receipt.id().as_str().as_bytes() == id {
+            let is_its_own = receipt.id().as_str().as_bytes() == id;
+            drop(receipt);
+            if is_its_own {
                 Some(booting)
             } else {
+                drop(booting);
                 None
             }
         }
@@ -138,12 +159,14 @@ fn close<D: Disk, J: Journal + Drop>(
     ensures twin { IfSome result (λ s. device_view twin.new ≡ idle_device s) }
 {
     let Ok(()) = twin.apply(alloc, Record::Activating) else {
+        drop(booting);
         return None;
     };
     let Ok(activating) = booting.activate(disk) else {
         return None;
     };
     let Ok(()) = twin.apply(alloc, Record::Closed(Outcome::Successful)) else {
+        drop(activating);
         return None;
     };
     match activating.complete(disk) {
@@ -173,23 +196,36 @@ fn long_recipe(alloc: Global) -> Result<Vec<u8>, Fail> {
     Ok(recipe)
 }
 
-/// A plan of the component `a` with this recipe, whose id and configuration have this number.
-fn plan_bytes(alloc: Global, recipe: &[u8], number: [u8; 2]) -> Result<Vec<u8>, NoMemory> {
+/// Puts what stands before the recipe of a plan of the component `a`, whose id has this number.
+fn put_front(bytes: &mut Vec<u8>, number: [u8; 2]) -> Result<(), NoMemory> {
     let [tens, ones] = number;
-    let mut bytes = Vec::new(alloc);
     bytes.push(0x12)?;
-    put(&mut bytes, &[b'c', tens, ones])?;
-    put(&mut bytes, b"g")?;
+    put(bytes, &[b'c', tens, ones])?;
+    put(bytes, b"g")?;
     bytes.extend_from_slice(&[0, 0, 0, 0, 0, 0, 0, 0, 1])?;
-    put(&mut bytes, b"a")?;
-    put(&mut bytes, b"1.0.0")?;
-    put(&mut bytes, recipe)?;
-    put(
-        &mut bytes,
-        &[b'{', b'"', b'n', b'"', b':', tens, ones, b'}'],
-    )?;
-    bytes.extend_from_slice(&[0, 0, 0, 0, 0, 0, 0, 0])?;
-    Ok(bytes)
+    put(bytes, b"a")?;
+    put(bytes, b"1.0.0")
+}
+
+/// Puts that plan with this recipe, whose configuration has the number too.
+fn put_plan(bytes: &mut Vec<u8>, recipe: &[u8], number: [u8; 2]) -> Result<(), NoMemory> {
+    let [tens, ones] = number;
+    put_front(bytes, number)?;
+    put(bytes, recipe)?;
+    put(bytes, &[b'{', b'"', b'n', b'"', b':', tens, ones, b'}'])?;
+    Ok(bytes.extend_from_slice(&[0, 0, 0, 0, 0, 0, 0, 0])?)
+}
+
+/// The bytes of a plan of the component `a` with this recipe, whose id and configuration have this number.
+fn plan_bytes(alloc: Global, recipe: &[u8], number: [u8; 2]) -> Result<Vec<u8>, NoMemory> {
+    let mut bytes = Vec::new(alloc);
+    match put_plan(&mut bytes, recipe, number) {
+        Ok(()) => Ok(bytes),
+        Err(fault) => {
+            drop(bytes);
+            Err(fault)
+        }
+    }
 }
 
 /// Accepts the plan of this number and brings its deployment to its close.
@@ -207,10 +243,13 @@ fn deploy<D: Disk, J: Journal + Drop>(
     ensures twin { IfSome result (λ s. device_view twin.new ≡ idle_device s) }
 {
     let Ok(bytes) = plan_bytes(alloc, recipe, number) else {
+        drop(idle);
         return None;
     };
     let [tens, ones] = number;
-    let booting = accept(alloc, disk, idle, twin, &bytes, &[b'c', tens, ones])?;
+    let accepted = accept(alloc, disk, idle, twin, &bytes, &[b'c', tens, ones]);
+    drop(bytes);
+    let booting = accepted?;
     close(alloc, disk, booting, twin)
 }
 

@@ -1,5 +1,5 @@
 // Stores whose journals hold records that are named.
-use disk_model::{Disk, MemoryDisk};
+use disk_model::{Disk, DiskFault, MemoryDisk};
 use std::alloc::Global;
 use std::test::Fail;
 
@@ -79,15 +79,33 @@ fn push_entry(journal: &mut Vec<u8>, payload: &[u8]) -> Result<(), Fail> {
     Ok(())
 }
 
-/// A disk with a journal of these records, all stable.
-pub(crate) fn disk_of(alloc: Global, history: &str) -> Result<MemoryDisk, Fail> {
+/// The bytes of a journal of these records.
+fn journal_of(alloc: Global, history: &str) -> Result<Vec<u8>, Fail> {
     let mut journal = Vec::new(alloc);
     for name in history.split_whitespace() {
         push_entry(&mut journal, record_named(name))?;
     }
     journal.push(0)?;
+    Ok(journal)
+}
+
+/// Writes a journal of these bytes.
+fn hold(disk: &mut MemoryDisk, journal: &[u8]) -> Result<(), DiskFault> {
+    disk.write_at("journal", 0, journal)?;
+    disk.sync("journal")
+}
+
+/// A disk with a journal of these records, all stable.
+pub(crate) fn disk_of(alloc: Global, history: &str) -> Result<MemoryDisk, Fail> {
+    let journal = journal_of(alloc, history)?;
     let mut disk = MemoryDisk::new(alloc);
-    disk.write_at("journal", 0, &journal)?;
-    disk.sync("journal")?;
-    Ok(disk)
+    let held = hold(&mut disk, &journal);
+    drop(journal);
+    match held {
+        Ok(()) => Ok(disk),
+        Err(fault) => {
+            drop(disk);
+            Err(fault.into())
+        }
+    }
 }

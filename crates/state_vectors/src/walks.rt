@@ -99,15 +99,33 @@ fn leaves<J: Journal + Drop>(
     count: usize,
 ) -> Result<bool, Fail> {
     let mut image = disk.disk().image(alloc, pick)?;
-    let Ok(told) = found::<J>(alloc, &mut image) else {
+    let found = found::<J>(alloc, &mut image);
+    drop(image);
+    let Ok(told) = found else {
         return Ok(false);
     };
     let next = count.saturating_add(1);
     Ok(states.get(count) == Some(&told) || states.get(next) == Some(&told))
 }
 
-/// Goes on over a disk with these records that stops after so many calls: how many records were added, where each image
-/// stands for the device before or with the next.
+/// Goes on over a disk that stops: how many records were added, where each image stands for the device before or with the
+/// next.
+fn cut_off<J: Journal + Drop>(
+    alloc: Global,
+    disk: &mut FusedDisk,
+    exit: Exit,
+    states: &[u32],
+) -> Result<Option<usize>, Fail> {
+    let count = drive::<FusedDisk, J>(alloc, disk, exit);
+    for pick in [Pick::Old, Pick::New, Pick::Fill(0x01)] {
+        if !leaves::<J>(alloc, disk, pick, states, count)? {
+            return Ok(None);
+        }
+    }
+    Ok(Some(count))
+}
+
+/// The same over a disk with these records that stops after so many calls.
 fn stopped<J: Journal + Drop>(
     alloc: Global,
     history: &str,
@@ -116,13 +134,9 @@ fn stopped<J: Journal + Drop>(
     stop: u64,
 ) -> Result<Option<usize>, Fail> {
     let mut disk = FusedDisk::new(disk_of(alloc, history)?, stop, List::empty(alloc));
-    let count = drive::<FusedDisk, J>(alloc, &mut disk, exit);
-    for pick in [Pick::Old, Pick::New, Pick::Fill(0x01)] {
-        if !leaves::<J>(alloc, &disk, pick, states, count)? {
-            return Ok(None);
-        }
-    }
-    Ok(Some(count))
+    let added = cut_off::<J>(alloc, &mut disk, exit, states);
+    drop(disk);
+    added
 }
 
 /// Whether this holds after each count of calls up to that of the whole walk.
@@ -164,24 +178,44 @@ fn each_image_stands_for_the_device(rt: HostRuntime) -> Result<(), Fail> {
     Ok(())
 }
 
+/// Whether the disk has the journal of these records.
+fn has_journal(alloc: Global, disk: &MemoryDisk, history: &str) -> Result<bool, Fail> {
+    let whole = disk_of(alloc, history)?;
+    let is_same = disk.file("journal") == whole.file("journal");
+    drop(whole);
+    Ok(is_same)
+}
+
 /// Whether the records of the walk with two bootstrap steps are these.
 fn is_written<J: Journal + Drop>(alloc: Global) -> Result<bool, Fail> {
     let mut disk = disk_of(alloc, "genesis two")?;
     let count = drive::<MemoryDisk, J>(alloc, &mut disk, Exit::Code(100));
-    let whole = disk_of(
+    let is_whole = has_journal(
         alloc,
+        &disk,
         "genesis two begin-a end-a-100 begin-b end-b-0 activate close",
-    )?;
-    Ok(count == 6 && disk.file("journal") == whole.file("journal"))
+    );
+    drop(disk);
+    Ok(is_whole? && count == 6)
+}
+
+/// Whether a store of these records is refused so.
+fn is_refused<J: Journal + Drop>(
+    alloc: Global,
+    history: &str,
+    fault: LoadFault,
+) -> Result<bool, Fail> {
+    let mut disk = disk_of(alloc, history)?;
+    let found = found::<J>(alloc, &mut disk);
+    drop(disk);
+    Ok(found == Err(fault))
 }
 
 /// Whether a journal without an entry is no store, and one with a record that is not lawful is damaged at its place.
 fn refuses<J: Journal + Drop>(alloc: Global) -> Result<bool, Fail> {
-    let mut empty = disk_of(alloc, "")?;
-    let none = found::<J>(alloc, &mut empty);
-    let mut bad = disk_of(alloc, "genesis close")?;
-    let damaged = found::<J>(alloc, &mut bad);
-    Ok(none == Err(LoadFault::NotInitialised) && damaged == Err(LoadFault::Damaged(47)))
+    let is_none = is_refused::<J>(alloc, "", LoadFault::NotInitialised)?;
+    let is_damaged = is_refused::<J>(alloc, "genesis close", LoadFault::Damaged(47))?;
+    Ok(is_none && is_damaged)
 }
 
 #[test]
