@@ -4,7 +4,7 @@ ghost use Rattle.library_core.specs.Sources.{IsKept};
 
 use library_core::{Library, MemoryLibrary, Stored, candidates, gathered_are_one};
 use npm_ranges::Version;
-use nuc_base::{Bytes, Label, List, Name, NameFault, NoMemory, Platform, Text};
+use nuc_base::{Bytes, Copied, Label, List, Name, NameFault, NoMemory, Platform, Text};
 use recipe_reader::{Candidates, Recipe};
 use records::{Item, Origin};
 use std::alloc::Global;
@@ -107,18 +107,20 @@ fn origin(alloc: Global) -> Result<Origin, Fail> {
 }
 
 /// The item of a recipe.
-fn item_of(alloc: Global, recipe: Recipe, bytes: Bytes) -> Item
-    ensures name { result.name ≡ recipe.name }
-    ensures version { result.version ≡ recipe.version }
-    ensures recipe { result.recipe ≡ bytes }
+fn item_of(alloc: Global, recipe: &Recipe, bytes: Bytes) -> Result<Item, NoMemory>
+    ensures name { IfOk result (λ i. i.name ≡ recipe.now.name) }
+    ensures version { IfOk result (λ i. i.version ≡ recipe.now.version) }
+    ensures recipe { IfOk result (λ i. i.recipe ≡ bytes) }
 {
-    Item {
-        name: recipe.name,
-        version: recipe.version,
+    let name = recipe.name.copy(alloc)?;
+    let version = recipe.version.copy(alloc)?;
+    Ok(Item {
+        name,
+        version,
         recipe: bytes,
         config: Tree::Fields(Vec::new(alloc)),
         artifacts: List::empty(alloc),
-    }
+    })
 }
 
 fn item(alloc: Global, platform: &Platform, text: &str) -> Result<Item, NoMemory>
@@ -126,7 +128,11 @@ fn item(alloc: Global, platform: &Platform, text: &str) -> Result<Item, NoMemory
 {
     let bytes = Bytes::from_slice(alloc, text.as_bytes())?;
     match Recipe::read(alloc, bytes.as_slice(), platform) {
-        Ok(recipe) => Ok(item_of(alloc, recipe, bytes)),
+        Ok(recipe) => {
+            let item = item_of(alloc, &recipe, bytes);
+            drop(recipe);
+            Ok(item?)
+        }
         Err(_) => Err(NoMemory),
     }
 }
@@ -174,17 +180,56 @@ fn gathered(
     requires read { All (IsKept origin.now.platform) (map item_view kept.now) }
 {
     match candidates(alloc, library, origin, kept) {
-        Ok(candidates) => letters(alloc, &candidates),
-        Err(fault) => Ok(format!(in alloc; "{fault:?}")?),
+        Ok(candidates) => {
+            let letters = letters(alloc, &candidates);
+            drop(candidates);
+            letters
+        }
+        Err(fault) => {
+            let said = format!(in alloc; "{fault:?}");
+            drop(fault);
+            Ok(said?)
+        }
     }
+}
+
+/// The same of a library of these letters.
+fn gathered_of(
+    alloc: Global,
+    origin: &Origin,
+    kept: &List<Item>,
+    recipes: &str,
+    call: &str,
+) -> Result<String, NoMemory>
+    requires few { length kept.now ≤ 3 }
+    requires read { All (IsKept origin.now.platform) (map item_view kept.now) }
+{
+    let mut library = library(alloc, recipes, call)?;
+    let said = gathered(alloc, &mut library, origin, kept);
+    drop(library);
+    said
+}
+
+/// The same beside the items of these letters.
+fn gathered_beside(
+    alloc: Global,
+    origin: &Origin,
+    recipes: &str,
+    kept: &str,
+    call: &str,
+) -> Result<String, NoMemory> {
+    let kept = items(alloc, &origin.platform, kept)?;
+    let said = gathered_of(alloc, origin, &kept, recipes, call);
+    drop(kept);
+    said
 }
 
 /// What is answered to that.
 fn answer(alloc: Global, recipes: &str, kept: &str, call: &str) -> Result<String, Fail> {
     let origin = origin(alloc)?;
-    let kept = items(alloc, &origin.platform, kept)?;
-    let mut library = library(alloc, recipes, call)?;
-    Ok(gathered(alloc, &mut library, &origin, &kept)?)
+    let said = gathered_beside(alloc, &origin, recipes, kept, call);
+    drop(origin);
+    Ok(said?)
 }
 
 fn is_row(alloc: Global, row: &str) -> Result<bool, Fail> {
@@ -275,8 +320,9 @@ fn piece(alloc: Global, library: &mut MemoryLibrary, asked: &Stored) -> Result<S
 fn is_piece(alloc: Global, library: &mut MemoryLibrary, call: &str) -> Result<bool, Fail> {
     let (asked, want) = call.split_once('|').unwrap_or((call, ""));
     let asked = stored(alloc, asked)?;
-    let found = piece(alloc, library, &asked)?;
-    Ok(found.as_str() == want)
+    let found = piece(alloc, library, &asked);
+    drop(asked);
+    Ok(found?.as_str() == want)
 }
 
 /// The first call that is answered otherwise.
@@ -291,7 +337,9 @@ fn wrong_call(alloc: Global, library: &mut MemoryLibrary) -> Result<Option<&'sta
 
 fn first_wrong(alloc: Global) -> Result<Option<&'static str>, Fail> {
     let mut library = stored_library(alloc)?;
-    wrong_call(alloc, &mut library)
+    let wrong = wrong_call(alloc, &mut library);
+    drop(library);
+    wrong
 }
 
 #[test]
