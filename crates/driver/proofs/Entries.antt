@@ -106,7 +106,7 @@ pass_probe p m told new now may moment asked = record {
     no_end = may.may.no_end;
   };
   still = still_later p (leaves p (Asked now)) now refl refl may.still.cut may.still;
-  probed = may.probed;
+  probed = refl;
   is_told = record { moment = moment; asked = asked; due = λ d. refl; over = may.over; cut = may.still.cut };
 }
 

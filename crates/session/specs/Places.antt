@@ -161,7 +161,7 @@ leaves p (Slept e) = noted e.seen p
 leaves p (Cut e) = noted e.seen (cut_off e.seen p)
 leaves p (Kept r) = kept r p
 leaves p (Moved k e) = record p { world = lived_at k e p.world; probed = false }
-leaves p (Asked m) = record p { world = later m p.world; fresh = true }
+leaves p (Asked m) = record p { world = later m p.world; fresh = true; probed = false }
 leaves p (Heard k) = record p { world = told_at k p.world; probed = false }
 leaves p (Questioned a) = record p { answer = Some a; turns = p.turns - 1; probed = false }
 leaves p (Changed f c b) = record p { world = changed_to f c b p.world; crew = present; opened = p.opened || is_idle (duty_of p.device).phase; probed = false }

@@ -50,6 +50,7 @@ pub fn skipif_row()
     ensures other { (o : Origin) → MayFollow (left_by (skip_begun o) (Asked 0 ∷ [])) (Ran (asked 0 (seen.Exists (codes "/opt/y") true)) 0 step.Install) → ⊥ }
     ensures kind { (o : Origin) → MayFollow (left_by (skip_begun o) (Asked 0 ∷ [])) (Ran (asked 0 (seen.OnPath (codes "/opt/x") true)) 0 step.Install) → ⊥ }
     ensures twice { (o : Origin) → MayFollow (left_by (skip_begun o) probed_no) (Ran (not_asked 0 (seen.Exists (codes "/opt/x") true)) 0 step.Install) → ⊥ }
+    ensures asked_between { (o : Origin) → MayFollow (left_by (skip_begun o) (Asked 0 ∷ probed_no)) (Ran (asked 0 (seen.Started 0 (script (codes "i")))) 0 step.Install) → ⊥ }
     ensures goes_on { (o : Origin) → MayFollow (left_by (skip_begun o) probed_no) (Moved 0 event.MayBegin) → ⊥ }
     ensures closes { (o : Origin) → MayFollow (left_by (skip_begun o) probed_yes) (Kept (Closed outcomes.Successful)) → ⊥ }
 {}

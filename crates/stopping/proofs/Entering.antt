@@ -127,7 +127,7 @@ pass_runs laws p d world old new living next now c moment asked same =
         children = λ n. subst (λ (l : List ℕ). Contains l n ↔ IsSome (owner n p.world.parts)) (sym same)
             ((λ h. without_boot (no_boot p.boot n c.on.boot) ((s.children n).0 h)), (λ h. (s.children n).1 (inl h)));
       };
-      probed = c.probed;
+      probed = refl;
       world_is = sym (ap (λ (w : World). later now w) s.world_is);
     }
 
