@@ -13,14 +13,14 @@ use Rattle.lifecycle.specs.declared.kinds.LifeAct.{LifeAct}
 use Rattle.lifecycle.specs.declared.kinds.LifeAct.TheVariants as act
 use Rattle.lifecycle.specs.declared.kinds.LifeEvent.{LifeEvent}
 use Rattle.lifecycle.specs.declared.kinds.LifeEvent.TheVariants as event
-use Rattle.supervisor.specs.Fitted.{Fitted, steps_of}
-use Rattle.supervisor.specs.World.{World, Part, changed_at, owner, child_gone, without_child, is_again, is_spared}
-use Rattle.supervisor.specs.Marks.{Flagged, flagged, flagged_at, grown, marked, may_restart, reaching, restarted}
-use Rattle.supervisor.specs.Lives.{after_row, completed, drops_at, lived, lived_at, replaced, succeeds, with_failure_owed, with_failures_forgotten, with_new_item, with_stop_given}
-use Rattle.supervisor.specs.Events.{answered_at, ended, gone_by, is_orphan_at, kill_event_at, killed, launched, refused, skipped, started, told_at, with_child}
-use Rattle.supervisor.specs.Changes.{forgetting, steadied}
-use Rattle.supervisor.specs.Acts.{Move, Quietly}
-use Rattle.supervisor.specs.Answers.{has_answered}
+use Rattle.components.specs.Fitted.{Fitted, steps_of}
+use Rattle.components.specs.World.{World, Part, changed_at, owner, child_gone, without_child, is_again, is_spared}
+use Rattle.components.specs.Marks.{Flagged, flagged, flagged_at, grown, marked, may_restart, reaching, restarted}
+use Rattle.components.specs.Lives.{after_row, completed, drops_at, lived, lived_at, replaced, succeeds, with_failure_owed, with_failures_forgotten, with_new_item, with_stop_given}
+use Rattle.components.specs.Events.{answered_at, ended, gone_by, is_orphan_at, kill_event_at, killed, launched, refused, skipped, started, told_at, with_child}
+use Rattle.components.specs.Changes.{forgetting, steadied}
+use Rattle.components.specs.Acts.{Move, Quietly}
+use Rattle.components.specs.Answers.{has_answered}
 
 -- a start was handed out
 abbrev pub handed_in : List Part → Bool

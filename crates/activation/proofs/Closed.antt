@@ -21,10 +21,10 @@ use Rattle.deploy_state.specs.States.{IsIn}
 use Rattle.deploy_state.proofs.Steps.{may_roll}
 use Rattle.step_runner.specs.Entries.{Told}
 use Rattle.step_runner.specs.declared.entries.RunnerEntry.{RunnerEntry}
-use Rattle.supervisor.specs.World.{World, is_settled, owner}
-use Rattle.supervisor.specs.Answers.{has_answered}
-use Rattle.supervisor.specs.Events.{later}
-use Rattle.supervisor.specs.Changes.{steadied}
+use Rattle.components.specs.World.{World, is_settled, owner}
+use Rattle.components.specs.Answers.{has_answered}
+use Rattle.components.specs.Events.{later}
+use Rattle.components.specs.Changes.{steadied}
 use Rattle.session.specs.Phases.{Crew, duty_in, duty_of, is_closing, is_idle, is_present, present}
 use Rattle.session.specs.Happenings.{Kept, records_of}
 use Rattle.session.specs.Places.{Place, leaves}

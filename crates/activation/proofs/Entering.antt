@@ -11,11 +11,11 @@ use Rattle.lifecycle.specs.declared.kinds.LifeEvent.TheVariants as event
 use Rattle.step_runner.specs.Entries.{Notes, Told}
 use Rattle.step_runner.specs.declared.entries.RunnerEntry.{RunnerEntry}
 use Rattle.step_runner.specs.declared.entries.Seen.{Seen}
-use Rattle.supervisor.specs.World.{World, Child, child_gone, owner}
-use Rattle.supervisor.specs.Lives.{lived_at}
-use Rattle.supervisor.specs.Answers.{has_answered}
-use Rattle.supervisor.specs.Events.{ended, gone_by, is_orphan_at, kill_event_at, killed, later, launched, started}
-use Rattle.supervisor.specs.Acts.{Move, Quietly}
+use Rattle.components.specs.World.{World, Child, child_gone, owner}
+use Rattle.components.specs.Lives.{lived_at}
+use Rattle.components.specs.Answers.{has_answered}
+use Rattle.components.specs.Events.{ended, gone_by, is_orphan_at, kill_event_at, killed, later, launched, started}
+use Rattle.components.specs.Acts.{Move, Quietly}
 use Rattle.session.specs.Phases.{Phase, idle, booting, activating, backing, rolling, Crew, present, duty_of}
 use Rattle.session.specs.Happenings.{Happening, Asked, Moved, Ran}
 use Rattle.session.specs.Places.{Place, is_wait, leaves, left_by, ran}

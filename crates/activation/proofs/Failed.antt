@@ -9,9 +9,9 @@ use Rattle.device.specs.Devices.{Device, Pending}
 use Rattle.device.specs.Lawful.{Allowed, MayFail, applied, count_failure, counted, failing_place}
 use Rattle.device.specs.declared.staged.Stage.{Stage}
 use Rattle.device.specs.declared.staged.Stage.TheVariants as stages
-use Rattle.supervisor.specs.World.{World, Part, At, changed_at, is_spared, part_name, place_of}
-use Rattle.supervisor.specs.Acts.{OwesAt}
-use Rattle.supervisor.specs.Events.{told_at, told_of}
+use Rattle.components.specs.World.{World, Part, At, changed_at, is_spared, part_name, place_of}
+use Rattle.components.specs.Acts.{OwesAt}
+use Rattle.components.specs.Events.{told_at, told_of}
 use Rattle.session.specs.Phases.{duty_of, duty_in}
 use Rattle.session.specs.Follows.{OwesBy}
 use Rattle.supervisor_laws.specs.Keeps.{AgreesBy, IsCounted, Keeps}

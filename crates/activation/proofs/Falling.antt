@@ -10,8 +10,8 @@ use Rattle.device.specs.declared.staged.Stage.TheVariants as stages
 use Rattle.nuc_base.specs.declared.kinds.Exit.{Exit}
 use Rattle.nuc_base.specs.declared.kinds.Step.{Step}
 use Rattle.step_runner.specs.Entries.{Told}
-use Rattle.supervisor.specs.Turns.{owes}
-use Rattle.supervisor.specs.World.{Part, World, has_broken, is_again, is_broken, is_gone, is_leaving, is_settled, is_spared, part_name, under_way}
+use Rattle.components.specs.Turns.{owes}
+use Rattle.components.specs.World.{Part, World, has_broken, is_again, is_broken, is_gone, is_leaving, is_settled, is_spared, part_name, under_way}
 use Rattle.supervisor_laws.specs.Keeps.{AgreesBy, Keeps, count_of}
 use Rattle.supervisor_laws.specs.Sound.{IsSoundPart, is_to_begin_again, is_waiting}
 use Rattle.session.specs.Phases.{duty_in, duty_of}
@@ -19,8 +19,8 @@ use Rattle.session.specs.Places.{Place}
 use Rattle.session.specs.Waits.{has_three}
 use Rattle.progress_laws.specs.Kept.{IsFalling}
 use Rattle.progress_laws.specs.Time.{HasTime}
-use Rattle.ending_laws.specs.Drives.{IsDriven, Rises}
-use Rattle.ending_laws.proofs.Stands.{rises}
+use Rattle.progress_laws.specs.Drives.{IsDriven, Rises}
+use Rattle.progress_laws.proofs.Stands.{rises}
 use Rattle.activation.specs.Runs.{MaySit, Runs}
 use Rattle.activation.specs.declared.acts.Did.{Did}
 use Rattle.activation.specs.declared.acts.Did.TheVariants as did

@@ -5,11 +5,11 @@ use Rattle.nuc_base.specs.declared.kinds.Exit.{Exit}
 use Rattle.nuc_base.specs.declared.kinds.Step.{Step}
 use Rattle.step_runner.specs.Entries.{Told}
 use Rattle.step_runner.specs.declared.entries.RunnerEntry.{RunnerEntry}
-use Rattle.supervisor.specs.World.{World}
-use Rattle.supervisor.specs.Turns.{IsQuiet}
-use Rattle.supervisor.specs.Acts.{HandsOut, NextAct, Quietly}
-use Rattle.supervisor.specs.declared.kinds.Act.{Act}
-use Rattle.supervisor.specs.declared.kinds.Act.TheVariants.{Start, Failed, Broke}
+use Rattle.components.specs.World.{World}
+use Rattle.components.specs.Turns.{IsQuiet}
+use Rattle.components.specs.Acts.{HandsOut, NextAct, Quietly}
+use Rattle.components.specs.declared.kinds.Act.{Act}
+use Rattle.components.specs.declared.kinds.Act.TheVariants.{Start, Failed, Broke}
 use Rattle.session.specs.Places.{Place, left_by}
 use Rattle.activation.specs.Laws.{Laws}
 use Rattle.activation.specs.Runs.{HasFailed, IsStarting, IsWithin, Runs}

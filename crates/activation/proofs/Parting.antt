@@ -9,7 +9,7 @@ use Rattle.deploy_state.specs.States.{InActivating, InRolling, activating_device
 use Rattle.deploy_state.specs.declared.state.Activating.{Activating}
 use Rattle.deploy_state.specs.declared.state.Rolling.{Rolling}
 use Rattle.step_runner.specs.Entries.{Told}
-use Rattle.supervisor.specs.World.{World}
+use Rattle.components.specs.World.{World}
 use Rattle.session.specs.Happenings.{Happening, records_of}
 use Rattle.session.specs.Places.{Place, left_by}
 use Rattle.session.proofs.Joined.{left-append, records-append}

@@ -12,9 +12,9 @@ use Rattle.device.specs.Lawful.{Allowed, applied, counted, failing_place}
 use Rattle.deploy_state.specs.Hand.{LeavesEither}
 use Rattle.step_runner.specs.Entries.{Told}
 use Rattle.step_runner.specs.declared.entries.RunnerEntry.{RunnerEntry}
-use Rattle.supervisor.specs.World.{World, owner}
-use Rattle.supervisor.specs.Answers.{has_answered}
-use Rattle.supervisor.specs.Events.{told_at}
+use Rattle.components.specs.World.{World, owner}
+use Rattle.components.specs.Answers.{has_answered}
+use Rattle.components.specs.Events.{told_at}
 use Rattle.session.specs.Phases.{Phase}
 use Rattle.session.specs.Happenings.{Kept, records_of}
 use Rattle.session.specs.Places.{Place, leaves}

@@ -5,7 +5,7 @@ use Rattle.std.proofs.Common.{◌≡◌, ◌∙◌, refl, sym, ap, subst}
 use Rattle.records.specs.Stored.{Record}
 use Rattle.device.specs.Devices.{Device}
 use Rattle.step_runner.specs.Entries.{Told}
-use Rattle.supervisor.specs.World.{World, is_settled, owner}
+use Rattle.components.specs.World.{World, is_settled, owner}
 use Rattle.session.specs.Phases.{duty_of}
 use Rattle.session.specs.Waits.{has_three}
 use Rattle.session.specs.Happenings.{Happening, records_of}

@@ -2,8 +2,8 @@
 use Rattle.std.specs.Prelude.{◌≡◌, ℕ, Bool, true, List}
 use Rattle.device.specs.Devices.{Device}
 use Rattle.step_runner.specs.Entries.{Told}
-use Rattle.supervisor.specs.World.{World}
-use Rattle.supervisor.specs.Turns.{IsQuiet}
+use Rattle.components.specs.World.{World}
+use Rattle.components.specs.Turns.{IsQuiet}
 use Rattle.session.specs.Places.{Place}
 use Rattle.activation.specs.Runs.{HasFailed, Runs}
 use Rattle.activation.specs.declared.acts.Did.{Did}

@@ -7,8 +7,8 @@ use Rattle.records.specs.Stored.{Record, Closed}
 use Rattle.device.specs.Devices.{Device}
 use Rattle.deploy_state.specs.States.{InActivating, InIdle, activating_device, idle_device}
 use Rattle.step_runner.specs.Entries.{Told}
-use Rattle.supervisor.specs.World.{World}
-use Rattle.supervisor.specs.Turns.{IsQuiet}
+use Rattle.components.specs.World.{World}
+use Rattle.components.specs.Turns.{IsQuiet}
 use Rattle.supervisor_laws.specs.Sound.{IsOrderly}
 use Rattle.session.specs.Phases.{duty_of}
 use Rattle.session.specs.Happenings.{Happening, records_of}

@@ -5,9 +5,9 @@ use Rattle.nuc_base.specs.declared.kinds.Exit.{Exit}
 use Rattle.records.specs.Stored.{StepFailed}
 use Rattle.device.specs.Devices.{Device}
 use Rattle.device.specs.Lawful.{applied}
-use Rattle.supervisor.specs.World.{World, At, part_name, owner}
-use Rattle.supervisor.specs.Events.{started, refused, skipped, killed, ended, told_at, later}
-use Rattle.supervisor.specs.Acts.{Move, Quietly, OwesAt}
+use Rattle.components.specs.World.{World, At, part_name, owner}
+use Rattle.components.specs.Events.{started, refused, skipped, killed, ended, told_at, later}
+use Rattle.components.specs.Acts.{Move, Quietly, OwesAt}
 use Rattle.supervisor_laws.specs.Keeps.{IsTold, Keeps, Owns}
 
 pub record Laws : Type 0 where

@@ -4,11 +4,11 @@ use Rattle.nuc_base.specs.declared.kinds.Step.{Step}
 use Rattle.nuc_base.specs.declared.kinds.Exit.{Exit}
 use Rattle.device.specs.Devices.{Device}
 use Rattle.step_runner.specs.Entries.{Told}
-use Rattle.supervisor.specs.World.{World, At, owner}
-use Rattle.supervisor.specs.Turns.{IsNext, IsQuiet}
-use Rattle.supervisor.specs.Acts.{HasStart, OwesAt}
-use Rattle.supervisor.specs.Answers.{has_answered, living_numbers}
-use Rattle.supervisor.specs.Events.{handed_at, told_at}
+use Rattle.components.specs.World.{World, At, owner}
+use Rattle.components.specs.Turns.{IsNext, IsQuiet}
+use Rattle.components.specs.Acts.{HasStart, OwesAt}
+use Rattle.components.specs.Answers.{has_answered, living_numbers}
+use Rattle.components.specs.Events.{handed_at, told_at}
 use Rattle.session.specs.Phases.{Phase, idle, booting, activating, backing, rolling, duty_of, present}
 use Rattle.session.specs.Places.{Place}
 use Rattle.session.specs.Waits.{comes_up, has_three}

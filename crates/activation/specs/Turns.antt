@@ -2,7 +2,7 @@
 use Rattle.std.specs.Prelude.{◌≡◌, ℕ, true, false, List, Option, Some, None}
 use Rattle.device.specs.Devices.{Device}
 use Rattle.step_runner.specs.Entries.{Told}
-use Rattle.supervisor.specs.World.{World, is_settled}
+use Rattle.components.specs.World.{World, is_settled}
 use Rattle.session.specs.Places.{Place}
 use Rattle.activation.specs.Runs.{Comes, Rests}
 use Rattle.activation.specs.declared.turns.Turned.{Turned}

@@ -7,7 +7,7 @@ ghost use Rattle.session.specs.Happenings.{Happening, records_of};
 ghost use Rattle.session.specs.Places.{Place, left_by};
 ghost use Rattle.driver.specs.Over.{Left, Lines};
 ghost use Rattle.driver.specs.Went.{Went};
-ghost use Rattle.ending_laws.specs.Drives.{Drives, Rises};
+ghost use Rattle.progress_laws.specs.Drives.{Drives, Rises};
 ghost use Rattle.activation.specs.Ended.{ActivatedLeft, ActivatedSame, InActivated};
 ghost use Rattle.activation.specs.Runs.{Comes, Quits};
 
@@ -20,7 +20,7 @@ use driver::Over;
 use edges::Sink;
 use gate_log::Journal;
 use step_runner::Runner;
-use supervisor::Supervise;
+use components::Supervise;
 
 /// What became of the plan's items.
 #[derive(Drop)]

@@ -4,7 +4,7 @@ ghost use Rattle.step_runner.specs.Entries.{Listed};
 ghost use Rattle.session.specs.Happenings.{Happening};
 ghost use Rattle.session.specs.Places.{Place, left_by};
 ghost use Rattle.driver.specs.Went.{Acts};
-ghost use Rattle.ending_laws.specs.Drives.{Drives, Falls, NotAbove};
+ghost use Rattle.progress_laws.specs.Drives.{Drives, Falls, NotAbove};
 ghost use Rattle.activation.specs.Did.{DidLeave};
 ghost use Rattle.activation.specs.declared.acts.Did.TheVariants as did;
 ghost use Rattle.activation.specs.Runs.{Runs};
@@ -13,7 +13,7 @@ use crate::laws::driving_laws;
 use crate::starts::start_step;
 use nuc_base::{Exit, Step};
 use step_runner::Runner;
-use supervisor::{Act, Supervise};
+use components::{Act, Supervise};
 
 /// What came of asking for the next act.
 #[derive(Clone, Copy, Debug, Drop, PartialEq, Eq)]

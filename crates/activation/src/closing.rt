@@ -5,12 +5,12 @@ ghost use Rattle.nuc_base.specs.declared.kinds.Outcome.TheVariants as outcomes;
 ghost use Rattle.deploy_state.specs.Fields.{rolled_outcome};
 ghost use Rattle.deploy_state.specs.States.{InActivating, InIdle, InRolling, activating_device, idle_device, rolling_device};
 ghost use Rattle.step_runner.specs.Entries.{Told};
-ghost use Rattle.supervisor.specs.World.{is_settled};
+ghost use Rattle.components.specs.World.{is_settled};
 ghost use Rattle.session.specs.Happenings.{Happening, records_of};
 ghost use Rattle.session.specs.Places.{Place, left_by};
 ghost use Rattle.driver.specs.Over.{Left, Lines};
 ghost use Rattle.driver.specs.Went.{Went};
-ghost use Rattle.ending_laws.specs.Drives.{Drives};
+ghost use Rattle.progress_laws.specs.Drives.{Drives};
 ghost use Rattle.activation.specs.Ended.{HasClosed};
 ghost use Rattle.activation.specs.Runs.{Quits, Rests};
 
@@ -20,7 +20,7 @@ use disk_model::Disk;
 use driver::Over;
 use edges::Sink;
 use gate_log::Journal;
-use supervisor::Supervise;
+use components::Supervise;
 
 /// Closes as successful, and prints the line.
 pub(crate) fn close_plan<D: Disk, J: Journal + Drop, K: Sink, S: Supervise>(

@@ -21,7 +21,7 @@ use driver::Over;
 use edges::{EdgeFault, Sink};
 use gate_log::Journal;
 use nuc_base::{Exit, Name, Step};
-use supervisor::Supervise;
+use components::Supervise;
 
 /// Prints the line of a failure that was recorded.
 fn tell_failed<J: Journal + Drop, K: Sink>(

@@ -7,7 +7,7 @@ ghost use Rattle.session.specs.Happenings.{Happening, records_of};
 ghost use Rattle.session.specs.Places.{Place, left_by};
 ghost use Rattle.driver.specs.Over.{Left, Lines};
 ghost use Rattle.driver.specs.Went.{Went};
-ghost use Rattle.ending_laws.specs.Drives.{Drives, Rises};
+ghost use Rattle.progress_laws.specs.Drives.{Drives, Rises};
 ghost use Rattle.activation.specs.Ended.{HasClosed};
 ghost use Rattle.activation.specs.Runs.{Comes, Quits};
 
@@ -21,7 +21,7 @@ use edges::Sink;
 use gate_log::Journal;
 use nuc_base::Outcome;
 use step_runner::Runner;
-use supervisor::Supervise;
+use components::Supervise;
 
 /// Brings the items of the set up again: until all are, or one failed three times, and closes the deployment as rolled
 /// back or as not able to, which it tells. Each failure is recorded and its line printed before the next act, and before

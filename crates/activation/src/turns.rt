@@ -7,9 +7,9 @@ ghost use Rattle.session.specs.Places.{Place, left_by};
 ghost use Rattle.driver.specs.Over.{Left, Lines};
 ghost use Rattle.driver.specs.Same.{IsSameDeployment};
 ghost use Rattle.driver.specs.Went.{Went};
-ghost use Rattle.supervisor.specs.Events.{later};
+ghost use Rattle.components.specs.Events.{later};
 ghost use Rattle.progress_laws.specs.Rank.{measure};
-ghost use Rattle.ending_laws.specs.Drives.{Drives, Falls, NotAbove, Rises};
+ghost use Rattle.progress_laws.specs.Drives.{Drives, Falls, NotAbove, Rises};
 ghost use Rattle.activation.specs.Coming.{InComing, coming_device, is_plan};
 ghost use Rattle.activation.specs.Did.{ActLeft};
 ghost use Rattle.activation.specs.Runs.{Comes, Quits, Runs};
@@ -25,7 +25,7 @@ use driver::Over;
 use edges::Sink;
 use gate_log::Journal;
 use step_runner::Runner;
-use supervisor::Supervise;
+use components::Supervise;
 
 /// What the turns of a stage come to.
 #[derive(Clone, Copy, Debug, Drop, PartialEq, Eq)]

@@ -2,19 +2,19 @@
 ghost use Rattle.std.specs.Prelude.{◌≡◌, ◌⊎◌, ◌≤◌, ◌<◌, ◌+◌, ◌^◌, ℕ, List};
 ghost use Rattle.device.specs.Devices.{Device};
 ghost use Rattle.step_runner.specs.Entries.{Listed};
-ghost use Rattle.supervisor.specs.Deadlines.{least_deadline, until};
+ghost use Rattle.components.specs.Deadlines.{least_deadline, until};
 ghost use Rattle.session.specs.Happenings.{Happening};
 ghost use Rattle.session.specs.Places.{Place, left_by};
 ghost use Rattle.driver.specs.Went.{Acts};
 ghost use Rattle.progress_laws.specs.Kept.{IsFalling};
 ghost use Rattle.progress_laws.specs.Rank.{rank};
 ghost use Rattle.progress_laws.specs.Time.{HasTime};
-ghost use Rattle.ending_laws.specs.Drives.{Drives, NotAbove};
+ghost use Rattle.progress_laws.specs.Drives.{Drives, NotAbove};
 ghost use Rattle.activation.specs.Runs.{Comes, MaySit};
 
 use crate::laws::driving_laws;
 use step_runner::{Runner, Waited};
-use supervisor::{Event, Supervise};
+use components::{Event, Supervise};
 
 /// How long is waited where there is no deadline, in milliseconds: then all is looked at again.
 const LOOK_AGAIN_MS: u64 = 1_000;

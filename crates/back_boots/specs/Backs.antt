@@ -6,7 +6,7 @@ use Rattle.device.specs.declared.staged.Stage.TheVariants as stages
 use Rattle.deploy_state.specs.States.{IsIn, backing_device, rolling_device}
 use Rattle.deploy_state.specs.declared.state.Backed.{Backed}
 use Rattle.deploy_state.specs.declared.state.Backed.TheVariants as backed
-use Rattle.supervisor.specs.declared.kinds.Prepared.{Prepared}
+use Rattle.components.specs.declared.kinds.Prepared.{Prepared}
 use Rattle.driver.specs.Made.{AreBootsOf}
 
 -- the bootstrap steps of the set that run again, by their places among these

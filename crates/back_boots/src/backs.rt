@@ -4,7 +4,7 @@ ghost use Rattle.nuc_base.specs.Faults.{Rose};
 ghost use Rattle.device.specs.declared.staged.Stage.TheVariants as stages;
 ghost use Rattle.deploy_state.specs.States.{InBacked, InBacking, IsIn, backed_device, backing_device};
 ghost use Rattle.step_runner.specs.Entries.{Listed};
-ghost use Rattle.supervisor.specs.World.{World};
+ghost use Rattle.components.specs.World.{World};
 ghost use Rattle.session.specs.Courses.{IsBare};
 ghost use Rattle.session.specs.Happenings.{Happening, records_of};
 ghost use Rattle.session.specs.Phases.{duty_of};
@@ -23,7 +23,7 @@ use driver::{Booted, Over, restart_of, step_at};
 use edges::Sink;
 use gate_log::Journal;
 use step_runner::Runner;
-use supervisor::Prepared;
+use components::Prepared;
 
 /// Whether no bootstrap step comes next.
 fn is_through<J: Journal + Drop>(state: &Backing<J>) -> bool

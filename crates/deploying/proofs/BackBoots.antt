@@ -15,9 +15,9 @@ use Rattle.deploy_state.specs.declared.state.Backed.{Backed}
 use Rattle.deploy_state.specs.declared.state.Backed.TheVariants as backed
 use Rattle.deploy_state.specs.declared.state.Loaded.{Loaded}
 use Rattle.step_runner.specs.Entries.{Told}
-use Rattle.supervisor.specs.Fitted.{Fitted}
-use Rattle.supervisor.specs.World.{World}
-use Rattle.supervisor.specs.declared.kinds.Prepared.{Prepared}
+use Rattle.components.specs.Fitted.{Fitted}
+use Rattle.components.specs.World.{World}
+use Rattle.components.specs.declared.kinds.Prepared.{Prepared}
 use Rattle.session.specs.Phases.{duty_in, duty_of}
 use Rattle.session.specs.Places.{Place}
 use Rattle.driver.specs.Booted.{BootsLeft}

@@ -10,9 +10,9 @@ use Rattle.device.specs.Lawful.{Lawful, Run, activated, applied, begun, boot_end
 use Rattle.step_runner.specs.Entries.{Told}
 use Rattle.step_runner.specs.declared.entries.Seen.{Seen}
 use Rattle.step_runner.specs.declared.entries.Seen.TheVariants as seen
-use Rattle.supervisor.specs.Fitted.{Fitted}
-use Rattle.supervisor.specs.World.{World}
-use Rattle.supervisor.specs.declared.kinds.Prepared.{Prepared}
+use Rattle.components.specs.Fitted.{Fitted}
+use Rattle.components.specs.World.{World}
+use Rattle.components.specs.declared.kinds.Prepared.{Prepared}
 use Rattle.session.specs.Happenings.{Answer, Happening, Ran, Booted, Slept, Cut, Kept, Moved, Asked, Heard, Questioned, Changed, StopsAll, is_document, records_of}
 use Rattle.session.specs.Places.{Place, booted, cut_off, is_wait, leaves, left_by, noted, ran, takes_document}
 use Rattle.session.specs.Follows.{IsProper, MayFollow, MayTakeBy}

@@ -5,7 +5,7 @@ use Rattle.device.specs.Devices.{Device}
 use Rattle.device.specs.declared.staged.Stage.TheVariants as stages
 use Rattle.deploy_state.specs.States.{IsIn}
 use Rattle.step_runner.specs.Entries.{Told}
-use Rattle.supervisor.specs.World.{World}
+use Rattle.components.specs.World.{World}
 use Rattle.supervisor_laws.specs.Sound.{IsOrderly}
 use Rattle.session.specs.Happenings.{Happening}
 use Rattle.session.specs.Places.{Place, left_by}

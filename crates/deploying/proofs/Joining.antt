@@ -23,7 +23,7 @@ use Rattle.driver.specs.declared.over.Over.TheVariants as over
 use Rattle.driver.proofs.Acting.{grows_on}
 use Rattle.driver.proofs.Joins.{records_opened, went_on}
 use Rattle.driver.proofs.Told.{all_told, left_joined, lines_at_joined}
-use Rattle.giving_up.specs.Kills.{KeepsRest}
+use Rattle.stage_changes.specs.Kills.{KeepsRest}
 use Rattle.deploying.specs.Driven.{Course}
 
 -- ---- two parts, of which the first one goes on

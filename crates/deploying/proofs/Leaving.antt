@@ -4,7 +4,7 @@ use Rattle.std.proofs.Common.{◌≡◌, ◌∙◌, sym, ap, subst, append_assoc
 use Rattle.records.specs.Stored.{Record, Closed}
 use Rattle.nuc_base.specs.declared.kinds.Outcome.{Outcome}
 use Rattle.step_runner.specs.Entries.{Told}
-use Rattle.supervisor.specs.World.{World}
+use Rattle.components.specs.World.{World}
 use Rattle.session.specs.Happenings.{Happening, records_of}
 use Rattle.session.specs.Places.{Place}
 use Rattle.session.proofs.Joined.{records-append}

@@ -11,7 +11,7 @@ use Rattle.deploy_state.specs.States.{InBrokeOff, IsIn, backing_device, broken_d
 use Rattle.deploy_state.specs.declared.state.BrokeOff.{BrokeOff}
 use Rattle.deploy_state.specs.declared.state.BrokeOff.TheVariants as broken
 use Rattle.step_runner.specs.Entries.{Told}
-use Rattle.supervisor.specs.World.{World}
+use Rattle.components.specs.World.{World}
 use Rattle.supervisor_laws.specs.Sound.{IsOrderly}
 use Rattle.session.specs.Phases.{Crew, Phase, activating, backing, booting, duty_in, duty_of, idle, is_idle, leaving, rolling}
 use Rattle.session.specs.Places.{Place}

@@ -2,8 +2,8 @@
 use Rattle.std.specs.Prelude.{List}
 use Rattle.std.proofs.Common.{sym, subst}
 use Rattle.device.specs.Devices.{Device}
-use Rattle.supervisor.specs.Fitted.{Fitted}
-use Rattle.supervisor.specs.declared.kinds.Prepared.{Prepared}
+use Rattle.components.specs.Fitted.{Fitted}
+use Rattle.components.specs.declared.kinds.Prepared.{Prepared}
 use Rattle.driver.specs.Same.{IsSameDeployment}
 use Rattle.driver.proofs.Same.{same_broken}
 use Rattle.preparation.proofs.Serving.{ready_on}

@@ -6,8 +6,8 @@ use Rattle.deploy_state.specs.declared.state.Backed.{Backed}
 use Rattle.deploy_state.specs.declared.state.Backed.TheVariants as backed
 use Rattle.deploy_state.specs.declared.state.Loaded.{Loaded}
 use Rattle.deploy_state.specs.declared.state.Loaded.TheVariants as loaded
-use Rattle.supervisor.specs.Fitted.{Fitted}
-use Rattle.supervisor.specs.declared.kinds.Prepared.{Prepared}
+use Rattle.components.specs.Fitted.{Fitted}
+use Rattle.components.specs.declared.kinds.Prepared.{Prepared}
 use Rattle.stage_changes.specs.Enters.{AreReady}
 use Rattle.preparation.specs.Readied.{AreReadiedFor}
 

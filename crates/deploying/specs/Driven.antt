@@ -5,7 +5,7 @@ use Rattle.disk_model.specs.Disk.{Image}
 use Rattle.deploy_state.specs.States.{InIdle, InLoaded, idle_device, loaded_device}
 use Rattle.step_runner.specs.Entries.{Told}
 use Rattle.step_runner.specs.declared.entries.RunnerEntry.{RunnerEntry}
-use Rattle.supervisor.specs.World.{World}
+use Rattle.components.specs.World.{World}
 use Rattle.session.specs.Courses.{IsBare}
 use Rattle.session.specs.Happenings.{Happening, records_of}
 use Rattle.session.specs.Places.{Place, left_by}

@@ -1,5 +1,5 @@
 //! The bootstraps of the set run again, and then its items come up.
-ghost use Rattle.ending_laws.specs.Drives.{Drives};
+ghost use Rattle.progress_laws.specs.Drives.{Drives};
 ghost use Rattle.std.specs.Prelude.{◌≡◌, [], ℕ, List, IsTrue, IfOk, OnErr, IsErrOf, true};
 ghost use Rattle.nuc_base.specs.Faults.{Rose};
 ghost use Rattle.back_boots.specs.Backs.{IsStillBacking};
@@ -23,7 +23,7 @@ use gate_log::Journal;
 use nuc_base::Outcome;
 use stage_changes::close_backing;
 use step_runner::Runner;
-use supervisor::{Prepared, Supervise};
+use components::{Prepared, Supervise};
 
 fn paused<J: Journal + Drop>(backed: Backed<J>) -> Loaded<J>
     ensures { result ≡ paused_of backed }

@@ -1,5 +1,5 @@
 //! The bootstraps of the plan run, and then its items come up.
-ghost use Rattle.ending_laws.specs.Drives.{Drives};
+ghost use Rattle.progress_laws.specs.Drives.{Drives};
 ghost use Rattle.std.specs.Prelude.{◌≡◌, [], ℕ, List, IsTrue, IfOk, OnErr, IsErrOf, None, true, false};
 ghost use Rattle.nuc_base.specs.Faults.{Rose};
 ghost use Rattle.deploy_state.specs.Fields.{has_failed};
@@ -29,7 +29,7 @@ use nuc_base::Outcome;
 use preparation::Readied;
 use stage_changes::{begin_items, break_off_booting, is_to_roll_back, keep_booting};
 use step_runner::Runner;
-use supervisor::{Prepared, Supervise};
+use components::{Prepared, Supervise};
 
 /// The deployment is rolled back.
 fn break_off<D: Disk, J: Journal + Drop, K: Sink, R: Runner, S: Supervise>(

@@ -1,5 +1,5 @@
 //! A component failed three times: the deployment turns back, or stays as it is.
-ghost use Rattle.ending_laws.specs.Drives.{Drives};
+ghost use Rattle.progress_laws.specs.Drives.{Drives};
 ghost use Rattle.std.specs.Prelude.{◌≡◌, [], ℕ, List, IsTrue, IfOk, OnErr, IsErrOf, true, false};
 ghost use Rattle.nuc_base.specs.Faults.{Rose};
 ghost use Rattle.activation.specs.Ended.{HasBroken};
@@ -21,14 +21,14 @@ use disk_model::Disk;
 use driver::Over;
 use edges::Sink;
 use gate_log::Journal;
-use giving_up::kill_all;
+use stage_changes::kill_all;
 use nuc_base::Outcome;
 use stage_changes::{
     break_off_activating, break_off_again, is_to_roll_back, keep_activating, keep_again,
 };
 use step_runner::Runner;
 use stopping::stop_all_components;
-use supervisor::{Prepared, Supervise};
+use components::{Prepared, Supervise};
 
 /// All components are stopped, and then the way back begins.
 fn stop_and_go_back<D: Disk, J: Journal + Drop, K: Sink, R: Runner, S: Supervise>(

@@ -1,5 +1,5 @@
 //! The plan's items come up.
-ghost use Rattle.ending_laws.specs.Drives.{Drives, Rises};
+ghost use Rattle.progress_laws.specs.Drives.{Drives, Rises};
 ghost use Rattle.std.specs.Prelude.{◌≡◌, [], ℕ, List, IsTrue, IfOk, OnErr, IsErrOf, false};
 ghost use Rattle.nuc_base.specs.Faults.{Rose};
 ghost use Rattle.activation.specs.Runs.{Comes};
@@ -22,11 +22,11 @@ use disk_model::Disk;
 use driver::Over;
 use edges::Sink;
 use gate_log::Journal;
-use giving_up::kill_all;
+use stage_changes::kill_all;
 use nuc_base::Outcome;
 use stage_changes::change_items;
 use step_runner::Runner;
-use supervisor::{Prepared, Supervise};
+use components::{Prepared, Supervise};
 
 /// Brings the plan's items up, to the close of the deployment, on its way back too.
 fn bring_up<D: Disk, J: Journal + Drop, K: Sink, R: Runner, S: Supervise>(

@@ -1,5 +1,5 @@
 //! A deployment is driven on from where a call before left it.
-ghost use Rattle.ending_laws.specs.Drives.{Drives};
+ghost use Rattle.progress_laws.specs.Drives.{Drives};
 ghost use Rattle.std.specs.Prelude.{◌≡◌, [], ℕ, List, IsTrue, IfOk, OnErr, IsErrOf, IsSome};
 ghost use Rattle.nuc_base.specs.Faults.{Rose};
 ghost use Rattle.deploy_state.specs.States.{InLoaded, loaded_device};
@@ -22,7 +22,7 @@ use edges::Sink;
 use gate_log::Journal;
 use preparation::Readied;
 use step_runner::Runner;
-use supervisor::Supervise;
+use components::Supervise;
 
 /// Drives the deployment on that is pending, from its recorded stage to its close. Nothing stands before.
 pub fn drive<D: Disk, J: Journal + Drop, K: Sink, R: Runner, S: Supervise>(

@@ -1,5 +1,5 @@
 //! The items of the set come up again.
-ghost use Rattle.ending_laws.specs.Drives.{Drives};
+ghost use Rattle.progress_laws.specs.Drives.{Drives};
 ghost use Rattle.std.specs.Prelude.{◌≡◌, [], ℕ, List, IsTrue, IfOk, OnErr, IsErrOf, false};
 ghost use Rattle.nuc_base.specs.Faults.{Rose};
 ghost use Rattle.deploy_state.specs.States.{InRolling, rolling_device};
@@ -19,11 +19,11 @@ use disk_model::Disk;
 use driver::Over;
 use edges::Sink;
 use gate_log::Journal;
-use giving_up::kill_all;
+use stage_changes::kill_all;
 use nuc_base::Outcome;
 use stage_changes::{change_items, close_again};
 use step_runner::Runner;
-use supervisor::Supervise;
+use components::Supervise;
 
 /// Brings the items of the set up, none of which failed three times.
 fn raise_set<D: Disk, J: Journal + Drop, K: Sink, R: Runner, S: Supervise>(

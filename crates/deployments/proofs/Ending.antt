@@ -22,7 +22,7 @@ use Rattle.artifact_store.specs.Holding.{AllHoldDevice, HoldsDevice}
 use Rattle.artifact_store.proofs.Walking.{start_spares}
 use Rattle.step_runner.specs.Entries.{Told}
 use Rattle.step_runner.specs.declared.entries.RunnerEntry.{RunnerEntry}
-use Rattle.supervisor.specs.World.{World}
+use Rattle.components.specs.World.{World}
 use Rattle.session.specs.Courses.{IsBare, IsEnd, is_restart, leaves_open}
 use Rattle.session.specs.Happenings.{Happening, Kept, records_of}
 use Rattle.session.specs.Once.{TakesOnce}
@@ -44,8 +44,8 @@ use Rattle.driver.proofs.Acting.{acts_none, grows_none}
 use Rattle.driver.proofs.Joins.{acted, records_opened, went_on}
 use Rattle.driver.proofs.Told.{all_told, left_joined, lines_at_joined, stops_last}
 use Rattle.activation.specs.Ended.{ClosesAs}
-use Rattle.acceptance.specs.Accepts.{IsOpen}
-use Rattle.acceptance.proofs.Opening.{accept_went}
+use Rattle.preparation.specs.Accepts.{IsOpen}
+use Rattle.preparation.proofs.Opening.{accept_went}
 use Rattle.intake.specs.Takes.{LieElsewhere}
 use Rattle.intake.specs.declared.fault.Declined.{Declined}
 use Rattle.intake.proofs.Staying.{hand_stays}

@@ -12,10 +12,10 @@ use Rattle.device.specs.Devices.{Device}
 use Rattle.step_runner.specs.Entries.{Told}
 use Rattle.step_runner.specs.declared.entries.Seen.{Seen}
 use Rattle.step_runner.specs.declared.entries.Seen.TheVariants as seen
-use Rattle.supervisor.specs.World.{World, Child, Part, is_over, is_stopped, owner, owner_from}
-use Rattle.supervisor.specs.Answers.{living_numbers}
-use Rattle.supervisor.specs.Turns.{owes}
-use Rattle.supervisor.specs.declared.kinds.Prepared.{Prepared}
+use Rattle.components.specs.World.{World, Child, Part, is_over, is_stopped, owner, owner_from}
+use Rattle.components.specs.Answers.{living_numbers}
+use Rattle.components.specs.Turns.{owes}
+use Rattle.components.specs.declared.kinds.Prepared.{Prepared}
 use Rattle.supervisor_laws.specs.Sound.{AreSound, Differ, HaveOwnNames, IsOrderly}
 use Rattle.session.specs.Phases.{Phase, activating, backing, booting, duty_of, earlier, idle, is_idle, leaving, rolling}
 use Rattle.session.specs.Happenings.{Happening, Ran, Booted, Slept, Cut, Kept, Moved, Asked, Heard, Questioned, Changed, StopsAll}
@@ -29,7 +29,7 @@ use Rattle.activation.specs.Ended.{HasClosed}
 use Rattle.stopping.specs.Stops.{HasStopped, MayStop}
 use Rattle.stage_changes.specs.Fails.{IsGivenUp}
 use Rattle.stage_changes.proofs.Closing.{no_other}
-use Rattle.acceptance.specs.Accepts.{IsOpen, IsOpened, crew_of}
+use Rattle.preparation.specs.Accepts.{IsOpen, IsOpened, crew_of}
 use Rattle.refusal_lines.specs.Statuses.{status_of_outcome}
 use Rattle.deployments.specs.Calls.{IsOrEdge}
 use Rattle.deployments.proofs.Statuses.{outcome_no_restart}

@@ -16,13 +16,13 @@ use Rattle.deploy_state.specs.States.{InBooting, InIdle, booting_device, idle_de
 use Rattle.deploy_state.specs.declared.state.Booting.{Booting}
 use Rattle.deploy_state.specs.declared.state.Idle.{Idle}
 use Rattle.step_runner.specs.Entries.{Told}
-use Rattle.supervisor.specs.World.{World}
-use Rattle.supervisor.specs.Fitted.{Fitted}
-use Rattle.supervisor.specs.declared.kinds.Prepared.{Prepared}
+use Rattle.components.specs.World.{World}
+use Rattle.components.specs.Fitted.{Fitted}
+use Rattle.components.specs.declared.kinds.Prepared.{Prepared}
 use Rattle.session.specs.Places.{Place}
-use Rattle.acceptance.specs.Accepts.{HasTaken, InTaken, IsFullAt, IsFullOrShort, IsOpened, IsTakenOf, Opened}
-use Rattle.acceptance.specs.declared.accepting.Taken.{Taken}
-use Rattle.acceptance.specs.declared.accepting.Taken.TheVariants as taken
+use Rattle.preparation.specs.Accepts.{HasTaken, InTaken, IsFullAt, IsFullOrShort, IsOpened, IsTakenOf, Opened}
+use Rattle.preparation.specs.declared.accepting.Taken.{Taken}
+use Rattle.preparation.specs.declared.accepting.Taken.TheVariants as taken
 use Rattle.preparation.specs.Readied.{AreReadiedFor}
 use Rattle.preparation.proofs.Serving.{accepted_ready}
 use Rattle.deployments.specs.Calls.{IsReadiedOn}

@@ -27,8 +27,8 @@ use Rattle.driver.specs.Went.{StandsForFront, StandsForMost, Went}
 use Rattle.driver.specs.declared.over.Booted.TheVariants as booted
 use Rattle.driver.specs.declared.over.Over.{Over}
 use Rattle.driver.specs.declared.over.Over.TheVariants as over
-use Rattle.supervisor.specs.Fitted.{Fitted}
-use Rattle.supervisor.specs.declared.kinds.Prepared.{Prepared}
+use Rattle.components.specs.Fitted.{Fitted}
+use Rattle.components.specs.declared.kinds.Prepared.{Prepared}
 use Rattle.activation.specs.Ended.{ClosesAs}
 use Rattle.preparation.specs.Readied.{IsReadied}
 use Rattle.deploying.specs.declared.driven.Driven.{Driven}

@@ -16,7 +16,7 @@ ghost use Rattle.session.specs.Happenings.{Happening};
 ghost use Rattle.session.specs.Places.{Place, left_by};
 ghost use Rattle.driver.specs.Went.{Acts};
 ghost use Rattle.activation.specs.Ended.{HasClosed};
-ghost use Rattle.ending_laws.specs.Drives.{Drives};
+ghost use Rattle.progress_laws.specs.Drives.{Drives};
 ghost use Rattle.stopping.specs.Stops.{MayStop};
 ghost use Rattle.refusal_lines.specs.Statuses.{status_of_outcome};
 ghost use Rattle.deployments.specs.Calls.{EndsClosed, SaysEnding, Spared};
@@ -28,13 +28,13 @@ use deploy_state::Idle;
 use disk_model::Disk;
 use edges::Sink;
 use gate_log::Journal;
-use giving_up::kill_all;
+use stage_changes::kill_all;
 use nuc_base::{Outcome, Status};
 use refusal_lines::outcome_status;
 use std::alloc::Global;
 use step_runner::Runner;
 use stopping::stop_all_components;
-use supervisor::Supervise;
+use components::Supervise;
 
 /// Stops all components, and answers how the deployment closed.
 fn stop<R: Runner, S: Supervise>(outcome: Outcome, runner: &mut R, supervisor: &mut S) -> Status

@@ -15,7 +15,7 @@ ghost use Rattle.session.specs.Places.{Place, left_by};
 ghost use Rattle.deploy_state.specs.States.{loaded_device};
 ghost use Rattle.driver.specs.Lines.{id_of};
 ghost use Rattle.driver.specs.Went.{Acts};
-ghost use Rattle.ending_laws.specs.Drives.{Drives};
+ghost use Rattle.progress_laws.specs.Drives.{Drives};
 ghost use Rattle.deploying.specs.Driven.{DrivenLeft, driven_device};
 ghost use Rattle.deployments.specs.Calls.{AnswersFor, EndsFor, IsOrEdge, SaysEnding, SaysLine, Spared};
 ghost use Rattle.deployments.specs.Endings.{Fails};
@@ -32,7 +32,7 @@ use gate_log::Journal;
 use nuc_base::Status;
 use std::alloc::Global;
 use step_runner::Runner;
-use supervisor::Supervise;
+use components::Supervise;
 
 /// Prints that the call ends for a restart or a reboot.
 fn say_again<J: Journal + Drop, K: Sink>(

@@ -30,7 +30,7 @@ use nuc_base::{NoMemory, Status};
 use preparation::{Readied, prepare};
 use std::alloc::Global;
 use step_runner::Runner;
-use supervisor::Supervise;
+use components::Supervise;
 
 /// All that the pending deployment needs up to its close.
 fn ready_again<S: Supervise>(

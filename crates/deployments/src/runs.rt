@@ -18,7 +18,7 @@ ghost use Rattle.deploy_state.specs.Turning.{start_of};
 ghost use Rattle.deployment_doc.specs.Sound.{AreSound};
 ghost use Rattle.step_runner.specs.Entries.{Listed};
 ghost use Rattle.session.specs.Places.{Place};
-ghost use Rattle.acceptance.specs.Accepts.{IsOpen};
+ghost use Rattle.preparation.specs.Accepts.{IsOpen};
 ghost use Rattle.intake.specs.Takes.{HasDiskFailed, HasLibraryFailed, LieElsewhere, TakesIn};
 ghost use Rattle.intake.specs.declared.fault.Declined.{Declined};
 ghost use Rattle.deployments.specs.Calls.{AllHoldBoth, Elsewhere, IsReadiedOn, Stays};
@@ -29,7 +29,7 @@ ghost use Rattle.deployments.specs.Sweeping.{LeavesNoStray};
 use crate::declines::{say_declined, say_full, say_refusal};
 use crate::ends::end_call;
 use crate::lines::say_disk;
-use acceptance::{Taken, accept_plan};
+use preparation::{Taken, accept_plan};
 use deploy_state::Idle;
 use deploying::boot;
 use deployment_doc::Document;
@@ -45,7 +45,7 @@ use preparation::{Readied, prepare};
 use records::Plan;
 use std::alloc::Global;
 use step_runner::Runner;
-use supervisor::Supervise;
+use components::Supervise;
 
 /// All that the plan needs, made ready before it is accepted.
 fn ready_for<J: Journal + Drop, S: Supervise>(

@@ -8,9 +8,9 @@ use Rattle.device.specs.Devices.{Device}
 use Rattle.device.specs.declared.staged.Stage.TheVariants as stages
 use Rattle.deploy_state.specs.States.{IsIn}
 use Rattle.step_runner.specs.Entries.{Told}
-use Rattle.supervisor.specs.World.{World, Child, owner, is_stopped}
-use Rattle.supervisor.specs.Events.{later}
-use Rattle.supervisor.specs.declared.kinds.Prepared.{Prepared}
+use Rattle.components.specs.World.{World, Child, owner, is_stopped}
+use Rattle.components.specs.Events.{later}
+use Rattle.components.specs.declared.kinds.Prepared.{Prepared}
 use Rattle.session.specs.Phases.{Duty, duty_of}
 use Rattle.session.specs.Places.{Place}
 use Rattle.session.specs.Follows.{Lives, MayBoot}

@@ -16,7 +16,7 @@ use Rattle.device.specs.declared.staged.Stage.TheVariants as stages
 use Rattle.deploy_state.specs.Fields.{CanBegin, IsBegun, next_name}
 use Rattle.deploy_state.specs.Hand.{MayMark}
 use Rattle.deploy_state.specs.States.{IsIn}
-use Rattle.supervisor.specs.declared.kinds.Prepared.{Prepared}
+use Rattle.components.specs.declared.kinds.Prepared.{Prepared}
 use Rattle.session.specs.Phases.{Duty, booting, has_boots, duty_in, duty_of, turn_of}
 use Rattle.session.specs.Places.{asks_restart}
 use Rattle.driver.specs.Booted.{restart_of}

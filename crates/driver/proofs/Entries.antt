@@ -14,11 +14,11 @@ use Rattle.step_runner.specs.declared.command.Command.{Command}
 use Rattle.step_runner.specs.declared.entries.RunnerEntry.{RunnerEntry}
 use Rattle.step_runner.specs.declared.entries.Seen.{Seen}
 use Rattle.step_runner.specs.declared.entries.Seen.TheVariants as seen
-use Rattle.supervisor.specs.World.{World, Child, is_stopped}
-use Rattle.supervisor.specs.Deadlines.{deadline_after, has_passed}
-use Rattle.supervisor.specs.Events.{later}
-use Rattle.supervisor.specs.Turns.{IsQuiet, owes}
-use Rattle.supervisor.specs.declared.kinds.Prepared.{Prepared}
+use Rattle.components.specs.World.{World, Child, is_stopped}
+use Rattle.components.specs.Deadlines.{deadline_after, has_passed}
+use Rattle.components.specs.Events.{later}
+use Rattle.components.specs.Turns.{IsQuiet, owes}
+use Rattle.components.specs.declared.kinds.Prepared.{Prepared}
 use Rattle.session.specs.Phases.{Duty, duty_of}
 use Rattle.session.specs.Happenings.{Happening, Booted, Slept, Asked}
 use Rattle.session.specs.Places.{Place, leaves, left_by, booted, noted, is_wait}

@@ -11,8 +11,8 @@ use Rattle.recipe_reader.specs.Environment.{Variable}
 use Rattle.recipe_reader.specs.Sound.{IsShort, ReadsSound}
 use Rattle.recipe_reader.specs.Steps.{IsLimit, IsStep, step_of}
 use Rattle.recipe_reader.specs.declared.recipe.StepDef.{StepDef}
-use Rattle.supervisor.specs.Made.{IsPrepared, IsStepAt}
-use Rattle.supervisor.specs.declared.kinds.Prepared.{Prepared}
+use Rattle.components.specs.Made.{IsPrepared, IsStepAt}
+use Rattle.components.specs.declared.kinds.Prepared.{Prepared}
 
 abbrev IsNear : Option ℕ → Type 0
 IsNear limit = IsSomeAnd limit (λ l. l ≤ 1000000000)

@@ -16,7 +16,7 @@ use Rattle.deploy_state.specs.States.{IsIn}
 use Rattle.device.specs.declared.staged.Stage.TheVariants as stages
 use Rattle.step_runner.specs.Entries.{Told}
 use Rattle.step_runner.specs.declared.entries.RunnerEntry.{RunnerEntry}
-use Rattle.supervisor.specs.World.{World}
+use Rattle.components.specs.World.{World}
 use Rattle.session.specs.Phases.{Crew, leaving, is_closing, duty_of}
 use Rattle.session.specs.Courses.{IsBare}
 use Rattle.session.specs.Happenings.{Happening, Kept, records_of}

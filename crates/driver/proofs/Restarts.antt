@@ -7,7 +7,7 @@ use Rattle.nuc_base.specs.declared.kinds.Exit.TheVariants as exits
 use Rattle.records.specs.Stored.{Record}
 use Rattle.device.specs.Devices.{Device}
 use Rattle.step_runner.specs.Entries.{Told}
-use Rattle.supervisor.specs.World.{World}
+use Rattle.components.specs.World.{World}
 use Rattle.session.specs.Phases.{duty_of}
 use Rattle.session.specs.Places.{Place}
 use Rattle.driver.specs.Booted.{BootsLeft, EndsWith, restart_of}

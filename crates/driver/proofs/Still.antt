@@ -2,11 +2,11 @@
 use Rattle.std.specs.Prelude.{ℕ, ◌+◌, ◌-◌, Bool, true, false, not, ◌&&◌, ◌||◌, List, [], ◌∷◌, Some, None, is_some}
 use Rattle.std.specs.List.{list_any}
 use Rattle.std.proofs.Common.{◌≡◌, refl, sym, ap}
-use Rattle.supervisor.specs.World.{World, Part, Child, is_childless, is_over, is_stopped, owner, owner_from}
-use Rattle.supervisor.specs.Deadlines.{least_deadline, least_of}
-use Rattle.supervisor.specs.Turns.{IsQuiet, may_act, may_begin, may_retry, may_stop, is_late, is_to_start}
-use Rattle.supervisor.specs.World.{has_orphan}
-use Rattle.supervisor.specs.Events.{later}
+use Rattle.components.specs.World.{World, Part, Child, is_childless, is_over, is_stopped, owner, owner_from}
+use Rattle.components.specs.Deadlines.{least_deadline, least_of}
+use Rattle.components.specs.Turns.{IsQuiet, may_act, may_begin, may_retry, may_stop, is_late, is_to_start}
+use Rattle.components.specs.World.{has_orphan}
+use Rattle.components.specs.Events.{later}
 use Rattle.session.specs.Phases.{Phase, idle, booting, activating, backing, rolling, has_boots, Crew, leaving}
 use Rattle.session.specs.Places.{Place}
 use Rattle.session.specs.Waits.{has_work, wait_limit}

@@ -14,7 +14,7 @@ use Rattle.device.specs.Lawful.{begun, boot_ended, goes_on, next_boot, on_pendin
 use Rattle.device.specs.declared.staged.Stage.TheVariants as stages
 use Rattle.deploy_state.specs.Fields.{has_failed, next_name}
 use Rattle.deploy_state.specs.States.{IsIn}
-use Rattle.supervisor.specs.declared.kinds.Prepared.{Prepared}
+use Rattle.components.specs.declared.kinds.Prepared.{Prepared}
 use Rattle.session.specs.Phases.{Duty, duty_of}
 use Rattle.driver.specs.Made.{AreBootsOf, AreMade, IsBootOf, IsTurn}
 use Rattle.driver.specs.Turns.{Turns, steps_left}

@@ -6,7 +6,7 @@ use Rattle.nuc_base.specs.declared.kinds.Exit.TheVariants as exits
 use Rattle.records.specs.Stored.{Record, BootEnded}
 use Rattle.device.specs.Devices.{Device}
 use Rattle.step_runner.specs.Entries.{Told}
-use Rattle.supervisor.specs.World.{World}
+use Rattle.components.specs.World.{World}
 use Rattle.session.specs.Phases.{duty_of}
 use Rattle.session.specs.Places.{Place}
 use Rattle.deploy_state.specs.Fields.{has_failed}

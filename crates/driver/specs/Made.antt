@@ -5,8 +5,8 @@ use Rattle.nuc_base.specs.declared.kinds.Step.TheVariants as step
 use Rattle.records.specs.Stored.{Item}
 use Rattle.records.specs.declared.record.Origin.{Origin}
 use Rattle.device.specs.Devices.{Device}
-use Rattle.supervisor.specs.Made.{IsStepAt}
-use Rattle.supervisor.specs.declared.kinds.Prepared.{Prepared}
+use Rattle.components.specs.Made.{IsStepAt}
+use Rattle.components.specs.declared.kinds.Prepared.{Prepared}
 use Rattle.session.specs.Phases.{duty_of}
 
 -- the bootstrap step of the item of this name among these, with its texts expanded

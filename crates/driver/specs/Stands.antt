@@ -2,8 +2,8 @@
 use Rattle.std.specs.Prelude.{◌≡◌, ℕ, true, false, List, None}
 use Rattle.device.specs.Devices.{Device}
 use Rattle.step_runner.specs.Entries.{Told}
-use Rattle.supervisor.specs.World.{World, is_stopped}
-use Rattle.supervisor.specs.Turns.{IsQuiet}
+use Rattle.components.specs.World.{World, is_stopped}
+use Rattle.components.specs.Turns.{IsQuiet}
 use Rattle.session.specs.Phases.{leaving}
 use Rattle.session.specs.Places.{Place}
 use Rattle.session.specs.Courses.{Stands}

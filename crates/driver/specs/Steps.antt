@@ -8,9 +8,9 @@ use Rattle.recipe_reader.specs.declared.recipe.Skip.TheVariants as skips
 use Rattle.step_runner.specs.Entries.{Told}
 use Rattle.step_runner.specs.declared.entries.Seen.{Seen}
 use Rattle.step_runner.specs.declared.entries.Seen.TheVariants as seen
-use Rattle.supervisor.specs.Events.{later}
-use Rattle.supervisor.specs.World.{World}
-use Rattle.supervisor.specs.declared.kinds.Prepared.{Prepared}
+use Rattle.components.specs.Events.{later}
+use Rattle.components.specs.World.{World}
+use Rattle.components.specs.declared.kinds.Prepared.{Prepared}
 use Rattle.session.specs.Phases.{duty_of, has_boots}
 use Rattle.session.specs.Places.{Place}
 use Rattle.session.specs.Follows.{MayBoot}

@@ -4,7 +4,7 @@ ghost use Rattle.nuc_base.specs.Faults.{Rose};
 ghost use Rattle.device.specs.declared.staged.Stage.TheVariants as stages;
 ghost use Rattle.deploy_state.specs.States.{InBooting, IsIn, booting_device};
 ghost use Rattle.step_runner.specs.Entries.{Listed};
-ghost use Rattle.supervisor.specs.World.{World};
+ghost use Rattle.components.specs.World.{World};
 ghost use Rattle.session.specs.Courses.{IsBare};
 ghost use Rattle.session.specs.Happenings.{Happening, records_of};
 ghost use Rattle.session.specs.Phases.{duty_of};
@@ -23,7 +23,7 @@ use edges::Sink;
 use gate_log::Journal;
 use nuc_base::Exit;
 use step_runner::Runner;
-use supervisor::Prepared;
+use components::Prepared;
 
 /// Whether no bootstrap step comes next.
 fn is_through<J: Journal + Drop>(state: &Booting<J>) -> bool

@@ -2,8 +2,8 @@
 ghost use Rattle.std.specs.Prelude.{◌≡◌, ◌≤◌, ◌+◌, ◌-◌, ◌<◌, ◌^◌, [], ◌∷◌, ℕ, List, true, false, pos, Some};
 ghost use Rattle.std.specs.Option.{IsSomeAnd};
 ghost use Rattle.step_runner.specs.Entries.{Listed, Notes};
-ghost use Rattle.supervisor.specs.Deadlines.{deadline_after};
-ghost use Rattle.supervisor.specs.declared.kinds.Prepared.{Prepared as PreparedStep};
+ghost use Rattle.components.specs.Deadlines.{deadline_after};
+ghost use Rattle.components.specs.declared.kinds.Prepared.{Prepared as PreparedStep};
 ghost use Rattle.session.specs.Happenings.{Happening};
 ghost use Rattle.session.specs.Places.{Place, left_by};
 ghost use Rattle.session.specs.Phases.{duty_of};
@@ -14,7 +14,7 @@ ghost use Rattle.driver.specs.Went.{Acts};
 use nuc_base::Exit;
 use recipe_reader::Skip;
 use step_runner::{Runner, Waited};
-use supervisor::Prepared;
+use components::Prepared;
 
 /// What the probe says, which is asked once.
 pub fn probes<R: Runner>(runner: &mut R, skip: &Skip) -> bool

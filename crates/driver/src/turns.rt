@@ -7,7 +7,7 @@ ghost use Rattle.deploy_state.specs.States.{InBooting, booting_device};
 ghost use Rattle.edges.specs.Pieces.{Writes};
 ghost use Rattle.records.specs.Stored.{BootEnded};
 ghost use Rattle.step_runner.specs.Entries.{Listed, Told};
-ghost use Rattle.supervisor.specs.World.{World};
+ghost use Rattle.components.specs.World.{World};
 ghost use Rattle.session.specs.Courses.{IsBare};
 ghost use Rattle.session.specs.Happenings.{Happening, records_of};
 ghost use Rattle.session.specs.Phases.{duty_of};
@@ -31,7 +31,7 @@ use gate_log::Journal;
 use nuc_base::Exit;
 use recipe_reader::recipe_laws;
 use step_runner::Runner;
-use supervisor::Prepared;
+use components::Prepared;
 
 /// Records that the step begins whose turn it is.
 fn begin<D: Disk, J: Journal + Drop>(state: Booting<J>, disk: &mut D) -> Result<Booting<J>, Over>

@@ -18,7 +18,7 @@ use Rattle.device.specs.declared.staged.Stage.{Stage}
 use Rattle.device.specs.declared.staged.Stage.TheVariants as stages
 use Rattle.device.specs.Devices.{Device, Pending}
 use Rattle.device.specs.Lawful.{MayActivate, MayBegin, MayClose, MayCount, MayEnd, MayFail, accepted, activated, begun, boot_ended, boots_of, close_pending, count_failure, counted, failing_place, goes_on, has_gone_back, moved_on, next_boot, one_ended, rolled, turned_back}
-use Rattle.supervisor.specs.declared.kinds.Prepared.{Prepared}
+use Rattle.components.specs.declared.kinds.Prepared.{Prepared}
 use Rattle.device.proofs.SoundStages.{at}
 use Rattle.session.specs.Phases.{begins_stage, duty_in}
 use Rattle.session.specs.Happenings.{Happening, Booted, records_of}

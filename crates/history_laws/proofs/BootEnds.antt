@@ -15,8 +15,8 @@ use Rattle.device.specs.Lawful.{Allowed, MayCount, MayFail, Run, failing_place}
 use Rattle.step_runner.specs.declared.entries.RunnerEntry.{RunnerEntry}
 use Rattle.step_runner.specs.declared.entries.Seen.{Seen}
 use Rattle.step_runner.specs.declared.entries.Seen.TheVariants as seen
-use Rattle.supervisor.specs.World.{Child}
-use Rattle.supervisor.specs.declared.kinds.Prepared.{Prepared}
+use Rattle.components.specs.World.{Child}
+use Rattle.components.specs.declared.kinds.Prepared.{Prepared}
 use Rattle.session.specs.Phases.{duty_in, duty_of, has_boots}
 use Rattle.session.specs.Courses.{IsStart}
 use Rattle.session.specs.Happenings.{Happening, Booted, Cut, Kept, records_of}

@@ -14,14 +14,14 @@ use Rattle.lifecycle.specs.declared.kinds.LifeAct.{LifeAct}
 use Rattle.lifecycle.specs.declared.kinds.LifeAct.TheVariants as act
 use Rattle.lifecycle.specs.declared.kinds.LifeEvent.{LifeEvent}
 use Rattle.lifecycle.specs.declared.kinds.LifeEvent.TheVariants as event
-use Rattle.supervisor.specs.Changes.{Coming, coming_again, coming_for, counted, fate, forgetting, fresh_part, is_replaced, is_replacing, leaving, meeting, newcomers, placed, replanned, standing, staying, with_newcomers, with_texts, changed_to}
-use Rattle.supervisor.specs.Fitted.{Fitted, is_before, is_same_item, name_of}
-use Rattle.supervisor.specs.Lives.{lived, lived_at, drops_at, replaced}
-use Rattle.supervisor.specs.Marks.{Flagged, flagged, flagged_at, grown, marked, may_replan, may_restart, reaching, restarted}
-use Rattle.supervisor.specs.Rows.{completed_from, is_spared_by, owed_after, succeeds_from}
-use Rattle.supervisor.specs.Turns.{owes}
-use Rattle.supervisor.specs.World.{World, Part, changed_at, is_again, is_gone, is_over, part_name, place_from, stops_for_good, under_way}
-use Rattle.supervisor.proofs.Lived.{lived_none, lived_row, settled_part}
+use Rattle.components.specs.Changes.{Coming, coming_again, coming_for, counted, fate, forgetting, fresh_part, is_replaced, is_replacing, leaving, meeting, newcomers, placed, replanned, standing, staying, with_newcomers, with_texts, changed_to}
+use Rattle.components.specs.Fitted.{Fitted, is_before, is_same_item, name_of}
+use Rattle.components.specs.Lives.{lived, lived_at, drops_at, replaced}
+use Rattle.components.specs.Marks.{Flagged, flagged, flagged_at, grown, marked, may_replan, may_restart, reaching, restarted}
+use Rattle.components.specs.Rows.{completed_from, is_spared_by, owed_after, succeeds_from}
+use Rattle.components.specs.Turns.{owes}
+use Rattle.components.specs.World.{World, Part, changed_at, is_again, is_gone, is_over, part_name, place_from, stops_for_good, under_way}
+use Rattle.components.proofs.Lived.{lived_none, lived_row, settled_part}
 use Rattle.history_laws.proofs.Facts.{no_some, some_same}
 
 -- ---- debts

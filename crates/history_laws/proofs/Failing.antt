@@ -7,8 +7,8 @@ use Rattle.nuc_base.specs.declared.kinds.Exit.{Exit}
 use Rattle.nuc_base.specs.declared.kinds.Step.{Step}
 use Rattle.records.specs.Stored.{Record, BootEnded, StepFailed}
 use Rattle.device.specs.Lawful.{goes_on}
-use Rattle.supervisor.specs.Turns.{owes}
-use Rattle.supervisor.specs.World.{Part, At, part_name}
+use Rattle.components.specs.Turns.{owes}
+use Rattle.components.specs.World.{Part, At, part_name}
 use Rattle.session.specs.Happenings.{Happening, Ran, Booted, Kept, records_of}
 use Rattle.session.specs.Places.{Place, left_by}
 use Rattle.history_laws.specs.Stood.{IsHistory, Stood}

@@ -6,7 +6,7 @@ use Rattle.device.specs.Devices.{Device}
 use Rattle.device.specs.Lawful.{Allowed, Lawful, Run, applied}
 use Rattle.step_runner.specs.declared.entries.Seen.{Seen}
 use Rattle.step_runner.specs.declared.entries.Seen.TheVariants as seen
-use Rattle.supervisor.specs.declared.kinds.Prepared.{Prepared}
+use Rattle.components.specs.declared.kinds.Prepared.{Prepared}
 use Rattle.session.specs.Happenings.{Happening, Booted, Cut, Kept, records_of}
 use Rattle.session.specs.Places.{Place, leaves, left_by, booted, cut_off}
 use Rattle.session.specs.Follows.{IsProper, MayKeep}

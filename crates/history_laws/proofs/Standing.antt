@@ -5,7 +5,7 @@ use Rattle.step_runner.specs.declared.command.Command.{Command}
 use Rattle.step_runner.specs.declared.entries.RunnerEntry.{RunnerEntry}
 use Rattle.step_runner.specs.declared.entries.Seen.{Seen}
 use Rattle.step_runner.specs.declared.entries.Seen.TheVariants as seen
-use Rattle.supervisor.specs.declared.kinds.Prepared.{Prepared}
+use Rattle.components.specs.declared.kinds.Prepared.{Prepared}
 use Rattle.session.specs.Phases.{duty_of}
 use Rattle.session.specs.Happenings.{Happening, Ran, Booted, Kept, records_of}
 use Rattle.session.specs.Places.{Place, left_by}

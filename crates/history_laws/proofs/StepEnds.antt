@@ -15,12 +15,12 @@ use Rattle.lifecycle.specs.declared.kinds.LifeEvent.TheVariants as event
 use Rattle.step_runner.specs.declared.entries.RunnerEntry.{RunnerEntry}
 use Rattle.step_runner.specs.declared.entries.Seen.{Seen}
 use Rattle.step_runner.specs.declared.entries.Seen.TheVariants as seen
-use Rattle.supervisor.specs.Events.{answered_at, gone_by, is_late_child, is_orphan_at, kill_event, kill_event_at, told_at, with_child}
-use Rattle.supervisor.specs.Lives.{lived_at}
-use Rattle.supervisor.specs.Turns.{owes}
-use Rattle.supervisor.specs.World.{World, Part, At, changed_at, child_gone, owner, part_name, place_of, without_child}
-use Rattle.supervisor.specs.declared.kinds.Prepared.{Prepared}
-use Rattle.supervisor.proofs.Moved.{move_owes}
+use Rattle.components.specs.Events.{answered_at, gone_by, is_late_child, is_orphan_at, kill_event, kill_event_at, told_at, with_child}
+use Rattle.components.specs.Lives.{lived_at}
+use Rattle.components.specs.Turns.{owes}
+use Rattle.components.specs.World.{World, Part, At, changed_at, child_gone, owner, part_name, place_of, without_child}
+use Rattle.components.specs.declared.kinds.Prepared.{Prepared}
+use Rattle.components.proofs.Moved.{move_owes}
 use Rattle.session.specs.Phases.{Duty, duty_of}
 use Rattle.session.specs.Courses.{IsStart}
 use Rattle.session.specs.Happenings.{Happening, Ran, Booted, Cut, Kept, Moved, Heard, Changed, StopsAll, records_of}
@@ -30,7 +30,7 @@ use Rattle.history_laws.specs.Ends.{FailuresEnded, HasStepEnd, IsStepEnd, is_ste
 use Rattle.history_laws.proofs.Growing.{none_more}
 use Rattle.history_laws.proofs.Histories.{history_at}
 use Rattle.history_laws.proofs.Debts.{Debt, Named, Owes, OwesNoMore, changed_same, changed_told, debt, debts, each_same, forgetting_debt, leaving_debt, lived_at_debt, none_owed, owed_any, owes_named, place_named, same_debts, told_gone, told_no_more}
-use Rattle.supervisor.specs.Changes.{forgetting, leaving}
+use Rattle.components.specs.Changes.{forgetting, leaving}
 use Rattle.history_laws.proofs.Facts.{no_some, some_same}
 
 -- ---- what an entry makes owed

@@ -9,10 +9,10 @@ use Rattle.device.specs.Lawful.{goes_on}
 use Rattle.step_runner.specs.declared.entries.RunnerEntry.{RunnerEntry}
 use Rattle.step_runner.specs.declared.entries.Seen.{Seen}
 use Rattle.step_runner.specs.declared.entries.Seen.TheVariants as seen
-use Rattle.supervisor.specs.World.{World, At, owner, part_name}
-use Rattle.supervisor.specs.Deadlines.{has_passed}
-use Rattle.supervisor.specs.Events.{is_late_child}
-use Rattle.supervisor.specs.declared.kinds.Prepared.{Prepared}
+use Rattle.components.specs.World.{World, At, owner, part_name}
+use Rattle.components.specs.Deadlines.{has_passed}
+use Rattle.components.specs.Events.{is_late_child}
+use Rattle.components.specs.declared.kinds.Prepared.{Prepared}
 use Rattle.session.specs.Phases.{duty_of}
 use Rattle.session.specs.Happenings.{Happening, Ran, Booted, Kept, records_of}
 use Rattle.session.specs.Places.{Place, left_by}

@@ -13,8 +13,8 @@ use Rattle.device.specs.Sound.{IsSound}
 use Rattle.step_runner.specs.declared.command.Command.{Command}
 use Rattle.step_runner.specs.declared.entries.RunnerEntry.{RunnerEntry}
 use Rattle.step_runner.specs.declared.entries.Seen.TheVariants as seen
-use Rattle.supervisor.specs.Made.{IsStepAt}
-use Rattle.supervisor.specs.declared.kinds.Prepared.{Prepared}
+use Rattle.components.specs.Made.{IsStepAt}
+use Rattle.components.specs.declared.kinds.Prepared.{Prepared}
 use Rattle.session.specs.Phases.{begins_stage, duty_of}
 use Rattle.session.specs.Happenings.{Happening, Ran, Booted, records_of}
 use Rattle.session.specs.Places.{Place, left_by}

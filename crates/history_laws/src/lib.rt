@@ -6,7 +6,5 @@
 #![tactic(auto)]
 
 mod laws;
-mod rows;
 
 pub use laws::{nothing_starts_again, resumes_get_on, rollbacks_are_caused};
-pub use rows::rows_are_histories;

@@ -37,7 +37,7 @@ use Rattle.artifact_store.specs.declared.fault.SweepFault.{SweepFault}
 use Rattle.artifact_store.specs.declared.fault.SweepFault.TheVariants as sweep
 use Rattle.step_runner.specs.Entries.{Told as Heard}
 use Rattle.step_runner.specs.declared.entries.RunnerEntry.{RunnerEntry}
-use Rattle.supervisor.specs.World.{World}
+use Rattle.components.specs.World.{World}
 use Rattle.session.specs.Courses.{Stands}
 use Rattle.session.specs.Happenings.{records_of}
 use Rattle.session.specs.Follows.{Lives}
@@ -46,7 +46,7 @@ use Rattle.driver.specs.Stands.{IsFront}
 use Rattle.intake.specs.Takes.{LieElsewhere}
 use Rattle.intake.specs.declared.fault.Declined.{Declined}
 use Rattle.intake.proofs.Staying.{hand_stays}
-use Rattle.acceptance.specs.Accepts.{IsOpen}
+use Rattle.preparation.specs.Accepts.{IsOpen}
 use Rattle.deployments.specs.Calls.{Call, IsOrEdge, Spared, Stays}
 use Rattle.deployments.specs.Documents.{DrivesTaken, TakesRead}
 use Rattle.deployments.specs.Sweeping.{LeavesNoStray}

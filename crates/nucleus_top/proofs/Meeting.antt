@@ -14,7 +14,7 @@ use Rattle.session.specs.Happenings.{Happening, records_of}
 use Rattle.session.specs.Once.{TakesOnce}
 use Rattle.session.specs.Places.{Place}
 use Rattle.intake.specs.declared.fault.Declined.{Declined}
-use Rattle.met_laws.specs.Taken.{TakenAreMet}
+use Rattle.intake.specs.Taken.{TakenAreMet}
 use Rattle.deployments.specs.Calls.{Ends}
 use Rattle.deployments.specs.Documents.{Begins, Follows, TakesRead}
 use Rattle.deployments.specs.Endings.{Ending, ResumesBy}

@@ -28,7 +28,7 @@ use deployments::{resume as resume_on, run_document};
 use disk_model::Disk;
 use edges::{ReadFault, Sink, Source, read_up_to};
 use library_core::Library;
-use met_laws::plans_are_met;
+use intake::plans_are_met;
 use nuc_base::{Copied, DOCUMENT_LIMIT, Status};
 use std::alloc::Global;
 use step_runner::Runner;

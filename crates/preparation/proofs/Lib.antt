@@ -4,3 +4,4 @@ pub mod GoingBack
 pub mod Recipes
 pub mod Asked
 pub mod Serving
+pub mod Opening

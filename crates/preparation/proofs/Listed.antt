@@ -5,7 +5,7 @@ use Rattle.std.specs.Option.{IsSomeAnd}
 use Rattle.std.specs.List.{AllZip}
 use Rattle.records.specs.Stored.{Item}
 use Rattle.records.specs.declared.record.Origin.{Origin}
-use Rattle.supervisor.specs.declared.kinds.Prepared.{Prepared}
+use Rattle.components.specs.declared.kinds.Prepared.{Prepared}
 use Rattle.driver.specs.Made.{AreBootsOf, IsBootOf}
 
 pub listed : (o : Origin) (items : List Item) (names : List (List ℕ)) (made : List Prepared) → AllZip (IsBootOf o items) names made → AreBootsOf o items names made

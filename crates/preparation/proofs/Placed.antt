@@ -23,8 +23,8 @@ use Rattle.records.specs.declared.record.Origin.{Origin}
 use Rattle.device.specs.Lawful.{place, place_from}
 use Rattle.device.specs.Plans.{AreItems, HasRecipe, IsBoot, Rise, item_name}
 use Rattle.device.specs.Scopes.{HasScope}
-use Rattle.supervisor.specs.Made.{IsPrepared, IsPreparedFrom, IsStepAt}
-use Rattle.supervisor.specs.declared.kinds.Prepared.{Prepared}
+use Rattle.components.specs.Made.{IsPrepared, IsPreparedFrom, IsStepAt}
+use Rattle.components.specs.declared.kinds.Prepared.{Prepared}
 use Rattle.driver.specs.Made.{IsBootOf}
 
 -- ---- the place of a name

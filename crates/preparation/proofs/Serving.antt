@@ -11,9 +11,9 @@ use Rattle.device.specs.declared.staged.Stage.{Stage}
 use Rattle.device.specs.declared.staged.Stage.TheVariants as stages
 use Rattle.device.proofs.Course.{counted_plan, ended_plan}
 use Rattle.deploy_state.specs.States.{IsIn}
-use Rattle.supervisor.specs.Fitted.{Fitted}
-use Rattle.supervisor.specs.Made.{AreFitted}
-use Rattle.supervisor.specs.declared.kinds.Prepared.{Prepared}
+use Rattle.components.specs.Fitted.{Fitted}
+use Rattle.components.specs.Made.{AreFitted}
+use Rattle.components.specs.declared.kinds.Prepared.{Prepared}
 use Rattle.session.specs.Phases.{duty_in, duty_of}
 use Rattle.driver.specs.Made.{AreBootsOf, AreMade}
 use Rattle.preparation.specs.Readied.{AreReadiedFor, IsReadied}

@@ -5,9 +5,9 @@ use Rattle.records.specs.Stored.{Item, Plan}
 use Rattle.records.specs.declared.record.Origin.{Origin}
 use Rattle.device.specs.Devices.{Device}
 use Rattle.device.specs.Lawful.{goes_back}
-use Rattle.supervisor.specs.Fitted.{Fitted}
-use Rattle.supervisor.specs.Made.{AreFitted}
-use Rattle.supervisor.specs.declared.kinds.Prepared.{Prepared}
+use Rattle.components.specs.Fitted.{Fitted}
+use Rattle.components.specs.Made.{AreFitted}
+use Rattle.components.specs.declared.kinds.Prepared.{Prepared}
 use Rattle.driver.specs.Made.{AreBootsOf}
 
 -- the bootstraps of the plan whose item in the set has one that runs again on the way back, in the plan's order

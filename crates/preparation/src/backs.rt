@@ -10,7 +10,7 @@ use nuc_base::{List, Name, NoMemory};
 use recipe_reader::{Recipe, recipe_laws};
 use records::{Item, Origin};
 use std::alloc::Global;
-use supervisor::Prepared;
+use components::Prepared;
 
 /// Whether the item of this name has a bootstrap step that runs again on the way back.
 fn goes_back(alloc: Global, origin: &Origin, set: &[Item], name: &Name) -> Result<bool, NoMemory>

@@ -9,7 +9,7 @@ use nuc_base::{List, Name, NoMemory, Step};
 use recipe_reader::recipe_laws;
 use records::{Item, Origin};
 use std::alloc::Global;
-use supervisor::{Prepared, step_of};
+use components::{Prepared, step_of};
 
 /// The place of the first item with this name.
 pub(crate) fn place_of(items: &[Item], name: &Name) -> Option<u32>

@@ -2,7 +2,7 @@
 ghost use Rattle.std.specs.Prelude.{◌≤◌, map, IfOk};
 ghost use Rattle.records.specs.Stored.{item_view, plan_view};
 ghost use Rattle.device.specs.Plans.{AreItems, AreRegularItems, IsPlan};
-ghost use Rattle.supervisor.specs.Answers.{standing_count};
+ghost use Rattle.components.specs.Answers.{standing_count};
 ghost use Rattle.preparation.specs.Readied.{IsReadied};
 
 use crate::backs::prepare_backs;
@@ -10,7 +10,7 @@ use crate::boots::prepare_boots;
 use nuc_base::{List, NoMemory};
 use records::{Item, Origin, Plan};
 use std::alloc::Global;
-use supervisor::{Prepared, Supervise};
+use components::{Prepared, Supervise};
 
 /// What the steps of a deployment need that takes memory, made beforehand.
 #[derive(Drop)]

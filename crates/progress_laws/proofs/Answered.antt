@@ -2,9 +2,9 @@
 use Rattle.std.proofs.Common.{◌≡◌, ◌+◌, false, ℕ, suc, zero, List, [], ◌∷◌, length, true, refl, ap}
 use Rattle.std.specs.List.{AllByRecursion}
 use Rattle.nuc_base.specs.declared.kinds.Step.{Step}
-use Rattle.supervisor.specs.World.{World, Part, At, changed_at}
-use Rattle.supervisor.specs.Events.{answered_at, launched, started, with_child}
-use Rattle.supervisor.specs.Turns.{is_begun}
+use Rattle.components.specs.World.{World, Part, At, changed_at}
+use Rattle.components.specs.Events.{answered_at, launched, started, with_child}
+use Rattle.components.specs.Turns.{is_begun}
 use Rattle.progress_laws.specs.Rank.{part_rank, rank_of}
 
 abbrev pub unhanded : Part → Part

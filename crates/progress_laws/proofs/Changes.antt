@@ -11,11 +11,11 @@ use Rattle.lifecycle.specs.declared.kinds.State.{State}
 use Rattle.lifecycle.specs.declared.kinds.State.TheVariants as state
 use Rattle.lifecycle.specs.declared.kinds.After.{After}
 use Rattle.lifecycle.specs.declared.kinds.After.TheVariants as after
-use Rattle.supervisor.specs.Fitted.{Fitted, name_of, steps_of, is_before, is_same_item}
-use Rattle.supervisor.specs.World.{World, Part, Child, part_name, is_again, is_gone, is_over, under_way, stops_for_good}
-use Rattle.supervisor.specs.Marks.{Flagged, flagged, reaching, marked, may_replan}
-use Rattle.supervisor.specs.Answers.{standing_count}
-use Rattle.supervisor.specs.Changes.{Coming, counted, coming_for, fresh_part, leaving, is_replaced, with_texts, replacing, staying, coming_again, meeting, fate, standing, is_replacing, replanned, newcomers, placed, with_newcomers, changed_to}
+use Rattle.components.specs.Fitted.{Fitted, name_of, steps_of, is_before, is_same_item}
+use Rattle.components.specs.World.{World, Part, Child, part_name, is_again, is_gone, is_over, under_way, stops_for_good}
+use Rattle.components.specs.Marks.{Flagged, flagged, reaching, marked, may_replan}
+use Rattle.components.specs.Answers.{standing_count}
+use Rattle.components.specs.Changes.{Coming, counted, coming_for, fresh_part, leaving, is_replaced, with_texts, replacing, staying, coming_again, meeting, fate, standing, is_replacing, replanned, newcomers, placed, with_newcomers, changed_to}
 use Rattle.supervisor_laws.specs.Sound.{may_ask}
 use Rattle.progress_laws.specs.Kept.{IsKeptPart, IsRunnable, IsComing, AreKept, HaveSameSteps, is_timed}
 use Rattle.progress_laws.proofs.Lists.{either, clash}

@@ -6,11 +6,11 @@ use Rattle.nuc_base.specs.declared.kinds.Step.{Step}
 use Rattle.nuc_base.specs.declared.kinds.Exit.{Exit}
 use Rattle.lifecycle.specs.declared.kinds.LifeEvent.{LifeEvent}
 use Rattle.lifecycle.specs.declared.kinds.LifeEvent.TheVariants as event
-use Rattle.supervisor.specs.Fitted.{Fitted, name_of}
-use Rattle.supervisor.specs.World.{World, Part, Child, At, changed_at, part_name, is_leaving, owner, without_child, child_gone}
-use Rattle.supervisor.specs.Marks.{flagged_at, reaching, restarted, may_restart}
-use Rattle.supervisor.specs.Lives.{lived, lived_at, drops_at as drops_in}
-use Rattle.supervisor.specs.Events.{ended, gone_by, is_orphan_at}
+use Rattle.components.specs.Fitted.{Fitted, name_of}
+use Rattle.components.specs.World.{World, Part, Child, At, changed_at, part_name, is_leaving, owner, without_child, child_gone}
+use Rattle.components.specs.Marks.{flagged_at, reaching, restarted, may_restart}
+use Rattle.components.specs.Lives.{lived, lived_at, drops_at as drops_in}
+use Rattle.components.specs.Events.{ended, gone_by, is_orphan_at}
 use Rattle.progress_laws.specs.Kept.{IsKept, IsKeptPart, AreKept, IsComing, MayBefall, newest}
 use Rattle.progress_laws.proofs.Items.{by_lived}
 use Rattle.progress_laws.proofs.Sums.{firsts, firsts_reaching, firsts_at, at_map, at_both, twice}

@@ -12,9 +12,9 @@ use Rattle.lifecycle.specs.declared.kinds.After.{After}
 use Rattle.lifecycle.specs.declared.kinds.After.TheVariants as after
 use Rattle.lifecycle.specs.declared.kinds.LifeEvent.{LifeEvent}
 use Rattle.lifecycle.specs.declared.kinds.LifeEvent.TheVariants as event
-use Rattle.supervisor.specs.Fitted.{Fitted}
-use Rattle.supervisor.specs.World.{Part, Child, under_way}
-use Rattle.supervisor.specs.Lives.{lived}
+use Rattle.components.specs.Fitted.{Fitted}
+use Rattle.components.specs.World.{Part, Child, under_way}
+use Rattle.components.specs.Lives.{lived}
 use Rattle.progress_laws.specs.Kept.{MayBefall}
 use Rattle.supervisor_laws.specs.Sound.{may_ask}
 use Rattle.progress_laws.specs.Rank.{core, gain}

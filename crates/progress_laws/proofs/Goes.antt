@@ -13,11 +13,11 @@ use Rattle.lifecycle.specs.declared.kinds.State.{State}
 use Rattle.lifecycle.specs.declared.kinds.State.TheVariants as state
 use Rattle.lifecycle.specs.declared.kinds.After.{After}
 use Rattle.lifecycle.specs.declared.kinds.LifeEvent.TheVariants as event
-use Rattle.supervisor.specs.Fitted.{Fitted}
-use Rattle.supervisor.specs.World.{World, Part, Child, part_name, is_to_stop, is_over, has_orphan, is_leaving, is_settled, has_broken, is_stopped, stands_up, is_up, is_broken, is_orphan, is_gone, is_again, under_way}
-use Rattle.supervisor.specs.Deadlines.{has_passed, earlier, child_deadline, least_of}
-use Rattle.supervisor.specs.Answers.{has_answered}
-use Rattle.supervisor.specs.Turns.{IsQuiet, may_act, may_begin, may_retry, may_stop, is_late, is_unstarted, is_to_start, is_begun, is_met, is_held, serves_softly}
+use Rattle.components.specs.Fitted.{Fitted}
+use Rattle.components.specs.World.{World, Part, Child, part_name, is_to_stop, is_over, has_orphan, is_leaving, is_settled, has_broken, is_stopped, stands_up, is_up, is_broken, is_orphan, is_gone, is_again, under_way}
+use Rattle.components.specs.Deadlines.{has_passed, earlier, child_deadline, least_of}
+use Rattle.components.specs.Answers.{has_answered}
+use Rattle.components.specs.Turns.{IsQuiet, may_act, may_begin, may_retry, may_stop, is_late, is_unstarted, is_to_start, is_begun, is_met, is_held, serves_softly}
 use Rattle.progress_laws.specs.Kept.{IsKept, IsKeptPart, IsOrderedPart, AllBelow, are_there, newest, is_timed}
 use Rattle.supervisor_laws.specs.Sound.{is_waiting, is_bare}
 use Rattle.progress_laws.specs.Time.{HasTime}

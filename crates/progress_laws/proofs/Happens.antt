@@ -13,13 +13,13 @@ use Rattle.lifecycle.specs.Awaits.{is_awaited, is_same_step, is_busy_with}
 use Rattle.lifecycle.specs.declared.kinds.After.{After}
 use Rattle.lifecycle.specs.declared.kinds.LifeEvent.{LifeEvent}
 use Rattle.lifecycle.specs.declared.kinds.LifeEvent.TheVariants as event
-use Rattle.supervisor.specs.World.{World, Part, Child, At, changed_at, is_to_stop, is_leaving, has_orphan, is_orphan, child_of, owner, owner_from, without_child, child_gone, part_name}
-use Rattle.supervisor.specs.Turns.{may_begin, may_retry, may_stop, is_begun, is_unstarted, is_met, serves_softly, is_held}
-use Rattle.supervisor.specs.World.{stands_up}
-use Rattle.supervisor.specs.Lives.{lived_at}
-use Rattle.supervisor.specs.Acts.{MayMove, MayKill, is_kill_due, is_stop_due, spares, kills, OwesAt}
+use Rattle.components.specs.World.{World, Part, Child, At, changed_at, is_to_stop, is_leaving, has_orphan, is_orphan, child_of, owner, owner_from, without_child, child_gone, part_name}
+use Rattle.components.specs.Turns.{may_begin, may_retry, may_stop, is_begun, is_unstarted, is_met, serves_softly, is_held}
+use Rattle.components.specs.World.{stands_up}
+use Rattle.components.specs.Lives.{lived_at}
+use Rattle.components.specs.Acts.{MayMove, MayKill, is_kill_due, is_stop_due, spares, kills, OwesAt}
 use Rattle.progress_laws.proofs.Answered.{unhanded, plainly_started, started_is, answered_all, answered_rank, answered_length, answered_begun}
-use Rattle.supervisor.specs.Events.{answered_at, started, refused, skipped, ended, killed, gone_by, is_orphan_at, kill_event, kill_event_at, is_late_child, with_child, told_at}
+use Rattle.components.specs.Events.{answered_at, started, refused, skipped, ended, killed, gone_by, is_orphan_at, kill_event, kill_event_at, is_late_child, with_child, told_at}
 use Rattle.progress_laws.specs.Kept.{IsKeptPart, MayBefall, IsFalling}
 use Rattle.progress_laws.specs.Rank.{part_rank, rank, start_weight}
 use Rattle.progress_laws.proofs.Lists.{either, clash}

@@ -8,9 +8,9 @@ use Rattle.lifecycle.specs.declared.kinds.LifeAct.{LifeAct}
 use Rattle.lifecycle.specs.declared.kinds.LifeAct.TheVariants as act
 use Rattle.lifecycle.specs.declared.kinds.LifeEvent.{LifeEvent}
 use Rattle.lifecycle.specs.declared.kinds.LifeEvent.TheVariants as event
-use Rattle.supervisor.specs.Fitted.{Fitted, steps_of}
-use Rattle.supervisor.specs.World.{Part, Child, is_again, is_spared}
-use Rattle.supervisor.specs.Lives.{lived, after_row, succeeds, with_failures_forgotten, with_failure_owed, with_stop_given, with_new_item, completed}
+use Rattle.components.specs.Fitted.{Fitted, steps_of}
+use Rattle.components.specs.World.{Part, Child, is_again, is_spared}
+use Rattle.components.specs.Lives.{lived, after_row, succeeds, with_failures_forgotten, with_failure_owed, with_stop_given, with_new_item, completed}
 
 table_steps : (c : Life) (e : LifeEvent) → IsSound c → IfSome (table c e) (λ r. r.1.steps ≡ c.steps)
 table_steps c e sound = grind (arith, sound)

@@ -13,10 +13,10 @@ use Rattle.lifecycle.specs.declared.kinds.After.TheVariants as after
 use Rattle.lifecycle.specs.declared.kinds.LifeAct.{LifeAct}
 use Rattle.lifecycle.specs.declared.kinds.LifeEvent.{LifeEvent}
 use Rattle.lifecycle.specs.declared.kinds.LifeEvent.TheVariants as event
-use Rattle.supervisor.specs.Fitted.{Fitted, name_of, steps_of}
-use Rattle.supervisor.specs.World.{Part, Child, At, changed_at, is_to_stop, is_leaving, has_orphan, is_orphan, under_way, part_name, is_again, is_starting, is_up}
-use Rattle.supervisor.specs.Marks.{Flagged, flagged_at, reaching, marked, restarted, may_restart, may_replan}
-use Rattle.supervisor.specs.Lives.{lived, lived_at, drops_at as drops_in, after_row, with_failures_forgotten, with_failure_owed, with_stop_given, with_new_item}
+use Rattle.components.specs.Fitted.{Fitted, name_of, steps_of}
+use Rattle.components.specs.World.{Part, Child, At, changed_at, is_to_stop, is_leaving, has_orphan, is_orphan, under_way, part_name, is_again, is_starting, is_up}
+use Rattle.components.specs.Marks.{Flagged, flagged_at, reaching, marked, restarted, may_restart, may_replan}
+use Rattle.components.specs.Lives.{lived, lived_at, drops_at as drops_in, after_row, with_failures_forgotten, with_failure_owed, with_stop_given, with_new_item}
 use Rattle.progress_laws.specs.Kept.{IsKeptPart, IsRunnable, IsComing, MayBefall, begins, is_own, is_timed}
 use Rattle.supervisor_laws.specs.Sound.{may_ask, is_bare, is_waiting}
 use Rattle.progress_laws.proofs.Lists.{either, clash, any_has, none_any}

@@ -11,12 +11,12 @@ use Rattle.lifecycle.specs.declared.kinds.After.{After}
 use Rattle.lifecycle.specs.declared.kinds.After.TheVariants as after
 use Rattle.lifecycle.specs.declared.kinds.LifeEvent.{LifeEvent}
 use Rattle.lifecycle.specs.declared.kinds.LifeEvent.TheVariants as event
-use Rattle.supervisor.specs.Fitted.{Fitted}
-use Rattle.supervisor.specs.World.{Child}
-use Rattle.supervisor.specs.Lives.{lived}
+use Rattle.components.specs.Fitted.{Fitted}
+use Rattle.components.specs.World.{Child}
+use Rattle.components.specs.Lives.{lived}
 use Rattle.progress_laws.proofs.Falls.{mk}
 use Rattle.progress_laws.specs.Kept.{IsComing}
-use Rattle.supervisor.specs.Fitted.{name_of}
+use Rattle.components.specs.Fitted.{name_of}
 use Rattle.std.specs.Prelude.{IfSome}
 
 module _ (f : Fitted) (steps : StepSet) (n : ℕ) (busy : Option Step) (runs inst : Bool) (way : Option After) (cs : List Child) (hd : Bool) (o : Option (Step × Exit)) (asked : Option After) (nx : Option (Fitted × ℕ)) where

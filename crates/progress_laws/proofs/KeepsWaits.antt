@@ -12,13 +12,13 @@ use Rattle.lifecycle.specs.declared.kinds.After.{After}
 use Rattle.lifecycle.specs.declared.kinds.After.TheVariants as after
 use Rattle.lifecycle.specs.declared.kinds.LifeEvent.{LifeEvent}
 use Rattle.lifecycle.specs.declared.kinds.LifeEvent.TheVariants as event
-use Rattle.supervisor.specs.Fitted.{Fitted}
-use Rattle.supervisor.specs.World.{Child, under_way}
-use Rattle.supervisor.specs.Lives.{lived}
+use Rattle.components.specs.Fitted.{Fitted}
+use Rattle.components.specs.World.{Child, under_way}
+use Rattle.components.specs.Lives.{lived}
 use Rattle.progress_laws.specs.Kept.{MayBefall}
 use Rattle.supervisor_laws.specs.Sound.{may_ask}
 use Rattle.progress_laws.proofs.Falls.{mk}
-use Rattle.supervisor.specs.World.{is_again}
+use Rattle.components.specs.World.{is_again}
 
 module _ (f : Fitted) (steps : StepSet) (n : ℕ) (busy : Option Step) (runs inst : Bool) (way : Option After) (cs : List Child) (hd : Bool) (o : Option (Step × Exit)) (asked : Option After) (nx : Option (Fitted × ℕ)) where
   pub waits_at : (s : State) (e : LifeEvent) (b : Bool) → IsSound (mk f steps n busy runs inst way cs hd o asked nx s).life → may_ask (under_way (mk f steps n busy runs inst way cs hd o asked nx s).life) asked ≡ true → MayBefall e (mk f steps n busy runs inst way cs hd o asked nx s) → (not (is_some nx) || (is_again asked || is_again (under_way (mk f steps n busy runs inst way cs hd o asked nx s).life))) ≡ true → (not (is_some (lived b e (mk f steps n busy runs inst way cs hd o asked nx s)).next) || (is_again (lived b e (mk f steps n busy runs inst way cs hd o asked nx s)).stop || is_again (under_way (lived b e (mk f steps n busy runs inst way cs hd o asked nx s)).life))) ≡ true

@@ -24,3 +24,10 @@ pub mod Ends
 pub mod Answered
 pub mod Needs
 pub mod Changes
+pub mod Same
+pub mod Befalls
+pub mod Stands
+pub mod Steps
+pub mod Comes
+pub mod RiseOrders
+pub mod RiseItems

@@ -2,8 +2,8 @@
 use Rattle.std.proofs.Common.{◌≡◌, ℕ, List, [], ◌∷◌, true, refl, arith}
 use Rattle.std.specs.Prelude.{is_some, if◌then◌else◌}
 use Rattle.std.specs.Str.{bytes_eq}
-use Rattle.supervisor.specs.declared.kinds.Prepared.{Prepared}
-use Rattle.supervisor.specs.Turns.{IsQuiet}
+use Rattle.components.specs.declared.kinds.Prepared.{Prepared}
+use Rattle.components.specs.Turns.{IsQuiet}
 use Rattle.progress_laws.specs.Kept.{IsKept, IsKeptPart}
 use Rattle.progress_laws.specs.Small.{part_a, part_b, one_waits}
 use Rattle.progress_laws.specs.Time.{HasTime}

@@ -11,9 +11,9 @@ use Rattle.lifecycle.specs.declared.kinds.After.{After}
 use Rattle.lifecycle.specs.declared.kinds.After.TheVariants as after
 use Rattle.lifecycle.specs.declared.kinds.LifeEvent.{LifeEvent}
 use Rattle.lifecycle.specs.declared.kinds.LifeEvent.TheVariants as event
-use Rattle.supervisor.specs.Fitted.{Fitted}
-use Rattle.supervisor.specs.World.{Child, is_leaving}
-use Rattle.supervisor.specs.Lives.{drops}
+use Rattle.components.specs.Fitted.{Fitted}
+use Rattle.components.specs.World.{Child, is_leaving}
+use Rattle.components.specs.Lives.{drops}
 use Rattle.progress_laws.proofs.Falls.{mk}
 
 module _ (f : Fitted) (steps : StepSet) (n : ℕ) (busy : Option Step) (runs inst : Bool) (way : Option After) (cs : List Child) (hd : Bool) (o : Option (Step × Exit)) (asked : Option After) (nx : Option (Fitted × ℕ)) where

@@ -8,13 +8,13 @@ use Rattle.lifecycle.specs.declared.kinds.After.TheVariants as after
 use Rattle.lifecycle.specs.declared.kinds.LifeEvent.{LifeEvent}
 use Rattle.lifecycle.specs.declared.kinds.LifeEvent.TheVariants as event
 use Rattle.lifecycle.specs.Awaits.{is_awaited}
-use Rattle.supervisor.specs.Fitted.{Fitted, name_of}
-use Rattle.supervisor.specs.World.{World, Part, At, changed_at, part_name, is_leaving, is_to_stop, under_way, is_gone, stands_up}
-use Rattle.supervisor.specs.Marks.{Flagged, flagged_at, reaching, marked, restarted, may_restart}
-use Rattle.supervisor.specs.Turns.{may_begin, may_retry, may_stop, is_met, serves_softly}
-use Rattle.supervisor.specs.Lives.{lived, lived_at, drops_at as drops_in}
-use Rattle.supervisor.specs.Acts.{MayMove, spares}
-use Rattle.supervisor.specs.Changes.{leaving}
+use Rattle.components.specs.Fitted.{Fitted, name_of}
+use Rattle.components.specs.World.{World, Part, At, changed_at, part_name, is_leaving, is_to_stop, under_way, is_gone, stands_up}
+use Rattle.components.specs.Marks.{Flagged, flagged_at, reaching, marked, restarted, may_restart}
+use Rattle.components.specs.Turns.{may_begin, may_retry, may_stop, is_met, serves_softly}
+use Rattle.components.specs.Lives.{lived, lived_at, drops_at as drops_in}
+use Rattle.components.specs.Acts.{MayMove, spares}
+use Rattle.components.specs.Changes.{leaving}
 use Rattle.progress_laws.specs.Kept.{IsKept, IsKeptPart, AreKept, IsOrderedPart, IsComing, AllBelow, MayBefall, newest, are_there}
 use Rattle.progress_laws.proofs.Lists.{either, clash}
 use Rattle.progress_laws.proofs.Goes.{not_so}

@@ -12,15 +12,15 @@ use Rattle.lifecycle.specs.Awaits.{is_awaited, is_same_step, is_busy_with}
 use Rattle.lifecycle.specs.declared.kinds.After.{After}
 use Rattle.lifecycle.specs.declared.kinds.LifeEvent.{LifeEvent}
 use Rattle.lifecycle.specs.declared.kinds.LifeEvent.TheVariants as event
-use Rattle.supervisor.specs.Fitted.{prepared_of, limit_of, steps_of}
-use Rattle.supervisor.specs.World.{World, Part, Child, At, changed_at, is_to_stop, child_of, owner, without_child, child_gone, stands_up}
-use Rattle.supervisor.specs.Turns.{may_begin, may_retry, may_stop, is_begun, is_met, serves_softly}
-use Rattle.supervisor.specs.Marks.{Flagged, flagged_at, reaching, marked, restarted, may_restart}
-use Rattle.supervisor.specs.Lives.{lived, lived_at, drops_at as drops_in}
-use Rattle.supervisor.specs.Deadlines.{deadline_after}
-use Rattle.supervisor.specs.Acts.{MayMove, MayKill, is_kill_due, spares, OwesAt}
+use Rattle.components.specs.Fitted.{prepared_of, limit_of, steps_of}
+use Rattle.components.specs.World.{World, Part, Child, At, changed_at, is_to_stop, child_of, owner, without_child, child_gone, stands_up}
+use Rattle.components.specs.Turns.{may_begin, may_retry, may_stop, is_begun, is_met, serves_softly}
+use Rattle.components.specs.Marks.{Flagged, flagged_at, reaching, marked, restarted, may_restart}
+use Rattle.components.specs.Lives.{lived, lived_at, drops_at as drops_in}
+use Rattle.components.specs.Deadlines.{deadline_after}
+use Rattle.components.specs.Acts.{MayMove, MayKill, is_kill_due, spares, OwesAt}
 use Rattle.progress_laws.proofs.Answered.{unhanded, plainly_started, started_is, answered_all, answered_length, answered_begun, handed_all}
-use Rattle.supervisor.specs.Events.{answered_at, handed_at, started, refused, skipped, ended, killed, gone_by, is_orphan_at, kill_event, kill_event_at, is_late_child, with_child, told_at}
+use Rattle.components.specs.Events.{answered_at, handed_at, started, refused, skipped, ended, killed, gone_by, is_orphan_at, kill_event, kill_event_at, is_late_child, with_child, told_at}
 use Rattle.progress_laws.specs.Kept.{IsKeptPart, MayBefall, begins}
 use Rattle.progress_laws.proofs.Lists.{either, clash}
 use Rattle.progress_laws.proofs.Goes.{not_so, bare_of}

@@ -6,10 +6,10 @@ use Rattle.lifecycle.specs.Life.{Life, IsSound, MayHave}
 use Rattle.lifecycle.specs.declared.kinds.State.{State}
 use Rattle.lifecycle.specs.declared.kinds.After.{After}
 use Rattle.lifecycle.specs.declared.kinds.After.TheVariants as after
-use Rattle.supervisor.specs.Fitted.{Fitted}
-use Rattle.supervisor.specs.World.{World, Part, part_name, under_way, is_gone}
-use Rattle.supervisor.specs.Events.{later}
-use Rattle.supervisor.specs.Changes.{leaving, forgetting, all_stopped, steadied}
+use Rattle.components.specs.Fitted.{Fitted}
+use Rattle.components.specs.World.{World, Part, part_name, under_way, is_gone}
+use Rattle.components.specs.Events.{later}
+use Rattle.components.specs.Changes.{leaving, forgetting, all_stopped, steadied}
 use Rattle.progress_laws.specs.Kept.{IsKept, IsKeptPart, IsComing}
 use Rattle.supervisor_laws.specs.Sound.{may_ask}
 use Rattle.progress_laws.proofs.Orders.{View, view, Stands, still_ordered, stands_all, left_ordered}

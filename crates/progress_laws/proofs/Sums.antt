@@ -10,9 +10,9 @@ use Rattle.lifecycle.specs.Awaits.{is_same_step, is_stopping}
 use Rattle.lifecycle.specs.declared.kinds.After.{After}
 use Rattle.lifecycle.specs.declared.kinds.After.TheVariants as after
 use Rattle.lifecycle.specs.declared.kinds.LifeEvent.{LifeEvent}
-use Rattle.supervisor.specs.World.{World, Part, Child, At, changed_at, is_to_stop, is_leaving, has_orphan, under_way, is_starting, is_up}
-use Rattle.supervisor.specs.Marks.{Flagged, flagged, flagged_at, grown, reaching, marked, restarted, may_restart, may_replan}
-use Rattle.supervisor.specs.Lives.{lived, lived_at, drops, drops_at as drops_in}
+use Rattle.components.specs.World.{World, Part, Child, At, changed_at, is_to_stop, is_leaving, has_orphan, under_way, is_starting, is_up}
+use Rattle.components.specs.Marks.{Flagged, flagged, flagged_at, grown, reaching, marked, restarted, may_restart, may_replan}
+use Rattle.components.specs.Lives.{lived, lived_at, drops, drops_at as drops_in}
 use Rattle.progress_laws.specs.Kept.{MayBefall}
 use Rattle.supervisor_laws.specs.Sound.{may_ask}
 use Rattle.progress_laws.specs.Rank.{core, gain, part_rank, rank, rank_of, start_weight, state_weight, left}

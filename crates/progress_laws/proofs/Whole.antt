@@ -8,13 +8,13 @@ use Rattle.nuc_base.specs.declared.kinds.Step.TheVariants as step
 use Rattle.nuc_base.specs.declared.kinds.Exit.{Exit}
 use Rattle.lifecycle.specs.declared.kinds.LifeEvent.{LifeEvent}
 use Rattle.lifecycle.specs.declared.kinds.LifeEvent.TheVariants as event
-use Rattle.supervisor.specs.World.{World, Part, At, owner, is_leaving, child_gone}
-use Rattle.supervisor.specs.Turns.{is_begun}
-use Rattle.supervisor.specs.Lives.{lived_at}
-use Rattle.supervisor.specs.Events.{handed_at, started, refused, skipped, ended, killed, gone_by, kill_event_at, is_orphan_at, told_at, later}
-use Rattle.supervisor.specs.Acts.{MayMove, MayKill, OwesAt, NextAct, Quietly, HandsOut, Move}
-use Rattle.supervisor.specs.declared.kinds.Act.{Act}
-use Rattle.supervisor.specs.declared.kinds.Act.TheVariants as acts
+use Rattle.components.specs.World.{World, Part, At, owner, is_leaving, child_gone}
+use Rattle.components.specs.Turns.{is_begun}
+use Rattle.components.specs.Lives.{lived_at}
+use Rattle.components.specs.Events.{handed_at, started, refused, skipped, ended, killed, gone_by, kill_event_at, is_orphan_at, told_at, later}
+use Rattle.components.specs.Acts.{MayMove, MayKill, OwesAt, NextAct, Quietly, HandsOut, Move}
+use Rattle.components.specs.declared.kinds.Act.{Act}
+use Rattle.components.specs.declared.kinds.Act.TheVariants as acts
 use Rattle.progress_laws.specs.Kept.{IsKeptPart, AreKept, IsFalling, StaysKept, is_done}
 use Rattle.progress_laws.specs.Rank.{rank}
 use Rattle.progress_laws.proofs.Sums.{length_changed}

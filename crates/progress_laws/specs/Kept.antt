@@ -8,12 +8,12 @@ use Rattle.lifecycle.specs.Laws.{has_step}
 use Rattle.lifecycle.specs.declared.kinds.LifeEvent.{LifeEvent}
 use Rattle.lifecycle.specs.declared.kinds.LifeEvent.TheVariants as event
 use Rattle.lifecycle.specs.Awaits.{is_same_step, is_busy_with}
-use Rattle.supervisor.specs.Fitted.{Fitted, name_of, prepared_of, limit_of, steps_of, is_same_item}
-use Rattle.supervisor.specs.World.{Child, Part, World, part_name, is_to_stop, is_leaving, is_again, under_way}
-use Rattle.supervisor.specs.Turns.{is_met}
+use Rattle.components.specs.Fitted.{Fitted, name_of, prepared_of, limit_of, steps_of, is_same_item}
+use Rattle.components.specs.World.{Child, Part, World, part_name, is_to_stop, is_leaving, is_again, under_way}
+use Rattle.components.specs.Turns.{is_met}
 use Rattle.supervisor_laws.specs.Sound.{may_ask, is_bare, is_waiting}
-use Rattle.supervisor.specs.declared.kinds.Act.{Act}
-use Rattle.supervisor.specs.declared.kinds.Act.TheVariants as acts
+use Rattle.components.specs.declared.kinds.Act.{Act}
+use Rattle.components.specs.declared.kinds.Act.TheVariants as acts
 
 -- ---- of each component
 

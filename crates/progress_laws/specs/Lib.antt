@@ -2,3 +2,4 @@ pub mod Kept
 pub mod Rank
 pub mod Time
 pub mod Small
+pub mod Drives

@@ -8,8 +8,8 @@ use Rattle.lifecycle.specs.declared.kinds.State.{State}
 use Rattle.lifecycle.specs.declared.kinds.State.TheVariants as state
 use Rattle.lifecycle.specs.declared.kinds.LifeEvent.{LifeEvent}
 use Rattle.lifecycle.specs.declared.kinds.LifeEvent.TheVariants as event
-use Rattle.supervisor.specs.Fitted.{Fitted}
-use Rattle.supervisor.specs.World.{World, Part, Child, is_again, is_gone, under_way}
+use Rattle.components.specs.Fitted.{Fitted}
+use Rattle.components.specs.World.{World, Part, Child, is_again, is_gone, under_way}
 
 -- how far a component is from being up, where no stop is asked for
 abbrev pub way_weight : State → Option Step → ℕ

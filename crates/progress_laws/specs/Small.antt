@@ -4,9 +4,9 @@ use Rattle.serde_json.specs.Data.{null}
 use Rattle.nuc_base.specs.declared.kinds.Step.TheVariants as step
 use Rattle.records.specs.Stored.{Item}
 use Rattle.lifecycle.specs.Life.{begun}
-use Rattle.supervisor.specs.declared.kinds.Prepared.{Prepared}
-use Rattle.supervisor.specs.Fitted.{Fitted, steps_of}
-use Rattle.supervisor.specs.World.{World, Part}
+use Rattle.components.specs.declared.kinds.Prepared.{Prepared}
+use Rattle.components.specs.Fitted.{Fitted, steps_of}
+use Rattle.components.specs.World.{World, Part}
 
 abbrev pub item_of : List ℕ → Item
 item_of name = record { name = name; version = 49 ∷ []; recipe = []; config = null; artifacts = [] }

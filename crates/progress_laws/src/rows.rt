@@ -1,8 +1,8 @@
 // A small world in which what is kept of needs holds, so that no law speaks of nothing.
 ghost use Rattle.std.specs.Prelude.{◌≡◌, true, is_some};
-ghost use Rattle.supervisor.specs.declared.kinds.Prepared.{Prepared};
-ghost use Rattle.supervisor.specs.Answers.{has_answered};
-ghost use Rattle.supervisor.specs.Turns.{IsQuiet};
+ghost use Rattle.components.specs.declared.kinds.Prepared.{Prepared};
+ghost use Rattle.components.specs.Answers.{has_answered};
+ghost use Rattle.components.specs.Turns.{IsQuiet};
 ghost use Rattle.progress_laws.specs.Kept.{IsKept, IsFalling};
 ghost use Rattle.progress_laws.specs.Small.{one_waits};
 ghost use Rattle.progress_laws.specs.Time.{HasTime};

@@ -5,7 +5,7 @@ use Rattle.std.proofs.lemmas.Bool.{false≢true}
 use Rattle.records.specs.Stored.{Record, Accepted}
 use Rattle.step_runner.specs.declared.entries.Seen.{Seen}
 use Rattle.step_runner.specs.declared.entries.Seen.TheVariants as seen
-use Rattle.supervisor.specs.declared.kinds.Prepared.{Prepared}
+use Rattle.components.specs.declared.kinds.Prepared.{Prepared}
 use Rattle.session.specs.Happenings.{Happening, Ran, Booted, Slept, Cut, Kept, Moved, Asked, Heard, Questioned, Changed, StopsAll, records_of}
 use Rattle.session.specs.Places.{Place, booted, cut_off, leaves, left_by, takes_document}
 use Rattle.session.specs.Follows.{IsProper, MayFollow, MayTakeBy}

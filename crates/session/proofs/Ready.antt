@@ -10,8 +10,8 @@ use Rattle.records.specs.declared.record.Origin.{Origin}
 use Rattle.recipe_reader.specs.Steps.{step_of}
 use Rattle.recipe_reader.specs.declared.recipe.StepDef.{StepDef}
 use Rattle.device.specs.Scopes.{IsScopeOf}
-use Rattle.supervisor.specs.Fitted.{Fitted, prepared_of}
-use Rattle.supervisor.specs.Made.{IsPrepared, IsPreparedFrom, IsStepAt, IsFittedAt, AreFitted, hard_names, soft_names}
+use Rattle.components.specs.Fitted.{Fitted, prepared_of}
+use Rattle.components.specs.Made.{IsPrepared, IsPreparedFrom, IsStepAt, IsFittedAt, AreFitted, hard_names, soft_names}
 use Rattle.session.specs.Ready.{plain_def, RunsOnly, plain_step, running_item}
 
 -- a text without a variable stays as it is

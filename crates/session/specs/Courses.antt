@@ -7,10 +7,10 @@ use Rattle.records.specs.Stored.{Record}
 use Rattle.device.specs.Devices.{Device}
 use Rattle.device.specs.Lawful.{Run}
 use Rattle.step_runner.specs.Entries.{Grows, Told}
-use Rattle.supervisor.specs.World.{World, is_childless, is_stopped}
-use Rattle.supervisor.specs.Turns.{IsQuiet, owes}
-use Rattle.supervisor.specs.Answers.{has_answered}
-use Rattle.supervisor.specs.Events.{later}
+use Rattle.components.specs.World.{World, is_childless, is_stopped}
+use Rattle.components.specs.Turns.{IsQuiet, owes}
+use Rattle.components.specs.Answers.{has_answered}
+use Rattle.components.specs.Events.{later}
 use Rattle.session.specs.Phases.{duty_of, is_idle, is_present, is_closing}
 use Rattle.session.specs.Happenings.{Happening, records_of, entries_of}
 use Rattle.session.specs.Places.{Place, beginning, left_by}

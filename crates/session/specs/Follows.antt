@@ -17,13 +17,13 @@ use Rattle.step_runner.specs.declared.command.Command.{Command}
 use Rattle.step_runner.specs.declared.entries.RunnerEntry.{RunnerEntry}
 use Rattle.step_runner.specs.declared.entries.Seen.{Seen}
 use Rattle.step_runner.specs.declared.entries.Seen.TheVariants as seen
-use Rattle.supervisor.specs.Fitted.{Fitted, prepared_of}
-use Rattle.supervisor.specs.World.{World, Part, Child, At, owner, place_of, is_settled, is_stopped}
-use Rattle.supervisor.specs.Turns.{IsNext, IsQuiet, is_begun, is_unstarted, owes}
-use Rattle.supervisor.specs.Acts.{MayMove, MayKill}
-use Rattle.supervisor.specs.Deadlines.{has_passed}
-use Rattle.supervisor.specs.Made.{AreFitted, IsStepAt}
-use Rattle.supervisor.specs.declared.kinds.Prepared.{Prepared}
+use Rattle.components.specs.Fitted.{Fitted, prepared_of}
+use Rattle.components.specs.World.{World, Part, Child, At, owner, place_of, is_settled, is_stopped}
+use Rattle.components.specs.Turns.{IsNext, IsQuiet, is_begun, is_unstarted, owes}
+use Rattle.components.specs.Acts.{MayMove, MayKill}
+use Rattle.components.specs.Deadlines.{has_passed}
+use Rattle.components.specs.Made.{AreFitted, IsStepAt}
+use Rattle.components.specs.declared.kinds.Prepared.{Prepared}
 use Rattle.session.specs.Phases.{Phase, Duty, idle, booting, activating, backing, rolling, is_idle, has_boots, duty_of, Crew, earlier, leaving, present, is_present, is_closing}
 use Rattle.session.specs.Happenings.{Happening, Ran, Booted, Slept, Cut, Kept, Moved, Asked, Heard, Questioned, Changed, StopsAll, is_document}
 use Rattle.session.specs.Places.{Place, left_by}

@@ -4,8 +4,8 @@ use Rattle.nuc_base.specs.declared.kinds.Step.{Step}
 use Rattle.lifecycle.specs.declared.kinds.LifeEvent.{LifeEvent}
 use Rattle.records.specs.Stored.{Record}
 use Rattle.step_runner.specs.declared.entries.RunnerEntry.{RunnerEntry}
-use Rattle.supervisor.specs.Fitted.{Fitted}
-use Rattle.supervisor.specs.declared.kinds.Prepared.{Prepared}
+use Rattle.components.specs.Fitted.{Fitted}
+use Rattle.components.specs.declared.kinds.Prepared.{Prepared}
 
 -- what an inbox answers when it is asked for a document
 pub data Answer : Type 0 where

@@ -10,12 +10,12 @@ use Rattle.device.specs.Devices.{Device}
 use Rattle.device.specs.Lawful.{applied, goes_on}
 use Rattle.step_runner.specs.declared.entries.Seen.{Seen}
 use Rattle.step_runner.specs.declared.entries.Seen.TheVariants as seen
-use Rattle.supervisor.specs.World.{World, Child, owner, child_gone, is_stopped}
-use Rattle.supervisor.specs.Deadlines.{deadline_after}
-use Rattle.supervisor.specs.Lives.{lived_at}
-use Rattle.supervisor.specs.Events.{started, refused, skipped, killed, ended, told_at, told_of, later}
-use Rattle.supervisor.specs.Changes.{changed_to, all_stopped, steadied}
-use Rattle.supervisor.specs.declared.kinds.Prepared.{Prepared}
+use Rattle.components.specs.World.{World, Child, owner, child_gone, is_stopped}
+use Rattle.components.specs.Deadlines.{deadline_after}
+use Rattle.components.specs.Lives.{lived_at}
+use Rattle.components.specs.Events.{started, refused, skipped, killed, ended, told_at, told_of, later}
+use Rattle.components.specs.Changes.{changed_to, all_stopped, steadied}
+use Rattle.components.specs.declared.kinds.Prepared.{Prepared}
 use Rattle.session.specs.Phases.{duty_of, is_idle, begins_stage, Crew, earlier, leaving, present, closing}
 use Rattle.session.specs.Happenings.{Happening, Answer, Ran, Booted, Slept, Cut, Kept, Moved, Asked, Heard, Questioned, Changed, StopsAll}
 

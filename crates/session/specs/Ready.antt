@@ -6,9 +6,8 @@ use Rattle.interpolation.specs.Values.{folder_of_work}
 use Rattle.interpolation.specs.Variables.{HasNoVariable}
 use Rattle.records.specs.Stored.{Item}
 use Rattle.records.specs.declared.record.Origin.{Origin}
-use Rattle.supervisor.specs.Fitted.{Fitted}
-use Rattle.supervisor.specs.declared.kinds.Prepared.{Prepared}
-use Rattle.session.specs.Rows.{bare}
+use Rattle.components.specs.Fitted.{Fitted}
+use Rattle.components.specs.declared.kinds.Prepared.{Prepared}
 
 -- a step that runs this, without a probe and without variables of its own
 abbrev pub plain_def : List ℕ → Option ℕ → StepDef
@@ -29,4 +28,4 @@ abbrev pub plain_step : Origin → Item → List ℕ → Option ℕ → Prepared
 plain_step o i text limit = record { command = record { script = text; env = []; folder = folder_of_work o.root i.name }; skip = None; limit_ms = limit }
 
 abbrev pub running_item : Origin → Item → List ℕ → Fitted
-running_item o i text = record (bare i [] []) { run = Some (plain_step o i text None) }
+running_item o i text = record { item = i; hard = []; soft = []; install = None; run = Some (plain_step o i text None); startup = None; shutdown = None; recover = None }

@@ -1,9 +1,9 @@
 -- When and how long a session waits.
 use Rattle.std.specs.Prelude.{◌≡◌, ℕ, ◌==◌, min, Bool, true, false, not, ◌&&◌, ◌||◌, List, Option, Some, None, is_some, if◌then◌else◌}
 use Rattle.std.specs.List.{list_any}
-use Rattle.supervisor.specs.World.{Child, is_settled, is_stopped}
-use Rattle.supervisor.specs.Turns.{IsQuiet}
-use Rattle.supervisor.specs.Deadlines.{has_passed, earlier, least_deadline, until}
+use Rattle.components.specs.World.{Child, is_settled, is_stopped}
+use Rattle.components.specs.Turns.{IsQuiet}
+use Rattle.components.specs.Deadlines.{has_passed, earlier, least_deadline, until}
 use Rattle.session.specs.Phases.{Phase, Duty, idle, booting, activating, backing, rolling, is_idle, Crew, leaving, present, closing, is_closing}
 use Rattle.session.specs.Happenings.{is_document, is_nothing, is_closed}
 use Rattle.session.specs.Places.{Place}

@@ -6,7 +6,7 @@ ghost use Rattle.interpolation.specs.Variables.{HasNoVariable};
 ghost use Rattle.records.specs.Stored.{Item};
 ghost use Rattle.records.specs.declared.record.Origin.{Origin};
 ghost use Rattle.device.specs.Scopes.{IsScopeOf};
-ghost use Rattle.supervisor.specs.Made.{AreFitted, IsStepAt};
+ghost use Rattle.components.specs.Made.{AreFitted, IsStepAt};
 ghost use Rattle.session.specs.Ready.{RunsOnly, plain_def, plain_step, running_item};
 ghost use Rattle.session.specs.Happenings.{Happening, records_of, entries_of};
 ghost use Rattle.session.specs.Places.{Place, left_by};

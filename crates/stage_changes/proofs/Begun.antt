@@ -14,7 +14,7 @@ use Rattle.deploy_state.specs.Hand.{LeavesEither}
 use Rattle.deploy_state.specs.States.{IsIn}
 use Rattle.step_runner.specs.Entries.{Told}
 use Rattle.step_runner.specs.declared.entries.RunnerEntry.{RunnerEntry}
-use Rattle.supervisor.specs.World.{World}
+use Rattle.components.specs.World.{World}
 use Rattle.session.specs.Phases.{Duty, duty_in, duty_of}
 use Rattle.session.specs.Phases as phases
 use Rattle.session.specs.Happenings.{Happening, Kept}

@@ -13,8 +13,8 @@ use Rattle.device.specs.Lawful.{Allowed, applied, close_pending}
 use Rattle.deploy_state.specs.Hand.{LeavesEither}
 use Rattle.step_runner.specs.Entries.{Told}
 use Rattle.step_runner.specs.declared.entries.RunnerEntry.{RunnerEntry}
-use Rattle.supervisor.specs.World.{World, Part, is_over, is_stopped, owner}
-use Rattle.supervisor.specs.Changes.{forgetting, steadied}
+use Rattle.components.specs.World.{World, Part, is_over, is_stopped, owner}
+use Rattle.components.specs.Changes.{forgetting, steadied}
 use Rattle.session.specs.Phases.{Crew, duty_of, is_closing, is_idle, is_present, leaving, present}
 use Rattle.session.specs.Happenings.{Kept, records_of}
 use Rattle.session.specs.Places.{Place, leaves}

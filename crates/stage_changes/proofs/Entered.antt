@@ -7,10 +7,10 @@ use Rattle.device.specs.declared.staged.Stage.{Stage}
 use Rattle.device.specs.Lawful.{no_failures}
 use Rattle.device.specs.declared.staged.Stage.TheVariants as stages
 use Rattle.step_runner.specs.Entries.{Told}
-use Rattle.supervisor.specs.Fitted.{Fitted}
-use Rattle.supervisor.specs.Changes.{changed_to}
-use Rattle.supervisor.specs.Marks.{HasFirst}
-use Rattle.supervisor.specs.World.{World}
+use Rattle.components.specs.Fitted.{Fitted}
+use Rattle.components.specs.Changes.{changed_to}
+use Rattle.components.specs.Marks.{HasFirst}
+use Rattle.components.specs.World.{World}
 use Rattle.session.specs.Happenings.{Happening, Changed}
 use Rattle.session.specs.Phases.{Duty, Phase, duty_in, duty_of, is_idle, idle, booting, activating, backing, rolling}
 use Rattle.session.specs.Places.{Place, leaves, left_by}

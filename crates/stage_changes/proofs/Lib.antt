@@ -7,3 +7,8 @@ pub mod Closing
 pub mod Turned
 pub mod Rising
 pub mod Begun
+pub mod Numbers
+pub mod Gone
+pub mod Killing
+pub mod GivenUp
+pub mod Ended

@@ -10,13 +10,13 @@ use Rattle.device.specs.declared.staged.Stage.{Stage}
 use Rattle.device.specs.declared.staged.Stage.TheVariants as stages
 use Rattle.deploy_state.specs.States.{IsIn}
 use Rattle.step_runner.specs.Entries.{Told}
-use Rattle.supervisor.specs.Fitted.{Fitted}
-use Rattle.supervisor.specs.Answers.{has_answered, standing_count}
-use Rattle.supervisor.specs.Changes.{standing}
-use Rattle.supervisor.specs.Events.{later}
-use Rattle.supervisor.specs.Readied.{KeepSteps}
-use Rattle.supervisor.specs.Turns.{is_late, is_to_start, is_unstarted, may_act, may_begin, may_retry, may_stop}
-use Rattle.supervisor.specs.World.{Part, World, has_orphan, is_over, is_stopped}
+use Rattle.components.specs.Fitted.{Fitted}
+use Rattle.components.specs.Answers.{has_answered, standing_count}
+use Rattle.components.specs.Changes.{standing}
+use Rattle.components.specs.Events.{later}
+use Rattle.components.specs.Readied.{KeepSteps}
+use Rattle.components.specs.Turns.{is_late, is_to_start, is_unstarted, may_act, may_begin, may_retry, may_stop}
+use Rattle.components.specs.World.{Part, World, has_orphan, is_over, is_stopped}
 use Rattle.supervisor_laws.specs.Sound.{IsOrderly}
 use Rattle.session.specs.Phases.{Crew, Phase, activating, backing, booting, duty_in, duty_of, idle, leaving, rolling}
 use Rattle.session.specs.Places.{Place}

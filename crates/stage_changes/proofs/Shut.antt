@@ -5,11 +5,11 @@ use Rattle.std.specs.List.{AllByRecursion, list_any}
 use Rattle.std.specs.Str.{bytes_eq}
 use Rattle.std.proofs.lemmas.Bool.{false≢true}
 use Rattle.lifecycle.specs.declared.kinds.After.TheVariants as after
-use Rattle.supervisor.specs.Fitted.{Fitted, is_before, is_same_item, name_of}
-use Rattle.supervisor.specs.World.{World, Part, is_gone, is_over, part_name, stops_for_good, under_way}
-use Rattle.supervisor.specs.Marks.{Flagged, HasFirst, Within, flagged, marked, may_replan, reaching}
-use Rattle.supervisor.specs.Answers.{has_answered}
-use Rattle.supervisor.specs.Changes.{Coming, changed_to, coming_again, coming_for, counted, fate, fresh_part, is_replaced, is_replacing, leaving, meeting, newcomers, placed, replanned, standing, staying, with_newcomers, with_texts}
+use Rattle.components.specs.Fitted.{Fitted, is_before, is_same_item, name_of}
+use Rattle.components.specs.World.{World, Part, is_gone, is_over, part_name, stops_for_good, under_way}
+use Rattle.components.specs.Marks.{Flagged, HasFirst, Within, flagged, marked, may_replan, reaching}
+use Rattle.components.specs.Answers.{has_answered}
+use Rattle.components.specs.Changes.{Coming, changed_to, coming_again, coming_for, counted, fate, fresh_part, is_replaced, is_replacing, leaving, meeting, newcomers, placed, replanned, standing, staying, with_newcomers, with_texts}
 
 abbrev IsShut : Part → Type 0
 IsShut p = p.handed ≡ false

@@ -17,7 +17,7 @@ use Rattle.deploy_state.specs.Fields.{CanBreakOff, IsBreak, backs_now, break_by}
 use Rattle.deploy_state.specs.Hand.{LeavesEither}
 use Rattle.step_runner.specs.Entries.{Told}
 use Rattle.step_runner.specs.declared.entries.RunnerEntry.{RunnerEntry}
-use Rattle.supervisor.specs.World.{World, is_stopped}
+use Rattle.components.specs.World.{World, is_stopped}
 use Rattle.session.specs.Phases.{duty_of, earlier, leaving}
 use Rattle.session.specs.Happenings.{Kept}
 use Rattle.session.specs.Places.{Place, leaves}

@@ -4,10 +4,10 @@ use Rattle.std.specs.List.{list_any}
 use Rattle.records.specs.declared.record.Origin.{Origin}
 use Rattle.device.specs.Devices.{Device}
 use Rattle.step_runner.specs.Entries.{Told}
-use Rattle.supervisor.specs.Fitted.{Fitted}
-use Rattle.supervisor.specs.Made.{AreFitted}
-use Rattle.supervisor.specs.Turns.{is_unstarted, owes}
-use Rattle.supervisor.specs.World.{World}
+use Rattle.components.specs.Fitted.{Fitted}
+use Rattle.components.specs.Made.{AreFitted}
+use Rattle.components.specs.Turns.{is_unstarted, owes}
+use Rattle.components.specs.World.{World}
 use Rattle.session.specs.Phases.{duty_of}
 use Rattle.session.specs.Places.{Place}
 use Rattle.session.specs.Courses.{Stands}

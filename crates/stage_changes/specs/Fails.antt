@@ -8,9 +8,9 @@ use Rattle.device.specs.Devices.{Device}
 use Rattle.device.specs.Lawful.{applied}
 use Rattle.deploy_state.specs.Fields.{IsBreak}
 use Rattle.step_runner.specs.Entries.{Told}
-use Rattle.supervisor.specs.World.{World, is_stopped, owner}
-use Rattle.supervisor.specs.Turns.{IsQuiet}
-use Rattle.supervisor.specs.Answers.{living_numbers}
+use Rattle.components.specs.World.{World, is_stopped, owner}
+use Rattle.components.specs.Turns.{IsQuiet}
+use Rattle.components.specs.Answers.{living_numbers}
 use Rattle.session.specs.Phases.{Crew, earlier, leaving, duty_of}
 use Rattle.session.specs.Places.{Place}
 use Rattle.session.specs.Courses.{Stands}

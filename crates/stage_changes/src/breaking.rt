@@ -4,7 +4,7 @@ ghost use Rattle.nuc_base.specs.Faults.{Rose};
 ghost use Rattle.deploy_state.specs.Fields.{has_failed};
 ghost use Rattle.deploy_state.specs.States.{InActivating, InBooting, InBrokeOff, activating_device, booting_device, broken_device};
 ghost use Rattle.step_runner.specs.Entries.{Told};
-ghost use Rattle.supervisor.specs.World.{World};
+ghost use Rattle.components.specs.World.{World};
 ghost use Rattle.session.specs.Courses.{IsBare};
 ghost use Rattle.session.specs.Happenings.{Happening, records_of};
 ghost use Rattle.session.specs.Phases.{duty_of};

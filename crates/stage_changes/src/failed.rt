@@ -7,7 +7,7 @@ ghost use Rattle.records.specs.Stored as stored;
 ghost use Rattle.device.specs.Lawful.{applied};
 ghost use Rattle.deploy_state.specs.States.{InActivating, InBrokeOff, InIdle, InRolling, activating_device, broken_device, idle_device, rolling_device};
 ghost use Rattle.step_runner.specs.Entries.{Told};
-ghost use Rattle.supervisor.specs.World.{World};
+ghost use Rattle.components.specs.World.{World};
 ghost use Rattle.supervisor_laws.specs.Sound.{IsOrderly};
 ghost use Rattle.session.specs.Courses.{IsBare};
 ghost use Rattle.session.specs.Happenings.{Happening, records_of};
@@ -18,7 +18,7 @@ ghost use Rattle.driver.specs.Lines.{lines_of};
 ghost use Rattle.driver.specs.Over.{IsOne, Left, Lines};
 ghost use Rattle.driver.specs.Stands.{IsFront};
 ghost use Rattle.driver.specs.Went.{Went};
-ghost use Rattle.ending_laws.specs.Drives.{Drives};
+ghost use Rattle.progress_laws.specs.Drives.{Drives};
 ghost use Rattle.activation.specs.Ended.{HasClosed};
 ghost use Rattle.stage_changes.specs.Fails.{Breaks, is_to_roll_back};
 
@@ -28,7 +28,7 @@ use disk_model::Disk;
 use driver::Over;
 use edges::Sink;
 use gate_log::Journal;
-use supervisor::Supervise;
+use components::Supervise;
 
 /// An item of the plan failed three times, and the deployment is rolled back: its bootstraps of the set run again, or at once
 /// its items come up again. No line is printed.

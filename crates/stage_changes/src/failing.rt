@@ -17,7 +17,7 @@ ghost use Rattle.session.specs.Waits.{has_three};
 ghost use Rattle.driver.specs.Over.{Left, Lines};
 ghost use Rattle.driver.specs.Stands.{IsFront};
 ghost use Rattle.driver.specs.Went.{Went};
-ghost use Rattle.ending_laws.specs.Drives.{Drives};
+ghost use Rattle.progress_laws.specs.Drives.{Drives};
 ghost use Rattle.activation.specs.Ended.{HasBroken, HasClosed};
 ghost use Rattle.stage_changes.specs.Fails.{IsGivenUp, is_to_roll_back};
 
@@ -29,7 +29,7 @@ use driver::Over;
 use edges::Sink;
 use gate_log::Journal;
 use nuc_base::Policy;
-use supervisor::Supervise;
+use components::Supervise;
 
 /// Whether the pending deployment is to be rolled back where it fails.
 pub fn is_to_roll_back(device: &Device) -> bool

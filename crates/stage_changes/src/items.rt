@@ -3,22 +3,22 @@ ghost use Rattle.std.specs.Prelude.{◌≡◌, ◌≤◌, ℕ, List, true, false
 ghost use Rattle.device.specs.Devices.{device_view};
 ghost use Rattle.device.specs.Sound.{IsSound};
 ghost use Rattle.step_runner.specs.Entries.{Told};
-ghost use Rattle.supervisor.specs.Answers.{has_answered, standing_count};
-ghost use Rattle.supervisor.specs.Changes.{standing};
-ghost use Rattle.supervisor.specs.Readied.{KeepSteps};
-ghost use Rattle.supervisor.specs.World.{is_stopped};
+ghost use Rattle.components.specs.Answers.{has_answered, standing_count};
+ghost use Rattle.components.specs.Changes.{standing};
+ghost use Rattle.components.specs.Readied.{KeepSteps};
+ghost use Rattle.components.specs.World.{is_stopped};
 ghost use Rattle.session.specs.Happenings.{Happening};
 ghost use Rattle.session.specs.Phases.{duty_of};
 ghost use Rattle.session.specs.Places.{Place, left_by};
 ghost use Rattle.session.specs.Waits.{has_three};
 ghost use Rattle.driver.specs.Went.{Acts};
-ghost use Rattle.ending_laws.specs.Drives.{Rises};
+ghost use Rattle.progress_laws.specs.Drives.{Rises};
 ghost use Rattle.activation.specs.Runs.{Comes, rises};
 ghost use Rattle.stage_changes.specs.Enters.{AreReady, MayEnter};
 
 use device::Device;
-use ending_laws::ready_items_may_come;
-use supervisor::{Mode, Supervise, marks_are_least};
+use progress_laws::ready_items_may_come;
+use components::{Mode, Supervise, marks_are_least};
 use supervisor_laws::{changes_keep, ready_items_are_counted};
 
 /// The items of the stage are to run, each with the failures that are recorded of it. Those that stand and are none of them

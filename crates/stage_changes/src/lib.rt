@@ -1,17 +1,20 @@
-//! From one stage of a deployment to the next.
+//! From one stage of a deployment to the next, and how a call gives up.
 //!
 //! It promises that other items take the place of those that stand as `session` allows it, and that what `activation` asks
 //! of its start holds then; and that a deployment which fails is closed or turned back as its plan wants it, with its one
-//! record, and its line where it closes, also where the call that it failed in stopped before that record. It stands on the
-//! contract of a supervisor and on the laws of its components.
+//! record, and its line where it closes, also where the call that it failed in stopped before that record. Where a call
+//! gives up, the children that live are killed where they are, and nothing else changes. It stands on the contract of a
+//! supervisor and on the laws of its components.
 #![tactic(auto)]
 
+mod abort;
 mod breaking;
 mod failed;
 mod failing;
 mod items;
 mod plan;
 
+pub use abort::kill_all;
 pub use breaking::{break_off_activating, break_off_booting};
 pub use failed::{break_off_again, close_again, keep_again};
 pub use failing::{close_backing, is_to_roll_back, keep_activating, keep_booting};

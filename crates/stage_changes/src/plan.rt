@@ -6,7 +6,7 @@ ghost use Rattle.device.specs.Lawful.{applied};
 ghost use Rattle.deploy_state.specs.Fields.{has_failed};
 ghost use Rattle.deploy_state.specs.States.{InActivating, InBooting, activating_device, booting_device};
 ghost use Rattle.step_runner.specs.Entries.{Told};
-ghost use Rattle.supervisor.specs.World.{World};
+ghost use Rattle.components.specs.World.{World};
 ghost use Rattle.session.specs.Courses.{IsBare};
 ghost use Rattle.session.specs.Happenings.{Happening, records_of};
 ghost use Rattle.session.specs.Phases.{duty_of};

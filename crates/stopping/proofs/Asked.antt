@@ -2,14 +2,14 @@
 use Rattle.std.proofs.Common.{◌≡◌, ℕ, List, [], ◌∷◌, map, Option, Some, None, Bool, true, false, refl, sym, ap, ◌∙◌, inl, inr, subst}
 use Rattle.std.specs.Prelude.{◌||◌, ◌&&◌, not, is_some, if◌then◌else◌}
 use Rattle.std.specs.List.{AllByRecursion, list_any}
-use Rattle.supervisor.specs.World.{World, Part, part_name, is_gone, is_again, under_way, owner}
-use Rattle.supervisor.specs.Changes.{all_stopped, leaving}
-use Rattle.supervisor.specs.Answers.{has_answered}
+use Rattle.components.specs.World.{World, Part, part_name, is_gone, is_again, under_way, owner}
+use Rattle.components.specs.Changes.{all_stopped, leaving}
+use Rattle.components.specs.Answers.{has_answered}
 use Rattle.supervisor_laws.specs.Keeps.{IsTold}
 use Rattle.supervisor_laws.specs.Sound.{IsSoundPart, IsOrderly, Differ, is_bare, is_waiting, is_to_begin_again, may_ask}
-use Rattle.stopping.proofs.Lists.{either, clash, none_of, from_places, at_places}
-use Rattle.stopping.proofs.Counts.{same_living, same_owner}
-use Rattle.stopping.proofs.Together.{same_names, told_each}
+use Rattle.supervisor_laws.proofs.Lists.{either, clash, none_of, from_places, at_places}
+use Rattle.supervisor_laws.proofs.Counts.{same_living, same_owner}
+use Rattle.supervisor_laws.proofs.Together.{same_names, told_each}
 use Rattle.activation.proofs.Answered.{free_is, is_free}
 use Rattle.stopping.specs.Leaves.{Leaves, LeavesPart}
 use Rattle.stopping.proofs.Leaving.{Known}

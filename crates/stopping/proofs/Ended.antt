@@ -5,8 +5,8 @@ use Rattle.nuc_base.specs.declared.kinds.Step.{Step}
 use Rattle.device.specs.Devices.{Device}
 use Rattle.step_runner.specs.Entries.{Told}
 use Rattle.step_runner.specs.declared.entries.RunnerEntry.{RunnerEntry}
-use Rattle.supervisor.specs.World.{World, owner}
-use Rattle.supervisor.specs.Changes.{all_stopped}
+use Rattle.components.specs.World.{World, owner}
+use Rattle.components.specs.Changes.{all_stopped}
 use Rattle.session.specs.Phases.{Phase, idle, booting, activating, backing, rolling, is_idle, duty_of, Duty, Crew, earlier, leaving, present, closing}
 use Rattle.session.specs.Happenings.{StopsAll}
 use Rattle.session.specs.Places.{Place, leaves}

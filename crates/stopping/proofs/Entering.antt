@@ -6,10 +6,10 @@ use Rattle.device.specs.Devices.{Device}
 use Rattle.step_runner.specs.Entries.{Notes, Told}
 use Rattle.step_runner.specs.declared.entries.RunnerEntry.{RunnerEntry}
 use Rattle.step_runner.specs.declared.entries.Seen.{Seen}
-use Rattle.supervisor.specs.World.{World, owner}
-use Rattle.supervisor.specs.Answers.{has_answered}
-use Rattle.supervisor.specs.Events.{later}
-use Rattle.supervisor.specs.Acts.{Move, Quietly}
+use Rattle.components.specs.World.{World, owner}
+use Rattle.components.specs.Answers.{has_answered}
+use Rattle.components.specs.Events.{later}
+use Rattle.components.specs.Acts.{Move, Quietly}
 use Rattle.session.specs.Phases.{Phase, idle, booting, activating, backing, rolling, Crew, duty_of}
 use Rattle.session.specs.Happenings.{Happening, Asked, Moved, Ran}
 use Rattle.session.specs.Places.{Place, is_wait, leaves, left_by, ran}

@@ -3,12 +3,12 @@ use Rattle.std.specs.Prelude.{ℕ, Bool, true, false, List, [], ◌∷◌}
 use Rattle.std.specs.List.{AllByRecursion, list_all}
 use Rattle.std.proofs.Common.{◌≡◌, ◌⊎◌, ◌<◌, ◌+◌, ◌^◌, inl, inr, refl, sym, subst}
 use Rattle.step_runner.specs.Entries.{Told}
-use Rattle.supervisor.specs.World.{Part, World, is_leaving, is_stopped}
+use Rattle.components.specs.World.{Part, World, is_leaving, is_stopped}
 use Rattle.session.specs.Places.{Place}
 use Rattle.progress_laws.specs.Kept.{IsFalling}
 use Rattle.progress_laws.specs.Time.{HasTime}
-use Rattle.ending_laws.specs.Drives.{Drives}
-use Rattle.ending_laws.proofs.Stands.{leaves}
+use Rattle.progress_laws.specs.Drives.{Drives}
+use Rattle.progress_laws.proofs.Stands.{leaves}
 use Rattle.stopping.specs.Leaves.{Leaves, LeavesPart}
 use Rattle.stopping.specs.Runs.{MaySit, Runs}
 

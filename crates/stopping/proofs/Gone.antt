@@ -12,17 +12,17 @@ use Rattle.lifecycle.specs.Awaits.{is_busy_with, is_same_step}
 use Rattle.lifecycle.specs.declared.kinds.LifeEvent.{LifeEvent}
 use Rattle.lifecycle.specs.declared.kinds.LifeEvent.TheVariants as event
 use Rattle.lifecycle.specs.declared.kinds.After.{After}
-use Rattle.supervisor.specs.World.{World, Part, Child, At, child_of, child_gone, without_child, owner, owner_from}
-use Rattle.supervisor.specs.Lives.{lived_at}
-use Rattle.supervisor.specs.Events.{gone_by, is_orphan_at, ended, killed, kill_event, kill_event_at, is_late_child}
-use Rattle.supervisor.specs.Answers.{living_numbers, child_numbers}
+use Rattle.components.specs.World.{World, Part, Child, At, child_of, child_gone, without_child, owner, owner_from}
+use Rattle.components.specs.Lives.{lived_at}
+use Rattle.components.specs.Events.{gone_by, is_orphan_at, ended, killed, kill_event, kill_event_at, is_late_child}
+use Rattle.components.specs.Answers.{living_numbers, child_numbers}
 use Rattle.supervisor_laws.specs.Sound.{IsSoundPart, is_run, Differ}
 use Rattle.supervisor_laws.specs.Keeps.{Owns}
 use Rattle.stopping.specs.Leaves.{Leaves}
-use Rattle.stopping.proofs.Lists.{either, clash, some_same, no_some}
-use Rattle.stopping.proofs.Made.{MayBefall, begins, ends_fairly}
-use Rattle.stopping.proofs.Counts.{count, differ_few, count_changed, count_but_self, count_but_other, same_living, one_owns, owns_one, none_owns, child_counted}
-use Rattle.stopping.proofs.Together.{event_children}
+use Rattle.supervisor_laws.proofs.Lists.{either, clash, some_same, no_some}
+use Rattle.supervisor_laws.proofs.Made.{MayBefall, begins, ends_fairly}
+use Rattle.supervisor_laws.proofs.Counts.{count, differ_few, count_changed, count_but_self, count_but_other, same_living, one_owns, owns_one, none_owns, child_counted}
+use Rattle.supervisor_laws.proofs.Together.{event_children}
 use Rattle.stopping.proofs.Leaving.{gone_by_keeps}
 
 -- ---- the owner of a child

@@ -6,17 +6,17 @@ use Rattle.nuc_base.specs.declared.kinds.Exit.{Exit}
 use Rattle.nuc_base.specs.declared.kinds.Step.{Step}
 use Rattle.step_runner.specs.Entries.{Told}
 use Rattle.step_runner.specs.declared.entries.RunnerEntry.{RunnerEntry}
-use Rattle.supervisor.specs.World.{World, Part}
-use Rattle.supervisor.specs.Turns.{IsQuiet}
-use Rattle.supervisor.specs.Acts.{HandsOut, NextAct, OwesAt, Quietly}
-use Rattle.supervisor.specs.declared.kinds.Act.{Act}
-use Rattle.supervisor.specs.declared.kinds.Act.TheVariants.{Start, Failed, Broke}
+use Rattle.components.specs.World.{World, Part}
+use Rattle.components.specs.Turns.{IsQuiet}
+use Rattle.components.specs.Acts.{HandsOut, NextAct, OwesAt, Quietly}
+use Rattle.components.specs.declared.kinds.Act.{Act}
+use Rattle.components.specs.declared.kinds.Act.TheVariants.{Start, Failed, Broke}
 use Rattle.session.specs.Places.{Place, left_by}
 use Rattle.stopping.specs.Laws.{Laws}
 use Rattle.stopping.specs.Runs.{IsStarting, IsWithin, Runs}
-use Rattle.supervisor.specs.World.{is_broken, part_name, place_of}
+use Rattle.components.specs.World.{is_broken, part_name, place_of}
 use Rattle.stopping.specs.Leaves.{Leaves, LeavesPart}
-use Rattle.stopping.proofs.Lists.{at_places, no_some}
+use Rattle.supervisor_laws.proofs.Lists.{at_places, no_some}
 use Rattle.stopping.proofs.Entering.{MovedTo, moves_on}
 
 pub moved : Laws → (p : Place) (v w : World) (told : Told) (living : List ℕ) (list : Option (List RunnerEntry)) (a : Option Act) → Runs p v told living → (n : NextAct v a w) → MovedTo p told living list n.seen

@@ -10,11 +10,11 @@ use Rattle.lifecycle.specs.declared.kinds.After.{After}
 use Rattle.lifecycle.specs.declared.kinds.After.TheVariants as after
 use Rattle.lifecycle.specs.declared.kinds.LifeEvent.{LifeEvent}
 use Rattle.lifecycle.specs.declared.kinds.LifeEvent.TheVariants as event
-use Rattle.supervisor.specs.Fitted.{Fitted}
-use Rattle.supervisor.specs.World.{Part, Child, is_leaving, under_way}
-use Rattle.supervisor.specs.Lives.{lived}
+use Rattle.components.specs.Fitted.{Fitted}
+use Rattle.components.specs.World.{Part, Child, is_leaving, under_way}
+use Rattle.components.specs.Lives.{lived}
 use Rattle.supervisor_laws.specs.Sound.{may_ask}
-use Rattle.stopping.proofs.Made.{mk, MayBefall}
+use Rattle.supervisor_laws.proofs.Made.{mk, MayBefall}
 
 abbrev pub leaves_quietly : Part → Bool
 leaves_quietly p = (is_leaving p && not (is_some p.owed)) && not (is_some p.next)

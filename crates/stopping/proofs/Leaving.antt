@@ -11,22 +11,22 @@ use Rattle.nuc_base.specs.declared.kinds.Exit.TheVariants as exits
 use Rattle.lifecycle.specs.Awaits.{is_busy_with, is_same_step}
 use Rattle.lifecycle.specs.declared.kinds.LifeEvent.{LifeEvent}
 use Rattle.lifecycle.specs.declared.kinds.LifeEvent.TheVariants as event
-use Rattle.supervisor.specs.Fitted.{Fitted, prepared_of, limit_of}
-use Rattle.supervisor.specs.Deadlines.{deadline_after}
-use Rattle.supervisor.specs.World.{World, Part, Child, At, changed_at, part_name, child_gone, without_child, owner, is_leaving, under_way}
-use Rattle.supervisor.specs.Lives.{lived, lived_at}
-use Rattle.supervisor.specs.Events.{answered_at, refused, skipped, started, with_child, gone_by, is_orphan_at}
-use Rattle.supervisor.specs.Acts.{Move, Quietly}
-use Rattle.supervisor.specs.Answers.{living_numbers}
+use Rattle.components.specs.Fitted.{Fitted, prepared_of, limit_of}
+use Rattle.components.specs.Deadlines.{deadline_after}
+use Rattle.components.specs.World.{World, Part, Child, At, changed_at, part_name, child_gone, without_child, owner, is_leaving, under_way}
+use Rattle.components.specs.Lives.{lived, lived_at}
+use Rattle.components.specs.Events.{answered_at, refused, skipped, started, with_child, gone_by, is_orphan_at}
+use Rattle.components.specs.Acts.{Move, Quietly}
+use Rattle.components.specs.Answers.{living_numbers}
 use Rattle.supervisor_laws.specs.Sound.{IsSoundPart, Differ, may_ask}
-use Rattle.stopping.proofs.Lists.{either, clash, none_of, not_so, no_some, from_places, at_places, changed_all, changed_same}
-use Rattle.stopping.proofs.Reached.{Marks, idle_of}
-use Rattle.stopping.proofs.Items.{lived_gone}
-use Rattle.stopping.proofs.Made.{MayBefall, begins, ends_fairly}
-use Rattle.stopping.proofs.Moved.{moves_befall}
-use Rattle.stopping.proofs.Alone.{runs_in, with_these, sound_these, same_name, run_lived, sound_lived, launch_lived, mark_sound, but, run_but, IsNamed}
-use Rattle.stopping.proofs.Counts.{count, differ_few, few_differ, count_changed, count_but, same_living, same_owner, one_owns, owns_one, none_owns}
-use Rattle.stopping.proofs.Together.{event_all, plain_all, event_same, event_children, event_names, same_names, sound_of}
+use Rattle.supervisor_laws.proofs.Lists.{either, clash, none_of, not_so, no_some, from_places, at_places, changed_all, changed_same}
+use Rattle.supervisor_laws.proofs.Reached.{Marks, idle_of}
+use Rattle.supervisor_laws.proofs.Items.{lived_gone}
+use Rattle.supervisor_laws.proofs.Made.{MayBefall, begins, ends_fairly}
+use Rattle.supervisor_laws.proofs.Moved.{moves_befall}
+use Rattle.supervisor_laws.proofs.Alone.{runs_in, with_these, sound_these, same_name, run_lived, sound_lived, launch_lived, mark_sound, but, run_but, IsNamed}
+use Rattle.supervisor_laws.proofs.Counts.{count, differ_few, few_differ, count_changed, count_but, same_living, same_owner, one_owns, owns_one, none_owns}
+use Rattle.supervisor_laws.proofs.Together.{event_all, plain_all, event_same, event_children, event_names, same_names, sound_of}
 use Rattle.std.proofs.lemmas.Bool.{eqb-true, eq-eqb}
 use Rattle.supervisor_laws.specs.Keeps.{Owns}
 use Rattle.stopping.specs.Leaves.{Leaves, LeavesPart}

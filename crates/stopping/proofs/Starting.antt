@@ -8,13 +8,13 @@ use Rattle.recipe_reader.specs.declared.recipe.Skip.TheVariants as skips
 use Rattle.step_runner.specs.Entries.{Notes, Told, without}
 use Rattle.step_runner.specs.declared.command.Command.{Command}
 use Rattle.step_runner.specs.declared.entries.Seen.TheVariants as seen
-use Rattle.supervisor.specs.Fitted.{prepared_of}
-use Rattle.supervisor.specs.World.{World, Part, At, owner}
-use Rattle.supervisor.specs.Turns.{IsNext, is_begun}
-use Rattle.supervisor.specs.Acts.{HasStart, MayKill}
-use Rattle.supervisor.specs.Events.{handed_at, killed, refused, skipped, started}
-use Rattle.supervisor.specs.declared.kinds.Prepared.{Prepared}
-use Rattle.supervisor.proofs.Handed.{refused-handed, skipped-handed, started-handed}
+use Rattle.components.specs.Fitted.{prepared_of}
+use Rattle.components.specs.World.{World, Part, At, owner}
+use Rattle.components.specs.Turns.{IsNext, is_begun}
+use Rattle.components.specs.Acts.{HasStart, MayKill}
+use Rattle.components.specs.Events.{handed_at, killed, refused, skipped, started}
+use Rattle.components.specs.declared.kinds.Prepared.{Prepared}
+use Rattle.components.proofs.Handed.{refused-handed, skipped-handed, started-handed}
 use Rattle.session.specs.Phases.{duty_of}
 use Rattle.session.specs.Happenings.{Happening, Ran}
 use Rattle.session.specs.Places.{Place, is_wait, leaves, left_by, ran, says_no}

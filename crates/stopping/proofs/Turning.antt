@@ -3,7 +3,7 @@ use Rattle.std.specs.Prelude.{ℕ, Bool, true, false, List}
 use Rattle.std.proofs.Common.{◌≡◌, ◌∙◌, sym, ap}
 use Rattle.device.specs.Devices.{Device}
 use Rattle.step_runner.specs.Entries.{Told}
-use Rattle.supervisor.specs.World.{World, is_stopped}
+use Rattle.components.specs.World.{World, is_stopped}
 use Rattle.session.specs.Places.{Place}
 use Rattle.driver.proofs.Still.{childless}
 use Rattle.stopping.specs.Runs.{ActLeft, Comes, MaySit}

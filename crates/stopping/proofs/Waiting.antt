@@ -6,10 +6,10 @@ use Rattle.nuc_base.specs.declared.kinds.Step.{Step}
 use Rattle.device.specs.Devices.{Device}
 use Rattle.step_runner.specs.Entries.{Notes, Told, without}
 use Rattle.step_runner.specs.declared.entries.Seen.TheVariants as seen
-use Rattle.supervisor.specs.World.{World, is_stopped, owner}
-use Rattle.supervisor.specs.Deadlines.{least_deadline, until}
-use Rattle.supervisor.specs.Answers.{has_answered}
-use Rattle.supervisor.specs.Events.{ended, later}
+use Rattle.components.specs.World.{World, is_stopped, owner}
+use Rattle.components.specs.Deadlines.{least_deadline, until}
+use Rattle.components.specs.Answers.{has_answered}
+use Rattle.components.specs.Events.{ended, later}
 use Rattle.session.specs.Phases.{Phase, idle, booting, activating, backing, rolling, Crew, duty_of}
 use Rattle.session.specs.Happenings.{Happening, Ran, Slept}
 use Rattle.session.specs.Places.{Place, leaves, left_by}

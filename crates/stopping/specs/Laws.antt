@@ -2,9 +2,9 @@
 use Rattle.std.specs.Prelude.{◌≡◌, ◌≢◌, ◌↔◌, ◌⊎◌, ℕ, List, None, ⊤}
 use Rattle.nuc_base.specs.declared.kinds.Step.{Step}
 use Rattle.nuc_base.specs.declared.kinds.Exit.{Exit}
-use Rattle.supervisor.specs.World.{World, At, owner}
-use Rattle.supervisor.specs.Events.{started, refused, skipped, killed, ended, later}
-use Rattle.supervisor.specs.Acts.{Move, Quietly}
+use Rattle.components.specs.World.{World, At, owner}
+use Rattle.components.specs.Events.{started, refused, skipped, killed, ended, later}
+use Rattle.components.specs.Acts.{Move, Quietly}
 use Rattle.supervisor_laws.specs.Keeps.{Owns}
 use Rattle.stopping.specs.Leaves.{Leaves}
 

@@ -1,7 +1,7 @@
 -- What is kept of components that all leave, whatever befalls them.
 use Rattle.std.specs.Prelude.{◌≡◌, true, None}
 use Rattle.std.specs.List.{AllByRecursion}
-use Rattle.supervisor.specs.World.{World, Part, is_leaving}
+use Rattle.components.specs.World.{World, Part, is_leaving}
 use Rattle.supervisor_laws.specs.Sound.{IsOrderly}
 
 -- It goes away, so that it fails no more, and no item takes its place.

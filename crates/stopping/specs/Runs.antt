@@ -3,11 +3,11 @@ use Rattle.std.specs.Prelude.{◌≡◌, ◌⊎◌, ◌↔◌, ℕ, Bool, true, 
 use Rattle.nuc_base.specs.declared.kinds.Step.{Step}
 use Rattle.device.specs.Devices.{Device}
 use Rattle.step_runner.specs.Entries.{Told}
-use Rattle.supervisor.specs.World.{World, At, owner, is_stopped}
-use Rattle.supervisor.specs.Turns.{IsNext, IsQuiet}
-use Rattle.supervisor.specs.Acts.{HasStart}
-use Rattle.supervisor.specs.Answers.{has_answered}
-use Rattle.supervisor.specs.Events.{handed_at}
+use Rattle.components.specs.World.{World, At, owner, is_stopped}
+use Rattle.components.specs.Turns.{IsNext, IsQuiet}
+use Rattle.components.specs.Acts.{HasStart}
+use Rattle.components.specs.Answers.{has_answered}
+use Rattle.components.specs.Events.{handed_at}
 use Rattle.session.specs.Phases.{Phase, idle, booting, activating, backing, rolling, duty_of, Crew, leaving, closing}
 use Rattle.session.specs.Places.{Place}
 use Rattle.session.specs.Follows.{HasStep}

@@ -2,8 +2,8 @@
 use Rattle.std.specs.Prelude.{◌≡◌, ℕ, Bool, true, false, List, None}
 use Rattle.device.specs.Devices.{Device}
 use Rattle.step_runner.specs.Entries.{Told}
-use Rattle.supervisor.specs.World.{World, is_stopped}
-use Rattle.supervisor.specs.Turns.{IsQuiet}
+use Rattle.components.specs.World.{World, is_stopped}
+use Rattle.components.specs.Turns.{IsQuiet}
 use Rattle.supervisor_laws.specs.Keeps.{IsTold}
 use Rattle.supervisor_laws.specs.Sound.{IsOrderly}
 use Rattle.session.specs.Phases.{duty_of}

@@ -4,13 +4,13 @@ ghost use Rattle.step_runner.specs.Entries.{Listed};
 ghost use Rattle.session.specs.Happenings.{Happening};
 ghost use Rattle.session.specs.Places.{Place, left_by};
 ghost use Rattle.driver.specs.Went.{Acts};
-ghost use Rattle.ending_laws.specs.Drives.{Drives, Falls, NotAbove};
+ghost use Rattle.progress_laws.specs.Drives.{Drives, Falls, NotAbove};
 ghost use Rattle.stopping.specs.Runs.{ActLeft, Runs};
 
 use crate::laws::leaving_laws;
 use crate::starts::start_step;
 use step_runner::Runner;
-use supervisor::{Act, Supervise};
+use components::{Act, Supervise};
 
 /// Takes the next act. Tells whether there was none. A failure is none: who leaves owes none.
 fn act<R: Runner, S: Supervise>(runner: &mut R, supervisor: &mut S, now: u64) -> bool

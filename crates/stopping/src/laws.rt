@@ -1,7 +1,7 @@
 // The laws of components that leave, on which the stops rest.
 ghost use Rattle.std.specs.Prelude.{◌≡◌};
-ghost use Rattle.supervisor.specs.Changes.{all_stopped};
-ghost use Rattle.supervisor.specs.World.{World};
+ghost use Rattle.components.specs.Changes.{all_stopped};
+ghost use Rattle.components.specs.World.{World};
 ghost use Rattle.supervisor_laws.specs.Keeps.{IsTold};
 ghost use Rattle.supervisor_laws.specs.Sound.{IsOrderly};
 ghost use Rattle.stopping.specs.Laws.{Laws};

@@ -2,19 +2,19 @@
 ghost use Rattle.std.specs.Prelude.{◌≡◌, ◌≤◌, ◌<◌, ◌^◌, ℕ, List, true, false};
 ghost use Rattle.device.specs.Devices.{Device};
 ghost use Rattle.step_runner.specs.Entries.{Listed};
-ghost use Rattle.supervisor.specs.Events.{skipped};
+ghost use Rattle.components.specs.Events.{skipped};
 ghost use Rattle.session.specs.Happenings.{Happening};
 ghost use Rattle.session.specs.Places.{Place, left_by};
 ghost use Rattle.driver.specs.Went.{Acts};
 ghost use Rattle.progress_laws.specs.Kept.{IsFalling};
-ghost use Rattle.ending_laws.specs.Drives.{Drives, Falls, NotAbove};
+ghost use Rattle.progress_laws.specs.Drives.{Drives, Falls, NotAbove};
 ghost use Rattle.stopping.specs.Runs.{Comes, IsStarting, MayLaunch, Runs};
 
 use crate::laws::leaving_laws;
 use driver::probes;
 use nuc_base::Step;
 use step_runner::Runner;
-use supervisor::{Event, Supervise};
+use components::{Event, Supervise};
 
 /// Asks for the moment and tells it.
 pub(crate) fn pass<R: Runner, S: Supervise>(runner: &mut R, supervisor: &mut S) -> u64

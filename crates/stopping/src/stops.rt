@@ -5,14 +5,14 @@ ghost use Rattle.step_runner.specs.Entries.{Listed};
 ghost use Rattle.session.specs.Happenings.{Happening};
 ghost use Rattle.session.specs.Places.{Place, left_by};
 ghost use Rattle.driver.specs.Went.{Acts};
-ghost use Rattle.ending_laws.specs.Drives.{Drives};
+ghost use Rattle.progress_laws.specs.Drives.{Drives};
 ghost use Rattle.stopping.specs.Runs.{Comes};
 ghost use Rattle.stopping.specs.Stops.{HasStopped, MayStop};
 
 use crate::laws::{leaving_laws, stops_leave};
 use crate::turns::turn;
 use step_runner::Runner;
-use supervisor::Supervise;
+use components::Supervise;
 
 /// Takes turns until none stands.
 fn stop_on<R: Runner, S: Supervise>(runner: &mut R, supervisor: &mut S)

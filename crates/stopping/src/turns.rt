@@ -5,9 +5,9 @@ ghost use Rattle.step_runner.specs.Entries.{Listed};
 ghost use Rattle.session.specs.Happenings.{Happening};
 ghost use Rattle.session.specs.Places.{Place, left_by};
 ghost use Rattle.driver.specs.Went.{Acts};
-ghost use Rattle.supervisor.specs.Events.{later};
+ghost use Rattle.components.specs.Events.{later};
 ghost use Rattle.progress_laws.specs.Rank.{measure};
-ghost use Rattle.ending_laws.specs.Drives.{Drives};
+ghost use Rattle.progress_laws.specs.Drives.{Drives};
 ghost use Rattle.stopping.specs.Runs.{Comes};
 ghost use Rattle.stopping.specs.Stops.{TurnLeft};
 
@@ -15,7 +15,7 @@ use crate::acts::take_acts;
 use crate::starts::pass;
 use crate::waits::wait_once;
 use step_runner::Runner;
-use supervisor::Supervise;
+use components::Supervise;
 
 /// Asks for the moment, takes every act, and waits where one still stands: then a child ended, or time went on. Tells whether
 /// none stands.

@@ -8,13 +8,13 @@ ghost use Rattle.driver.specs.Went.{Acts};
 ghost use Rattle.progress_laws.specs.Kept.{IsFalling};
 ghost use Rattle.progress_laws.specs.Rank.{rank};
 ghost use Rattle.progress_laws.specs.Time.{HasTime};
-ghost use Rattle.ending_laws.specs.Drives.{Drives, NotAbove};
+ghost use Rattle.progress_laws.specs.Drives.{Drives, NotAbove};
 ghost use Rattle.stopping.specs.Runs.{Comes, MaySit};
 
 use crate::laws::leaving_laws;
 use activation::longest_wait;
 use step_runner::{Runner, Waited};
-use supervisor::{Event, Supervise};
+use components::{Event, Supervise};
 
 /// Waits for the end of a child or to the next deadline, and tells what came.
 pub(crate) fn wait_once<R: Runner, S: Supervise>(runner: &mut R, supervisor: &mut S, now: u64)

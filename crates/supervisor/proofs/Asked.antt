@@ -12,17 +12,17 @@ use Rattle.lifecycle.specs.Laws.{has_step, is_kill}
 use Rattle.lifecycle.specs.declared.kinds.StepSet.{StepSet}
 use Rattle.lifecycle.specs.declared.kinds.After.{After}
 use Rattle.lifecycle.specs.declared.kinds.LifeEvent.TheVariants as event
-use Rattle.supervisor.specs.Fitted.{Fitted, prepared_of, steps_of}
-use Rattle.supervisor.specs.World.{Part, Child, has_orphan, is_orphan, is_running}
-use Rattle.supervisor.specs.Deadlines.{has_passed}
-use Rattle.supervisor.specs.Turns.{is_begun, is_late, is_to_start, is_unstarted, may_retry}
-use Rattle.supervisor.specs.Rows.{is_stop_ready}
-use Rattle.supervisor.specs.Runs.{IsKeptPart}
-use Rattle.supervisor.specs.Acts.{HasStart, kills}
+use Rattle.components.specs.Fitted.{Fitted, prepared_of, steps_of}
+use Rattle.components.specs.World.{Part, Child, has_orphan, is_orphan, is_running}
+use Rattle.components.specs.Deadlines.{has_passed}
+use Rattle.components.specs.Turns.{is_begun, is_late, is_to_start, is_unstarted, may_retry}
+use Rattle.components.specs.Rows.{is_stop_ready}
+use Rattle.components.specs.Runs.{IsKeptPart}
+use Rattle.components.specs.Acts.{HasStart, kills}
 use Rattle.supervisor.specs.Deeds.{IsAmong, HasChild, IsFor, has_deed, kills_by}
 use Rattle.supervisor.specs.declared.acting.Deed.{Deed}
 use Rattle.supervisor.specs.declared.acting.Deed.TheVariants.{Moves, Kills}
-use Rattle.supervisor.specs.Whole.{IsWhole, keeps_run}
+use Rattle.components.specs.Whole.{IsWhole, keeps_run}
 
 -- ---- its start
 

@@ -9,29 +9,29 @@ use Rattle.nuc_base.specs.declared.kinds.Exit.{Exit}
 use Rattle.lifecycle.specs.declared.kinds.After.{After}
 use Rattle.lifecycle.specs.declared.kinds.LifeEvent.{LifeEvent}
 use Rattle.lifecycle.specs.declared.kinds.LifeEvent.TheVariants as event
-use Rattle.supervisor.specs.World.{World, Part, Child, At, part_name, place_of, place_from, changed_at, owner, owner_from, child_of, is_orphan, is_broken, has_orphan}
-use Rattle.supervisor.specs.Deadlines.{has_passed}
-use Rattle.supervisor.specs.Turns.{may_act, may_begin, may_retry, may_stop, is_late, is_to_start, owes, IsNext}
-use Rattle.supervisor.specs.Rows.{is_stop_ready}
-use Rattle.supervisor.specs.Lives.{lived_at}
-use Rattle.supervisor.specs.Events.{handed_at, killed, told_at, is_late_child, gone_by, kill_event_at}
-use Rattle.supervisor.specs.Acts.{MayMove, MayKill, HasStart, kills, spares, is_stop_due, is_kill_due, Move, Quietly, HandsOut, NextAct, OwesAt}
-use Rattle.supervisor.specs.Answers.{living_numbers, child_numbers}
-use Rattle.supervisor.specs.Readied.{AreApart, AreNamesApart, IsKept}
-use Rattle.supervisor.specs.Whole.{AreWhole, work}
-use Rattle.supervisor.specs.Flags.{at_moment}
+use Rattle.components.specs.World.{World, Part, Child, At, part_name, place_of, place_from, changed_at, owner, owner_from, child_of, is_orphan, is_broken, has_orphan}
+use Rattle.components.specs.Deadlines.{has_passed}
+use Rattle.components.specs.Turns.{may_act, may_begin, may_retry, may_stop, is_late, is_to_start, owes, IsNext}
+use Rattle.components.specs.Rows.{is_stop_ready}
+use Rattle.components.specs.Lives.{lived_at}
+use Rattle.components.specs.Events.{handed_at, killed, told_at, is_late_child, gone_by, kill_event_at}
+use Rattle.components.specs.Acts.{MayMove, MayKill, HasStart, kills, spares, is_stop_due, is_kill_due, Move, Quietly, HandsOut, NextAct, OwesAt}
+use Rattle.components.specs.Answers.{living_numbers, child_numbers}
+use Rattle.components.specs.Readied.{AreApart, AreNamesApart, IsKept}
+use Rattle.components.specs.Whole.{AreWhole, work}
+use Rattle.components.specs.Flags.{at_moment}
 use Rattle.supervisor.specs.Deeds.{kills_by, IsAmong, IsFor, has_deed, MayDo, IsFirst, IsDone, IsOwed}
 use Rattle.supervisor.specs.declared.acting.Deed.{Deed}
 use Rattle.supervisor.specs.declared.acting.Deed.TheVariants.{Moves, Starts, Kills}
-use Rattle.supervisor.specs.declared.kinds.Act.{Act}
-use Rattle.supervisor.specs.declared.kinds.Act.TheVariants as acts
-use Rattle.supervisor.proofs.Each.{at_below, length_changed}
+use Rattle.components.specs.declared.kinds.Act.{Act}
+use Rattle.components.specs.declared.kinds.Act.TheVariants as acts
+use Rattle.components.proofs.Each.{at_below, length_changed}
 use Rattle.supervisor.proofs.Goings.{killed_whole, handed_whole, told_whole}
-use Rattle.supervisor.proofs.Kept.{kept_kids, kept_lived, kept_gone}
-use Rattle.supervisor.proofs.Kids.{kids_changed}
-use Rattle.supervisor.proofs.Names.{stay_changed, flips, name_same}
-use Rattle.supervisor.proofs.Whole.{plain_whole, apart_at, apart_first, apart_last}
-use Rattle.supervisor.proofs.Moved.{move_owes, move_works, move_no_launch}
+use Rattle.components.proofs.Kept.{kept_kids, kept_lived, kept_gone}
+use Rattle.components.proofs.Kids.{kids_changed}
+use Rattle.components.proofs.Names.{stay_changed, flips, name_same}
+use Rattle.components.proofs.Whole.{plain_whole, apart_at, apart_first, apart_last}
+use Rattle.components.proofs.Moved.{move_owes, move_works, move_no_launch}
 
 -- ---- children by their numbers
 

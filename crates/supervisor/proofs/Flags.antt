@@ -6,12 +6,12 @@ use Rattle.std.proofs.Math.ListN.{set}
 use Rattle.std.proofs.lemmas.Bool.{cases_eq}
 use Rattle.std.specs.Str.{bytes_eq}
 use Rattle.std.specs.Prelude.{◌&&◌, ◌||◌, not, if◌then◌else◌, slice_set}
-use Rattle.supervisor.specs.World.{Part, At, part_name}
-use Rattle.supervisor.specs.Changes.{is_replacing, replanned}
-use Rattle.supervisor.specs.Marks.{Flagged, grown, reaching, is_flagged, needs_flagged, flagged, flagged_at, marked, restarted, may_restart, may_replan, Within, IsClosedBack}
-use Rattle.supervisor.specs.Flags.{with_flags, free, may_by, joins, Under, Grows, Spreads}
-use Rattle.supervisor.proofs.Each.{at_more}
-use Rattle.supervisor.proofs.Closes.{within_refl, trans, needs_more, most, closes, least}
+use Rattle.components.specs.World.{Part, At, part_name}
+use Rattle.components.specs.Changes.{is_replacing, replanned}
+use Rattle.components.specs.Marks.{Flagged, grown, reaching, is_flagged, needs_flagged, flagged, flagged_at, marked, restarted, may_restart, may_replan, Within, IsClosedBack}
+use Rattle.components.specs.Flags.{with_flags, free, may_by, joins, Under, Grows, Spreads}
+use Rattle.components.proofs.Each.{at_more}
+use Rattle.components.proofs.Closes.{within_refl, trans, needs_more, most, closes, least}
 
 antisym_flag : (a b : Bool) → (a ≡ true → b ≡ true) → (b ≡ true → a ≡ true) → a ≡ b
 antisym_flag true true f g = refl

@@ -4,12 +4,12 @@ use Rattle.std.specs.Prelude.{◌&&◌, ◌||◌}
 use Rattle.std.specs.List.{list_any}
 use Rattle.std.specs.Str.{bytes_eq}
 use Rattle.std.proofs.lemmas.Bool.{or_parts, or_left, or_right, and_right}
-use Rattle.supervisor.specs.Flags.{with_flags}
-use Rattle.supervisor.specs.Marks.{Flagged, is_flagged, needs_flagged}
-use Rattle.supervisor.specs.Readied.{AreNamesApart}
-use Rattle.supervisor.specs.Turns.{is_met}
-use Rattle.supervisor.specs.World.{Part, At, part_name}
-use Rattle.supervisor.proofs.Names.{names, flips, same_name}
+use Rattle.components.specs.Flags.{with_flags}
+use Rattle.components.specs.Marks.{Flagged, is_flagged, needs_flagged}
+use Rattle.components.specs.Readied.{AreNamesApart}
+use Rattle.components.specs.Turns.{is_met}
+use Rattle.components.specs.World.{Part, At, part_name}
+use Rattle.components.proofs.Names.{names, flips, same_name}
 
 none_other : (t : Part → Bool) (p : Part) (n : List ℕ) (b : Bool) → bytes_eq n (part_name p) ≡ false → b ≡ false → ((bytes_eq (part_name p) n && t p) || b) ≡ false
 none_other t p n b e f = ap (λ (x : Bool). (x && t p) || b) (flips (part_name p) n ∙ e) ∙ f

@@ -15,21 +15,21 @@ use Rattle.lifecycle.specs.declared.kinds.After.TheVariants as stops
 use Rattle.lifecycle.specs.declared.kinds.LifeAct.{LifeAct}
 use Rattle.lifecycle.specs.declared.kinds.LifeEvent.{LifeEvent}
 use Rattle.lifecycle.specs.declared.kinds.LifeEvent.TheVariants as event
-use Rattle.supervisor.specs.World.{World, Part, Child, At, changed_at, without_child, child_of, child_gone, owner, owner_from, is_orphan, is_gone, under_way}
-use Rattle.supervisor.specs.Deadlines.{deadline_after}
-use Rattle.supervisor.specs.Fitted.{prepared_of, limit_of}
-use Rattle.supervisor.specs.Events.{gone_by, is_orphan_at, ended, killed, kill_event, kill_event_at, is_late_child, with_child, launched, answered_at, noticed, later}
-use Rattle.supervisor.specs.Lives.{lived_at}
-use Rattle.supervisor.specs.Changes.{leaving, forgetting}
-use Rattle.supervisor.specs.declared.kinds.Event.{Event}
-use Rattle.supervisor.specs.declared.kinds.Event.TheVariants.{Started, Refused, Skipped, Ended, Passed}
-use Rattle.supervisor.specs.Turns.{may_stop}
-use Rattle.supervisor.specs.Acts.{MayKill, is_kill_due, is_stop_due, kills}
-use Rattle.supervisor.specs.Answers.{living_numbers}
-use Rattle.supervisor.specs.Readied.{AreApart}
-use Rattle.supervisor.specs.Whole.{has_run_child, keeps_run, IsWhole, AreWhole}
-use Rattle.supervisor.proofs.Tables.{after, kills_row}
-use Rattle.supervisor.proofs.Whole.{lived_whole, keeps_from, keeps_gives, other_keeps, launch_keeps, run_end_keeps, other_removed, apart_at, changed_whole, lived_at_whole, plain_whole}
+use Rattle.components.specs.World.{World, Part, Child, At, changed_at, without_child, child_of, child_gone, owner, owner_from, is_orphan, is_gone, under_way}
+use Rattle.components.specs.Deadlines.{deadline_after}
+use Rattle.components.specs.Fitted.{prepared_of, limit_of}
+use Rattle.components.specs.Events.{gone_by, is_orphan_at, ended, killed, kill_event, kill_event_at, is_late_child, with_child, launched, answered_at, noticed, later}
+use Rattle.components.specs.Lives.{lived_at}
+use Rattle.components.specs.Changes.{leaving, forgetting}
+use Rattle.components.specs.declared.kinds.Event.{Event}
+use Rattle.components.specs.declared.kinds.Event.TheVariants.{Started, Refused, Skipped, Ended, Passed}
+use Rattle.components.specs.Turns.{may_stop}
+use Rattle.components.specs.Acts.{MayKill, is_kill_due, is_stop_due, kills}
+use Rattle.components.specs.Answers.{living_numbers}
+use Rattle.components.specs.Readied.{AreApart}
+use Rattle.components.specs.Whole.{has_run_child, keeps_run, IsWhole, AreWhole}
+use Rattle.components.proofs.Tables.{after, kills_row}
+use Rattle.components.proofs.Whole.{lived_whole, keeps_from, keeps_gives, other_keeps, launch_keeps, run_end_keeps, other_removed, apart_at, changed_whole, lived_at_whole, plain_whole}
 
 pub at_of : (P : Part → Type 0) (k : ℕ) (ps : List Part) (p : Part) → At k P ps → slice_get ps k ≡ Some p → P p
 at_of P k ps p h e = subst (λ (o : Option Part). IsSomeAnd o P) e h

@@ -1,10 +1,10 @@
 -- All that a change makes of the components, from its parts.
 use Rattle.std.proofs.Common.{◌≡◌, List, ap, ◌∙◌, map}
-use Rattle.supervisor.specs.Changes.{Coming, fate, fresh_part, newcomers, replanned, with_newcomers}
-use Rattle.supervisor.specs.Merges.{unmet}
-use Rattle.supervisor.specs.Readied.{coming_of}
-use Rattle.supervisor.specs.World.{Part}
-use Rattle.supervisor.proofs.Meets.{coming_again_of, unmet_newcomers}
+use Rattle.components.specs.Changes.{Coming, fate, fresh_part, newcomers, replanned, with_newcomers}
+use Rattle.components.specs.Merges.{unmet}
+use Rattle.components.specs.Readied.{coming_of}
+use Rattle.components.specs.World.{Part}
+use Rattle.components.proofs.Meets.{coming_again_of, unmet_newcomers}
 
 pub all_changed : (ns : List Coming) (ps cs ds qs rs : List Part) → cs ≡ map fresh_part ns → ds ≡ unmet ps cs → qs ≡ replanned (map (fate (map coming_of cs)) ps) → rs ≡ with_newcomers ds qs → rs ≡ with_newcomers (newcomers ns ps) (replanned (map (fate ns) ps))
 all_changed ns ps cs ds qs rs e f g h =

@@ -1,6 +1,6 @@
 -- A search for the owner of a child.
 use Rattle.std.proofs.Common.{◌≡◌, ◌+◌, ℕ, suc, zero, List, [], ◌∷◌, Option, Some, None, sym, ap, drop, add-one}
-use Rattle.supervisor.specs.World.{Part, Child, At, owner_from, child_of}
+use Rattle.components.specs.World.{Part, Child, At, owner_from, child_of}
 
 pub owner_here : (i k n : ℕ) (ps : List Part) (c : Child) → At k (λ p. Some c ≡ child_of n p.children) ps → Some (i, c.of) ≡ owner_from i n (drop k ps)
 owner_here i k n [] c h = absurd h

@@ -7,12 +7,12 @@ use Rattle.records.specs.Stored.{Item}
 use Rattle.records.specs.declared.record.Origin.{Origin}
 use Rattle.device.specs.Plans.{HasSomeRecipe, Rise, item_name}
 use Rattle.device.specs.Scopes.{HasScope}
-use Rattle.supervisor.specs.Fitted.{Fitted, name_of}
-use Rattle.supervisor.specs.Made.{IsFittedAt, AreFitted}
-use Rattle.supervisor.specs.Readied.{AreFresh, AreNamesApart, IsFresh}
-use Rattle.supervisor.specs.World.{Part}
-use Rattle.supervisor.proofs.Meets.{fit_names}
-use Rattle.supervisor.proofs.Names.{names, rise_apart}
+use Rattle.components.specs.Fitted.{Fitted, name_of}
+use Rattle.components.specs.Made.{IsFittedAt, AreFitted}
+use Rattle.components.specs.Readied.{AreFresh, AreNamesApart, IsFresh}
+use Rattle.components.specs.World.{Part}
+use Rattle.components.proofs.Meets.{fit_names}
+use Rattle.components.proofs.Names.{names, rise_apart}
 
 abbrev fitted_all : List Part → List Fitted
 fitted_all ps = map (λ (p : Part). p.fitted) ps

@@ -5,11 +5,11 @@ use Rattle.lifecycle.specs.Life.{Life}
 use Rattle.lifecycle.specs.Awaits.{is_stopping}
 use Rattle.lifecycle.specs.declared.kinds.After.{After}
 use Rattle.lifecycle.specs.declared.kinds.After.TheVariants as after
-use Rattle.supervisor.specs.Changes.{Coming, coming_again, fresh_part, is_replaced, meeting, replacing, staying, with_texts}
-use Rattle.supervisor.specs.Fitted.{Fitted, is_same_item, steps_of}
-use Rattle.supervisor.specs.Readied.{IsFresh, coming_of}
-use Rattle.supervisor.specs.Runs.{IsKeptPart}
-use Rattle.supervisor.specs.World.{Part, is_again, is_gone, stops_for_good, under_way}
+use Rattle.components.specs.Changes.{Coming, coming_again, fresh_part, is_replaced, meeting, replacing, staying, with_texts}
+use Rattle.components.specs.Fitted.{Fitted, is_same_item, steps_of}
+use Rattle.components.specs.Readied.{IsFresh, coming_of}
+use Rattle.components.specs.Runs.{IsKeptPart}
+use Rattle.components.specs.World.{Part, is_again, is_gone, stops_for_good, under_way}
 
 -- ---- a stop that is under way
 

@@ -2,14 +2,14 @@
 use Rattle.std.proofs.Common.{List, [], ◌∷◌, Bool, true, false, Option, Some, None, refl, map, filter}
 use Rattle.std.specs.Prelude.{not, if◌then◌else◌}
 use Rattle.lifecycle.specs.declared.kinds.After.TheVariants as after
-use Rattle.supervisor.specs.Changes.{Coming, coming_again, coming_for, fate, fresh_part, is_replaced, is_replacing, leaving, meeting, replacing, replanned, standing, staying, with_items, with_newcomers, with_texts}
-use Rattle.supervisor.specs.Fitted.{Fitted, is_same_item}
-use Rattle.supervisor.specs.Marks.{may_replan}
-use Rattle.supervisor.specs.Whole.{AreWhole, IsWhole}
-use Rattle.supervisor.specs.World.{Part, part_name, stops_for_good}
-use Rattle.supervisor.proofs.Changed.{all_placed, all_standing, is_held_by}
+use Rattle.components.specs.Changes.{Coming, coming_again, coming_for, fate, fresh_part, is_replaced, is_replacing, leaving, meeting, replacing, replanned, standing, staying, with_items, with_newcomers, with_texts}
+use Rattle.components.specs.Fitted.{Fitted, is_same_item}
+use Rattle.components.specs.Marks.{may_replan}
+use Rattle.components.specs.Whole.{AreWhole, IsWhole}
+use Rattle.components.specs.World.{Part, part_name, stops_for_good}
+use Rattle.components.proofs.Changed.{all_placed, all_standing, is_held_by}
 use Rattle.supervisor.proofs.Goings.{leaving_whole}
-use Rattle.supervisor.proofs.Whole.{flagged_whole, mapped_whole}
+use Rattle.components.proofs.Whole.{flagged_whole, mapped_whole}
 
 whole_two : (b : Bool) (p q : Part) → IsWhole p → IsWhole q → IsWhole (if b then p else q)
 whole_two true p q h i = h

@@ -6,16 +6,16 @@ use Rattle.nuc_base.specs.declared.kinds.Step.TheVariants as step
 use Rattle.nuc_base.specs.declared.kinds.Exit.{Exit}
 use Rattle.lifecycle.specs.declared.kinds.LifeEvent.{LifeEvent}
 use Rattle.lifecycle.specs.declared.kinds.LifeEvent.TheVariants as life
-use Rattle.supervisor.specs.Answers.{Answers, HasHanded}
-use Rattle.supervisor.specs.Events.{gone_by, ended, later, is_orphan_at, with_child, started, launched}
-use Rattle.supervisor.specs.Turns.{is_begun}
-use Rattle.supervisor.proofs.Each.{at_more, at_below}
-use Rattle.supervisor.specs.Flags.{at_moment}
-use Rattle.supervisor.specs.Lives.{lived, lived_at, drops_at}
-use Rattle.supervisor.specs.Marks.{flagged_at, restarted, may_restart}
-use Rattle.supervisor.specs.World.{World, Part, At, changed_at, without_child, child_gone, owner}
-use Rattle.supervisor.specs.declared.kinds.Event.{Event}
-use Rattle.supervisor.specs.declared.kinds.Event.TheVariants.{Started, Refused, Skipped, Ended, Passed}
+use Rattle.components.specs.Answers.{Answers, HasHanded}
+use Rattle.components.specs.Events.{gone_by, ended, later, is_orphan_at, with_child, started, launched}
+use Rattle.components.specs.Turns.{is_begun}
+use Rattle.components.proofs.Each.{at_more, at_below}
+use Rattle.components.specs.Flags.{at_moment}
+use Rattle.components.specs.Lives.{lived, lived_at, drops_at}
+use Rattle.components.specs.Marks.{flagged_at, restarted, may_restart}
+use Rattle.components.specs.World.{World, Part, At, changed_at, without_child, child_gone, owner}
+use Rattle.components.specs.declared.kinds.Event.{Event}
+use Rattle.components.specs.declared.kinds.Event.TheVariants.{Started, Refused, Skipped, Ended, Passed}
 
 pub test_got : (f : Part → Bool) (xs : List Part) (k : ℕ) (d : Part) → k < length xs → f (get_or xs k d) ≡ elim (slice_get xs k) [ None ↦ false | Some p ↦ f p ]
 test_got f [] k d l = absurd (omega (arith, l))

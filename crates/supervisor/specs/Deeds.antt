@@ -4,16 +4,16 @@ use Rattle.std.specs.List.{list_any}
 use Rattle.nuc_base.specs.declared.kinds.Step.{Step}
 use Rattle.lifecycle.specs.declared.kinds.After.{After}
 use Rattle.lifecycle.specs.declared.kinds.LifeEvent.TheVariants as event
-use Rattle.supervisor.specs.World.{World, Part, Child, At, changed_at, is_orphan, is_broken, has_orphan}
-use Rattle.supervisor.specs.Deadlines.{has_passed}
-use Rattle.supervisor.specs.Turns.{may_act, may_retry, is_late, is_to_start, owes}
-use Rattle.supervisor.specs.Lives.{lived_at}
-use Rattle.supervisor.specs.Events.{handed_at, killed}
-use Rattle.supervisor.specs.Acts.{MayMove, MayKill, HasStart, kills, spares}
+use Rattle.components.specs.World.{World, Part, Child, At, changed_at, is_orphan, is_broken, has_orphan}
+use Rattle.components.specs.Deadlines.{has_passed}
+use Rattle.components.specs.Turns.{may_act, may_retry, is_late, is_to_start, owes}
+use Rattle.components.specs.Lives.{lived_at}
+use Rattle.components.specs.Events.{handed_at, killed}
+use Rattle.components.specs.Acts.{MayMove, MayKill, HasStart, kills, spares}
 use Rattle.supervisor.specs.declared.acting.Deed.{Deed}
 use Rattle.supervisor.specs.declared.acting.Deed.TheVariants.{Moves, Starts, Kills}
-use Rattle.supervisor.specs.declared.kinds.Act.{Act}
-use Rattle.supervisor.specs.declared.kinds.Act.TheVariants as acts
+use Rattle.components.specs.declared.kinds.Act.{Act}
+use Rattle.components.specs.declared.kinds.Act.TheVariants as acts
 
 -- ---- of one component, by whether it may begin and which stop may be given
 

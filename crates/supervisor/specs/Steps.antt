@@ -2,7 +2,7 @@
 use Rattle.std.specs.Prelude.{◌≤◌, ◌+◌, ℕ, List, [], ◌∷◌, if◌then◌else◌}
 use Rattle.nuc_base.specs.declared.kinds.Step.{Step}
 use Rattle.lifecycle.specs.Awaits.{is_same_step}
-use Rattle.supervisor.specs.declared.children.Child.{Child}
+use Rattle.components.specs.declared.child.Child.{Child}
 
 -- how many are of the step
 abbrev pub count_of : Step → List Child → ℕ

@@ -2,18 +2,18 @@
 ghost use Rattle.std.specs.Prelude.{◌≡◌, ◌<◌, ◌^◌, ◌&&◌, ℕ, Bool, true, false, None, Some, is_some, length, map, IfSome};
 ghost use Rattle.std.specs.List.{list_any, list_all};
 ghost use Rattle.std.specs.Str.{bytes_eq};
-ghost use Rattle.supervisor.specs.Acts.{HandsOut, NextAct};
-ghost use Rattle.supervisor.specs.Answers.{living_numbers};
+ghost use Rattle.components.specs.Acts.{HandsOut, NextAct};
+ghost use Rattle.components.specs.Answers.{living_numbers};
 ghost use Rattle.supervisor.specs.Deeds.{MayDo, IsFirst, IsDone, IsOwed, IsOwing, IsTold};
-ghost use Rattle.supervisor.specs.Flags.{at_moment};
-ghost use Rattle.supervisor.specs.Readied.{AreApart, AreNamesApart, HaveNames, IsKept};
-ghost use Rattle.supervisor.specs.Rows.{is_stop_ready};
-ghost use Rattle.supervisor.specs.Turns.{may_act, may_begin as may_begin_among, may_stop, is_met, is_held as is_held_among, serves_softly, owes};
-ghost use Rattle.supervisor.specs.Whole.{AreWhole};
-ghost use Rattle.supervisor.specs.World.{At, changed_at, part_name, is_to_stop, stands_up as stands};
+ghost use Rattle.components.specs.Flags.{at_moment};
+ghost use Rattle.components.specs.Readied.{AreApart, AreNamesApart, HaveNames, IsKept};
+ghost use Rattle.components.specs.Rows.{is_stop_ready};
+ghost use Rattle.components.specs.Turns.{may_act, may_begin as may_begin_among, may_stop, is_met, is_held as is_held_among, serves_softly, owes};
+ghost use Rattle.components.specs.Whole.{AreWhole};
+ghost use Rattle.components.specs.World.{At, changed_at, part_name, is_to_stop, stands_up as stands};
 
 use crate::befall::{kill_child, live_at};
-use crate::kinds::Act;
+use components::Act;
 use crate::needs::{Need, User};
 use crate::places::{found_place, user_after};
 use crate::slot::Slot;

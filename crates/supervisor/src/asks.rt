@@ -1,15 +1,16 @@
 //! What is asked of all components.
 ghost use Rattle.std.specs.Prelude.{◌≡◌, ◌<◌, ◌&&◌, ◌||◌, ◌==◌, not, length, map, option_map, option_and_then, Some, IsSome, IfSome, slice_get, ◌^◌, ◌+◌, ℕ};
 ghost use Rattle.std.specs.List.{list_any, find};
-ghost use Rattle.supervisor.specs.Answers.{child_numbers, living_numbers};
-ghost use Rattle.supervisor.specs.Deadlines.{least_of, earlier};
-ghost use Rattle.supervisor.specs.Numbers.{number_above, least_above, IsNumberAt};
-ghost use Rattle.supervisor.specs.Readied.{AreApart};
-ghost use Rattle.supervisor.specs.Fitted.{prepared_of};
-ghost use Rattle.supervisor.specs.World.{At, part_name, is_over, stands_up, is_broken as is_state_broken, owner};
+ghost use Rattle.components.specs.Answers.{child_numbers, living_numbers};
+ghost use Rattle.components.specs.Deadlines.{least_of, earlier};
+ghost use Rattle.components.specs.Numbers.{number_above, least_above, IsNumberAt};
+ghost use Rattle.components.specs.Readied.{AreApart};
+ghost use Rattle.components.specs.Fitted.{prepared_of};
+ghost use Rattle.components.specs.World.{At, part_name, is_over, stands_up, is_broken as is_state_broken, owner};
 
-use crate::children::{Child, child_of, earlier_of, least_with};
-use crate::kinds::Prepared;
+use components::Child;
+use crate::children::{child_of, earlier_of, least_with};
+use components::Prepared;
 use crate::slot::Slot;
 use nuc_base::{Name, Step};
 use recipe_reader::Skip;

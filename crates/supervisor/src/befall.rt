@@ -1,17 +1,17 @@
 //! What befalls the components.
 ghost use Rattle.std.specs.Prelude.{◌≡◌, ◌<◌, ◌^◌, ℕ, true, false, length};
-ghost use Rattle.supervisor.specs.Answers.{Answers};
-ghost use Rattle.supervisor.specs.Events.{started, refused, skipped, ended, killed, gone_by, noticed, kill_event, with_child, is_orphan_at};
-ghost use Rattle.supervisor.specs.Fitted.{prepared_of, limit_of};
-ghost use Rattle.supervisor.specs.Flags.{at_moment};
-ghost use Rattle.supervisor.specs.Readied.{HaveNames, StartsShort};
-ghost use Rattle.supervisor.specs.Runs.{IsShort};
-ghost use Rattle.supervisor.specs.Lives.{lived, lived_at, drops_at};
-ghost use Rattle.supervisor.specs.Turns.{is_begun};
-ghost use Rattle.supervisor.specs.World.{At, changed_at, without_child};
+ghost use Rattle.components.specs.Answers.{Answers};
+ghost use Rattle.components.specs.Events.{started, refused, skipped, ended, killed, gone_by, noticed, kill_event, with_child, is_orphan_at};
+ghost use Rattle.components.specs.Fitted.{prepared_of, limit_of};
+ghost use Rattle.components.specs.Flags.{at_moment};
+ghost use Rattle.components.specs.Readied.{HaveNames, StartsShort};
+ghost use Rattle.components.specs.Runs.{IsShort};
+ghost use Rattle.components.specs.Lives.{lived, lived_at, drops_at};
+ghost use Rattle.components.specs.Turns.{is_begun};
+ghost use Rattle.components.specs.World.{At, changed_at, without_child};
 
 use crate::asks::owner_of;
-use crate::kinds::Event;
+use components::Event;
 use crate::marks::restart_from;
 use crate::slot::Slot;
 use lifecycle::LifeEvent;

@@ -1,7 +1,7 @@
 //! What befalls all components at once. Those that took another item since the last change may need other components, so
 //! each is linked anew.
 ghost use Rattle.std.specs.Prelude.{◌≡◌, map};
-ghost use Rattle.supervisor.specs.Changes.{leaving, forgetting};
+ghost use Rattle.components.specs.Changes.{leaving, forgetting};
 
 use crate::places::link;
 use crate::slot::Slot;

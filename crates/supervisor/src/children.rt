@@ -2,21 +2,14 @@
 ghost use Rattle.std.specs.Prelude.{◌≡◌, ◌∷◌, [], ◌==◌, ◌||◌, not, false, filter, option_map, IfOk, None, Some};
 ghost use Rattle.std.specs.List.{list_any, find};
 ghost use Rattle.lifecycle.specs.Awaits.{is_same_step, is_busy_with};
-ghost use Rattle.supervisor.specs.Deadlines.{has_passed, child_deadline, earlier};
-ghost use Rattle.supervisor.specs.World.{is_orphan};
+ghost use Rattle.components.specs.Deadlines.{has_passed, child_deadline, earlier};
+ghost use Rattle.components.specs.World.{is_orphan};
 
+use components::Child;
 use lifecycle::Component;
 use nuc_base::{NoMemory, Step};
 use std::alloc::Global;
 use std::marker::Model;
-
-/// One that lives: its number, its step, and until when it may.
-#[derive(Clone, Copy, Debug, PartialEq, Eq)]
-pub struct Child {
-    pub number: u64,
-    pub of: Step,
-    pub deadline: Option<u64>,
-}
 
 /// Children of different steps, the last one that was started first. There is room for one of each step.
 #[derive(Drop)]
@@ -26,7 +19,7 @@ pub struct Children {
 
 impl Model for Children {
     ghost use Rattle.std.specs.Prelude.{◌≤◌, List, vec_capacity};
-    ghost use Rattle.supervisor.specs.World.{Child};
+    ghost use Rattle.components.specs.World.{Child};
     ghost use Rattle.supervisor.specs.Steps.{IsOnce};
 
     ghost Value = { List Child };

@@ -8,13 +8,13 @@ ghost use Rattle.interpolation.specs.Scopes.{HasRegularConfigs};
 ghost use Rattle.records.specs.Stored.{item_view};
 ghost use Rattle.device.specs.Plans.{AreRegularItems};
 ghost use Rattle.device.specs.Scopes.{HasScope};
-ghost use Rattle.supervisor.specs.Fitted.{name_of, prepared_of, steps_of, limit_of, is_same_item};
-ghost use Rattle.supervisor.specs.Made.{IsFittedAt, hard_names, soft_names};
-ghost use Rattle.supervisor.specs.Runs.{IsFittedBy, AreFirst, AreLast, AreFit, IsShort, IsFit};
+ghost use Rattle.components.specs.Fitted.{name_of, prepared_of, steps_of, limit_of, is_same_item};
+ghost use Rattle.components.specs.Made.{IsFittedAt, hard_names, soft_names};
+ghost use Rattle.components.specs.Runs.{IsFittedBy, AreFirst, AreLast, AreFit, IsShort, IsFit};
 
-use crate::kinds::Prepared;
+use components::Prepared;
 use crate::needs::Need;
-use crate::prepared::{known_recipe, prepare_step};
+use components::{known_recipe, prepare_step};
 use device::scope_of;
 use interpolation::Scope;
 use lifecycle::StepSet;
@@ -93,8 +93,8 @@ impl Model for FittedItem {
     ghost use Rattle.serde_json.specs.Written.{compact_text};
     ghost use Rattle.tree_core.specs.View.{view as tree_view};
     ghost use Rattle.records.specs.Stored.{item_view};
-    ghost use Rattle.supervisor.specs.Fitted.{Fitted};
-    ghost use Rattle.supervisor.specs.Runs.{AreFit};
+    ghost use Rattle.components.specs.Fitted.{Fitted};
+    ghost use Rattle.components.specs.Runs.{AreFit};
     ghost use Rattle.std.specs.Coded.{codes};
     ghost use Rattle.supervisor.specs.Coding.{data_code};
 

@@ -1,16 +1,16 @@
 //! A change to other items: those that stand meet what comes for them, and the others are put among them.
 ghost use Rattle.std.specs.Prelude.{◌≡◌, ◌<◌, ◌≤◌, ◌+◌, ◌^◌, ◌∷◌, [], ℕ, length, map, All, vec_len, vec_capacity};
 ghost use Rattle.std.specs.List.{find, insert};
-ghost use Rattle.supervisor.specs.Answers.{is_steady as is_mode_steady};
-ghost use Rattle.supervisor.specs.Changes.{counted, fate, fresh_part, is_replacing, placed, replanned, standing, with_items, with_newcomers};
-ghost use Rattle.supervisor.specs.Fitted.{is_before as is_name_before, name_of};
-ghost use Rattle.supervisor.specs.Flags.{with_flags};
-ghost use Rattle.supervisor.specs.Marks.{flagged};
-ghost use Rattle.supervisor.specs.Merges.{has_name, unmet, without};
-ghost use Rattle.supervisor.specs.Readied.{AreFresh, AreNamesApart, HaveNames, KeepSteps, coming_of};
-ghost use Rattle.supervisor.specs.World.{At, Part, part_name, place_of as place_of_name};
+ghost use Rattle.components.specs.Answers.{is_steady as is_mode_steady};
+ghost use Rattle.components.specs.Changes.{counted, fate, fresh_part, is_replacing, placed, replanned, standing, with_items, with_newcomers};
+ghost use Rattle.components.specs.Fitted.{is_before as is_name_before, name_of};
+ghost use Rattle.components.specs.Flags.{with_flags};
+ghost use Rattle.components.specs.Marks.{flagged};
+ghost use Rattle.components.specs.Merges.{has_name, unmet, without};
+ghost use Rattle.components.specs.Readied.{AreFresh, AreNamesApart, HaveNames, KeepSteps, coming_of};
+ghost use Rattle.components.specs.World.{At, Part, part_name, place_of as place_of_name};
 
-use crate::kinds::Mode;
+use components::Mode;
 use crate::marks::replan;
 use crate::places::{is_named_at, link};
 use crate::ready::Ready;

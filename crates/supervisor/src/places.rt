@@ -1,7 +1,7 @@
 //! Where those stand that are needed, and who needs them. All of it only saves searches: whoever goes by it compares names.
 ghost use Rattle.std.specs.Prelude.{◌≡◌, ◌<◌, true, length, IfSome};
 ghost use Rattle.std.specs.Str.{bytes_eq};
-ghost use Rattle.supervisor.specs.World.{At, part_name};
+ghost use Rattle.components.specs.World.{At, part_name};
 
 use crate::needs::{Need, User};
 use crate::slot::Slot;

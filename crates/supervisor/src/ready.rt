@@ -4,9 +4,9 @@ ghost use Rattle.std.specs.List.{AllByRecursion};
 ghost use Rattle.records.specs.Stored.{item_view};
 ghost use Rattle.device.specs.Plans.{AreRegularItems, HasSomeRecipe, Rise, item_name};
 ghost use Rattle.device.specs.Scopes.{HasScope};
-ghost use Rattle.supervisor.specs.Made.{AreFitted, IsFittedAt};
-ghost use Rattle.supervisor.specs.Readied.{IsFresh, AreFresh};
-ghost use Rattle.supervisor.specs.World.{Part};
+ghost use Rattle.components.specs.Made.{AreFitted, IsFittedAt};
+ghost use Rattle.components.specs.Readied.{IsFresh, AreFresh};
+ghost use Rattle.components.specs.World.{Part};
 
 use crate::children::Children;
 use crate::fitted::fit;
@@ -26,8 +26,8 @@ pub struct Ready {
 
 impl Model for Ready {
     ghost use Rattle.std.specs.Prelude.{◌≡◌, ◌<◌, ◌≤◌, ◌-◌, ◌^◌, [], length, map, vec_capacity};
-    ghost use Rattle.supervisor.specs.World.{Part, part_name};
-    ghost use Rattle.supervisor.specs.Readied.{Readied, AreFresh, AreNamesApart};
+    ghost use Rattle.components.specs.World.{Part, part_name};
+    ghost use Rattle.components.specs.Readied.{Readied, AreFresh, AreNamesApart};
     ghost use Rattle.std.specs.Coded.{codes};
     ghost use Rattle.supervisor.specs.Coding.{data_code};
 

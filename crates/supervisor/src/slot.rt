@@ -1,28 +1,27 @@
 //! One component.
 ghost use Rattle.std.specs.Prelude.{◌≡◌, ℕ, Bool, ◌<◌, ◌≤◌, ◌^◌, ◌&&◌, ◌||◌, ◌∷◌, [], not, true, false, None, Some, is_some, option_map, if◌then◌else◌, IfSome};
-ghost use Rattle.supervisor.specs.Fitted.{prepared_of, limit_of, steps_of, is_same_item};
-ghost use Rattle.supervisor.specs.World.{part_name, without_child, is_orphan, is_up as is_state_up, is_running as is_state_running, is_broken as is_state_broken, is_to_stop, stands_up, is_over, has_orphan as has_an_orphan, is_spared};
-ghost use Rattle.supervisor.specs.Turns.{may_retry, serves_softly, is_begun, is_late, is_unstarted, is_to_start};
-ghost use Rattle.supervisor.specs.Lives.{lived, drops};
-ghost use Rattle.supervisor.specs.Runs.{IsShort};
-ghost use Rattle.supervisor.specs.Rows.{is_begin_ready, is_stop_ready, taken_item};
-ghost use Rattle.supervisor.specs.Events.{with_child, kill_event};
-ghost use Rattle.supervisor.specs.Changes.{leaving, forgetting, fresh_part, is_replaced, is_replacing, with_texts, replacing, staying, coming_again, meeting};
-ghost use Rattle.supervisor.specs.Deadlines.{deadline_after, has_passed};
-ghost use Rattle.supervisor.specs.Readied.{IsFresh, coming_of};
-ghost use Rattle.supervisor.specs.Flags.{may_by};
-ghost use Rattle.supervisor.specs.Marks.{may_restart, may_replan};
-ghost use Rattle.supervisor.specs.Acts.{HasStart, kills};
+ghost use Rattle.components.specs.Fitted.{prepared_of, limit_of, steps_of, is_same_item};
+ghost use Rattle.components.specs.World.{part_name, without_child, is_orphan, is_up as is_state_up, is_running as is_state_running, is_broken as is_state_broken, is_to_stop, stands_up, is_over, has_orphan as has_an_orphan, is_spared};
+ghost use Rattle.components.specs.Turns.{may_retry, serves_softly, is_begun, is_late, is_unstarted, is_to_start};
+ghost use Rattle.components.specs.Lives.{lived, drops};
+ghost use Rattle.components.specs.Runs.{IsShort};
+ghost use Rattle.components.specs.Rows.{is_begin_ready, is_stop_ready, taken_item};
+ghost use Rattle.components.specs.Events.{with_child, kill_event};
+ghost use Rattle.components.specs.Changes.{leaving, forgetting, fresh_part, is_replaced, is_replacing, with_texts, replacing, staying, coming_again, meeting};
+ghost use Rattle.components.specs.Deadlines.{deadline_after, has_passed};
+ghost use Rattle.components.specs.Readied.{IsFresh, coming_of};
+ghost use Rattle.components.specs.Flags.{may_by};
+ghost use Rattle.components.specs.Marks.{may_restart, may_replan};
+ghost use Rattle.components.specs.Acts.{HasStart, kills};
 ghost use Rattle.supervisor.specs.Deeds.{HasChild, IsFor, has_deed};
-ghost use Rattle.supervisor.specs.Whole.{IsWhole};
+ghost use Rattle.components.specs.Whole.{IsWhole};
 ghost use Rattle.lifecycle.specs.Awaits.{is_awaited};
 
 use crate::acting::Deed;
-use crate::children::{
-    Child, Children, has_child_of, has_orphan, is_late_child, outlives, overdue,
-};
+use components::Child;
+use crate::children::{Children, has_child_of, has_orphan, is_late_child, outlives, overdue};
 use crate::fitted::FittedItem;
-use crate::kinds::Prepared;
+use components::Prepared;
 use crate::lives;
 use crate::needs::{Need, User};
 use lifecycle::{After, Component, LifeEvent};
@@ -53,9 +52,9 @@ pub struct Slot {
 }
 
 impl Model for Slot {
-    ghost use Rattle.supervisor.specs.World.{Part};
-    ghost use Rattle.supervisor.specs.Rows.{next_of};
-    ghost use Rattle.supervisor.specs.Runs.{IsKeptPart};
+    ghost use Rattle.components.specs.World.{Part};
+    ghost use Rattle.components.specs.Rows.{next_of};
+    ghost use Rattle.components.specs.Runs.{IsKeptPart};
     ghost use Rattle.std.specs.Coded.{codes};
     ghost use Rattle.supervisor.specs.Coding.{data_code};
 

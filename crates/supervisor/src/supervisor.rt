@@ -5,24 +5,24 @@ ghost use Rattle.std.specs.List.{AllByRecursion};
 ghost use Rattle.nuc_base.specs.Leads.{Leads};
 ghost use Rattle.records.specs.Stored.{item_view};
 ghost use Rattle.device.specs.Plans.{Rise, item_name, AreRegularItems, NeedsByName, HasSomeRecipe};
-ghost use Rattle.supervisor.specs.Made.{AreFitted};
-ghost use Rattle.supervisor.specs.Acts.{NextAct};
-ghost use Rattle.supervisor.specs.Answers.{Answers, has_answered, is_steady, broken_name, IsLivingAt, IsNextLiving, standing_count};
-ghost use Rattle.supervisor.specs.Changes.{changed_to, all_stopped, standing, steadied};
-ghost use Rattle.supervisor.specs.Deadlines.{least_deadline};
-ghost use Rattle.supervisor.specs.Events.{noticed, later};
-ghost use Rattle.supervisor.specs.Fitted.{prepared_of};
-ghost use Rattle.supervisor.specs.World.{World, At, part_name, is_settled, is_stopped};
-ghost use Rattle.supervisor.specs.Readied.{KeepSteps, Readied};
+ghost use Rattle.components.specs.Made.{AreFitted};
+ghost use Rattle.components.specs.Acts.{NextAct};
+ghost use Rattle.components.specs.Answers.{Answers, has_answered, is_steady, broken_name, IsLivingAt, IsNextLiving, standing_count};
+ghost use Rattle.components.specs.Changes.{changed_to, all_stopped, standing, steadied};
+ghost use Rattle.components.specs.Deadlines.{least_deadline};
+ghost use Rattle.components.specs.Events.{noticed, later};
+ghost use Rattle.components.specs.Fitted.{prepared_of};
+ghost use Rattle.components.specs.World.{World, At, part_name, is_settled, is_stopped};
+ghost use Rattle.components.specs.Readied.{KeepSteps, Readied};
 
 use crate::acting::next_in;
 use crate::befall::befall_in;
 use crate::changing::{forget_all, leave_all};
-use crate::kinds::{Act, Event, Mode};
+use components::{Act, Event, Mode};
 use crate::merging::change_in;
 use crate::ready::{Ready, make_ready};
 use crate::slot::Slot;
-use crate::supervise::Supervise;
+use components::Supervise;
 use crate::{asks, merging};
 use nuc_base::{List, Name, NoMemory, Step};
 use recipe_reader::Skip;
@@ -43,9 +43,9 @@ pub struct Supervisor {
 
 impl Model for Supervisor {
     ghost use Rattle.std.specs.Prelude.{◌≡◌, length};
-    ghost use Rattle.supervisor.specs.World.{World};
-    ghost use Rattle.supervisor.specs.Readied.{IsKept};
-    ghost use Rattle.supervisor.specs.Whole.{AreWhole};
+    ghost use Rattle.components.specs.World.{World};
+    ghost use Rattle.components.specs.Readied.{IsKept};
+    ghost use Rattle.components.specs.Whole.{AreWhole};
     ghost use Rattle.std.specs.Coded.{codes};
     ghost use Rattle.supervisor.specs.Coding.{data_code};
 

@@ -13,9 +13,9 @@ use Rattle.lifecycle.specs.declared.kinds.After.TheVariants as after
 use Rattle.lifecycle.specs.declared.kinds.LifeEvent.{LifeEvent}
 use Rattle.lifecycle.specs.declared.kinds.LifeEvent.TheVariants as event
 use Rattle.device.specs.Devices.{Device}
-use Rattle.supervisor.specs.Fitted.{Fitted, name_of}
-use Rattle.supervisor.specs.World.{Part, Child, part_name, is_to_stop, is_spared, is_gone, is_broken, is_orphan, has_orphan, under_way}
-use Rattle.supervisor.specs.Lives.{lived}
+use Rattle.components.specs.Fitted.{Fitted, name_of}
+use Rattle.components.specs.World.{Part, Child, part_name, is_to_stop, is_spared, is_gone, is_broken, is_orphan, has_orphan, under_way}
+use Rattle.components.specs.Lives.{lived}
 use Rattle.supervisor_laws.specs.Sound.{IsSoundPart, may_ask, is_run, is_bare, is_waiting, is_to_begin_again}
 use Rattle.supervisor_laws.specs.Keeps.{IsCounted, AgreesBy, count_of}
 use Rattle.supervisor_laws.proofs.Lists.{either, clash, second_true, none_of, not_so}

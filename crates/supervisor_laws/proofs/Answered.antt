@@ -8,9 +8,9 @@ use Rattle.nuc_base.specs.declared.kinds.Step.TheVariants as step
 use Rattle.lifecycle.specs.Awaits.{is_same_step, is_busy_with}
 use Rattle.lifecycle.specs.declared.kinds.LifeEvent.TheVariants as event
 use Rattle.device.specs.Devices.{Device}
-use Rattle.supervisor.specs.World.{World, Part, part_name, owner}
-use Rattle.supervisor.specs.Events.{answered_at, refused, skipped}
-use Rattle.supervisor.specs.Turns.{owes}
+use Rattle.components.specs.World.{World, Part, part_name, owner}
+use Rattle.components.specs.Events.{answered_at, refused, skipped}
+use Rattle.components.specs.Turns.{owes}
 use Rattle.supervisor_laws.specs.Keeps.{Keeps, IsTold}
 use Rattle.supervisor_laws.proofs.Lists.{changed_all, changed_same}
 use Rattle.supervisor_laws.proofs.Made.{ends_fairly}

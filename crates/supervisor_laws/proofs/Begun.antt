@@ -9,12 +9,12 @@ use Rattle.nuc_base.specs.declared.kinds.Step.TheVariants as step
 use Rattle.lifecycle.specs.Awaits.{is_busy_with, is_same_step}
 use Rattle.lifecycle.specs.declared.kinds.LifeEvent.TheVariants as event
 use Rattle.device.specs.Devices.{Device}
-use Rattle.supervisor.specs.Fitted.{prepared_of, limit_of}
-use Rattle.supervisor.specs.Deadlines.{deadline_after}
-use Rattle.supervisor.specs.World.{World, Part, Child, At, changed_at, part_name, owner}
-use Rattle.supervisor.specs.Lives.{lived}
-use Rattle.supervisor.specs.Events.{with_child, started}
-use Rattle.supervisor.specs.Answers.{living_numbers}
+use Rattle.components.specs.Fitted.{prepared_of, limit_of}
+use Rattle.components.specs.Deadlines.{deadline_after}
+use Rattle.components.specs.World.{World, Part, Child, At, changed_at, part_name, owner}
+use Rattle.components.specs.Lives.{lived}
+use Rattle.components.specs.Events.{with_child, started}
+use Rattle.components.specs.Answers.{living_numbers}
 use Rattle.supervisor_laws.specs.Sound.{Differ}
 use Rattle.supervisor_laws.specs.Keeps.{Keeps, IsTold, Owns, IsCounted}
 use Rattle.supervisor_laws.proofs.Lists.{either, no_some, from_places, at_places, changed_all, changed_same}

@@ -15,10 +15,10 @@ use Rattle.lifecycle.specs.declared.kinds.State.TheVariants as state
 use Rattle.lifecycle.specs.declared.kinds.After.{After}
 use Rattle.lifecycle.specs.declared.kinds.After.TheVariants as after
 use Rattle.device.specs.Devices.{Device}
-use Rattle.supervisor.specs.Fitted.{Fitted, name_of, is_before, is_same_item, is_same_config}
-use Rattle.supervisor.specs.World.{World, Part, Child, part_name, is_spared, is_again, is_gone, is_broken, is_over, under_way, stops_for_good}
-use Rattle.supervisor.specs.Marks.{flagged, may_replan}
-use Rattle.supervisor.specs.Changes.{Coming, counted, coming_for, fresh_part, leaving, is_replaced, with_texts, replacing, staying, coming_again, meeting, fate, standing, is_replacing, replanned, newcomers, placed, with_newcomers, with_items, changed_to}
+use Rattle.components.specs.Fitted.{Fitted, name_of, is_before, is_same_item, is_same_config}
+use Rattle.components.specs.World.{World, Part, Child, part_name, is_spared, is_again, is_gone, is_broken, is_over, under_way, stops_for_good}
+use Rattle.components.specs.Marks.{flagged, may_replan}
+use Rattle.components.specs.Changes.{Coming, counted, coming_for, fresh_part, leaving, is_replaced, with_texts, replacing, staying, coming_again, meeting, fate, standing, is_replacing, replanned, newcomers, placed, with_newcomers, with_items, changed_to}
 use Rattle.supervisor_laws.specs.Sound.{IsSoundPart, IsOrderly, may_ask, is_waiting, is_to_begin_again, is_bare}
 use Rattle.supervisor_laws.specs.Keeps.{AgreesBy, count_of, AreCounted, IsTold}
 use Rattle.supervisor_laws.proofs.Lists.{either, clash, second_true, none_of, not_so, from_places}

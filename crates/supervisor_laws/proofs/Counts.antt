@@ -5,8 +5,8 @@ use Rattle.std.specs.List.{AllByRecursion}
 use Rattle.std.proofs.lemmas.Bool.{eqb-true, eq-eqb}
 use Rattle.std.proofs.lemmas.List.Elements.{All-from_recursion, recursion_from_All}
 use Rattle.nuc_base.specs.declared.kinds.Step.{Step}
-use Rattle.supervisor.specs.World.{Part, Child, changed_at, child_of, owner, owner_from}
-use Rattle.supervisor.specs.Answers.{child_numbers, living_numbers}
+use Rattle.components.specs.World.{Part, Child, changed_at, child_of, owner, owner_from}
+use Rattle.components.specs.Answers.{child_numbers, living_numbers}
 use Rattle.supervisor_laws.specs.Sound.{Differ}
 use Rattle.supervisor_laws.proofs.Lists.{either, clash, some_same, no_some}
 use Rattle.supervisor_laws.proofs.Alone.{but}

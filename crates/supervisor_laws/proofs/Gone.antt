@@ -13,10 +13,10 @@ use Rattle.lifecycle.specs.declared.kinds.LifeEvent.{LifeEvent}
 use Rattle.lifecycle.specs.declared.kinds.LifeEvent.TheVariants as event
 use Rattle.lifecycle.specs.declared.kinds.After.{After}
 use Rattle.device.specs.Devices.{Device}
-use Rattle.supervisor.specs.World.{World, Part, Child, At, child_of, child_gone, without_child, owner, owner_from}
-use Rattle.supervisor.specs.Lives.{lived_at}
-use Rattle.supervisor.specs.Events.{gone_by, is_orphan_at, ended, killed, kill_event, kill_event_at, is_late_child}
-use Rattle.supervisor.specs.Answers.{living_numbers, child_numbers}
+use Rattle.components.specs.World.{World, Part, Child, At, child_of, child_gone, without_child, owner, owner_from}
+use Rattle.components.specs.Lives.{lived_at}
+use Rattle.components.specs.Events.{gone_by, is_orphan_at, ended, killed, kill_event, kill_event_at, is_late_child}
+use Rattle.components.specs.Answers.{living_numbers, child_numbers}
 use Rattle.supervisor_laws.specs.Sound.{IsSoundPart, is_run, Differ}
 use Rattle.supervisor_laws.specs.Keeps.{Keeps, IsTold, Owns}
 use Rattle.supervisor_laws.proofs.Lists.{either, clash, some_same, no_some}

@@ -7,9 +7,9 @@ use Rattle.lifecycle.specs.declared.kinds.LifeAct.{LifeAct}
 use Rattle.lifecycle.specs.declared.kinds.LifeAct.TheVariants as act
 use Rattle.lifecycle.specs.declared.kinds.LifeEvent.{LifeEvent}
 use Rattle.lifecycle.specs.declared.kinds.LifeEvent.TheVariants as event
-use Rattle.supervisor.specs.Fitted.{Fitted, steps_of}
-use Rattle.supervisor.specs.World.{Part, Child, is_again, is_spared}
-use Rattle.supervisor.specs.Lives.{lived, after_row, succeeds, with_failures_forgotten, with_failure_owed, with_stop_given, with_new_item, completed}
+use Rattle.components.specs.Fitted.{Fitted, steps_of}
+use Rattle.components.specs.World.{Part, Child, is_again, is_spared}
+use Rattle.components.specs.Lives.{lived, after_row, succeeds, with_failures_forgotten, with_failure_owed, with_stop_given, with_new_item, completed}
 
 module _ (P : Fitted → Option (Fitted × ℕ) → List Child → Type 0) where
   -- so it is, and so it is once the item that is to come is taken

@@ -10,9 +10,9 @@ use Rattle.lifecycle.specs.declared.kinds.After.{After}
 use Rattle.lifecycle.specs.declared.kinds.After.TheVariants as after
 use Rattle.lifecycle.specs.declared.kinds.LifeEvent.{LifeEvent}
 use Rattle.lifecycle.specs.declared.kinds.LifeEvent.TheVariants as event
-use Rattle.supervisor.specs.Fitted.{Fitted}
-use Rattle.supervisor.specs.World.{Child, under_way, is_spared, is_broken}
-use Rattle.supervisor.specs.Lives.{lived}
+use Rattle.components.specs.Fitted.{Fitted}
+use Rattle.components.specs.World.{Child, under_way, is_spared, is_broken}
+use Rattle.components.specs.Lives.{lived}
 use Rattle.supervisor_laws.specs.Sound.{may_ask}
 use Rattle.supervisor_laws.proofs.Made.{mk, MayBefall}
 

@@ -8,9 +8,9 @@ use Rattle.lifecycle.specs.declared.kinds.State.{State}
 use Rattle.lifecycle.specs.declared.kinds.State.TheVariants as state
 use Rattle.lifecycle.specs.declared.kinds.After.{After}
 use Rattle.lifecycle.specs.declared.kinds.LifeEvent.TheVariants as event
-use Rattle.supervisor.specs.Fitted.{Fitted}
-use Rattle.supervisor.specs.World.{Child}
-use Rattle.supervisor.specs.Lives.{lived}
+use Rattle.components.specs.Fitted.{Fitted}
+use Rattle.components.specs.World.{Child}
+use Rattle.components.specs.Lives.{lived}
 use Rattle.lifecycle.specs.Life.{may_be_busy}
 use Rattle.lifecycle.specs.Awaits.{is_busy_with}
 use Rattle.supervisor_laws.proofs.Made.{mk}

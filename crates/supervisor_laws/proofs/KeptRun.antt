@@ -10,9 +10,9 @@ use Rattle.lifecycle.specs.declared.kinds.After.{After}
 use Rattle.lifecycle.specs.declared.kinds.After.TheVariants as after
 use Rattle.lifecycle.specs.declared.kinds.LifeEvent.{LifeEvent}
 use Rattle.lifecycle.specs.declared.kinds.LifeEvent.TheVariants as event
-use Rattle.supervisor.specs.Fitted.{Fitted}
-use Rattle.supervisor.specs.World.{Child}
-use Rattle.supervisor.specs.Lives.{lived}
+use Rattle.components.specs.Fitted.{Fitted}
+use Rattle.components.specs.World.{Child}
+use Rattle.components.specs.Lives.{lived}
 use Rattle.lifecycle.specs.Life.{may_be_busy, may_run}
 use Rattle.std.specs.Prelude.{◌&&◌}
 use Rattle.lifecycle.specs.Awaits.{is_busy_with}

@@ -1,25 +1,25 @@
-mod Made
-mod KeptFew
-mod KeptBusy
-mod KeptRuns
-mod KeptRun
-mod KeptBare
-mod KeptAsks
-mod KeptWaits
-mod KeptTakes
+pub mod Made
+pub mod KeptFew
+pub mod KeptBusy
+pub mod KeptRuns
+pub mod KeptRun
+pub mod KeptBare
+pub mod KeptAsks
+pub mod KeptWaits
+pub mod KeptTakes
 mod KeptBroken
 mod KeptOwed
 mod KeptCounts
-mod Lists
-mod Reached
-mod Items
-mod KeptLaunch
-mod Alone
-mod Counts
-mod Together
+pub mod Lists
+pub mod Reached
+pub mod Items
+pub mod KeptLaunch
+pub mod Alone
+pub mod Counts
+pub mod Together
 mod Answered
 mod Gone
-mod Moved
+pub mod Moved
 mod Begun
 mod Told
 pub mod Steadied

@@ -2,7 +2,7 @@
 use Rattle.std.proofs.Common.{◌≡◌, ℕ, suc, zero, List, [], ◌∷◌, map, Option, Some, None, Bool, true, false, refl, ap, ◌⊎◌, inl, inr, subst}
 use Rattle.std.specs.Prelude.{◌||◌, not, is_some, slice_get}
 use Rattle.std.specs.List.{AllByRecursion}
-use Rattle.supervisor.specs.World.{Part, changed_at}
+use Rattle.components.specs.World.{Part, changed_at}
 
 pub either : (b : Bool) → (b ≡ true) ⊎ (b ≡ false)
 either true = inl refl

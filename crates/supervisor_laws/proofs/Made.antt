@@ -14,8 +14,8 @@ use Rattle.lifecycle.specs.declared.kinds.State.{State}
 use Rattle.lifecycle.specs.declared.kinds.After.{After}
 use Rattle.lifecycle.specs.declared.kinds.LifeEvent.{LifeEvent}
 use Rattle.lifecycle.specs.declared.kinds.LifeEvent.TheVariants as event
-use Rattle.supervisor.specs.Fitted.{Fitted}
-use Rattle.supervisor.specs.World.{Part, Child, is_to_stop}
+use Rattle.components.specs.Fitted.{Fitted}
+use Rattle.components.specs.World.{Part, Child, is_to_stop}
 
 -- it begins and tries again where it is not to be stopped, and a stop is one that is asked for
 abbrev pub MayBefall : LifeEvent → Part → Type 0

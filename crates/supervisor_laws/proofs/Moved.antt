@@ -8,10 +8,10 @@ use Rattle.lifecycle.specs.Awaits.{is_awaited}
 use Rattle.lifecycle.specs.declared.kinds.LifeEvent.{LifeEvent}
 use Rattle.lifecycle.specs.declared.kinds.LifeEvent.TheVariants as event
 use Rattle.device.specs.Devices.{Device}
-use Rattle.supervisor.specs.World.{World, Part, At, is_to_stop, stands_up, owner}
-use Rattle.supervisor.specs.Turns.{may_begin, may_retry, may_stop, is_met, serves_softly}
-use Rattle.supervisor.specs.Lives.{lived_at}
-use Rattle.supervisor.specs.Acts.{Move, MayMove, Quietly, spares}
+use Rattle.components.specs.World.{World, Part, At, is_to_stop, stands_up, owner}
+use Rattle.components.specs.Turns.{may_begin, may_retry, may_stop, is_met, serves_softly}
+use Rattle.components.specs.Lives.{lived_at}
+use Rattle.components.specs.Acts.{Move, MayMove, Quietly, spares}
 use Rattle.supervisor_laws.specs.Sound.{IsSoundPart}
 use Rattle.supervisor_laws.specs.Keeps.{Keeps}
 use Rattle.supervisor_laws.proofs.Lists.{not_so}

@@ -7,12 +7,12 @@ use Rattle.std.specs.Str.{bytes_eq}
 use Rattle.std.proofs.lemmas.Bool.{or_parts}
 use Rattle.std.proofs.lemmas.Slice.Eq.{bytes_eq-Decides}
 use Rattle.lifecycle.specs.declared.kinds.After.TheVariants as after
-use Rattle.supervisor.specs.Fitted.{Fitted, name_of, is_before, is_same_item}
-use Rattle.supervisor.specs.World.{World, Part, Child, part_name, is_over, is_gone, under_way, stops_for_good}
-use Rattle.supervisor.specs.Marks.{flagged, may_replan}
-use Rattle.supervisor.specs.Turns.{owes}
-use Rattle.supervisor.specs.Answers.{living_numbers, child_numbers}
-use Rattle.supervisor.specs.Changes.{Coming, counted, coming_for, fresh_part, leaving, is_replaced, with_texts, staying, coming_again, meeting, fate, standing, is_replacing, replanned, newcomers, placed, with_newcomers, changed_to}
+use Rattle.components.specs.Fitted.{Fitted, name_of, is_before, is_same_item}
+use Rattle.components.specs.World.{World, Part, Child, part_name, is_over, is_gone, under_way, stops_for_good}
+use Rattle.components.specs.Marks.{flagged, may_replan}
+use Rattle.components.specs.Turns.{owes}
+use Rattle.components.specs.Answers.{living_numbers, child_numbers}
+use Rattle.components.specs.Changes.{Coming, counted, coming_for, fresh_part, leaving, is_replaced, with_texts, staying, coming_again, meeting, fate, standing, is_replacing, replanned, newcomers, placed, with_newcomers, changed_to}
 use Rattle.supervisor_laws.specs.Sound.{HaveOwnNames}
 use Rattle.supervisor_laws.specs.Keeps.{ItemsDiffer, IsTold, Owns}
 use Rattle.supervisor_laws.proofs.Lists.{clash, some_same, no_some, from_places, at_places}

@@ -5,8 +5,8 @@ use Rattle.std.specs.List.{AllByRecursion}
 use Rattle.std.proofs.lemmas.Bool.{or_parts, and_parts}
 use Rattle.lifecycle.specs.Awaits.{is_stopping}
 use Rattle.lifecycle.specs.declared.kinds.After.TheVariants as after
-use Rattle.supervisor.specs.World.{Part, has_orphan, is_to_stop, is_starting, is_up}
-use Rattle.supervisor.specs.Marks.{Flagged, flagged, flagged_at, grown, reaching, marked, restarted, may_replan, may_restart}
+use Rattle.components.specs.World.{Part, has_orphan, is_to_stop, is_starting, is_up}
+use Rattle.components.specs.Marks.{Flagged, flagged, flagged_at, grown, reaching, marked, restarted, may_replan, may_restart}
 use Rattle.supervisor_laws.proofs.Lists.{not_so, none_of}
 
 abbrev pub firsts : Flagged → List Part

@@ -16,8 +16,8 @@ use Rattle.records.specs.declared.record.Origin.{Origin}
 use Rattle.device.specs.Devices.{Device, Pending}
 use Rattle.device.specs.Lawful.{running, failing_place, place, place_from}
 use Rattle.device.specs.Plans.{Rise, item_name}
-use Rattle.supervisor.specs.Fitted.{Fitted, name_of}
-use Rattle.supervisor.specs.Made.{AreFitted}
+use Rattle.components.specs.Fitted.{Fitted, name_of}
+use Rattle.components.specs.Made.{AreFitted}
 use Rattle.supervisor_laws.specs.Keeps.{AreCounted, ItemsDiffer}
 use Rattle.supervisor_laws.proofs.Lists.{either, clash, some_same, no_some}
 

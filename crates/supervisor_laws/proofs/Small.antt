@@ -4,11 +4,11 @@ use Rattle.std.specs.Prelude.{slice_get, pos}
 use Rattle.nuc_base.specs.declared.kinds.Exit.TheVariants as exits
 use Rattle.nuc_base.specs.declared.kinds.Step.TheVariants as step
 use Rattle.device.specs.Lawful.{no_failures}
-use Rattle.supervisor.specs.declared.kinds.Prepared.{Prepared}
-use Rattle.supervisor.specs.Fitted.{Fitted, name_of}
-use Rattle.supervisor.specs.World.{World, Part, part_name}
-use Rattle.supervisor.specs.Changes.{changed_to}
-use Rattle.supervisor.specs.Acts.{Quietly, OwesAt}
+use Rattle.components.specs.declared.kinds.Prepared.{Prepared}
+use Rattle.components.specs.Fitted.{Fitted, name_of}
+use Rattle.components.specs.World.{World, Part, part_name}
+use Rattle.components.specs.Changes.{changed_to}
+use Rattle.components.specs.Acts.{Quietly, OwesAt}
 use Rattle.supervisor_laws.specs.Keeps.{Keeps, IsTold, AreCounted, ItemsDiffer, count_of}
 use Rattle.supervisor_laws.specs.Sound.{IsOrderly, IsSoundPart, Differ}
 use Rattle.supervisor_laws.specs.Rows.{fitted_a, device_a, no_world, comes, begins, begun_a, lives, failed, recorded, told, stands, replaced}

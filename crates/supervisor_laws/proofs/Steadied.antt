@@ -6,11 +6,11 @@ use Rattle.std.specs.Option.{IfSome}
 use Rattle.lifecycle.specs.Life.{MayHave}
 use Rattle.lifecycle.specs.declared.kinds.State.{State}
 use Rattle.device.specs.Devices.{Device}
-use Rattle.supervisor.specs.Fitted.{Fitted, name_of}
-use Rattle.supervisor.specs.World.{World, Part, is_gone, owner, part_name}
-use Rattle.supervisor.specs.Answers.{living_numbers}
-use Rattle.supervisor.specs.Turns.{owes}
-use Rattle.supervisor.specs.Changes.{forgetting, steadied}
+use Rattle.components.specs.Fitted.{Fitted, name_of}
+use Rattle.components.specs.World.{World, Part, is_gone, owner, part_name}
+use Rattle.components.specs.Answers.{living_numbers}
+use Rattle.components.specs.Turns.{owes}
+use Rattle.components.specs.Changes.{forgetting, steadied}
 use Rattle.supervisor_laws.specs.Keeps.{IsTold, Keeps}
 use Rattle.supervisor_laws.specs.Sound.{IsOrderly, IsSoundPart, Differ, is_to_begin_again}
 use Rattle.supervisor_laws.proofs.Lists.{at_places}

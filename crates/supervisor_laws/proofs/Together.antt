@@ -8,12 +8,12 @@ use Rattle.nuc_base.specs.declared.kinds.Step.{Step}
 use Rattle.lifecycle.specs.declared.kinds.After.TheVariants as after
 use Rattle.lifecycle.specs.declared.kinds.LifeEvent.{LifeEvent}
 use Rattle.device.specs.Devices.{Device}
-use Rattle.supervisor.specs.World.{World, Part, changed_at, part_name, child_gone, without_child}
-use Rattle.supervisor.specs.Marks.{flagged_at, restarted, may_restart}
-use Rattle.supervisor.specs.Lives.{lived, lived_at, drops_at}
-use Rattle.supervisor.specs.Events.{gone_by, is_orphan_at}
-use Rattle.supervisor.specs.Turns.{owes}
-use Rattle.supervisor.specs.Answers.{living_numbers}
+use Rattle.components.specs.World.{World, Part, changed_at, part_name, child_gone, without_child}
+use Rattle.components.specs.Marks.{flagged_at, restarted, may_restart}
+use Rattle.components.specs.Lives.{lived, lived_at, drops_at}
+use Rattle.components.specs.Events.{gone_by, is_orphan_at}
+use Rattle.components.specs.Turns.{owes}
+use Rattle.components.specs.Answers.{living_numbers}
 use Rattle.supervisor_laws.specs.Sound.{IsSoundPart, AreSound, Differ, HaveOwnNames}
 use Rattle.supervisor_laws.specs.Keeps.{IsCounted, Keeps, IsTold}
 use Rattle.supervisor_laws.proofs.Lists.{none_of, some_same, no_some, from_places, at_places, changed_all, changed_same, twice, changed_nothing}

@@ -12,10 +12,10 @@ use Rattle.nuc_base.specs.declared.kinds.Exit.{Exit}
 use Rattle.records.specs.Stored.{Item, StepFailed}
 use Rattle.device.specs.Devices.{Device, Pending}
 use Rattle.device.specs.Lawful.{applied, counted, count_failure, failing_place, running, place, place_from}
-use Rattle.supervisor.specs.Fitted.{Fitted, name_of}
-use Rattle.supervisor.specs.World.{World, Part, At, changed_at, part_name, place_of, is_spared, is_again, is_gone, is_broken, under_way, owner, stops_for_good}
-use Rattle.supervisor.specs.Events.{told_at}
-use Rattle.supervisor.specs.Acts.{OwesAt}
+use Rattle.components.specs.Fitted.{Fitted, name_of}
+use Rattle.components.specs.World.{World, Part, At, changed_at, part_name, place_of, is_spared, is_again, is_gone, is_broken, under_way, owner, stops_for_good}
+use Rattle.components.specs.Events.{told_at}
+use Rattle.components.specs.Acts.{OwesAt}
 use Rattle.supervisor_laws.specs.Sound.{IsSoundPart, Differ, is_waiting, is_to_begin_again}
 use Rattle.supervisor_laws.specs.Keeps.{Keeps, IsCounted, AgreesBy, count_of}
 use Rattle.supervisor_laws.proofs.Lists.{either, clash, second_true, none_of, some_same, no_some, changed_same}

@@ -8,10 +8,10 @@ use Rattle.nuc_base.specs.declared.kinds.Exit.{Exit}
 use Rattle.nuc_base.specs.declared.kinds.Exit.TheVariants as exits
 use Rattle.device.specs.Devices.{Device}
 use Rattle.device.specs.Lawful.{failing_place, IsWork}
-use Rattle.supervisor.specs.Fitted.{Fitted, name_of}
-use Rattle.supervisor.specs.World.{World, Part, part_name, is_spared, is_broken, owner}
-use Rattle.supervisor.specs.Turns.{owes}
-use Rattle.supervisor.specs.Answers.{living_numbers}
+use Rattle.components.specs.Fitted.{Fitted, name_of}
+use Rattle.components.specs.World.{World, Part, part_name, is_spared, is_broken, owner}
+use Rattle.components.specs.Turns.{owes}
+use Rattle.components.specs.Answers.{living_numbers}
 use Rattle.supervisor_laws.specs.Sound.{AreSound, Differ, HaveOwnNames}
 
 -- how often the item of this name failed in the stage

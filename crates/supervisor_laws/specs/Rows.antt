@@ -11,13 +11,13 @@ use Rattle.device.specs.Lawful.{no_failures, applied}
 use Rattle.lifecycle.specs.Life.{begun}
 use Rattle.lifecycle.specs.declared.kinds.LifeEvent.TheVariants as event
 use Rattle.lifecycle.specs.declared.kinds.State.TheVariants as state
-use Rattle.supervisor.specs.declared.kinds.Prepared.{Prepared}
-use Rattle.supervisor.specs.Fitted.{Fitted, steps_of}
-use Rattle.supervisor.specs.World.{World}
-use Rattle.supervisor.specs.Lives.{lived_at}
-use Rattle.supervisor.specs.Events.{started, ended, told_at}
-use Rattle.supervisor.specs.Acts.{Move}
-use Rattle.supervisor.specs.Changes.{changed_to}
+use Rattle.components.specs.declared.kinds.Prepared.{Prepared}
+use Rattle.components.specs.Fitted.{Fitted, steps_of}
+use Rattle.components.specs.World.{World}
+use Rattle.components.specs.Lives.{lived_at}
+use Rattle.components.specs.Events.{started, ended, told_at}
+use Rattle.components.specs.Acts.{Move}
+use Rattle.components.specs.Changes.{changed_to}
 
 -- the component a, of version 1 or 2
 abbrev pub item_a : ℕ → Item

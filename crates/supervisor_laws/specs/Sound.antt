@@ -7,9 +7,9 @@ use Rattle.lifecycle.specs.Life.{MayHave, may_be_busy, may_run}
 use Rattle.lifecycle.specs.declared.kinds.After.{After}
 use Rattle.lifecycle.specs.declared.kinds.After.TheVariants as after
 use Rattle.lifecycle.specs.Awaits.{is_same_step, is_busy_with, is_stopping}
-use Rattle.supervisor.specs.Fitted.{Fitted, name_of}
-use Rattle.supervisor.specs.World.{World, Part, Child, part_name, is_again, is_gone, under_way}
-use Rattle.supervisor.specs.Answers.{living_numbers}
+use Rattle.components.specs.Fitted.{Fitted, name_of}
+use Rattle.components.specs.World.{World, Part, Child, part_name, is_again, is_gone, under_way}
+use Rattle.components.specs.Answers.{living_numbers}
 
 -- ---- of each component
 

@@ -7,10 +7,10 @@ ghost use Rattle.records.specs.declared.record.Origin.{Origin};
 ghost use Rattle.device.specs.Devices.{Device, Pending};
 ghost use Rattle.device.specs.Lawful.{running};
 ghost use Rattle.device.specs.Plans.{Rise, item_name};
-ghost use Rattle.supervisor.specs.Made.{AreFitted};
-ghost use Rattle.supervisor.specs.Fitted.{Fitted};
-ghost use Rattle.supervisor.specs.World.{World};
-ghost use Rattle.supervisor.specs.Changes.{changed_to};
+ghost use Rattle.components.specs.Made.{AreFitted};
+ghost use Rattle.components.specs.Fitted.{Fitted};
+ghost use Rattle.components.specs.World.{World};
+ghost use Rattle.components.specs.Changes.{changed_to};
 ghost use Rattle.supervisor_laws.specs.Keeps.{Keeps, IsTold, Owns, AreCounted, ItemsDiffer};
 ghost use Rattle.supervisor_laws.specs.Sound.{IsOrderly};
 

@@ -5,10 +5,10 @@ ghost use Rattle.nuc_base.specs.declared.kinds.Step.{Step};
 ghost use Rattle.records.specs.Stored.{StepFailed};
 ghost use Rattle.device.specs.Devices.{Device};
 ghost use Rattle.device.specs.Lawful.{applied};
-ghost use Rattle.supervisor.specs.World.{World, At, owner, part_name};
-ghost use Rattle.supervisor.specs.Events.{started, refused, skipped, ended, killed, told_at, later};
-ghost use Rattle.supervisor.specs.Acts.{Move, Quietly, OwesAt};
-ghost use Rattle.supervisor.specs.Changes.{steadied};
+ghost use Rattle.components.specs.World.{World, At, owner, part_name};
+ghost use Rattle.components.specs.Events.{started, refused, skipped, ended, killed, told_at, later};
+ghost use Rattle.components.specs.Acts.{Move, Quietly, OwesAt};
+ghost use Rattle.components.specs.Changes.{steadied};
 ghost use Rattle.supervisor_laws.specs.Keeps.{Keeps, IsTold, Owns};
 ghost use Rattle.supervisor_laws.specs.Sound.{IsOrderly};
 

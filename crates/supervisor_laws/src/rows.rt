@@ -3,8 +3,8 @@ ghost use Rattle.std.specs.Prelude.{◌≡◌, false, Some, None, [], ◌∷◌,
 ghost use Rattle.nuc_base.specs.declared.kinds.Exit.TheVariants as exits;
 ghost use Rattle.nuc_base.specs.declared.kinds.Step.TheVariants as step;
 ghost use Rattle.lifecycle.specs.declared.kinds.After.TheVariants as after;
-ghost use Rattle.supervisor.specs.declared.kinds.Prepared.{Prepared};
-ghost use Rattle.supervisor.specs.Acts.{Quietly, OwesAt};
+ghost use Rattle.components.specs.declared.kinds.Prepared.{Prepared};
+ghost use Rattle.components.specs.Acts.{Quietly, OwesAt};
 ghost use Rattle.supervisor_laws.specs.Keeps.{Keeps, IsTold, Owns, count_of};
 ghost use Rattle.supervisor_laws.specs.Sound.{IsOrderly};
 ghost use Rattle.supervisor_laws.specs.Rows.{fitted_a, device_a, comes, begins, begun_a, lives, failed, recorded, told, stands, replaced};

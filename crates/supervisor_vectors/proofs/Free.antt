@@ -12,18 +12,18 @@ use Rattle.lifecycle.specs.declared.kinds.After.TheVariants as after
 use Rattle.lifecycle.specs.declared.kinds.LifeAct.{LifeAct}
 use Rattle.lifecycle.specs.declared.kinds.LifeEvent.{LifeEvent}
 use Rattle.lifecycle.specs.declared.kinds.LifeEvent.TheVariants as event
-use Rattle.supervisor.specs.Acts.{Move, Quietly}
-use Rattle.supervisor.specs.Answers.{has_answered}
-use Rattle.supervisor.specs.Changes.{Coming, all_stopped, changed_to, coming_again, coming_for, counted, fate, forgetting, fresh_part, is_replaced, is_replacing, leaving, meeting, replacing, replanned, standing, staying, steadied, with_items, with_newcomers, with_texts}
-use Rattle.supervisor.specs.Events.{answered_at, gone_by, is_orphan_at, kill_event_at, killed, ended, launched, refused, skipped, started, told_at, with_child}
-use Rattle.supervisor.specs.Fitted.{Fitted, is_same_item, steps_of}
-use Rattle.supervisor.specs.Lives.{drops_at, lived, lived_at, replaced}
-use Rattle.supervisor.specs.Marks.{Flagged, flagged, flagged_at, grown, marked, may_replan, may_restart, reaching, restarted}
-use Rattle.supervisor.specs.Rows.{completed_from, succeeds_from}
-use Rattle.supervisor.specs.World.{Part, World, changed_at, child_gone, is_again, is_gone, owner, part_name, stops_for_good, under_way, without_child}
+use Rattle.components.specs.Acts.{Move, Quietly}
+use Rattle.components.specs.Answers.{has_answered}
+use Rattle.components.specs.Changes.{Coming, all_stopped, changed_to, coming_again, coming_for, counted, fate, forgetting, fresh_part, is_replaced, is_replacing, leaving, meeting, replacing, replanned, standing, staying, steadied, with_items, with_newcomers, with_texts}
+use Rattle.components.specs.Events.{answered_at, gone_by, is_orphan_at, kill_event_at, killed, ended, launched, refused, skipped, started, told_at, with_child}
+use Rattle.components.specs.Fitted.{Fitted, is_same_item, steps_of}
+use Rattle.components.specs.Lives.{drops_at, lived, lived_at, replaced}
+use Rattle.components.specs.Marks.{Flagged, flagged, flagged_at, grown, marked, may_replan, may_restart, reaching, restarted}
+use Rattle.components.specs.Rows.{completed_from, succeeds_from}
+use Rattle.components.specs.World.{Part, World, changed_at, child_gone, is_again, is_gone, owner, part_name, stops_for_good, under_way, without_child}
 use Rattle.supervisor_vectors.specs.Stands.{AreAnswered}
-use Rattle.supervisor.proofs.Changed.{all_placed, all_standing, is_held_by}
-use Rattle.supervisor.proofs.Lived.{lived_none, lived_row, settled_part}
+use Rattle.components.proofs.Changed.{all_placed, all_standing, is_held_by}
+use Rattle.components.proofs.Lived.{lived_none, lived_row, settled_part}
 
 abbrev pub IsFree : Part → Type 0
 IsFree p = p.handed ≡ false

@@ -5,19 +5,19 @@ use Rattle.records.specs.declared.record.Origin.{Origin}
 use Rattle.nuc_base.specs.declared.kinds.Exit.{Exit}
 use Rattle.nuc_base.specs.declared.kinds.Step.{Step}
 use Rattle.nuc_base.specs.declared.platform.Platform.{Platform}
-use Rattle.supervisor.specs.Acts.{NextAct, OwesAt, HasStart}
-use Rattle.supervisor.specs.Answers.{HasHanded}
-use Rattle.supervisor.specs.Events.{handed_at, noticed, told_at}
-use Rattle.supervisor.specs.Changes.{all_stopped, changed_to, steadied}
-use Rattle.supervisor.specs.Fitted.{Fitted, prepared_of}
-use Rattle.supervisor.specs.Platforms.{AllFor}
-use Rattle.supervisor.specs.Turns.{is_begun}
-use Rattle.supervisor.specs.World.{World, Part, At, changed_at, place_of, is_broken, part_name}
-use Rattle.supervisor.specs.declared.kinds.Act.TheVariants as acts
-use Rattle.supervisor.specs.declared.kinds.Event.TheVariants.{Started, Refused, Skipped}
-use Rattle.supervisor.proofs.Each.{at_below, length_changed}
-use Rattle.supervisor.proofs.Handed.{refused-handed, skipped-handed, started-handed}
-use Rattle.supervisor.proofs.Platforms.{run_change, run_next, run_steadied, run_stopped}
+use Rattle.components.specs.Acts.{NextAct, OwesAt, HasStart}
+use Rattle.components.specs.Answers.{HasHanded}
+use Rattle.components.specs.Events.{handed_at, noticed, told_at}
+use Rattle.components.specs.Changes.{all_stopped, changed_to, steadied}
+use Rattle.components.specs.Fitted.{Fitted, prepared_of}
+use Rattle.components.specs.Platforms.{AllFor}
+use Rattle.components.specs.Turns.{is_begun}
+use Rattle.components.specs.World.{World, Part, At, changed_at, place_of, is_broken, part_name}
+use Rattle.components.specs.declared.kinds.Act.TheVariants as acts
+use Rattle.components.specs.declared.kinds.Event.TheVariants.{Started, Refused, Skipped}
+use Rattle.components.proofs.Each.{at_below, length_changed}
+use Rattle.components.proofs.Handed.{refused-handed, skipped-handed, started-handed}
+use Rattle.components.proofs.Platforms.{run_change, run_next, run_steadied, run_stopped}
 use Rattle.supervisor_vectors.specs.Stands.{Stands}
 use Rattle.supervisor_vectors.proofs.Free.{AreFree, free_change, free_killed, free_quietly, free_refused, free_skipped, free_started, free_steadied, free_stopped, free_told}
 

@@ -3,12 +3,12 @@ use Rattle.std.proofs.Common.{◌≡◌, ◌∙◌, ℕ, List, [], ◌∷◌, Bo
 use Rattle.std.specs.Prelude.{if◌then◌else◌}
 use Rattle.nuc_base.specs.declared.kinds.Step.{Step}
 use Rattle.lifecycle.specs.declared.kinds.LifeEvent.{LifeEvent}
-use Rattle.supervisor.specs.Acts.{Move, NextAct, HandsOut, Quietly}
-use Rattle.supervisor.specs.Events.{gone_by, is_orphan_at, kill_event_at, killed}
-use Rattle.supervisor.specs.Lives.{lived_at}
-use Rattle.supervisor.specs.World.{World, child_gone, owner}
-use Rattle.supervisor.specs.declared.kinds.Act.{Act}
-use Rattle.supervisor.specs.declared.kinds.Act.TheVariants as acts
+use Rattle.components.specs.Acts.{Move, NextAct, HandsOut, Quietly}
+use Rattle.components.specs.Events.{gone_by, is_orphan_at, kill_event_at, killed}
+use Rattle.components.specs.Lives.{lived_at}
+use Rattle.components.specs.World.{World, child_gone, owner}
+use Rattle.components.specs.declared.kinds.Act.{Act}
+use Rattle.components.specs.declared.kinds.Act.TheVariants as acts
 
 moment_gone : (o : Option LifeEvent) (k : ℕ) (s : Step) (n : ℕ) (w : World) → (gone_by o k s n w).moment ≡ w.moment
 moment_gone None k s n w = refl

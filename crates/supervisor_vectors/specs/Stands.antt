@@ -2,8 +2,8 @@
 use Rattle.std.specs.Prelude.{◌≡◌, false, List}
 use Rattle.std.specs.List.{AllByRecursion}
 use Rattle.nuc_base.specs.declared.platform.Platform.{Platform}
-use Rattle.supervisor.specs.Platforms.{AllRunFor}
-use Rattle.supervisor.specs.World.{World, Part}
+use Rattle.components.specs.Platforms.{AllRunFor}
+use Rattle.components.specs.World.{World, Part}
 
 -- no start that was handed out is open
 abbrev pub AreAnswered : List Part → Type 0

@@ -5,12 +5,12 @@ ghost use Rattle.records.specs.Stored.{item_view};
 ghost use Rattle.device.specs.Devices.{device_view, IsRegularDevice};
 ghost use Rattle.device.specs.Plans.{AreItems, AreRegularItems};
 ghost use Rattle.device.specs.Sound.{IsSound};
-ghost use Rattle.supervisor.specs.Acts.{HasStart};
-ghost use Rattle.supervisor.specs.Answers.{Answers, HasHanded};
-ghost use Rattle.supervisor.specs.Events.{handed_at, noticed};
-ghost use Rattle.supervisor.specs.Fitted.{prepared_of};
-ghost use Rattle.supervisor.specs.Platforms.{AllRunFor};
-ghost use Rattle.supervisor.specs.World.{At, World, owner};
+ghost use Rattle.components.specs.Acts.{HasStart};
+ghost use Rattle.components.specs.Answers.{Answers, HasHanded};
+ghost use Rattle.components.specs.Events.{handed_at, noticed};
+ghost use Rattle.components.specs.Fitted.{prepared_of};
+ghost use Rattle.components.specs.Platforms.{AllRunFor};
+ghost use Rattle.components.specs.World.{At, World, owner};
 ghost use Rattle.supervisor_vectors.specs.Stands.{AreAnswered, Stands};
 
 use device::Device;
@@ -18,7 +18,8 @@ use nuc_base::{Exit, List, NoMemory, Step};
 use recipe_reader::Skip;
 use records::{Item, Origin};
 use std::alloc::Global;
-use supervisor::{Act, Event, Mode, Supervisor, one_platform};
+use components::{Act, Event, Mode, one_platform};
+use supervisor::Supervisor;
 
 /// What was handed out, in words, and the number of the next child.
 #[derive(Drop)]

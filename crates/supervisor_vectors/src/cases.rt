@@ -11,7 +11,8 @@ use device::Device;
 use nuc_base::{Exit, NoMemory};
 use std::alloc::Global;
 use std::test::Fail;
-use supervisor::{Event, Mode, Supervisor};
+use components::{Event, Mode};
+use supervisor::Supervisor;
 
 /// Components, others that they are changed to, and lines. A line has a moment, what befalls the components then, what is
 /// handed out behind that, and how they then stand. `serve` and `begin` have the first components run, without and with a

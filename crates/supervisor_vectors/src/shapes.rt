@@ -11,7 +11,8 @@ use device::Device;
 use nuc_base::{Exit, NoMemory};
 use std::alloc::Global;
 use std::test::Fail;
-use supervisor::{Mode, Supervisor};
+use components::Mode;
+use supervisor::Supervisor;
 
 /// Components, each with the names that it needs, and lines: the order in which steps end, and who starts up and who shuts
 /// down then, with a dot for each end.

@@ -13,7 +13,7 @@ use recipe_reader::{Recipe, Skip};
 use records::{Item, Origin};
 use std::alloc::Global;
 use std::test::Fail;
-use supervisor::{Prepared, step_of};
+use components::{Prepared, step_of};
 
 /// A component with a bootstrap that names its configuration and its folder, and an install with a probe.
 const COMPONENT: &str = r#"A 1.0.0 {"v":1} bootstrap {configuration:/v}{work:path} probed i"#;

@@ -1,11 +1,11 @@
 use Rattle.std.proofs.Common.{◌++◌, None, Some, refl, sym, subst}
 use Rattle.step_runner.specs.Entries.{Listed}
-use Rattle.supervisor.specs.Acts.{HandsOut, NextAct}
-use Rattle.supervisor.specs.declared.kinds.Act.{Act}
+use Rattle.components.specs.Acts.{HandsOut, NextAct}
+use Rattle.components.specs.declared.kinds.Act.{Act}
 use Rattle.session.specs.Places.{Place, left_by}
 use Rattle.session.proofs.Joined.{left-append}
 use Rattle.driver.proofs.Acting.{acts_on}
-use Rattle.ending_laws.proofs.Steps.{falls_after, falls_not_above, next_falling, next_falls, next_not_above, not_above_on}
+use Rattle.progress_laws.proofs.Steps.{falls_after, falls_not_above, next_falling, next_falls, next_not_above, not_above_on}
 use Rattle.activation.specs.Runs.{Runs}
 use Rattle.activation.proofs.Falling.{falling_at}
 use Rattle.activation.proofs.Handing.{broke_at, failed_at, hands_at, moved, quiet_at, starting_at}

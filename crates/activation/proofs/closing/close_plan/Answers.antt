@@ -9,13 +9,13 @@ use Rattle.device.specs.Standing.{StandsFor}
 use Rattle.device.specs.declared.staged.Stage.TheVariants as stages
 use Rattle.deploy_state.proofs.Steps.{in_hand_stands}
 use Rattle.deploy_state.specs.States.{activating_device, idle_device}
-use Rattle.supervisor.specs.World.{World}
+use Rattle.components.specs.World.{World}
 use Rattle.session.specs.Happenings.{Kept, records_of}
 use Rattle.session.specs.Places.{leaves}
 use Rattle.driver.specs.Lines.{id_of}
 use Rattle.driver.proofs.Told.{last_untold}
-use Rattle.ending_laws.specs.Drives.{Drives}
-use Rattle.ending_laws.proofs.Stands.{steady_on}
+use Rattle.progress_laws.specs.Drives.{Drives}
+use Rattle.progress_laws.proofs.Stands.{steady_on}
 use Rattle.activation.specs.Ended.{HasClosed}
 use Rattle.activation.proofs.Closed.{closed_quits, same_owners, steadied_owners, close_doubt, close_went, closed_at, completes, ends_up, last_closed, line_closed, pends_in}
 use Rattle.activation.proofs.closing.close_plan.Goals as goal

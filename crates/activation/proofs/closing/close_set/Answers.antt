@@ -9,13 +9,13 @@ use Rattle.device.specs.Standing.{StandsFor}
 use Rattle.device.specs.declared.staged.Stage.TheVariants as stages
 use Rattle.deploy_state.proofs.Steps.{in_hand_stands}
 use Rattle.deploy_state.specs.States.{rolling_device, idle_device}
-use Rattle.supervisor.specs.World.{World}
+use Rattle.components.specs.World.{World}
 use Rattle.session.specs.Happenings.{Kept, records_of}
 use Rattle.session.specs.Places.{leaves}
 use Rattle.driver.specs.Lines.{id_of}
 use Rattle.driver.proofs.Told.{last_untold}
-use Rattle.ending_laws.specs.Drives.{Drives}
-use Rattle.ending_laws.proofs.Stands.{steady_on}
+use Rattle.progress_laws.specs.Drives.{Drives}
+use Rattle.progress_laws.proofs.Stands.{steady_on}
 use Rattle.activation.specs.Ended.{HasClosed}
 use Rattle.activation.proofs.Closed.{closed_quits, same_owners, steadied_owners, Notes, close_doubt, close_went, closed_at, ends_set, last_closed, line_closed, pends_in, roll_allowed, rolls, set_outcome}
 use Rattle.activation.proofs.closing.close_set.Goals as goal

@@ -1,6 +1,6 @@
 use Rattle.std.proofs.Common.{Bool, Some, None, subst}
 use Rattle.step_runner.specs.Entries.{Listed, Notes}
-use Rattle.supervisor.specs.World.{At}
+use Rattle.components.specs.World.{At}
 use Rattle.driver.specs.Steps.{probe_seen}
 use Rattle.activation.proofs.Starting.{SkipIs, no_probe, prepared_world, probe_no, probe_yes}
 use Rattle.activation.proofs.starts.is_skipped.Goals as goal

@@ -1,10 +1,10 @@
 use Rattle.std.proofs.Common.{[], ◌∷◌, subst, sym, arith}
 use Rattle.step_runner.specs.Entries.{Listed}
-use Rattle.supervisor.specs.World.{World}
+use Rattle.components.specs.World.{World}
 use Rattle.session.specs.Happenings.{Asked}
 use Rattle.session.specs.Places.{leaves}
 use Rattle.activation.specs.Runs.{Runs}
-use Rattle.ending_laws.proofs.Steps.{pass_not_above}
+use Rattle.progress_laws.proofs.Steps.{pass_not_above}
 use Rattle.activation.proofs.Entering.{pass_acts, pass_runs}
 use Rattle.activation.proofs.starts.pass.Goals as goal
 

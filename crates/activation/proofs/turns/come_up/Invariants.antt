@@ -6,9 +6,9 @@ use Rattle.session.specs.Places.{Place, left_by}
 use Rattle.driver.specs.Lines.{lines_of}
 use Rattle.driver.specs.Same.{IsSameDeployment}
 use Rattle.driver.specs.Went.{Went}
-use Rattle.supervisor.specs.Events.{later}
+use Rattle.components.specs.Events.{later}
 use Rattle.progress_laws.specs.Rank.{measure}
-use Rattle.ending_laws.specs.Drives.{Rises}
+use Rattle.progress_laws.specs.Drives.{Rises}
 use Rattle.activation.specs.Coming.{InComing, coming_device, is_plan}
 use Rattle.activation.specs.Runs.{Comes}
 use Rattle.activation.proofs.turns.come_up.Given as goal

@@ -11,7 +11,7 @@ use Rattle.driver.proofs.Joins.{acted, went_on}
 use Rattle.driver.proofs.Restarts.{not_err}
 use Rattle.driver.proofs.Same.{same_refl, same_trans}
 use Rattle.driver.proofs.Told.{all_told, left_joined, lines_at_joined}
-use Rattle.ending_laws.proofs.Steps.{not_above_on, self_not_above}
+use Rattle.progress_laws.proofs.Steps.{not_above_on, self_not_above}
 use Rattle.activation.specs.Coming.{coming_device}
 use Rattle.activation.specs.Did.{ActLeft}
 use Rattle.activation.proofs.Entering.{never}

@@ -7,7 +7,7 @@ use Rattle.driver.specs.Lines.{lines_of}
 use Rattle.driver.specs.Same.{IsSameDeployment}
 use Rattle.driver.specs.Went.{Went}
 use Rattle.progress_laws.specs.Rank.{rank}
-use Rattle.ending_laws.specs.Drives.{NotAbove}
+use Rattle.progress_laws.specs.Drives.{NotAbove}
 use Rattle.activation.specs.Coming.{InComing, coming_device, is_plan}
 use Rattle.activation.specs.Did.{ActLeft}
 use Rattle.activation.specs.Runs.{Runs}

@@ -7,8 +7,8 @@ use Rattle.session.proofs.Joined.{left-append}
 use Rattle.driver.proofs.Joins.{acted, went_on}
 use Rattle.driver.proofs.Told.{all_told, left_joined, lines_at_joined}
 use Rattle.progress_laws.specs.Rank.{rank}
-use Rattle.ending_laws.proofs.Same.{rises_on}
-use Rattle.ending_laws.proofs.Steps.{measure_less, not_above_on, turn_goes}
+use Rattle.progress_laws.proofs.Same.{rises_on}
+use Rattle.progress_laws.proofs.Steps.{measure_less, not_above_on, turn_goes}
 use Rattle.activation.specs.Coming.{coming_device}
 use Rattle.activation.specs.Did.{ActLeft}
 use Rattle.activation.specs.Runs.{Comes}

@@ -2,7 +2,7 @@ use Rattle.std.proofs.Common.{inl, inr, sym, subst}
 use Rattle.std.specs.Prelude.{List}
 use Rattle.deploy_state.specs.States.{booting_device}
 use Rattle.step_runner.specs.Entries.{Listed}
-use Rattle.supervisor.specs.declared.kinds.Prepared.{Prepared}
+use Rattle.components.specs.declared.kinds.Prepared.{Prepared}
 use Rattle.session.specs.Happenings.{records_of}
 use Rattle.session.specs.Places.{left_by}
 use Rattle.preparation.proofs.Serving.{plan_ready}

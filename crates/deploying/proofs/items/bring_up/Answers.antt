@@ -3,13 +3,13 @@ use Rattle.std.proofs.Common.{◌≡◌, ◌∙◌, subst}
 use Rattle.nuc_base.specs.declared.kinds.Outcome.TheVariants as outcomes
 use Rattle.deploy_state.specs.States.{activating_device}
 use Rattle.step_runner.specs.Entries.{Listed, Told}
-use Rattle.supervisor.specs.World.{World}
+use Rattle.components.specs.World.{World}
 use Rattle.session.specs.Happenings.{Happening}
 use Rattle.session.specs.Places.{Place, left_by}
 use Rattle.activation.specs.Ended.{ActivatedLeft, ActivatedSame}
 use Rattle.activation.specs.declared.activating.Activated.{Activated}
 use Rattle.activation.specs.declared.activating.Activated.TheVariants as activated
-use Rattle.giving_up.proofs.GivenUp.{quits_given_up}
+use Rattle.stage_changes.proofs.GivenUp.{quits_given_up}
 use Rattle.deploying.specs.declared.driven.Driven.TheVariants as driven
 use Rattle.deploying.proofs.Endings.{ended}
 use Rattle.deploying.proofs.Joining.{cut_off, joined}

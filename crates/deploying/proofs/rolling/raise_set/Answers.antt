@@ -11,7 +11,7 @@ use Rattle.activation.specs.Runs.{rises}
 use Rattle.activation.proofs.Turning.{no_lines}
 use Rattle.stage_changes.specs.Enters.{AreReady}
 use Rattle.stage_changes.proofs.Rising.{keeps_none, rises_in, room_for_none, stopped_in}
-use Rattle.giving_up.proofs.GivenUp.{quits_given_up}
+use Rattle.stage_changes.proofs.GivenUp.{quits_given_up}
 use Rattle.deploying.specs.Driven.{DrivenLeft}
 use Rattle.deploying.specs.declared.driven.Driven.TheVariants as driven
 use Rattle.deploying.proofs.Endings.{ended}

@@ -10,7 +10,7 @@ use Rattle.artifact_store.specs.Holding.{AllHoldDevice, HoldsDevice}
 use Rattle.artifact_store.specs.Swept.{IsStray, IsSwept, items_of}
 use Rattle.artifact_store.proofs.Walking.{wider_spares}
 use Rattle.deploy_state.specs.States.{idle_device}
-use Rattle.giving_up.proofs.Ended.{killed_ends}
+use Rattle.stage_changes.proofs.Ended.{killed_ends}
 use Rattle.deployments.proofs.Places.{closed_given_up, closed_stops}
 use Rattle.deployments.specs.Endings.{Closes, Fails, Forgets}
 use Rattle.deployments.proofs.Printing.{says_none}

@@ -16,7 +16,7 @@ use Rattle.step_runner.specs.Entries.{Listed}
 use Rattle.session.specs.Happenings.{records_of}
 use Rattle.session.specs.Once.{TakesOnce}
 use Rattle.session.proofs.Once.{takes_once}
-use Rattle.ending_laws.proofs.Comes.{none_drives}
+use Rattle.progress_laws.proofs.Comes.{none_drives}
 use Rattle.driver.proofs.Between.{no_living}
 use Rattle.driver.specs.declared.over.Over.TheVariants as over
 use Rattle.deployments.proofs.Ending.{called, nothing_called, placed_at, still_whole}

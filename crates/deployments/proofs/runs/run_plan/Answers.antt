@@ -18,7 +18,7 @@ use Rattle.session.specs.Happenings.{records_of}
 use Rattle.session.specs.Follows.{MayTakeBy}
 use Rattle.session.specs.Places.{left_by}
 use Rattle.session.proofs.Once.{takes_once}
-use Rattle.ending_laws.proofs.Comes.{none_drives}
+use Rattle.progress_laws.proofs.Comes.{none_drives}
 use Rattle.driver.specs.Over.{LeftAt, LinesAt}
 use Rattle.driver.specs.declared.over.Over.{Over}
 use Rattle.driver.specs.declared.over.Over.TheVariants as over

@@ -2,7 +2,7 @@ use Rattle.std.proofs.Common.{◌≡◌, List, [], ℕ, IsTrue}
 use Rattle.std.specs.Io.KnownBytes.{Appends}
 use Rattle.deploy_state.specs.States.{InBooting, booting_device}
 use Rattle.step_runner.specs.Entries.{Listed}
-use Rattle.supervisor.specs.World.{World}
+use Rattle.components.specs.World.{World}
 use Rattle.session.specs.Happenings.{Happening, records_of}
 use Rattle.session.specs.Places.{Place, left_by}
 use Rattle.driver.specs.Lines.{lines_of}

@@ -1,7 +1,7 @@
 use Rattle.std.proofs.Common.{◌∙◌, ◌++◌, List, ℕ, [], ◌∷◌, refl, ap, arith}
 use Rattle.std.specs.Prelude.{pos}
 use Rattle.step_runner.specs.Entries.{Listed}
-use Rattle.supervisor.specs.Deadlines.{deadline_after}
+use Rattle.components.specs.Deadlines.{deadline_after}
 use Rattle.step_runner.specs.declared.entries.Seen.TheVariants as seen
 use Rattle.session.specs.Happenings.{Asked, Booted}
 use Rattle.session.specs.Places.{leaves, left_by}

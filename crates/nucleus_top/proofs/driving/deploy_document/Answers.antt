@@ -1,7 +1,7 @@
 use Rattle.std.proofs.Common.{refl, ap}
 use Rattle.deploy_state.specs.States.{idle_device}
 use Rattle.step_runner.specs.Entries.{Listed}
-use Rattle.supervisor.specs.World.{World}
+use Rattle.components.specs.World.{World}
 use Rattle.session.specs.Happenings.{records_of}
 use Rattle.nucleus_top.specs.Drives.{slots_start}
 use Rattle.nucleus_top.proofs.Crashes.{kept_fronts}

@@ -5,7 +5,7 @@ use Rattle.std.proofs.lemmas.List.{take_all}
 use Rattle.records.specs.Stored.{item_view}
 use Rattle.records.specs.declared.record.Item as code
 use Rattle.device.specs.Lawful.{goes_back}
-use Rattle.supervisor.specs.declared.kinds.Prepared.{Prepared}
+use Rattle.components.specs.declared.kinds.Prepared.{Prepared}
 use Rattle.driver.specs.Made.{AreBootsOf, IsBootOf}
 use Rattle.preparation.proofs.GoingBack.{is_boot, zip_none, zip_one}
 use Rattle.preparation.proofs.Listed.{listed}

@@ -3,8 +3,8 @@ use Rattle.nuc_base.specs.declared.kinds.Step.TheVariants as step
 use Rattle.records.specs.Stored.{item_view}
 use Rattle.records.specs.declared.record.Item as code
 use Rattle.device.specs.Lawful.{place}
-use Rattle.supervisor.specs.Made.{IsStepAt}
-use Rattle.supervisor.specs.declared.kinds.Prepared.{Prepared}
+use Rattle.components.specs.Made.{IsStepAt}
+use Rattle.components.specs.declared.kinds.Prepared.{Prepared}
 use Rattle.preparation.proofs.Placed.{boot_of, has_scope, is_made, is_there}
 use Rattle.preparation.proofs.boots.prepare_boot.Goals as goal
 

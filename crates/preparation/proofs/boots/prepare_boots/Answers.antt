@@ -2,7 +2,7 @@ use Rattle.std.proofs.Common.{◌≡◌, ◌+◌, ◌<◌, ◌≤◌, ℕ, List,
 use Rattle.std.specs.List.{AllZip}
 use Rattle.std.proofs.lemmas.List.{take_all, take_more}
 use Rattle.records.specs.Stored.{item_view}
-use Rattle.supervisor.specs.declared.kinds.Prepared.{Prepared}
+use Rattle.components.specs.declared.kinds.Prepared.{Prepared}
 use Rattle.driver.specs.Made.{AreBootsOf, IsBootOf}
 use Rattle.preparation.proofs.Listed.{listed, zip_push}
 use Rattle.preparation.proofs.boots.prepare_boots.Goals as goal

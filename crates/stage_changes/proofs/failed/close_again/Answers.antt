@@ -10,15 +10,15 @@ use Rattle.device.specs.Standing.{StandsFor}
 use Rattle.device.specs.declared.staged.Stage.TheVariants as stages
 use Rattle.deploy_state.proofs.Steps.{in_hand_stands}
 use Rattle.deploy_state.specs.States.{idle_device, rolling_device}
-use Rattle.supervisor.specs.World.{World}
+use Rattle.components.specs.World.{World}
 use Rattle.session.specs.Happenings.{Kept, records_of}
 use Rattle.session.specs.Places.{leaves}
 use Rattle.driver.specs.Lines.{id_of}
 use Rattle.driver.proofs.Told.{last_untold}
 use Rattle.activation.specs.Ended.{HasClosed}
 use Rattle.activation.proofs.Closed.{last_closed, line_closed, outcome_of, pends_in, roll_allowed}
-use Rattle.ending_laws.specs.Drives.{Drives}
-use Rattle.ending_laws.proofs.Stands.{steady_on}
+use Rattle.progress_laws.specs.Drives.{Drives}
+use Rattle.progress_laws.proofs.Stands.{steady_on}
 use Rattle.stage_changes.proofs.Closing.{Notes, boot_bare, boot_closed, boot_went, close_doubt}
 use Rattle.stage_changes.proofs.failed.close_again.Goals as goal
 

@@ -9,15 +9,15 @@ use Rattle.device.specs.Standing.{StandsFor}
 use Rattle.device.specs.declared.staged.Stage.TheVariants as stages
 use Rattle.deploy_state.proofs.Steps.{in_hand_stands}
 use Rattle.deploy_state.specs.States.{backing_device, idle_device}
-use Rattle.supervisor.specs.World.{World}
+use Rattle.components.specs.World.{World}
 use Rattle.session.specs.Happenings.{Kept, records_of}
 use Rattle.session.specs.Places.{leaves}
 use Rattle.driver.specs.Lines.{id_of}
 use Rattle.driver.proofs.Told.{last_untold}
 use Rattle.activation.specs.Ended.{HasClosed}
 use Rattle.activation.proofs.Closed.{last_closed, line_closed, pends_in}
-use Rattle.ending_laws.specs.Drives.{Drives}
-use Rattle.ending_laws.proofs.Stands.{steady_on}
+use Rattle.progress_laws.specs.Drives.{Drives}
+use Rattle.progress_laws.proofs.Stands.{steady_on}
 use Rattle.stage_changes.proofs.Closing.{boot_bare, boot_closed, boot_went, close_doubt}
 use Rattle.stage_changes.proofs.Policies.{closes_backing}
 use Rattle.stage_changes.proofs.failing.close_backing.Goals as goal

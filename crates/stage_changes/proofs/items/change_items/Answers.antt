@@ -1,14 +1,14 @@
 use Rattle.std.proofs.Common.{◌≡◌, ℕ, List, false, sym, subst}
 use Rattle.device.specs.Devices.{device_view, pending_view}
-use Rattle.supervisor.specs.World.{World}
+use Rattle.components.specs.World.{World}
 use Rattle.session.specs.Happenings.{Happening}
 use Rattle.session.specs.Phases.{duty_of}
 use Rattle.session.specs.Places.{left_by}
 use Rattle.driver.specs.Went.{Acts}
 use Rattle.activation.specs.Runs.{Comes}
 use Rattle.session.specs.Waits.{has_three}
-use Rattle.ending_laws.specs.Drives.{Rises}
-use Rattle.ending_laws.proofs.Comes.{begins}
+use Rattle.progress_laws.specs.Drives.{Rises}
+use Rattle.progress_laws.proofs.Comes.{begins}
 use Rattle.stage_changes.proofs.Entered.{entered}
 use Rattle.stage_changes.proofs.Stage.{long_pending, pending_is, stage_with}
 use Rattle.stage_changes.proofs.items.change_items.Goals as goal

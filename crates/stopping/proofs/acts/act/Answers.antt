@@ -1,12 +1,12 @@
 use Rattle.std.proofs.Common.{◌++◌, None, Some, false, refl, sym, subst}
 use Rattle.step_runner.specs.Entries.{Listed}
-use Rattle.supervisor.specs.Acts.{HandsOut, NextAct}
-use Rattle.supervisor.specs.declared.kinds.Act.{Act}
+use Rattle.components.specs.Acts.{HandsOut, NextAct}
+use Rattle.components.specs.declared.kinds.Act.{Act}
 use Rattle.session.specs.Places.{Place, left_by}
 use Rattle.session.proofs.Joined.{left-append}
 use Rattle.driver.proofs.Acting.{acts_on}
 use Rattle.activation.proofs.Entering.{never}
-use Rattle.ending_laws.proofs.Steps.{falls_after, falls_not_above, next_falling, next_falls, next_not_above, not_above_on}
+use Rattle.progress_laws.proofs.Steps.{falls_after, falls_not_above, next_falling, next_falls, next_not_above, not_above_on}
 use Rattle.stopping.specs.Runs.{Runs}
 use Rattle.stopping.proofs.Falling.{falling_at}
 use Rattle.stopping.proofs.Handing.{hands_at, moved, none_broke, none_failed, quiet_at, starting_at}

@@ -3,7 +3,7 @@ use Rattle.step_runner.specs.Entries.{Listed}
 use Rattle.session.specs.Places.{Place, left_by}
 use Rattle.session.proofs.Joined.{left-append}
 use Rattle.driver.proofs.Acting.{acts_none, acts_on}
-use Rattle.ending_laws.proofs.Steps.{not_above_on, self_not_above}
+use Rattle.progress_laws.proofs.Steps.{not_above_on, self_not_above}
 use Rattle.stopping.specs.Runs.{ActLeft, Runs}
 use Rattle.stopping.proofs.acts.take_acts.Goals as goal
 

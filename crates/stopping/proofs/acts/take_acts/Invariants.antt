@@ -4,7 +4,7 @@ use Rattle.session.specs.Happenings.{Happening}
 use Rattle.session.specs.Places.{Place, left_by}
 use Rattle.driver.specs.Went.{Acts}
 use Rattle.progress_laws.specs.Rank.{rank}
-use Rattle.ending_laws.specs.Drives.{NotAbove}
+use Rattle.progress_laws.specs.Drives.{NotAbove}
 use Rattle.stopping.specs.Runs.{Runs}
 use Rattle.stopping.proofs.acts.take_acts.Given as goal
 

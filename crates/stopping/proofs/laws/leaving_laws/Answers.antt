@@ -1,6 +1,6 @@
 use Rattle.stopping.proofs.Gone.{ended_keeps, ended_owns, killed_keeps, killed_owns}
 use Rattle.stopping.proofs.Leaving.{moved_keeps, refused_keeps, refused_owner, skipped_keeps, skipped_owner, started_keeps, started_owns}
-use Rattle.stopping.proofs.Moved.{moved_owner}
+use Rattle.supervisor_laws.proofs.Moved.{moved_owner}
 use Rattle.stopping.proofs.laws.leaving_laws.Goals as goal
 
 pub returns : goal.returns

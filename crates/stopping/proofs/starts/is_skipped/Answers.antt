@@ -1,6 +1,6 @@
 use Rattle.std.proofs.Common.{Bool, Some, None, subst}
 use Rattle.step_runner.specs.Entries.{Listed, Notes}
-use Rattle.supervisor.specs.World.{At}
+use Rattle.components.specs.World.{At}
 use Rattle.driver.specs.Steps.{probe_seen}
 use Rattle.activation.proofs.Starting.{SkipIs, prepared_world}
 use Rattle.stopping.proofs.Starting.{no_probe, probe_no, probe_yes}

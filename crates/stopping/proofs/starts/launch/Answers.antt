@@ -1,9 +1,9 @@
 use Rattle.std.proofs.Common.{◌≡◌, ◌∙◌, sym, ap, subst, arith}
 use Rattle.step_runner.specs.Entries.{Listed}
-use Rattle.supervisor.specs.World.{World, owner}
-use Rattle.supervisor.specs.Events.{later, refused, started}
+use Rattle.components.specs.World.{World, owner}
+use Rattle.components.specs.Events.{later, refused, started}
 use Rattle.session.specs.Places.{left_by}
-use Rattle.ending_laws.proofs.Steps.{refuse_falls, start_falls}
+use Rattle.progress_laws.proofs.Steps.{refuse_falls, start_falls}
 use Rattle.stopping.specs.Runs.{Runs}
 use Rattle.activation.proofs.Entering.{later_same}
 use Rattle.activation.proofs.Starting.{handed_world, owner_handed, prepared_world}

@@ -1,11 +1,11 @@
 use Rattle.std.proofs.Common.{◌≡◌, ◌∙◌, ◌++◌, sym, ap, subst, arith}
 use Rattle.step_runner.specs.Entries.{Listed}
-use Rattle.supervisor.specs.World.{World}
-use Rattle.supervisor.specs.Events.{later, skipped}
+use Rattle.components.specs.World.{World}
+use Rattle.components.specs.Events.{later, skipped}
 use Rattle.session.specs.Places.{Place, left_by}
 use Rattle.session.proofs.Joined.{left-append}
 use Rattle.driver.proofs.Acting.{acts_on}
-use Rattle.ending_laws.proofs.Steps.{skip_falls}
+use Rattle.progress_laws.proofs.Steps.{skip_falls}
 use Rattle.stopping.specs.Runs.{Runs}
 use Rattle.activation.proofs.Entering.{later_same}
 use Rattle.activation.proofs.Starting.{handed_world}

@@ -1,11 +1,11 @@
 use Rattle.std.proofs.Common.{◌++◌, [], ◌∷◌, sym, subst}
 use Rattle.step_runner.specs.Entries.{Listed}
-use Rattle.supervisor.specs.World.{World}
+use Rattle.components.specs.World.{World}
 use Rattle.session.specs.Happenings.{StopsAll}
 use Rattle.session.specs.Places.{Place, leaves}
 use Rattle.session.proofs.Joined.{left-append}
-use Rattle.ending_laws.specs.Drives.{Drives}
-use Rattle.ending_laws.proofs.Stands.{stop_drives}
+use Rattle.progress_laws.specs.Drives.{Drives}
+use Rattle.progress_laws.proofs.Stands.{stop_drives}
 use Rattle.driver.proofs.Acting.{acts_on}
 use Rattle.stopping.specs.Runs.{Comes}
 use Rattle.stopping.specs.Stops.{HasStopped}

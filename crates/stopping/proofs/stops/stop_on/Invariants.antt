@@ -1,11 +1,11 @@
 use Rattle.std.proofs.Common.{List}
 use Rattle.device.specs.Devices.{Device}
 use Rattle.step_runner.specs.Entries.{Listed}
-use Rattle.supervisor.specs.Events.{later}
+use Rattle.components.specs.Events.{later}
 use Rattle.session.specs.Happenings.{Happening}
 use Rattle.session.specs.Places.{Place, left_by}
 use Rattle.progress_laws.specs.Rank.{measure}
-use Rattle.ending_laws.specs.Drives.{Drives}
+use Rattle.progress_laws.specs.Drives.{Drives}
 use Rattle.driver.specs.Went.{Acts}
 use Rattle.stopping.specs.Runs.{Comes}
 use Rattle.stopping.proofs.stops.stop_on.Given as goal

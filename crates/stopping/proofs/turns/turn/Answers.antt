@@ -4,7 +4,7 @@ use Rattle.session.specs.Places.{Place, left_by}
 use Rattle.session.proofs.Joined.{left-append}
 use Rattle.progress_laws.specs.Rank.{rank}
 use Rattle.driver.proofs.Acting.{acts_on}
-use Rattle.ending_laws.proofs.Steps.{measure_less, not_above_on, turn_goes}
+use Rattle.progress_laws.proofs.Steps.{measure_less, not_above_on, turn_goes}
 use Rattle.stopping.specs.Runs.{ActLeft, Comes}
 use Rattle.stopping.proofs.Falling.{falling_at, sits_time}
 use Rattle.stopping.proofs.Turning.{apart, has_stopped, sits}

@@ -1,8 +1,8 @@
 use Rattle.std.proofs.Common.{◌∙◌, inl, inr, sym, ap, subst, arith}
 use Rattle.step_runner.specs.Entries.{Listed}
-use Rattle.supervisor.specs.World.{World}
+use Rattle.components.specs.World.{World}
 use Rattle.session.specs.Places.{left_by}
-use Rattle.ending_laws.proofs.Steps.{end_falls, falls_not_above, self_not_above, time_on}
+use Rattle.progress_laws.proofs.Steps.{end_falls, falls_not_above, self_not_above, time_on}
 use Rattle.stopping.specs.Runs.{Comes}
 use Rattle.stopping.proofs.Waiting.{elapsed, ends, owns_world}
 use Rattle.stopping.proofs.waits.wait_once.Goals as goal

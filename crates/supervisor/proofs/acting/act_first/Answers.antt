@@ -1,6 +1,6 @@
 use Rattle.std.proofs.Common.{sym, true}
-use Rattle.supervisor.specs.Flags.{at_moment}
-use Rattle.supervisor.specs.World.{World}
+use Rattle.components.specs.Flags.{at_moment}
+use Rattle.components.specs.World.{World}
 use Rattle.supervisor.proofs.Deeds.{do_below, first_in_any, no_turns, none_in_any, turn_last, turn_more, turns_over}
 use Rattle.supervisor.proofs.acting.act_first.Goals as goal
 

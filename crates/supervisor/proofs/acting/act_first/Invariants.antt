@@ -1,6 +1,6 @@
 use Rattle.std.proofs.Common.{◌≡◌, length}
-use Rattle.supervisor.specs.Flags.{at_moment}
-use Rattle.supervisor.specs.Whole.{work}
+use Rattle.components.specs.Flags.{at_moment}
+use Rattle.components.specs.Whole.{work}
 use Rattle.supervisor.proofs.Deeds.{Turns}
 use Rattle.supervisor.proofs.acting.act_first.Given as goal
 

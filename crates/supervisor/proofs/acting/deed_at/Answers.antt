@@ -1,11 +1,11 @@
 use Rattle.std.proofs.Common.{◌≡◌, true, false, Some, sym, ap, ◌∙◌}
 use Rattle.std.proofs.lemmas.Option.{slice_get-get_or}
-use Rattle.supervisor.specs.Flags.{at_moment}
-use Rattle.supervisor.specs.Turns.{may_act}
-use Rattle.supervisor.specs.Whole.{IsWhole}
-use Rattle.supervisor.specs.World.{Part}
-use Rattle.supervisor.proofs.Each.{at_is}
-use Rattle.supervisor.proofs.Whole.{each_at}
+use Rattle.components.specs.Flags.{at_moment}
+use Rattle.components.specs.Turns.{may_act}
+use Rattle.components.specs.Whole.{IsWhole}
+use Rattle.components.specs.World.{Part}
+use Rattle.components.proofs.Each.{at_is}
+use Rattle.components.proofs.Whole.{each_at}
 use Rattle.supervisor.proofs.Deeds.{may_do_all, no_deed_by}
 use Rattle.supervisor.proofs.acting.deed_at.Goals as goal
 

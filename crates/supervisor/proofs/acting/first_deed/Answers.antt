@@ -1,6 +1,6 @@
 use Rattle.std.proofs.Common.{refl, true}
-use Rattle.supervisor.specs.Flags.{at_moment}
-use Rattle.supervisor.specs.Turns.{may_act}
+use Rattle.components.specs.Flags.{at_moment}
+use Rattle.components.specs.Turns.{may_act}
 use Rattle.supervisor.proofs.Deeds.{more_none}
 use Rattle.supervisor.proofs.acting.first_deed.Goals as goal
 

@@ -1,7 +1,7 @@
 use Rattle.std.proofs.Common.{◌≡◌, take, true, false}
 use Rattle.std.specs.List.{list_any}
-use Rattle.supervisor.specs.Flags.{at_moment}
-use Rattle.supervisor.specs.Turns.{may_act}
+use Rattle.components.specs.Flags.{at_moment}
+use Rattle.components.specs.Turns.{may_act}
 use Rattle.supervisor.proofs.acting.first_deed.Given as goal
 
 abbrev pub invariant-loop-at : goal.invariant-loop-at

@@ -1,5 +1,5 @@
 use Rattle.std.proofs.Common.{refl}
-use Rattle.supervisor.specs.Turns.{owes}
+use Rattle.components.specs.Turns.{owes}
 use Rattle.supervisor.proofs.Deeds.{more_none}
 use Rattle.supervisor.proofs.acting.first_failure.Goals as goal
 

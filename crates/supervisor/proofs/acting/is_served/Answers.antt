@@ -1,8 +1,8 @@
 use Rattle.std.proofs.Common.{◌≡◌, ◌∙◌, true}
 use Rattle.std.specs.Str.{bytes_eq}
-use Rattle.supervisor.specs.Turns.{serves_softly}
-use Rattle.supervisor.specs.World.{part_name}
-use Rattle.supervisor.proofs.Each.{at_below}
+use Rattle.components.specs.Turns.{serves_softly}
+use Rattle.components.specs.World.{part_name}
+use Rattle.components.proofs.Each.{at_below}
 use Rattle.supervisor.proofs.Found.{met_here}
 use Rattle.supervisor.proofs.acting.is_served.Goals as goal
 

@@ -1,7 +1,7 @@
 use Rattle.std.proofs.Common.{◌≡◌, ◌∙◌, true}
 use Rattle.std.specs.Str.{bytes_eq}
-use Rattle.supervisor.specs.World.{part_name, stands_up}
-use Rattle.supervisor.proofs.Each.{at_below}
+use Rattle.components.specs.World.{part_name, stands_up}
+use Rattle.components.proofs.Each.{at_below}
 use Rattle.supervisor.proofs.Found.{met_here}
 use Rattle.supervisor.proofs.acting.is_up.Goals as goal
 

@@ -1,11 +1,11 @@
 use Rattle.std.proofs.Common.{◌≡◌, ◌∙◌, List, ap, false, length, refl, subst, sym}
 use Rattle.std.specs.List.{list_any}
-use Rattle.supervisor.specs.Acts.{NextAct}
-use Rattle.supervisor.specs.Flags.{at_moment}
-use Rattle.supervisor.specs.Readied.{IsKept}
-use Rattle.supervisor.specs.Turns.{owes}
-use Rattle.supervisor.specs.Whole.{AreWhole}
-use Rattle.supervisor.specs.World.{Part}
+use Rattle.components.specs.Acts.{NextAct}
+use Rattle.components.specs.Flags.{at_moment}
+use Rattle.components.specs.Readied.{IsKept}
+use Rattle.components.specs.Turns.{owes}
+use Rattle.components.specs.Whole.{AreWhole}
+use Rattle.components.specs.World.{Part}
 use Rattle.supervisor.proofs.Deeds.{next_told, told_length, told_sound}
 use Rattle.supervisor.proofs.acting.next.Goals as goal
 

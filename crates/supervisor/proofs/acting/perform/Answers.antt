@@ -1,10 +1,10 @@
 use Rattle.std.proofs.Common.{◌∙◌, List, None, Some, ap, length, refl, subst, sym, true}
 use Rattle.supervisor.specs.Deeds.{IsDone}
-use Rattle.supervisor.specs.Flags.{at_moment}
-use Rattle.supervisor.specs.World.{Part, World}
+use Rattle.components.specs.Flags.{at_moment}
+use Rattle.components.specs.World.{Part, World}
 use Rattle.supervisor.specs.declared.acting.Deed.{Deed}
-use Rattle.supervisor.specs.declared.kinds.Act.TheVariants as acts
-use Rattle.supervisor.proofs.Each.{length_changed}
+use Rattle.components.specs.declared.kinds.Act.TheVariants as acts
+use Rattle.components.proofs.Each.{length_changed}
 use Rattle.supervisor.proofs.acting.perform.Goals as goal
 
 pub returns-in-Moves-clause-done : goal.returns-in-Moves-clause-done

@@ -1,6 +1,6 @@
 use Rattle.std.proofs.Common.{List, ap, refl}
-use Rattle.supervisor.specs.Flags.{at_moment}
-use Rattle.supervisor.specs.World.{Part}
+use Rattle.components.specs.Flags.{at_moment}
+use Rattle.components.specs.World.{Part}
 use Rattle.supervisor.proofs.Deeds.{owed_below, tells}
 use Rattle.supervisor.proofs.acting.tell_first.Goals as goal
 

@@ -1,7 +1,7 @@
 use Rattle.std.proofs.Common.{◌==◌, ◌∙◌, ap, List}
 use Rattle.std.specs.List.{find}
-use Rattle.supervisor.specs.World.{Child}
-use Rattle.supervisor.proofs.Each.{at_is}
+use Rattle.components.specs.World.{Child}
+use Rattle.components.proofs.Each.{at_is}
 use Rattle.supervisor.proofs.asks.child_at.Goals as goal
 
 pub returns : goal.returns

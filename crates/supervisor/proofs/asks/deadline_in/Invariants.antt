@@ -1,5 +1,5 @@
 use Rattle.std.proofs.Common.{◌≡◌, drop}
-use Rattle.supervisor.specs.Deadlines.{earlier, least_of}
+use Rattle.components.specs.Deadlines.{earlier, least_of}
 use Rattle.supervisor.proofs.asks.deadline_in.Given as goal
 
 abbrev pub invariant-loop-slot : goal.invariant-loop-slot

@@ -1,7 +1,7 @@
 use Rattle.std.proofs.Common.{◌≡◌, drop}
-use Rattle.supervisor.specs.Answers.{child_numbers}
-use Rattle.supervisor.specs.Deadlines.{earlier}
-use Rattle.supervisor.specs.Numbers.{least_above}
+use Rattle.components.specs.Answers.{child_numbers}
+use Rattle.components.specs.Deadlines.{earlier}
+use Rattle.components.specs.Numbers.{least_above}
 use Rattle.supervisor.proofs.asks.least_number.Given as goal
 
 abbrev pub invariant-loop-child : goal.invariant-loop-child

@@ -1,7 +1,7 @@
 use Rattle.std.proofs.Common.{◌≡◌, ℕ, subst, arith, sym}
-use Rattle.supervisor.specs.Answers.{living_numbers}
-use Rattle.supervisor.specs.Numbers.{IsNumberAt}
-use Rattle.supervisor.proofs.Numbers.{first_number}
+use Rattle.components.specs.Answers.{living_numbers}
+use Rattle.components.specs.Numbers.{IsNumberAt}
+use Rattle.components.proofs.Numbers.{first_number}
 use Rattle.supervisor.proofs.asks.living_at.Goals as goal
 
 pub loop-turn-init : goal.loop-turn-init

@@ -1,5 +1,5 @@
-use Rattle.supervisor.specs.Answers.{living_numbers}
-use Rattle.supervisor.specs.Numbers.{IsNumberAt}
+use Rattle.components.specs.Answers.{living_numbers}
+use Rattle.components.specs.Numbers.{IsNumberAt}
 use Rattle.supervisor.proofs.asks.living_at.Given as goal
 
 abbrev pub invariant-loop-turn : goal.invariant-loop-turn

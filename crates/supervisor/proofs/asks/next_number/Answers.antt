@@ -1,5 +1,5 @@
 use Rattle.std.proofs.Common.{◌∙◌, arith}
-use Rattle.supervisor.proofs.Numbers.{number_next}
+use Rattle.components.proofs.Numbers.{number_next}
 use Rattle.supervisor.proofs.asks.next_number.Goals as goal
 
 pub loop-slot-preserved : goal.loop-slot-preserved

@@ -1,7 +1,7 @@
 use Rattle.std.proofs.Common.{◌+◌, subst, arith, sym}
-use Rattle.supervisor.specs.Answers.{living_numbers}
-use Rattle.supervisor.specs.Numbers.{IsNumberAt}
-use Rattle.supervisor.proofs.Numbers.{next_number, none_later}
+use Rattle.components.specs.Answers.{living_numbers}
+use Rattle.components.specs.Numbers.{IsNumberAt}
+use Rattle.components.proofs.Numbers.{next_number, none_later}
 use Rattle.supervisor.proofs.asks.number_after.Goals as goal
 
 pub returns-in-None : goal.returns-in-None

@@ -1,5 +1,5 @@
 use Rattle.std.proofs.Common.{refl, false}
-use Rattle.supervisor.proofs.Names.{names_changed}
+use Rattle.components.proofs.Names.{names_changed}
 use Rattle.supervisor.proofs.Worlds.{answered}
 use Rattle.supervisor.proofs.befall.answer.Goals as goal
 

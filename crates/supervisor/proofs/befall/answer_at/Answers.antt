@@ -1,5 +1,5 @@
 use Rattle.std.proofs.Common.{false}
-use Rattle.supervisor.proofs.Each.{set_changed}
+use Rattle.components.proofs.Each.{set_changed}
 use Rattle.supervisor.proofs.befall.answer_at.Goals as goal
 
 pub returns : goal.returns

@@ -1,7 +1,7 @@
 use Rattle.std.proofs.Common.{ap, sym, ◌∙◌}
-use Rattle.supervisor.specs.Events.{noticed}
-use Rattle.supervisor.specs.Flags.{at_moment}
-use Rattle.supervisor.specs.declared.kinds.Event.{Event}
+use Rattle.components.specs.Events.{noticed}
+use Rattle.components.specs.Flags.{at_moment}
+use Rattle.components.specs.declared.kinds.Event.{Event}
 use Rattle.supervisor.proofs.Worlds.{begun_at, handed_below}
 use Rattle.supervisor.proofs.befall.befall.Goals as goal
 

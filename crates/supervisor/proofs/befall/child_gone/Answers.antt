@@ -1,9 +1,9 @@
 use Rattle.std.proofs.Common.{ap, refl, sym, ◌∙◌, Option}
 use Rattle.lifecycle.specs.declared.kinds.LifeEvent.{LifeEvent}
-use Rattle.supervisor.specs.Events.{gone_by}
-use Rattle.supervisor.specs.Flags.{at_moment}
-use Rattle.supervisor.specs.World.{without_child}
-use Rattle.supervisor.proofs.Names.{names_changed}
+use Rattle.components.specs.Events.{gone_by}
+use Rattle.components.specs.Flags.{at_moment}
+use Rattle.components.specs.World.{without_child}
+use Rattle.components.proofs.Names.{names_changed}
 use Rattle.supervisor.proofs.Worlds.{gone_orphan, gone_living}
 use Rattle.supervisor.proofs.befall.child_gone.Goals as goal
 

@@ -1,6 +1,6 @@
-use Rattle.supervisor.specs.Lives.{lived}
-use Rattle.supervisor.proofs.Names.{names_changed, stays_lived}
-use Rattle.supervisor.proofs.Kept.{lived_length}
+use Rattle.components.specs.Lives.{lived}
+use Rattle.components.proofs.Names.{names_changed, stays_lived}
+use Rattle.components.proofs.Kept.{lived_length}
 use Rattle.supervisor.proofs.Worlds.{lived_drops, lived_stays}
 use Rattle.supervisor.proofs.befall.live_at.Goals as goal
 

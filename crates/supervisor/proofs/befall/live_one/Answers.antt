@@ -1,7 +1,7 @@
 use Rattle.std.proofs.Common.{◌∙◌}
-use Rattle.supervisor.specs.Lives.{lived, drops}
+use Rattle.components.specs.Lives.{lived, drops}
 use Rattle.supervisor.proofs.Worlds.{test_got}
-use Rattle.supervisor.proofs.Each.{set_changed}
+use Rattle.components.proofs.Each.{set_changed}
 use Rattle.supervisor.proofs.befall.live_one.Goals as goal
 
 pub returns-clause-lived : goal.returns-clause-lived

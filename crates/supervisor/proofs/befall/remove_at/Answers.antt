@@ -1,5 +1,5 @@
-use Rattle.supervisor.specs.World.{without_child}
-use Rattle.supervisor.proofs.Each.{set_changed}
+use Rattle.components.specs.World.{without_child}
+use Rattle.components.proofs.Each.{set_changed}
 use Rattle.supervisor.proofs.befall.remove_at.Goals as goal
 
 pub returns : goal.returns

@@ -1,6 +1,6 @@
 use Rattle.std.proofs.Common.{refl, false}
-use Rattle.supervisor.specs.Events.{with_child}
-use Rattle.supervisor.proofs.Names.{names_changed}
+use Rattle.components.specs.Events.{with_child}
+use Rattle.components.proofs.Names.{names_changed}
 use Rattle.supervisor.proofs.Worlds.{start_run, start_other}
 use Rattle.supervisor.proofs.befall.start.Goals as goal
 

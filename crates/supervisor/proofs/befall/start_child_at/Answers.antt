@@ -1,9 +1,9 @@
 use Rattle.std.proofs.Common.{◌≡◌, true, false}
-use Rattle.supervisor.specs.Events.{with_child}
-use Rattle.supervisor.specs.Fitted.{prepared_of, limit_of}
-use Rattle.supervisor.specs.Runs.{IsShort}
-use Rattle.supervisor.specs.Turns.{is_begun}
-use Rattle.supervisor.proofs.Each.{set_changed, at_below, at_got}
+use Rattle.components.specs.Events.{with_child}
+use Rattle.components.specs.Fitted.{prepared_of, limit_of}
+use Rattle.components.specs.Runs.{IsShort}
+use Rattle.components.specs.Turns.{is_begun}
+use Rattle.components.proofs.Each.{set_changed, at_below, at_got}
 use Rattle.supervisor.proofs.befall.start_child_at.Goals as goal
 
 pub returns-clause-started : goal.returns-clause-started

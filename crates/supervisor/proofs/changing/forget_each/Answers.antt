@@ -1,6 +1,6 @@
 use Rattle.std.proofs.Common.{arith}
-use Rattle.supervisor.specs.Changes.{forgetting}
-use Rattle.supervisor.proofs.Each.{more_done}
+use Rattle.components.specs.Changes.{forgetting}
+use Rattle.components.proofs.Each.{more_done}
 use Rattle.supervisor.proofs.changing.forget_each.Goals as goal
 
 pub loop-slot-preserved : goal.loop-slot-preserved

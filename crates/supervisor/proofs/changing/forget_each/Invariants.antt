@@ -1,5 +1,5 @@
 use Rattle.std.proofs.Common.{◌≡◌, take, drop, map}
-use Rattle.supervisor.specs.Changes.{forgetting}
+use Rattle.components.specs.Changes.{forgetting}
 use Rattle.supervisor.proofs.changing.forget_each.Given as goal
 
 abbrev pub invariant-loop-slot : goal.invariant-loop-slot

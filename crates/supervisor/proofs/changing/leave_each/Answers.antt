@@ -1,6 +1,6 @@
 use Rattle.std.proofs.Common.{arith}
-use Rattle.supervisor.specs.Changes.{leaving}
-use Rattle.supervisor.proofs.Each.{more_done}
+use Rattle.components.specs.Changes.{leaving}
+use Rattle.components.proofs.Each.{more_done}
 use Rattle.supervisor.proofs.changing.leave_each.Goals as goal
 
 pub loop-slot-preserved : goal.loop-slot-preserved

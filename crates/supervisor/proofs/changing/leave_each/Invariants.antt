@@ -1,5 +1,5 @@
 use Rattle.std.proofs.Common.{◌≡◌, take, drop, map}
-use Rattle.supervisor.specs.Changes.{leaving}
+use Rattle.components.specs.Changes.{leaving}
 use Rattle.supervisor.proofs.changing.leave_each.Given as goal
 
 abbrev pub invariant-loop-slot : goal.invariant-loop-slot

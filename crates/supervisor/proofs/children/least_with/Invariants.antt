@@ -1,5 +1,5 @@
 use Rattle.std.proofs.Common.{◌≡◌, drop}
-use Rattle.supervisor.specs.Deadlines.{earlier, child_deadline}
+use Rattle.components.specs.Deadlines.{earlier, child_deadline}
 use Rattle.supervisor.proofs.children.least_with.Given as goal
 
 abbrev pub invariant-loop-child : goal.invariant-loop-child

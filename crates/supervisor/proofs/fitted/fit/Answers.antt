@@ -4,9 +4,9 @@ use Rattle.recipe_reader.specs.OneRecipe.{Reads}
 use Rattle.records.specs.Stored.{item_view}
 use Rattle.records.specs.declared.record.Item as code
 use Rattle.device.specs.Plans.{HasSomeRecipe}
-use Rattle.supervisor.specs.Made.{IsFittedAt}
-use Rattle.supervisor.specs.Runs.{IsFittedBy}
-use Rattle.supervisor.proofs.Scoped.{place_below, item_there, recipe_there, fitted_made}
+use Rattle.components.specs.Made.{IsFittedAt}
+use Rattle.components.specs.Runs.{IsFittedBy}
+use Rattle.components.proofs.Scoped.{place_below, item_there, recipe_there, fitted_made}
 use Rattle.supervisor.proofs.fitted.fit.Goals as goal
 
 pub bounds-items-at : goal.bounds-items-at

@@ -2,8 +2,8 @@ use Rattle.std.proofs.Common.{◌≡◌, ◌∙◌, ap, subst, sym}
 use Rattle.std.proofs.lemmas.Result.{IfOk-weaker}
 use Rattle.serde_json.specs.Written.{compact_text}
 use Rattle.records.specs.Stored.{Item, item_view}
-use Rattle.supervisor.specs.Fitted.{Fitted}
-use Rattle.supervisor.specs.Runs.{IsFittedBy}
+use Rattle.components.specs.Fitted.{Fitted}
+use Rattle.components.specs.Runs.{IsFittedBy}
 use Rattle.supervisor.proofs.fitted.fit_by.Goals as goal
 
 pub parts_by-requires : goal.parts_by-requires

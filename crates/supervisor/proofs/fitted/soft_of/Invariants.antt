@@ -1,5 +1,5 @@
 use Rattle.std.proofs.Common.{◌≡◌, ◌++◌, drop}
-use Rattle.supervisor.specs.Made.{soft_names}
+use Rattle.components.specs.Made.{soft_names}
 use Rattle.supervisor.proofs.fitted.soft_of.Given as goal
 
 abbrev pub invariant-loop-dependency : goal.invariant-loop-dependency

@@ -1,6 +1,6 @@
 use Rattle.std.proofs.Common.{◌≡◌, drop}
-use Rattle.supervisor.specs.Marks.{is_flagged}
-use Rattle.supervisor.specs.Flags.{with_flags}
+use Rattle.components.specs.Marks.{is_flagged}
+use Rattle.components.specs.Flags.{with_flags}
 use Rattle.supervisor.proofs.marks.is_flagged.Given as goal
 
 abbrev pub invariant-loop-at : goal.invariant-loop-at

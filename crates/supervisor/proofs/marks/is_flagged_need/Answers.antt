@@ -1,5 +1,5 @@
 use Rattle.std.proofs.Common.{◌∙◌, arith, sym}
-use Rattle.supervisor.specs.Flags.{with_flags}
+use Rattle.components.specs.Flags.{with_flags}
 use Rattle.supervisor.proofs.Found.{any_flagged}
 use Rattle.supervisor.proofs.marks.is_flagged_need.Goals as goal
 

@@ -1,7 +1,7 @@
 use Rattle.std.proofs.Common.{◌≡◌, arith, true}
 use Rattle.std.specs.Str.{bytes_eq}
-use Rattle.supervisor.specs.World.{part_name}
-use Rattle.supervisor.proofs.Each.{at_below}
+use Rattle.components.specs.World.{part_name}
+use Rattle.components.proofs.Each.{at_below}
 use Rattle.supervisor.proofs.Found.{flagged_place}
 use Rattle.supervisor.proofs.marks.is_need_flagged.Goals as goal
 

@@ -1,7 +1,7 @@
 use Rattle.std.proofs.Common.{◌≡◌, arith, refl, true}
-use Rattle.supervisor.specs.Flags.{with_flags}
-use Rattle.supervisor.specs.Marks.{needs_flagged}
-use Rattle.supervisor.proofs.Each.{at_below}
+use Rattle.components.specs.Flags.{with_flags}
+use Rattle.components.specs.Marks.{needs_flagged}
+use Rattle.components.proofs.Each.{at_below}
 use Rattle.supervisor.proofs.Flags.{grows_join, grows_none}
 use Rattle.supervisor.proofs.marks.join_user.Goals as goal
 

@@ -1,4 +1,4 @@
-use Rattle.supervisor.specs.Flags.{Grows}
+use Rattle.components.specs.Flags.{Grows}
 use Rattle.supervisor.proofs.marks.join_users.Given as goal
 
 abbrev pub invariant-loop-turn : goal.invariant-loop-turn

@@ -1,7 +1,7 @@
 use Rattle.std.proofs.Common.{◌≡◌, List, arith, subst, true, ℕ}
-use Rattle.supervisor.specs.Flags.{with_flags}
-use Rattle.supervisor.specs.Marks.{needs_flagged}
-use Rattle.supervisor.proofs.Each.{at_is}
+use Rattle.components.specs.Flags.{with_flags}
+use Rattle.components.specs.Marks.{needs_flagged}
+use Rattle.components.proofs.Each.{at_is}
 use Rattle.supervisor.proofs.marks.joins_as.Goals as goal
 
 pub returns : goal.returns

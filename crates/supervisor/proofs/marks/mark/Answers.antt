@@ -1,5 +1,5 @@
 use Rattle.std.proofs.Common.{arith}
-use Rattle.supervisor.specs.Flags.{may_by}
+use Rattle.components.specs.Flags.{may_by}
 use Rattle.supervisor.proofs.Flags.{marks_more, marks_whole}
 use Rattle.supervisor.proofs.marks.mark.Goals as goal
 

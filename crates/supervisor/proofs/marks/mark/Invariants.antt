@@ -1,6 +1,6 @@
 use Rattle.std.proofs.Common.{◌≡◌, take, drop}
-use Rattle.supervisor.specs.Marks.{marked}
-use Rattle.supervisor.specs.Flags.{with_flags, may_by}
+use Rattle.components.specs.Marks.{marked}
+use Rattle.components.specs.Flags.{with_flags, may_by}
 use Rattle.supervisor.proofs.marks.mark.Given as goal
 
 abbrev pub invariant-loop-at : goal.invariant-loop-at

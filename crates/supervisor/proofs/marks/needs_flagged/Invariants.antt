@@ -1,6 +1,6 @@
 use Rattle.std.proofs.Common.{◌≡◌, drop}
-use Rattle.supervisor.specs.Marks.{needs_flagged}
-use Rattle.supervisor.specs.Flags.{with_flags}
+use Rattle.components.specs.Marks.{needs_flagged}
+use Rattle.components.specs.Flags.{with_flags}
 use Rattle.supervisor.proofs.marks.needs_flagged.Given as goal
 
 abbrev pub invariant-loop-need : goal.invariant-loop-need

@@ -1,4 +1,4 @@
-use Rattle.supervisor.specs.Flags.{with_flags}
+use Rattle.components.specs.Flags.{with_flags}
 use Rattle.supervisor.proofs.Flags.{replanned_is}
 use Rattle.supervisor.proofs.marks.replan.Goals as goal
 

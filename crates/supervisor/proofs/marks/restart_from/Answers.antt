@@ -1,5 +1,5 @@
 use Rattle.std.proofs.Common.{sym}
-use Rattle.supervisor.specs.Flags.{with_flags}
+use Rattle.components.specs.Flags.{with_flags}
 use Rattle.supervisor.proofs.Flags.{restarted_is}
 use Rattle.supervisor.proofs.marks.restart_from.Goals as goal
 

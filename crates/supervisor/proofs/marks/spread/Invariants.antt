@@ -1,4 +1,4 @@
-use Rattle.supervisor.specs.Flags.{free, Grows}
+use Rattle.components.specs.Flags.{free, Grows}
 use Rattle.supervisor.proofs.marks.spread.Given as goal
 
 abbrev pub invariant-rounds : goal.invariant-rounds

@@ -1,9 +1,9 @@
 use Rattle.std.proofs.Common.{◌<◌, length, arith, sym, ap, subst, ◌∙◌, get_or, List}
 use Rattle.std.proofs.lemmas.List.{take_all}
-use Rattle.supervisor.specs.Changes.{fresh_part}
-use Rattle.supervisor.specs.Readied.{IsFresh}
-use Rattle.supervisor.specs.World.{Part}
-use Rattle.supervisor.proofs.Meets.{all_in, began, began_got, began_length, fits, got_same, in_got, set_more}
+use Rattle.components.specs.Changes.{fresh_part}
+use Rattle.components.specs.Readied.{IsFresh}
+use Rattle.components.specs.World.{Part}
+use Rattle.components.proofs.Meets.{all_in, began, began_got, began_length, fits, got_same, in_got, set_more}
 use Rattle.supervisor.proofs.merging.begin_each.Goals as goal
 
 pub begin_with-requires-clause-few : goal.begin_with-requires-clause-few

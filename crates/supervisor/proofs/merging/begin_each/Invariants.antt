@@ -1,5 +1,5 @@
 use Rattle.std.proofs.Common.{◌≡◌, take, drop}
-use Rattle.supervisor.proofs.Meets.{began, fits}
+use Rattle.components.proofs.Meets.{began, fits}
 use Rattle.supervisor.proofs.merging.begin_each.Given as goal
 
 abbrev pub invariant-loop-at : goal.invariant-loop-at

@@ -1,11 +1,11 @@
 use Rattle.std.proofs.Common.{◌∙◌, List, ap, arith, length, map, not, subst, sym}
-use Rattle.supervisor.specs.Changes.{counted, standing, with_items, with_newcomers}
-use Rattle.supervisor.specs.Fitted.{Fitted, name_of}
-use Rattle.supervisor.specs.Readied.{AreFresh, AreNamesApart, KeepSteps, Readied}
-use Rattle.supervisor.specs.World.{Part}
+use Rattle.components.specs.Changes.{counted, standing, with_items, with_newcomers}
+use Rattle.components.specs.Fitted.{Fitted, name_of}
+use Rattle.components.specs.Readied.{AreFresh, AreNamesApart, KeepSteps, Readied}
+use Rattle.components.specs.World.{Part}
 use Rattle.supervisor.proofs.Merged.{all_changed}
-use Rattle.supervisor.proofs.Meets.{began_fits, began_fresh, began_length, began_names, fit_names, fits, is_among}
-use Rattle.supervisor.proofs.Names.{names}
+use Rattle.components.proofs.Meets.{began_fits, began_fresh, began_length, began_names, fit_names, fits, is_among}
+use Rattle.components.proofs.Names.{names}
 use Rattle.supervisor.proofs.Readies.{filter_few}
 use Rattle.supervisor.proofs.merging.change_in.Goals as goal
 

@@ -1,6 +1,6 @@
 use Rattle.std.proofs.Common.{rules, not}
 use Rattle.std.proofs.lemmas.Fn.{filter_same}
-use Rattle.supervisor.specs.World.{Part, is_over}
+use Rattle.components.specs.World.{Part, is_over}
 use Rattle.supervisor.proofs.merging.drop_over.Goals as goal
 
 pub returns : goal.returns

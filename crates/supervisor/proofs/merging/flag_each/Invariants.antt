@@ -1,6 +1,6 @@
 use Rattle.std.proofs.Common.{◌≡◌, take, map, vec_len}
 use Rattle.std.specs.Prelude.{vec_capacity}
-use Rattle.supervisor.specs.Changes.{is_replacing}
+use Rattle.components.specs.Changes.{is_replacing}
 use Rattle.supervisor.proofs.merging.flag_each.Given as goal
 
 abbrev pub invariant-loop-slot : goal.invariant-loop-slot

@@ -1,9 +1,9 @@
 use Rattle.std.proofs.Common.{◌∙◌, Bool, List, ap, length, map}
 use Rattle.std.proofs.lemmas.List.{length-map}
-use Rattle.supervisor.specs.Changes.{is_replacing}
-use Rattle.supervisor.specs.Flags.{with_flags}
-use Rattle.supervisor.specs.World.{Part}
-use Rattle.supervisor.proofs.Meets.{flags_mapped}
+use Rattle.components.specs.Changes.{is_replacing}
+use Rattle.components.specs.Flags.{with_flags}
+use Rattle.components.specs.World.{Part}
+use Rattle.components.proofs.Meets.{flags_mapped}
 use Rattle.supervisor.proofs.merging.flag_replacing.Goals as goal
 
 pub returns-clause-flagged : goal.returns-clause-flagged

@@ -1,12 +1,12 @@
 use Rattle.std.proofs.Common.{◌∙◌, List, ap, arith, length, map, not, subst, sym}
 use Rattle.std.proofs.lemmas.List.{length-map}
-use Rattle.supervisor.specs.Changes.{fate, replanned}
-use Rattle.supervisor.specs.Merges.{unmet}
-use Rattle.supervisor.specs.Readied.{AreNamesApart, KeepSteps, coming_of}
-use Rattle.supervisor.specs.World.{Part, is_over}
-use Rattle.supervisor.proofs.Changed.{fated_names, replanned_length}
-use Rattle.supervisor.proofs.Meets.{apart_filter, fits}
-use Rattle.supervisor.proofs.Names.{names}
+use Rattle.components.specs.Changes.{fate, replanned}
+use Rattle.components.specs.Merges.{unmet}
+use Rattle.components.specs.Readied.{AreNamesApart, KeepSteps, coming_of}
+use Rattle.components.specs.World.{Part, is_over}
+use Rattle.components.proofs.Changed.{fated_names, replanned_length}
+use Rattle.components.proofs.Meets.{apart_filter, fits}
+use Rattle.components.proofs.Names.{names}
 use Rattle.supervisor.proofs.merging.meet_all.Goals as goal
 
 pub meet_in-requires-clause-apart : goal.meet_in-requires-clause-apart

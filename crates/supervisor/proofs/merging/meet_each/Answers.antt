@@ -1,12 +1,12 @@
 use Rattle.std.proofs.Common.{◌≡◌, ◌<◌, length, arith, refl, sym, ap, subst, ◌∙◌, get_or, take, List, [], ◌∷◌, map, false, not}
 use Rattle.std.specs.List.{Contains}
 use Rattle.std.proofs.lemmas.List.{take_all}
-use Rattle.supervisor.specs.Changes.{fate}
-use Rattle.supervisor.specs.Merges.{unmet, without}
-use Rattle.supervisor.specs.Readied.{AreFresh, IsFresh, KeepSteps, coming_of}
-use Rattle.supervisor.specs.World.{Part, part_name}
-use Rattle.supervisor.proofs.Each.{more_done}
-use Rattle.supervisor.proofs.Meets.{all_filter, among_before, fate_unmet, fits, got_same, in_got, is_among, keeps_one, unmet_more, unmet_none}
+use Rattle.components.specs.Changes.{fate}
+use Rattle.components.specs.Merges.{unmet, without}
+use Rattle.components.specs.Readied.{AreFresh, IsFresh, KeepSteps, coming_of}
+use Rattle.components.specs.World.{Part, part_name}
+use Rattle.components.proofs.Each.{more_done}
+use Rattle.components.proofs.Meets.{all_filter, among_before, fate_unmet, fits, got_same, in_got, is_among, keeps_one, unmet_more, unmet_none}
 use Rattle.supervisor.proofs.merging.meet_each.Goals as goal
 
 pub loop-slot-init : goal.loop-slot-init

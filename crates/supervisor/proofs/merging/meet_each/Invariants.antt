@@ -1,7 +1,7 @@
 use Rattle.std.proofs.Common.{◌≡◌, take, drop, map}
-use Rattle.supervisor.specs.Changes.{fate}
-use Rattle.supervisor.specs.Merges.{unmet}
-use Rattle.supervisor.specs.Readied.{coming_of}
+use Rattle.components.specs.Changes.{fate}
+use Rattle.components.specs.Merges.{unmet}
+use Rattle.components.specs.Readied.{coming_of}
 use Rattle.supervisor.proofs.merging.meet_each.Given as goal
 
 abbrev pub invariant-loop-slot : goal.invariant-loop-slot

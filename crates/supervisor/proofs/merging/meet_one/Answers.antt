@@ -1,10 +1,10 @@
 use Rattle.std.proofs.Common.{◌∙◌, List, ℕ, [], ap, sym}
 use Rattle.std.specs.List.{find}
 use Rattle.nuc_base.proofs.Lists.{in_here, in_map}
-use Rattle.supervisor.specs.Merges.{has_name, without}
-use Rattle.supervisor.specs.Readied.{IsFresh}
-use Rattle.supervisor.specs.World.{Part}
-use Rattle.supervisor.proofs.Meets.{all_in, fate_none, fate_some, in_found}
+use Rattle.components.specs.Merges.{has_name, without}
+use Rattle.components.specs.Readied.{IsFresh}
+use Rattle.components.specs.World.{Part}
+use Rattle.components.proofs.Meets.{all_in, fate_none, fate_some, in_found}
 use Rattle.supervisor.proofs.merging.meet_one.Goals as goal
 
 pub returns-in-None-clause-met : goal.returns-in-None-clause-met

@@ -1,7 +1,7 @@
 use Rattle.std.proofs.Common.{◌∙◌, List, ap, arith, sym}
 use Rattle.std.specs.List.{insert}
-use Rattle.supervisor.specs.Changes.{placed}
-use Rattle.supervisor.specs.World.{Part}
+use Rattle.components.specs.Changes.{placed}
+use Rattle.components.specs.World.{Part}
 use Rattle.supervisor.proofs.merging.place.Goals as goal
 
 pub insert_at-requires-clause-within : goal.insert_at-requires-clause-within

@@ -1,7 +1,7 @@
 use Rattle.std.proofs.Common.{◌++◌, [], ℕ, ◌-◌, List, take, refl, sym, ap, ◌∙◌, arith}
-use Rattle.supervisor.specs.Changes.{with_newcomers}
-use Rattle.supervisor.specs.World.{Part}
-use Rattle.supervisor.proofs.Meets.{newcomers_last}
+use Rattle.components.specs.Changes.{with_newcomers}
+use Rattle.components.specs.World.{Part}
+use Rattle.components.proofs.Meets.{newcomers_last}
 use Rattle.supervisor.proofs.merging.place_all.Goals as goal
 
 pub rest-init : goal.rest-init

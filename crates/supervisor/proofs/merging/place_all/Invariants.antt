@@ -1,6 +1,6 @@
 use Rattle.std.proofs.Common.{◌≡◌, ◌+◌, vec_len}
 use Rattle.std.specs.Prelude.{vec_capacity}
-use Rattle.supervisor.specs.Changes.{with_newcomers}
+use Rattle.components.specs.Changes.{with_newcomers}
 use Rattle.supervisor.proofs.merging.place_all.Given as goal
 
 abbrev pub invariant-rest : goal.invariant-rest

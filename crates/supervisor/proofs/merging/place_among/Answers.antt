@@ -1,7 +1,7 @@
 use Rattle.std.proofs.Common.{◌≡◌, arith, refl, sym, subst, ◌∙◌, List, ℕ, true, false}
-use Rattle.supervisor.specs.Fitted.{is_before}
-use Rattle.supervisor.specs.World.{Part, At, part_name}
-use Rattle.supervisor.proofs.Meets.{placed_here, placed_last, placed_skip}
+use Rattle.components.specs.Fitted.{is_before}
+use Rattle.components.specs.World.{Part, At, part_name}
+use Rattle.components.proofs.Meets.{placed_here, placed_last, placed_skip}
 use Rattle.supervisor.proofs.merging.place_among.Goals as goal
 
 pub loop-at-init : goal.loop-at-init

@@ -1,6 +1,6 @@
 use Rattle.std.proofs.Common.{◌≡◌, ◌++◌, take, drop}
-use Rattle.supervisor.specs.Changes.{placed}
-use Rattle.supervisor.specs.World.{Part, part_name}
+use Rattle.components.specs.Changes.{placed}
+use Rattle.components.specs.World.{Part, part_name}
 use Rattle.supervisor.proofs.merging.place_among.Given as goal
 
 abbrev pub invariant-loop-at : goal.invariant-loop-at

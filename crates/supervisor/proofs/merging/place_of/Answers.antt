@@ -1,5 +1,5 @@
 use Rattle.std.proofs.Common.{◌∙◌, sym}
-use Rattle.supervisor.proofs.Meets.{place_here, place_skip}
+use Rattle.components.proofs.Meets.{place_here, place_skip}
 use Rattle.supervisor.proofs.merging.place_of.Goals as goal
 
 pub loop-at-preserved : goal.loop-at-preserved

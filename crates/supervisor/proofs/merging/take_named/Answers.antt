@@ -1,6 +1,6 @@
 use Rattle.std.proofs.Common.{◌∙◌, Some, ap, arith, sym}
-use Rattle.supervisor.specs.World.{place_of}
-use Rattle.supervisor.proofs.Meets.{found_place, lacks_place}
+use Rattle.components.specs.World.{place_of}
+use Rattle.components.proofs.Meets.{found_place, lacks_place}
 use Rattle.supervisor.proofs.merging.take_named.Goals as goal
 
 pub remove-requires : goal.remove-requires

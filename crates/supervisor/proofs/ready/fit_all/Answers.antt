@@ -1,7 +1,7 @@
 use Rattle.std.proofs.Common.{◌+◌, map, arith, sym, subst, List}
 use Rattle.std.proofs.lemmas.List.{length-map}
 use Rattle.records.specs.Stored.{item_view}
-use Rattle.supervisor.specs.World.{Part}
+use Rattle.components.specs.World.{Part}
 use Rattle.supervisor.proofs.Readies.{AreReady, none_ready, one_more, all_ready, has_scope}
 use Rattle.supervisor.proofs.ready.fit_all.Goals as goal
 

@@ -1,7 +1,7 @@
 use Rattle.std.proofs.Common.{arith, map, sym, subst}
 use Rattle.records.specs.Stored.{item_view}
-use Rattle.supervisor.specs.Made.{IsFittedAt}
-use Rattle.supervisor.specs.World.{Part}
+use Rattle.components.specs.Made.{IsFittedAt}
+use Rattle.components.specs.World.{Part}
 use Rattle.supervisor.proofs.Slots.{fresh_is}
 use Rattle.supervisor.proofs.ready.fit_one.Goals as goal
 

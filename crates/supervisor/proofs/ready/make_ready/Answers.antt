@@ -1,7 +1,7 @@
 use Rattle.std.proofs.Common.{◌≤◌, List, arith, length, map}
 use Rattle.records.specs.Stored.{item_view}
 use Rattle.std.proofs.lemmas.List.{length-map}
-use Rattle.supervisor.specs.World.{Part}
+use Rattle.components.specs.World.{Part}
 use Rattle.supervisor.proofs.Readies.{ready_apart, ready_few}
 use Rattle.supervisor.proofs.ready.make_ready.Goals as goal
 

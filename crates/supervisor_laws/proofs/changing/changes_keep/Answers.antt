@@ -1,5 +1,5 @@
 use Rattle.std.proofs.Common.{refl, sym, false, subst}
-use Rattle.supervisor.specs.Changes.{changed_to}
+use Rattle.components.specs.Changes.{changed_to}
 use Rattle.supervisor_laws.specs.Sound.{Differ}
 use Rattle.supervisor_laws.proofs.Lists.{at_places}
 use Rattle.supervisor_laws.proofs.Together.{Known}

@@ -1,8 +1,8 @@
 use Rattle.std.proofs.Common.{map}
 use Rattle.records.specs.Stored.{item_view}
-use Rattle.supervisor.specs.Changes.{standing}
-use Rattle.supervisor.specs.Platforms.{RunsFor}
-use Rattle.supervisor.proofs.Changed.{all_standing}
+use Rattle.components.specs.Changes.{standing}
+use Rattle.components.specs.Platforms.{RunsFor}
+use Rattle.components.proofs.Changed.{all_standing}
 use Rattle.supervisor_vectors.proofs.Free.{free_answered}
 use Rattle.supervisor_vectors.proofs.Handing.{stands_changed}
 use Rattle.supervisor_vectors.proofs.Recipes.{some_recipes}

@@ -1,8 +1,8 @@
 use Rattle.std.proofs.Common.{sym, subst}
-use Rattle.supervisor.specs.Events.{later}
-use Rattle.supervisor.specs.World.{World}
-use Rattle.supervisor.specs.declared.kinds.Event.TheVariants.{Ended}
-use Rattle.supervisor.proofs.Platforms.{run_noticed}
+use Rattle.components.specs.Events.{later}
+use Rattle.components.specs.World.{World}
+use Rattle.components.specs.declared.kinds.Event.TheVariants.{Ended}
+use Rattle.components.proofs.Platforms.{run_noticed}
 use Rattle.supervisor_vectors.specs.Stands.{Stands}
 use Rattle.supervisor_vectors.proofs.Free.{free_ended}
 use Rattle.supervisor_vectors.proofs.acts.end.Goals as goal

@@ -1,8 +1,8 @@
 use Rattle.std.proofs.Common.{sym, subst}
-use Rattle.supervisor.specs.Events.{later}
-use Rattle.supervisor.specs.Platforms.{AllRunFor}
-use Rattle.supervisor.specs.World.{World}
-use Rattle.supervisor.proofs.Platforms.{run_noticed}
+use Rattle.components.specs.Events.{later}
+use Rattle.components.specs.Platforms.{AllRunFor}
+use Rattle.components.specs.World.{World}
+use Rattle.components.proofs.Platforms.{run_noticed}
 use Rattle.supervisor_vectors.proofs.Handing.{has_handed, has_prepared}
 use Rattle.supervisor_vectors.proofs.acts.start.Goals as goal
 

@@ -1,9 +1,9 @@
 use Rattle.std.proofs.Common.{◌≡◌, ◌∙◌, Some, subst}
-use Rattle.supervisor.specs.Acts.{NextAct}
-use Rattle.supervisor.specs.World.{World}
-use Rattle.supervisor.specs.declared.kinds.Act.{Act}
-use Rattle.supervisor.specs.declared.kinds.Act.TheVariants.{Start}
-use Rattle.supervisor.proofs.Platforms.{run_next}
+use Rattle.components.specs.Acts.{NextAct}
+use Rattle.components.specs.World.{World}
+use Rattle.components.specs.declared.kinds.Act.{Act}
+use Rattle.components.specs.declared.kinds.Act.TheVariants.{Start}
+use Rattle.components.proofs.Platforms.{run_next}
 use Rattle.supervisor_vectors.proofs.Free.{free_quietly}
 use Rattle.supervisor_vectors.proofs.Handing.{broke_below, failed_below, stands_broke, stands_failed, stands_killed, stands_none}
 use Rattle.supervisor_vectors.proofs.Moments.{moment_next}

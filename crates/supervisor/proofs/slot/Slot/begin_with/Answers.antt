@@ -1,7 +1,7 @@
 use Rattle.std.proofs.Common.{◌∙◌, ap}
-use Rattle.supervisor.specs.Changes.{fresh_part}
-use Rattle.supervisor.specs.Rows.{next_of}
-use Rattle.supervisor.specs.World.{Part}
+use Rattle.components.specs.Changes.{fresh_part}
+use Rattle.components.specs.Rows.{next_of}
+use Rattle.components.specs.World.{Part}
 use Rattle.supervisor.proofs.Slots.{begun_with}
 use Rattle.supervisor.proofs.slot.Slot.begin_with.Goals as goal
 

@@ -1,6 +1,6 @@
 use Rattle.std.proofs.Common.{◌∙◌, List, ap}
-use Rattle.supervisor.specs.Rows.{next_of}
-use Rattle.supervisor.specs.World.{Child, Part}
+use Rattle.components.specs.Rows.{next_of}
+use Rattle.components.specs.World.{Child, Part}
 use Rattle.supervisor.proofs.slot.Slot.give_children.Goals as goal
 
 pub invariant_of-self : goal.invariant_of-self

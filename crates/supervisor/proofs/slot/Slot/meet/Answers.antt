@@ -1,8 +1,8 @@
 use Rattle.std.proofs.Common.{◌≡◌, ◌<◌, ap, subst, sym, true}
-use Rattle.supervisor.specs.Changes.{Coming}
-use Rattle.supervisor.specs.Fitted.{is_same_item, steps_of}
-use Rattle.supervisor.specs.Readied.{coming_of}
-use Rattle.supervisor.specs.World.{Part}
+use Rattle.components.specs.Changes.{Coming}
+use Rattle.components.specs.Fitted.{is_same_item, steps_of}
+use Rattle.components.specs.Readied.{coming_of}
+use Rattle.components.specs.World.{Part}
 use Rattle.supervisor.proofs.Slots.{comes_by, meets_by}
 use Rattle.supervisor.proofs.slot.Slot.meet.Goals as goal
 

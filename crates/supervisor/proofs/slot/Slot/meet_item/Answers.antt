@@ -1,6 +1,6 @@
 use Rattle.std.proofs.Common.{◌∙◌, sym}
-use Rattle.supervisor.specs.Rows.{taken_item}
-use Rattle.supervisor.specs.World.{Part}
+use Rattle.components.specs.Rows.{taken_item}
+use Rattle.components.specs.World.{Part}
 use Rattle.supervisor.proofs.Slots.{met_replacing, met_staying}
 use Rattle.supervisor.proofs.slot.Slot.meet_item.Goals as goal
 

@@ -1,10 +1,10 @@
 use Rattle.std.proofs.Common.{refl, sym, ◌∙◌, ap, false, Bool}
 use Rattle.std.specs.Prelude.{◌&&◌, if◌then◌else◌}
 use Rattle.lifecycle.specs.Life.{Life}
-use Rattle.supervisor.specs.World.{Part, is_again}
-use Rattle.supervisor.specs.Lives.{lived}
-use Rattle.supervisor.specs.Rows.{next_of, owed_after}
-use Rattle.supervisor.proofs.Lived.{fresh, moved, still_kept, lived_none, no_row, succeeds_same, completed_same}
+use Rattle.components.specs.World.{Part, is_again}
+use Rattle.components.specs.Lives.{lived}
+use Rattle.components.specs.Rows.{next_of, owed_after}
+use Rattle.components.proofs.Lived.{fresh, moved, still_kept, lived_none, no_row, succeeds_same, completed_same}
 use Rattle.supervisor.proofs.slot.Slot.move_by.Goals as goal
 
 pub returns-then-not-awaits : goal.returns-then-not-awaits

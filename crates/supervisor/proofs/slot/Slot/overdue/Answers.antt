@@ -1,11 +1,11 @@
 use Rattle.std.proofs.Common.{◌∙◌, ap, subst, List, Some, None}
 use Rattle.std.specs.Prelude.{◌||◌}
 use Rattle.std.specs.List.{find}
-use Rattle.supervisor.specs.Deadlines.{has_passed}
+use Rattle.components.specs.Deadlines.{has_passed}
 use Rattle.supervisor.specs.Deeds.{HasChild}
-use Rattle.supervisor.specs.Rows.{next_of}
-use Rattle.supervisor.specs.Turns.{is_late}
-use Rattle.supervisor.specs.World.{Child, Part, has_orphan, is_orphan}
+use Rattle.components.specs.Rows.{next_of}
+use Rattle.components.specs.Turns.{is_late}
+use Rattle.components.specs.World.{Child, Part, has_orphan, is_orphan}
 use Rattle.supervisor.proofs.Asked.{overdue_child, overdue_some}
 use Rattle.supervisor.proofs.slot.Slot.overdue.Goals as goal
 

@@ -1,7 +1,7 @@
 use Rattle.std.proofs.Common.{◌∙◌, ap, sym}
-use Rattle.supervisor.specs.Changes.{replacing}
-use Rattle.supervisor.specs.Rows.{next_of, taken_item}
-use Rattle.supervisor.specs.World.{Part}
+use Rattle.components.specs.Changes.{replacing}
+use Rattle.components.specs.Rows.{next_of, taken_item}
+use Rattle.components.specs.World.{Part}
 use Rattle.supervisor.proofs.Slots.{replacing_good, replacing_plain}
 use Rattle.supervisor.proofs.slot.Slot.replace.Goals as goal
 

@@ -1,7 +1,7 @@
 use Rattle.lifecycle.specs.Awaits.{is_same_step, is_busy_with}
 use Rattle.std.specs.List.{list_any}
-use Rattle.supervisor.specs.World.{Child}
-use Rattle.supervisor.proofs.Lived.{and_not}
+use Rattle.components.specs.World.{Child}
+use Rattle.components.proofs.Lived.{and_not}
 use Rattle.supervisor.proofs.slot.Slot.start_child.Goals as goal
 
 pub push-requires : goal.push-requires

@@ -1,8 +1,8 @@
 use Rattle.std.proofs.Common.{◌∙◌, ap, sym}
-use Rattle.supervisor.specs.Changes.{with_texts}
-use Rattle.supervisor.specs.Fitted.{Fitted}
-use Rattle.supervisor.specs.Rows.{next_of}
-use Rattle.supervisor.specs.World.{Part}
+use Rattle.components.specs.Changes.{with_texts}
+use Rattle.components.specs.Fitted.{Fitted}
+use Rattle.components.specs.Rows.{next_of}
+use Rattle.components.specs.World.{Part}
 use Rattle.supervisor.proofs.Slots.{texts_kept, texts_other, texts_same}
 use Rattle.supervisor.proofs.slot.Slot.take_texts.Goals as goal
 

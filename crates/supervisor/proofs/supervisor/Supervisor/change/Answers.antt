@@ -1,11 +1,11 @@
 use Rattle.std.proofs.Common.{◌<◌, Bool, List, length, ap, sym, subst, ◌∙◌}
 use Rattle.std.specs.Prelude.{◌^◌}
-use Rattle.supervisor.specs.Answers.{is_steady}
-use Rattle.supervisor.specs.Changes.{changed_to, counted}
-use Rattle.supervisor.specs.Readied.{IsKept}
-use Rattle.supervisor.specs.World.{Part, World}
-use Rattle.supervisor.specs.Whole.{AreWhole}
-use Rattle.supervisor.proofs.Changed.{changed_kept}
+use Rattle.components.specs.Answers.{is_steady}
+use Rattle.components.specs.Changes.{changed_to, counted}
+use Rattle.components.specs.Readied.{IsKept}
+use Rattle.components.specs.World.{Part, World}
+use Rattle.components.specs.Whole.{AreWhole}
+use Rattle.components.proofs.Changed.{changed_kept}
 use Rattle.supervisor.proofs.Wholly.{items_whole}
 use Rattle.supervisor.proofs.supervisor.Supervisor.change.Goals as goal
 

@@ -1,9 +1,9 @@
 use Rattle.std.proofs.Common.{sym, subst}
-use Rattle.supervisor.specs.Readied.{IsKept}
-use Rattle.supervisor.specs.World.{World}
-use Rattle.supervisor.specs.Whole.{AreWhole}
+use Rattle.components.specs.Readied.{IsKept}
+use Rattle.components.specs.World.{World}
+use Rattle.components.specs.Whole.{AreWhole}
 use Rattle.supervisor.proofs.Goings.{event_whole}
-use Rattle.supervisor.proofs.Kept.{event_kept}
+use Rattle.components.proofs.Kept.{event_kept}
 use Rattle.supervisor.proofs.Worlds.{answers_later}
 use Rattle.supervisor.proofs.supervisor.Supervisor.event.Goals as goal
 

@@ -1,9 +1,9 @@
 use Rattle.std.proofs.Common.{List, sym, subst}
-use Rattle.supervisor.specs.Answers.{living_numbers}
-use Rattle.supervisor.specs.Readied.{AreApart}
-use Rattle.supervisor.specs.World.{World, Part}
-use Rattle.supervisor.specs.Numbers.{IsNumberAt}
-use Rattle.supervisor.proofs.Numbers.{living_is}
+use Rattle.components.specs.Answers.{living_numbers}
+use Rattle.components.specs.Readied.{AreApart}
+use Rattle.components.specs.World.{World, Part}
+use Rattle.components.specs.Numbers.{IsNumberAt}
+use Rattle.components.proofs.Numbers.{living_is}
 use Rattle.supervisor.proofs.supervisor.Supervisor.living.Goals as goal
 
 pub living_at-requires : goal.living_at-requires

@@ -1,7 +1,7 @@
 use Rattle.std.proofs.Common.{◌≡◌, ◌≤◌, ◌+◌, ℕ, Option, sym, ◌∙◌, ap, subst}
 use Rattle.std.specs.Prelude.{IfSome}
-use Rattle.supervisor.specs.Deadlines.{least_of}
-use Rattle.supervisor.proofs.Deadline.{least_near}
+use Rattle.components.specs.Deadlines.{least_of}
+use Rattle.components.proofs.Deadline.{least_near}
 use Rattle.supervisor.proofs.supervisor.Supervisor.next_deadline.Goals as goal
 
 pub returns-clause-near : goal.returns-clause-near

@@ -1,8 +1,8 @@
 use Rattle.std.proofs.Common.{◌∙◌, List, ap}
-use Rattle.supervisor.specs.Answers.{living_numbers}
-use Rattle.supervisor.specs.Numbers.{least_above}
-use Rattle.supervisor.specs.World.{World, Part}
-use Rattle.supervisor.proofs.Numbers.{next_living}
+use Rattle.components.specs.Answers.{living_numbers}
+use Rattle.components.specs.Numbers.{least_above}
+use Rattle.components.specs.World.{World, Part}
+use Rattle.components.proofs.Numbers.{next_living}
 use Rattle.supervisor.proofs.supervisor.Supervisor.next_living.Goals as goal
 
 pub returns : goal.returns

@@ -1,8 +1,8 @@
 use Rattle.std.proofs.Common.{◌≤◌, arith, not}
 use Rattle.std.proofs.lemmas.Result.{IfOk-weaker}
-use Rattle.supervisor.specs.Answers.{standing_count}
-use Rattle.supervisor.specs.Readied.{Readied}
-use Rattle.supervisor.specs.World.{Part, is_over}
+use Rattle.components.specs.Answers.{standing_count}
+use Rattle.components.specs.Readied.{Readied}
+use Rattle.components.specs.World.{Part, is_over}
 use Rattle.supervisor.proofs.Readies.{filter_few}
 use Rattle.supervisor.proofs.supervisor.Supervisor.ready.Goals as goal
 

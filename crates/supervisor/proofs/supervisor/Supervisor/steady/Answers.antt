@@ -1,9 +1,9 @@
 use Rattle.std.proofs.Common.{refl, sym, subst}
-use Rattle.supervisor.specs.Changes.{forgetting}
-use Rattle.supervisor.specs.Whole.{AreWhole}
+use Rattle.components.specs.Changes.{forgetting}
+use Rattle.components.specs.Whole.{AreWhole}
 use Rattle.supervisor.proofs.Goings.{forgetting_whole}
-use Rattle.supervisor.proofs.Kept.{kept_all, length_all, forgetting_children, stays_forgetting}
-use Rattle.supervisor.proofs.Whole.{mapped_whole}
+use Rattle.components.proofs.Kept.{kept_all, length_all, forgetting_children, stays_forgetting}
+use Rattle.components.proofs.Whole.{mapped_whole}
 use Rattle.supervisor.proofs.supervisor.Supervisor.steady.Goals as goal
 
 pub invariant_of-self : goal.invariant_of-self

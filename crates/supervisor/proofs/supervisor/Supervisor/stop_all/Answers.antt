@@ -1,9 +1,9 @@
 use Rattle.std.proofs.Common.{refl, sym, subst}
-use Rattle.supervisor.specs.Changes.{leaving}
-use Rattle.supervisor.specs.Whole.{AreWhole}
+use Rattle.components.specs.Changes.{leaving}
+use Rattle.components.specs.Whole.{AreWhole}
 use Rattle.supervisor.proofs.Goings.{leaving_whole}
-use Rattle.supervisor.proofs.Kept.{kept_all, length_all, leaving_children, stays_leaving}
-use Rattle.supervisor.proofs.Whole.{mapped_whole}
+use Rattle.components.proofs.Kept.{kept_all, length_all, leaving_children, stays_leaving}
+use Rattle.components.proofs.Whole.{mapped_whole}
 use Rattle.supervisor.proofs.supervisor.Supervisor.stop_all.Goals as goal
 
 pub invariant_of-self : goal.invariant_of-self

@@ -1,0 +1,173 @@
+-- Rows of bootstraps.
+use Rattle.std.specs.Prelude.{◌∷◌, [], ℕ, true, false, List, Some, codes, pos}
+use Rattle.nuc_base.specs.declared.kinds.Outcome.TheVariants as outcomes
+use Rattle.nuc_base.specs.declared.kinds.Step.TheVariants as step
+use Rattle.lifecycle.specs.declared.kinds.LifeEvent.TheVariants as event
+use Rattle.components.specs.Fitted.{Fitted}
+use Rattle.nuc_base.specs.declared.kinds.Exit.{Exit}
+use Rattle.nuc_base.specs.declared.kinds.Exit.TheVariants as exits
+use Rattle.records.specs.Stored.{Item, BootBegun, BootEnded, FailingBack, Closed}
+use Rattle.recipe_reader.specs.declared.recipe.Skip.TheVariants as skips
+use Rattle.components.specs.declared.kinds.Prepared.{Prepared}
+use Rattle.records.specs.declared.record.Origin.{Origin}
+use Rattle.step_runner.specs.declared.command.Command.{Command}
+use Rattle.step_runner.specs.declared.entries.RunnerEntry.{RunnerEntry}
+use Rattle.step_runner.specs.declared.entries.Seen.{Seen}
+use Rattle.step_runner.specs.declared.entries.Seen.TheVariants as seen
+use Rattle.device.specs.Devices.{Device}
+use Rattle.device.specs.Lawful.{no_failures, applied}
+use Rattle.device.specs.declared.staged.Stage.TheVariants as stages
+use Rattle.session.specs.Happenings.{Happening, Ran, Booted, Slept, Kept, Moved, Asked, Changed}
+use Rattle.session.specs.Places.{Place, left_by}
+use Rattle.history_rows.specs.Rows.{item, runs, starts_up, script, boot_of, boots_up, device_of, pending_in, plan_of, before_change, call_begins, world_of, running_part, asked, not_asked, ends, good, bad, a, b, one, two}
+
+abbrev pub item_a : Item
+item_a = item a one
+
+abbrev pub item_b : Item
+item_b = item b one
+
+abbrev pub items : List Item
+items = item_a ∷ item_b ∷ []
+
+-- two bootstraps, of which so many are ended
+abbrev pub booting_device : Origin → ℕ → Device
+booting_device o n = device_of o [] (Some (record (pending_in stages.Booting (plan_of items (a ∷ b ∷ [])) no_failures) { ended = n }))
+
+abbrev pub first_boot : Origin → Place
+first_boot o = call_begins (booting_device o 0)
+
+abbrev pub second_boot : Origin → Place
+second_boot o = call_begins (booting_device o 1)
+
+abbrev pub restart : Exit
+restart = exits.Code (pos 100)
+
+-- the bootstrap of the component of this name runs this
+abbrev pub boots_by : Command → List ℕ → Exit → List Happening
+boots_by command name e =
+    Kept (BootEnded name e) ∷ Booted (not_asked 0 (ends e 0 120000)) (boot_of command)
+    ∷ Booted (asked 0 (seen.Started 0 command)) (boot_of command) ∷ Asked 0 ∷ Kept (BootBegun name) ∷ []
+
+abbrev pub boots : List ℕ → Exit → List Happening
+boots name e = boots_by (script (codes "b")) name e
+
+-- its start, with this number
+abbrev pub starts_boot : (Seen → RunnerEntry) → ℕ → Command → Happening
+starts_boot tells n command = Booted (tells (seen.Started n command)) (boot_of command)
+
+-- it takes too long
+abbrev pub boots_long : Command → List Happening
+boots_long command =
+    Kept (BootEnded a exits.TimedOut) ∷ Booted (asked 120000 (seen.Killed 0)) (boot_of command) ∷ Asked 120000 ∷ Slept (not_asked 0 (seen.Elapsed 120000))
+    ∷ Booted (asked 0 (seen.Started 0 command)) (boot_of command) ∷ Asked 0 ∷ Kept (BootBegun a) ∷ []
+
+abbrev pub boot_lives : Origin → Place
+boot_lives o = left_by (first_boot o) (Booted (asked 0 (seen.Started 0 (script (codes "b")))) boots_up ∷ Asked 0 ∷ Kept (BootBegun a) ∷ [])
+
+-- it ended, and that is not recorded
+abbrev pub boot_over : Origin → Place
+boot_over o = left_by (boot_lives o) (Booted (not_asked 0 (ends bad 0 120000)) boots_up ∷ [])
+
+-- the end is recorded as a failure, or as one that asks for a restart, or as the last good one
+abbrev pub boot_failed : Origin → Place
+boot_failed o = left_by (boot_over o) (Kept (BootEnded a bad) ∷ [])
+
+abbrev pub restarted : Origin → Place
+restarted o = left_by (first_boot o) (boots a restart)
+
+abbrev pub one_done : Origin → Place
+one_done o = left_by (first_boot o) (boots a good)
+
+abbrev pub all_done : Origin → Place
+all_done o = left_by (second_boot o) (boots b good)
+
+-- the call begins with a bootstrap that was begun and did not end, and with one that failed
+abbrev pub begun_device : Origin → Device
+begun_device o = device_of o [] (Some (record (pending_in stages.Booting (plan_of items (a ∷ b ∷ [])) no_failures) { begun = true }))
+
+abbrev pub begun_before : Origin → Place
+begun_before o = call_begins (begun_device o)
+
+abbrev pub failed_device : Origin → Device
+failed_device o = device_of o [] (Some (record (pending_in stages.Booting (plan_of items (a ∷ b ∷ [])) no_failures) { begun = true; boot_failed = true }))
+
+abbrev pub failed_before : Origin → Place
+failed_before o = call_begins (failed_device o)
+
+-- it runs again
+abbrev pub boots_again : Command → List Happening
+boots_again command =
+    Kept (BootEnded a good) ∷ Booted (not_asked 0 (ends good 0 120000)) (boot_of command)
+    ∷ Booted (asked 0 (seen.Started 0 command)) (boot_of command) ∷ Asked 0 ∷ []
+
+-- a bootstrap with a probe for this word
+abbrev pub boots_or_skips : List ℕ → Command → Prepared
+boots_or_skips word command = record (boot_of command) { skip = Some (skips.OnPath word) }
+
+abbrev pub boot_skips : List ℕ → Command → List Happening
+boot_skips word command = Booted (asked 0 (seen.OnPath word true)) (boots_or_skips word command) ∷ Asked 0 ∷ Kept (BootBegun a) ∷ []
+
+abbrev pub boot_skipped : List ℕ → Command → List Happening
+boot_skipped word command = Kept (BootEnded a good) ∷ boot_skips word command
+
+abbrev pub boot_probed : List ℕ → Command → List Happening
+boot_probed word command =
+    Booted (not_asked 0 (seen.Started 0 command)) (boots_or_skips word command) ∷ Booted (asked 0 (seen.OnPath word false)) (boots_or_skips word command)
+    ∷ Asked 0 ∷ Kept (BootBegun a) ∷ []
+
+-- a start that is refused
+abbrev pub boot_refused : Command → List Happening
+boot_refused command = Kept (BootEnded a exits.NotStarted) ∷ Booted (asked 0 (seen.Refused command)) (boot_of command) ∷ Asked 0 ∷ Kept (BootBegun a) ∷ []
+
+-- ---- the set's bootstraps run again
+
+abbrev pub newer_a : Item
+newer_a = item a two
+
+-- the new version's bootstrap fails
+abbrev pub newer_boots : Origin → Place
+newer_boots o = call_begins (device_of o (item_a ∷ []) (Some (pending_in stages.Booting (plan_of (newer_a ∷ []) (a ∷ [])) no_failures)))
+
+abbrev pub fails_back : Command → List Happening
+fails_back command = Kept (FailingBack a) ∷ boots_by command a (exits.Code (pos 7))
+
+-- the old one's is to run again
+abbrev pub backing_device : Origin → Device
+backing_device o = device_of o (item_a ∷ []) (Some (record (pending_in stages.Backing (plan_of (newer_a ∷ []) (a ∷ [])) no_failures) { reach = 1; backs = a ∷ [] }))
+
+abbrev pub backed : Origin → Place
+backed o = call_begins (backing_device o)
+
+abbrev pub back_begun : Origin → Place
+back_begun o = left_by (backed o) (Kept (BootBegun a) ∷ [])
+
+abbrev pub back_done : Origin → Place
+back_done o = left_by (backed o) (boots a good)
+
+-- it fails too
+abbrev pub back_failed : Command → List Happening
+back_failed command = Kept (Closed outcomes.UnableToRollback) ∷ boots_by command a (exits.Code (pos 7))
+
+-- the old one still runs
+abbrev pub still_up : Origin → Place
+still_up o = before_change (backing_device o) (world_of (running_part (runs item_a [] []) 4 ∷ []))
+
+-- so it does where the bootstrap was begun, to which no history leads
+abbrev pub begun_up : Origin → Place
+begun_up o = before_change (applied (backing_device o) (BootBegun a)) (world_of (running_part (runs item_a [] []) 4 ∷ []))
+
+-- and in a later call the old one comes up
+abbrev pub rolling_place : Origin → Place
+rolling_place o = call_begins (back_done o).device
+
+abbrev pub old_up : Fitted
+old_up = starts_up item_a []
+
+abbrev pub comes_back : List Happening
+comes_back =
+    Kept (Closed outcomes.RollbackComplete) ∷ Ran (not_asked 0 (ends good 0 120000)) 0 step.Startup
+    ∷ Ran (asked 0 (seen.Started 0 (script (codes "s")))) 0 step.Startup ∷ Moved 0 event.MayBegin ∷ Moved 0 event.MayBegin ∷ Asked 0 ∷ []
+
+abbrev pub rolls : Origin → Place
+rolls o = left_by (rolling_place o) (Changed (old_up ∷ []) no_failures false ∷ [])

@@ -1,0 +1,12 @@
+pub mod BootCallRows
+pub mod BootRows
+pub mod ChangeRows
+pub mod DriveRows
+pub mod RecordRows
+pub mod RunRows
+pub mod ServeRows
+pub mod StandRows
+pub mod StopRows
+pub mod WaitRows
+pub mod Rows
+pub mod Words
