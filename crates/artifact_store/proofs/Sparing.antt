@@ -121,8 +121,8 @@ holds_the_set d image none holds = record { set = holds; pending = no_pending d.
 
 -- ---- at every moment
 
-module _ {D : Type 0} {tells : Bool} {seen : D → Image} {may_leave : D → Image → Type 0} {moment : D → ℕ} {left_since : D → ℕ → Image → Type 0}
-    (laws : DiskLaws tells seen may_leave moment left_since) where
+module _ {D : Type 0} {is_modelled : Bool} {seen : D → Image} {may_leave : D → Image → Type 0} {moment : D → ℕ} {left_since : D → ℕ → Image → Type 0}
+    (laws : DiskLaws is_modelled seen may_leave moment left_since) where
   pub staged_safe : (kept : List Item) (draft : Draft) (d : Device) (old new : D) → AllByRecursion IsNamed kept → AllByRecursion IsNamedDraft draft.items
       → Leaves moment left_since old new (After (may_leave old) (Spares (IsStaged kept draft))) → d.set ≡ kept → d.pending ≡ None → AllHoldDevice (may_leave old) d
       → Leaves moment left_since old new (λ c. HoldsDevice c d)

@@ -42,13 +42,13 @@ pub stray_of : (items : List Item) (names : List (List ℕ)) (image : Image) (x 
 stray_of items names image x needed listing has is name un =
     subst (λ (y : List ℕ). IsStray items y) (sym un.1) (((listing.exact x).0 has).0, not_among items x (sym is ∙ un.0))
 
-pub spares_told : (tells : Type 0) (fewer files : List ℕ → Type 0) (old mid new : Image) → tells → (tells → (name : List ℕ) → fewer name → files name) → Spares files old mid → Spares fewer mid new → Spares files old new
-spares_told tells fewer files old mid new told wider first second name spared = second name (λ is. spared (wider told name is)) ∙ first name spared
+pub spares_told : (is_modelled : Type 0) (fewer files : List ℕ → Type 0) (old mid new : Image) → is_modelled → (is_modelled → (name : List ℕ) → fewer name → files name) → Spares files old mid → Spares fewer mid new → Spares files old new
+spares_told is_modelled fewer files old mid new told wider first second name spared = second name (λ is. spared (wider told name is)) ∙ first name spared
 
-module _ {D : Type 0} {tells : Bool} {seen : D → Image} {may_leave : D → Image → Type 0} {moment : D → ℕ} {left_since : D → ℕ → Image → Type 0}
-    (laws : DiskLaws tells seen may_leave moment left_since) where
+module _ {D : Type 0} {is_modelled : Bool} {seen : D → Image} {may_leave : D → Image → Type 0} {moment : D → ℕ} {left_since : D → ℕ → Image → Type 0}
+    (laws : DiskLaws is_modelled seen may_leave moment left_since) where
   -- a call that changes some of the files, as is known where the disk tells
-  pub told_spares : (fewer files : List ℕ → Type 0) (old mid new : D) → (IsTrue tells → (name : List ℕ) → fewer name → files name) → Leaves moment left_since old mid (After (may_leave old) (Spares files))
+  pub told_spares : (fewer files : List ℕ → Type 0) (old mid new : D) → (IsTrue is_modelled → (name : List ℕ) → fewer name → files name) → Leaves moment left_since old mid (After (may_leave old) (Spares files))
       → Leaves moment left_since mid new (After (may_leave mid) (Spares fewer)) → Leaves moment left_since old new (After (may_leave old) (Spares files))
   told_spares fewer files old mid new wider first second =
       then_spares laws files old mid new first

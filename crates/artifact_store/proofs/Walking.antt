@@ -121,8 +121,8 @@ kept_stages l kept i Is value h is = (none_hold l kept i h, is)
 -- ---- moments
 
 -- before the first call
-module _ {D : Type 0} {tells : Bool} {seen : D → Image} {may_leave : D → Image → Type 0} {moment : D → ℕ} {left_since : D → ℕ → Image → Type 0}
-    (laws : DiskLaws tells seen may_leave moment left_since) where
+module _ {D : Type 0} {is_modelled : Bool} {seen : D → Image} {may_leave : D → Image → Type 0} {moment : D → ℕ} {left_since : D → ℕ → Image → Type 0}
+    (laws : DiskLaws is_modelled seen may_leave moment left_since) where
   pub start_spares : (files : List ℕ → Type 0) (d : D) → Leaves moment left_since d d (After (may_leave d) (Spares files))
   start_spares files d = weaker laws d d _ _ (none_spares (may_leave d) files) (at_start laws d)
 

@@ -22,7 +22,7 @@ use std::alloc::Global;
 /// The digest of a file's bytes, which are read in pieces; of an absent file that of no bytes.
 fn digest_of<D: Disk>(disk: &mut D, file: &str, piece: &mut [u8]) -> Result<[u8; 32], DiskFault>
     requires { length piece.old ≡ 65536 }
-    ensures told { IsTrue D.tells → IfOk result (λ digest. digest ≡ sha256 (D.seen disk.old file.now)) }
+    ensures told { IsTrue D.is_modelled → IfOk result (λ digest. digest ≡ sha256 (D.seen disk.old file.now)) }
     ensures long { length piece.new ≡ 65536 }
     ensures seen { D.seen disk.new ≡ D.seen disk.old }
     ensures moments { Leaves D.moment D.left_since disk.old disk.new (D.may_leave disk.old) }
@@ -51,7 +51,7 @@ fn audit_item<D: Disk>(
     piece: &mut [u8],
 ) -> Result<Option<(FileName, [u8; 32])>, AuditFault>
     requires { length piece.old ≡ 65536 }
-    ensures told { IsTrue D.tells → IfOk result (Audits (item_line (D.seen disk.old) (item_view item.now))) }
+    ensures told { IsTrue D.is_modelled → IfOk result (Audits (item_line (D.seen disk.old) (item_view item.now))) }
     ensures long { length piece.new ≡ 65536 }
     ensures seen { D.seen disk.new ≡ D.seen disk.old }
     ensures moments { Leaves D.moment D.left_since disk.old disk.new (D.may_leave disk.old) }
@@ -77,7 +77,7 @@ pub(crate) fn audit_items<D: Disk>(
     piece: &mut [u8],
 ) -> Result<Option<(FileName, [u8; 32])>, AuditFault>
     requires { length piece.old ≡ 65536 }
-    ensures told { IsTrue D.tells → IfOk result (Audits (items_lines (D.seen disk.old) (map item_view items.now))) }
+    ensures told { IsTrue D.is_modelled → IfOk result (Audits (items_lines (D.seen disk.old) (map item_view items.now))) }
     ensures long { length piece.new ≡ 65536 }
     ensures seen { D.seen disk.new ≡ D.seen disk.old }
     ensures moments { Leaves D.moment D.left_since disk.old disk.new (D.may_leave disk.old) }
@@ -102,7 +102,7 @@ fn audit_pending<D: Disk>(
     piece: &mut [u8],
 ) -> Result<Option<(FileName, [u8; 32])>, AuditFault>
     requires { length piece.old ≡ 65536 }
-    ensures told { IsTrue D.tells → IfOk result (Audits (items_lines (D.seen disk.old) (pending_items (device_view device.now).pending))) }
+    ensures told { IsTrue D.is_modelled → IfOk result (Audits (items_lines (D.seen disk.old) (pending_items (device_view device.now).pending))) }
     ensures seen { D.seen disk.new ≡ D.seen disk.old }
     ensures moments { Leaves D.moment D.left_since disk.old disk.new (D.may_leave disk.old) }
     ensures cause { IsErrOf result AuditFault.Disk → Rose (D.faults disk.old) (D.faults disk.new) }
@@ -123,7 +123,7 @@ fn audit_device<D: Disk>(
     piece: &mut [u8],
 ) -> Result<Option<(FileName, [u8; 32])>, AuditFault>
     requires { length piece.old ≡ 65536 }
-    ensures told { IsTrue D.tells → IfOk result (Audits (items_lines (D.seen disk.old) (items_of (device_view device.now)))) }
+    ensures told { IsTrue D.is_modelled → IfOk result (Audits (items_lines (D.seen disk.old) (items_of (device_view device.now)))) }
     ensures seen { D.seen disk.new ≡ D.seen disk.old }
     ensures moments { Leaves D.moment D.left_since disk.old disk.new (D.may_leave disk.old) }
     ensures cause { IsErrOf result AuditFault.Disk → Rose (D.faults disk.old) (D.faults disk.new) }
@@ -144,8 +144,8 @@ pub fn audit<D: Disk>(
     disk: &mut D,
     device: &Device,
 ) -> Result<Option<(FileName, [u8; 32])>, AuditFault>
-    ensures told { IsTrue D.tells → IfOk result (Audits (items_lines (D.seen disk.old) (items_of (device_view device.now)))) }
-    ensures whole { IsTrue D.tells → IfOk result (λ found. (found ≡ None) ↔ HoldsDevice (D.seen disk.old) (device_view device.now)) }
+    ensures told { IsTrue D.is_modelled → IfOk result (Audits (items_lines (D.seen disk.old) (items_of (device_view device.now)))) }
+    ensures whole { IsTrue D.is_modelled → IfOk result (λ found. (found ≡ None) ↔ HoldsDevice (D.seen disk.old) (device_view device.now)) }
     ensures seen { D.seen disk.new ≡ D.seen disk.old }
     ensures moments { Leaves D.moment D.left_since disk.old disk.new (D.may_leave disk.old) }
     ensures cause { IsErrOf result AuditFault.Disk → Rose (D.faults disk.old) (D.faults disk.new) }

@@ -56,10 +56,10 @@ fn copy_in<D: Disk, L: Library>(
     artifact: &Artifact,
     target: &FileName,
 ) -> Result<[u8; 32], StageFault>
-    requires empty { IsTrue D.tells → D.seen disk.old target.now ≡ [] }
+    requires empty { IsTrue D.is_modelled → D.seen disk.old target.now ≡ [] }
     ensures moments { Leaves D.moment D.left_since disk.old disk.new (After (D.may_leave disk.old) (Spares (IsFile target.now))) }
-    ensures others { IsTrue D.tells → Spares (IsFile target.now) (D.seen disk.old) (D.seen disk.new) }
-    ensures written { IsTrue D.tells → IfOk result (λ digest. digest ≡ sha256 (D.seen disk.new target.now)) }
+    ensures others { IsTrue D.is_modelled → Spares (IsFile target.now) (D.seen disk.old) (D.seen disk.new) }
+    ensures written { IsTrue D.is_modelled → IfOk result (λ digest. digest ≡ sha256 (D.seen disk.new target.now)) }
     ensures copied { (l : Content) → L.content library.old ≡ Some l →
         StagesBy (found_lines target.now None (l.artifact item.now.name item.now.version artifact.now.file))
         (IsDigestOf (l.artifact item.now.name item.now.version artifact.now.file)) result }
@@ -98,7 +98,7 @@ pub(crate) fn stage_file<D: Disk, L: Library>(
 ) -> Result<[u8; 32], StageFault>
     // A crash at any moment of the call changes that file alone.
     ensures moments { Leaves D.moment D.left_since disk.old disk.new (After (D.may_leave disk.old) (Spares (IsFile (path item.now.name item.now.version artifact.now.file)))) }
-    ensures others { IsTrue D.tells → Spares (IsFile (path item.now.name item.now.version artifact.now.file)) (D.seen disk.old) (D.seen disk.new) }
+    ensures others { IsTrue D.is_modelled → Spares (IsFile (path item.now.name item.now.version artifact.now.file)) (D.seen disk.old) (D.seen disk.new) }
     // Then a crash leaves bytes of that digest.
     ensures held { IfOk result (λ digest. (c : Image) → D.may_leave disk.new c → sha256 (c (path item.now.name item.now.version artifact.now.file)) ≡ digest) }
     ensures given { IfOk result (λ digest. IfSome artifact.now.digest (λ d. digest ≡ d)) }

@@ -52,7 +52,7 @@ fn stage_files<D: Disk, L: Library>(
 ) -> Result<List<Held>, StageFault>
     requires differ { HasItsFiles (draft_item_view item.now) }
     ensures moments { Leaves D.moment D.left_since disk.old disk.new (After (D.may_leave disk.old) (Spares (IsFileOfDraft (draft_item_view item.now)))) }
-    ensures others { IsTrue D.tells → Spares (IsFileOfDraft (draft_item_view item.now)) (D.seen disk.old) (D.seen disk.new) }
+    ensures others { IsTrue D.is_modelled → Spares (IsFileOfDraft (draft_item_view item.now)) (D.seen disk.old) (D.seen disk.new) }
     ensures held { IfOk result (λ helds. (c : Image) → D.may_leave disk.new c → HoldsFiles c item.now.name item.now.version helds) }
     ensures given { IfOk result (λ helds. AllZip IsHeldFor item.now.artifacts helds) }
     ensures staged { (l : Content) → L.content library.old ≡ Some l →
@@ -93,7 +93,7 @@ fn item_files<D: Disk, L: Library>(
     requires keeps { KeepsFiles (map item_view kept.now) (draft_item_view item.now) }
     requires differ { HasItsFiles (draft_item_view item.now) }
     ensures moments { Leaves D.moment D.left_since disk.old disk.new (After (D.may_leave disk.old) (Spares (IsStagedOf (map item_view kept.now) (draft_item_view item.now)))) }
-    ensures others { IsTrue D.tells → Spares (IsStagedOf (map item_view kept.now) (draft_item_view item.now)) (D.seen disk.old) (D.seen disk.new) }
+    ensures others { IsTrue D.is_modelled → Spares (IsStagedOf (map item_view kept.now) (draft_item_view item.now)) (D.seen disk.old) (D.seen disk.new) }
     ensures held { IfOk result (λ helds. AllHoldItems (D.may_leave disk.old) (map item_view kept.now) → (c : Image) → D.may_leave disk.new c → HoldsFiles c item.now.name item.now.version helds) }
     ensures given { IfOk result (λ helds. AllZip IsHeldFor item.now.artifacts helds) }
     ensures staged { (l : Content) → L.content library.old ≡ Some l →
@@ -120,7 +120,7 @@ fn stage_item<D: Disk, L: Library>(
     requires keeps { KeepsFiles (map item_view kept.now) (draft_item_view item) }
     requires differ { HasItsFiles (draft_item_view item) }
     ensures moments { Leaves D.moment D.left_since disk.old disk.new (After (D.may_leave disk.old) (Spares (IsStagedOf (map item_view kept.now) (draft_item_view item)))) }
-    ensures others { IsTrue D.tells → Spares (IsStagedOf (map item_view kept.now) (draft_item_view item)) (D.seen disk.old) (D.seen disk.new) }
+    ensures others { IsTrue D.is_modelled → Spares (IsStagedOf (map item_view kept.now) (draft_item_view item)) (D.seen disk.old) (D.seen disk.new) }
     ensures held { IfOk result (λ made. AllHoldItems (D.may_leave disk.old) (map item_view kept.now) → (c : Image) → D.may_leave disk.new c → HoldsItem c (item_view made)) }
     ensures fills { IfOk result (λ made. FillsItem (draft_item_view item) (item_view made)) }
     ensures staged { (l : Content) → L.content library.old ≡ Some l →
@@ -166,7 +166,7 @@ pub fn stage<D: Disk, L: Library>(
     requires keeps { AllByRecursion (KeepsFiles (map item_view kept.now)) (map draft_item_view draft.items) }
     // A crash at any moment of the call changes staged files alone.
     ensures moments { Leaves D.moment D.left_since disk.old disk.new (After (D.may_leave disk.old) (Spares (IsStaged (map item_view kept.now) (draft_view draft)))) }
-    ensures others { IsTrue D.tells → Spares (IsStaged (map item_view kept.now) (draft_view draft)) (D.seen disk.old) (D.seen disk.new) }
+    ensures others { IsTrue D.is_modelled → Spares (IsStaged (map item_view kept.now) (draft_view draft)) (D.seen disk.old) (D.seen disk.new) }
     // So a device that has these items and nothing pending has its files at each moment, where it had them before.
     ensures safe { (d : stored.Device) → d.set ≡ map item_view kept.now → d.pending ≡ None → AllHoldDevice (D.may_leave disk.old) d
         → Leaves D.moment D.left_since disk.old disk.new (λ c. HoldsDevice c d) }
@@ -213,7 +213,7 @@ fn stage_items<D: Disk, L: Library>(
     requires differ { AllByRecursion HasItsFiles (map draft_item_view drafts) }
     requires keeps { AllByRecursion (KeepsFiles (map item_view kept.now)) (map draft_item_view drafts) }
     ensures moments { Leaves D.moment D.left_since disk.old disk.new (After (D.may_leave disk.old) (Spares (IsStagedAmong (map item_view kept.now) (map draft_item_view drafts)))) }
-    ensures others { IsTrue D.tells → Spares (IsStagedAmong (map item_view kept.now) (map draft_item_view drafts)) (D.seen disk.old) (D.seen disk.new) }
+    ensures others { IsTrue D.is_modelled → Spares (IsStagedAmong (map item_view kept.now) (map draft_item_view drafts)) (D.seen disk.old) (D.seen disk.new) }
     ensures held { IfOk result (λ items. AllHoldItems (D.may_leave disk.old) (map item_view kept.now) → AllHoldItems (D.may_leave disk.new) (map item_view items)) }
     ensures fills { IfOk result (λ items. AllZip FillsItem (map draft_item_view drafts) (map item_view items)) }
     ensures staged { (l : Content) → L.content library.old ≡ Some l →

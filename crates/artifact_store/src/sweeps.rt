@@ -66,8 +66,8 @@ pub(crate) fn sweep_file<D: Disk>(
     file: &FileName,
 ) -> Result<(), DiskFault>
     ensures moments { Leaves D.moment D.left_since disk.old disk.new (After (D.may_leave disk.old) (Spares (IsUnneeded (contains (slice_cmp nat_cmp) needed.now file.now) file.now))) }
-    ensures others { IsTrue D.tells → Spares (IsUnneeded (contains (slice_cmp nat_cmp) needed.now file.now) file.now) (D.seen disk.old) (D.seen disk.new) }
-    ensures gone { IsTrue D.tells → OnOk result (contains (slice_cmp nat_cmp) needed.now file.now ≡ false → D.seen disk.new file.now ≡ []) }
+    ensures others { IsTrue D.is_modelled → Spares (IsUnneeded (contains (slice_cmp nat_cmp) needed.now file.now) file.now) (D.seen disk.old) (D.seen disk.new) }
+    ensures gone { IsTrue D.is_modelled → OnOk result (contains (slice_cmp nat_cmp) needed.now file.now ≡ false → D.seen disk.new file.now ≡ []) }
     ensures cause { HasCause (D.faults disk.old) (D.faults disk.new) result }
     ensures quiet { OnOk result (D.faults disk.new ≡ D.faults disk.old) }
 {
@@ -84,10 +84,10 @@ pub(crate) fn sweep_file<D: Disk>(
 pub fn sweep<D: Disk>(alloc: Global, disk: &mut D, device: &Device) -> Result<(), SweepFault>
     // A crash at any moment of the call changes stray files alone.
     ensures moments { Leaves D.moment D.left_since disk.old disk.new (After (D.may_leave disk.old) (Spares (IsStray (items_of (device_view device.now))))) }
-    ensures others { IsTrue D.tells → Spares (IsStray (items_of (device_view device.now))) (D.seen disk.old) (D.seen disk.new) }
+    ensures others { IsTrue D.is_modelled → Spares (IsStray (items_of (device_view device.now))) (D.seen disk.old) (D.seen disk.new) }
     // So the device has its files at each moment, where it had them before.
     ensures safe { AllHoldDevice (D.may_leave disk.old) (device_view device.now) → Leaves D.moment D.left_since disk.old disk.new (λ c. HoldsDevice c (device_view device.now)) }
-    ensures swept { IsTrue D.tells → OnOk result (IsSwept (items_of (device_view device.now)) (D.seen disk.new)) }
+    ensures swept { IsTrue D.is_modelled → OnOk result (IsSwept (items_of (device_view device.now)) (D.seen disk.new)) }
     ensures cause { IsErrOf result SweepFault.Disk → Rose (D.faults disk.old) (D.faults disk.new) }
     ensures quiet { ¬ (IsErrOf result SweepFault.Disk) → D.faults disk.new ≡ D.faults disk.old }
     ensures later { D.faults disk.old ≤ D.faults disk.new }

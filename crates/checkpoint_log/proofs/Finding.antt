@@ -43,8 +43,8 @@ found_stands image log payloads h rests closed = record {
   begun = λ yes. absurd (rests yes);
 }
 
-module _ {D : Type 0} {tells : Bool} {seen : D → Image} {may_leave : D → Image → Type 0} {moment : D → ℕ} {left_since : D → ℕ → Image → Type 0}
-    (laws : DiskLaws tells seen may_leave moment left_since) where
+module _ {D : Type 0} {is_modelled : Bool} {seen : D → Image} {may_leave : D → Image → Type 0} {moment : D → ℕ} {left_since : D → ℕ → Image → Type 0}
+    (laws : DiskLaws is_modelled seen may_leave moment left_since) where
   pub settled_on : (file : List ℕ) (old new : D) → Leaves moment left_since old new (may_leave old) → seen new ≡ seen old → Settled (may_leave old) file (seen old file) → Settled (may_leave new) file (seen new file)
   settled_on file old new leaves same settled c left = settled c (now laws old new _ leaves c left) ∙ sym (ap (λ (i : Image). i file) same)
 
@@ -58,8 +58,8 @@ module _ {D : Type 0} {tells : Bool} {seen : D → Image} {may_leave : D → Ima
   both_settled mid new first leaves same other file (inr is) = subst (λ (f : List ℕ). Settled (may_leave new) f (seen new f)) (sym is) other
 
 -- what is found stands on each image
-pub found_open : {D : Type 0} (tells : Bool) {seen : D → Image} {may_leave : D → Image → Type 0} {moment : D → ℕ} {left_since : D → ℕ → Image → Type 0}
-    → DiskLaws tells seen may_leave moment left_since → (log : Slots) (disk : D) → (IsTrue tells → (payloads : List (List ℕ)) × SlotsStand log (seen disk) payloads) → AreSettled seen may_leave slots_files disk
+pub found_open : {D : Type 0} (is_modelled : Bool) {seen : D → Image} {may_leave : D → Image → Type 0} {moment : D → ℕ} {left_since : D → ℕ → Image → Type 0}
+    → DiskLaws is_modelled seen may_leave moment left_since → (log : Slots) (disk : D) → (IsTrue is_modelled → (payloads : List (List ℕ)) × SlotsStand log (seen disk) payloads) → AreSettled seen may_leave slots_files disk
     → ((image : Image) (payloads : List (List ℕ)) → ((name : List ℕ) → slots_files name → image name ≡ seen disk name) → SlotsStand log (seen disk) payloads → SlotsStand log image payloads)
     → (payloads : List (List ℕ)) × IsBehind may_leave slots_stands log disk payloads
 found_open true laws log disk stands settled on =

@@ -96,16 +96,16 @@ pub turn_left : (n : ℕ) → n < 18446744073709551615 → IsTrue (is_lt (nat_cm
 turn_left n left = ap is_lt (sym (nat_cmp_is n 18446744073709551615 Less left))
 
 -- what a turn that ends stands on: these payloads were put, and begin as its record
-pub record IsReady {D : Type 0} (tells : Bool) (seen : D → Image) (log : Slots) (disk : D) (file : List ℕ) (more : List (List ℕ)) : Type 0 where
-  pub begun : IsTrue tells → IsTrue log.begun
-  pub put : IsTrue tells → IsPutWith [] (seen disk file) log.put_end more
-  pub says : IsTrue tells → FirstSays more (log.number + 1)
-  pub some : IsTrue tells → 1 ≤ log.put_end
+pub record IsReady {D : Type 0} (is_modelled : Bool) (seen : D → Image) (log : Slots) (disk : D) (file : List ℕ) (more : List (List ℕ)) : Type 0 where
+  pub begun : IsTrue is_modelled → IsTrue log.begun
+  pub put : IsTrue is_modelled → IsPutWith [] (seen disk file) log.put_end more
+  pub says : IsTrue is_modelled → FirstSays more (log.number + 1)
+  pub some : IsTrue is_modelled → 1 ≤ log.put_end
 
-pub ready : {D : Type 0} (tells : Bool) (seen : D → Image) (log : Slots) (disk : D) (file : List ℕ) (first more : List (List ℕ)) → file ≡ slot (log.number + 1) → log.number < 18446744073709551615
-    → IsPut tells seen slots_put log disk first → BeginsTurn (log.number + 1) first → IsPut tells seen slots_put log disk more → IsReady tells seen log disk file more
-ready tells seen log disk file first more is left first_put begins is_put =
-    let same : IsTrue tells → first ≡ more = λ told. put_one (seen disk (slot (log.number + 1))) log.put_end first more (first_put.there told).1 (is_put.there told).1 in
+pub ready : {D : Type 0} (is_modelled : Bool) (seen : D → Image) (log : Slots) (disk : D) (file : List ℕ) (first more : List (List ℕ)) → file ≡ slot (log.number + 1) → log.number < 18446744073709551615
+    → IsPut is_modelled seen slots_put log disk first → BeginsTurn (log.number + 1) first → IsPut is_modelled seen slots_put log disk more → IsReady is_modelled seen log disk file more
+ready is_modelled seen log disk file first more is left first_put begins is_put =
+    let same : IsTrue is_modelled → first ≡ more = λ told. put_one (seen disk (slot (log.number + 1))) log.put_end first more (first_put.there told).1 (is_put.there told).1 in
     record {
       begun = λ told. (first_put.there told).0;
       put = λ told. subst (λ (name : List ℕ). IsPutWith [] (seen disk name) log.put_end more) (sym is) (is_put.there told).1;
@@ -113,12 +113,12 @@ ready tells seen log disk file first more is left first_put begins is_put =
       some = λ told. put_some (seen disk (slot (log.number + 1))) log.put_end _ begins.others first begins.is (first_put.there told).1;
     }
 
-module _ {D : Type 0} {tells : Bool} {seen : D → Image} {may_leave : D → Image → Type 0} {moment : D → ℕ} {left_since : D → ℕ → Image → Type 0}
-    (laws : DiskLaws tells seen may_leave moment left_since) where
+module _ {D : Type 0} {is_modelled : Bool} {seen : D → Image} {may_leave : D → Image → Type 0} {moment : D → ℕ} {left_since : D → ℕ → Image → Type 0}
+    (laws : DiskLaws is_modelled seen may_leave moment left_since) where
   -- a call that changes the other slot, and leaves it older
   pub live_stays : (log : Slots) (old new : D) (payloads : List (List ℕ)) (file : List ℕ) (Q : List ℕ → List ℕ → Type 0) → file ≡ slot (log.number + 1)
       → IsBehind may_leave slots_stands log old payloads
-      → (IsTrue tells → (a : Image) (b : List ℕ) → SlotsStand log a payloads → Q (a (slot (log.number + 1))) b → IsOlder (slot (log.number + 1)) b log.number)
+      → (IsTrue is_modelled → (a : Image) (b : List ℕ) → SlotsStand log a payloads → Q (a (slot (log.number + 1))) b → IsOlder (slot (log.number + 1)) b log.number)
       → Leaves moment left_since old new (After (may_leave old) (Step file Q))
       → Leaves moment left_since old new (After (may_leave old) (Within slots_files (λ c. slots_entries c payloads)))
   live_stays log old new payloads file Q is behind gives leaves = weaker laws old new _ _
@@ -133,7 +133,7 @@ module _ {D : Type 0} {tells : Bool} {seen : D → Image} {may_leave : D → Ima
   -- a closing of the front, where it is not closed, over a file that is stable
   pub shut_moments : (file : List ℕ) (old mid read new : D) → Leaves moment left_since old mid (may_leave old) → Settled (may_leave mid) file (seen mid file)
       → Leaves moment left_since mid read (may_leave mid) → Leaves moment left_since read new (After (may_leave read) (Step file (Torn 0 1)))
-      → (IsTrue tells → (get_or (seen mid file) 0 0 ≢ 0) ⊎ (length (seen mid file) ≡ 0))
+      → (IsTrue is_modelled → (get_or (seen mid file) 0 0 ≢ 0) ⊎ (length (seen mid file) ≡ 0))
       → Leaves moment left_since old new (After (may_leave old) (Step file IsShutOn))
   shut_moments file old mid read new first settled second third some =
       joined laws old read new (may_leave old) (After (may_leave read) (Step file (Torn 0 1))) (After (may_leave old) (Step file IsShutOn))
@@ -162,13 +162,13 @@ module _ {D : Type 0} {tells : Bool} {seen : D → Image} {may_leave : D → Ima
       (λ c left. (c, left, record { here = slots_hold log c payloads (behind.each c left); others = λ name ne. refl })) (at_start laws old)
 
   -- a write behind the first byte
-  pub keeps_moments : (file : List ℕ) (old new : D) (at n : ℕ) → (IsTrue tells → 1 ≤ at) → Leaves moment left_since old new (After (may_leave old) (Step file (Torn at n)))
+  pub keeps_moments : (file : List ℕ) (old new : D) (at n : ℕ) → (IsTrue is_modelled → 1 ≤ at) → Leaves moment left_since old new (After (may_leave old) (Step file (Torn at n)))
       → Leaves moment left_since old new (After (may_leave old) (Step file KeepsFront))
   keeps_moments file old new at n some leaves = weaker laws old new _ _
       (λ c was. (was.0, was.1, record { here = keeps_front 1 at n _ _ (some (tells_of laws old was.0 was.1)) was.2.here; others = was.2.others })) leaves
 
   -- and one more
-  pub keeps_more : (file : List ℕ) (old mid new : D) (at n : ℕ) → (IsTrue tells → 1 ≤ at) → Leaves moment left_since old mid (After (may_leave old) (Step file KeepsFront))
+  pub keeps_more : (file : List ℕ) (old mid new : D) (at n : ℕ) → (IsTrue is_modelled → 1 ≤ at) → Leaves moment left_since old mid (After (may_leave old) (Step file KeepsFront))
       → Leaves moment left_since mid new (After (may_leave mid) (Step file (Torn at n))) → Leaves moment left_since old new (After (may_leave old) (Step file KeepsFront))
   keeps_more file old mid new at n some first second =
       then_on laws file old mid new KeepsFront KeepsFront KeepsFront first (keeps_moments file mid new at n some second) (λ a b kept. kept) (λ a b d kept more. more ∙ kept)
@@ -176,7 +176,7 @@ module _ {D : Type 0} {tells : Bool} {seen : D → Image} {may_leave : D → Ima
   -- each image now has the other slot closed at its front
   pub shut_stands : (log later : Slots) (old new : D) (payloads : List (List ℕ)) (file : List ℕ) → later.live.end ≡ log.live.end → later.number ≡ log.number → file ≡ slot (log.number + 1)
       → IsBehind may_leave slots_stands log old payloads → Leaves moment left_since old new (After (may_leave old) (Step file IsShutOn))
-      → Settled (may_leave new) file (seen new file) → (IsTrue tells → (more : List ℕ) × (seen new file ≡ 0 ∷ more))
+      → Settled (may_leave new) file (seen new file) → (IsTrue is_modelled → (more : List ℕ) × (seen new file ≡ 0 ∷ more))
       → IsBehind may_leave slots_stands later new payloads
   shut_stands log later old new payloads file end_is number_is is behind leaves settled shut = record {
     each = λ c left.
@@ -189,7 +189,7 @@ module _ {D : Type 0} {tells : Bool} {seen : D → Image} {may_leave : D → Ima
 
   -- and still has it
   pub keep_stands : (log later : Slots) (old new : D) (payloads : List (List ℕ)) (file : List ℕ) → later.live.end ≡ log.live.end → later.number ≡ log.number → file ≡ slot (log.number + 1)
-      → (IsTrue tells → IsTrue log.begun) → IsBehind may_leave slots_stands log old payloads → Leaves moment left_since old new (After (may_leave old) (Step file KeepsFront))
+      → (IsTrue is_modelled → IsTrue log.begun) → IsBehind may_leave slots_stands log old payloads → Leaves moment left_since old new (After (may_leave old) (Step file KeepsFront))
       → IsBehind may_leave slots_stands later new payloads
   keep_stands log later old new payloads file end_is number_is is begun behind leaves = record {
     each = λ c left.
@@ -202,15 +202,15 @@ module _ {D : Type 0} {tells : Bool} {seen : D → Image} {may_leave : D → Ima
   }
 
   pub keep_moments : (log : Slots) (old new : D) (payloads : List (List ℕ)) (file : List ℕ) → file ≡ slot (log.number + 1)
-      → (IsTrue tells → IsTrue log.begun) → IsBehind may_leave slots_stands log old payloads → Leaves moment left_since old new (After (may_leave old) (Step file KeepsFront))
+      → (IsTrue is_modelled → IsTrue log.begun) → IsBehind may_leave slots_stands log old payloads → Leaves moment left_since old new (After (may_leave old) (Step file KeepsFront))
       → Leaves moment left_since old new (After (may_leave old) (Within slots_files (λ c. slots_entries c payloads)))
   keep_moments log old new payloads file is begun behind leaves =
       live_stays log old new payloads file KeepsFront is behind (λ told a b h kept. kept_older log a b payloads (begun told) h kept) leaves
 
   -- the moments of the opening
   pub turn_moments : (log : Slots) (old mid new : D) (payloads more : List (List ℕ)) (file : List ℕ) (end : ℕ) → file ≡ slot (log.number + 1)
-      → (IsTrue tells → IsTrue log.begun) → IsBehind may_leave slots_stands log old payloads → Leaves moment left_since old mid (After (may_leave old) (Step file KeepsFront))
-      → Settled (may_leave mid) file (seen mid file) → (IsTrue tells → IsPutWith (0 ∷ []) (seen mid file) end more) → (IsTrue tells → FirstSays more (log.number + 1))
+      → (IsTrue is_modelled → IsTrue log.begun) → IsBehind may_leave slots_stands log old payloads → Leaves moment left_since old mid (After (may_leave old) (Step file KeepsFront))
+      → Settled (may_leave mid) file (seen mid file) → (IsTrue is_modelled → IsPutWith (0 ∷ []) (seen mid file) end more) → (IsTrue is_modelled → FirstSays more (log.number + 1))
       → Leaves moment left_since mid new (After (may_leave mid) (Step file (Torn 0 1)))
       → Leaves moment left_since old new (After (may_leave old) (Within slots_files (BeforeOrPut slots_entries payloads more)))
   turn_moments log old mid new payloads more file end is begun behind first settled put says second =
@@ -244,9 +244,9 @@ module _ {D : Type 0} {tells : Bool} {seen : D → Image} {may_leave : D → Ima
   -- and what is there after it
   pub turn_stands : (log later : Slots) (old mid new : D) (payloads more : List (List ℕ)) (file : List ℕ) → later.number ≡ log.number + 1 → ¬ (IsTrue later.begun) → file ≡ slot (log.number + 1)
       → IsBehind may_leave slots_stands log old payloads → Leaves moment left_since old mid (After (may_leave old) (Step file KeepsFront))
-      → (IsTrue tells → IsPutWith (0 ∷ []) (seen mid file) later.live.end more) → (IsTrue tells → FirstSays more (log.number + 1))
+      → (IsTrue is_modelled → IsPutWith (0 ∷ []) (seen mid file) later.live.end more) → (IsTrue is_modelled → FirstSays more (log.number + 1))
       → Leaves moment left_since mid new (After (may_leave mid) (Step file (Torn 0 1)))
-      → Settled (may_leave new) file (seen new file) → (IsTrue tells → Holds 0 (1 ∷ []) (seen mid file) (seen new file))
+      → Settled (may_leave new) file (seen new file) → (IsTrue is_modelled → Holds 0 (1 ∷ []) (seen mid file) (seen new file))
       → IsBehind may_leave slots_stands later new more
   turn_stands log later old mid new payloads more file number_is rests is behind first put says second settled holds = record {
     each = λ c left.
@@ -315,8 +315,8 @@ live_entry log image at payload file is h = record {
   at_is = h.at_is;
 }
 
-module _ {D : Type 0} {tells : Bool} {seen : D → Image} {may_leave : D → Image → Type 0} {moment : D → ℕ} {left_since : D → ℕ → Image → Type 0}
-    (laws : DiskLaws tells seen may_leave moment left_since) where
+module _ {D : Type 0} {is_modelled : Bool} {seen : D → Image} {may_leave : D → Image → Type 0} {moment : D → ℕ} {left_since : D → ℕ → Image → Type 0}
+    (laws : DiskLaws is_modelled seen may_leave moment left_since) where
   -- on each image the live slot stands, as a log in its file
   pub live_behind : (log : Slots) (disk : D) (payloads : List (List ℕ)) (file : List ℕ) → file ≡ slot log.number → IsBehind may_leave slots_stands log disk payloads
       → IsBehind may_leave (stands_in file) log.live disk payloads
@@ -324,13 +324,13 @@ module _ {D : Type 0} {tells : Bool} {seen : D → Image} {may_leave : D → Ima
 
   -- the first payload where there is none
   pub first_of_all : (log : Slots) (disk : D) (payloads : List (List ℕ)) (payload : List ℕ) (c : Image) → may_leave disk c → IsBehind may_leave slots_stands log disk payloads
-      → (IsTrue tells → SlotsStand log (seen disk) [] → BeginsStore payload) → payloads ≡ [] → BeginsStore payload
+      → (IsTrue is_modelled → SlotsStand log (seen disk) [] → BeginsStore payload) → payloads ≡ [] → BeginsStore payload
   first_of_all log disk payloads payload c left behind first none =
       let told = tells_of laws disk c left in
       first told (subst (λ (l : List (List ℕ)). SlotsStand log (seen disk) l) none (behind.each (seen disk) (laws.reads disk told)))
 
   pub append_moments : (log : Slots) (old new : D) (payloads : List (List ℕ)) (payload file : List ℕ) → file ≡ slot log.number → IsBehind may_leave slots_stands log old payloads
-      → (IsTrue tells → SlotsStand log (seen old) [] → BeginsStore payload)
+      → (IsTrue is_modelled → SlotsStand log (seen old) [] → BeginsStore payload)
       → Leaves moment left_since old new (After (may_leave old) (Within (files_of file) (BeforeOrAfter (entries_in file) payloads payload)))
       → Leaves moment left_since old new (After (may_leave old) (Within slots_files (BeforeOrAfter slots_entries payloads payload)))
   append_moments log old new payloads payload file is behind first leaves = weaker laws old new _ _
@@ -351,7 +351,7 @@ module _ {D : Type 0} {tells : Bool} {seen : D → Image} {may_leave : D → Ima
       leaves
 
   pub append_stands : (log later : Slots) (old new : D) (payloads : List (List ℕ)) (payload file : List ℕ) → later.number ≡ log.number → later.begun ≡ log.begun → file ≡ slot log.number
-      → IsBehind may_leave slots_stands log old payloads → (IsTrue tells → SlotsStand log (seen old) [] → BeginsStore payload)
+      → IsBehind may_leave slots_stands log old payloads → (IsTrue is_modelled → SlotsStand log (seen old) [] → BeginsStore payload)
       → Leaves moment left_since old new (After (may_leave old) (Within (files_of file) (BeforeOrAfter (entries_in file) payloads payload)))
       → IsBehind may_leave (stands_in file) later.live new (payloads ++ payload ∷ [])
       → IsBehind may_leave slots_stands later new (payloads ++ payload ∷ [])
@@ -373,8 +373,8 @@ module _ {D : Type 0} {tells : Bool} {seen : D → Image} {may_leave : D → Ima
   }
 
 -- a store just made
-pub made_stands : {D : Type 0} {tells : Bool} {seen : D → Image} {may_leave : D → Image → Type 0} {moment : D → ℕ} {left_since : D → ℕ → Image → Type 0}
-    → DiskLaws tells seen may_leave moment left_since → (log : Slots) (old new : D) → log.number ≡ 0 → ¬ (IsTrue log.begun) → (IsTrue tells → slots_none (seen old)) → AreSettled seen may_leave slots_files old
+pub made_stands : {D : Type 0} {is_modelled : Bool} {seen : D → Image} {may_leave : D → Image → Type 0} {moment : D → ℕ} {left_since : D → ℕ → Image → Type 0}
+    → DiskLaws is_modelled seen may_leave moment left_since → (log : Slots) (old new : D) → log.number ≡ 0 → ¬ (IsTrue log.begun) → (IsTrue is_modelled → slots_none (seen old)) → AreSettled seen may_leave slots_files old
     → Leaves moment left_since old new (After (may_leave old) (Within (files_of journal) (none_in journal)))
     → IsBehind may_leave (stands_in journal) log.live new []
     → IsBehind may_leave slots_stands log new []

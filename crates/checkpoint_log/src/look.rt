@@ -51,7 +51,7 @@ fn beginning(head: &[u8], size: u64, odd: u64) -> Option<u64>
 /// is read, and the size after it: beside a program that appends, an open gate has its whole entry behind it.
 pub fn look<D: Disk>(disk: &mut D, odd: u64) -> Result<Option<u64>, FindFault>
     requires parity { odd < 2 }
-    ensures told { IsTrue D.tells → IsLook (slot odd) (D.seen disk.old (slot odd)) result }
+    ensures told { IsTrue D.is_modelled → IsLook (slot odd) (D.seen disk.old (slot odd)) result }
     ensures seen { D.seen disk.new ≡ D.seen disk.old }
     ensures moments { Leaves D.moment D.left_since disk.old disk.new (D.may_leave disk.old) }
     ensures cause { IsErrOf result FindFault.Disk → Rose (D.faults disk.old) (D.faults disk.new) }
@@ -103,7 +103,7 @@ fn greater(first: Option<u64>, other: Option<u64>) -> Result<u64, FindFault>
 
 /// The number of the live slot.
 pub fn live_number<D: Disk>(disk: &mut D) -> Result<u64, FindFault>
-    ensures told { IsTrue D.tells → IsNumber (D.seen disk.old) result }
+    ensures told { IsTrue D.is_modelled → IsNumber (D.seen disk.old) result }
     ensures seen { D.seen disk.new ≡ D.seen disk.old }
     ensures moments { Leaves D.moment D.left_since disk.old disk.new (D.may_leave disk.old) }
     ensures cause { IsErrOf result FindFault.Disk → Rose (D.faults disk.old) (D.faults disk.new) }

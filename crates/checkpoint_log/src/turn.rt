@@ -11,10 +11,10 @@ use disk_model::{Disk, DiskFault};
 /// Writes a first byte 0 where there is another or none. What a torn write there can open was open before: the file is
 /// stable first.
 pub fn shut_front<D: Disk>(disk: &mut D, file: &str) -> Result<(), DiskFault>
-    ensures shut { IsTrue D.tells → OnOk result ((more : List ℕ) × (D.seen disk.new file.now ≡ 0 ∷ more)) }
+    ensures shut { IsTrue D.is_modelled → OnOk result ((more : List ℕ) × (D.seen disk.new file.now ≡ 0 ∷ more)) }
     ensures durable { OnOk result (Settled (D.may_leave disk.new) file.now (D.seen disk.new file.now)) }
     ensures moments { Leaves D.moment D.left_since disk.old disk.new (After (D.may_leave disk.old) (Step file.now IsShutOn)) }
-    ensures others { IsTrue D.tells → (name : List ℕ) → name ≢ file.now → D.seen disk.new name ≡ D.seen disk.old name }
+    ensures others { IsTrue D.is_modelled → (name : List ℕ) → name ≢ file.now → D.seen disk.new name ≡ D.seen disk.old name }
     ensures cause { HasCause (D.faults disk.old) (D.faults disk.new) result }
     ensures quiet { OnOk result (D.faults disk.new ≡ D.faults disk.old) }
 {
@@ -30,11 +30,11 @@ pub fn shut_front<D: Disk>(disk: &mut D, file: &str) -> Result<(), DiskFault>
 
 /// Opens the gate behind the entries that were put. The one at the front stays closed.
 fn gate_behind<D: Disk>(disk: &mut D, file: &str, end: u64) -> Result<(), DiskFault>
-    requires there { IsTrue D.tells → (payloads : List (List ℕ)) × IsPutWith [] (D.seen disk.old file.now) end payloads }
-    ensures written { IsTrue D.tells → (payloads : List (List ℕ)) → IsPutWith [] (D.seen disk.old file.now) end payloads →
+    requires there { IsTrue D.is_modelled → (payloads : List (List ℕ)) × IsPutWith [] (D.seen disk.old file.now) end payloads }
+    ensures written { IsTrue D.is_modelled → (payloads : List (List ℕ)) → IsPutWith [] (D.seen disk.old file.now) end payloads →
         OnOk result (IsPutWith (1 ∷ []) (D.seen disk.new file.now) end payloads) }
     ensures moments { Leaves D.moment D.left_since disk.old disk.new (After (D.may_leave disk.old) (Step file.now KeepsFront)) }
-    ensures others { IsTrue D.tells → (name : List ℕ) → name ≢ file.now → D.seen disk.new name ≡ D.seen disk.old name }
+    ensures others { IsTrue D.is_modelled → (name : List ℕ) → name ≢ file.now → D.seen disk.new name ≡ D.seen disk.old name }
     ensures cause { HasCause (D.faults disk.old) (D.faults disk.new) result }
     ensures quiet { OnOk result (D.faults disk.new ≡ D.faults disk.old) }
 {
@@ -51,14 +51,14 @@ pub fn put_behind<D: Disk>(
     end: u64,
     payload: &[u8],
 ) -> Result<(), DiskFault>
-    requires there { IsTrue D.tells → (payloads : List (List ℕ)) × IsPutWith [] (D.seen disk.old file.now) end payloads }
+    requires there { IsTrue D.is_modelled → (payloads : List (List ℕ)) × IsPutWith [] (D.seen disk.old file.now) end payloads }
     requires some { 1 ≤ length payload.now }
     requires fits { length payload.now ≤ most_payload }
     requires room { end + 6 + length payload.now ≤ most_file }
-    ensures written { IsTrue D.tells → (payloads : List (List ℕ)) → IsPutWith [] (D.seen disk.old file.now) end payloads →
+    ensures written { IsTrue D.is_modelled → (payloads : List (List ℕ)) → IsPutWith [] (D.seen disk.old file.now) end payloads →
         OnOk result (IsPutWith [] (D.seen disk.new file.now) (end + 5 + length payload.now) (payloads ++ payload.now ∷ [])) }
     ensures moments { Leaves D.moment D.left_since disk.old disk.new (After (D.may_leave disk.old) (Step file.now KeepsFront)) }
-    ensures others { IsTrue D.tells → (name : List ℕ) → name ≢ file.now → D.seen disk.new name ≡ D.seen disk.old name }
+    ensures others { IsTrue D.is_modelled → (name : List ℕ) → name ≢ file.now → D.seen disk.new name ≡ D.seen disk.old name }
     ensures cause { HasCause (D.faults disk.old) (D.faults disk.new) result }
     ensures quiet { OnOk result (D.faults disk.new ≡ D.faults disk.old) }
 {
@@ -70,13 +70,13 @@ pub fn put_behind<D: Disk>(
 
 /// Closes the gate behind the entries that were put, and makes them stable.
 pub fn close_behind<D: Disk>(disk: &mut D, file: &str, end: u64) -> Result<(), DiskFault>
-    requires there { IsTrue D.tells → (payloads : List (List ℕ)) × IsPutWith [] (D.seen disk.old file.now) end payloads }
-    requires some { IsTrue D.tells → 1 ≤ end }
-    ensures written { IsTrue D.tells → (payloads : List (List ℕ)) → IsPutWith [] (D.seen disk.old file.now) end payloads →
+    requires there { IsTrue D.is_modelled → (payloads : List (List ℕ)) × IsPutWith [] (D.seen disk.old file.now) end payloads }
+    requires some { IsTrue D.is_modelled → 1 ≤ end }
+    ensures written { IsTrue D.is_modelled → (payloads : List (List ℕ)) → IsPutWith [] (D.seen disk.old file.now) end payloads →
         OnOk result (IsPutWith (0 ∷ []) (D.seen disk.new file.now) end payloads) }
     ensures durable { OnOk result (Settled (D.may_leave disk.new) file.now (D.seen disk.new file.now)) }
     ensures moments { Leaves D.moment D.left_since disk.old disk.new (After (D.may_leave disk.old) (Step file.now KeepsFront)) }
-    ensures others { IsTrue D.tells → (name : List ℕ) → name ≢ file.now → D.seen disk.new name ≡ D.seen disk.old name }
+    ensures others { IsTrue D.is_modelled → (name : List ℕ) → name ≢ file.now → D.seen disk.new name ≡ D.seen disk.old name }
     ensures cause { HasCause (D.faults disk.old) (D.faults disk.new) result }
     ensures quiet { OnOk result (D.faults disk.new ≡ D.faults disk.old) }
 {

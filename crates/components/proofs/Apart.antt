@@ -6,7 +6,7 @@ use Rattle.std.proofs.lemmas.Bool.{eqb-true, eq-eqb}
 use Rattle.nuc_base.specs.declared.kinds.Step.{Step}
 use Rattle.components.specs.Answers.{living_numbers, child_numbers}
 use Rattle.components.specs.Deadlines.{deadline_after}
-use Rattle.components.specs.World.{Part, Child, At, changed_at, without_child, owner_from, child_of}
+use Rattle.components.specs.Components.{ComponentState, Child, At, changed_at, without_child, owner_from, child_of}
 use Rattle.components.specs.Readied.{AreApart, IsNear, AreNear}
 use Rattle.components.specs.Runs.{IsShort}
 use Rattle.components.proofs.Kids.{kids}
@@ -14,7 +14,7 @@ use Rattle.components.proofs.Kids.{kids}
 abbrev pub among : ℕ → List ℕ → Bool
 among n ns = list_any (λ m. m == n) ns
 
-numbers_kids : (ps qs : List Part) → kids ps ≡ kids qs → living_numbers ps ≡ living_numbers qs
+numbers_kids : (ps qs : List ComponentState) → kids ps ≡ kids qs → living_numbers ps ≡ living_numbers qs
 numbers_kids [] [] e = refl
 numbers_kids [] (q ∷ qs) e = absurd (cc)
 numbers_kids (p ∷ ps) [] e = absurd (cc)
@@ -23,10 +23,10 @@ numbers_kids (p ∷ ps) (q ∷ qs) e =
     let b : kids ps ≡ kids qs = cc in
     ap (λ (cs : List Child). child_numbers cs ++ living_numbers ps) a ∙ ap (λ (ns : List ℕ). child_numbers q.children ++ ns) (numbers_kids ps qs b)
 
-pub apart_kids : (ps qs : List Part) → kids ps ≡ kids qs → AreApart (living_numbers qs) → AreApart (living_numbers ps)
+pub apart_kids : (ps qs : List ComponentState) → kids ps ≡ kids qs → AreApart (living_numbers qs) → AreApart (living_numbers ps)
 apart_kids ps qs e a = subst AreApart (sym (numbers_kids ps qs e)) a
 
-pub near_kids : (m : ℕ) (ps qs : List Part) → kids ps ≡ kids qs → AreNear m qs → AreNear m ps
+pub near_kids : (m : ℕ) (ps qs : List ComponentState) → kids ps ≡ kids qs → AreNear m qs → AreNear m ps
 near_kids m [] [] e a = tt
 near_kids m [] (q ∷ qs) e a = absurd (cc)
 near_kids m (p ∷ ps) [] e a = absurd (cc)
@@ -45,7 +45,7 @@ later_children : (m n : ℕ) (cs : List Child) → m ≤ n → AllByRecursion (I
 later_children m n [] l h = tt
 later_children m n (c ∷ cs) l h = (later_child m n c c.deadline l h.0, later_children m n cs l h.1)
 
-pub near_later : (m n : ℕ) (ps : List Part) → m ≤ n → AreNear m ps → AreNear n ps
+pub near_later : (m n : ℕ) (ps : List ComponentState) → m ≤ n → AreNear m ps → AreNear n ps
 near_later m n [] l h = tt
 near_later m n (p ∷ ps) l h = (later_children m n p.children l h.0, near_later m n ps l h.1)
 
@@ -55,7 +55,7 @@ pub near_deadline : (m : ℕ) (limit : Option ℕ) → IsShort limit → IfSome 
 near_deadline m None s = tt
 near_deadline m (Some l) s = omega (arith, s)
 
-pub near_started : (m : ℕ) (f : Part → Part) (c : Part → Child) (P : Part → Type 0) → ((p : Part) → (f p).children ≡ c p ∷ p.children) → ((p : Part) → P p → IsNear m (c p)) → (k : ℕ) (ps : List Part) → At k P ps → AreNear m ps → AreNear m (changed_at k f ps)
+pub near_started : (m : ℕ) (f : ComponentState → ComponentState) (c : ComponentState → Child) (P : ComponentState → Type 0) → ((p : ComponentState) → (f p).children ≡ c p ∷ p.children) → ((p : ComponentState) → P p → IsNear m (c p)) → (k : ℕ) (ps : List ComponentState) → At k P ps → AreNear m ps → AreNear m (changed_at k f ps)
 near_started m f c P e g k [] h a = absurd h
 near_started m f c P e g zero (p ∷ ps) h a = (subst (λ (cs : List Child). AllByRecursion (IsNear m) cs) (sym (e p)) (g p h, a.0), a.1)
 near_started m f c P e g (suc k) (p ∷ ps) h a = (a.0, near_started m f c P e g k ps h a.1)
@@ -100,7 +100,7 @@ apart_insert n (x ∷ xs) ys a e =
     let r = or_false_right (x == n) (among n (xs ++ ys)) e in
     (among_append x xs (n ∷ ys) (among_first x xs ys a.0) (or_false (n == x) (among x ys) (no_flip x n l) (among_last x xs ys a.0)), apart_insert n xs ys a.1 r)
 
-pub apart_started : (n : ℕ) (f : Part → Part) → ((p : Part) → child_numbers (f p).children ≡ n ∷ child_numbers p.children) → (k : ℕ) (ps : List Part) (pre : List ℕ) → k < length ps
+pub apart_started : (n : ℕ) (f : ComponentState → ComponentState) → ((p : ComponentState) → child_numbers (f p).children ≡ n ∷ child_numbers p.children) → (k : ℕ) (ps : List ComponentState) (pre : List ℕ) → k < length ps
     → AreApart (pre ++ living_numbers ps) → among n (pre ++ living_numbers ps) ≡ false → AreApart (pre ++ living_numbers (changed_at k f ps))
 apart_started n f e k [] pre l a h = absurd (omega (arith, l))
 apart_started n f e zero (p ∷ ps) pre l a h =
@@ -140,12 +140,12 @@ thin_filter : (p : Child → Bool) (cs : List Child) (zs : List ℕ) → Thinner
 thin_filter p [] zs = λ pre a. a
 thin_filter p (c ∷ cs) zs = thin_at (p c) c (filter p cs) cs zs (thin_filter p cs zs)
 
-thin_removed : (n k : ℕ) (ps : List Part) → Thinner (living_numbers (changed_at k (without_child n) ps)) (living_numbers ps)
+thin_removed : (n k : ℕ) (ps : List ComponentState) → Thinner (living_numbers (changed_at k (without_child n) ps)) (living_numbers ps)
 thin_removed n k [] = λ pre a. a
 thin_removed n zero (p ∷ ps) = thin_filter (λ (c : Child). not (c.number == n)) p.children (living_numbers ps)
 thin_removed n (suc k) (p ∷ ps) = thin_prefix (child_numbers p.children) (living_numbers (changed_at k (without_child n) ps)) (living_numbers ps) (thin_removed n k ps)
 
-pub apart_removed : (n k : ℕ) (ps : List Part) → AreApart (living_numbers ps) → AreApart (living_numbers (changed_at k (without_child n) ps))
+pub apart_removed : (n k : ℕ) (ps : List ComponentState) → AreApart (living_numbers ps) → AreApart (living_numbers (changed_at k (without_child n) ps))
 apart_removed n k ps a = thin_removed n k ps [] a
 
 near_at : (m : ℕ) (b : Bool) (c : Child) (ds : List Child) → IsNear m c → AllByRecursion (IsNear m) ds → AllByRecursion (IsNear m) (if b then c ∷ ds else ds)
@@ -156,7 +156,7 @@ near_filter : (m : ℕ) (p : Child → Bool) (cs : List Child) → AllByRecursio
 near_filter m p [] a = tt
 near_filter m p (c ∷ cs) a = near_at m (p c) c (filter p cs) a.0 (near_filter m p cs a.1)
 
-pub near_removed : (m n k : ℕ) (ps : List Part) → AreNear m ps → AreNear m (changed_at k (without_child n) ps)
+pub near_removed : (m n k : ℕ) (ps : List ComponentState) → AreNear m ps → AreNear m (changed_at k (without_child n) ps)
 near_removed m n k [] a = tt
 near_removed m n zero (p ∷ ps) a = (near_filter m (λ (c : Child). not (c.number == n)) p.children a.0, a.1)
 near_removed m n (suc k) (p ∷ ps) a = (a.0, near_removed m n k ps a.1)
@@ -171,11 +171,11 @@ pub no_child : (n : ℕ) (cs : List Child) → child_of n cs ≡ None → among 
 no_child n [] e = refl
 no_child n (c ∷ cs) e = no_child_at (c.number == n) (among n (child_numbers cs)) c (child_of n cs) e (no_child n cs)
 
-not_owned_at : (k n : ℕ) (p : Part) (ps : List Part) (o : Option Child) → child_of n p.children ≡ o → ◌≡◌ {A = Option (ℕ × Step)} (elim o [ None ↦ owner_from (k + 1) n ps | Some c ↦ Some (k, c.of) ]) None
+not_owned_at : (k n : ℕ) (p : ComponentState) (ps : List ComponentState) (o : Option Child) → child_of n p.children ≡ o → ◌≡◌ {A = Option (ℕ × Step)} (elim o [ None ↦ owner_from (k + 1) n ps | Some c ↦ Some (k, c.of) ]) None
     → (owner_from (k + 1) n ps ≡ None → among n (living_numbers ps) ≡ false) → among n (child_numbers p.children ++ living_numbers ps) ≡ false
 not_owned_at k n p ps None h e f = among_append n (child_numbers p.children) (living_numbers ps) (no_child n p.children h) (f e)
 not_owned_at k n p ps (Some c) h e f = absurd (cc)
 
-pub not_owned : (k n : ℕ) (ps : List Part) → owner_from k n ps ≡ None → among n (living_numbers ps) ≡ false
+pub not_owned : (k n : ℕ) (ps : List ComponentState) → owner_from k n ps ≡ None → among n (living_numbers ps) ≡ false
 not_owned k n [] e = refl
 not_owned k n (p ∷ ps) e = not_owned_at k n p ps (child_of n p.children) refl e (not_owned (k + 1) n ps)

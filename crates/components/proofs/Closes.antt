@@ -2,7 +2,7 @@
 use Rattle.std.proofs.Common.{◌≡◌, ◌<◌, ◌≤◌, ◌+◌, ℕ, suc, zero, List, [], ◌∷◌, length, Bool, true, false, refl, sym, ap, ◌∙◌, ◌⊎◌, inl, inr, arith, subst}
 use Rattle.std.specs.Prelude.{◌&&◌, ◌||◌, if◌then◌else◌}
 use Rattle.std.specs.Str.{bytes_eq}
-use Rattle.components.specs.World.{Part, part_name}
+use Rattle.components.specs.Components.{ComponentState, component_name}
 use Rattle.components.specs.Marks.{Flagged, grown, reaching, is_flagged, needs_flagged, Within, IsClosedBack}
 
 pub within_refl : (fs : Flagged) → Within fs fs
@@ -29,9 +29,9 @@ flagged_more : (n : List ℕ) (fs hs : Flagged) → Within fs hs → is_flagged 
 flagged_more n [] [] w e = e
 flagged_more n [] (h ∷ hs) w e = absurd w
 flagged_more n (f ∷ fs) [] w e = absurd w
-flagged_more n (f ∷ fs) (h ∷ hs) w e = elim (or_true (f.1 && (bytes_eq (part_name f.0) n)) (is_flagged n fs) e) [
-  | inl a ↦ (let b = and_true f.1 (bytes_eq (part_name f.0) n) a in or_left (h.1 && (bytes_eq (part_name h.0) n)) (is_flagged n hs) (rw (w.1 b.0) (let c = ap (λ (p : Part). bytes_eq (part_name p) n) w.0 in sym c ∙ b.1)))
-  | inr a ↦ or_right (h.1 && (bytes_eq (part_name h.0) n)) (is_flagged n hs) (flagged_more n fs hs w.2 a)
+flagged_more n (f ∷ fs) (h ∷ hs) w e = elim (or_true (f.1 && (bytes_eq (component_name f.0) n)) (is_flagged n fs) e) [
+  | inl a ↦ (let b = and_true f.1 (bytes_eq (component_name f.0) n) a in or_left (h.1 && (bytes_eq (component_name h.0) n)) (is_flagged n hs) (rw (w.1 b.0) (let c = ap (λ (p : ComponentState). bytes_eq (component_name p) n) w.0 in sym c ∙ b.1)))
+  | inr a ↦ or_right (h.1 && (bytes_eq (component_name h.0) n)) (is_flagged n hs) (flagged_more n fs hs w.2 a)
 ]
 
 pub needs_more : (ns : List (List ℕ)) (fs hs : Flagged) → Within fs hs → needs_flagged ns fs ≡ true → needs_flagged ns hs ≡ true
@@ -49,7 +49,7 @@ grown_within all bs (f ∷ fs) (h ∷ hs) w v = (
   v.0,
   (λ e. elim (or_true f.1 (needs_flagged f.0.fitted.hard all) e) [
     | inl a ↦ or_left h.1 (needs_flagged h.0.fitted.hard bs) (v.1 a)
-    | inr a ↦ or_right h.1 (needs_flagged h.0.fitted.hard bs) (needs_more h.0.fitted.hard all bs w (subst (λ (p : Part). needs_flagged p.fitted.hard all ≡ true) v.0 a))
+    | inr a ↦ or_right h.1 (needs_flagged h.0.fitted.hard bs) (needs_more h.0.fitted.hard all bs w (subst (λ (p : ComponentState). needs_flagged p.fitted.hard all ≡ true) v.0 a))
   ]),
   grown_within all bs fs hs w v.2,
 )
@@ -93,7 +93,7 @@ length_reaching zero fs = refl
 length_reaching (suc n) fs = length_reaching n (grown fs fs) ∙ length_grown fs fs
 
 -- a round adds a flag, or changes nothing
-one_step : (p : Part) (a x : Bool) (fs gs : Flagged) → (gs ≡ fs) ⊎ (count fs < count gs) → ((p, a || x) ∷ gs ≡ (p, a) ∷ fs) ⊎ (count ((p, a) ∷ fs) < count ((p, a || x) ∷ gs))
+one_step : (p : ComponentState) (a x : Bool) (fs gs : Flagged) → (gs ≡ fs) ⊎ (count fs < count gs) → ((p, a || x) ∷ gs ≡ (p, a) ∷ fs) ⊎ (count ((p, a) ∷ fs) < count ((p, a || x) ∷ gs))
 one_step p true x fs gs (inl e) = inl (ap (λ (hs : Flagged). (p, true) ∷ hs) e)
 one_step p true x fs gs (inr l) = inr (omega (arith, l))
 one_step p false false fs gs (inl e) = inl (ap (λ (hs : Flagged). (p, false) ∷ hs) e)

@@ -3,7 +3,7 @@ use Rattle.std.proofs.Common.{◌≡◌, ◌≤◌, ◌+◌, ℕ, List, [], ◌�
 use Rattle.std.specs.Prelude.{min, IfSome}
 use Rattle.std.specs.List.{AllByRecursion}
 use Rattle.components.specs.Deadlines.{earlier, child_deadline, least_of}
-use Rattle.components.specs.World.{Part, Child}
+use Rattle.components.specs.Components.{ComponentState, Child}
 use Rattle.components.specs.Readied.{IsNear, AreNear}
 
 min_assoc : (a b c : ℕ) → min (min a b) c ≡ min a (min b c)
@@ -27,6 +27,6 @@ child_near : (m : ℕ) (cs : List Child) → AllByRecursion (IsNear m) cs → Is
 child_near m [] h = tt
 child_near m (c ∷ cs) h = earlier_below (m + 1000000000) c.deadline (child_deadline cs) h.0 (child_near m cs h.1)
 
-pub least_near : (m : ℕ) (ps : List Part) → AreNear m ps → IsBelow (m + 1000000000) (least_of ps)
+pub least_near : (m : ℕ) (ps : List ComponentState) → AreNear m ps → IsBelow (m + 1000000000) (least_of ps)
 least_near m [] h = tt
 least_near m (p ∷ ps) h = earlier_below (m + 1000000000) (child_deadline p.children) (least_of ps) (child_near m p.children h.0) (least_near m ps h.1)

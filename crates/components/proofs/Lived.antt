@@ -12,7 +12,7 @@ use Rattle.lifecycle.specs.declared.kinds.LifeEvent.TheVariants as event
 use Rattle.lifecycle.specs.declared.kinds.LifeAct.{LifeAct}
 use Rattle.lifecycle.specs.declared.kinds.LifeAct.TheVariants as act
 use Rattle.components.specs.Fitted.{Fitted, steps_of}
-use Rattle.components.specs.World.{Part, is_again, is_spared}
+use Rattle.components.specs.Components.{ComponentState, is_again, is_spared}
 use Rattle.components.specs.Lives.{lived, after_row, with_failures_forgotten, with_failure_owed, with_stop_given, with_new_item, completed, replaced}
 use Rattle.components.specs.Rows.{succeeds_from, owed_after, stop_after, is_spared_by, completed_from, Takes}
 use Rattle.components.specs.Runs.{is_own, IsKeptPart}
@@ -39,22 +39,22 @@ table_again c e sound = grind (arith, sound)
 
 -- ---- the parts, one after another
 
-forget_at : (b : Bool) (d : Life) (p : Part) → (if b then record (after_row d p) { life = record d { failures = 0 } } else after_row d p) ≡ record p { life = if b then record d { failures = 0 } else d }
+forget_at : (b : Bool) (d : Life) (p : ComponentState) → (if b then record (after_row d p) { life = record d { failures = 0 } } else after_row d p) ≡ record p { life = if b then record d { failures = 0 } else d }
 forget_at true d p = refl
 forget_at false d p = refl
 
-owed_at : (b : Bool) (p : Part) (x : Option (Step × Exit)) → (if b then p else record p { owed = x }) ≡ record p { owed = if b then p.owed else x }
+owed_at : (b : Bool) (p : ComponentState) (x : Option (Step × Exit)) → (if b then p else record p { owed = x }) ≡ record p { owed = if b then p.owed else x }
 owed_at true p x = refl
 owed_at false p x = refl
 
-owing : (a : LifeAct) (p : Part) → with_failure_owed a p ≡ record p { owed = owed_after a (is_spared p) p.owed }
+owing : (a : LifeAct) (p : ComponentState) → with_failure_owed a p ≡ record p { owed = owed_after a (is_spared p) p.owed }
 owing act.Nothing p = refl
 owing (act.Begin s) p = refl
 owing act.Kill p = refl
 owing (act.Failed s e) p = owed_at (is_spared p) p (Some (s, e))
 owing (act.Broke s e) p = owed_at (is_spared p) p (Some (s, e))
 
-giving : (e : LifeEvent) (p : Part) → with_stop_given e p ≡ record p { stop = stop_after e p.stop }
+giving : (e : LifeEvent) (p : ComponentState) → with_stop_given e p ≡ record p { stop = stop_after e p.stop }
 giving event.MayBegin p = refl
 giving event.Launched p = refl
 giving event.Skipped p = refl
@@ -67,36 +67,36 @@ state_kept true d = refl
 state_kept false d = refl
 
 -- the component before it takes another item
-abbrev pub settled_part : Bool → LifeEvent → LifeAct → Life → Part → Part
+abbrev pub settled_part : Bool → LifeEvent → LifeAct → Life → ComponentState → ComponentState
 settled_part b e a d p =
     let l : Life = if b then record d { failures = 0 } else d in
     record p { life = l; owed = owed_after a (is_spared_by p.stop l) p.owed; stop = stop_after e p.stop }
 
-pub lived_row : (steady : Bool) (e : LifeEvent) (p : Part) (a : LifeAct) (d : Life) → table p.life e ≡ Some (a, d)
+pub lived_row : (steady : Bool) (e : LifeEvent) (p : ComponentState) (a : LifeAct) (d : Life) → table p.life e ≡ Some (a, d)
     → lived steady e p
     ≡ (let q = settled_part (steady && succeeds_from p.life.state p.life.busy d.state) e a d p in if is_again (completed_from e p.life.state p.life.stop d.state) then replaced q else q)
 lived_row steady e p a d t =
     let b : Bool = steady && succeeds_from p.life.state p.life.busy d.state in
     let l : Life = if b then record d { failures = 0 } else d in
-    let p1 : Part = record p { life = l } in
-    let p2 : Part = record p1 { owed = owed_after a (is_spared p1) p1.owed } in
-    let p3 : Part = record p2 { stop = stop_after e p2.stop } in
+    let p1 : ComponentState = record p { life = l } in
+    let p2 : ComponentState = record p1 { owed = owed_after a (is_spared p1) p1.owed } in
+    let p3 : ComponentState = record p2 { stop = stop_after e p2.stop } in
     ap (λ (o : Option (LifeAct × Life)). elim o [ None ↦ p | Some r ↦ with_new_item e p.life (with_stop_given e (with_failure_owed r.0 (with_failures_forgotten steady p.life (after_row r.1 p)))) ]) t
-    ∙ ap (λ (q : Part). with_new_item e p.life (with_stop_given e (with_failure_owed a q))) (forget_at b d p)
-    ∙ ap (λ (q : Part). with_new_item e p.life (with_stop_given e q)) (owing a p1)
-    ∙ ap (λ (q : Part). with_new_item e p.life q) (giving e p2)
+    ∙ ap (λ (q : ComponentState). with_new_item e p.life (with_stop_given e (with_failure_owed a q))) (forget_at b d p)
+    ∙ ap (λ (q : ComponentState). with_new_item e p.life (with_stop_given e q)) (owing a p1)
+    ∙ ap (λ (q : ComponentState). with_new_item e p.life q) (giving e p2)
     ∙ ap (λ (s : State). if is_again (completed_from e p.life.state p.life.stop s) then replaced p3 else p3) (state_kept b d)
 
-pub lived_none : (steady : Bool) (e : LifeEvent) (p : Part) → table p.life e ≡ None → lived steady e p ≡ p
+pub lived_none : (steady : Bool) (e : LifeEvent) (p : ComponentState) → table p.life e ≡ None → lived steady e p ≡ p
 lived_none steady e p t =
     ap (λ (o : Option (LifeAct × Life)). elim o [ None ↦ p | Some r ↦ with_new_item e p.life (with_stop_given e (with_failure_owed r.0 (with_failures_forgotten steady p.life (after_row r.1 p)))) ]) t
 
-replaced_by : (q : Part) (o : Option (Fitted × ℕ)) (f : Fitted) (l : Life) → q.life ≡ begun q.life.steps 0 → MatchOption o ((f ≡ q.fitted) × (l ≡ q.life)) (λ n. (f ≡ n.0) × (l ≡ begun (steps_of n.0) n.1))
+replaced_by : (q : ComponentState) (o : Option (Fitted × ℕ)) (f : Fitted) (l : Life) → q.life ≡ begun q.life.steps 0 → MatchOption o ((f ≡ q.fitted) × (l ≡ q.life)) (λ n. (f ≡ n.0) × (l ≡ begun (steps_of n.0) n.1))
     → record q { fitted = f; life = l; next = None } ≡ replaced (record q { next = o })
 replaced_by q None f l s m = rw (m.0, m.1) refl
 replaced_by q (Some n) f l s m = rw (m.0, m.1) (ap (λ (x : Life). record q { fitted = n.0; life = record x { steps = steps_of n.0; failures = n.1 }; next = None }) (sym s))
 
-pub replaced_is : (q : Part) (f : Fitted) (l : Life) (nx : Option (Fitted × ℕ)) → q.life ≡ begun q.life.steps 0 → MatchOption q.next ((f ≡ q.fitted) × (l ≡ q.life)) (λ n. (f ≡ n.0) × (l ≡ begun (steps_of n.0) n.1)) → nx ≡ None
+pub replaced_is : (q : ComponentState) (f : Fitted) (l : Life) (nx : Option (Fitted × ℕ)) → q.life ≡ begun q.life.steps 0 → MatchOption q.next ((f ≡ q.fitted) × (l ≡ q.life)) (λ n. (f ≡ n.0) × (l ≡ begun (steps_of n.0) n.1)) → nx ≡ None
     → record q { fitted = f; life = l; next = nx } ≡ replaced q
 replaced_is q f l nx s m e = ap (λ (o : Option (Fitted × ℕ)). record q { fitted = f; life = l; next = o }) e ∙ replaced_by q q.next f l s m
 
@@ -125,7 +125,7 @@ forget_begun : (b : Bool) (d : Life) → d ≡ begun d.steps 0 → (if b then re
 forget_begun true d e = ap (λ (x : Life). record x { failures = 0 }) e
 forget_begun false d e = e
 
-module _ (steady : Bool) (e : LifeEvent) (p : Part) (a : LifeAct) (d l : Life) (again : Bool) (sound : IsSound p.life) (row : table p.life e ≡ Some (a, d))
+module _ (steady : Bool) (e : LifeEvent) (p : ComponentState) (a : LifeAct) (d l : Life) (again : Bool) (sound : IsSound p.life) (row : table p.life e ≡ Some (a, d))
     (forgets : l ≡ (if steady && succeeds_from p.life.state p.life.busy d.state then record d { failures = 0 } else d)) (again_is : again ≡ is_again (completed_from e p.life.state p.life.stop d.state)) where
   pub fresh : again ≡ true → l ≡ begun l.steps 0
   fresh h =
@@ -134,7 +134,7 @@ module _ (steady : Bool) (e : LifeEvent) (p : Part) (a : LifeAct) (d l : Life) (
 
   module _ (owed2 : Option (Step × Exit)) (stop2 : Option After) (f2 : Fitted) (c2 : Life) (n2 : Option (Fitted × ℕ)) (kept : IsKeptPart p) (owes : owed2 ≡ owed_after a (is_spared_by p.stop l) p.owed)
       (stops : stop2 ≡ stop_after e p.stop) (takes : Takes again p.fitted f2 l c2 p.next n2) where
-    abbrev mid : Part
+    abbrev mid : ComponentState
     mid = record p { life = l; owed = owed2; stop = stop2 }
 
     settles : mid ≡ settled_part (steady && succeeds_from p.life.state p.life.busy d.state) e a d p
@@ -150,7 +150,7 @@ module _ (steady : Bool) (e : LifeEvent) (p : Part) (a : LifeAct) (d l : Life) (
     pub moved : record p { fitted = f2; life = c2; owed = owed2; stop = stop2; next = n2 } ≡ lived steady e p
     moved =
         by_again again refl
-        ∙ ap (λ (q : Part). if again then replaced q else q) settles
+        ∙ ap (λ (q : ComponentState). if again then replaced q else q) settles
         ∙ ap (λ (b : Bool). let q = settled_part (steady && succeeds_from p.life.state p.life.busy d.state) e a d p in if b then replaced q else q) again_is
         ∙ sym (lived_row steady e p a d row)
 

@@ -15,7 +15,7 @@ use Rattle.lifecycle.specs.declared.kinds.LifeAct.TheVariants as act
 use Rattle.lifecycle.specs.declared.kinds.LifeEvent.{LifeEvent}
 use Rattle.lifecycle.specs.declared.kinds.LifeEvent.TheVariants as event
 use Rattle.components.specs.Fitted.{Fitted, steps_of}
-use Rattle.components.specs.World.{World, Part, At, changed_at, is_again, is_to_stop, is_up, has_orphan, stands_up, part_name}
+use Rattle.components.specs.Components.{Components, ComponentState, At, changed_at, is_again, is_to_stop, is_up, has_orphan, stands_up, component_name}
 use Rattle.components.specs.Marks.{flagged_at, restarted, may_restart}
 use Rattle.components.specs.Lives.{lived, lived_at, drops, replaced}
 use Rattle.components.specs.Rows.{owed_after, stop_after, succeeds_from, completed_from}
@@ -29,19 +29,19 @@ use Rattle.components.proofs.Whole.{lived_follows}
 
 -- ---- one component
 
-replaced_owed : (q : Part) (o : Option (Fitted × ℕ)) → (let r : Part = elim o [ None ↦ q | Some n ↦ record q { fitted = n.0; life = record q.life { steps = steps_of n.0; failures = n.1 }; next = None } ] in r.owed ≡ q.owed)
+replaced_owed : (q : ComponentState) (o : Option (Fitted × ℕ)) → (let r : ComponentState = elim o [ None ↦ q | Some n ↦ record q { fitted = n.0; life = record q.life { steps = steps_of n.0; failures = n.1 }; next = None } ] in r.owed ≡ q.owed)
 replaced_owed q None = refl
 replaced_owed q (Some n) = refl
 
-replaced_stop : (q : Part) (o : Option (Fitted × ℕ)) → (let r : Part = elim o [ None ↦ q | Some n ↦ record q { fitted = n.0; life = record q.life { steps = steps_of n.0; failures = n.1 }; next = None } ] in r.stop ≡ q.stop)
+replaced_stop : (q : ComponentState) (o : Option (Fitted × ℕ)) → (let r : ComponentState = elim o [ None ↦ q | Some n ↦ record q { fitted = n.0; life = record q.life { steps = steps_of n.0; failures = n.1 }; next = None } ] in r.stop ≡ q.stop)
 replaced_stop q None = refl
 replaced_stop q (Some n) = refl
 
-if_owed : (b : Bool) (p q : Part) (o : Option (Step × Exit)) → p.owed ≡ o → q.owed ≡ o → (if b then p else q).owed ≡ o
+if_owed : (b : Bool) (p q : ComponentState) (o : Option (Step × Exit)) → p.owed ≡ o → q.owed ≡ o → (if b then p else q).owed ≡ o
 if_owed true p q o e f = e
 if_owed false p q o e f = f
 
-if_stop : (b : Bool) (p q : Part) (o : Option After) → p.stop ≡ o → q.stop ≡ o → (if b then p else q).stop ≡ o
+if_stop : (b : Bool) (p q : ComponentState) (o : Option After) → p.stop ≡ o → q.stop ≡ o → (if b then p else q).stop ≡ o
 if_stop true p q o e f = e
 if_stop false p q o e f = f
 
@@ -52,19 +52,19 @@ owed_none act.Kill s o e = refl
 owed_none (act.Failed t x) s o e = absurd (cc)
 owed_none (act.Broke t x) s o e = absurd (cc)
 
-module _ (b : Bool) (e : LifeEvent) (p : Part) (a : LifeAct) (d : Life) (row : table p.life e ≡ Some (a, d)) where
-  abbrev mid : Part
+module _ (b : Bool) (e : LifeEvent) (p : ComponentState) (a : LifeAct) (d : Life) (row : table p.life e ≡ Some (a, d)) where
+  abbrev mid : ComponentState
   mid = settled_part (b && succeeds_from p.life.state p.life.busy d.state) e a d p
 
   lived_owed : is_failure a ≡ false → (lived b e p).owed ≡ p.owed
   lived_owed f =
       let o : mid.owed ≡ p.owed = owed_none a _ p.owed f in
-      ap (λ (q : Part). q.owed) (lived_row b e p a d row)
+      ap (λ (q : ComponentState). q.owed) (lived_row b e p a d row)
       ∙ if_owed (is_again (completed_from e p.life.state p.life.stop d.state)) (replaced mid) mid p.owed (replaced_owed mid mid.next ∙ o) o
 
   lived_stop : (lived b e p).stop ≡ stop_after e p.stop
   lived_stop =
-      ap (λ (q : Part). q.stop) (lived_row b e p a d row)
+      ap (λ (q : ComponentState). q.stop) (lived_row b e p a d row)
       ∙ if_stop (is_again (completed_from e p.life.state p.life.stop d.state)) (replaced mid) mid (stop_after e p.stop) (replaced_stop mid mid.next) refl
 
   lived_work : life_work (lived b e p).life ≡ life_work d
@@ -74,7 +74,7 @@ module _ (b : Bool) (e : LifeEvent) (p : Part) (a : LifeAct) (d : Life) (row : t
       ∙ ap (λ (s : State). if is_some d.busy then 0 else state_work s) f.state
 
 -- it owes no more, less is to be done, and nobody is to be stopped for it
-pub record IsQuietly (b : Bool) (e : LifeEvent) (p : Part) : Type 0 where
+pub record IsQuietly (b : Bool) (e : LifeEvent) (p : ComponentState) : Type 0 where
   pub owed : (lived b e p).owed ≡ p.owed
   pub less : part_work (lived b e p) < part_work p
   pub stays : drops b e p ≡ false
@@ -84,7 +84,7 @@ row_of P None h = absurd h
 row_of P (Some r) h = (r, refl, h)
 
 -- without a stop
-plainly : (b : Bool) (e : LifeEvent) (p : Part) → stop_after e p.stop ≡ p.stop → IsSomeAnd (table p.life e) (λ r. (is_failure r.0 ≡ false) × (life_work r.1 < life_work p.life) × (is_up p.life.state ≡ false)) → IsQuietly b e p
+plainly : (b : Bool) (e : LifeEvent) (p : ComponentState) → stop_after e p.stop ≡ p.stop → IsSomeAnd (table p.life e) (λ r. (is_failure r.0 ≡ false) × (life_work r.1 < life_work p.life) × (is_up p.life.state ≡ false)) → IsQuietly b e p
 plainly b e p s h =
     let x = row_of (λ r. (is_failure r.0 ≡ false) × (life_work r.1 < life_work p.life) × (is_up p.life.state ≡ false)) (table p.life e) h in
     let r : LifeAct × Life = x.0 in
@@ -101,7 +101,7 @@ plainly b e p s h =
 not_of : (b : Bool) → b ≡ true → not b ≡ false
 not_of b e = rw e refl
 
-with_stop : (b : Bool) (a : After) (p : Part) → p.stop ≡ Some a → is_awaited (event.Stop a) p.life ≡ true → IsQuietly b (event.Stop a) p
+with_stop : (b : Bool) (a : After) (p : ComponentState) → p.stop ≡ Some a → is_awaited (event.Stop a) p.life ≡ true → IsQuietly b (event.Stop a) p
 with_stop b a p s h =
     let x = row_of (λ r. (is_failure r.0 ≡ false) × (life_work r.1 < 4)) (table p.life (event.Stop a)) (stop_row p.life a h) in
     let r : LifeAct × Life = x.0 in
@@ -118,14 +118,14 @@ with_stop b a p s h =
       stays = and_right (is_up p.life.state) (not (is_up (lived b (event.Stop a) p).life.state) && not (is_to_stop p)) (and_right (not (is_up (lived b (event.Stop a) p).life.state)) (not (is_to_stop p)) (not_of (is_to_stop p) t));
     }
 
-pub stop_awaited : (w : World) (p : Part) (a : After) → p.stop ≡ Some a → may_stop w p ≡ true → is_awaited (event.Stop a) p.life ≡ true
+pub stop_awaited : (w : Components) (p : ComponentState) (a : After) → p.stop ≡ Some a → may_stop w p ≡ true → is_awaited (event.Stop a) p.life ≡ true
 stop_awaited w p a e m =
-    let x : ((is_awaited (event.Stop a) p.life && not (has_orphan p || is_unstarted p)) && not (is_held (part_name p) w.parts)) ≡ true
-    = subst (λ (o : Option After). (elim o [ None ↦ false | Some b ↦ (is_awaited (event.Stop b) p.life && not (has_orphan p || is_unstarted p)) && not (is_held (part_name p) w.parts) ]) ≡ true) e m in
-    (and_parts (is_awaited (event.Stop a) p.life) (not (has_orphan p || is_unstarted p)) (and_parts (is_awaited (event.Stop a) p.life && not (has_orphan p || is_unstarted p)) (not (is_held (part_name p) w.parts)) x).0).0
+    let x : ((is_awaited (event.Stop a) p.life && not (has_orphan p || is_unstarted p)) && not (is_held (component_name p) w.parts)) ≡ true
+    = subst (λ (o : Option After). (elim o [ None ↦ false | Some b ↦ (is_awaited (event.Stop b) p.life && not (has_orphan p || is_unstarted p)) && not (is_held (component_name p) w.parts) ]) ≡ true) e m in
+    (and_parts (is_awaited (event.Stop a) p.life) (not (has_orphan p || is_unstarted p)) (and_parts (is_awaited (event.Stop a) p.life && not (has_orphan p || is_unstarted p)) (not (is_held (component_name p) w.parts)) x).0).0
 
 -- in its turn
-pub quiet_at : (w : World) (k : ℕ) (e : LifeEvent) → MayMove w k e → At k (IsQuietly w.steady e) w.parts
+pub quiet_at : (w : Components) (k : ℕ) (e : LifeEvent) → MayMove w k e → At k (IsQuietly w.steady e) w.parts
 quiet_at w k event.MayBegin h = at_more (λ p. may_begin w p ≡ true) (IsQuietly w.steady event.MayBegin) w.parts k (λ p m.
     let x = and_parts (is_awaited event.MayBegin p.life && not (is_to_stop p)) (list_all (is_met stands_up w.parts) p.fitted.hard && list_all (is_met serves_softly w.parts) p.fitted.soft) m in
     plainly w.steady event.MayBegin p refl (begin_row p.life (and_parts (is_awaited event.MayBegin p.life) (not (is_to_stop p)) x.0).0)) h
@@ -137,7 +137,7 @@ quiet_at w k event.Launched h = absurd h
 quiet_at w k event.Skipped h = absurd h
 quiet_at w k (event.Ended s x) h = absurd h
 
-pub move_no_launch : (w : World) (k : ℕ) (e : LifeEvent) → MayMove w k e → is_launch e ≡ false
+pub move_no_launch : (w : Components) (k : ℕ) (e : LifeEvent) → MayMove w k e → is_launch e ≡ false
 move_no_launch w k event.MayBegin h = refl
 move_no_launch w k event.Retry h = refl
 move_no_launch w k (event.Stop a) h = refl
@@ -147,28 +147,28 @@ move_no_launch w k (event.Ended s x) h = absurd h
 
 -- ---- all components
 
-owes_changed : (b : Bool) (e : LifeEvent) (k : ℕ) (ps : List Part) → At k (IsQuietly b e) ps → list_any owes (changed_at k (lived b e) ps) ≡ list_any owes ps
+owes_changed : (b : Bool) (e : LifeEvent) (k : ℕ) (ps : List ComponentState) → At k (IsQuietly b e) ps → list_any owes (changed_at k (lived b e) ps) ≡ list_any owes ps
 owes_changed b e k [] h = refl
 owes_changed b e zero (p ∷ ps) h = ap (λ (o : Option (Step × Exit)). is_some o || list_any owes ps) h.owed
 owes_changed b e (suc k) (p ∷ ps) h = ap (λ (x : Bool). owes p || x) (owes_changed b e k ps h)
 
-work_changed : (b : Bool) (e : LifeEvent) (k : ℕ) (ps : List Part) → At k (IsQuietly b e) ps → work (changed_at k (lived b e) ps) < work ps
+work_changed : (b : Bool) (e : LifeEvent) (k : ℕ) (ps : List ComponentState) → At k (IsQuietly b e) ps → work (changed_at k (lived b e) ps) < work ps
 work_changed b e k [] h = absurd h
 work_changed b e zero (p ∷ ps) h = let l = h.less in omega (arith, l)
 work_changed b e (suc k) (p ∷ ps) h = let i = work_changed b e k ps h in omega (arith, i)
 
-no_drop : (b : Bool) (e : LifeEvent) (o : Option Part) → IsSomeAnd o (IsQuietly b e) → (elim o [ None ↦ false | Some p ↦ drops b e p ]) ≡ false
+no_drop : (b : Bool) (e : LifeEvent) (o : Option ComponentState) → IsSomeAnd o (IsQuietly b e) → (elim o [ None ↦ false | Some p ↦ drops b e p ]) ≡ false
 no_drop b e None h = refl
 no_drop b e (Some p) h = h.stays
 
-pub move_owes : (w : World) (k : ℕ) (e : LifeEvent) → MayMove w k e → list_any owes w.parts ≡ false → list_any owes (lived_at k e w).parts ≡ false
+pub move_owes : (w : Components) (k : ℕ) (e : LifeEvent) → MayMove w k e → list_any owes w.parts ≡ false → list_any owes (lived_at k e w).parts ≡ false
 move_owes w k e m h =
     let q = quiet_at w k e m in
-    let ps : List Part = changed_at k (lived w.steady e) w.parts in
+    let ps : List ComponentState = changed_at k (lived w.steady e) w.parts in
     subst (λ (b : Bool). list_any owes (if b then restarted may_restart (flagged_at k ps) else ps) ≡ false) (sym (no_drop w.steady e (slice_get w.parts k) q)) (owes_changed w.steady e k w.parts q ∙ h)
 
-pub move_works : (w : World) (k : ℕ) (e : LifeEvent) → MayMove w k e → work (lived_at k e w).parts < work w.parts
+pub move_works : (w : Components) (k : ℕ) (e : LifeEvent) → MayMove w k e → work (lived_at k e w).parts < work w.parts
 move_works w k e m =
     let q = quiet_at w k e m in
-    let ps : List Part = changed_at k (lived w.steady e) w.parts in
+    let ps : List ComponentState = changed_at k (lived w.steady e) w.parts in
     subst (λ (b : Bool). work (if b then restarted may_restart (flagged_at k ps) else ps) < work w.parts) (sym (no_drop w.steady e (slice_get w.parts k) q)) (work_changed w.steady e k w.parts q)

@@ -8,7 +8,7 @@ use Rattle.components.specs.Numbers.{among, is_above, number_above, least_above,
 use Rattle.components.specs.Readied.{AreApart}
 use Rattle.nuc_base.specs.declared.kinds.Step.{Step}
 use Rattle.components.specs.Answers.{living_numbers, child_numbers, IsLivingAt, IsNextLiving}
-use Rattle.components.specs.World.{World, Part, Child, owner, owner_from, child_of}
+use Rattle.components.specs.Components.{Components, ComponentState, Child, owner, owner_from, child_of}
 use Rattle.components.proofs.Apart.{no_child}
 use Rattle.components.proofs.Deadline.{earlier_assoc}
 
@@ -151,11 +151,11 @@ least_append last (x ∷ xs) ys =
     ap (λ (o : Option ℕ). earlier (number_above last x) o) (least_append last xs ys)
     ∙ sym (earlier_assoc (number_above last x) (least_above last xs) (least_above last ys))
 
-pub number_next : (last : Option ℕ) (ps : List Part) (k : ℕ) (d : Part) (o r : Option ℕ) (cs : List Child) → k < length ps → d ≡ get_or ps k d → cs ≡ d.children → r ≡ earlier o (least_above last (child_numbers cs))
+pub number_next : (last : Option ℕ) (ps : List ComponentState) (k : ℕ) (d : ComponentState) (o r : Option ℕ) (cs : List Child) → k < length ps → d ≡ get_or ps k d → cs ≡ d.children → r ≡ earlier o (least_above last (child_numbers cs))
     → earlier o (least_above last (living_numbers (drop k ps))) ≡ earlier r (least_above last (living_numbers (drop (k + 1) ps)))
 number_next last [] k d o r cs l e f g = absurd (omega (arith, l))
 number_next last (p ∷ ps) zero d o r cs l e f g =
-    let q : cs ≡ p.children = f ∙ ap (λ (x : Part). x.children) e in
+    let q : cs ≡ p.children = f ∙ ap (λ (x : ComponentState). x.children) e in
     ap (λ (x : Option ℕ). earlier o x) (least_append last (child_numbers p.children) (living_numbers ps))
     ∙ sym (earlier_assoc o (least_above last (child_numbers p.children)) (least_above last (living_numbers ps)))
     ∙ ap (λ (x : Option ℕ). earlier x (least_above last (living_numbers ps))) (sym (g ∙ ap (λ (ds : List Child). earlier o (least_above last (child_numbers ds))) q))
@@ -163,7 +163,7 @@ number_next last (p ∷ ps) (suc k) d o r cs l e f g = rw (add-one (suc k)) (rw 
 
 -- ---- a number that stands there has an owner
 
-abbrev owner_at : ℕ → ℕ → List Part → Option Child → Option (ℕ × Step)
+abbrev owner_at : ℕ → ℕ → List ComponentState → Option Child → Option (ℕ × Step)
 owner_at k n ps o = elim o [ None ↦ owner_from (k + 1) n ps | Some c ↦ Some (k, c.of) ]
 
 left_among : (n : ℕ) (xs ys : List ℕ) → among n xs ≡ false → among n (xs ++ ys) ≡ true → among n ys ≡ true
@@ -173,12 +173,12 @@ left_among n (x ∷ xs) ys e f = left_at (x == n) (among n xs) (among n (xs ++ y
   left_at true b d g h k = absurd (cc)
   left_at false b d g h k = k g h
 
-owned_at : (k n : ℕ) (p : Part) (ps : List Part) (o : Option Child) → child_of n p.children ≡ o → among n (child_numbers p.children ++ living_numbers ps) ≡ true
+owned_at : (k n : ℕ) (p : ComponentState) (ps : List ComponentState) (o : Option Child) → child_of n p.children ≡ o → among n (child_numbers p.children ++ living_numbers ps) ≡ true
     → (among n (living_numbers ps) ≡ true → IsSome (owner_from (k + 1) n ps)) → IsSome (owner_at k n ps o)
 owned_at k n p ps (Some c) h e f = refl
 owned_at k n p ps None h e f = f (left_among n (child_numbers p.children) (living_numbers ps) (no_child n p.children h) e)
 
-pub owned : (k n : ℕ) (ps : List Part) → among n (living_numbers ps) ≡ true → IsSome (owner_from k n ps)
+pub owned : (k n : ℕ) (ps : List ComponentState) → among n (living_numbers ps) ≡ true → IsSome (owner_from k n ps)
 owned k n [] e = absurd (cc)
 owned k n (p ∷ ps) e = owned_at k n p ps (child_of n p.children) refl e (owned (k + 1) n ps)
 
@@ -189,7 +189,7 @@ below_filter n (x ∷ xs) = below_at (nat_lt x n) (below_filter n xs) where
   below_at true e = omega (arith, e)
   below_at false e = omega (arith, e)
 
-pub living_is : (w : World) (at : ℕ) (r : Option ℕ) → IsNumberAt (living_numbers w.parts) at r → IsLivingAt w at r
+pub living_is : (w : Components) (at : ℕ) (r : Option ℕ) → IsNumberAt (living_numbers w.parts) at r → IsLivingAt w at r
 living_is w at None h = h
 living_is w at (Some n) h = (owned 0 n w.parts h.0, below_filter n (living_numbers w.parts) ∙ h.1)
 
@@ -213,12 +213,12 @@ among_back : (n : ℕ) (xs ys : List ℕ) → among n ys ≡ true → among n (x
 among_back n [] ys e = e
 among_back n (x ∷ xs) ys e = or_last (x == n) (among n (xs ++ ys)) (among_back n xs ys e)
 
-owner_stands_at : (k n : ℕ) (p : Part) (ps : List Part) (o : Option Child) → child_of n p.children ≡ o → IsSome (owner_at k n ps o) → (IsSome (owner_from (k + 1) n ps) → among n (living_numbers ps) ≡ true)
+owner_stands_at : (k n : ℕ) (p : ComponentState) (ps : List ComponentState) (o : Option Child) → child_of n p.children ≡ o → IsSome (owner_at k n ps o) → (IsSome (owner_from (k + 1) n ps) → among n (living_numbers ps) ≡ true)
     → among n (child_numbers p.children ++ living_numbers ps) ≡ true
 owner_stands_at k n p ps None q e i = among_back n (child_numbers p.children) (living_numbers ps) (i e)
 owner_stands_at k n p ps (Some c) q e i = among_front n (child_numbers p.children) (living_numbers ps) (has_number n p.children c q)
 
-pub owner_stands : (k n : ℕ) (ps : List Part) → IsSome (owner_from k n ps) → among n (living_numbers ps) ≡ true
+pub owner_stands : (k n : ℕ) (ps : List ComponentState) → IsSome (owner_from k n ps) → among n (living_numbers ps) ≡ true
 owner_stands k n [] e = absurd (cc)
 owner_stands k n (p ∷ ps) e = owner_stands_at k n p ps (child_of n p.children) refl e (owner_stands (k + 1) n ps)
 
@@ -231,9 +231,9 @@ one_of P n (x ∷ xs) a e = one_at (x == n) refl e (one_of P n xs a.1) where
   one_at true q h i = subst P (eqb-true x n q) a.0
   one_at false q h i = i h
 
-living_by : (w : World) (last r : Option ℕ) → MatchOption r (NoneAbove last (living_numbers w.parts)) (IsLeastAbove last (living_numbers w.parts)) → IsNextLiving w last r
+living_by : (w : Components) (last r : Option ℕ) → MatchOption r (NoneAbove last (living_numbers w.parts)) (IsLeastAbove last (living_numbers w.parts)) → IsNextLiving w last r
 living_by w last None h = λ n o. one_of (λ x. is_above last x ≡ false) n (living_numbers w.parts) h (owner_stands 0 n w.parts o)
 living_by w last (Some m) h = (owned 0 m w.parts h.1, h.0, (λ n o above. one_of (λ x. is_above last x ≡ true → m ≤ x) n (living_numbers w.parts) h.2 (owner_stands 0 n w.parts o) above))
 
-pub next_living : (w : World) (last r : Option ℕ) → r ≡ least_above last (living_numbers w.parts) → IsNextLiving w last r
+pub next_living : (w : Components) (last r : Option ℕ) → r ≡ least_above last (living_numbers w.parts) → IsNextLiving w last r
 next_living w last r is = subst (IsNextLiving w last) (sym is) (living_by w last (least_above last (living_numbers w.parts)) (least_is last (living_numbers w.parts)))

@@ -12,7 +12,7 @@ use Rattle.lifecycle.specs.declared.kinds.LifeEvent.{LifeEvent}
 use Rattle.lifecycle.specs.declared.kinds.LifeEvent.TheVariants as event
 use Rattle.lifecycle.specs.declared.kinds.LifeAct.{LifeAct}
 use Rattle.lifecycle.specs.declared.kinds.LifeAct.TheVariants as act
-use Rattle.components.specs.World.{is_up}
+use Rattle.components.specs.Components.{is_up}
 use Rattle.components.specs.Whole.{life_work}
 
 abbrev pub is_launch : LifeEvent → Bool

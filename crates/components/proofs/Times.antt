@@ -4,11 +4,11 @@ use Rattle.nuc_base.specs.declared.kinds.Step.{Step}
 use Rattle.nuc_base.specs.declared.kinds.Exit.{Exit}
 use Rattle.lifecycle.specs.declared.kinds.LifeEvent.{LifeEvent}
 use Rattle.lifecycle.specs.declared.kinds.LifeEvent.TheVariants as life
-use Rattle.components.specs.World.{World, child_gone}
+use Rattle.components.specs.Components.{Components, child_gone}
 use Rattle.components.specs.Lives.{lived_at}
 use Rattle.components.specs.Events.{gone_by, is_orphan_at, later}
 
-module _ (n m : ℕ) (w : World) where
+module _ (n m : ℕ) (w : Components) where
   by_orphan : (b : Bool) (e : LifeEvent) (k : ℕ)
       → (if b then child_gone k n (later m w) else lived_at k e (child_gone k n (later m w))) ≡ later m (if b then child_gone k n w else lived_at k e (child_gone k n w))
   by_orphan true e k = refl

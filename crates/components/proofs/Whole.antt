@@ -13,7 +13,7 @@ use Rattle.lifecycle.specs.declared.kinds.LifeAct.{LifeAct}
 use Rattle.lifecycle.specs.declared.kinds.LifeEvent.{LifeEvent}
 use Rattle.lifecycle.specs.declared.kinds.LifeEvent.TheVariants as event
 use Rattle.components.specs.Fitted.{Fitted, steps_of}
-use Rattle.components.specs.World.{World, Part, Child, changed_at, is_again, child_of}
+use Rattle.components.specs.Components.{Components, ComponentState, Child, changed_at, is_again, child_of}
 use Rattle.components.specs.Marks.{Flagged, flagged, flagged_at, grown, reaching, marked, restarted, may_restart}
 use Rattle.components.specs.Lives.{lived, lived_at, drops_at, replaced}
 use Rattle.components.specs.Rows.{succeeds_from, completed_from}
@@ -26,35 +26,35 @@ use Rattle.components.proofs.Tables.{is_launch, after, may_row, runs_row, run_en
 -- ---- one component after an event
 
 -- all but its failures and its steps is as the row has it
-pub record Follows (d : Life) (p q : Part) : Type 0 where
+pub record Follows (d : Life) (p q : ComponentState) : Type 0 where
   pub state : q.life.state ≡ d.state
   pub busy : q.life.busy ≡ d.busy
   pub runs : q.life.runs ≡ d.runs
   pub gone : q.life.gone ≡ d.gone
   pub children : q.children ≡ p.children
 
-settled_follows : (b : Bool) (e : LifeEvent) (a : LifeAct) (d : Life) (p : Part) → Follows d p (settled_part b e a d p)
+settled_follows : (b : Bool) (e : LifeEvent) (a : LifeAct) (d : Life) (p : ComponentState) → Follows d p (settled_part b e a d p)
 settled_follows true e a d p = record { state = refl; busy = refl; runs = refl; gone = refl; children = refl }
 settled_follows false e a d p = record { state = refl; busy = refl; runs = refl; gone = refl; children = refl }
 
-replaced_follows : (d : Life) (p q : Part) (o : Option (Fitted × ℕ)) → Follows d p q
+replaced_follows : (d : Life) (p q : ComponentState) (o : Option (Fitted × ℕ)) → Follows d p q
     → Follows d p (elim o [ None ↦ q | Some n ↦ record q { fitted = n.0; life = record q.life { steps = steps_of n.0; failures = n.1 }; next = None } ])
 replaced_follows d p q None f = f
 replaced_follows d p q (Some x) f = record { state = f.state; busy = f.busy; runs = f.runs; gone = f.gone; children = f.children }
 
-if_follows : (b : Bool) (d : Life) (p q r : Part) → Follows d p q → Follows d p r → Follows d p (if b then q else r)
+if_follows : (b : Bool) (d : Life) (p q r : ComponentState) → Follows d p q → Follows d p r → Follows d p (if b then q else r)
 if_follows true d p q r f g = f
 if_follows false d p q r f g = g
 
-pub lived_follows : (b : Bool) (e : LifeEvent) (p : Part) (a : LifeAct) (d : Life) → table p.life e ≡ Some (a, d) → Follows d p (lived b e p)
+pub lived_follows : (b : Bool) (e : LifeEvent) (p : ComponentState) (a : LifeAct) (d : Life) → table p.life e ≡ Some (a, d) → Follows d p (lived b e p)
 lived_follows b e p a d t =
     let s : Bool = b && succeeds_from p.life.state p.life.busy d.state in
-    let q : Part = settled_part s e a d p in
+    let q : ComponentState = settled_part s e a d p in
     let f = settled_follows s e a d p in
     subst (Follows d p) (sym (lived_row b e p a d t))
     (if_follows (is_again (completed_from e p.life.state p.life.stop d.state)) d p (replaced q) q (replaced_follows d p q q.next f) f)
 
-lived_as : (b : Bool) (e : LifeEvent) (p : Part) (o : Option (LifeAct × Life)) → table p.life e ≡ o → Follows (elim o [ None ↦ p.life | Some r ↦ r.1 ]) p (lived b e p)
+lived_as : (b : Bool) (e : LifeEvent) (p : ComponentState) (o : Option (LifeAct × Life)) → table p.life e ≡ o → Follows (elim o [ None ↦ p.life | Some r ↦ r.1 ]) p (lived b e p)
 lived_as b e p None t = subst (Follows p.life p) (sym (lived_none b e p t)) (record { state = refl; busy = refl; runs = refl; gone = refl; children = refl })
 lived_as b e p (Some r) t = lived_follows b e p r.0 r.1 t
 
@@ -64,7 +64,7 @@ after_may c None h i = h
 after_may c (Some r) h i = i
 
 -- it is whole after an event, where its run child lives on
-pub lived_whole : (b : Bool) (e : LifeEvent) (p : Part) → may_run p.life.state p.life.runs ≡ true → keeps_run (after e p.life) p.children ≡ true → IsWhole (lived b e p)
+pub lived_whole : (b : Bool) (e : LifeEvent) (p : ComponentState) → may_run p.life.state p.life.runs ≡ true → keeps_run (after e p.life) p.children ≡ true → IsWhole (lived b e p)
 lived_whole b e p may run =
     let f = lived_as b e p (table p.life e) refl in
     let m = after_may p.life (table p.life e) may (may_row p.life e may) in
@@ -146,65 +146,65 @@ apart_first [] ys a = tt
 apart_first (x ∷ xs) ys a = (among_first x xs ys a.0, apart_first xs ys a.1)
 
 -- the children of one component are apart
-pub apart_at : (k : ℕ) (ps : List Part) (p : Part) → AreApart (living_numbers ps) → slice_get ps k ≡ Some p → AreApart (child_numbers p.children)
+pub apart_at : (k : ℕ) (ps : List ComponentState) (p : ComponentState) → AreApart (living_numbers ps) → slice_get ps k ≡ Some p → AreApart (child_numbers p.children)
 apart_at k [] p a e = absurd (cc)
-apart_at zero (q ∷ ps) p a e = let r : q ≡ p = cc in subst (λ (x : Part). AreApart (child_numbers x.children)) r (apart_first (child_numbers q.children) (living_numbers ps) a)
+apart_at zero (q ∷ ps) p a e = let r : q ≡ p = cc in subst (λ (x : ComponentState). AreApart (child_numbers x.children)) r (apart_first (child_numbers q.children) (living_numbers ps) a)
 apart_at (suc k) (q ∷ ps) p a e = apart_at k ps p (apart_last (child_numbers q.children) (living_numbers ps) a) e
 
 -- ---- all components
 
-pub each_at : (P : Part → Type 0) (k : ℕ) (ps : List Part) (p : Part) → AllByRecursion P ps → slice_get ps k ≡ Some p → P p
+pub each_at : (P : ComponentState → Type 0) (k : ℕ) (ps : List ComponentState) (p : ComponentState) → AllByRecursion P ps → slice_get ps k ≡ Some p → P p
 each_at P k [] p a e = absurd (cc)
 each_at P zero (q ∷ ps) p a e = let r : q ≡ p = cc in subst P r a.0
 each_at P (suc k) (q ∷ ps) p a e = each_at P k ps p a.1 e
 
 -- one changes and is whole
-pub changed_whole : (f : Part → Part) (k : ℕ) (ps : List Part) → AreWhole ps → ((p : Part) → slice_get ps k ≡ Some p → IsWhole p → IsWhole (f p)) → AreWhole (changed_at k f ps)
+pub changed_whole : (f : ComponentState → ComponentState) (k : ℕ) (ps : List ComponentState) → AreWhole ps → ((p : ComponentState) → slice_get ps k ≡ Some p → IsWhole p → IsWhole (f p)) → AreWhole (changed_at k f ps)
 changed_whole f k [] a g = tt
 changed_whole f zero (p ∷ ps) a g = (g p refl a.0, a.1)
 changed_whole f (suc k) (p ∷ ps) a g = (a.0, changed_whole f k ps a.1 g)
 
-pub mapped_whole : (f : Part → Part) → ((p : Part) → IsWhole p → IsWhole (f p)) → (ps : List Part) → AreWhole ps → AreWhole (map f ps)
+pub mapped_whole : (f : ComponentState → ComponentState) → ((p : ComponentState) → IsWhole p → IsWhole (f p)) → (ps : List ComponentState) → AreWhole ps → AreWhole (map f ps)
 mapped_whole f g [] a = tt
 mapped_whole f g (p ∷ ps) a = (g p a.0, mapped_whole f g ps a.1)
 
-pub twice : (k : ℕ) (f g : Part → Part) (ps : List Part) → changed_at k f (changed_at k g ps) ≡ changed_at k (λ p. f (g p)) ps
+pub twice : (k : ℕ) (f g : ComponentState → ComponentState) (ps : List ComponentState) → changed_at k f (changed_at k g ps) ≡ changed_at k (λ p. f (g p)) ps
 twice k f g [] = refl
 twice zero f g (p ∷ ps) = refl
-twice (suc k) f g (p ∷ ps) = ap (λ (qs : List Part). p ∷ qs) (twice k f g ps)
+twice (suc k) f g (p ∷ ps) = ap (λ (qs : List ComponentState). p ∷ qs) (twice k f g ps)
 
 -- ---- with the marks of an error
 
-abbrev firsts : Flagged → List Part
+abbrev firsts : Flagged → List ComponentState
 firsts [] = []
 firsts (f ∷ fs) = f.0 ∷ firsts fs
 
 firsts_grown : (all fs : Flagged) → firsts (grown all fs) ≡ firsts fs
 firsts_grown all [] = refl
-firsts_grown all (f ∷ fs) = ap (λ (ps : List Part). f.0 ∷ ps) (firsts_grown all fs)
+firsts_grown all (f ∷ fs) = ap (λ (ps : List ComponentState). f.0 ∷ ps) (firsts_grown all fs)
 
 firsts_reaching : (n : ℕ) (fs : Flagged) → firsts (reaching n fs) ≡ firsts fs
 firsts_reaching zero fs = refl
 firsts_reaching (suc n) fs = firsts_reaching n (grown fs fs) ∙ firsts_grown fs fs
 
-firsts_flagged : (test : Part → Bool) (ps : List Part) → firsts (flagged test ps) ≡ ps
+firsts_flagged : (test : ComponentState → Bool) (ps : List ComponentState) → firsts (flagged test ps) ≡ ps
 firsts_flagged test [] = refl
-firsts_flagged test (p ∷ ps) = ap (λ (qs : List Part). p ∷ qs) (firsts_flagged test ps)
+firsts_flagged test (p ∷ ps) = ap (λ (qs : List ComponentState). p ∷ qs) (firsts_flagged test ps)
 
-firsts_at : (k : ℕ) (ps : List Part) → firsts (flagged_at k ps) ≡ ps
+firsts_at : (k : ℕ) (ps : List ComponentState) → firsts (flagged_at k ps) ≡ ps
 firsts_at k [] = refl
-firsts_at zero (p ∷ ps) = ap (λ (qs : List Part). p ∷ qs) (firsts_flagged (λ q. false) ps)
-firsts_at (suc k) (p ∷ ps) = ap (λ (qs : List Part). p ∷ qs) (firsts_at k ps)
+firsts_at zero (p ∷ ps) = ap (λ (qs : List ComponentState). p ∷ qs) (firsts_flagged (λ q. false) ps)
+firsts_at (suc k) (p ∷ ps) = ap (λ (qs : List ComponentState). p ∷ qs) (firsts_at k ps)
 
-mark_one : (b : Bool) (p : Part) → IsWhole p → IsWhole (if b then record p { stop = Some after_stop.Restart } else p)
+mark_one : (b : Bool) (p : ComponentState) → IsWhole p → IsWhole (if b then record p { stop = Some after_stop.Restart } else p)
 mark_one true p h = record { may = h.may; run = h.run }
 mark_one false p h = h
 
-marked_each : (may : Part → Bool) (fs : Flagged) → AreWhole (firsts fs) → AreWhole (marked may fs)
+marked_each : (may : ComponentState → Bool) (fs : Flagged) → AreWhole (firsts fs) → AreWhole (marked may fs)
 marked_each may [] a = tt
 marked_each may (f ∷ fs) a = (mark_one (f.1 && may f.0) f.0 a.0, marked_each may fs a.1)
 
-marked_whole : (k : ℕ) (ps : List Part) → AreWhole ps → AreWhole (restarted may_restart (flagged_at k ps))
+marked_whole : (k : ℕ) (ps : List ComponentState) → AreWhole ps → AreWhole (restarted may_restart (flagged_at k ps))
 marked_whole k ps a =
     let fs : Flagged = flagged_at k ps in
     let gs : Flagged = reaching (length fs) fs in
@@ -212,33 +212,33 @@ marked_whole k ps a =
     marked_each may_restart gs (subst AreWhole (sym e) a)
 
 -- those that reach one that passes the test
-pub flagged_whole : (may test : Part → Bool) (ps : List Part) → AreWhole ps → AreWhole (restarted may (flagged test ps))
+pub flagged_whole : (may test : ComponentState → Bool) (ps : List ComponentState) → AreWhole ps → AreWhole (restarted may (flagged test ps))
 flagged_whole may test ps a =
     let fs : Flagged = flagged test ps in
     let gs : Flagged = reaching (length fs) fs in
     let e : firsts gs ≡ ps = firsts_reaching (length fs) fs ∙ firsts_flagged test ps in
     marked_each may gs (subst AreWhole (sym e) a)
 
-if_whole : (b : Bool) (ps qs : List Part) → AreWhole ps → AreWhole qs → AreWhole (if b then ps else qs)
+if_whole : (b : Bool) (ps qs : List ComponentState) → AreWhole ps → AreWhole qs → AreWhole (if b then ps else qs)
 if_whole true ps qs a c = a
 if_whole false ps qs a c = c
 
 -- an event of one, perhaps after it changed
-pub lived_at_whole : (k : ℕ) (e : LifeEvent) (f : Part → Part) (w : World) → AreWhole w.parts
-    → ((p : Part) → slice_get w.parts k ≡ Some p → IsWhole p → IsWhole (lived w.steady e (f p)))
+pub lived_at_whole : (k : ℕ) (e : LifeEvent) (f : ComponentState → ComponentState) (w : Components) → AreWhole w.parts
+    → ((p : ComponentState) → slice_get w.parts k ≡ Some p → IsWhole p → IsWhole (lived w.steady e (f p)))
     → AreWhole (lived_at k e (record w { parts = changed_at k f w.parts })).parts
 lived_at_whole k e f w a g =
-    let v : World = record w { parts = changed_at k f w.parts } in
+    let v : Components = record w { parts = changed_at k f w.parts } in
     let x : AreWhole (changed_at k (lived w.steady e) (changed_at k f w.parts)) = subst AreWhole (sym (twice k (lived w.steady e) f w.parts)) (changed_whole (λ p. lived w.steady e (f p)) k w.parts a g) in
     if_whole (drops_at k v e) (restarted may_restart (flagged_at k (changed_at k (lived w.steady e) (changed_at k f w.parts)))) (changed_at k (lived w.steady e) (changed_at k f w.parts)) (marked_whole k (changed_at k (lived w.steady e) (changed_at k f w.parts)) x) x
 
-pub same_changed : (k : ℕ) (ps : List Part) → changed_at k (λ p. p) ps ≡ ps
+pub same_changed : (k : ℕ) (ps : List ComponentState) → changed_at k (λ p. p) ps ≡ ps
 same_changed k [] = refl
 same_changed zero (p ∷ ps) = refl
-same_changed (suc k) (p ∷ ps) = ap (λ (qs : List Part). p ∷ qs) (same_changed k ps)
+same_changed (suc k) (p ∷ ps) = ap (λ (qs : List ComponentState). p ∷ qs) (same_changed k ps)
 
 -- an event of one as it is, which is no launch
-pub plain_whole : (k : ℕ) (e : LifeEvent) (w : World) → is_launch e ≡ false → AreWhole w.parts → AreWhole (lived_at k e w).parts
+pub plain_whole : (k : ℕ) (e : LifeEvent) (w : Components) → is_launch e ≡ false → AreWhole w.parts → AreWhole (lived_at k e w).parts
 plain_whole k e w l a =
-    subst (λ (ps : List Part). AreWhole (lived_at k e (record w { parts = ps })).parts) (same_changed k w.parts)
+    subst (λ (ps : List ComponentState). AreWhole (lived_at k e (record w { parts = ps })).parts) (same_changed k w.parts)
     (lived_at_whole k e (λ p. p) w a (λ p i h. lived_whole w.steady e p h.may (other_keeps e p.life p.children p.children l h.run (λ x. x))))

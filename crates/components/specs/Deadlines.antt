@@ -1,6 +1,6 @@
 -- Until when a step may take.
 use Rattle.std.specs.Prelude.{ℕ, ◌+◌, ◌-◌, ◌^◌, Bool, false, nat_le, List, [], ◌∷◌, min, Option, Some, None}
-use Rattle.components.specs.World.{Child, Part, World}
+use Rattle.components.specs.Components.{Child, ComponentState, Components}
 
 -- the deadline of a step with a limit, which was started at this moment
 abbrev pub deadline_after : Option ℕ → ℕ → Option ℕ
@@ -20,12 +20,12 @@ abbrev pub child_deadline : List Child → Option ℕ
 child_deadline [] = None
 child_deadline (c ∷ cs) = earlier c.deadline (child_deadline cs)
 
-abbrev pub least_of : List Part → Option ℕ
+abbrev pub least_of : List ComponentState → Option ℕ
 least_of [] = None
 least_of (p ∷ ps) = earlier (child_deadline p.children) (least_of ps)
 
 -- the least deadline of a living step
-abbrev pub least_deadline : World → Option ℕ
+abbrev pub least_deadline : Components → Option ℕ
 least_deadline w = least_of w.parts
 
 -- the time to it, or 1,000 ms

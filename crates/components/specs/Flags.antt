@@ -1,9 +1,9 @@
 -- Components beside their flags.
 use Rattle.std.specs.Prelude.{◌≡◌, ◌<◌, ℕ, ◌+◌, Bool, true, false, not, ◌&&◌, List, [], ◌∷◌, length, get_or, if◌then◌else◌}
-use Rattle.components.specs.World.{Part, World}
+use Rattle.components.specs.Components.{ComponentState, Components}
 use Rattle.components.specs.Marks.{Flagged, needs_flagged, Within, IsClosedBack, may_restart, may_replan}
 
-abbrev pub with_flags : List Part → List Bool → Flagged
+abbrev pub with_flags : List ComponentState → List Bool → Flagged
 with_flags [] bs = []
 with_flags (p ∷ ps) [] = []
 with_flags (p ∷ ps) (b ∷ bs) = (p, b) ∷ with_flags ps bs
@@ -14,28 +14,28 @@ free [] = 0
 free (b ∷ bs) = (if b then 0 else 1) + free bs
 
 -- whether in any state, or only in those that a failure of another stops
-abbrev pub may_by : Bool → Part → Bool
+abbrev pub may_by : Bool → ComponentState → Bool
 may_by anyway p = if anyway then may_replan p else may_restart p
 
-abbrev pub at_moment : List Part → ℕ → Bool → World
+abbrev pub at_moment : List ComponentState → ℕ → Bool → Components
 at_moment parts moment steady = record { parts = parts; moment = moment; steady = steady }
 
 -- the component has no flag yet and needs one that has
-abbrev pub joins : List Part → List Bool → ℕ → Part → Bool
+abbrev pub joins : List ComponentState → List Bool → ℕ → ComponentState → Bool
 joins ps bs at p = not (get_or bs at false) && needs_flagged p.fitted.hard (with_flags ps bs)
 
 -- whatever is closed and has the first flags has the later ones
-abbrev pub Under : List Part → List Bool → List Bool → Type 0
+abbrev pub Under : List ComponentState → List Bool → List Bool → Type 0
 Under ps old new = (hs : Flagged) → Within (with_flags ps old) hs → IsClosedBack hs → Within (with_flags ps new) hs
 
 -- some more have a flag, all of which reach one that had one
-pub record Grows (ps : List Part) (old new : List Bool) : Type 0 where
+pub record Grows (ps : List ComponentState) (old new : List Bool) : Type 0 where
   pub many : length new ≡ length old
   pub more : Within (with_flags ps old) (with_flags ps new)
   pub under : Under ps old new
 
 -- one pass: none joins any more, or fewer have no flag
-pub record Spreads (ps : List Part) (old new : List Bool) (grew : Bool) : Type 0 where
+pub record Spreads (ps : List ComponentState) (old new : List Bool) (grew : Bool) : Type 0 where
   pub many : length new ≡ length old
   pub more : Within (with_flags ps old) (with_flags ps new)
   pub under : Under ps old new

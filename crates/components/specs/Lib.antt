@@ -16,4 +16,4 @@ pub mod Readied
 pub mod Rows
 pub mod Runs
 pub mod Turns
-pub mod World
+pub mod Components

@@ -6,7 +6,7 @@ use Rattle.recipe_reader.specs.OneRecipe.{Reads}
 use Rattle.recipe_reader.specs.declared.recipe.Recipe.{Recipe}
 use Rattle.lifecycle.specs.declared.kinds.StepSet.{StepSet}
 use Rattle.components.specs.Fitted.{Fitted, steps_of}
-use Rattle.components.specs.World.{Part}
+use Rattle.components.specs.Components.{ComponentState}
 
 -- the steps that a recipe has
 abbrev pub steps_in : Recipe → StepSet
@@ -22,8 +22,8 @@ abbrev pub AllFor : Platform → List Fitted → Type 0
 AllFor platform fs = AllByRecursion (IsFor platform) fs
 
 -- so has the component's item, and the one that it is to take
-abbrev pub RunsFor : Platform → Part → Type 0
+abbrev pub RunsFor : Platform → ComponentState → Type 0
 RunsFor platform p = IsFor platform p.fitted × IfSome p.next (λ n. IsFor platform n.0)
 
-abbrev pub AllRunFor : Platform → List Part → Type 0
+abbrev pub AllRunFor : Platform → List ComponentState → Type 0
 AllRunFor platform parts = AllByRecursion (RunsFor platform) parts

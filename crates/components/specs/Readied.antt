@@ -4,7 +4,7 @@ use Rattle.std.specs.List.{AllByRecursion, Contains, list_any}
 use Rattle.std.specs.Str.{bytes_eq}
 use Rattle.components.specs.Changes.{Coming, fresh_part}
 use Rattle.components.specs.Fitted.{Fitted, name_of, steps_of, prepared_of, limit_of, is_same_item}
-use Rattle.components.specs.World.{World, Part, Child, At, part_name}
+use Rattle.components.specs.Components.{Components, ComponentState, Child, At, component_name}
 use Rattle.components.specs.Runs.{IsShort}
 use Rattle.components.specs.declared.kinds.Event.{Event}
 use Rattle.components.specs.declared.kinds.Event.TheVariants.{Started, Refused, Skipped, Ended, Passed}
@@ -16,27 +16,27 @@ pub record Readied : Type 0 where
   pub room : ℕ
 
 -- An item that a component has already has the steps that it had: one recipe says one thing on one platform.
-abbrev pub KeepSteps : List Fitted → List Part → Type 0
-KeepSteps coming parts = (f : Fitted) (p : Part) → Contains coming f → Contains parts p → is_same_item f.item p.fitted.item ≡ true → steps_of f ≡ steps_of p.fitted
+abbrev pub KeepSteps : List Fitted → List ComponentState → Type 0
+KeepSteps coming parts = (f : Fitted) (p : ComponentState) → Contains coming f → Contains parts p → is_same_item f.item p.fitted.item ≡ true → steps_of f ≡ steps_of p.fitted
 
 -- the item of a component and its failures
-abbrev pub coming_of : Part → Coming
+abbrev pub coming_of : ComponentState → Coming
 coming_of p = (p.fitted, p.life.failures)
 
 -- it is as one that did not stand before
-pub record IsFresh (p : Part) : Type 0 where
+pub record IsFresh (p : ComponentState) : Type 0 where
   pub is : p ≡ fresh_part (coming_of p)
   pub few : p.life.failures < 3
 
-abbrev pub AreFresh : List Part → Type 0
+abbrev pub AreFresh : List ComponentState → Type 0
 AreFresh ps = AllByRecursion IsFresh ps
 
 -- a deadline is at most the longest time ahead
 abbrev pub IsNear : ℕ → Child → Type 0
 IsNear moment c = IfSome c.deadline (λ d. d ≤ moment + 1000000000)
 
-abbrev pub AreNear : ℕ → List Part → Type 0
-AreNear moment parts = AllByRecursion (λ (p : Part). AllByRecursion (IsNear moment) p.children) parts
+abbrev pub AreNear : ℕ → List ComponentState → Type 0
+AreNear moment parts = AllByRecursion (λ (p : ComponentState). AllByRecursion (IsNear moment) p.children) parts
 
 -- no number stands twice
 abbrev pub AreApart : List ℕ → Type 0
@@ -49,25 +49,25 @@ AreNamesApart [] = ⊤
 AreNamesApart (n ∷ ns) = (list_any (bytes_eq n) ns ≡ false) × AreNamesApart ns
 
 -- what takes its place has its name
-abbrev pub IsNamed : Part → Type 0
-IsNamed p = IfSome p.next (λ n. name_of n.0 ≡ part_name p)
+abbrev pub IsNamed : ComponentState → Type 0
+IsNamed p = IfSome p.next (λ n. name_of n.0 ≡ component_name p)
 
 -- each has a name of its own, also once another item takes its place
-pub record HaveNames (parts : List Part) : Type 0 where
-  pub apart : AreNamesApart (map part_name parts)
+pub record HaveNames (parts : List ComponentState) : Type 0 where
+  pub apart : AreNamesApart (map component_name parts)
   pub named : AllByRecursion IsNamed parts
 
 -- what a supervisor keeps
-pub record IsKept (w : World) : Type 0 where
+pub record IsKept (w : Components) : Type 0 where
   pub few : length w.parts < 2 ^ 32
   pub time : w.moment < 2 ^ 62
   pub near : AreNear w.moment w.parts
   pub apart : AreApart (living_numbers w.parts)
-  pub names : AreNamesApart (map part_name w.parts)
+  pub names : AreNamesApart (map component_name w.parts)
   pub named : AllByRecursion IsNamed w.parts
 
 -- a step that is started has no longer limit than the longest
-abbrev pub StartsShort : Event → List Part → Type 0
+abbrev pub StartsShort : Event → List ComponentState → Type 0
 StartsShort (Started k s n) parts = At k (λ p. IsShort (limit_of (prepared_of p.fitted s))) parts
 StartsShort (Refused k s) parts = ⊤
 StartsShort (Skipped k s) parts = ⊤

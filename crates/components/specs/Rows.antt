@@ -13,7 +13,7 @@ use Rattle.lifecycle.specs.declared.kinds.LifeEvent.TheVariants as event
 use Rattle.lifecycle.specs.declared.kinds.LifeAct.{LifeAct}
 use Rattle.lifecycle.specs.declared.kinds.LifeAct.TheVariants as act
 use Rattle.components.specs.Turns.{is_unstarted}
-use Rattle.components.specs.World.{Part, has_orphan, is_to_stop, is_again, is_gone, is_finished, is_running, is_starting, stops_for_good}
+use Rattle.components.specs.Components.{ComponentState, has_orphan, is_to_stop, is_again, is_gone, is_finished, is_running, is_starting, stops_for_good}
 use Rattle.components.specs.Lives.{stop_in}
 
 -- from a state, with that step busy, to a state
@@ -44,11 +44,11 @@ abbrev pub completed_from : LifeEvent → State → Option After → State → O
 completed_from e was way now = if is_stopping now then None else (if is_stopping was then way else stop_in e)
 
 -- its stop may be given, but for those that need it
-abbrev pub is_stop_ready : Part → Bool
+abbrev pub is_stop_ready : ComponentState → Bool
 is_stop_ready p = elim p.stop [ None ↦ false | Some a ↦ is_awaited (event.Stop a) p.life && not (has_orphan p || is_unstarted p) ]
 
 -- it may begin, but for what it needs
-abbrev pub is_begin_ready : Part → Bool
+abbrev pub is_begin_ready : ComponentState → Bool
 is_begin_ready p = is_awaited event.MayBegin p.life && not (is_to_stop p)
 
 -- the item, and the failures, that one with this item takes once it is stopped with Again; None is its own item

@@ -8,7 +8,7 @@ use Rattle.interpolation.specs.declared.scope.Scope.{Scope}
 use Rattle.records.specs.Stored.{Item}
 use Rattle.components.specs.Fitted.{Fitted, limit_of, steps_of}
 use Rattle.components.specs.Made.{IsPrepared, hard_names, soft_names}
-use Rattle.components.specs.World.{Part}
+use Rattle.components.specs.Components.{ComponentState}
 
 -- the longest that a step may take, in milliseconds
 abbrev pub longest : ℕ
@@ -52,7 +52,7 @@ abbrev pub is_own : Life → Bool
 is_own c = elim c.busy [ None ↦ true | Some s ↦ has_step s c.steps ]
 
 -- what a component keeps
-pub record IsKeptPart (p : Part) : Type 0 where
+pub record IsKeptPart (p : ComponentState) : Type 0 where
   pub steps : p.life.steps ≡ steps_of p.fitted
   pub own : is_own p.life ≡ true
   pub coming : IfSome p.next (λ n. n.1 < 3)

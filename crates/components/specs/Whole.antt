@@ -6,7 +6,7 @@ use Rattle.lifecycle.specs.Awaits.{is_same_step}
 use Rattle.lifecycle.specs.Life.{Life, may_run}
 use Rattle.lifecycle.specs.declared.kinds.State.{State}
 use Rattle.lifecycle.specs.declared.kinds.State.TheVariants as state
-use Rattle.components.specs.World.{Part, Child}
+use Rattle.components.specs.Components.{ComponentState, Child}
 
 abbrev pub has_run_child : List Child → Bool
 has_run_child cs = list_any (λ (c : Child). is_same_step step.Run c.of) cs
@@ -15,11 +15,11 @@ has_run_child cs = list_any (λ (c : Child). is_same_step step.Run c.of) cs
 abbrev pub keeps_run : Life → List Child → Bool
 keeps_run c cs = not c.runs || (c.gone || has_run_child cs)
 
-pub record IsWhole (p : Part) : Type 0 where
+pub record IsWhole (p : ComponentState) : Type 0 where
   pub may : may_run p.life.state p.life.runs ≡ true
   pub run : keeps_run p.life p.children ≡ true
 
-abbrev pub AreWhole : List Part → Type 0
+abbrev pub AreWhole : List ComponentState → Type 0
 AreWhole ps = AllByRecursion IsWhole ps
 
 -- ---- how much is still to be done with nothing outside
@@ -35,9 +35,9 @@ abbrev pub life_work : Life → ℕ
 life_work c = if is_some c.busy then 0 else state_work c.state
 
 -- a stop that is asked for is more than that
-abbrev pub part_work : Part → ℕ
+abbrev pub part_work : ComponentState → ℕ
 part_work p = (if is_some p.stop then 4 else 0) + life_work p.life
 
-abbrev pub work : List Part → ℕ
+abbrev pub work : List ComponentState → ℕ
 work [] = 0
 work (p ∷ ps) = part_work p + work ps

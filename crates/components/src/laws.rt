@@ -4,7 +4,7 @@ ghost use Rattle.std.specs.Prelude.{List as ListOf};
 ghost use Rattle.std.specs.declared.option.Option.{Option};
 ghost use Rattle.nuc_base.specs.declared.kinds.Exit.{Exit};
 ghost use Rattle.components.specs.Marks.{HasFirst, IsClosedWhole, IsLeast};
-ghost use Rattle.components.specs.World.{Part, World};
+ghost use Rattle.components.specs.Components.{ComponentState, Components};
 ghost use Rattle.components.specs.Acts.{NextAct};
 ghost use Rattle.components.specs.Changes.{all_stopped, changed_to, steadied};
 ghost use Rattle.components.specs.Events.{ended, handed_at, later, noticed, refused, skipped, started};
@@ -23,14 +23,14 @@ use recipe_reader::recipe_laws;
 
 /// It makes no difference whether the end of a child is told before or after the moment that was asked for behind it.
 pub fn time_passes()
-    ensures { (n m : ℕ) (e : Exit) (w : World) → ended n e (later m w) ≡ later m (ended n e w) }
+    ensures { (n m : ℕ) (e : Exit) (w : Components) → ended n e (later m w) ≡ later m (ended n e w) }
 {}
 
 /// Once its answer is told, it makes no difference that a start was handed out.
 pub fn answers_meet_starts()
-    ensures started { (k : ℕ) (s : Step) (n : ℕ) (w : World) → started k s n (handed_at k w) ≡ started k s n w }
-    ensures refused { (k : ℕ) (s : Step) (w : World) → refused k s (handed_at k w) ≡ refused k s w }
-    ensures skipped { (k : ℕ) (w : World) → skipped k (handed_at k w) ≡ skipped k w }
+    ensures started { (k : ℕ) (s : Step) (n : ℕ) (w : Components) → started k s n (handed_at k w) ≡ started k s n w }
+    ensures refused { (k : ℕ) (s : Step) (w : Components) → refused k s (handed_at k w) ≡ refused k s w }
+    ensures skipped { (k : ℕ) (w : Components) → skipped k (handed_at k w) ≡ skipped k w }
 {}
 
 /// Who is stopped because of others are the least that are closed under hard needs and have the first ones.
@@ -43,13 +43,13 @@ pub fn marks_are_least()
 /// Where all items were made ready for one platform, each has the steps that it had before, so they may come at a change; and
 /// whatever befalls the components leaves it so.
 pub fn one_platform()
-    ensures same { (platform : Platform) (fs : ListOf Fitted) (parts : ListOf Part) → AllFor platform fs → AllRunFor platform parts → KeepSteps fs parts }
+    ensures same { (platform : Platform) (fs : ListOf Fitted) (parts : ListOf ComponentState) → AllFor platform fs → AllRunFor platform parts → KeepSteps fs parts }
     ensures ready { (origin : Origin) (items : ListOf Item) (fs : ListOf Fitted) → AreFitted origin items fs → AllFor origin.platform fs }
-    ensures event { (platform : Platform) (e : Event) (w : World) → AllRunFor platform w.parts → AllRunFor platform (noticed e w).parts }
-    ensures next_act { (platform : Platform) (w : World) (act : Option Act) (v : World) → NextAct w act v → AllRunFor platform w.parts → AllRunFor platform v.parts }
-    ensures stop_all { (platform : Platform) (w : World) → AllRunFor platform w.parts → AllRunFor platform (all_stopped w).parts }
-    ensures steady { (platform : Platform) (w : World) → AllRunFor platform w.parts → AllRunFor platform (steadied w).parts }
-    ensures change { (platform : Platform) (fs : ListOf Fitted) (counts : ListOf ℕ) (steady : Bool) (w : World) → AllFor platform fs → AllRunFor platform w.parts → AllRunFor platform (changed_to fs counts steady w).parts }
+    ensures event { (platform : Platform) (e : Event) (w : Components) → AllRunFor platform w.parts → AllRunFor platform (noticed e w).parts }
+    ensures next_act { (platform : Platform) (w : Components) (act : Option Act) (v : Components) → NextAct w act v → AllRunFor platform w.parts → AllRunFor platform v.parts }
+    ensures stop_all { (platform : Platform) (w : Components) → AllRunFor platform w.parts → AllRunFor platform (all_stopped w).parts }
+    ensures steady { (platform : Platform) (w : Components) → AllRunFor platform w.parts → AllRunFor platform (steadied w).parts }
+    ensures change { (platform : Platform) (fs : ListOf Fitted) (counts : ListOf ℕ) (steady : Bool) (w : Components) → AllFor platform fs → AllRunFor platform w.parts → AllRunFor platform (changed_to fs counts steady w).parts }
 {
     recipe_laws();
 }

@@ -18,11 +18,7 @@ use std::alloc::Global;
 use step_runner::Command;
 
 /// What the bytes say for the platform. They are a recipe.
-pub fn known_recipe(
-    alloc: Global,
-    platform: &Platform,
-    bytes: &[u8],
-) -> Result<Recipe, NoMemory>
+pub fn known_recipe(alloc: Global, platform: &Platform, bytes: &[u8]) -> Result<Recipe, NoMemory>
     requires { HasSomeRecipe platform.now bytes.now }
     ensures { IfOk result (Reads bytes.now platform.now) }
 {

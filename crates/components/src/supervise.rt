@@ -13,7 +13,7 @@ ghost use Rattle.components.specs.Deadlines.{least_deadline};
 ghost use Rattle.components.specs.Events.{noticed, later};
 ghost use Rattle.components.specs.Fitted.{Fitted, prepared_of};
 ghost use Rattle.components.specs.Readied.{KeepSteps};
-ghost use Rattle.components.specs.World.{World, At, part_name, is_settled, is_stopped};
+ghost use Rattle.components.specs.Components.{Components, At, component_name, is_settled, is_stopped};
 
 use crate::kinds::{Act, Event, Mode};
 use nuc_base::{List, Name, NoMemory, Step};
@@ -28,7 +28,7 @@ pub trait Supervise {
     type Ready;
 
     /// The components.
-    ghost world: { Self → World };
+    ghost world: { Self → Components };
 
     /// The items that were made ready.
     ghost coming: { Self.Ready → ListOf Fitted };
@@ -107,7 +107,7 @@ pub trait Supervise {
     /// The name of the component of this number.
     fn name(&self, component: u32) -> &Name
         requires { component < length (world self.now).parts }
-        ensures { slice_get (map part_name (world self.now).parts) component ≡ Some result.now };
+        ensures { slice_get (map component_name (world self.now).parts) component ≡ Some result.now };
 
     /// What the step of this component runs.
     fn command(&self, component: u32, step: Step) -> &Command

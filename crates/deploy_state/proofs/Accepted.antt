@@ -30,7 +30,7 @@ use Rattle.device.specs.declared.spare.Spare.{Spare}
 use Rattle.device.specs.Plans.{AreRegularItems, HasConfig, HasRecipe, IsHeldFor}
 use Rattle.device.proofs.PlanLengths.{as_long, few_files, short}
 use Rattle.device.proofs.Roomy.{takes_room}
-use Rattle.deploy_state.specs.Hand.{IsInHand}
+use Rattle.deploy_state.specs.Owned.{OwnsJournal}
 use Rattle.deploy_state.proofs.Meaning.{means_more, origin_stays, takes_of}
 use Rattle.deploy_state.proofs.Sparing.{regular_stays, sound_stays}
 
@@ -125,14 +125,14 @@ with_plan ps p d plan means spelled allowed room =
 pub spare_taken : (s : Spare) (d : Device) (plan : Plan) → IsSpareFor s d plan → IsSpareOf s (applied d (stored.Accepted plan))
 spare_taken s d plan h = record { closed = h.closed; groups = h.groups; backs = h.backs }
 
-module _ {J D : Type 0} (tells : Bool) (may_leave : D → Image → Type 0) (stands : J → Image → List (List ℕ) → Type 0) (end : J → ℕ) where
-  pub plan_in_hand : (log next : J) (old new : D) (d e : Device) (plan : Plan) (p : List ℕ) (h : IsInHand tells may_leave stands end log old d)
+module _ {J D : Type 0} (is_modelled : Bool) (may_leave : D → Image → Type 0) (stands : J → Image → List (List ℕ) → Type 0) (end : J → ℕ) where
+  pub plan_in_hand : (log next : J) (old new : D) (d e : Device) (plan : Plan) (p : List ℕ) (h : OwnsJournal is_modelled may_leave stands end log old d)
       → d.pending ≡ None → Allowed d (stored.Accepted plan) → IsRegularRecord (stored.Accepted plan) → Spelled p (stored.Accepted plan) → e ≡ applied d (stored.Accepted plan)
-      → IsBehind may_leave stands next new (h.payloads ++ p ∷ []) → (IsTrue tells → place_behind (h.payloads ++ p ∷ []) + room_of_plan ≤ most_file) → end next + 2097152 ≤ most_file
-      → IsInHand tells may_leave stands end next new e
+      → IsBehind may_leave stands next new (h.payloads ++ p ∷ []) → (IsTrue is_modelled → place_behind (h.payloads ++ p ∷ []) + room_of_plan ≤ most_file) → end next + 2097152 ≤ most_file
+      → OwnsJournal is_modelled may_leave stands end next new e
   plan_in_hand log next old new d e plan p h none allowed regular spelled is behind room far =
       let few = left_few d p plan h.sound none allowed spelled in
-      subst (λ (x : Device). IsInHand tells may_leave stands end next new x) (sym is) (record {
+      subst (λ (x : Device). OwnsJournal is_modelled may_leave stands end next new x) (sym is) (record {
         payloads = h.payloads ++ p ∷ [];
         behind = behind;
         means = λ told. with_plan h.payloads p d plan (h.means told).0 spelled allowed (room told);

@@ -14,7 +14,7 @@ use Rattle.device.specs.Devices.{no_device}
 use Rattle.device.specs.Lawful.{Allowed, applied}
 use Rattle.device.specs.Standing.{Means}
 use Rattle.device.proofs.Sounding.{none_sound}
-use Rattle.deploy_state.specs.Hand.{IsInHand}
+use Rattle.deploy_state.specs.Owned.{OwnsJournal}
 use Rattle.deploy_state.proofs.Meaning.{means_more, takes_of}
 use Rattle.deploy_state.proofs.Sparing.{sound_stays}
 
@@ -53,9 +53,9 @@ one_first p a b first second allowed = subst (λ (r : Record). Allowed no_device
 pub first_means : (p : List ℕ) (o : Origin) → Spelled p (stored.Genesis o) → Allowed no_device (stored.Genesis o) → Means (p ∷ []) (applied no_device (stored.Genesis o))
 first_means p o spelled allowed = means_more [] p no_device (applied no_device (stored.Genesis o)) (inl refl) (takes_of no_device p (stored.Genesis o) spelled allowed)
 
-module _ {J D : Type 0} (tells : Bool) (may_leave : D → Image → Type 0) (stands : J → Image → List (List ℕ) → Type 0) (end : J → ℕ) where
+module _ {J D : Type 0} (is_modelled : Bool) (may_leave : D → Image → Type 0) (stands : J → Image → List (List ℕ) → Type 0) (end : J → ℕ) where
   pub begun_in_hand : (log : J) (disk : D) (p : List ℕ) (o : Origin) → Spelled p (stored.Genesis o) → Allowed no_device (stored.Genesis o) → IsBehind may_leave stands log disk (p ∷ [])
-      → IsInHand tells may_leave stands end log disk (applied no_device (stored.Genesis o))
+      → OwnsJournal is_modelled may_leave stands end log disk (applied no_device (stored.Genesis o))
   begun_in_hand log disk p o spelled allowed behind = record {
     payloads = p ∷ [];
     behind = behind;

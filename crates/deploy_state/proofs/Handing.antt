@@ -8,16 +8,16 @@ use Rattle.device.specs.Devices.{Device}
 use Rattle.device.specs.Lawful.{Allowed, applied}
 use Rattle.device.specs.Marks.{IsMark}
 use Rattle.device.specs.declared.mark.Mark.{Mark}
-use Rattle.deploy_state.specs.Hand.{IsInHand}
+use Rattle.deploy_state.specs.Owned.{OwnsJournal}
 use Rattle.deploy_state.proofs.Meaning.{means_more, room_more, takes_of, room_next, origin_stays}
 use Rattle.deploy_state.proofs.Sparing.{plain_mark, regular_stays, sound_stays}
 
-module _ {J D : Type 0} (tells : Bool) (may_leave : D → Image → Type 0) (stands : J → Image → List (List ℕ) → Type 0) (end : J → ℕ) where
-  pub handed : (log next : J) (old new : D) (d e : Device) (m : Mark) (r : Record) (p : List ℕ) (h : IsInHand tells may_leave stands end log old d)
+module _ {J D : Type 0} (is_modelled : Bool) (may_leave : D → Image → Type 0) (stands : J → Image → List (List ℕ) → Type 0) (end : J → ℕ) where
+  pub handed : (log next : J) (old new : D) (d e : Device) (m : Mark) (r : Record) (p : List ℕ) (h : OwnsJournal is_modelled may_leave stands end log old d)
       → IsMark d m r → Allowed d r → Spelled p r → e ≡ applied d r → IsBehind may_leave stands next new (h.payloads ++ p ∷ []) → end next ≡ end log + 5 + length p
-      → IsInHand tells may_leave stands end next new e
+      → OwnsJournal is_modelled may_leave stands end next new e
   handed log next old new d e m r p h mark allowed spelled is behind place =
-      subst (λ (x : Device). IsInHand tells may_leave stands end next new x) (sym is) (record {
+      subst (λ (x : Device). OwnsJournal is_modelled may_leave stands end next new x) (sym is) (record {
         payloads = h.payloads ++ p ∷ [];
         behind = behind;
         means = λ told. (means_more h.payloads p d (applied d r) (h.means told).0 (takes_of d p r spelled allowed), room_more h.payloads p d m r spelled mark (h.means told).1);

@@ -28,7 +28,7 @@ use Rattle.device.specs.Standing.{Takes, Plays, Means, SpellsNoPlan, IsBehindAcc
 use Rattle.device.specs.Fronts.{IsFrontOf}
 use Rattle.device.proofs.Fronting.{no_empty_front}
 use Rattle.device.proofs.Roomy.{records_run_out, takes_room}
-use Rattle.deploy_state.specs.Hand.{StandsForEither, LeavesEither}
+use Rattle.deploy_state.specs.Owned.{StandsForEither, LeavesEither}
 
 -- ---- payloads
 
@@ -132,10 +132,10 @@ origin_stays d _ some = some
 
 -- ---- images
 
-module _ {D : Type 0} {tells : Bool} {seen : D → Image} {may_leave : D → Image → Type 0} {moment : D → ℕ} {left_since : D → ℕ → Image → Type 0}
-    (laws : DiskLaws tells seen may_leave moment left_since) (files : List ℕ → Type 0) (entries : Image → List (List ℕ) → Type 0) where
+module _ {D : Type 0} {is_modelled : Bool} {seen : D → Image} {may_leave : D → Image → Type 0} {moment : D → ℕ} {left_since : D → ℕ → Image → Type 0}
+    (laws : DiskLaws is_modelled seen may_leave moment left_since) (files : List ℕ → Type 0) (entries : Image → List (List ℕ) → Type 0) where
   -- of an entry that is added or not, as of the devices before and with it
-  pub of_entry : (old new : D) (payloads : List (List ℕ)) (p : List ℕ) (d e : Device) → (IsTrue tells → Means payloads d × Room payloads d) → (IsTrue tells → Means (payloads ++ p ∷ []) e × Room (payloads ++ p ∷ []) e)
+  pub of_entry : (old new : D) (payloads : List (List ℕ)) (p : List ℕ) (d e : Device) → (IsTrue is_modelled → Means payloads d × Room payloads d) → (IsTrue is_modelled → Means (payloads ++ p ∷ []) e × Room (payloads ++ p ∷ []) e)
       → Leaves moment left_since old new (After (may_leave old) (Within files (BeforeOrAfter entries payloads p)))
       → Leaves moment left_since old new (LeavesEither may_leave files entries old d e)
   of_entry old new payloads p d e before with leaves = record {
@@ -153,7 +153,7 @@ module _ {D : Type 0} {tells : Bool} {seen : D → Image} {may_leave : D → Ima
       either c b w (inr x) = inr (record { payloads = payloads ++ p ∷ []; live = x; means = w.0; room = w.1 })
 
   -- of payloads that mean a device, as of that device
-  pub of_payloads : (old new : D) (payloads : List (List ℕ)) (d : Device) → (IsTrue tells → Means payloads d × Room payloads d)
+  pub of_payloads : (old new : D) (payloads : List (List ℕ)) (d : Device) → (IsTrue is_modelled → Means payloads d × Room payloads d)
       → Leaves moment left_since old new (After (may_leave old) (Within files (λ c. entries c payloads)))
       → Leaves moment left_since old new (After (may_leave old) (Within files (λ c. StandsFor entries c d)))
   of_payloads old new payloads d means leaves = record {
@@ -167,7 +167,7 @@ module _ {D : Type 0} {tells : Bool} {seen : D → Image} {may_leave : D → Ima
   }
 
   -- of payloads or those that were put, both of which mean a device
-  pub of_put : (old new : D) (payloads more : List (List ℕ)) (d : Device) → (IsTrue tells → Means payloads d × Room payloads d) → (IsTrue tells → Means more d × Room more d)
+  pub of_put : (old new : D) (payloads more : List (List ℕ)) (d : Device) → (IsTrue is_modelled → Means payloads d × Room payloads d) → (IsTrue is_modelled → Means more d × Room more d)
       → Leaves moment left_since old new (After (may_leave old) (Within files (BeforeOrPut entries payloads more)))
       → Leaves moment left_since old new (After (may_leave old) (Within files (λ c. StandsFor entries c d)))
   of_put old new payloads more d before behind leaves = record {

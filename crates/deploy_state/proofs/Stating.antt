@@ -9,9 +9,9 @@ use Rattle.device.specs.Spares.{IsSpareOf}
 use Rattle.device.specs.Standing.{StandsFor}
 use Rattle.device.specs.declared.staged.Stage.{Stage}
 use Rattle.device.specs.declared.staged.Stage.TheVariants as stages
-use Rattle.deploy_state.specs.Hand.{IsInHand}
+use Rattle.deploy_state.specs.Owned.{OwnsJournal}
 use Rattle.deploy_state.specs.Loading.{IsHandOf, IsOf, IsReady}
-use Rattle.deploy_state.specs.States.{InLoaded, IsHeld, IsIn, device_of, idle_device, loaded_device}
+use Rattle.deploy_state.specs.States.{OwnsLoaded, IsHeld, IsIn, device_of, idle_device, loaded_device}
 use Rattle.deploy_state.specs.declared.state.Hand.{Hand}
 use Rattle.deploy_state.specs.declared.state.Loaded.{Loaded}
 use Rattle.deploy_state.specs.declared.state.Loaded.TheVariants as loaded
@@ -23,17 +23,17 @@ loaded_is log d (loaded.Activating s) of = of.1
 loaded_is log d (loaded.Backing s) of = of.1
 loaded_is log d (loaded.Rolling s) of = of.1
 
-module _ {J D : Type 0} (tells : Bool) (may_leave : D → Image → Type 0) (stands : J → Image → List (List ℕ) → Type 0) (end : J → ℕ) where
-  same_hand : (log next : J) (d e : Device) (disk : D) → next ≡ log → e ≡ d → IsInHand tells may_leave stands end log disk d → IsInHand tells may_leave stands end next disk e
+module _ {J D : Type 0} (is_modelled : Bool) (may_leave : D → Image → Type 0) (stands : J → Image → List (List ℕ) → Type 0) (end : J → ℕ) where
+  same_hand : (log next : J) (d e : Device) (disk : D) → next ≡ log → e ≡ d → OwnsJournal is_modelled may_leave stands end log disk d → OwnsJournal is_modelled may_leave stands end next disk e
   same_hand log next d e disk is same h =
-      subst (λ (l : J). IsInHand tells may_leave stands end l disk e) (sym is) (subst (λ (x : Device). IsInHand tells may_leave stands end log disk x) (sym same) h)
+      subst (λ (l : J). OwnsJournal is_modelled may_leave stands end l disk e) (sym is) (subst (λ (x : Device). OwnsJournal is_modelled may_leave stands end log disk x) (sym same) h)
 
-  held_as : (log : J) (d : Device) (stage : Stage) (h : Hand J) (disk : D) → IsHandOf log d stage h → IsInHand tells may_leave stands end log disk d
-      → IsHeld tells may_leave stands end h disk × IsIn stage (device_of h)
+  held_as : (log : J) (d : Device) (stage : Stage) (h : Hand J) (disk : D) → IsHandOf log d stage h → OwnsJournal is_modelled may_leave stands end log disk d
+      → IsHeld is_modelled may_leave stands end h disk × IsIn stage (device_of h)
   held_as log d stage h disk of hand =
       ((same_hand log h.log d (device_of h) disk of.0 of.1 hand, subst (λ (x : Device). IsSpareOf h.spare x) (sym of.1) of.2), subst (λ (x : Device). IsIn stage x) (sym of.1) of.3)
 
-  pub in_loaded : (log : J) (d : Device) (s : Loaded J) (disk : D) → IsOf log d s → IsInHand tells may_leave stands end log disk d → InLoaded tells may_leave stands end s disk
+  pub in_loaded : (log : J) (d : Device) (s : Loaded J) (disk : D) → IsOf log d s → OwnsJournal is_modelled may_leave stands end log disk d → OwnsLoaded is_modelled may_leave stands end s disk
   in_loaded log d (loaded.Idle s) disk of hand = (same_hand log s.log d (idle_device s) disk of.0 of.1 hand, subst (λ (x : Device). x.pending ≡ None) (sym of.1) of.2)
   in_loaded log d (loaded.Booting s) disk of hand = held_as log d stages.Booting s.hand disk of hand
   in_loaded log d (loaded.Activating s) disk of hand = held_as log d stages.Activating s.hand disk of hand

@@ -23,15 +23,15 @@ use Rattle.device.specs.declared.staged.Stage.{Stage}
 use Rattle.device.specs.declared.staged.Stage.TheVariants as stages
 use Rattle.device.proofs.SoundStages.{what_is}
 use Rattle.deploy_state.specs.Fields.{CanBegin, CanBreakOff, IsBegun, IsBreak, backs_now, break_by, rolled_outcome}
-use Rattle.deploy_state.specs.Hand.{IsInHand, MayMark}
+use Rattle.deploy_state.specs.Owned.{OwnsJournal, MayMark}
 use Rattle.deploy_state.specs.States.{IsIn}
 
 -- ---- images of now
 
-pub in_hand_stands : {J D : Type 0} {tells : Bool} {seen : D → Image} {may_leave : D → Image → Type 0} {moment : D → ℕ} {left_since : D → ℕ → Image → Type 0}
+pub in_hand_stands : {J D : Type 0} {is_modelled : Bool} {seen : D → Image} {may_leave : D → Image → Type 0} {moment : D → ℕ} {left_since : D → ℕ → Image → Type 0}
     {files : List ℕ → Type 0} {entries : Image → List (List ℕ) → Type 0} {holds_none : Image → Type 0} {is_damaged : Image → ℕ → Type 0} {stands : J → Image → List (List ℕ) → Type 0} {end : J → ℕ}
-    → DiskLaws tells seen may_leave moment left_since → JournalLaws files entries holds_none is_damaged stands end
-    → (log : J) (disk : D) (d : Device) → IsInHand tells may_leave stands end log disk d → (c : Image) → may_leave disk c → StandsFor entries c d
+    → DiskLaws is_modelled seen may_leave moment left_since → JournalLaws files entries holds_none is_damaged stands end
+    → (log : J) (disk : D) (d : Device) → OwnsJournal is_modelled may_leave stands end log disk d → (c : Image) → may_leave disk c → StandsFor entries c d
 in_hand_stands disk_laws laws log disk d h c left =
     let means = h.means (tells_of disk_laws disk c left) in
     record { payloads = h.payloads; live = laws.holds log c h.payloads (h.behind.each c left); means = means.0; room = means.1 }
@@ -220,22 +220,22 @@ some_back (b ∷ l) n some = refl
 
 -- the record of a way back through bootstrap steps
 pub back_mark : (d : Device) (b : Bool) (r : Record) → b ≡ true → TellsBacks d b → IsBreak d r → IsMark d marks.FailingBack r
-back_mark d b r yes_back tells is = by d.pending tells is
+back_mark d b r yes_back is_modelled is = by d.pending is_modelled is
   where
     by : (o : Option Pending) → IfSome o (λ q. IsTrue b ↔ (backs_now d q ≡ [] → ⊥)) → IsSomeAnd o (λ q. (n : List ℕ) × (failing_name q ≡ Some n) × (r ≡ break_by (backs_now d q) n))
         → IsSomeAnd o (λ q. IsMarkOf d.set q marks.FailingBack r)
-    by None tells is = absurd is
-    by (Some q) tells is = (is.0, is.1, is.2 ∙ some_back (backs_now d q) is.0 (tells.0 yes_back))
+    by None is_modelled is = absurd is
+    by (Some q) is_modelled is = (is.0, is.1, is.2 ∙ some_back (backs_now d q) is.0 (is_modelled.0 yes_back))
 
 -- and of one without
 pub roll_mark : (d : Device) (b : Bool) (r : Record) → b ≡ false → TellsBacks d b → IsBreak d r → IsMark d marks.Failing r
-roll_mark d b r no_back tells is = by d.pending tells is
+roll_mark d b r no_back is_modelled is = by d.pending is_modelled is
   where
     by : (o : Option Pending) → IfSome o (λ q. IsTrue b ↔ (backs_now d q ≡ [] → ⊥)) → IsSomeAnd o (λ q. (n : List ℕ) × (failing_name q ≡ Some n) × (r ≡ break_by (backs_now d q) n))
         → IsSomeAnd o (λ q. IsMarkOf d.set q marks.Failing r)
-    by None tells is = absurd is
-    by (Some q) tells is =
-        let none = no_backs (backs_now d q) (λ some. let is_true = tells.1 some in cc) in
+    by None is_modelled is = absurd is
+    by (Some q) is_modelled is =
+        let none = no_backs (backs_now d q) (λ some. let is_true = is_modelled.1 some in cc) in
         (is.0, is.1, is.2 ∙ ap (λ (l : List (List ℕ)). break_by l is.0) none)
 
 pub some_break : (d : Device) → CanBreakOff d → (r : Record) × IsBreak d r
@@ -246,14 +246,14 @@ some_break d can = by d.pending can
     by (Some q) can = let n = what_is (failing_name q) can.0 in (break_by (backs_now d q) n.0, (n.0, n.1, refl))
 
 pub may_go_back : (d : Device) (b : Bool) → b ≡ true → IfSome d.pending (λ q. IsTrue b ↔ IsSomeAnd d.origin (HasBacks d.set q)) → CanBreakOff d → MayMark d marks.FailingBack
-may_go_back d b yes_back tells can = by d.pending tells can
+may_go_back d b yes_back is_modelled can = by d.pending is_modelled can
   where
     by : (o : Option Pending) → IfSome o (λ q. IsTrue b ↔ IsSomeAnd d.origin (HasBacks d.set q)) → IsSomeAnd o (λ q. IsSome (failing_name q) × (q.plan.policy ≡ policies.Rollback))
         → (r : Record) × IsSomeAnd o (λ q. IsMarkOf d.set q marks.FailingBack r) × Allowed (record d { pending = o }) r
-    by None tells can = absurd can
-    by (Some q) tells can =
+    by None is_modelled can = absurd can
+    by (Some q) is_modelled can =
         let n = what_is (failing_name q) can.0 in
-        (stored.FailingBack n.0, (n.0, n.1, refl), ((can.1, n.1), tells.0 yes_back))
+        (stored.FailingBack n.0, (n.0, n.1, refl), ((can.1, n.1), is_modelled.0 yes_back))
 
 pub may_roll_back : (d : Device) → CanBreakOff d → MayMark d marks.Failing
 may_roll_back d can = by d.pending can

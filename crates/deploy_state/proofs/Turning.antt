@@ -18,7 +18,7 @@ use Rattle.device.specs.Fronts.{Front, HasFront, SpellsAt, front_by, stock_of}
 use Rattle.device.specs.Rooms.{HasRoom, left_of}
 use Rattle.device.specs.Standing.{IsBehindAccepted, Means, Room}
 use Rattle.device.specs.Limits.{room_of_plan}
-use Rattle.deploy_state.specs.Hand.{IsInHand}
+use Rattle.deploy_state.specs.Owned.{OwnsJournal}
 use Rattle.deploy_state.specs.Turning.{AreSpelled, front_payloads}
 
 pub place_more : (ps : List (List ℕ)) (p : List ℕ) → place_behind (ps ++ p ∷ []) ≡ place_behind ps + (5 + length p)
@@ -124,10 +124,10 @@ idle_room payloads d none = subst (λ (o : Option Pending). IfSome o (λ q. (at 
 pub idle_fits : (end : ℕ) (d : Device) → d.pending ≡ None → HasRoom end d
 idle_fits end d none = subst (λ (o : Option Pending). IfSome o (λ q. end + 256 * left_of q ≤ most_file)) (sym none) tt
 
-module _ {J D : Type 0} (tells : Bool) (may_leave : D → Image → Type 0) (stands : J → Image → List (List ℕ) → Type 0) (end : J → ℕ) where
+module _ {J D : Type 0} (is_modelled : Bool) (may_leave : D → Image → Type 0) (stands : J → Image → List (List ℕ) → Type 0) (end : J → ℕ) where
   -- the journal stands behind payloads that mean the device
-  pub idle_hand : (log : J) (disk : D) (d : Device) (payloads : List (List ℕ)) → IsBehind may_leave stands log disk payloads → (IsTrue tells → Means payloads d) → HasFront d → IsRegularDevice d
-      → IsInHand tells may_leave stands end log disk d
+  pub idle_hand : (log : J) (disk : D) (d : Device) (payloads : List (List ℕ)) → IsBehind may_leave stands log disk payloads → (IsTrue is_modelled → Means payloads d) → HasFront d → IsRegularDevice d
+      → OwnsJournal is_modelled may_leave stands end log disk d
   idle_hand log disk d payloads behind means has regular = record {
     payloads = payloads;
     behind = behind;
@@ -139,5 +139,5 @@ module _ {J D : Type 0} (tells : Bool) (may_leave : D → Image → Type 0) (sta
   }
 
   -- a device in hand with nothing pending has a front
-  pub front_of_hand : (log : J) (disk : D) (d : Device) → IsInHand tells may_leave stands end log disk d → d.pending ≡ None → HasFront d
+  pub front_of_hand : (log : J) (disk : D) (d : Device) → OwnsJournal is_modelled may_leave stands end log disk d → d.pending ≡ None → HasFront d
   front_of_hand log disk d hand none = record { origin = hand.origin; idle = none; sound = hand.sound }

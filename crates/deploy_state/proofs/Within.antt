@@ -5,8 +5,8 @@ use Rattle.disk_model.specs.Disk.{Image, After, Leaves, DiskLaws}
 use Rattle.disk_model.specs.Moments.{joined, weaker, now, at_start}
 use Rattle.gate_log.specs.Journal.{Within}
 
-module _ {D : Type 0} {tells : Bool} {seen : D → Image} {may_leave : D → Image → Type 0} {moment : D → ℕ} {left_since : D → ℕ → Image → Type 0}
-    (laws : DiskLaws tells seen may_leave moment left_since) (files : List ℕ → Type 0) where
+module _ {D : Type 0} {is_modelled : Bool} {seen : D → Image} {may_leave : D → Image → Type 0} {moment : D → ℕ} {left_since : D → ℕ → Image → Type 0}
+    (laws : DiskLaws is_modelled seen may_leave moment left_since) (files : List ℕ → Type 0) where
   -- two calls
   pub then_within : (old mid new : D) (P Q R : Image → Type 0)
       → Leaves moment left_since old mid (After (may_leave old) (Within files P))

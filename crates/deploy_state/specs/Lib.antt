@@ -1,4 +1,4 @@
-pub mod Hand
+pub mod Owned
 pub mod States
 pub mod Fields
 pub mod Loading

@@ -6,7 +6,7 @@ use Rattle.device.specs.Devices.{Device, device_view}
 use Rattle.device.specs.Spares.{IsSpareOf}
 use Rattle.device.specs.declared.staged.Stage.{Stage}
 use Rattle.device.specs.declared.staged.Stage.TheVariants as stages
-use Rattle.deploy_state.specs.Hand.{IsInHand}
+use Rattle.deploy_state.specs.Owned.{OwnsJournal}
 use Rattle.deploy_state.specs.declared.state.Hand.{Hand}
 use Rattle.deploy_state.specs.declared.state.Idle.{Idle}
 use Rattle.deploy_state.specs.declared.state.Booting.{Booting}
@@ -61,37 +61,37 @@ backed_device (backed.Rolling s) = rolling_device s
 abbrev pub IsIn : Stage → Device → Type 0
 IsIn stage d = IsSomeAnd d.pending (λ q. q.stage ≡ stage)
 
-module _ {J D : Type 0} (tells : Bool) (may_leave : D → Image → Type 0) (stands : J → Image → List (List ℕ) → Type 0) (end : J → ℕ) where
+module _ {J D : Type 0} (is_modelled : Bool) (may_leave : D → Image → Type 0) (stands : J → Image → List (List ℕ) → Type 0) (end : J → ℕ) where
   -- journal and device are in hand, with what was made ready for the pending deployment
   abbrev pub IsHeld : Hand J → D → Type 0
-  IsHeld h disk = IsInHand tells may_leave stands end h.log disk (device_of h) × IsSpareOf h.spare (device_of h)
+  IsHeld h disk = OwnsJournal is_modelled may_leave stands end h.log disk (device_of h) × IsSpareOf h.spare (device_of h)
 
-  abbrev pub InIdle : Idle J → D → Type 0
-  InIdle s disk = IsInHand tells may_leave stands end s.log disk (idle_device s) × ((idle_device s).pending ≡ None)
+  abbrev pub OwnsIdle : Idle J → D → Type 0
+  OwnsIdle s disk = OwnsJournal is_modelled may_leave stands end s.log disk (idle_device s) × ((idle_device s).pending ≡ None)
 
-  abbrev pub InBooting : Booting J → D → Type 0
-  InBooting s disk = IsHeld s.hand disk × IsIn stages.Booting (booting_device s)
+  abbrev pub OwnsBooting : Booting J → D → Type 0
+  OwnsBooting s disk = IsHeld s.hand disk × IsIn stages.Booting (booting_device s)
 
-  abbrev pub InActivating : Activating J → D → Type 0
-  InActivating s disk = IsHeld s.hand disk × IsIn stages.Activating (activating_device s)
+  abbrev pub OwnsActivating : Activating J → D → Type 0
+  OwnsActivating s disk = IsHeld s.hand disk × IsIn stages.Activating (activating_device s)
 
-  abbrev pub InBacking : Backing J → D → Type 0
-  InBacking s disk = IsHeld s.hand disk × IsIn stages.Backing (backing_device s)
+  abbrev pub OwnsBacking : Backing J → D → Type 0
+  OwnsBacking s disk = IsHeld s.hand disk × IsIn stages.Backing (backing_device s)
 
-  abbrev pub InRolling : Rolling J → D → Type 0
-  InRolling s disk = IsHeld s.hand disk × IsIn stages.Rolling (rolling_device s)
+  abbrev pub OwnsRolling : Rolling J → D → Type 0
+  OwnsRolling s disk = IsHeld s.hand disk × IsIn stages.Rolling (rolling_device s)
 
-  abbrev pub InLoaded : Loaded J → D → Type 0
-  InLoaded (loaded.Idle s) disk = InIdle s disk
-  InLoaded (loaded.Booting s) disk = InBooting s disk
-  InLoaded (loaded.Activating s) disk = InActivating s disk
-  InLoaded (loaded.Backing s) disk = InBacking s disk
-  InLoaded (loaded.Rolling s) disk = InRolling s disk
+  abbrev pub OwnsLoaded : Loaded J → D → Type 0
+  OwnsLoaded (loaded.Idle s) disk = OwnsIdle s disk
+  OwnsLoaded (loaded.Booting s) disk = OwnsBooting s disk
+  OwnsLoaded (loaded.Activating s) disk = OwnsActivating s disk
+  OwnsLoaded (loaded.Backing s) disk = OwnsBacking s disk
+  OwnsLoaded (loaded.Rolling s) disk = OwnsRolling s disk
 
   abbrev pub InBrokeOff : BrokeOff J → D → Type 0
-  InBrokeOff (broken.Backing s) disk = InBacking s disk
-  InBrokeOff (broken.Rolling s) disk = InRolling s disk
+  InBrokeOff (broken.Backing s) disk = OwnsBacking s disk
+  InBrokeOff (broken.Rolling s) disk = OwnsRolling s disk
 
-  abbrev pub InBacked : Backed J → D → Type 0
-  InBacked (backed.Backing s) disk = InBacking s disk
-  InBacked (backed.Rolling s) disk = InRolling s disk
+  abbrev pub OwnsBacked : Backed J → D → Type 0
+  OwnsBacked (backed.Backing s) disk = OwnsBacking s disk
+  OwnsBacked (backed.Rolling s) disk = OwnsRolling s disk

@@ -8,8 +8,8 @@ ghost use Rattle.device.specs.Devices.{device_view};
 ghost use Rattle.device.specs.Lawful.{Allowed, applied};
 ghost use Rattle.nuc_base.specs.declared.kinds.Outcome.TheVariants as outcomes;
 ghost use Rattle.deploy_state.specs.Fields.{CanBreakOff, IsBreak, broken_item};
-ghost use Rattle.deploy_state.specs.Hand.{LeavesEither};
-ghost use Rattle.deploy_state.specs.States.{InActivating, InBrokeOff, InIdle, activating_device, broken_device, idle_device};
+ghost use Rattle.deploy_state.specs.Owned.{LeavesEither};
+ghost use Rattle.deploy_state.specs.States.{OwnsActivating, InBrokeOff, OwnsIdle, activating_device, broken_device, idle_device};
 
 use crate::names::broken_in;
 use crate::state::{Activating, BrokeOff, Idle, Stopped};
@@ -41,12 +41,12 @@ impl<J: Journal + Drop> Activating<J> {
         step: Step,
         exit: Exit,
     ) -> Result<Activating<J>, Stopped<J>>
-        requires held { InActivating D.tells D.may_leave J.stands J.end self disk.old }
+        requires held { OwnsActivating D.is_modelled D.may_leave J.stands J.end self disk.old }
         requires may { Allowed (activating_device self) (stored.StepFailed name.now step exit) }
         ensures moments { Leaves D.moment D.left_since disk.old disk.new (LeavesEither D.may_leave J.files J.entries disk.old (activating_device self) (applied (activating_device self) (stored.StepFailed name.now step exit))) }
         ensures taken { IfOk result (λ s. activating_device s ≡ applied (activating_device self) (stored.StepFailed name.now step exit)) }
-        ensures held { IfOk result (λ s. InActivating D.tells D.may_leave J.stands J.end s disk.new) }
-        ensures others { IsTrue D.tells → (name : List ℕ) → ¬ (J.files name) → D.seen disk.new name ≡ D.seen disk.old name }
+        ensures held { IfOk result (λ s. OwnsActivating D.is_modelled D.may_leave J.stands J.end s disk.new) }
+        ensures others { IsTrue D.is_modelled → (name : List ℕ) → ¬ (J.files name) → D.seen disk.new name ≡ D.seen disk.old name }
         ensures cause { HasCause (D.faults disk.old) (D.faults disk.new) result }
         ensures quiet { OnOk result (D.faults disk.new ≡ D.faults disk.old) }
     {
@@ -58,13 +58,13 @@ impl<J: Journal + Drop> Activating<J> {
 
     /// A component is broken, and the deployment is rolled back.
     pub fn break_off<D: Disk>(self, disk: &mut D) -> Result<BrokeOff<J>, Stopped<J>>
-        requires held { InActivating D.tells D.may_leave J.stands J.end self disk.old }
+        requires held { OwnsActivating D.is_modelled D.may_leave J.stands J.end self disk.old }
         requires may { CanBreakOff (activating_device self) }
         ensures moments { (r : Record) → IsBreak (activating_device self) r →
             Leaves D.moment D.left_since disk.old disk.new (LeavesEither D.may_leave J.files J.entries disk.old (activating_device self) (applied (activating_device self) r)) }
         ensures taken { (r : Record) → IsBreak (activating_device self) r → IfOk result (λ s. broken_device s ≡ applied (activating_device self) r) }
-        ensures held { IfOk result (λ s. InBrokeOff D.tells D.may_leave J.stands J.end s disk.new) }
-        ensures others { IsTrue D.tells → (name : List ℕ) → ¬ (J.files name) → D.seen disk.new name ≡ D.seen disk.old name }
+        ensures held { IfOk result (λ s. InBrokeOff D.is_modelled D.may_leave J.stands J.end s disk.new) }
+        ensures others { IsTrue D.is_modelled → (name : List ℕ) → ¬ (J.files name) → D.seen disk.new name ≡ D.seen disk.old name }
         ensures cause { HasCause (D.faults disk.old) (D.faults disk.new) result }
         ensures quiet { OnOk result (D.faults disk.new ≡ D.faults disk.old) }
     {
@@ -73,12 +73,12 @@ impl<J: Journal + Drop> Activating<J> {
 
     /// The failed deployment stays as it is and closes.
     pub fn keep<D: Disk>(self, disk: &mut D) -> Result<Idle<J>, Stopped<J>>
-        requires held { InActivating D.tells D.may_leave J.stands J.end self disk.old }
+        requires held { OwnsActivating D.is_modelled D.may_leave J.stands J.end self disk.old }
         requires may { Allowed (activating_device self) (stored.Closed outcomes.RollbackNotRequested) }
         ensures moments { Leaves D.moment D.left_since disk.old disk.new (LeavesEither D.may_leave J.files J.entries disk.old (activating_device self) (applied (activating_device self) (stored.Closed outcomes.RollbackNotRequested))) }
         ensures taken { IfOk result (λ s. idle_device s ≡ applied (activating_device self) (stored.Closed outcomes.RollbackNotRequested)) }
-        ensures held { IfOk result (λ s. InIdle D.tells D.may_leave J.stands J.end s disk.new) }
-        ensures others { IsTrue D.tells → (name : List ℕ) → ¬ (J.files name) → D.seen disk.new name ≡ D.seen disk.old name }
+        ensures held { IfOk result (λ s. OwnsIdle D.is_modelled D.may_leave J.stands J.end s disk.new) }
+        ensures others { IsTrue D.is_modelled → (name : List ℕ) → ¬ (J.files name) → D.seen disk.new name ≡ D.seen disk.old name }
         ensures cause { HasCause (D.faults disk.old) (D.faults disk.new) result }
         ensures quiet { OnOk result (D.faults disk.new ≡ D.faults disk.old) }
     {
@@ -87,12 +87,12 @@ impl<J: Journal + Drop> Activating<J> {
 
     /// The deployment closes as successful: no item has three failures.
     pub fn complete<D: Disk>(self, disk: &mut D) -> Result<Idle<J>, Stopped<J>>
-        requires held { InActivating D.tells D.may_leave J.stands J.end self disk.old }
+        requires held { OwnsActivating D.is_modelled D.may_leave J.stands J.end self disk.old }
         requires may { Allowed (activating_device self) (stored.Closed outcomes.Successful) }
         ensures moments { Leaves D.moment D.left_since disk.old disk.new (LeavesEither D.may_leave J.files J.entries disk.old (activating_device self) (applied (activating_device self) (stored.Closed outcomes.Successful))) }
         ensures taken { IfOk result (λ s. idle_device s ≡ applied (activating_device self) (stored.Closed outcomes.Successful)) }
-        ensures held { IfOk result (λ s. InIdle D.tells D.may_leave J.stands J.end s disk.new) }
-        ensures others { IsTrue D.tells → (name : List ℕ) → ¬ (J.files name) → D.seen disk.new name ≡ D.seen disk.old name }
+        ensures held { IfOk result (λ s. OwnsIdle D.is_modelled D.may_leave J.stands J.end s disk.new) }
+        ensures others { IsTrue D.is_modelled → (name : List ℕ) → ¬ (J.files name) → D.seen disk.new name ≡ D.seen disk.old name }
         ensures cause { HasCause (D.faults disk.old) (D.faults disk.new) result }
         ensures quiet { OnOk result (D.faults disk.new ≡ D.faults disk.old) }
     {

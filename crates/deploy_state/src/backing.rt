@@ -10,8 +10,8 @@ ghost use Rattle.device.specs.Marks.{IsMark};
 ghost use Rattle.device.specs.declared.mark.Mark.TheVariants as marks;
 ghost use Rattle.nuc_base.specs.declared.kinds.Outcome.TheVariants as outcomes;
 ghost use Rattle.deploy_state.specs.Fields.{CanBegin, IsBegun, has_failed, next_name};
-ghost use Rattle.deploy_state.specs.Hand.{LeavesEither, MayMark};
-ghost use Rattle.deploy_state.specs.States.{InBacked, InBacking, InIdle, backed_device, backing_device, idle_device};
+ghost use Rattle.deploy_state.specs.Owned.{LeavesEither, MayMark};
+ghost use Rattle.deploy_state.specs.States.{OwnsBacked, OwnsBacking, OwnsIdle, backed_device, backing_device, idle_device};
 
 use crate::names::{failed_in, next_in};
 use crate::state::{Backed, Backing, Idle, Rolling, Stopped};
@@ -44,14 +44,14 @@ impl<J: Journal + Drop> Backing<J> {
 
     /// Records that the next back begins, unless that is recorded.
     pub fn begin<D: Disk>(self, disk: &mut D) -> Result<Backing<J>, Stopped<J>>
-        requires held { InBacking D.tells D.may_leave J.stands J.end self disk.old }
+        requires held { OwnsBacking D.is_modelled D.may_leave J.stands J.end self disk.old }
         requires may { CanBegin (backing_device self) }
         ensures moments { (r : Record) → IsMark (backing_device self) marks.BootBegun r →
             Leaves D.moment D.left_since disk.old disk.new (LeavesEither D.may_leave J.files J.entries disk.old (backing_device self) (applied (backing_device self) r)) }
         ensures taken { (r : Record) → IsMark (backing_device self) marks.BootBegun r → IfOk result (λ s. backing_device s ≡ applied (backing_device self) r) }
-        ensures held { IfOk result (λ s. InBacking D.tells D.may_leave J.stands J.end s disk.new) }
+        ensures held { IfOk result (λ s. OwnsBacking D.is_modelled D.may_leave J.stands J.end s disk.new) }
         ensures silent { IsBegun (backing_device self) → (disk.new ≡ disk.old) × IsOkAnd result (λ s. s ≡ self) }
-        ensures others { IsTrue D.tells → (name : List ℕ) → ¬ (J.files name) → D.seen disk.new name ≡ D.seen disk.old name }
+        ensures others { IsTrue D.is_modelled → (name : List ℕ) → ¬ (J.files name) → D.seen disk.new name ≡ D.seen disk.old name }
         ensures cause { HasCause (D.faults disk.old) (D.faults disk.new) result }
         ensures quiet { OnOk result (D.faults disk.new ≡ D.faults disk.old) }
     {
@@ -63,13 +63,13 @@ impl<J: Journal + Drop> Backing<J> {
 
     /// Records how the back that was begun ended. Behind the last of them the items of the set are brought up.
     pub fn ended<D: Disk>(self, disk: &mut D, exit: Exit) -> Result<Backed<J>, Stopped<J>>
-        requires held { InBacking D.tells D.may_leave J.stands J.end self disk.old }
+        requires held { OwnsBacking D.is_modelled D.may_leave J.stands J.end self disk.old }
         requires may { MayMark (backing_device self) (marks.BootEnded exit) }
         ensures moments { (r : Record) → IsMark (backing_device self) (marks.BootEnded exit) r →
             Leaves D.moment D.left_since disk.old disk.new (LeavesEither D.may_leave J.files J.entries disk.old (backing_device self) (applied (backing_device self) r)) }
         ensures taken { (r : Record) → IsMark (backing_device self) (marks.BootEnded exit) r → IfOk result (λ s. backed_device s ≡ applied (backing_device self) r) }
-        ensures held { IfOk result (λ s. InBacked D.tells D.may_leave J.stands J.end s disk.new) }
-        ensures others { IsTrue D.tells → (name : List ℕ) → ¬ (J.files name) → D.seen disk.new name ≡ D.seen disk.old name }
+        ensures held { IfOk result (λ s. OwnsBacked D.is_modelled D.may_leave J.stands J.end s disk.new) }
+        ensures others { IsTrue D.is_modelled → (name : List ℕ) → ¬ (J.files name) → D.seen disk.new name ≡ D.seen disk.old name }
         ensures cause { HasCause (D.faults disk.old) (D.faults disk.new) result }
         ensures quiet { OnOk result (D.faults disk.new ≡ D.faults disk.old) }
     {
@@ -87,12 +87,12 @@ impl<J: Journal + Drop> Backing<J> {
 
     /// A back failed, and the deployment closes.
     pub fn close<D: Disk>(self, disk: &mut D) -> Result<Idle<J>, Stopped<J>>
-        requires held { InBacking D.tells D.may_leave J.stands J.end self disk.old }
+        requires held { OwnsBacking D.is_modelled D.may_leave J.stands J.end self disk.old }
         requires may { Allowed (backing_device self) (stored.Closed outcomes.UnableToRollback) }
         ensures moments { Leaves D.moment D.left_since disk.old disk.new (LeavesEither D.may_leave J.files J.entries disk.old (backing_device self) (applied (backing_device self) (stored.Closed outcomes.UnableToRollback))) }
         ensures taken { IfOk result (λ s. idle_device s ≡ applied (backing_device self) (stored.Closed outcomes.UnableToRollback)) }
-        ensures held { IfOk result (λ s. InIdle D.tells D.may_leave J.stands J.end s disk.new) }
-        ensures others { IsTrue D.tells → (name : List ℕ) → ¬ (J.files name) → D.seen disk.new name ≡ D.seen disk.old name }
+        ensures held { IfOk result (λ s. OwnsIdle D.is_modelled D.may_leave J.stands J.end s disk.new) }
+        ensures others { IsTrue D.is_modelled → (name : List ℕ) → ¬ (J.files name) → D.seen disk.new name ≡ D.seen disk.old name }
         ensures cause { HasCause (D.faults disk.old) (D.faults disk.new) result }
         ensures quiet { OnOk result (D.faults disk.new ≡ D.faults disk.old) }
     {

@@ -10,8 +10,8 @@ ghost use Rattle.device.specs.Marks.{IsMark};
 ghost use Rattle.device.specs.declared.mark.Mark.TheVariants as marks;
 ghost use Rattle.nuc_base.specs.declared.kinds.Outcome.TheVariants as outcomes;
 ghost use Rattle.deploy_state.specs.Fields.{CanBegin, CanBreakOff, IsBegun, IsBreak, has_failed, next_name};
-ghost use Rattle.deploy_state.specs.Hand.{LeavesEither, MayMark};
-ghost use Rattle.deploy_state.specs.States.{InActivating, InBooting, InBrokeOff, InIdle, activating_device, booting_device, broken_device, idle_device};
+ghost use Rattle.deploy_state.specs.Owned.{LeavesEither, MayMark};
+ghost use Rattle.deploy_state.specs.States.{OwnsActivating, OwnsBooting, InBrokeOff, OwnsIdle, activating_device, booting_device, broken_device, idle_device};
 
 use crate::names::{failed_in, next_in};
 use crate::state::{Activating, Booting, BrokeOff, Idle, Stopped};
@@ -44,14 +44,14 @@ impl<J: Journal + Drop> Booting<J> {
 
     /// Records that the next bootstrap step begins, unless that is recorded.
     pub fn begin<D: Disk>(self, disk: &mut D) -> Result<Booting<J>, Stopped<J>>
-        requires held { InBooting D.tells D.may_leave J.stands J.end self disk.old }
+        requires held { OwnsBooting D.is_modelled D.may_leave J.stands J.end self disk.old }
         requires may { CanBegin (booting_device self) }
         ensures moments { (r : Record) → IsMark (booting_device self) marks.BootBegun r →
             Leaves D.moment D.left_since disk.old disk.new (LeavesEither D.may_leave J.files J.entries disk.old (booting_device self) (applied (booting_device self) r)) }
         ensures taken { (r : Record) → IsMark (booting_device self) marks.BootBegun r → IfOk result (λ s. booting_device s ≡ applied (booting_device self) r) }
-        ensures held { IfOk result (λ s. InBooting D.tells D.may_leave J.stands J.end s disk.new) }
+        ensures held { IfOk result (λ s. OwnsBooting D.is_modelled D.may_leave J.stands J.end s disk.new) }
         ensures silent { IsBegun (booting_device self) → (disk.new ≡ disk.old) × IsOkAnd result (λ s. s ≡ self) }
-        ensures others { IsTrue D.tells → (name : List ℕ) → ¬ (J.files name) → D.seen disk.new name ≡ D.seen disk.old name }
+        ensures others { IsTrue D.is_modelled → (name : List ℕ) → ¬ (J.files name) → D.seen disk.new name ≡ D.seen disk.old name }
         ensures cause { HasCause (D.faults disk.old) (D.faults disk.new) result }
         ensures quiet { OnOk result (D.faults disk.new ≡ D.faults disk.old) }
     {
@@ -63,13 +63,13 @@ impl<J: Journal + Drop> Booting<J> {
 
     /// Records how the bootstrap step that was begun ended.
     pub fn ended<D: Disk>(self, disk: &mut D, exit: Exit) -> Result<Booting<J>, Stopped<J>>
-        requires held { InBooting D.tells D.may_leave J.stands J.end self disk.old }
+        requires held { OwnsBooting D.is_modelled D.may_leave J.stands J.end self disk.old }
         requires may { MayMark (booting_device self) (marks.BootEnded exit) }
         ensures moments { (r : Record) → IsMark (booting_device self) (marks.BootEnded exit) r →
             Leaves D.moment D.left_since disk.old disk.new (LeavesEither D.may_leave J.files J.entries disk.old (booting_device self) (applied (booting_device self) r)) }
         ensures taken { (r : Record) → IsMark (booting_device self) (marks.BootEnded exit) r → IfOk result (λ s. booting_device s ≡ applied (booting_device self) r) }
-        ensures held { IfOk result (λ s. InBooting D.tells D.may_leave J.stands J.end s disk.new) }
-        ensures others { IsTrue D.tells → (name : List ℕ) → ¬ (J.files name) → D.seen disk.new name ≡ D.seen disk.old name }
+        ensures held { IfOk result (λ s. OwnsBooting D.is_modelled D.may_leave J.stands J.end s disk.new) }
+        ensures others { IsTrue D.is_modelled → (name : List ℕ) → ¬ (J.files name) → D.seen disk.new name ≡ D.seen disk.old name }
         ensures cause { HasCause (D.faults disk.old) (D.faults disk.new) result }
         ensures quiet { OnOk result (D.faults disk.new ≡ D.faults disk.old) }
     {
@@ -81,12 +81,12 @@ impl<J: Journal + Drop> Booting<J> {
 
     /// All bootstrap steps are ended, and the plan's items are to be brought up.
     pub fn activate<D: Disk>(self, disk: &mut D) -> Result<Activating<J>, Stopped<J>>
-        requires held { InBooting D.tells D.may_leave J.stands J.end self disk.old }
+        requires held { OwnsBooting D.is_modelled D.may_leave J.stands J.end self disk.old }
         requires may { Allowed (booting_device self) stored.Activating }
         ensures moments { Leaves D.moment D.left_since disk.old disk.new (LeavesEither D.may_leave J.files J.entries disk.old (booting_device self) (applied (booting_device self) stored.Activating)) }
         ensures taken { IfOk result (λ s. activating_device s ≡ applied (booting_device self) stored.Activating) }
-        ensures held { IfOk result (λ s. InActivating D.tells D.may_leave J.stands J.end s disk.new) }
-        ensures others { IsTrue D.tells → (name : List ℕ) → ¬ (J.files name) → D.seen disk.new name ≡ D.seen disk.old name }
+        ensures held { IfOk result (λ s. OwnsActivating D.is_modelled D.may_leave J.stands J.end s disk.new) }
+        ensures others { IsTrue D.is_modelled → (name : List ℕ) → ¬ (J.files name) → D.seen disk.new name ≡ D.seen disk.old name }
         ensures cause { HasCause (D.faults disk.old) (D.faults disk.new) result }
         ensures quiet { OnOk result (D.faults disk.new ≡ D.faults disk.old) }
     {
@@ -98,13 +98,13 @@ impl<J: Journal + Drop> Booting<J> {
 
     /// A bootstrap step failed, and the deployment is rolled back.
     pub fn break_off<D: Disk>(self, disk: &mut D) -> Result<BrokeOff<J>, Stopped<J>>
-        requires held { InBooting D.tells D.may_leave J.stands J.end self disk.old }
+        requires held { OwnsBooting D.is_modelled D.may_leave J.stands J.end self disk.old }
         requires may { CanBreakOff (booting_device self) }
         ensures moments { (r : Record) → IsBreak (booting_device self) r →
             Leaves D.moment D.left_since disk.old disk.new (LeavesEither D.may_leave J.files J.entries disk.old (booting_device self) (applied (booting_device self) r)) }
         ensures taken { (r : Record) → IsBreak (booting_device self) r → IfOk result (λ s. broken_device s ≡ applied (booting_device self) r) }
-        ensures held { IfOk result (λ s. InBrokeOff D.tells D.may_leave J.stands J.end s disk.new) }
-        ensures others { IsTrue D.tells → (name : List ℕ) → ¬ (J.files name) → D.seen disk.new name ≡ D.seen disk.old name }
+        ensures held { IfOk result (λ s. InBrokeOff D.is_modelled D.may_leave J.stands J.end s disk.new) }
+        ensures others { IsTrue D.is_modelled → (name : List ℕ) → ¬ (J.files name) → D.seen disk.new name ≡ D.seen disk.old name }
         ensures cause { HasCause (D.faults disk.old) (D.faults disk.new) result }
         ensures quiet { OnOk result (D.faults disk.new ≡ D.faults disk.old) }
     {
@@ -113,12 +113,12 @@ impl<J: Journal + Drop> Booting<J> {
 
     /// The failed deployment stays as it is and closes.
     pub fn keep<D: Disk>(self, disk: &mut D) -> Result<Idle<J>, Stopped<J>>
-        requires held { InBooting D.tells D.may_leave J.stands J.end self disk.old }
+        requires held { OwnsBooting D.is_modelled D.may_leave J.stands J.end self disk.old }
         requires may { Allowed (booting_device self) (stored.Closed outcomes.RollbackNotRequested) }
         ensures moments { Leaves D.moment D.left_since disk.old disk.new (LeavesEither D.may_leave J.files J.entries disk.old (booting_device self) (applied (booting_device self) (stored.Closed outcomes.RollbackNotRequested))) }
         ensures taken { IfOk result (λ s. idle_device s ≡ applied (booting_device self) (stored.Closed outcomes.RollbackNotRequested)) }
-        ensures held { IfOk result (λ s. InIdle D.tells D.may_leave J.stands J.end s disk.new) }
-        ensures others { IsTrue D.tells → (name : List ℕ) → ¬ (J.files name) → D.seen disk.new name ≡ D.seen disk.old name }
+        ensures held { IfOk result (λ s. OwnsIdle D.is_modelled D.may_leave J.stands J.end s disk.new) }
+        ensures others { IsTrue D.is_modelled → (name : List ℕ) → ¬ (J.files name) → D.seen disk.new name ≡ D.seen disk.old name }
         ensures cause { HasCause (D.faults disk.old) (D.faults disk.new) result }
         ensures quiet { OnOk result (D.faults disk.new ≡ D.faults disk.old) }
     {

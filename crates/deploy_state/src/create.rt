@@ -8,8 +8,8 @@ ghost use Rattle.records.specs.Stored as stored;
 ghost use Rattle.records.specs.declared.record.Origin.{Origin as Shown};
 ghost use Rattle.device.specs.Devices.{device_view, no_device};
 ghost use Rattle.device.specs.Lawful.{Allowed, applied};
-ghost use Rattle.deploy_state.specs.Hand.{IsInHand, LeavesEither};
-ghost use Rattle.deploy_state.specs.States.{InIdle, idle_device};
+ghost use Rattle.deploy_state.specs.Owned.{OwnsJournal, LeavesEither};
+ghost use Rattle.deploy_state.specs.States.{OwnsIdle, idle_device};
 
 use crate::fault::CreateFault;
 use crate::state::Idle;
@@ -34,14 +34,14 @@ fn begun(alloc: Global, origin: Origin) -> Result<(Device, Bytes), NoMemory>
 
 /// Makes an empty journal and adds its first entry.
 fn make<D: Disk, J: Journal + Drop>(disk: &mut D, payload: &[u8]) -> Result<J, DiskFault>
-    requires none { IsTrue D.tells → J.holds_none (D.seen disk.old) }
+    requires none { IsTrue D.is_modelled → J.holds_none (D.seen disk.old) }
     requires settled { AreSettled D.seen D.may_leave J.files disk.old }
     requires first { (o : Shown) × Spelled payload.now (stored.Genesis o) × Allowed no_device (stored.Genesis o) }
     ensures moments { (o : Shown) → Spelled payload.now (stored.Genesis o) →
         Leaves D.moment D.left_since disk.old disk.new (LeavesEither D.may_leave J.files J.entries disk.old no_device (applied no_device (stored.Genesis o))) }
     ensures hand { (o : Shown) → Spelled payload.now (stored.Genesis o) →
-        IfOk result (λ log. IsInHand D.tells D.may_leave J.stands J.end log disk.new (applied no_device (stored.Genesis o))) }
-    ensures others { IsTrue D.tells → (name : List ℕ) → ¬ (J.files name) → D.seen disk.new name ≡ D.seen disk.old name }
+        IfOk result (λ log. OwnsJournal D.is_modelled D.may_leave J.stands J.end log disk.new (applied no_device (stored.Genesis o))) }
+    ensures others { IsTrue D.is_modelled → (name : List ℕ) → ¬ (J.files name) → D.seen disk.new name ≡ D.seen disk.old name }
     ensures cause { HasCause (D.faults disk.old) (D.faults disk.new) result }
     ensures quiet { OnOk result (D.faults disk.new ≡ D.faults disk.old) }
 {
@@ -60,15 +60,15 @@ impl<J: Journal + Drop> Idle<J> {
         disk: &mut D,
         origin: Origin,
     ) -> Result<Idle<J>, CreateFault>
-        requires none { IsTrue D.tells → J.holds_none (D.seen disk.old) }
+        requires none { IsTrue D.is_modelled → J.holds_none (D.seen disk.old) }
         requires settled { AreSettled D.seen D.may_leave J.files disk.old }
         requires short { length origin.root ≤ 1024 }
         ensures made { IfOk result (λ s. idle_device s ≡ applied no_device (stored.Genesis origin)) }
-        ensures held { IfOk result (λ s. InIdle D.tells D.may_leave J.stands J.end s disk.new) }
+        ensures held { IfOk result (λ s. OwnsIdle D.is_modelled D.may_leave J.stands J.end s disk.new) }
         // An image that holds no entry stands for the device before its first record.
         ensures moments { ¬ (IsErrOf result CreateFault.NoMemory) →
             Leaves D.moment D.left_since disk.old disk.new (LeavesEither D.may_leave J.files J.entries disk.old no_device (applied no_device (stored.Genesis origin))) }
-        ensures others { IsTrue D.tells → (name : List ℕ) → ¬ (J.files name) → D.seen disk.new name ≡ D.seen disk.old name }
+        ensures others { IsTrue D.is_modelled → (name : List ℕ) → ¬ (J.files name) → D.seen disk.new name ≡ D.seen disk.old name }
         // Without memory nothing was written.
         ensures memory { IsErrOf result CreateFault.NoMemory → disk.new ≡ disk.old }
         ensures cause { IsErrOf result CreateFault.Disk → Rose (D.faults disk.old) (D.faults disk.new) }

@@ -8,7 +8,7 @@ ghost use Rattle.device.specs.Devices.{device_view};
 ghost use Rattle.device.specs.Sound.{IsSound};
 ghost use Rattle.device.specs.Spares.{IsSpareOf};
 ghost use Rattle.deploy_state.specs.Loading.{IsOf, IsReady, Loads};
-ghost use Rattle.deploy_state.specs.States.{InLoaded, IsIn, device_of, loaded_device};
+ghost use Rattle.deploy_state.specs.States.{OwnsLoaded, IsIn, device_of, loaded_device};
 
 use crate::fault::LoadFault;
 use crate::state::{Activating, Backing, Booting, Hand, Idle, Loaded, Rolling};
@@ -67,10 +67,10 @@ fn replayed<D: Disk, J: Journal + Drop>(
     disk: &mut D,
 ) -> Result<Loaded<J>, LoadFault>
     requires open { (payloads : List (List ℕ)) × IsBehind D.may_leave J.stands log disk.old payloads }
-    requires some { IsTrue D.tells → (payloads : List (List ℕ)) × J.stands log (D.seen disk.old) payloads × (payloads ≢ []) }
+    requires some { IsTrue D.is_modelled → (payloads : List (List ℕ)) × J.stands log (D.seen disk.old) payloads × (payloads ≢ []) }
     requires settled { AreSettled D.seen D.may_leave J.files disk.old }
-    ensures told { IsTrue D.tells → Loads J.entries J.holds_none J.is_damaged (D.seen disk.old) result }
-    ensures held { IfOk result (λ s. InLoaded D.tells D.may_leave J.stands J.end s disk.new) }
+    ensures told { IsTrue D.is_modelled → Loads J.entries J.holds_none J.is_damaged (D.seen disk.old) result }
+    ensures held { IfOk result (λ s. OwnsLoaded D.is_modelled D.may_leave J.stands J.end s disk.new) }
     ensures ready { IfOk result (λ s. IsReady (loaded_device s)) }
     ensures settled { AreSettled D.seen D.may_leave J.files disk.new }
     ensures seen { D.seen disk.new ≡ D.seen disk.old }
@@ -98,8 +98,8 @@ fn replayed<D: Disk, J: Journal + Drop>(
 
 /// Makes the journal stable, finds it and replays it. It writes nothing.
 pub fn load<D: Disk, J: Journal + Drop>(alloc: Global, disk: &mut D) -> Result<Loaded<J>, LoadFault>
-    ensures told { IsTrue D.tells → Loads J.entries J.holds_none J.is_damaged (D.seen disk.old) result }
-    ensures held { IfOk result (λ s. InLoaded D.tells D.may_leave J.stands J.end s disk.new) }
+    ensures told { IsTrue D.is_modelled → Loads J.entries J.holds_none J.is_damaged (D.seen disk.old) result }
+    ensures held { IfOk result (λ s. OwnsLoaded D.is_modelled D.may_leave J.stands J.end s disk.new) }
     ensures ready { IfOk result (λ s. IsReady (loaded_device s)) }
     // A crash leaves the journal's files as they read.
     ensures settled { ¬ (IsErrOf result LoadFault.Disk) → AreSettled D.seen D.may_leave J.files disk.new }

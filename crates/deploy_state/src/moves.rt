@@ -11,7 +11,7 @@ ghost use Rattle.device.specs.Marks.{IsMark};
 ghost use Rattle.device.specs.declared.mark.Mark.TheVariants as marks;
 ghost use Rattle.device.specs.declared.staged.Stage.TheVariants as stages;
 ghost use Rattle.deploy_state.specs.Fields.{CanBegin, CanBreakOff, IsBegun, IsBreak};
-ghost use Rattle.deploy_state.specs.Hand.{LeavesEither};
+ghost use Rattle.deploy_state.specs.Owned.{LeavesEither};
 ghost use Rattle.deploy_state.specs.States.{InBrokeOff, IsHeld, IsIn, broken_device, device_of};
 
 use crate::state::{Backing, BrokeOff, Hand, Rolling, Stopped};
@@ -42,14 +42,14 @@ impl<J: Journal + Drop> Hand<J> {
 
     /// Records that the next bootstrap step begins, unless that is recorded.
     pub(crate) fn begin<D: Disk>(self, disk: &mut D) -> Result<Hand<J>, Stopped<J>>
-        requires held { IsHeld D.tells D.may_leave J.stands J.end self disk.old }
+        requires held { IsHeld D.is_modelled D.may_leave J.stands J.end self disk.old }
         requires may { CanBegin (device_of self) }
         ensures moments { (r : Record) → IsMark (device_of self) marks.BootBegun r →
             Leaves D.moment D.left_since disk.old disk.new (LeavesEither D.may_leave J.files J.entries disk.old (device_of self) (applied (device_of self) r)) }
         ensures taken { (r : Record) → IsMark (device_of self) marks.BootBegun r → IfOk result (λ s. device_of s ≡ applied (device_of self) r) }
-        ensures held { IfOk result (λ s. IsHeld D.tells D.may_leave J.stands J.end s disk.new) }
+        ensures held { IfOk result (λ s. IsHeld D.is_modelled D.may_leave J.stands J.end s disk.new) }
         ensures silent { IsBegun (device_of self) → (disk.new ≡ disk.old) × IsOkAnd result (λ h. h ≡ self) }
-        ensures others { IsTrue D.tells → (name : List ℕ) → ¬ (J.files name) → D.seen disk.new name ≡ D.seen disk.old name }
+        ensures others { IsTrue D.is_modelled → (name : List ℕ) → ¬ (J.files name) → D.seen disk.new name ≡ D.seen disk.old name }
         ensures cause { HasCause (D.faults disk.old) (D.faults disk.new) result }
         ensures quiet { OnOk result (D.faults disk.new ≡ D.faults disk.old) }
     {
@@ -82,12 +82,12 @@ impl<J: Journal + Drop> Hand<J> {
         step: Step,
         exit: Exit,
     ) -> Result<Hand<J>, Stopped<J>>
-        requires held { IsHeld D.tells D.may_leave J.stands J.end self disk.old }
+        requires held { IsHeld D.is_modelled D.may_leave J.stands J.end self disk.old }
         requires may { Allowed (device_of self) (stored.StepFailed name.now step exit) }
         ensures moments { Leaves D.moment D.left_since disk.old disk.new (LeavesEither D.may_leave J.files J.entries disk.old (device_of self) (applied (device_of self) (stored.StepFailed name.now step exit))) }
         ensures taken { IfOk result (λ s. device_of s ≡ applied (device_of self) (stored.StepFailed name.now step exit)) }
-        ensures held { IfOk result (λ s. IsHeld D.tells D.may_leave J.stands J.end s disk.new) }
-        ensures others { IsTrue D.tells → (name : List ℕ) → ¬ (J.files name) → D.seen disk.new name ≡ D.seen disk.old name }
+        ensures held { IfOk result (λ s. IsHeld D.is_modelled D.may_leave J.stands J.end s disk.new) }
+        ensures others { IsTrue D.is_modelled → (name : List ℕ) → ¬ (J.files name) → D.seen disk.new name ≡ D.seen disk.old name }
         ensures cause { HasCause (D.faults disk.old) (D.faults disk.new) result }
         ensures quiet { OnOk result (D.faults disk.new ≡ D.faults disk.old) }
     {
@@ -98,13 +98,13 @@ impl<J: Journal + Drop> Hand<J> {
     /// Records that the deployment failed. Bootstrap steps of the set run again where one of them is to, and otherwise its
     /// items are brought up again.
     pub(crate) fn break_off<D: Disk>(self, disk: &mut D) -> Result<BrokeOff<J>, Stopped<J>>
-        requires held { IsHeld D.tells D.may_leave J.stands J.end self disk.old }
+        requires held { IsHeld D.is_modelled D.may_leave J.stands J.end self disk.old }
         requires may { CanBreakOff (device_of self) }
         ensures moments { (r : Record) → IsBreak (device_of self) r →
             Leaves D.moment D.left_since disk.old disk.new (LeavesEither D.may_leave J.files J.entries disk.old (device_of self) (applied (device_of self) r)) }
         ensures taken { (r : Record) → IsBreak (device_of self) r → IfOk result (λ s. broken_device s ≡ applied (device_of self) r) }
-        ensures held { IfOk result (λ s. InBrokeOff D.tells D.may_leave J.stands J.end s disk.new) }
-        ensures others { IsTrue D.tells → (name : List ℕ) → ¬ (J.files name) → D.seen disk.new name ≡ D.seen disk.old name }
+        ensures held { IfOk result (λ s. InBrokeOff D.is_modelled D.may_leave J.stands J.end s disk.new) }
+        ensures others { IsTrue D.is_modelled → (name : List ℕ) → ¬ (J.files name) → D.seen disk.new name ≡ D.seen disk.old name }
         ensures cause { HasCause (D.faults disk.old) (D.faults disk.new) result }
         ensures quiet { OnOk result (D.faults disk.new ≡ D.faults disk.old) }
     {

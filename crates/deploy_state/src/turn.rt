@@ -11,7 +11,7 @@ ghost use Rattle.records.specs.Layout.{Spelled};
 ghost use Rattle.device.specs.Devices.{device_view, IsRegularDevice};
 ghost use Rattle.device.specs.Fronts.{Front, HasFront};
 ghost use Rattle.device.specs.Standing.{StandsFor};
-ghost use Rattle.deploy_state.specs.Hand.{IsInHand};
+ghost use Rattle.deploy_state.specs.Owned.{OwnsJournal};
 ghost use Rattle.deploy_state.specs.Turning.{AreSpelled, can_turn, front_bytes, front_payloads};
 
 use device::Device;
@@ -63,18 +63,18 @@ fn put_next<J: Journal, D: Disk>(
     requires below { at < length (Front number (device_view device.now)) }
     requires open { (payloads : List (List ℕ)) × IsBehind D.may_leave J.stands log.old disk.old payloads }
     requires begun { IsTrue (J.turns log.old) }
-    requires put { IsPut D.tells D.seen J.put_there log.old disk.old (take at (front_payloads number (device_view device.now))) }
+    requires put { IsPut D.is_modelled D.seen J.put_there log.old disk.old (take at (front_payloads number (device_view device.now))) }
     requires put_end { J.put_end log.old ≡ place_behind (take at (front_payloads number (device_view device.now))) }
     requires spelled { AreSpelled number (device_view device.now) at }
     requires room { front_bytes number (device_view device.now) < most_file }
     ensures spelled { OnOk result (AreSpelled number (device_view device.now) (at + 1)) }
-    ensures put { OnOk result (IsPut D.tells D.seen J.put_there log.new disk.new (take (at + 1) (front_payloads number (device_view device.now)))) }
+    ensures put { OnOk result (IsPut D.is_modelled D.seen J.put_there log.new disk.new (take (at + 1) (front_payloads number (device_view device.now)))) }
     ensures put_end { OnOk result (J.put_end log.new ≡ place_behind (take (at + 1) (front_payloads number (device_view device.now)))) }
     ensures moments { (payloads : List (List ℕ)) → IsBehind D.may_leave J.stands log.old disk.old payloads →
         Leaves D.moment D.left_since disk.old disk.new (After (D.may_leave disk.old) (Within J.files (λ c. J.entries c payloads))) }
     ensures stays { ¬ (IsErrOf result TurnFault.Disk) → (payloads : List (List ℕ)) → IsBehind D.may_leave J.stands log.old disk.old payloads → IsBehind D.may_leave J.stands log.new disk.new payloads }
     ensures same { (J.end log.new ≡ J.end log.old) × (J.number log.new ≡ J.number log.old) × (J.turns log.new ≡ J.turns log.old) }
-    ensures others { IsTrue D.tells → (name : List ℕ) → ¬ (J.files name) → D.seen disk.new name ≡ D.seen disk.old name }
+    ensures others { IsTrue D.is_modelled → (name : List ℕ) → ¬ (J.files name) → D.seen disk.new name ≡ D.seen disk.old name }
     ensures cause { IsErrOf result TurnFault.Disk → Rose (D.faults disk.old) (D.faults disk.new) }
     ensures quiet { ¬ (IsErrOf result TurnFault.Disk) → D.faults disk.new ≡ D.faults disk.old }
     ensures later { D.faults disk.old ≤ D.faults disk.new }
@@ -100,17 +100,17 @@ fn put_front<J: Journal, D: Disk>(
     requires regular { IsRegularDevice (device_view device.now) }
     requires open { (payloads : List (List ℕ)) × IsBehind D.may_leave J.stands log.old disk.old payloads }
     requires begun { IsTrue (J.turns log.old) }
-    requires put { IsPut D.tells D.seen J.put_there log.old disk.old [] }
+    requires put { IsPut D.is_modelled D.seen J.put_there log.old disk.old [] }
     requires put_end { J.put_end log.old ≡ 0 }
     requires room { front_bytes number (device_view device.now) < most_file }
     ensures spelled { OnOk result (AllZip Spelled (front_payloads number (device_view device.now)) (Front number (device_view device.now))) }
-    ensures put { OnOk result (IsPut D.tells D.seen J.put_there log.new disk.new (front_payloads number (device_view device.now))) }
+    ensures put { OnOk result (IsPut D.is_modelled D.seen J.put_there log.new disk.new (front_payloads number (device_view device.now))) }
     ensures put_end { OnOk result (J.put_end log.new ≡ front_bytes number (device_view device.now)) }
     ensures moments { (payloads : List (List ℕ)) → IsBehind D.may_leave J.stands log.old disk.old payloads →
         Leaves D.moment D.left_since disk.old disk.new (After (D.may_leave disk.old) (Within J.files (λ c. J.entries c payloads))) }
     ensures stays { ¬ (IsErrOf result TurnFault.Disk) → (payloads : List (List ℕ)) → IsBehind D.may_leave J.stands log.old disk.old payloads → IsBehind D.may_leave J.stands log.new disk.new payloads }
     ensures same { (J.end log.new ≡ J.end log.old) × (J.number log.new ≡ J.number log.old) × (J.turns log.new ≡ J.turns log.old) }
-    ensures others { IsTrue D.tells → (name : List ℕ) → ¬ (J.files name) → D.seen disk.new name ≡ D.seen disk.old name }
+    ensures others { IsTrue D.is_modelled → (name : List ℕ) → ¬ (J.files name) → D.seen disk.new name ≡ D.seen disk.old name }
     ensures cause { IsErrOf result TurnFault.Disk → Rose (D.faults disk.old) (D.faults disk.new) }
     ensures quiet { ¬ (IsErrOf result TurnFault.Disk) → D.faults disk.new ≡ D.faults disk.old }
     ensures later { D.faults disk.old ≤ D.faults disk.new }
@@ -130,15 +130,15 @@ pub(crate) fn turn<J: Journal, D: Disk>(
     device: &Device,
     disk: &mut D,
 ) -> Result<(), TurnFault>
-    requires hand { IsInHand D.tells D.may_leave J.stands J.end log.old disk.old (device_view device.now) }
+    requires hand { OwnsJournal D.is_modelled D.may_leave J.stands J.end log.old disk.old (device_view device.now) }
     requires idle { (device_view device.now).pending ≡ None }
     requires can { IsTrue (can_turn (J.turns log.old) (J.number log.old)) }
     requires room { front_bytes (J.number log.old + 1) (device_view device.now) < most_file }
-    ensures hand { ¬ (IsErrOf result TurnFault.Disk) → IsInHand D.tells D.may_leave J.stands J.end log.new disk.new (device_view device.now) }
+    ensures hand { ¬ (IsErrOf result TurnFault.Disk) → OwnsJournal D.is_modelled D.may_leave J.stands J.end log.new disk.new (device_view device.now) }
     ensures end { OnOk result (J.end log.new ≡ front_bytes (J.number log.old + 1) (device_view device.now)) }
     ensures number { OnOk result (J.number log.new ≡ J.number log.old + 1) }
     ensures moments { Leaves D.moment D.left_since disk.old disk.new (After (D.may_leave disk.old) (Within J.files (λ c. StandsFor J.entries c (device_view device.now)))) }
-    ensures others { IsTrue D.tells → (name : List ℕ) → ¬ (J.files name) → D.seen disk.new name ≡ D.seen disk.old name }
+    ensures others { IsTrue D.is_modelled → (name : List ℕ) → ¬ (J.files name) → D.seen disk.new name ≡ D.seen disk.old name }
     ensures cause { IsErrOf result TurnFault.Disk → Rose (D.faults disk.old) (D.faults disk.new) }
     ensures quiet { ¬ (IsErrOf result TurnFault.Disk) → D.faults disk.new ≡ D.faults disk.old }
     ensures later { D.faults disk.old ≤ D.faults disk.new }

@@ -52,8 +52,8 @@ fn take_entry<J: Journal, D: Disk>(
     at: u64,
 ) -> Result<u64, ReplayFault>
     requires below { at < J.end log.now }
-    requires place { IsTrue D.tells → (payload : List ℕ) × IsEntryAt J.stands log.now (D.seen disk.old) at payload }
-    ensures told { IsTrue D.tells → (payload : List ℕ) → IsEntryAt J.stands log.now (D.seen disk.old) at payload →
+    requires place { IsTrue D.is_modelled → (payload : List ℕ) × IsEntryAt J.stands log.now (D.seen disk.old) at payload }
+    ensures told { IsTrue D.is_modelled → (payload : List ℕ) → IsEntryAt J.stands log.now (D.seen disk.old) at payload →
         TookEntry (device_view device.old) at payload (device_view device.new) result }
     ensures goes_on { IfOk result (λ next. at < next) }
     ensures regular { IsRegularDevice (device_view device.old) → IsRegularDevice (device_view device.new) }
@@ -98,9 +98,9 @@ fn take_front_entry<J: Journal, D: Disk>(
     at: u64,
 ) -> Result<u64, ReplayFault>
     requires below { at < J.end log.now }
-    requires place { IsTrue D.tells → (payload : List ℕ) × IsEntryAt J.stands log.now (D.seen disk.old) at payload }
+    requires place { IsTrue D.is_modelled → (payload : List ℕ) × IsEntryAt J.stands log.now (D.seen disk.old) at payload }
     requires orderly { IsOrderly (building_view building.old) }
-    ensures told { IsTrue D.tells → (payload : List ℕ) → IsEntryAt J.stands log.now (D.seen disk.old) at payload →
+    ensures told { IsTrue D.is_modelled → (payload : List ℕ) → IsEntryAt J.stands log.now (D.seen disk.old) at payload →
         CameEntry (building_view building.old) at payload (building_view building.new) result }
     ensures orderly { OnOk result (IsOrderly (building_view building.new)) }
     ensures goes_on { IfOk result (λ next. at < next) }
@@ -127,10 +127,10 @@ fn take_front<J: Journal, D: Disk>(
     disk: &mut D,
     mut at: u64,
 ) -> Result<(Device, u64), ReplayFault>
-    requires stands { IsTrue D.tells → (payloads : List (List ℕ)) × J.stands log.now (D.seen disk.old) payloads }
+    requires stands { IsTrue D.is_modelled → (payloads : List (List ℕ)) × J.stands log.now (D.seen disk.old) payloads }
     requires orderly { IsOrderly (building_view building) }
-    requires walked { IsTrue D.tells → (payloads : List (List ℕ)) → J.stands log.now (D.seen disk.old) payloads → Walked payloads at (building_view building) }
-    ensures told { IsTrue D.tells → (payloads : List (List ℕ)) → J.stands log.now (D.seen disk.old) payloads → TookFront payloads result }
+    requires walked { IsTrue D.is_modelled → (payloads : List (List ℕ)) → J.stands log.now (D.seen disk.old) payloads → Walked payloads at (building_view building) }
+    ensures told { IsTrue D.is_modelled → (payloads : List (List ℕ)) → J.stands log.now (D.seen disk.old) payloads → TookFront payloads result }
     ensures regular { IfOk result (λ r. IsRegularDevice (device_view r.0)) }
     ensures sound { IfOk result (λ r. IsSound (device_view r.0)) }
     ensures idle { IfOk result (λ r. r.0.pending ≡ None) }
@@ -182,7 +182,7 @@ fn begin<J: Journal, D: Disk>(
     disk: &mut D,
 ) -> Result<(Device, u64), ReplayFault>
     requires open { (payloads : List (List ℕ)) × IsBehind D.may_leave J.stands log.now disk.old payloads }
-    ensures told { IsTrue D.tells → (payloads : List (List ℕ)) → J.stands log.now (D.seen disk.old) payloads → BegunAt payloads result }
+    ensures told { IsTrue D.is_modelled → (payloads : List (List ℕ)) → J.stands log.now (D.seen disk.old) payloads → BegunAt payloads result }
     ensures regular { IfOk result (λ r. IsRegularDevice (device_view r.0)) }
     ensures sound { IfOk result (λ r. IsSound (device_view r.0)) }
     ensures idle { IfOk result (λ r. r.0.pending ≡ None) }
@@ -222,7 +222,7 @@ pub fn replay<J: Journal, D: Disk>(
     disk: &mut D,
 ) -> Result<Device, ReplayFault>
     requires open { (payloads : List (List ℕ)) × IsBehind D.may_leave J.stands log.now disk.old payloads }
-    ensures told { IsTrue D.tells → (payloads : List (List ℕ)) → J.stands log.now (D.seen disk.old) payloads → Replayed payloads result }
+    ensures told { IsTrue D.is_modelled → (payloads : List (List ℕ)) → J.stands log.now (D.seen disk.old) payloads → Replayed payloads result }
     ensures regular { IfOk result (λ d. IsRegularDevice (device_view d)) }
     // Also where the disk tells nothing.
     ensures sound { IfOk result (λ d. IsSound (device_view d)) }

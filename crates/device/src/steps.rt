@@ -280,14 +280,14 @@ pub(crate) fn go_back(
         return Err(ApplyFault::NotLawful);
     }
     let mut flags = [false; 128];
-    let tells = tell_backs(
+    let is_modelled = tell_backs(
         alloc,
         &origin.platform,
         set,
         pending.plan.boots.as_slice(),
         &mut flags,
     )?;
-    if !tells {
+    if !is_modelled {
         return Err(ApplyFault::NotLawful);
     }
     if !has_flag(pending, &flags) {

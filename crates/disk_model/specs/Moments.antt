@@ -4,8 +4,8 @@ use Rattle.std.proofs.Common.{inl, inr, ⊎_elim, refl, ◌∙◌, arith}
 use Rattle.disk_model.specs.Disk.{Image, Step, After, Leaves, DiskLaws}
 use Rattle.disk_model.specs.Spares.{Spares, IsFile}
 
-module _ {D : Type 0} {tells : Bool} {seen : D → Image} {may_leave : D → Image → Type 0} {moment : D → ℕ} {left_since : D → ℕ → Image → Type 0}
-    (laws : DiskLaws tells seen may_leave moment left_since) where
+module _ {D : Type 0} {is_modelled : Bool} {seen : D → Image} {may_leave : D → Image → Type 0} {moment : D → ℕ} {left_since : D → ℕ → Image → Type 0}
+    (laws : DiskLaws is_modelled seen may_leave moment left_since) where
   -- the images now are among those since the call's start
   pub now : (old new : D) (P : Image → Type 0) → Leaves moment left_since old new P → (c : Image) → may_leave new c → P c
   now old new P leaves c left = leaves.each c (laws.counts_now new (moment old) c leaves.later left)
@@ -41,7 +41,7 @@ module _ {D : Type 0} {tells : Bool} {seen : D → Image} {may_leave : D → Ima
   }
 
   -- where there is an image, the disk tells
-  pub tells_of : (d : D) (c : Image) → may_leave d c → IsTrue tells
+  pub tells_of : (d : D) (c : Image) → may_leave d c → IsTrue is_modelled
   tells_of d c left = laws.told d (moment d) c (laws.counts_now d (moment d) c (omega arith) left)
 
   -- the general form: what held so far, and a call that makes a step of each image there is
@@ -57,7 +57,7 @@ module _ {D : Type 0} {tells : Bool} {seen : D → Image} {may_leave : D → Ima
   pub step_as : (file : List ℕ) (old new : D) (Q S : List ℕ → List ℕ → Type 0) (M : List ℕ → Type 0)
       → Leaves moment left_since old new (After (may_leave old) (Step file Q))
       → ((c : Image) → may_leave old c → M (c file))
-      → (IsTrue tells → (a b : List ℕ) → M a → Q a b → S a b)
+      → (IsTrue is_modelled → (a b : List ℕ) → M a → Q a b → S a b)
       → Leaves moment left_since old new (After (may_leave old) (Step file S))
   step_as file old new Q S M leaves starts gives =
       weaker old new _ _
@@ -70,8 +70,8 @@ module _ {D : Type 0} {tells : Bool} {seen : D → Image} {may_leave : D → Ima
       → Leaves moment left_since mid new (After (may_leave mid) (Step file R))
       → ((c : Image) → may_leave old c → M (c file))
       → ((c : Image) → may_leave mid c → N (c file))
-      → (IsTrue tells → (a b : List ℕ) → M a → Q a b → S a b)
-      → (IsTrue tells → (a b c : List ℕ) → M a → Q a b → N b → R b c → S a c)
+      → (IsTrue is_modelled → (a b : List ℕ) → M a → Q a b → S a b)
+      → (IsTrue is_modelled → (a b c : List ℕ) → M a → Q a b → N b → R b c → S a c)
       → Leaves moment left_since old new (After (may_leave old) (Step file S))
   then_step file old mid new Q R S M N first second starts between once twice =
       joined old mid new _ _ _ first second

@@ -52,7 +52,7 @@ impl From<NoMemory> for ListFault {
 /// in part, within what a crash may leave of the call; every other file is as before.
 pub trait Disk {
     /// Whether the disk tells what its files hold. Where it does not, it has no images.
-    ghost tells: { Bool };
+    ghost is_modelled: { Bool };
 
     /// What each file reads as.
     ghost seen: { Self → Image };
@@ -71,7 +71,7 @@ pub trait Disk {
 
     /// How many bytes the file has.
     fn length(&mut self, file: &str) -> Result<u64, DiskFault>
-        ensures told { IsTrue tells → IfOk result (λ n. n ≡ length (seen self.old file.now)) }
+        ensures told { IsTrue is_modelled → IfOk result (λ n. n ≡ length (seen self.old file.now)) }
         ensures seen { seen self.new ≡ seen self.old }
         ensures moments { Leaves moment left_since self.old self.new (may_leave self.old) }
         ensures cause { HasCause (faults self.old) (faults self.new) result }
@@ -80,7 +80,7 @@ pub trait Disk {
     /// Reads as many bytes as there are from that place on, up to the slice, whose rest stays.
     fn read(&mut self, file: &str, at: u64, into: &mut [u8]) -> Result<usize, DiskFault>
         ensures bound { IfOk result (λ n. n ≤ length into.old) }
-        ensures told { IsTrue tells → IfOk result (λ n.
+        ensures told { IsTrue is_modelled → IfOk result (λ n.
             (n ≡ min (length into.old) (length (drop at (seen self.old file.now))))
             × (into.new ≡ take n (drop at (seen self.old file.now)) ++ drop n into.old)) }
         ensures seen { seen self.new ≡ seen self.old }
@@ -90,16 +90,16 @@ pub trait Disk {
 
     /// Writes over what is there and past the end. Until a sync, a crash may leave any bytes in the range.
     fn write_at(&mut self, file: &str, at: u64, bytes: &[u8]) -> Result<(), DiskFault>
-        requires { IsTrue tells → at ≤ length (seen self.old file.now) }
-        ensures told { IsTrue tells → Step file.now (λ old new. OnOk result (Holds at bytes.now old new)) (seen self.old) (seen self.new) }
+        requires { IsTrue is_modelled → at ≤ length (seen self.old file.now) }
+        ensures told { IsTrue is_modelled → Step file.now (λ old new. OnOk result (Holds at bytes.now old new)) (seen self.old) (seen self.new) }
         ensures moments { Leaves moment left_since self.old self.new (After (may_leave self.old) (Step file.now (Torn at (length bytes.now)))) }
         ensures cause { HasCause (faults self.old) (faults self.new) result }
         ensures quiet { OnOk result (faults self.new ≡ faults self.old) };
 
     /// Keeps the first bytes of the file. Until a sync, a crash may leave any front of it that is no shorter.
     fn cut(&mut self, file: &str, len: u64) -> Result<(), DiskFault>
-        requires { IsTrue tells → len ≤ length (seen self.old file.now) }
-        ensures told { IsTrue tells → Step file.now (λ old new. OnOk result (new ≡ take len old)) (seen self.old) (seen self.new) }
+        requires { IsTrue is_modelled → len ≤ length (seen self.old file.now) }
+        ensures told { IsTrue is_modelled → Step file.now (λ old new. OnOk result (new ≡ take len old)) (seen self.old) (seen self.new) }
         ensures moments { Leaves moment left_since self.old self.new (After (may_leave self.old) (Step file.now (Cut len))) }
         ensures cause { HasCause (faults self.old) (faults self.new) result }
         ensures quiet { OnOk result (faults self.new ≡ faults self.old) };
@@ -114,19 +114,19 @@ pub trait Disk {
 
     /// Leaves the file empty, which is the same as absent. Until a sync, a crash may leave any front of it.
     fn remove(&mut self, file: &str) -> Result<(), DiskFault>
-        ensures told { IsTrue tells → Step file.now (λ _ new. OnOk result (new ≡ [])) (seen self.old) (seen self.new) }
+        ensures told { IsTrue is_modelled → Step file.now (λ _ new. OnOk result (new ≡ [])) (seen self.old) (seen self.new) }
         ensures moments { Leaves moment left_since self.old self.new (After (may_leave self.old) (Step file.now (Cut 0))) }
         ensures cause { HasCause (faults self.old) (faults self.new) result }
         ensures quiet { OnOk result (faults self.new ≡ faults self.old) };
 
     /// The names below `packages/artifacts/` of files that are not empty, rising in byte order.
     fn list(&mut self, alloc: Global) -> Result<List<FileName>, ListFault>
-        ensures told { IsTrue tells → IfOk result (λ names. IsListing artifacts (seen self.old) names) }
+        ensures told { IsTrue is_modelled → IfOk result (λ names. IsListing artifacts (seen self.old) names) }
         ensures seen { seen self.new ≡ seen self.old }
         ensures moments { Leaves moment left_since self.old self.new (may_leave self.old) }
         ensures cause { IsErrOf result ListFault.Disk → Rose (faults self.old) (faults self.new) }
         ensures later { faults self.old ≤ faults self.new }
         ensures quiet { ¬ (IsErrOf result ListFault.Disk) → faults self.new ≡ faults self.old };
 
-    ghost laws: { DiskLaws tells seen may_leave moment left_since };
+    ghost laws: { DiskLaws is_modelled seen may_leave moment left_since };
 }

@@ -56,7 +56,7 @@ impl Disk for FusedDisk {
     ghost use Rattle.disk_model.specs.Memory.{Changed, Stable};
     ghost use Rattle.disk_model.specs.Laws.MemoryLaws.{memory_laws};
 
-    ghost tells = { true };
+    ghost is_modelled = { true };
 
     ghost seen = { fused_seen };
 

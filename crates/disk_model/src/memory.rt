@@ -93,7 +93,7 @@ impl Disk for MemoryDisk {
     ghost use Rattle.disk_model.specs.Memory.{seen_by, left_by, left_since_by, moment_by, faults_by, Changed, Stable, Unchanged};
     ghost use Rattle.disk_model.specs.Laws.MemoryLaws.{memory_laws};
 
-    ghost tells = { true };
+    ghost is_modelled = { true };
 
     ghost seen = { seen_by };
 

@@ -5,7 +5,7 @@ use Rattle.std.specs.declared.option.Option.{Option}
 use Rattle.std.specs.Result.{IsErrAnd}
 use Rattle.std.specs.Io.KnownBytes.{Appends}
 use denote.Bor.{Bor}
-use Rattle.edges.specs.Pieces.{AppendsFront, Writes, joined}
+use Rattle.edges.specs.Pieces.{AppendsPrefix, Writes, joined}
 
 -- one piece behind another
 pub appends_more : (old mid new : Option (List ℕ)) (a b : List ℕ) → Appends old mid a → Appends mid new b → Appends old new (a ++ b)
@@ -27,7 +27,7 @@ splits bytes front rest m n is split =
     ∙ sym (append_assoc front (take n rest) (take (m - n) (drop n rest)))
 
 -- whole pieces, and then a front of the next: a front of them all
-pub front_more : (old mid new : Option (List ℕ)) (all before piece after : List ℕ) → all ≡ (before ++ piece) ++ after → Appends old mid before → AppendsFront mid new piece → AppendsFront old new all
+pub front_more : (old mid new : Option (List ℕ)) (all before piece after : List ℕ) → all ≡ (before ++ piece) ++ after → Appends old mid before → AppendsPrefix mid new piece → AppendsPrefix old new all
 front_more old mid new all before piece after is sent last =
     (before ++ last.0, last.1 ++ after, is ∙ ap (λ (l : List ℕ). (before ++ l) ++ after) last.2 ∙ regroup before last.0 last.1 after, appends_more old mid new before last.0 sent last.3)
   where
@@ -35,7 +35,7 @@ front_more old mid new all before piece after is sent last =
     regroup a b c d = simp append_assoc
 
 -- a fault that `?` hands on
-pub handed_on : {E : Type 0} (old new : Option (List ℕ)) (bytes : List ℕ) (result : Result (Unit {0}) E) (fault : E) → IsErrAnd result (λ e. e ≡ fault) → AppendsFront old new bytes → Writes old new bytes result
+pub handed_on : {E : Type 0} (old new : Option (List ℕ)) (bytes : List ℕ) (result : Result (Unit {0}) E) (fault : E) → IsErrAnd result (λ e. e ≡ fault) → AppendsPrefix old new bytes → Writes old new bytes result
 handed_on old new bytes (Ok u) fault h front = absurd h
 handed_on old new bytes (Err e) fault h front = front
 

@@ -19,9 +19,9 @@ pub record IsBehind {J D : Type 0} (may_leave : D → Image → Type 0) (stands 
   pub each : (c : Image) → may_leave disk c → stands log c payloads
 
 -- it does so as the disk reads, which is one of these images
-pub reads_behind : {J D : Type 0} {tells : Bool} {seen : D → Image} {may_leave : D → Image → Type 0} {moment : D → ℕ} {left_since : D → ℕ → Image → Type 0}
-    → DiskLaws tells seen may_leave moment left_since → (stands : J → Image → List (List ℕ) → Type 0) (log : J) (disk : D) (payloads : List (List ℕ))
-    → IsBehind may_leave stands log disk payloads → IsTrue tells → stands log (seen disk) payloads
+pub reads_behind : {J D : Type 0} {is_modelled : Bool} {seen : D → Image} {may_leave : D → Image → Type 0} {moment : D → ℕ} {left_since : D → ℕ → Image → Type 0}
+    → DiskLaws is_modelled seen may_leave moment left_since → (stands : J → Image → List (List ℕ) → Type 0) (log : J) (disk : D) (payloads : List (List ℕ))
+    → IsBehind may_leave stands log disk payloads → IsTrue is_modelled → stands log (seen disk) payloads
 reads_behind {seen = seen} laws stands log disk payloads behind told = behind.each (seen disk) (laws.reads disk told)
 
 -- the entries of before, with one more or without

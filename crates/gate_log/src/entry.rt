@@ -55,8 +55,8 @@ impl Log {
         file: &str,
         at: u64,
     ) -> Result<(Bytes, u64), EntryFault>
-        requires place { IsTrue D.tells → (e : ℕ × List ℕ) × EntryAt (D.seen disk.old file.now) at self.now.end e }
-        ensures told { IsTrue D.tells → (e : ℕ × List ℕ) → EntryAt (D.seen disk.old file.now) at self.now.end e →
+        requires place { IsTrue D.is_modelled → (e : ℕ × List ℕ) × EntryAt (D.seen disk.old file.now) at self.now.end e }
+        ensures told { IsTrue D.is_modelled → (e : ℕ × List ℕ) → EntryAt (D.seen disk.old file.now) at self.now.end e →
             IfOk result (λ r. (r.0 ≡ e.1) × (r.1 ≡ at + 5 + length e.1)) }
         ensures goes_on { at < self.now.end → IfOk result (λ r. at < r.1) }
         // The place behind is no further than the payload goes, also where the disk tells nothing.

@@ -53,7 +53,7 @@ pub trait Journal {
 
     /// Makes the journal stable and finds the end of its live entries. It writes nothing.
     fn find<D: Disk>(disk: &mut D) -> Result<Self, FindFault>
-        ensures told { IsTrue D.tells → FindsBy holds_none is_damaged stands (D.seen disk.old) result }
+        ensures told { IsTrue D.is_modelled → FindsBy holds_none is_damaged stands (D.seen disk.old) result }
         ensures open { IfOk result (λ log. (payloads : List (List ℕ)) × IsBehind D.may_leave stands log disk.new payloads) }
         ensures some { IfOk result (λ log. 0 < end log) }
         // Whatever the journal holds, a crash then leaves it as it reads.
@@ -66,12 +66,12 @@ pub trait Journal {
 
     /// Makes a journal without an entry.
     fn create<D: Disk>(disk: &mut D) -> Result<Self, DiskFault>
-        requires none { IsTrue D.tells → holds_none (D.seen disk.old) }
+        requires none { IsTrue D.is_modelled → holds_none (D.seen disk.old) }
         requires settled { AreSettled D.seen D.may_leave files disk.old }
         ensures made { IfOk result (λ log. (end log ≡ 0) × IsBehind D.may_leave stands log disk.new []) }
         ensures number { IfOk result (λ log. number log ≡ 0) }
         ensures any_moment { Leaves D.moment D.left_since disk.old disk.new (After (D.may_leave disk.old) (Within files holds_none)) }
-        ensures others { IsTrue D.tells → (name : List ℕ) → ¬ (files name) → D.seen disk.new name ≡ D.seen disk.old name }
+        ensures others { IsTrue D.is_modelled → (name : List ℕ) → ¬ (files name) → D.seen disk.new name ≡ D.seen disk.old name }
         ensures cause { HasCause (D.faults disk.old) (D.faults disk.new) result }
         ensures quiet { OnOk result (D.faults disk.new ≡ D.faults disk.old) };
 
@@ -79,7 +79,7 @@ pub trait Journal {
     fn append<D: Disk>(&mut self, disk: &mut D, payload: &[u8]) -> Result<(), AppendFault>
         requires open { (payloads : List (List ℕ)) × IsBehind D.may_leave stands self.old disk.old payloads }
         // The first entry of a store begins it.
-        requires first { IsTrue D.tells → stands self.old (D.seen disk.old) [] → BeginsStore payload.now }
+        requires first { IsTrue D.is_modelled → stands self.old (D.seen disk.old) [] → BeginsStore payload.now }
         requires some { 1 ≤ length payload.now }
         requires fits { length payload.now ≤ most_payload }
         ensures any_moment { (payloads : List (List ℕ)) → IsBehind D.may_leave stands self.old disk.old payloads →
@@ -88,7 +88,7 @@ pub trait Journal {
             OnOk result (IsBehind D.may_leave stands self.new disk.new (payloads ++ payload.now ∷ [])) }
         ensures place { OnOk result (end self.new ≡ end self.old + 5 + length payload.now) }
         ensures number { number self.new ≡ number self.old }
-        ensures others { IsTrue D.tells → (name : List ℕ) → ¬ (files name) → D.seen disk.new name ≡ D.seen disk.old name }
+        ensures others { IsTrue D.is_modelled → (name : List ℕ) → ¬ (files name) → D.seen disk.new name ≡ D.seen disk.old name }
         ensures full { (at : ℕ) → IsErrOf result (AppendFault.Full at) ↔ ((at ≡ end self.old) × (most_file < end self.old + 6 + length payload.now)) }
         ensures untouched { most_file < end self.old + 6 + length payload.now → (disk.new ≡ disk.old) × (self.new ≡ self.old) }
         ensures cause { IsErrOf result AppendFault.Disk → Rose (D.faults disk.old) (D.faults disk.new) }
@@ -102,8 +102,8 @@ pub trait Journal {
         disk: &mut D,
         at: u64,
     ) -> Result<(Bytes, u64), EntryFault>
-        requires place { IsTrue D.tells → (payload : List ℕ) × IsEntryAt stands self.now (D.seen disk.old) at payload }
-        ensures told { IsTrue D.tells → (payload : List ℕ) → IsEntryAt stands self.now (D.seen disk.old) at payload →
+        requires place { IsTrue D.is_modelled → (payload : List ℕ) × IsEntryAt stands self.now (D.seen disk.old) at payload }
+        ensures told { IsTrue D.is_modelled → (payload : List ℕ) → IsEntryAt stands self.now (D.seen disk.old) at payload →
             IfOk result (λ r. (r.0 ≡ payload) × (r.1 ≡ at + 5 + length payload)) }
         ensures goes_on { at < end self.now → IfOk result (λ r. at < r.1) }
         // The place behind is no further than the payload goes, also where the disk tells nothing.
@@ -132,15 +132,15 @@ pub trait Journal {
         ensures stays { (payloads : List (List ℕ)) → IsBehind D.may_leave stands self.old disk.old payloads →
             OnOk result (IsBehind D.may_leave stands self.new disk.new payloads) }
         ensures same { (end self.new ≡ end self.old) × (number self.new ≡ number self.old) × (turns self.new ≡ turns self.old) }
-        ensures begun { IsTrue (turns self.old) → OnOk result ((put_end self.new ≡ 0) × IsPut D.tells D.seen put_there self.new disk.new []) }
-        ensures others { IsTrue D.tells → (name : List ℕ) → ¬ (files name) → D.seen disk.new name ≡ D.seen disk.old name }
+        ensures begun { IsTrue (turns self.old) → OnOk result ((put_end self.new ≡ 0) × IsPut D.is_modelled D.seen put_there self.new disk.new []) }
+        ensures others { IsTrue D.is_modelled → (name : List ℕ) → ¬ (files name) → D.seen disk.new name ≡ D.seen disk.old name }
         ensures cause { HasCause (D.faults disk.old) (D.faults disk.new) result }
         ensures quiet { OnOk result (D.faults disk.new ≡ D.faults disk.old) };
 
     /// Puts one more entry behind those that were put. The live ones stay.
     fn put<D: Disk>(&mut self, disk: &mut D, payload: &[u8]) -> Result<(), DiskFault>
         requires open { (payloads : List (List ℕ)) × IsBehind D.may_leave stands self.old disk.old payloads }
-        requires begun { IsTrue (turns self.old) → (more : List (List ℕ)) × IsPut D.tells D.seen put_there self.old disk.old more }
+        requires begun { IsTrue (turns self.old) → (more : List (List ℕ)) × IsPut D.is_modelled D.seen put_there self.old disk.old more }
         requires some { 1 ≤ length payload.now }
         requires fits { length payload.now ≤ most_payload }
         requires room { IsTrue (turns self.old) → put_end self.old + 6 + length payload.now ≤ most_file }
@@ -149,22 +149,22 @@ pub trait Journal {
         ensures stays { (payloads : List (List ℕ)) → IsBehind D.may_leave stands self.old disk.old payloads →
             OnOk result (IsBehind D.may_leave stands self.new disk.new payloads) }
         ensures same { (end self.new ≡ end self.old) × (number self.new ≡ number self.old) × (turns self.new ≡ turns self.old) }
-        ensures is_put { (more : List (List ℕ)) → IsTrue (turns self.old) → IsPut D.tells D.seen put_there self.old disk.old more →
+        ensures is_put { (more : List (List ℕ)) → IsTrue (turns self.old) → IsPut D.is_modelled D.seen put_there self.old disk.old more →
             OnOk result ((put_end self.new ≡ put_end self.old + 5 + length payload.now)
-            × IsPut D.tells D.seen put_there self.new disk.new (more ++ payload.now ∷ [])) }
-        ensures others { IsTrue D.tells → (name : List ℕ) → ¬ (files name) → D.seen disk.new name ≡ D.seen disk.old name }
+            × IsPut D.is_modelled D.seen put_there self.new disk.new (more ++ payload.now ∷ [])) }
+        ensures others { IsTrue D.is_modelled → (name : List ℕ) → ¬ (files name) → D.seen disk.new name ≡ D.seen disk.old name }
         ensures cause { HasCause (D.faults disk.old) (D.faults disk.new) result }
         ensures quiet { OnOk result (D.faults disk.new ≡ D.faults disk.old) };
 
     /// Lets the entries that were put take the place of the live ones.
     fn end_turn<D: Disk>(&mut self, disk: &mut D) -> Result<(), DiskFault>
         requires open { (payloads : List (List ℕ)) × IsBehind D.may_leave stands self.old disk.old payloads }
-        requires begun { IsTrue (turns self.old) → (more : List (List ℕ)) × IsPut D.tells D.seen put_there self.old disk.old more × BeginsTurn (number self.old + 1) more }
-        ensures any_moment { (payloads more : List (List ℕ)) → IsBehind D.may_leave stands self.old disk.old payloads → IsPut D.tells D.seen put_there self.old disk.old more →
+        requires begun { IsTrue (turns self.old) → (more : List (List ℕ)) × IsPut D.is_modelled D.seen put_there self.old disk.old more × BeginsTurn (number self.old + 1) more }
+        ensures any_moment { (payloads more : List (List ℕ)) → IsBehind D.may_leave stands self.old disk.old payloads → IsPut D.is_modelled D.seen put_there self.old disk.old more →
             Leaves D.moment D.left_since disk.old disk.new (After (D.may_leave disk.old) (Within files (BeforeOrPut entries payloads more))) }
-        ensures turned { (more : List (List ℕ)) → IsTrue (turns self.old) → IsPut D.tells D.seen put_there self.old disk.old more →
+        ensures turned { (more : List (List ℕ)) → IsTrue (turns self.old) → IsPut D.is_modelled D.seen put_there self.old disk.old more →
             OnOk result ((number self.new ≡ number self.old + 1) × (end self.new ≡ put_end self.old) × IsBehind D.may_leave stands self.new disk.new more) }
-        ensures others { IsTrue D.tells → (name : List ℕ) → ¬ (files name) → D.seen disk.new name ≡ D.seen disk.old name }
+        ensures others { IsTrue D.is_modelled → (name : List ℕ) → ¬ (files name) → D.seen disk.new name ≡ D.seen disk.old name }
         ensures cause { HasCause (D.faults disk.old) (D.faults disk.new) result }
         ensures quiet { OnOk result (D.faults disk.new ≡ D.faults disk.old) };
 

@@ -43,9 +43,9 @@ impl From<DiskFault> for AppendFault {
 
 /// Writes the length, the payload and a closed gate behind the closed gate at `end`, and makes them stable.
 fn stage<D: Disk>(disk: &mut D, file: &str, end: u64, payload: &[u8]) -> Result<(), DiskFault>
-    requires within { IsTrue D.tells → end + 1 ≤ length (D.seen disk.old file.now) }
+    requires within { IsTrue D.is_modelled → end + 1 ≤ length (D.seen disk.old file.now) }
     requires room { end + 6 + length payload.now ≤ most_file }
-    ensures written { IsTrue D.tells → Step file.now (λ old new. OnOk result ((rest : List ℕ) ×
+    ensures written { IsTrue D.is_modelled → Step file.now (λ old new. OnOk result ((rest : List ℕ) ×
         (new ≡ take (end + 1) old ++ to_be_bytes w32 (length payload.now) ++ payload.now ++ 0 ∷ rest))) (D.seen disk.old) (D.seen disk.new) }
     ensures durable { OnOk result (Settled (D.may_leave disk.new) file.now (D.seen disk.new file.now)) }
     ensures moments { Leaves D.moment D.left_since disk.old disk.new
@@ -62,8 +62,8 @@ fn stage<D: Disk>(disk: &mut D, file: &str, end: u64, payload: &[u8]) -> Result<
 
 /// Opens the closed gate at `end`, and makes that stable.
 pub fn open_gate<D: Disk>(disk: &mut D, file: &str, end: u64) -> Result<(), DiskFault>
-    requires within { IsTrue D.tells → end ≤ length (D.seen disk.old file.now) }
-    ensures written { IsTrue D.tells → Step file.now (λ old new. OnOk result (Holds end (1 ∷ []) old new)) (D.seen disk.old) (D.seen disk.new) }
+    requires within { IsTrue D.is_modelled → end ≤ length (D.seen disk.old file.now) }
+    ensures written { IsTrue D.is_modelled → Step file.now (λ old new. OnOk result (Holds end (1 ∷ []) old new)) (D.seen disk.old) (D.seen disk.new) }
     ensures durable { OnOk result (Settled (D.may_leave disk.new) file.now (D.seen disk.new file.now)) }
     ensures moments { Leaves D.moment D.left_since disk.old disk.new (After (D.may_leave disk.old) (Step file.now (Torn end 1))) }
     ensures cause { HasCause (D.faults disk.old) (D.faults disk.new) result }
@@ -95,7 +95,7 @@ impl Log {
         ensures added { (payloads : List (List ℕ)) → IsBehind D.may_leave (stands_in file.now) self.old disk.old payloads →
             OnOk result (IsBehind D.may_leave (stands_in file.now) self.new disk.new (payloads ++ payload.now ∷ [])) }
         ensures place { OnOk result (self.new.end ≡ self.old.end + 5 + length payload.now) }
-        ensures others { IsTrue D.tells → (name : List ℕ) → name ≢ file.now → D.seen disk.new name ≡ D.seen disk.old name }
+        ensures others { IsTrue D.is_modelled → (name : List ℕ) → name ≢ file.now → D.seen disk.new name ≡ D.seen disk.old name }
         ensures full { (end : ℕ) → IsErrOf result (AppendFault.Full end) ↔ ((end ≡ self.old.end) × (most_file < self.old.end + 6 + length payload.now)) }
         ensures untouched { most_file < self.old.end + 6 + length payload.now → (disk.new ≡ disk.old) × (self.new ≡ self.old) }
         ensures cause { IsErrOf result AppendFault.Disk → Rose (D.faults disk.old) (D.faults disk.new) }

@@ -17,8 +17,8 @@ use Rattle.step_runner.specs.declared.entries.Seen.TheVariants as seen
 use Rattle.device.specs.Devices.{Device}
 use Rattle.device.specs.Lawful.{no_failures, applied}
 use Rattle.device.specs.declared.staged.Stage.TheVariants as stages
-use Rattle.session.specs.Happenings.{Happening, Ran, Booted, Slept, Kept, Moved, Asked, Changed}
-use Rattle.session.specs.Places.{Place, left_by}
+use Rattle.histories.specs.TraceEvents.{TraceEvent, Ran, Booted, WaitElapsed, Recorded, Moved, Asked, Changed}
+use Rattle.histories.specs.States.{SessionState, state_after}
 use Rattle.history_rows.specs.Rows.{item, runs, starts_up, script, boot_of, boots_up, device_of, pending_in, plan_of, before_change, call_begins, world_of, running_part, asked, not_asked, ends, good, bad, a, b, one, two}
 
 abbrev pub item_a : Item
@@ -34,91 +34,91 @@ items = item_a ∷ item_b ∷ []
 abbrev pub booting_device : Origin → ℕ → Device
 booting_device o n = device_of o [] (Some (record (pending_in stages.Booting (plan_of items (a ∷ b ∷ [])) no_failures) { ended = n }))
 
-abbrev pub first_boot : Origin → Place
+abbrev pub first_boot : Origin → SessionState
 first_boot o = call_begins (booting_device o 0)
 
-abbrev pub second_boot : Origin → Place
+abbrev pub second_boot : Origin → SessionState
 second_boot o = call_begins (booting_device o 1)
 
 abbrev pub restart : Exit
 restart = exits.Code (pos 100)
 
 -- the bootstrap of the component of this name runs this
-abbrev pub boots_by : Command → List ℕ → Exit → List Happening
+abbrev pub boots_by : Command → List ℕ → Exit → List TraceEvent
 boots_by command name e =
-    Kept (BootEnded name e) ∷ Booted (not_asked 0 (ends e 0 120000)) (boot_of command)
-    ∷ Booted (asked 0 (seen.Started 0 command)) (boot_of command) ∷ Asked 0 ∷ Kept (BootBegun name) ∷ []
+    Recorded (BootEnded name e) ∷ Booted (not_asked 0 (ends e 0 120000)) (boot_of command)
+    ∷ Booted (asked 0 (seen.Started 0 command)) (boot_of command) ∷ Asked 0 ∷ Recorded (BootBegun name) ∷ []
 
-abbrev pub boots : List ℕ → Exit → List Happening
+abbrev pub boots : List ℕ → Exit → List TraceEvent
 boots name e = boots_by (script (codes "b")) name e
 
 -- its start, with this number
-abbrev pub starts_boot : (Seen → RunnerEntry) → ℕ → Command → Happening
-starts_boot tells n command = Booted (tells (seen.Started n command)) (boot_of command)
+abbrev pub starts_boot : (Seen → RunnerEntry) → ℕ → Command → TraceEvent
+starts_boot is_modelled n command = Booted (is_modelled (seen.Started n command)) (boot_of command)
 
 -- it takes too long
-abbrev pub boots_long : Command → List Happening
+abbrev pub boots_long : Command → List TraceEvent
 boots_long command =
-    Kept (BootEnded a exits.TimedOut) ∷ Booted (asked 120000 (seen.Killed 0)) (boot_of command) ∷ Asked 120000 ∷ Slept (not_asked 0 (seen.Elapsed 120000))
-    ∷ Booted (asked 0 (seen.Started 0 command)) (boot_of command) ∷ Asked 0 ∷ Kept (BootBegun a) ∷ []
+    Recorded (BootEnded a exits.TimedOut) ∷ Booted (asked 120000 (seen.Killed 0)) (boot_of command) ∷ Asked 120000 ∷ WaitElapsed (not_asked 0 (seen.Elapsed 120000))
+    ∷ Booted (asked 0 (seen.Started 0 command)) (boot_of command) ∷ Asked 0 ∷ Recorded (BootBegun a) ∷ []
 
-abbrev pub boot_lives : Origin → Place
-boot_lives o = left_by (first_boot o) (Booted (asked 0 (seen.Started 0 (script (codes "b")))) boots_up ∷ Asked 0 ∷ Kept (BootBegun a) ∷ [])
+abbrev pub boot_lives : Origin → SessionState
+boot_lives o = state_after (first_boot o) (Booted (asked 0 (seen.Started 0 (script (codes "b")))) boots_up ∷ Asked 0 ∷ Recorded (BootBegun a) ∷ [])
 
 -- it ended, and that is not recorded
-abbrev pub boot_over : Origin → Place
-boot_over o = left_by (boot_lives o) (Booted (not_asked 0 (ends bad 0 120000)) boots_up ∷ [])
+abbrev pub boot_over : Origin → SessionState
+boot_over o = state_after (boot_lives o) (Booted (not_asked 0 (ends bad 0 120000)) boots_up ∷ [])
 
 -- the end is recorded as a failure, or as one that asks for a restart, or as the last good one
-abbrev pub boot_failed : Origin → Place
-boot_failed o = left_by (boot_over o) (Kept (BootEnded a bad) ∷ [])
+abbrev pub boot_failed : Origin → SessionState
+boot_failed o = state_after (boot_over o) (Recorded (BootEnded a bad) ∷ [])
 
-abbrev pub restarted : Origin → Place
-restarted o = left_by (first_boot o) (boots a restart)
+abbrev pub restarted : Origin → SessionState
+restarted o = state_after (first_boot o) (boots a restart)
 
-abbrev pub one_done : Origin → Place
-one_done o = left_by (first_boot o) (boots a good)
+abbrev pub one_done : Origin → SessionState
+one_done o = state_after (first_boot o) (boots a good)
 
-abbrev pub all_done : Origin → Place
-all_done o = left_by (second_boot o) (boots b good)
+abbrev pub all_done : Origin → SessionState
+all_done o = state_after (second_boot o) (boots b good)
 
 -- the call begins with a bootstrap that was begun and did not end, and with one that failed
 abbrev pub begun_device : Origin → Device
 begun_device o = device_of o [] (Some (record (pending_in stages.Booting (plan_of items (a ∷ b ∷ [])) no_failures) { begun = true }))
 
-abbrev pub begun_before : Origin → Place
+abbrev pub begun_before : Origin → SessionState
 begun_before o = call_begins (begun_device o)
 
 abbrev pub failed_device : Origin → Device
 failed_device o = device_of o [] (Some (record (pending_in stages.Booting (plan_of items (a ∷ b ∷ [])) no_failures) { begun = true; boot_failed = true }))
 
-abbrev pub failed_before : Origin → Place
+abbrev pub failed_before : Origin → SessionState
 failed_before o = call_begins (failed_device o)
 
 -- it runs again
-abbrev pub boots_again : Command → List Happening
+abbrev pub boots_again : Command → List TraceEvent
 boots_again command =
-    Kept (BootEnded a good) ∷ Booted (not_asked 0 (ends good 0 120000)) (boot_of command)
+    Recorded (BootEnded a good) ∷ Booted (not_asked 0 (ends good 0 120000)) (boot_of command)
     ∷ Booted (asked 0 (seen.Started 0 command)) (boot_of command) ∷ Asked 0 ∷ []
 
 -- a bootstrap with a probe for this word
 abbrev pub boots_or_skips : List ℕ → Command → Prepared
 boots_or_skips word command = record (boot_of command) { skip = Some (skips.OnPath word) }
 
-abbrev pub boot_skips : List ℕ → Command → List Happening
-boot_skips word command = Booted (asked 0 (seen.OnPath word true)) (boots_or_skips word command) ∷ Asked 0 ∷ Kept (BootBegun a) ∷ []
+abbrev pub boot_skips : List ℕ → Command → List TraceEvent
+boot_skips word command = Booted (asked 0 (seen.OnPath word true)) (boots_or_skips word command) ∷ Asked 0 ∷ Recorded (BootBegun a) ∷ []
 
-abbrev pub boot_skipped : List ℕ → Command → List Happening
-boot_skipped word command = Kept (BootEnded a good) ∷ boot_skips word command
+abbrev pub boot_skipped : List ℕ → Command → List TraceEvent
+boot_skipped word command = Recorded (BootEnded a good) ∷ boot_skips word command
 
-abbrev pub boot_probed : List ℕ → Command → List Happening
+abbrev pub boot_probed : List ℕ → Command → List TraceEvent
 boot_probed word command =
     Booted (not_asked 0 (seen.Started 0 command)) (boots_or_skips word command) ∷ Booted (asked 0 (seen.OnPath word false)) (boots_or_skips word command)
-    ∷ Asked 0 ∷ Kept (BootBegun a) ∷ []
+    ∷ Asked 0 ∷ Recorded (BootBegun a) ∷ []
 
 -- a start that is refused
-abbrev pub boot_refused : Command → List Happening
-boot_refused command = Kept (BootEnded a exits.NotStarted) ∷ Booted (asked 0 (seen.Refused command)) (boot_of command) ∷ Asked 0 ∷ Kept (BootBegun a) ∷ []
+abbrev pub boot_refused : Command → List TraceEvent
+boot_refused command = Recorded (BootEnded a exits.NotStarted) ∷ Booted (asked 0 (seen.Refused command)) (boot_of command) ∷ Asked 0 ∷ Recorded (BootBegun a) ∷ []
 
 -- ---- the set's bootstraps run again
 
@@ -126,48 +126,48 @@ abbrev pub newer_a : Item
 newer_a = item a two
 
 -- the new version's bootstrap fails
-abbrev pub newer_boots : Origin → Place
+abbrev pub newer_boots : Origin → SessionState
 newer_boots o = call_begins (device_of o (item_a ∷ []) (Some (pending_in stages.Booting (plan_of (newer_a ∷ []) (a ∷ [])) no_failures)))
 
-abbrev pub fails_back : Command → List Happening
-fails_back command = Kept (FailingBack a) ∷ boots_by command a (exits.Code (pos 7))
+abbrev pub fails_back : Command → List TraceEvent
+fails_back command = Recorded (FailingBack a) ∷ boots_by command a (exits.Code (pos 7))
 
 -- the old one's is to run again
 abbrev pub backing_device : Origin → Device
 backing_device o = device_of o (item_a ∷ []) (Some (record (pending_in stages.Backing (plan_of (newer_a ∷ []) (a ∷ [])) no_failures) { reach = 1; backs = a ∷ [] }))
 
-abbrev pub backed : Origin → Place
+abbrev pub backed : Origin → SessionState
 backed o = call_begins (backing_device o)
 
-abbrev pub back_begun : Origin → Place
-back_begun o = left_by (backed o) (Kept (BootBegun a) ∷ [])
+abbrev pub back_begun : Origin → SessionState
+back_begun o = state_after (backed o) (Recorded (BootBegun a) ∷ [])
 
-abbrev pub back_done : Origin → Place
-back_done o = left_by (backed o) (boots a good)
+abbrev pub back_done : Origin → SessionState
+back_done o = state_after (backed o) (boots a good)
 
 -- it fails too
-abbrev pub back_failed : Command → List Happening
-back_failed command = Kept (Closed outcomes.UnableToRollback) ∷ boots_by command a (exits.Code (pos 7))
+abbrev pub back_failed : Command → List TraceEvent
+back_failed command = Recorded (Closed outcomes.UnableToRollback) ∷ boots_by command a (exits.Code (pos 7))
 
 -- the old one still runs
-abbrev pub still_up : Origin → Place
+abbrev pub still_up : Origin → SessionState
 still_up o = before_change (backing_device o) (world_of (running_part (runs item_a [] []) 4 ∷ []))
 
 -- so it does where the bootstrap was begun, to which no history leads
-abbrev pub begun_up : Origin → Place
+abbrev pub begun_up : Origin → SessionState
 begun_up o = before_change (applied (backing_device o) (BootBegun a)) (world_of (running_part (runs item_a [] []) 4 ∷ []))
 
 -- and in a later call the old one comes up
-abbrev pub rolling_place : Origin → Place
+abbrev pub rolling_place : Origin → SessionState
 rolling_place o = call_begins (back_done o).device
 
 abbrev pub old_up : Fitted
 old_up = starts_up item_a []
 
-abbrev pub comes_back : List Happening
+abbrev pub comes_back : List TraceEvent
 comes_back =
-    Kept (Closed outcomes.RollbackComplete) ∷ Ran (not_asked 0 (ends good 0 120000)) 0 step.Startup
+    Recorded (Closed outcomes.RollbackComplete) ∷ Ran (not_asked 0 (ends good 0 120000)) 0 step.Startup
     ∷ Ran (asked 0 (seen.Started 0 (script (codes "s")))) 0 step.Startup ∷ Moved 0 event.MayBegin ∷ Moved 0 event.MayBegin ∷ Asked 0 ∷ []
 
-abbrev pub rolls : Origin → Place
-rolls o = left_by (rolling_place o) (Changed (old_up ∷ []) no_failures false ∷ [])
+abbrev pub rolls : Origin → SessionState
+rolls o = state_after (rolling_place o) (Changed (old_up ∷ []) no_failures false ∷ [])

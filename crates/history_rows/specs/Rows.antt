@@ -19,10 +19,10 @@ use Rattle.device.specs.Devices.{Device, Pending, no_device}
 use Rattle.device.specs.Lawful.{accepted}
 use Rattle.device.specs.declared.staged.Stage.{Stage}
 use Rattle.components.specs.Fitted.{Fitted, steps_of}
-use Rattle.components.specs.World.{World, Part}
+use Rattle.components.specs.Components.{Components, ComponentState}
 use Rattle.components.specs.declared.kinds.Prepared.{Prepared}
-use Rattle.session.specs.Phases.{earlier, present}
-use Rattle.session.specs.Places.{Place, beginning}
+use Rattle.histories.specs.Phases.{previous, current}
+use Rattle.histories.specs.States.{SessionState, beginning}
 
 -- ---- items
 
@@ -72,27 +72,27 @@ boots_up = boot_of (script (codes "b"))
 
 -- ---- components
 
-abbrev pub idle_part : Fitted → State → ℕ → Part
+abbrev pub idle_part : Fitted → State → ℕ → ComponentState
 idle_part f s n = record { fitted = f; life = record (begun (steps_of f) n) { state = s }; children = []; handed = false; owed = None; stop = None; next = None }
 
-abbrev pub running_part : Fitted → ℕ → Part
+abbrev pub running_part : Fitted → ℕ → ComponentState
 running_part f n = record (idle_part f state.Running 0) {
   life = record (begun (steps_of f) 0) { state = state.Running; runs = true };
   children = record { number = n; of = step.Run; deadline = None } ∷ [];
 }
 
 -- its startup lives, until then
-abbrev pub starting_part : Fitted → ℕ → ℕ → Part
+abbrev pub starting_part : Fitted → ℕ → ℕ → ComponentState
 starting_part f n deadline = record (idle_part f state.Starting 0) {
   life = record (begun (steps_of f) 0) { state = state.Starting; busy = Some step.Startup };
   children = record { number = n; of = step.Startup; deadline = Some deadline } ∷ [];
 }
 
 -- it failed, and that is not recorded yet
-abbrev pub owing_part : Fitted → Part
+abbrev pub owing_part : Fitted → ComponentState
 owing_part f = record (idle_part f state.Errored 1) { owed = Some (step.Startup, exits.Code (pos 1)) }
 
-abbrev pub world_of : List Part → World
+abbrev pub world_of : List ComponentState → Components
 world_of parts = record { parts = parts; moment = 0; steady = false }
 
 -- ---- devices and places
@@ -110,23 +110,23 @@ abbrev pub plan_read_as : Recipes → Pending → Pending
 plan_read_as r q = record q { plan = record q.plan { items = read_as r q.plan.items } }
 
 -- the place, where the items of the device have these recipes
-abbrev pub with_recipes : Recipes → Place → Place
+abbrev pub with_recipes : Recipes → SessionState → SessionState
 with_recipes r p = record p { device = record p.device { set = read_as r p.device.set; pending = option_map (plan_read_as r) p.device.pending } }
 
 -- a deployment is driven, and a moment was just asked for
-abbrev pub place_at : Device → World → Place
-place_at d w = record (beginning false 0 d w.moment true) { world = w; crew = present }
+abbrev pub place_at : Device → Components → SessionState
+place_at d w = record (beginning false 0 d w.moment true) { world = w; generation = current }
 
 -- the same where the components are still those of before the stage
-abbrev pub before_change : Device → World → Place
-before_change d w = record (place_at d w) { crew = earlier }
+abbrev pub before_change : Device → Components → SessionState
+before_change d w = record (place_at d w) { generation = previous }
 
 -- `deploy` or `resume` begins
-abbrev pub call_begins : Device → Place
+abbrev pub call_begins : Device → SessionState
 call_begins d = beginning false 0 d 0 false
 
 -- `serve` begins, and is to ask so often
-abbrev pub serve_begins : ℕ → Device → Place
+abbrev pub serve_begins : ℕ → Device → SessionState
 serve_begins turns d = beginning true turns d 0 false
 
 -- ---- entries
@@ -146,7 +146,7 @@ good = exits.Code (pos 0)
 abbrev pub bad : Exit
 bad = exits.Code (pos 1)
 
-abbrev pub states_of : List Part → List State
+abbrev pub states_of : List ComponentState → List State
 states_of [] = []
 states_of (p ∷ ps) = p.life.state ∷ states_of ps
 

@@ -8,8 +8,8 @@ use Rattle.records.specs.Stored.{Item, Accepted, Activating}
 use Rattle.records.specs.declared.record.Origin.{Origin}
 use Rattle.device.specs.Lawful.{no_failures}
 use Rattle.components.specs.Fitted.{Fitted}
-use Rattle.session.specs.Happenings.{Happening, Kept, Moved, Asked, Questioned, Changed, StopsAll, document, nothing}
-use Rattle.session.specs.Places.{Place, left_by}
+use Rattle.histories.specs.TraceEvents.{TraceEvent, Recorded, Moved, Asked, InboxAsked, Changed, StopsAll, document, nothing}
+use Rattle.histories.specs.States.{SessionState, state_after}
 use Rattle.history_rows.specs.Rows.{item, made, bare, runs, starts_up, device_of, plan_of, call_begins, serve_begins, asked, not_asked, good, bad, a, b, one, two}
 use Rattle.history_rows.specs.Words.{begins, starts, dies, kills, closes, fails, shuts}
 
@@ -26,7 +26,7 @@ abbrev pub both : List Item
 both = item_a ∷ item_b ∷ []
 
 -- `deploy` begins on a device without components
-abbrev pub fresh : Origin → Place
+abbrev pub fresh : Origin → SessionState
 fresh o = call_begins (device_of o [] None)
 
 -- ---- two with shutdown steps, of which a needs b hard
@@ -34,41 +34,41 @@ fresh o = call_begins (device_of o [] None)
 abbrev pub shut_both : List Fitted
 shut_both = shuts item_a (b ∷ []) ∷ shuts item_b [] ∷ []
 
-abbrev pub chain_taken : List Happening
-chain_taken = Kept Activating ∷ Kept (Accepted (plan_of both [])) ∷ []
+abbrev pub chain_taken : List TraceEvent
+chain_taken = Recorded Activating ∷ Recorded (Accepted (plan_of both [])) ∷ []
 
-abbrev pub after_chain_taken : Origin → Place
-after_chain_taken o = left_by (fresh o) chain_taken
+abbrev pub after_chain_taken : Origin → SessionState
+after_chain_taken o = state_after (fresh o) chain_taken
 
-abbrev pub chain : List Happening
+abbrev pub chain : List TraceEvent
 chain = Changed shut_both no_failures false ∷ []
 
-abbrev pub after_chain : Origin → Place
-after_chain o = left_by (after_chain_taken o) chain
+abbrev pub after_chain : Origin → SessionState
+after_chain o = state_after (after_chain_taken o) chain
 
-abbrev pub chain_first : List Happening
+abbrev pub chain_first : List TraceEvent
 chain_first = starts (asked 0) 0 1 step.Startup (codes "s") ∷ Asked 0 ∷ begins 1 ∷ begins 1 ∷ []
 
-abbrev pub after_chain_first : Origin → Place
-after_chain_first o = left_by (after_chain o) chain_first
+abbrev pub after_chain_first : Origin → SessionState
+after_chain_first o = state_after (after_chain o) chain_first
 
-abbrev pub chain_second : List Happening
+abbrev pub chain_second : List TraceEvent
 chain_second =
     closes outcomes.Successful ∷ Asked 2 ∷ dies (not_asked 1) 1 0 step.Startup good 120000
     ∷ starts (asked 1) 1 0 step.Startup (codes "s") ∷ begins 0 ∷ begins 0 ∷ Asked 1 ∷ dies (not_asked 0) 0 1 step.Startup good 120000
     ∷ []
 
-abbrev pub after_chain_second : Origin → Place
-after_chain_second o = left_by (after_chain_first o) chain_second
+abbrev pub after_chain_second : Origin → SessionState
+after_chain_second o = state_after (after_chain_first o) chain_second
 
-abbrev pub chain_stops : List Happening
+abbrev pub chain_stops : List TraceEvent
 chain_stops =
     dies (not_asked 3) 3 1 step.Shutdown good 15000 ∷ starts (asked 3) 3 1 step.Shutdown (codes "q") ∷ Moved 1 (event.Stop after.Gone)
     ∷ Asked 3 ∷ dies (not_asked 2) 2 0 step.Shutdown good 15000 ∷ starts (asked 2) 2 0 step.Shutdown (codes "q")
     ∷ Moved 0 (event.Stop after.Gone) ∷ StopsAll ∷ []
 
-abbrev pub after_chain_stops : Origin → Place
-after_chain_stops o = left_by (after_chain_second o) chain_stops
+abbrev pub after_chain_stops : Origin → SessionState
+after_chain_stops o = state_after (after_chain_second o) chain_stops
 
 -- ---- b runs and fails while a starts, which needs it
 
@@ -78,117 +78,117 @@ hardly = starts_up item_a (b ∷ []) ∷ runs item_b [] [] ∷ []
 abbrev pub softly : List Fitted
 softly = record (starts_up item_a []) { soft = b ∷ [] } ∷ runs item_b [] [] ∷ []
 
-abbrev pub hard_taken : List Happening
-hard_taken = Kept Activating ∷ Kept (Accepted (plan_of both [])) ∷ []
+abbrev pub hard_taken : List TraceEvent
+hard_taken = Recorded Activating ∷ Recorded (Accepted (plan_of both [])) ∷ []
 
-abbrev pub after_hard_taken : Origin → Place
-after_hard_taken o = left_by (fresh o) hard_taken
+abbrev pub after_hard_taken : Origin → SessionState
+after_hard_taken o = state_after (fresh o) hard_taken
 
-abbrev pub hard : List Happening
+abbrev pub hard : List TraceEvent
 hard = Changed hardly no_failures false ∷ []
 
-abbrev pub after_hard : Origin → Place
-after_hard o = left_by (after_hard_taken o) hard
+abbrev pub after_hard : Origin → SessionState
+after_hard o = state_after (after_hard_taken o) hard
 
-abbrev pub hard_starts : List Happening
+abbrev pub hard_starts : List TraceEvent
 hard_starts =
     starts (not_asked 0) 1 0 step.Startup (codes "s") ∷ begins 0 ∷ begins 0 ∷ starts (asked 0) 0 1 step.Run (codes "r") ∷ Asked 0
     ∷ begins 1 ∷ begins 1 ∷ []
 
-abbrev pub after_hard_starts : Origin → Place
-after_hard_starts o = left_by (after_hard o) hard_starts
+abbrev pub after_hard_starts : Origin → SessionState
+after_hard_starts o = state_after (after_hard o) hard_starts
 
-abbrev pub hard_fails : List Happening
+abbrev pub hard_fails : List TraceEvent
 hard_fails = fails b step.Run bad ∷ Asked 4 ∷ dies (not_asked 0) 0 1 step.Run bad 120000 ∷ []
 
-abbrev pub after_hard_fails : Origin → Place
-after_hard_fails o = left_by (after_hard_starts o) hard_fails
+abbrev pub after_hard_fails : Origin → SessionState
+after_hard_fails o = state_after (after_hard_starts o) hard_fails
 
-abbrev pub hard_restarts : List Happening
+abbrev pub hard_restarts : List TraceEvent
 hard_restarts =
     closes outcomes.Successful ∷ Asked 6 ∷ dies (not_asked 4) 3 0 step.Startup good 120000
     ∷ starts (not_asked 4) 3 0 step.Startup (codes "s") ∷ begins 0 ∷ starts (not_asked 4) 2 1 step.Run (codes "r") ∷ begins 1
     ∷ Moved 1 event.Retry ∷ kills (asked 4) 1 0 step.Startup ∷ []
 
-abbrev pub after_hard_restarts : Origin → Place
-after_hard_restarts o = left_by (after_hard_fails o) hard_restarts
+abbrev pub after_hard_restarts : Origin → SessionState
+after_hard_restarts o = state_after (after_hard_fails o) hard_restarts
 
-abbrev pub hard_stops : List Happening
+abbrev pub hard_stops : List TraceEvent
 hard_stops = kills (asked 6) 2 1 step.Run ∷ Moved 0 (event.Stop after.Gone) ∷ StopsAll ∷ []
 
-abbrev pub after_hard_stops : Origin → Place
-after_hard_stops o = left_by (after_hard_restarts o) hard_stops
+abbrev pub after_hard_stops : Origin → SessionState
+after_hard_stops o = state_after (after_hard_restarts o) hard_stops
 
-abbrev pub soft_taken : List Happening
-soft_taken = Kept Activating ∷ Kept (Accepted (plan_of both [])) ∷ []
+abbrev pub soft_taken : List TraceEvent
+soft_taken = Recorded Activating ∷ Recorded (Accepted (plan_of both [])) ∷ []
 
-abbrev pub after_soft_taken : Origin → Place
-after_soft_taken o = left_by (fresh o) soft_taken
+abbrev pub after_soft_taken : Origin → SessionState
+after_soft_taken o = state_after (fresh o) soft_taken
 
-abbrev pub soft : List Happening
+abbrev pub soft : List TraceEvent
 soft = Changed softly no_failures false ∷ []
 
-abbrev pub after_soft : Origin → Place
-after_soft o = left_by (after_soft_taken o) soft
+abbrev pub after_soft : Origin → SessionState
+after_soft o = state_after (after_soft_taken o) soft
 
-abbrev pub soft_starts : List Happening
+abbrev pub soft_starts : List TraceEvent
 soft_starts =
     starts (not_asked 0) 1 0 step.Startup (codes "s") ∷ begins 0 ∷ begins 0 ∷ starts (asked 0) 0 1 step.Run (codes "r") ∷ Asked 0
     ∷ begins 1 ∷ begins 1 ∷ []
 
-abbrev pub after_soft_starts : Origin → Place
-after_soft_starts o = left_by (after_soft o) soft_starts
+abbrev pub after_soft_starts : Origin → SessionState
+after_soft_starts o = state_after (after_soft o) soft_starts
 
-abbrev pub soft_fails : List Happening
+abbrev pub soft_fails : List TraceEvent
 soft_fails = fails b step.Run bad ∷ Asked 4 ∷ dies (not_asked 0) 0 1 step.Run bad 120000 ∷ []
 
-abbrev pub after_soft_fails : Origin → Place
-after_soft_fails o = left_by (after_soft_starts o) soft_fails
+abbrev pub after_soft_fails : Origin → SessionState
+after_soft_fails o = state_after (after_soft_starts o) soft_fails
 
 -- ---- a goes away, and b comes
 
-abbrev pub serves_a : Origin → Place
+abbrev pub serves_a : Origin → SessionState
 serves_a o = serve_begins 2 (device_of o (item_a ∷ []) None)
 
-abbrev pub away : List Happening
+abbrev pub away : List TraceEvent
 away = Changed (shuts item_a [] ∷ []) no_failures true ∷ []
 
-abbrev pub after_away : Origin → Place
-after_away o = left_by (serves_a o) away
+abbrev pub after_away : Origin → SessionState
+after_away o = state_after (serves_a o) away
 
-abbrev pub away_starts : List Happening
+abbrev pub away_starts : List TraceEvent
 away_starts =
-    Asked 1 ∷ dies (not_asked 0) 0 0 step.Startup good 1000 ∷ Questioned nothing ∷ starts (asked 0) 0 0 step.Startup (codes "s")
+    Asked 1 ∷ dies (not_asked 0) 0 0 step.Startup good 1000 ∷ InboxAsked nothing ∷ starts (asked 0) 0 0 step.Startup (codes "s")
     ∷ Asked 0 ∷ begins 0 ∷ begins 0 ∷ []
 
-abbrev pub after_away_starts : Origin → Place
-after_away_starts o = left_by (after_away o) away_starts
+abbrev pub after_away_starts : Origin → SessionState
+after_away_starts o = state_after (after_away o) away_starts
 
-abbrev pub away_takes_taken : List Happening
-away_takes_taken = Kept Activating ∷ Kept (Accepted (plan_of (item_b ∷ []) [])) ∷ Questioned document ∷ []
+abbrev pub away_takes_taken : List TraceEvent
+away_takes_taken = Recorded Activating ∷ Recorded (Accepted (plan_of (item_b ∷ []) [])) ∷ InboxAsked document ∷ []
 
-abbrev pub after_away_takes_taken : Origin → Place
-after_away_takes_taken o = left_by (after_away_starts o) away_takes_taken
+abbrev pub after_away_takes_taken : Origin → SessionState
+after_away_takes_taken o = state_after (after_away_starts o) away_takes_taken
 
-abbrev pub away_takes : List Happening
+abbrev pub away_takes : List TraceEvent
 away_takes = Changed (starts_up item_b [] ∷ []) no_failures false ∷ []
 
-abbrev pub after_away_takes : Origin → Place
-after_away_takes o = left_by (after_away_takes_taken o) away_takes
+abbrev pub after_away_takes : Origin → SessionState
+after_away_takes o = state_after (after_away_takes_taken o) away_takes
 
-abbrev pub away_stops : List Happening
+abbrev pub away_stops : List TraceEvent
 away_stops =
     Asked 2 ∷ dies (not_asked 1) 2 1 step.Startup good 15000 ∷ starts (not_asked 1) 2 1 step.Startup (codes "s") ∷ begins 1 ∷ begins 1
     ∷ starts (asked 1) 1 0 step.Shutdown (codes "q") ∷ Moved 0 (event.Stop after.Gone) ∷ []
 
-abbrev pub after_away_stops : Origin → Place
-after_away_stops o = left_by (after_away_takes o) away_stops
+abbrev pub after_away_stops : Origin → SessionState
+after_away_stops o = state_after (after_away_takes o) away_stops
 
-abbrev pub away_closes : List Happening
+abbrev pub away_closes : List TraceEvent
 away_closes = Moved 1 (event.Stop after.Gone) ∷ StopsAll ∷ closes outcomes.Successful ∷ dies (asked 2) 1 0 step.Shutdown good 14999 ∷ []
 
-abbrev pub after_away_closes : Origin → Place
-after_away_closes o = left_by (after_away_stops o) away_closes
+abbrev pub after_away_closes : Origin → SessionState
+after_away_closes o = state_after (after_away_stops o) away_closes
 
 -- ---- b is replaced, and a, which needs it, is restarted
 
@@ -204,109 +204,109 @@ replaced = item_a ∷ newer_b ∷ []
 abbrev pub needing_newer : List Fitted
 needing_newer = shuts item_a (b ∷ []) ∷ newer_run ∷ []
 
-abbrev pub serves_two : Origin → Place
+abbrev pub serves_two : Origin → SessionState
 serves_two o = serve_begins 2 (device_of o both None)
 
-abbrev pub dying : List Happening
+abbrev pub dying : List TraceEvent
 dying = Changed needing no_failures true ∷ []
 
-abbrev pub after_dying : Origin → Place
-after_dying o = left_by (serves_two o) dying
+abbrev pub after_dying : Origin → SessionState
+after_dying o = state_after (serves_two o) dying
 
-abbrev pub dying_starts : List Happening
+abbrev pub dying_starts : List TraceEvent
 dying_starts =
-    Asked 3 ∷ dies (not_asked 0) 1 0 step.Startup good 1000 ∷ Questioned nothing ∷ starts (not_asked 0) 1 0 step.Startup (codes "s")
+    Asked 3 ∷ dies (not_asked 0) 1 0 step.Startup good 1000 ∷ InboxAsked nothing ∷ starts (not_asked 0) 1 0 step.Startup (codes "s")
     ∷ begins 0 ∷ begins 0 ∷ starts (asked 0) 0 1 step.Run (codes "r") ∷ Asked 0 ∷ begins 1 ∷ begins 1 ∷ []
 
-abbrev pub after_dying_starts : Origin → Place
-after_dying_starts o = left_by (after_dying o) dying_starts
+abbrev pub after_dying_starts : Origin → SessionState
+after_dying_starts o = state_after (after_dying o) dying_starts
 
-abbrev pub dying_takes_taken : List Happening
-dying_takes_taken = Kept Activating ∷ Kept (Accepted (plan_of replaced [])) ∷ Questioned document ∷ []
+abbrev pub dying_takes_taken : List TraceEvent
+dying_takes_taken = Recorded Activating ∷ Recorded (Accepted (plan_of replaced [])) ∷ InboxAsked document ∷ []
 
-abbrev pub after_dying_takes_taken : Origin → Place
-after_dying_takes_taken o = left_by (after_dying_starts o) dying_takes_taken
+abbrev pub after_dying_takes_taken : Origin → SessionState
+after_dying_takes_taken o = state_after (after_dying_starts o) dying_takes_taken
 
-abbrev pub dying_takes : List Happening
+abbrev pub dying_takes : List TraceEvent
 dying_takes = Changed needing_newer no_failures false ∷ []
 
-abbrev pub after_dying_takes : Origin → Place
-after_dying_takes o = left_by (after_dying_takes_taken o) dying_takes
+abbrev pub after_dying_takes : Origin → SessionState
+after_dying_takes o = state_after (after_dying_takes_taken o) dying_takes
 
-abbrev pub dying_ends : List Happening
+abbrev pub dying_ends : List TraceEvent
 dying_ends =
     Asked 4 ∷ dies (not_asked 3) 0 1 step.Run bad 15000 ∷ starts (asked 3) 2 0 step.Shutdown (codes "q")
     ∷ Moved 0 (event.Stop after.Restart) ∷ []
 
-abbrev pub after_dying_ends : Origin → Place
-after_dying_ends o = left_by (after_dying_takes o) dying_ends
+abbrev pub after_dying_ends : Origin → SessionState
+after_dying_ends o = state_after (after_dying_takes o) dying_ends
 
-abbrev pub dying_stops : List Happening
+abbrev pub dying_stops : List TraceEvent
 dying_stops = Moved 1 (event.Stop after.Again) ∷ Asked 5 ∷ dies (asked 4) 2 0 step.Shutdown good 14999 ∷ []
 
-abbrev pub after_dying_stops : Origin → Place
-after_dying_stops o = left_by (after_dying_ends o) dying_stops
+abbrev pub after_dying_stops : Origin → SessionState
+after_dying_stops o = state_after (after_dying_ends o) dying_stops
 
-abbrev pub dying_comes : List Happening
+abbrev pub dying_comes : List TraceEvent
 dying_comes =
     closes outcomes.Successful ∷ Asked 6 ∷ dies (not_asked 5) 4 0 step.Startup good 120000
     ∷ starts (not_asked 5) 4 0 step.Startup (codes "s") ∷ begins 0 ∷ starts (asked 5) 3 1 step.Run (codes "n") ∷ begins 1 ∷ begins 1
     ∷ []
 
-abbrev pub after_dying_comes : Origin → Place
-after_dying_comes o = left_by (after_dying_stops o) dying_comes
+abbrev pub after_dying_comes : Origin → SessionState
+after_dying_comes o = state_after (after_dying_stops o) dying_comes
 
-abbrev pub dying_shuts : List Happening
+abbrev pub dying_shuts : List TraceEvent
 dying_shuts =
     kills (asked 7) 3 1 step.Run ∷ Asked 7 ∷ dies (not_asked 6) 5 0 step.Shutdown good 15000
     ∷ starts (asked 6) 5 0 step.Shutdown (codes "q") ∷ Moved 0 (event.Stop after.Gone) ∷ StopsAll ∷ []
 
-abbrev pub after_dying_shuts : Origin → Place
-after_dying_shuts o = left_by (after_dying_comes o) dying_shuts
+abbrev pub after_dying_shuts : Origin → SessionState
+after_dying_shuts o = state_after (after_dying_comes o) dying_shuts
 
 -- ---- a comes, and needs b, which is replaced
 
 abbrev pub coming : List Fitted
 coming = starts_up item_a (b ∷ []) ∷ newer_run ∷ []
 
-abbrev pub serves_b : Origin → Place
+abbrev pub serves_b : Origin → SessionState
 serves_b o = serve_begins 1 (device_of o (item_b ∷ []) None)
 
-abbrev pub new : List Happening
+abbrev pub new : List TraceEvent
 new = Changed (runs item_b [] [] ∷ []) no_failures true ∷ []
 
-abbrev pub after_new : Origin → Place
-after_new o = left_by (serves_b o) new
+abbrev pub after_new : Origin → SessionState
+after_new o = state_after (serves_b o) new
 
-abbrev pub new_starts : List Happening
+abbrev pub new_starts : List TraceEvent
 new_starts = starts (asked 0) 0 0 step.Run (codes "r") ∷ Asked 0 ∷ begins 0 ∷ begins 0 ∷ []
 
-abbrev pub after_new_starts : Origin → Place
-after_new_starts o = left_by (after_new o) new_starts
+abbrev pub after_new_starts : Origin → SessionState
+after_new_starts o = state_after (after_new o) new_starts
 
-abbrev pub new_takes_taken : List Happening
-new_takes_taken = Kept Activating ∷ Kept (Accepted (plan_of replaced [])) ∷ Questioned document ∷ []
+abbrev pub new_takes_taken : List TraceEvent
+new_takes_taken = Recorded Activating ∷ Recorded (Accepted (plan_of replaced [])) ∷ InboxAsked document ∷ []
 
-abbrev pub after_new_takes_taken : Origin → Place
-after_new_takes_taken o = left_by (after_new_starts o) new_takes_taken
+abbrev pub after_new_takes_taken : Origin → SessionState
+after_new_takes_taken o = state_after (after_new_starts o) new_takes_taken
 
-abbrev pub new_takes : List Happening
+abbrev pub new_takes : List TraceEvent
 new_takes = Changed coming no_failures false ∷ []
 
-abbrev pub after_new_takes : Origin → Place
-after_new_takes o = left_by (after_new_takes_taken o) new_takes
+abbrev pub after_new_takes : Origin → SessionState
+after_new_takes o = state_after (after_new_takes_taken o) new_takes
 
-abbrev pub new_comes : List Happening
+abbrev pub new_comes : List TraceEvent
 new_comes =
     closes outcomes.Successful ∷ Asked 5 ∷ dies (not_asked 0) 2 0 step.Startup good 120000
     ∷ starts (not_asked 0) 2 0 step.Startup (codes "s") ∷ begins 0 ∷ begins 0 ∷ starts (not_asked 0) 1 1 step.Run (codes "n")
     ∷ begins 1 ∷ begins 1 ∷ kills (not_asked 0) 0 1 step.Run ∷ []
 
-abbrev pub after_new_comes : Origin → Place
-after_new_comes o = left_by (after_new_takes o) new_comes
+abbrev pub after_new_comes : Origin → SessionState
+after_new_comes o = state_after (after_new_takes o) new_comes
 
-abbrev pub new_stops : List Happening
+abbrev pub new_stops : List TraceEvent
 new_stops = kills (asked 5) 1 1 step.Run ∷ Moved 0 (event.Stop after.Gone) ∷ StopsAll ∷ []
 
-abbrev pub after_new_stops : Origin → Place
-after_new_stops o = left_by (after_new_comes o) new_stops
+abbrev pub after_new_stops : Origin → SessionState
+after_new_stops o = state_after (after_new_comes o) new_stops

@@ -8,7 +8,7 @@ ghost use Rattle.records.specs.declared.record.Origin.{Origin};
 ghost use Rattle.step_runner.specs.declared.entries.Seen.TheVariants as seen;
 ghost use Rattle.components.specs.Fitted.{Fitted};
 ghost use Rattle.components.specs.Made.{AreFitted};
-ghost use Rattle.components.specs.World.{At, is_stopped};
+ghost use Rattle.components.specs.Components.{At, is_stopped};
 ghost use Rattle.components.specs.Turns.{IsNext, may_stop, may_begin, is_to_start, owes};
 ghost use Rattle.components.specs.Acts.{MayKill, NextAct};
 ghost use Rattle.components.specs.Answers.{Answers};
@@ -17,9 +17,9 @@ ghost use Rattle.components.specs.Events.{ended, handed_at};
 ghost use Rattle.components.specs.declared.kinds.Act.TheVariants as acts;
 ghost use Rattle.components.specs.declared.kinds.Event.TheVariants as events;
 ghost use Rattle.device.specs.Lawful.{no_failures};
-ghost use Rattle.session.specs.Happenings.{Ran, Slept, Moved, Changed};
-ghost use Rattle.session.specs.Places.{left_by};
-ghost use Rattle.session.specs.Follows.{IsProper, MayFollow};
+ghost use Rattle.histories.specs.TraceEvents.{Ran, WaitElapsed, Moved, Changed};
+ghost use Rattle.histories.specs.States.{state_after};
+ghost use Rattle.histories.specs.Follows.{IsProper, MayFollow};
 ghost use Rattle.history_rows.specs.Rows.{Recipes, read_as, with_recipes, asked, bad, script};
 ghost use Rattle.history_rows.specs.ChangeRows.{item_a, other_text, stays, has_other_text, begins_again, shutting, shut_down, stops_rest, one_failed, stops_of, scripts_of, children_of, counts_of, next_counts, counts, going, newer, left_child, replaced_one, needed_one, owing, steady_start, stopping_start, owed_of, both, both_begun_first, both_begun};
 
@@ -34,8 +34,8 @@ pub fn texts_change()
 /// A run child that outlives its component's shutdown is killed before anybody waits, and before what its component needs is stopped.
 pub fn outlives_its_shutdown()
     ensures stops { (o : Origin) → IsProper (shut_down o) stops_rest }
-    ensures over { (o : Origin) → is_stopped (left_by (shut_down o) stops_rest).world ≡ true }
-    ensures waits { (o : Origin) → MayFollow (shut_down o) (Slept (asked 5 (seen.Elapsed 1000))) → ⊥ }
+    ensures over { (o : Origin) → is_stopped (state_after (shut_down o) stops_rest).world ≡ true }
+    ensures waits { (o : Origin) → MayFollow (shut_down o) (WaitElapsed (asked 5 (seen.Elapsed 1000))) → ⊥ }
     ensures needed { (o : Origin) → MayFollow (shut_down o) (Ran (asked 5 (seen.Killed 0)) 0 step.Run) → ⊥ }
     ensures early { (o : Origin) → MayFollow (shutting o) (Ran (asked 0 (seen.Killed 1)) 1 step.Run) → ⊥ }
 {}

@@ -8,10 +8,10 @@ ghost use Rattle.records.specs.declared.record.Origin.{Origin};
 ghost use Rattle.device.specs.Lawful.{no_failures};
 ghost use Rattle.components.specs.Fitted.{Fitted};
 ghost use Rattle.components.specs.Made.{AreFitted};
-ghost use Rattle.session.specs.Happenings.{Moved, Asked, Heard, Questioned, nothing, Changed};
-ghost use Rattle.session.specs.Places.{left_by};
-ghost use Rattle.session.specs.Follows.{IsProper, MayFollow};
-ghost use Rattle.session.specs.Courses.{IsEnd};
+ghost use Rattle.histories.specs.TraceEvents.{Moved, Asked, Heard, InboxAsked, nothing, Changed};
+ghost use Rattle.histories.specs.States.{state_after};
+ghost use Rattle.histories.specs.Follows.{IsProper, MayFollow};
+ghost use Rattle.histories.specs.Courses.{IsEnd};
 ghost use Rattle.history_rows.specs.Rows.{Recipes, read_as, with_recipes, asked, not_asked, good, bad, a};
 ghost use Rattle.history_rows.specs.Words.{begins, starts, dies, kills, passes, gives_up, fails, counts_of};
 ghost use Rattle.history_rows.specs.RecordRows.{item_a, up_a, run_a, both, both_up, fresh, again_taken, after_again_taken, again, after_again, again_fails, after_again_fails, again_tries, after_again_tries, again_stops, after_again_stops, giving_taken, after_giving_taken, giving, after_giving, giving_fails, after_giving_fails, giving_cuts, after_giving_cuts, resumes, late, after_late, late_starts, after_late_starts, late_fails, after_late_fails, late_stops, after_late_stops, serves_none, later, after_later, later_changes, after_later_changes, later_refused, after_later_refused, later_runs, after_later_runs, later_fails, after_later_fails, later_again, after_later_again};
@@ -28,7 +28,7 @@ pub fn tries_again_row()
     ensures retries { (o : Origin) → MayFollow (after_again_fails o) (Moved 0 event.Retry) → ⊥ }
     ensures as_other { (o : Origin) → MayFollow (after_again_fails o) (fails a step.Startup (exits.Code (pos 2))) → ⊥ }
     ensures as_step { (o : Origin) → MayFollow (after_again_fails o) (fails a step.Run bad) → ⊥ }
-    ensures before { (o : Origin) → MayFollow (left_by (after_again o) (starts (asked 0) 0 0 step.Startup (codes "s") ∷ Asked 0 ∷ begins 0 ∷ begins 0 ∷ [])) (fails a step.Startup bad) → ⊥ }
+    ensures before { (o : Origin) → MayFollow (state_after (after_again o) (starts (asked 0) 0 0 step.Startup (codes "s") ∷ Asked 0 ∷ begins 0 ∷ begins 0 ∷ [])) (fails a step.Startup bad) → ⊥ }
     ensures unrecorded { (o : Origin) → IsEnd (after_again_fails o) statuses.Done false → ⊥ }
 {}
 
@@ -41,11 +41,11 @@ pub fn gives_up_row()
     ensures cuts { (o : Origin) → IsProper (after_giving_fails o) giving_cuts }
     ensures ends { (o : Origin) → IsEnd (after_giving_cuts o) statuses.Disk true }
     ensures ends_edge { (o : Origin) → IsEnd (after_giving_cuts o) statuses.Edge true }
-    ensures starts { (o : Origin) → MayFollow (left_by (after_giving_fails o) (Asked 2 ∷ [])) (starts (asked 2) 2 0 step.Startup (codes "s")) → ⊥ }
-    ensures waits { (o : Origin) → MayFollow (left_by (after_giving_fails o) (Asked 2 ∷ [])) (dies (asked 2) 1 1 step.Startup good 119998) → ⊥ }
+    ensures starts { (o : Origin) → MayFollow (state_after (after_giving_fails o) (Asked 2 ∷ [])) (starts (asked 2) 2 0 step.Startup (codes "s")) → ⊥ }
+    ensures waits { (o : Origin) → MayFollow (state_after (after_giving_fails o) (Asked 2 ∷ [])) (dies (asked 2) 1 1 step.Startup good 119998) → ⊥ }
     ensures unasked { (o : Origin) → MayFollow (after_giving_fails o) (gives_up (not_asked 0) 1) → ⊥ }
     ensures after_cut { (o : Origin) → MayFollow (after_giving_cuts o) (fails a step.Startup bad) → ⊥ }
-    ensures living { (o : Origin) → IsEnd (left_by (after_giving_fails o) (Asked 2 ∷ [])) statuses.Disk true → ⊥ }
+    ensures living { (o : Origin) → IsEnd (state_after (after_giving_fails o) (Asked 2 ∷ [])) statuses.Disk true → ⊥ }
     ensures as_done { (o : Origin) → IsEnd (after_giving_cuts o) statuses.Done false → ⊥ }
 {}
 
@@ -56,7 +56,7 @@ pub fn late_at_close_row()
     ensures fails { (o : Origin) → IsProper (after_late_starts o) late_fails }
     ensures stops { (o : Origin) → IsProper (after_late_fails o) late_stops }
     ensures ends { (o : Origin) → IsEnd (after_late_stops o) statuses.NotRequested false }
-    ensures unrecorded { (o : Origin) → MayFollow (left_by (after_late_starts o) (kills (asked 120000) 0 0 step.Startup ∷ [])) (kills (not_asked 120000) 1 1 step.Startup) → ⊥ }
+    ensures unrecorded { (o : Origin) → MayFollow (state_after (after_late_starts o) (kills (asked 120000) 0 0 step.Startup ∷ [])) (kills (not_asked 120000) 1 1 step.Startup) → ⊥ }
     ensures second { (o : Origin) → MayFollow (after_late_starts o) (kills (asked 120000) 1 1 step.Startup) → ⊥ }
     ensures waits { (o : Origin) → MayFollow (after_late_starts o) (passes (asked 120000) 0) → ⊥ }
 {}
@@ -70,7 +70,7 @@ pub fn forgets_at_close_row()
     ensures fails { (o : Origin) → IsProper (after_later_runs o) later_fails }
     ensures again { (o : Origin) → IsProper (after_later_fails o) later_again }
     ensures ends { (o : Origin) → IsEnd (after_later_again o) statuses.TurnsOver false }
-    ensures idles { (o : Origin) → MayFollow (after_later_fails o) (Questioned nothing) → ⊥ }
+    ensures idles { (o : Origin) → MayFollow (after_later_fails o) (InboxAsked nothing) → ⊥ }
     ensures waits { (o : Origin) → MayFollow (after_later_fails o) (passes (asked 7) 1000) → ⊥ }
-    ensures recorded { (o : Origin) → MayFollow (left_by (after_later_runs o) (Heard 0 ∷ Asked 7 ∷ dies (not_asked 0) 0 0 step.Run bad 1000 ∷ Questioned nothing ∷ [])) (fails a step.Run bad) → ⊥ }
+    ensures recorded { (o : Origin) → MayFollow (state_after (after_later_runs o) (Heard 0 ∷ Asked 7 ∷ dies (not_asked 0) 0 0 step.Run bad 1000 ∷ InboxAsked nothing ∷ [])) (fails a step.Run bad) → ⊥ }
 {}

@@ -12,10 +12,10 @@ ghost use Rattle.step_runner.specs.declared.entries.Seen.TheVariants as seen;
 ghost use Rattle.device.specs.Lawful.{no_failures};
 ghost use Rattle.components.specs.Fitted.{Fitted};
 ghost use Rattle.components.specs.Made.{AreFitted};
-ghost use Rattle.session.specs.Happenings.{Answer, Ran, Slept, Kept, Moved, Asked, Heard, Questioned, Changed, StopsAll, document, nothing, closed, answers_of};
-ghost use Rattle.session.specs.Places.{left_by};
-ghost use Rattle.session.specs.Follows.{IsProper, MayFollow};
-ghost use Rattle.session.specs.Courses.{IsEnd};
+ghost use Rattle.histories.specs.TraceEvents.{Answer, Ran, WaitElapsed, Recorded, Moved, Asked, Heard, InboxAsked, Changed, StopsAll, document, nothing, closed, answers_of};
+ghost use Rattle.histories.specs.States.{state_after};
+ghost use Rattle.histories.specs.Follows.{IsProper, MayFollow};
+ghost use Rattle.histories.specs.Courses.{IsEnd};
 ghost use Rattle.history_rows.specs.Rows.{Recipes, read_as, with_recipes, idle_part, running_part, starting_part, call_begins, device_of, plan_of, starts_up, asked, not_asked, states_of, script};
 ghost use Rattle.history_rows.specs.ServeRows.{item_d, item_h, item_s, new_items, serve_three, brings_up, set_opened, first_run, one_up, begin_run, two_up, all_up, takes, serving, changes, changing, stops_two, stopped_two, started_first, starts_second, served, stops_three, serve_over, serve_none, none_opened, turn_passes, turn_more, one_turn, two_turns, finishing, closed_without, fails_serving, fails_driven, needed_starts, other_starts, both_wait, serve_place, beside, softly, hardly};
 ghost use Rattle.history_rows.specs.Rows.{runs};
@@ -38,18 +38,18 @@ pub fn serve_config_change_row()
     ensures needed { (o : Origin) → MayFollow (changing o) (Ran (not_asked 0 (seen.Killed 0)) 0 step.Run) → ⊥ }
     ensures staying { (o : Origin) → MayFollow (changing o) (Ran (not_asked 0 (seen.Killed 2)) 2 step.Run) → ⊥ }
     ensures early { (o : Origin) → MayFollow (all_up o) (Ran (not_asked 0 (seen.Killed 1)) 1 step.Run) → ⊥ }
-    ensures all { (o : Origin) → MayFollow (left_by (all_up o) (Kept (Accepted (plan_of new_items [])) ∷ Questioned document ∷ [])) StopsAll → ⊥ }
-    ensures unread { (o : Origin) (x : Plan) → MayFollow (all_up o) (Kept (Accepted x)) → ⊥ }
-    ensures unfinished { (o : Origin) → MayFollow (two_up o) (Questioned document) → ⊥ }
+    ensures all { (o : Origin) → MayFollow (state_after (all_up o) (Recorded (Accepted (plan_of new_items [])) ∷ InboxAsked document ∷ [])) StopsAll → ⊥ }
+    ensures unread { (o : Origin) (x : Plan) → MayFollow (all_up o) (Recorded (Accepted x)) → ⊥ }
+    ensures unfinished { (o : Origin) → MayFollow (two_up o) (InboxAsked document) → ⊥ }
     ensures still_open { (o : Origin) → MayFollow (served o) StopsAll → ⊥ }
-    ensures order { (o : Origin) → MayFollow (left_by (served o) (StopsAll ∷ Questioned closed ∷ [])) (Ran (not_asked 0 (seen.Killed 3)) 0 step.Run) → ⊥ }
+    ensures order { (o : Origin) → MayFollow (state_after (served o) (StopsAll ∷ InboxAsked closed ∷ [])) (Ran (not_asked 0 (seen.Killed 3)) 0 step.Run) → ⊥ }
     ensures end_before { (o : Origin) → IsEnd (served o) statuses.Done false → ⊥ }
 {}
 
 /// One that is only starting does not serve those that need it.
 pub fn early_dependent()
     ensures begins { (o : Origin) → MayFollow (needed_starts o) (Moved 1 event.MayBegin) → ⊥ }
-    ensures waits { (o : Origin) → IsProper (needed_starts o) (Slept (asked 0 (seen.Elapsed 120000)) ∷ []) }
+    ensures waits { (o : Origin) → IsProper (needed_starts o) (WaitElapsed (asked 0 (seen.Elapsed 120000)) ∷ []) }
 {}
 
 /// What is needed softly may be broken, and else has to be up as what is needed hard.
@@ -63,7 +63,7 @@ pub fn soft_needs()
 
 /// Whoever may begin begins before anybody waits, and the least name first.
 pub fn one_at_a_time()
-    ensures waits { (o : Origin) → MayFollow (other_starts o) (Slept (asked 0 (seen.Elapsed 120000))) → ⊥ }
+    ensures waits { (o : Origin) → MayFollow (other_starts o) (WaitElapsed (asked 0 (seen.Elapsed 120000))) → ⊥ }
     ensures begins { (o : Origin) → IsProper (other_starts o) (Moved 1 event.MayBegin ∷ []) }
     ensures least { (o : Origin) → MayFollow (both_wait o) (Moved 1 event.MayBegin) → ⊥ }
 {}
@@ -72,15 +72,15 @@ pub fn one_at_a_time()
 /// component of the set.
 pub fn serves_nothing()
     ensures changes { (o : Origin) (r : Recipes) (made : List Fitted) → AreFitted o (read_as r (item_d ∷ [])) made → IsProper (with_recipes r (serve_place o)) (brings_up made) }
-    ensures waits { (o : Origin) → MayFollow (left_by (serve_place o) (Asked 0 ∷ [])) (Slept (asked 0 (seen.Elapsed 1000))) → ⊥ }
-    ensures accepts { (o : Origin) (p : Plan) → MayFollow (serve_place o) (Kept (Accepted p)) → ⊥ }
-    ensures asks { (o : Origin) (x : Answer) → MayFollow (serve_place o) (Questioned x) → ⊥ }
+    ensures waits { (o : Origin) → MayFollow (state_after (serve_place o) (Asked 0 ∷ [])) (WaitElapsed (asked 0 (seen.Elapsed 1000))) → ⊥ }
+    ensures accepts { (o : Origin) (p : Plan) → MayFollow (serve_place o) (Recorded (Accepted p)) → ⊥ }
+    ensures asks { (o : Origin) (x : Answer) → MayFollow (serve_place o) (InboxAsked x) → ⊥ }
     ensures stops { (o : Origin) → MayFollow (serve_place o) StopsAll → ⊥ }
     ensures finished { (o : Origin) (r : Recipes) (made : List Fitted) → AreFitted o (read_as r (item_d ∷ [])) made → IsProper (with_recipes r (finishing o)) (brings_up made) }
-    ensures finished_asks { (o : Origin) (x : Answer) → MayFollow (finishing o) (Questioned x) → ⊥ }
-    ensures finished_waits { (o : Origin) → MayFollow (finishing o) (Slept (asked 0 (seen.Elapsed 1000))) → ⊥ }
+    ensures finished_asks { (o : Origin) (x : Answer) → MayFollow (finishing o) (InboxAsked x) → ⊥ }
+    ensures finished_waits { (o : Origin) → MayFollow (finishing o) (WaitElapsed (asked 0 (seen.Elapsed 1000))) → ⊥ }
     ensures without { (o : Origin) (r : Recipes) (made : List Fitted) → AreFitted o (read_as r (item_d ∷ [])) made → IsProper (with_recipes r (closed_without o)) (brings_up made) }
-    ensures without_asks { (o : Origin) (x : Answer) → MayFollow (record (closed_without o) { opened = true }) (Questioned x) → ⊥ }
+    ensures without_asks { (o : Origin) (x : Answer) → MayFollow (record (closed_without o) { opened = true }) (InboxAsked x) → ⊥ }
     ensures without_again { (o : Origin) (r : Recipes) (made : List Fitted) → AreFitted o (read_as r (item_d ∷ [])) made → IsProper (with_recipes r (record (closed_without o) { opened = true })) (brings_up made) }
 {}
 
@@ -90,27 +90,27 @@ pub fn serve_nothing_row()
     ensures first { (o : Origin) → IsProper (none_opened 2 o) turn_passes }
     ensures second { (o : Origin) → IsProper (one_turn o) turn_more }
     ensures ends { (o : Origin) → IsProper (two_turns o) (StopsAll ∷ []) }
-    ensures end { (o : Origin) → IsEnd (left_by (two_turns o) (StopsAll ∷ [])) statuses.TurnsOver false }
+    ensures end { (o : Origin) → IsEnd (state_after (two_turns o) (StopsAll ∷ [])) statuses.TurnsOver false }
     ensures count { (o : Origin) → answers_of nothing (turn_more ++ turn_passes) ≡ 2 }
-    ensures third { (o : Origin) (x : Answer) → MayFollow (two_turns o) (Questioned x) → ⊥ }
+    ensures third { (o : Origin) (x : Answer) → MayFollow (two_turns o) (InboxAsked x) → ⊥ }
     ensures early { (o : Origin) → MayFollow (one_turn o) StopsAll → ⊥ }
-    ensures unasked { (o : Origin) → MayFollow (one_turn o) (Slept (asked 1000 (seen.Elapsed 1000))) → ⊥ }
-    ensures unwaited { (o : Origin) (x : Answer) → MayFollow (left_by (none_opened 2 o) (Questioned nothing ∷ [])) (Questioned x) → ⊥ }
-    ensures last_unwaited { (o : Origin) → MayFollow (left_by (none_opened 1 o) (Questioned nothing ∷ [])) StopsAll → ⊥ }
-    ensures longer { (o : Origin) → MayFollow (left_by (none_opened 2 o) (Questioned nothing ∷ [])) (Slept (asked 0 (seen.Elapsed 1001))) → ⊥ }
+    ensures unasked { (o : Origin) → MayFollow (one_turn o) (WaitElapsed (asked 1000 (seen.Elapsed 1000))) → ⊥ }
+    ensures unwaited { (o : Origin) (x : Answer) → MayFollow (state_after (none_opened 2 o) (InboxAsked nothing ∷ [])) (InboxAsked x) → ⊥ }
+    ensures last_unwaited { (o : Origin) → MayFollow (state_after (none_opened 1 o) (InboxAsked nothing ∷ [])) StopsAll → ⊥ }
+    ensures longer { (o : Origin) → MayFollow (state_after (none_opened 2 o) (InboxAsked nothing ∷ [])) (WaitElapsed (asked 0 (seen.Elapsed 1001))) → ⊥ }
     ensures changes { (o : Origin) → MayFollow (one_turn o) (Changed [] no_failures true) → ⊥ }
-    ensures refused { (o : Origin) → MayFollow (left_by (none_opened 2 o) (Questioned document ∷ [])) (Questioned closed) }
-    ensures no_document { (o : Origin) (p : Plan) → MayFollow (left_by (none_opened 2 o) (Questioned nothing ∷ [])) (Kept (Accepted p)) → ⊥ }
-    ensures deploys { (o : Origin) (x : Answer) → MayFollow (call_begins (device_of o [] None)) (Questioned x) → ⊥ }
+    ensures refused { (o : Origin) → MayFollow (state_after (none_opened 2 o) (InboxAsked document ∷ [])) (InboxAsked closed) }
+    ensures no_document { (o : Origin) (p : Plan) → MayFollow (state_after (none_opened 2 o) (InboxAsked nothing ∷ [])) (Recorded (Accepted p)) → ⊥ }
+    ensures deploys { (o : Origin) (x : Answer) → MayFollow (call_begins (device_of o [] None)) (InboxAsked x) → ⊥ }
 {}
 
 /// Where nothing is pending a failure is handed out and heard, and nothing else follows before that; it is not heard where
 /// it is to be recorded.
 pub fn failures_heard()
     ensures heard { (o : Origin) → IsProper (fails_serving o) (Heard 0 ∷ []) }
-    ensures retries { (o : Origin) → MayFollow (left_by (fails_serving o) (Heard 0 ∷ [])) (Moved 0 event.Retry) }
+    ensures retries { (o : Origin) → MayFollow (state_after (fails_serving o) (Heard 0 ∷ [])) (Moved 0 event.Retry) }
     ensures unheard { (o : Origin) → MayFollow (fails_serving o) (Moved 0 event.Retry) → ⊥ }
-    ensures asks { (o : Origin) (x : Answer) → MayFollow (fails_serving o) (Questioned x) → ⊥ }
-    ensures twice { (o : Origin) → MayFollow (left_by (fails_serving o) (Heard 0 ∷ [])) (Heard 0) → ⊥ }
+    ensures asks { (o : Origin) (x : Answer) → MayFollow (fails_serving o) (InboxAsked x) → ⊥ }
+    ensures twice { (o : Origin) → MayFollow (state_after (fails_serving o) (Heard 0 ∷ [])) (Heard 0) → ⊥ }
     ensures driven { (o : Origin) → MayFollow (fails_driven o) (Heard 0) → ⊥ }
 {}

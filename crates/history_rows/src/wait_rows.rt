@@ -11,10 +11,10 @@ ghost use Rattle.records.specs.declared.record.Origin.{Origin};
 ghost use Rattle.device.specs.Lawful.{no_failures};
 ghost use Rattle.components.specs.Fitted.{Fitted};
 ghost use Rattle.components.specs.Made.{AreFitted};
-ghost use Rattle.session.specs.Happenings.{Kept, Moved, Asked, Questioned, StopsAll, document, nothing, Changed};
-ghost use Rattle.session.specs.Places.{left_by};
-ghost use Rattle.session.specs.Follows.{IsProper, MayFollow};
-ghost use Rattle.session.specs.Courses.{IsEnd};
+ghost use Rattle.histories.specs.TraceEvents.{Recorded, Moved, Asked, InboxAsked, StopsAll, document, nothing, Changed};
+ghost use Rattle.histories.specs.States.{state_after};
+ghost use Rattle.histories.specs.Follows.{IsProper, MayFollow};
+ghost use Rattle.histories.specs.Courses.{IsEnd};
 ghost use Rattle.history_rows.specs.Rows.{Recipes, read_as, with_recipes, plan_of, asked, not_asked, good, b};
 ghost use Rattle.history_rows.specs.Words.{begins, starts, dies, kills, passes, closes, fails, shuts, counts_of};
 ghost use Rattle.history_rows.specs.WaitRows.{item_a, up_a, both, both_up, fresh, single_taken, after_single_taken, single, after_single, single_starts, after_single_starts, single_stops, after_single_stops, pair_taken, after_pair_taken, pair, after_pair, pair_starts, after_pair_starts, pair_ends, pair_late, resumes, third, after_third, third_starts, after_third_starts, third_fails, after_third_fails, third_stops, after_third_stops, third_back, after_third_back, pair_brief, serves_pair, turns, after_turns, turns_start, after_turns_start, turns_pass, after_turns_pass, turns_stop, after_turns_stop, serves_a, adds, after_adds, adds_starts, after_adds_starts, adds_takes_taken, after_adds_takes_taken, adds_takes, after_adds_takes, adds_comes, after_adds_comes, adds_stops, after_adds_stops, run_a, run_taken, after_run_taken, run, after_run, run_starts, after_run_starts, run_stops, after_run_stops};
@@ -26,9 +26,9 @@ pub fn shuts_down_row()
     ensures starts { (o : Origin) → IsProper (after_single o) single_starts }
     ensures stops { (o : Origin) → IsProper (after_single_starts o) single_stops }
     ensures ends { (o : Origin) → IsEnd (after_single_stops o) statuses.Done false }
-    ensures unasked { (o : Origin) → MayFollow (left_by (after_single_starts o) (Moved 0 (event.Stop after.Gone) ∷ StopsAll ∷ closes outcomes.Successful ∷ dies (not_asked 0) 0 0 step.Startup good 120000 ∷ [])) (starts (not_asked 0) 1 0 step.Shutdown (codes "q")) → ⊥ }
+    ensures unasked { (o : Origin) → MayFollow (state_after (after_single_starts o) (Moved 0 (event.Stop after.Gone) ∷ StopsAll ∷ closes outcomes.Successful ∷ dies (not_asked 0) 0 0 step.Startup good 120000 ∷ [])) (starts (not_asked 0) 1 0 step.Shutdown (codes "q")) → ⊥ }
     ensures as_up { (o : Origin) → MayFollow (after_single_starts o) (closes outcomes.Successful) → ⊥ }
-    ensures longer { (o : Origin) → MayFollow (left_by (after_single_starts o) (starts (asked 5) 1 0 step.Shutdown (codes "q") ∷ Moved 0 (event.Stop after.Gone) ∷ StopsAll ∷ closes outcomes.Successful ∷ Asked 5 ∷ dies (not_asked 0) 0 0 step.Startup good 120000 ∷ [])) (dies (not_asked 5) 1 0 step.Shutdown good 15001) → ⊥ }
+    ensures longer { (o : Origin) → MayFollow (state_after (after_single_starts o) (starts (asked 5) 1 0 step.Shutdown (codes "q") ∷ Moved 0 (event.Stop after.Gone) ∷ StopsAll ∷ closes outcomes.Successful ∷ Asked 5 ∷ dies (not_asked 0) 0 0 step.Startup good 120000 ∷ [])) (dies (not_asked 5) 1 0 step.Shutdown good 15001) → ⊥ }
 {}
 
 /// Two start before anybody waits, each wait is as long as to the least deadline, and what is late is killed though another's end brought
@@ -38,13 +38,13 @@ pub fn two_start_row()
     ensures opens_items { (o : Origin) (r : Recipes) (made : List Fitted) → AreFitted o (read_as r both) made → IsProper (with_recipes r (after_pair_taken o)) (Changed made no_failures false ∷ []) }
     ensures starts { (o : Origin) → IsProper (after_pair o) pair_starts }
     ensures ends { (o : Origin) → IsProper (after_pair_starts o) pair_ends }
-    ensures waits { (o : Origin) → MayFollow (left_by (after_pair o) (starts (asked 0) 0 0 step.Startup (codes "s") ∷ Asked 0 ∷ begins 0 ∷ begins 0 ∷ [])) (dies (not_asked 0) 0 0 step.Startup good 120000) → ⊥ }
-    ensures longer { (o : Origin) → MayFollow (left_by (after_pair_starts o) (Asked 2 ∷ dies (not_asked 0) 0 0 step.Startup good 120000 ∷ [])) (dies (asked 2) 1 1 step.Startup good 120000) → ⊥ }
+    ensures waits { (o : Origin) → MayFollow (state_after (after_pair o) (starts (asked 0) 0 0 step.Startup (codes "s") ∷ Asked 0 ∷ begins 0 ∷ begins 0 ∷ [])) (dies (not_asked 0) 0 0 step.Startup good 120000) → ⊥ }
+    ensures longer { (o : Origin) → MayFollow (state_after (after_pair_starts o) (Asked 2 ∷ dies (not_asked 0) 0 0 step.Startup good 120000 ∷ [])) (dies (asked 2) 1 1 step.Startup good 120000) → ⊥ }
     ensures late { (o : Origin) → IsProper (after_pair_starts o) pair_late }
-    ensures early { (o : Origin) → MayFollow (left_by (after_pair_starts o) (Asked 119999 ∷ dies (not_asked 0) 1 1 step.Startup good 120000 ∷ [])) (kills (asked 119999) 0 0 step.Startup) → ⊥ }
-    ensures late_end { (o : Origin) → MayFollow (left_by (after_pair_starts o) (Asked 120000 ∷ dies (not_asked 0) 1 1 step.Startup good 120000 ∷ [])) (dies (asked 120000) 0 0 step.Startup good 0) → ⊥ }
-    ensures late_wait { (o : Origin) → MayFollow (left_by (after_pair_starts o) (Asked 120000 ∷ dies (not_asked 0) 1 1 step.Startup good 120000 ∷ [])) (passes (asked 120000) 0) → ⊥ }
-    ensures late_close { (o : Origin) → MayFollow (left_by (after_pair_starts o) (kills (asked 120000) 0 0 step.Startup ∷ Asked 120000 ∷ dies (not_asked 0) 1 1 step.Startup good 120000 ∷ [])) (closes outcomes.Successful) → ⊥ }
+    ensures early { (o : Origin) → MayFollow (state_after (after_pair_starts o) (Asked 119999 ∷ dies (not_asked 0) 1 1 step.Startup good 120000 ∷ [])) (kills (asked 119999) 0 0 step.Startup) → ⊥ }
+    ensures late_end { (o : Origin) → MayFollow (state_after (after_pair_starts o) (Asked 120000 ∷ dies (not_asked 0) 1 1 step.Startup good 120000 ∷ [])) (dies (asked 120000) 0 0 step.Startup good 0) → ⊥ }
+    ensures late_wait { (o : Origin) → MayFollow (state_after (after_pair_starts o) (Asked 120000 ∷ dies (not_asked 0) 1 1 step.Startup good 120000 ∷ [])) (passes (asked 120000) 0) → ⊥ }
+    ensures late_close { (o : Origin) → MayFollow (state_after (after_pair_starts o) (kills (asked 120000) 0 0 step.Startup ∷ Asked 120000 ∷ dies (not_asked 0) 1 1 step.Startup good 120000 ∷ [])) (closes outcomes.Successful) → ⊥ }
 {}
 
 /// With the third recorded failure nothing begins and nothing waits: the way back begins, all are stopped, and what is stopped so
@@ -72,8 +72,8 @@ pub fn turns_wait_row()
     ensures waits { (o : Origin) → IsProper (after_turns_start o) turns_pass }
     ensures stops { (o : Origin) → IsProper (after_turns_pass o) turns_stop }
     ensures ends { (o : Origin) → IsEnd (after_turns_stop o) statuses.TurnsOver false }
-    ensures second { (o : Origin) → MayFollow (left_by (after_turns_start o) (Questioned nothing ∷ Asked 400 ∷ dies (not_asked 0) 0 0 step.Startup good 1000 ∷ Questioned nothing ∷ [])) (dies (asked 400) 1 1 step.Startup good 1000) → ⊥ }
-    ensures first { (o : Origin) → MayFollow (left_by (after_turns_start o) (Questioned nothing ∷ [])) (dies (not_asked 0) 0 0 step.Startup good 120000) → ⊥ }
+    ensures second { (o : Origin) → MayFollow (state_after (after_turns_start o) (InboxAsked nothing ∷ Asked 400 ∷ dies (not_asked 0) 0 0 step.Startup good 1000 ∷ InboxAsked nothing ∷ [])) (dies (asked 400) 1 1 step.Startup good 1000) → ⊥ }
+    ensures first { (o : Origin) → MayFollow (state_after (after_turns_start o) (InboxAsked nothing ∷ [])) (dies (not_asked 0) 0 0 step.Startup good 120000) → ⊥ }
     ensures no_turn { (o : Origin) → MayFollow (after_turns_start o) (dies (not_asked 0) 0 0 step.Startup good 1000) → ⊥ }
 {}
 
@@ -86,8 +86,8 @@ pub fn document_comes_row()
     ensures comes { (o : Origin) → IsProper (after_adds_takes o) adds_comes }
     ensures stops { (o : Origin) → IsProper (after_adds_comes o) adds_stops }
     ensures ends { (o : Origin) → IsEnd (after_adds_stops o) statuses.TurnsOver false }
-    ensures asks { (o : Origin) → MayFollow (after_adds o) (Questioned document) → ⊥ }
-    ensures accepts { (o : Origin) → MayFollow (left_by (after_adds_starts o) (Asked 120000 ∷ Questioned document ∷ [])) (Kept (Accepted (plan_of both []))) → ⊥ }
+    ensures asks { (o : Origin) → MayFollow (after_adds o) (InboxAsked document) → ⊥ }
+    ensures accepts { (o : Origin) → MayFollow (state_after (after_adds_starts o) (Asked 120000 ∷ InboxAsked document ∷ [])) (Recorded (Accepted (plan_of both []))) → ⊥ }
     ensures stays { (o : Origin) → MayFollow (after_adds_takes o) (kills (not_asked 0) 0 0 step.Startup) → ⊥ }
 {}
 
@@ -99,5 +99,5 @@ pub fn runs_and_closes_row()
     ensures stops { (o : Origin) → IsProper (after_run_starts o) run_stops }
     ensures ends { (o : Origin) → IsEnd (after_run_stops o) statuses.Done false }
     ensures waits { (o : Origin) → MayFollow (after_run_starts o) (passes (not_asked 0) 1000) → ⊥ }
-    ensures living { (o : Origin) → IsEnd (left_by (after_run_starts o) (StopsAll ∷ closes outcomes.Successful ∷ [])) statuses.Done false → ⊥ }
+    ensures living { (o : Origin) → IsEnd (state_after (after_run_starts o) (StopsAll ∷ closes outcomes.Successful ∷ [])) statuses.Done false → ⊥ }
 {}

@@ -60,7 +60,7 @@ impl<'a, R: Files<File = File> + AllocGlobal> FileDisk<'a, R> {
 }
 
 impl<'a, R: Files<File = File> + AllocGlobal + Clone + Drop> Disk for FileDisk<'a, R> {
-    ghost tells = { false };
+    ghost is_modelled = { false };
 
     ghost seen = { λ disk name. [] };
 

@@ -18,17 +18,17 @@ use Rattle.device.specs.Lawful.{Run}
 use Rattle.device.specs.Sound.{IsSound}
 use Rattle.device.specs.Standing.{Means, Plays}
 use Rattle.device.proofs.Sounding.{none_sound, stays_sound}
-use Rattle.deploy_state.specs.States.{InLoaded, activating_device, backing_device, booting_device, idle_device, loaded_device, rolling_device}
+use Rattle.deploy_state.specs.States.{OwnsLoaded, activating_device, backing_device, booting_device, idle_device, loaded_device, rolling_device}
 use Rattle.deploy_state.specs.declared.state.Loaded.{Loaded}
 use Rattle.deploy_state.specs.declared.state.Loaded.TheVariants as loaded
 use Rattle.step_runner.specs.declared.entries.RunnerEntry.{RunnerEntry}
-use Rattle.session.specs.Happenings.{records_of}
-use Rattle.session.specs.Places.{Place}
+use Rattle.histories.specs.TraceEvents.{records_of}
+use Rattle.histories.specs.States.{SessionState}
 use Rattle.artifact_store.specs.Holding.{HoldsDevice}
-use Rattle.driver.specs.Went.{StandsForFront}
-use Rattle.intake.specs.Takes.{LieElsewhere}
-use Rattle.deployments.specs.Calls.{Call, Spared, StandsWhole}
-use Rattle.nucleus_top.specs.Crashes.{AllowedOrFront, AllowedOrSame, KeepsJournal, LeavesFronts, LeavesSame, SaysSame}
+use Rattle.session_boots.specs.Traces.{StandsForPrefix}
+use Rattle.admission.specs.Takes.{LieElsewhere}
+use Rattle.session.specs.Calls.{Call, ChangesArtifactsAlone, StandsWhole}
+use Rattle.nucleus_top.specs.Crashes.{AllowedOrPrefix, AllowedOrSame, KeepsJournal, LeavesPrefixes, LeavesSame, SaysSame}
 use Rattle.nucleus_top.specs.Opening.{Stands}
 use Rattle.nucleus_top.proofs.Images.{held_stands}
 use Rattle.nucleus_top.proofs.Standing.{same_device}
@@ -63,7 +63,7 @@ says_same a b same = record {
 -- ---- fronts of records
 
 -- no record
-pub none_front : (d : Device) (records : List Record) (c : Image) → Stands c d → StandsForFront slots_entries d records c
+pub none_front : (d : Device) (records : List Record) (c : Image) → Stands c d → StandsForPrefix slots_entries d records c
 none_front d records c h = record { front = []; rest = records; split = refl; device = d; run = refl; stands = h }
 
 pub none_whole : (d : Device) (records : List Record) (c : Image) → Stands c d → HoldsDevice c d → StandsWhole slots_entries d records c
@@ -82,17 +82,17 @@ means_sound payloads e (inr anew) = plays_sound anew.after anew.begun e anew.is.
 
 -- ---- at each moment
 
-module _ {D : Type 0} {tells : Bool} {seen : D → Image} {may_leave : D → Image → Type 0} {moment : D → ℕ} {left_since : D → ℕ → Image → Type 0}
-    (laws : DiskLaws tells seen may_leave moment left_since) where
+module _ {D : Type 0} {is_modelled : Bool} {seen : D → Image} {may_leave : D → Image → Type 0} {moment : D → ℕ} {left_since : D → ℕ → Image → Type 0}
+    (laws : DiskLaws is_modelled seen may_leave moment left_since) where
   -- each image of a state that is in hand stands for its device
-  pub loaded_stands : (s : Loaded Slots) (disk : D) → InLoaded tells may_leave slots_stands (λ log. log.live.end) s disk → (c : Image) → may_leave disk c → Stands c (loaded_device s)
+  pub loaded_stands : (s : Loaded Slots) (disk : D) → OwnsLoaded is_modelled may_leave slots_stands (λ log. log.live.end) s disk → (c : Image) → may_leave disk c → Stands c (loaded_device s)
   loaded_stands (loaded.Idle s) disk held c left = held_stands laws s.log disk (idle_device s) held.0 c left
   loaded_stands (loaded.Booting s) disk held c left = held_stands laws s.hand.log disk (booting_device s) held.0.0 c left
   loaded_stands (loaded.Activating s) disk held c left = held_stands laws s.hand.log disk (activating_device s) held.0.0 c left
   loaded_stands (loaded.Backing s) disk held c left = held_stands laws s.hand.log disk (backing_device s) held.0.0 c left
   loaded_stands (loaded.Rolling s) disk held c left = held_stands laws s.hand.log disk (rolling_device s) held.0.0 c left
 
-  pub loaded_sound : (s : Loaded Slots) (disk : D) → InLoaded tells may_leave slots_stands (λ log. log.live.end) s disk → IsSound (loaded_device s)
+  pub loaded_sound : (s : Loaded Slots) (disk : D) → OwnsLoaded is_modelled may_leave slots_stands (λ log. log.live.end) s disk → IsSound (loaded_device s)
   loaded_sound (loaded.Idle s) disk held = held.0.sound
   loaded_sound (loaded.Booting s) disk held = held.0.0.sound
   loaded_sound (loaded.Activating s) disk held = held.0.0.sound
@@ -100,7 +100,7 @@ module _ {D : Type 0} {tells : Bool} {seen : D → Image} {may_leave : D → Ima
   loaded_sound (loaded.Rolling s) disk held = held.0.0.sound
 
   -- what is allowed more where the disk tells
-  pub told_weaker : (old new : D) (P Q : Image → Type 0) → (IsTrue tells → (c : Image) → P c → Q c) → Leaves moment left_since old new P → Leaves moment left_since old new Q
+  pub told_weaker : (old new : D) (P Q : Image → Type 0) → (IsTrue is_modelled → (c : Image) → P c → Q c) → Leaves moment left_since old new P → Leaves moment left_since old new Q
   told_weaker old new P Q more leaves = record {
     later = leaves.later;
     each = λ c left. more (laws.told new (moment old) c left) c (leaves.each c left);
@@ -114,7 +114,7 @@ module _ {D : Type 0} {tells : Bool} {seen : D → Image} {may_leave : D → Ima
   same_left old new leaves = weaker laws old new _ _ (λ c left. inl left) leaves
 
   -- one behind another
-  pub same_on : (old mid new : D) (d : Device) → (IsTrue tells → Stands (seen old) d) → (IsTrue tells → Stands (seen mid) d)
+  pub same_on : (old mid new : D) (d : Device) → (IsTrue is_modelled → Stands (seen old) d) → (IsTrue is_modelled → Stands (seen mid) d)
       → LeavesSame may_leave moment left_since seen old mid → LeavesSame may_leave moment left_since seen mid new → LeavesSame may_leave moment left_since seen old new
   same_on old mid new d first_stands then_stands first second =
       joined laws old mid new _ (AllowedOrSame (may_leave mid) (seen old)) _ first
@@ -125,29 +125,29 @@ module _ {D : Type 0} {tells : Bool} {seen : D → Image} {may_leave : D → Ima
       (λ c was. ⊎_elim (λ left. now laws old mid _ first c left) (λ stands. inr stands) was)
 
   -- it keeps no record of the device for which the journal stood
-  pub same_fronts : (old new : D) (d : Device) → (IsTrue tells → Stands (seen old) d) → LeavesSame may_leave moment left_since seen old new → LeavesFronts may_leave moment left_since old new d []
+  pub same_fronts : (old new : D) (d : Device) → (IsTrue is_modelled → Stands (seen old) d) → LeavesSame may_leave moment left_since seen old new → LeavesPrefixes may_leave moment left_since old new d []
   same_fronts old new d stands leaves =
-      told_weaker old new (AllowedOrSame (may_leave old) (seen old)) (AllowedOrFront (may_leave old) d [])
+      told_weaker old new (AllowedOrSame (may_leave old) (seen old)) (AllowedOrPrefix (may_leave old) d [])
       (λ told c was. ⊎_elim (λ left. inl left) (λ other. inr (none_front d [] c (subst (λ (e : Device). Stands c e) (same_device (seen old) other.0 d other.1 (stands told)) other.2))) was)
       leaves
 
   -- ---- a call that keeps records
 
   -- behind one that keeps none
-  pub fronts_on : (old mid new : D) (d : Device) (records : List Record) → LeavesFronts may_leave moment left_since old mid d [] → LeavesFronts may_leave moment left_since mid new d records
-      → LeavesFronts may_leave moment left_since old new d records
+  pub fronts_on : (old mid new : D) (d : Device) (records : List Record) → LeavesPrefixes may_leave moment left_since old mid d [] → LeavesPrefixes may_leave moment left_since mid new d records
+      → LeavesPrefixes may_leave moment left_since old new d records
   fronts_on old mid new d records first second =
-      joined laws old mid new (AllowedOrFront (may_leave old) d []) (AllowedOrFront (may_leave mid) d records) (AllowedOrFront (may_leave old) d records) first second more
-      (λ c was. ⊎_elim (λ left. more c (now laws old mid (AllowedOrFront (may_leave old) d []) first c left)) (λ front. inr front) was)
+      joined laws old mid new (AllowedOrPrefix (may_leave old) d []) (AllowedOrPrefix (may_leave mid) d records) (AllowedOrPrefix (may_leave old) d records) first second more
+      (λ c was. ⊎_elim (λ left. more c (now laws old mid (AllowedOrPrefix (may_leave old) d []) first c left)) (λ front. inr front) was)
     where
-      longer : (c : Image) → StandsForFront slots_entries d [] c → StandsForFront slots_entries d records c
+      longer : (c : Image) → StandsForPrefix slots_entries d [] c → StandsForPrefix slots_entries d records c
       longer c h = by h.front h.split h.run
         where
-          by : (front : List Record) → [] ≡ front ++ h.rest → Run d front h.device → StandsForFront slots_entries d records c
+          by : (front : List Record) → [] ≡ front ++ h.rest → Run d front h.device → StandsForPrefix slots_entries d records c
           by [] is run = none_front d records c (subst (λ (e : Device). Stands c e) run h.stands)
           by (r ∷ front) is run = cc
 
-      more : (c : Image) → AllowedOrFront (may_leave old) d [] c → AllowedOrFront (may_leave old) d records c
+      more : (c : Image) → AllowedOrPrefix (may_leave old) d [] c → AllowedOrPrefix (may_leave old) d records c
       more c was = ⊎_elim (λ left. inl left) (λ front. inr (longer c front)) was
 
   -- the journal does not lie among the files of artifacts
@@ -155,45 +155,45 @@ module _ {D : Type 0} {tells : Bool} {seen : D → Image} {may_leave : D → Ima
     pub journal_stays : (a b : Image) → Spares (IsBelow artifacts) a b → (name : List ℕ) → slots_files name → b name ≡ a name
     journal_stays a b spares name is = spares name (λ below. apart name is below)
 
-    front_stays : (d : Device) (records : List Record) (a b : Image) → Spares (IsBelow artifacts) a b → StandsForFront slots_entries d records a → StandsForFront slots_entries d records b
+    front_stays : (d : Device) (records : List Record) (a b : Image) → Spares (IsBelow artifacts) a b → StandsForPrefix slots_entries d records a → StandsForPrefix slots_entries d records b
     front_stays d records a b spares h = record { front = h.front; rest = h.rest; split = h.split; device = h.device; run = h.run; stands = stands_stays h.device a b (journal_stays a b spares) h.stands }
 
     -- the journal is opened, and stray files are swept
-    pub opened_same : (old opened new : D) (s : Loaded Slots) → Leaves moment left_since old opened (may_leave old) → (IsTrue tells → Stands (seen old) (loaded_device s))
-        → InLoaded tells may_leave slots_stands (λ log. log.live.end) s opened → Spared may_leave moment left_since opened new → LeavesSame may_leave moment left_since seen old new
+    pub opened_same : (old opened new : D) (s : Loaded Slots) → Leaves moment left_since old opened (may_leave old) → (IsTrue is_modelled → Stands (seen old) (loaded_device s))
+        → OwnsLoaded is_modelled may_leave slots_stands (λ log. log.live.end) s opened → ChangesArtifactsAlone may_leave moment left_since opened new → LeavesSame may_leave moment left_since seen old new
     opened_same old opened new s opening stands held spared =
         joined laws old opened new (may_leave old) (After (may_leave opened) (Spares (IsBelow artifacts))) (AllowedOrSame (may_leave old) (seen old)) opening spared
         (λ c left. inl left)
         (λ c was. inr (loaded_device s, stands (tells_of laws opened was.0 was.1), stands_stays (loaded_device s) was.0 c (journal_stays was.0 c was.2) (loaded_stands s opened held was.0 was.1)))
 
     -- what the journal says is stable once it is opened, and then files of artifacts change alone
-    pub opened_says : (old opened new : D) → seen opened ≡ seen old → AreSettled seen may_leave slots_files opened → Spared may_leave moment left_since opened new → KeepsJournal may_leave seen old new
+    pub opened_says : (old opened new : D) → seen opened ≡ seen old → AreSettled seen may_leave slots_files opened → ChangesArtifactsAlone may_leave moment left_since opened new → KeepsJournal may_leave seen old new
     opened_says old opened new same settled spared c left =
         let was = now laws opened new (After (may_leave opened) (Spares (IsBelow artifacts))) spared c left in
         says_same (seen old) c (λ name is. journal_stays was.0 c was.2 name is ∙ settled name is was.0 was.1 ∙ ap (λ (i : Image). i name) same)
 
     -- a call that changes files of artifacts alone, where each image stands for a front already
-    spared_fronts : (old new : D) (d : Device) (records : List Record) → ((c : Image) → may_leave old c → StandsForFront slots_entries d records c) → Spared may_leave moment left_since old new
-        → Leaves moment left_since old new (StandsForFront slots_entries d records)
+    spared_fronts : (old new : D) (d : Device) (records : List Record) → ((c : Image) → may_leave old c → StandsForPrefix slots_entries d records c) → ChangesArtifactsAlone may_leave moment left_since old new
+        → Leaves moment left_since old new (StandsForPrefix slots_entries d records)
     spared_fronts old new d records stands spared =
-        weaker laws old new (After (may_leave old) (Spares (IsBelow artifacts))) (StandsForFront slots_entries d records) (λ c was. front_stays d records was.0 c was.2 (stands was.0 was.1)) spared
+        weaker laws old new (After (may_leave old) (Spares (IsBelow artifacts))) (StandsForPrefix slots_entries d records) (λ c was. front_stays d records was.0 c was.2 (stands was.0 was.1)) spared
 
     -- one deployment, in a call that begins with the device in hand
-    module _ (old new : D) (old_list new_list : Option (List RunnerEntry)) (old_held new_held : Option (List ℕ)) (p : Place) (status : Status) (stands : (c : Image) → may_leave old c → Stands c p.device) where
+    module _ (old new : D) (old_list new_list : Option (List RunnerEntry)) (old_held new_held : Option (List ℕ)) (p : SessionState) (status : Status) (stands : (c : Image) → may_leave old c → Stands c p.device) where
       abbrev IsCall : Type 0
       IsCall = Call slots_entries slots_files may_leave moment left_since old new old_list new_list old_held new_held p status
 
-      before_fronts : (records : List Record) (from : D) → Spared may_leave moment left_since old from → Leaves moment left_since old from (StandsForFront slots_entries p.device records)
+      before_fronts : (records : List Record) (from : D) → ChangesArtifactsAlone may_leave moment left_since old from → Leaves moment left_since old from (StandsForPrefix slots_entries p.device records)
       before_fronts records from spared = spared_fronts old from p.device records (λ c left. none_front p.device records c (stands c left)) spared
 
-      call_fronts : (call : IsCall) → Leaves moment left_since old new (StandsForFront slots_entries p.device (records_of call.history))
+      call_fronts : (call : IsCall) → Leaves moment left_since old new (StandsForPrefix slots_entries p.device (records_of call.history))
       call_fronts call =
           let records = records_of call.history in
-          let front = StandsForFront slots_entries p.device records in
+          let front = StandsForPrefix slots_entries p.device records in
           let before : Leaves moment left_since old call.from front = before_fronts records call.from call.before in
-          let went : Leaves moment left_since call.from call.to front = weaker laws call.from call.to _ front (λ c was. was.2.here) call.went.course in
-          let after : Leaves moment left_since call.to new front = spared_fronts call.to new p.device records (now laws call.from call.to front went) call.after in
-          joined laws old call.to new front front front (joined laws old call.from call.to front front front before went (λ c h. h) (λ c h. h)) after (λ c h. h) (λ c h. h)
+          let trace : Leaves moment left_since call.from call.to front = weaker laws call.from call.to _ front (λ c was. was.2.here) call.trace.course in
+          let after : Leaves moment left_since call.to new front = spared_fronts call.to new p.device records (now laws call.from call.to front trace) call.after in
+          joined laws old call.to new front front front (joined laws old call.from call.to front front front before trace (λ c h. h) (λ c h. h)) after (λ c h. h) (λ c h. h)
 
-      pub kept_fronts : (call : IsCall) → LeavesFronts may_leave moment left_since old new p.device (records_of call.history)
+      pub kept_fronts : (call : IsCall) → LeavesPrefixes may_leave moment left_since old new p.device (records_of call.history)
       kept_fronts call = weaker laws old new _ _ (λ c h. inr h) (call_fronts call)

@@ -12,11 +12,11 @@ use Rattle.refusal_lines.specs.Statuses.{status_of_refusal}
 use Rattle.device.specs.Devices.{Device, Pending as PendingPlan, no_device}
 use Rattle.artifact_store.specs.declared.fault.StageFault.TheVariants as stage
 use Rattle.step_runner.specs.declared.entries.RunnerEntry.{RunnerEntry}
-use Rattle.intake.specs.declared.fault.Declined.TheVariants.{Refused, Unstaged}
-use Rattle.deployments.specs.Calls.{IsOrEdge, IsPendingAs}
-use Rattle.deployments.specs.Endings.{Ending, Closes, Restarts, Reboots, Fails, Breaks, Forgets, Starves, Declines, Full, Idle, status_of_ending}
+use Rattle.admission.specs.declared.fault.Declined.TheVariants.{Refused, Unstaged}
+use Rattle.session.specs.Calls.{IsOrEdge, IsPendingAs}
+use Rattle.session.specs.Endings.{Ending, Closes, Restarts, Reboots, Fails, Breaks, Forgets, Starves, Declines, Full, Idle, status_of_ending}
 use Rattle.nucleus_top.specs.Answers.{Store, Input, Shelf, Printed, Told, Prints, Expects, none_line, damaged_line, pending_line}
-use Rattle.nucleus_top.specs.Drives.{IsDeployed, IsResumed, PendingParts, RefusedParts, TurnsAway, Withholds}
+use Rattle.nucleus_top.specs.Drives.{IsDeployed, IsResumed, PendingParts, RefusedParts, TurnsAway, MayNotOpen}
 use Rattle.nucleus_top.specs.Inits.{IsRefusedAt}
 use Rattle.nucleus_top.specs.Opening.{Stands, StandsForNone}
 use Rattle.nucleus_top.specs.Planning.{IsFound, IsPending}
@@ -76,45 +76,45 @@ pub record IsOn (store : Store) (result : Status) : Type 0 where
 module _ {D : Type 0} (may_leave : D → Image → Type 0) (moment : D → ℕ) (left_since : D → ℕ → Image → Type 0) (faults : D → ℕ) (old new : D) (old_list new_list : Option (List RunnerEntry)) (printed : Printed) (result : Status) (store : Store) where
   pub deployed_is_on : (input : Input) (library : Shelf) → IsDeployed may_leave moment left_since faults old new old_list new_list printed result store input library
       → (on : IsOn store result) × (on.device.pending ≡ None)
-  deployed_is_on input library went =
-      let on = went.4.2 in (
+  deployed_is_on input library trace =
+      let on = trace.4.2 in (
         record {
-          device = went.0;
-          found = went.2;
+          device = trace.0;
+          found = trace.2;
           ends = answered on.call.0.ending result on.call.0.answers;
         },
         on.idle,
       )
 
   pub resumed_is_on : IsResumed may_leave moment left_since faults old new old_list new_list printed result store → IsOn store result
-  resumed_is_on went = record { device = went.0; found = went.1; ends = answered went.2.call.ending result went.2.call.answers }
+  resumed_is_on trace = record { device = trace.0; found = trace.1; ends = answered trace.2.call.ending result trace.2.call.answers }
 
 -- ---- a call that is turned away
 
 abbrev pub IsTold : Store → Input → Printed → Status → Type 0
 IsTold store input printed result = (a : Answer) × TurnsAway store input a × Told printed result a
 
-pub withholds_turns : (store : Store) (input : Input) (a : Answer) → Withholds store a → TurnsAway store input a
+pub withholds_turns : (store : Store) (input : Input) (a : Answer) → MayNotOpen store a → TurnsAway store input a
 withholds_turns store input (Pending id) why = absurd why
 withholds_turns store input SourceFailed why = absurd why
 withholds_turns store input a why = why
 
 module _ (store : Store) (input : Input) (printed : Printed) (result : Status) where
-  none : (a : Answer) → TurnsAway store input a → Told printed result a → result ≡ status.NotInitialised → (IsTrue store.tells → slots_none store.before) × Prints printed none_line
+  none : (a : Answer) → TurnsAway store input a → Told printed result a → result ≡ status.NotInitialised → (IsTrue store.is_modelled → slots_none store.before) × Prints printed none_line
   none NotInitialised why (inl told) is = (why.1, told.1)
   none (Unplanned r text) why (inl told) is = absurd why
   none a why (inl told) is = cc
   none a why (inr told) is = cc
 
-  none_comes : (a : Answer) → TurnsAway store input a → Told printed result a → IsTrue store.tells → slots_none store.before → Expects result status.NotInitialised
-  none_comes a why (inr told) tells holds_none = inr (inr (inl told.0))
-  none_comes DiskFailed why (inl told) tells holds_none = inl told.0
-  none_comes SourceFailed why (inl told) tells holds_none = inr (inr (inl told.0))
-  none_comes NotInitialised why (inl told) tells holds_none = inr (inl told.0)
-  none_comes (Damaged place) why (inl told) tells holds_none = absurd ((why.1.2 tells).none no_device (none_stands store.before holds_none))
-  none_comes NoMemory why (inl told) tells holds_none = inr (inr (inr told.0))
-  none_comes (Pending id) why (inl told) tells holds_none = absurd ((why.0.1 tells).0 holds_none)
-  none_comes a why (inl told) tells holds_none = absurd why
+  none_comes : (a : Answer) → TurnsAway store input a → Told printed result a → IsTrue store.is_modelled → slots_none store.before → Expects result status.NotInitialised
+  none_comes a why (inr told) is_modelled holds_none = inr (inr (inl told.0))
+  none_comes DiskFailed why (inl told) is_modelled holds_none = inl told.0
+  none_comes SourceFailed why (inl told) is_modelled holds_none = inr (inr (inl told.0))
+  none_comes NotInitialised why (inl told) is_modelled holds_none = inr (inl told.0)
+  none_comes (Damaged place) why (inl told) is_modelled holds_none = absurd ((why.1.2 is_modelled).none no_device (none_stands store.before holds_none))
+  none_comes NoMemory why (inl told) is_modelled holds_none = inr (inr (inr told.0))
+  none_comes (Pending id) why (inl told) is_modelled holds_none = absurd ((why.0.1 is_modelled).0 holds_none)
+  none_comes a why (inl told) is_modelled holds_none = absurd why
 
   damaged : (a : Answer) → TurnsAway store input a → Told printed result a → result ≡ status.Damaged → (place : List ℕ) × IsRefusedAt store place × Prints printed (damaged_line place)
   damaged (Damaged place) why (inl told) is = (place, why, told.1)
@@ -122,34 +122,34 @@ module _ (store : Store) (input : Input) (printed : Printed) (result : Status) w
   damaged a why (inl told) is = cc
   damaged a why (inr told) is = cc
 
-  damaged_comes : (a : Answer) → TurnsAway store input a → Told printed result a → IsTrue store.tells → StandsForNone store.before → Expects result status.Damaged
-  damaged_comes a why (inr told) tells refuses = inr (inr (inl told.0))
-  damaged_comes DiskFailed why (inl told) tells refuses = inl told.0
-  damaged_comes SourceFailed why (inl told) tells refuses = inr (inr (inl told.0))
-  damaged_comes NotInitialised why (inl told) tells refuses = absurd (refuses no_device (none_stands store.before (why.1 tells)))
-  damaged_comes (Damaged place) why (inl told) tells refuses = inr (inl told.0)
-  damaged_comes NoMemory why (inl told) tells refuses = inr (inr (inr told.0))
-  damaged_comes (Pending id) why (inl told) tells refuses = absurd (refuses why.0.0 (why.0.1 tells).1)
-  damaged_comes a why (inl told) tells refuses = absurd why
+  damaged_comes : (a : Answer) → TurnsAway store input a → Told printed result a → IsTrue store.is_modelled → StandsForNone store.before → Expects result status.Damaged
+  damaged_comes a why (inr told) is_modelled refuses = inr (inr (inl told.0))
+  damaged_comes DiskFailed why (inl told) is_modelled refuses = inl told.0
+  damaged_comes SourceFailed why (inl told) is_modelled refuses = inr (inr (inl told.0))
+  damaged_comes NotInitialised why (inl told) is_modelled refuses = absurd (refuses no_device (none_stands store.before (why.1 is_modelled)))
+  damaged_comes (Damaged place) why (inl told) is_modelled refuses = inr (inl told.0)
+  damaged_comes NoMemory why (inl told) is_modelled refuses = inr (inr (inr told.0))
+  damaged_comes (Pending id) why (inl told) is_modelled refuses = absurd (refuses why.0.0 (why.0.1 is_modelled).1)
+  damaged_comes a why (inl told) is_modelled refuses = absurd why
 
-  pending_in : (d : Device) (id : List ℕ) → IsFound store d → IsPendingAs id d → IsTrue store.tells → IsPending store.before id
-  pending_in d id found is tells = by d.pending refl is
+  pending_in : (d : Device) (id : List ℕ) → IsFound store d → IsPendingAs id d → IsTrue store.is_modelled → IsPending store.before id
+  pending_in d id found is is_modelled = by d.pending refl is
     where
       by : (x : Option PendingPlan) → d.pending ≡ x → IsSomeAnd x (λ q. q.plan.id ≡ id) → IsPending store.before id
       by None same none = absurd none
-      by (Some q) same named = record { some = (found tells).0; device = d; stands = (found tells).1; plan = q; pending = same; id_is = sym named }
+      by (Some q) same named = record { some = (found is_modelled).0; device = d; stands = (found is_modelled).1; plan = q; pending = same; id_is = sym named }
 
   pending : (a : Answer) → TurnsAway store input a → Told printed result a → result ≡ status.PendingStands
-      → (id : List ℕ) × (IsTrue store.tells → IsPending store.before id) × (input.rest ≡ input.document) × Prints printed (pending_line id)
+      → (id : List ℕ) × (IsTrue store.is_modelled → IsPending store.before id) × (input.rest ≡ input.document) × Prints printed (pending_line id)
   pending (Pending id) why (inl told) is = (id, pending_in why.0.0 id why.0.1 why.0.2, why.1, told.1)
   pending (Unplanned r text) why (inl told) is = absurd why
   pending a why (inl told) is = cc
   pending a why (inr told) is = cc
 
   -- a device without a pending deployment is not the one that the journal stands for
-  busy : (d e : Device) (q : PendingPlan) → IsTrue store.tells → IsFound store e → e.pending ≡ None → Stands store.before d → d.pending ≡ Some q → ⊥
-  busy d e q tells found idle stands is =
-      let same : d ≡ e = same_device store.before d e stands (found tells).1 in
+  busy : (d e : Device) (q : PendingPlan) → IsTrue store.is_modelled → IsFound store e → e.pending ≡ None → Stands store.before d → d.pending ≡ Some q → ⊥
+  busy d e q is_modelled found idle stands is =
+      let same : d ≡ e = same_device store.before d e stands (found is_modelled).1 in
       let none : d.pending ≡ None = ap (λ (x : Device). x.pending) same ∙ idle in
       let clash : None ≡ Some q = sym none ∙ is in cc
 
@@ -159,16 +159,16 @@ module _ (store : Store) (input : Input) (printed : Printed) (result : Status) w
       let same : d ≡ no_device = same_device store.before d no_device stands (none_stands store.before holds_none) in
       let clash : None ≡ Some q = sym (ap (λ (x : Device). x.pending) same) ∙ is in cc
 
-  pending_comes : (a : Answer) → TurnsAway store input a → Told printed result a → IsTrue store.tells → (d : Device) → Stands store.before d
+  pending_comes : (a : Answer) → TurnsAway store input a → Told printed result a → IsTrue store.is_modelled → (d : Device) → Stands store.before d
       → (q : PendingPlan) → d.pending ≡ Some q → Expects result status.PendingStands
-  pending_comes a why (inr told) tells d stands q is = inr (inr (inl told.0))
-  pending_comes DiskFailed why (inl told) tells d stands q is = inl told.0
-  pending_comes SourceFailed why (inl told) tells d stands q is = inr (inr (inl told.0))
-  pending_comes NotInitialised why (inl told) tells d stands q is = absurd (busy_none d q (why.1 tells) stands is)
-  pending_comes (Damaged place) why (inl told) tells d stands q is = absurd ((why.1.2 tells).none d stands)
-  pending_comes NoMemory why (inl told) tells d stands q is = inr (inr (inr told.0))
-  pending_comes (Pending id) why (inl told) tells d stands q is = inr (inl told.0)
-  pending_comes a why (inl told) tells d stands q is = absurd why
+  pending_comes a why (inr told) is_modelled d stands q is = inr (inr (inl told.0))
+  pending_comes DiskFailed why (inl told) is_modelled d stands q is = inl told.0
+  pending_comes SourceFailed why (inl told) is_modelled d stands q is = inr (inr (inl told.0))
+  pending_comes NotInitialised why (inl told) is_modelled d stands q is = absurd (busy_none d q (why.1 is_modelled) stands is)
+  pending_comes (Damaged place) why (inl told) is_modelled d stands q is = absurd ((why.1.2 is_modelled).none d stands)
+  pending_comes NoMemory why (inl told) is_modelled d stands q is = inr (inr (inr told.0))
+  pending_comes (Pending id) why (inl told) is_modelled d stands q is = inr (inl told.0)
+  pending_comes a why (inl told) is_modelled d stands q is = absurd why
 
   -- ---- both
 
@@ -184,16 +184,16 @@ module _ (store : Store) (input : Input) (printed : Printed) (result : Status) w
   }
   refused_parts (inr on) = record {
     none = λ is. absurd (other status.NotInitialised refl on.ends is);
-    none_comes = λ tells holds_none. absurd ((on.found tells).0 holds_none);
+    none_comes = λ is_modelled holds_none. absurd ((on.found is_modelled).0 holds_none);
     damaged = λ is. absurd (other status.Damaged refl on.ends is);
-    damaged_comes = λ tells refuses. absurd (refuses on.device (on.found tells).1);
+    damaged_comes = λ is_modelled refuses. absurd (refuses on.device (on.found is_modelled).1);
   }
 
   pub pending_parts : IsTold store input printed result ⊎ ((on : IsOn store result) × (on.device.pending ≡ None)) → PendingParts store input printed result
   pending_parts (inl away) = record { pending = pending away.0 away.1 away.2; pending_comes = pending_comes away.0 away.1 away.2 }
   pending_parts (inr on) = record {
     pending = λ is. absurd (other status.PendingStands refl on.0.ends is);
-    pending_comes = λ tells d stands q is. absurd (busy d on.0.device q tells on.0.found on.1 stands is);
+    pending_comes = λ is_modelled d stands q is. absurd (busy d on.0.device q is_modelled on.0.found on.1 stands is);
   }
 
 -- nothing is done where memory for the words is refused

@@ -26,7 +26,7 @@ use Rattle.library_core.specs.Library.{Content}
 use Rattle.records.specs.declared.record.Origin.{Origin}
 use Rattle.records.specs.declared.record.Plan as code
 use Rattle.device.specs.Devices.{Device, Pending as PendingPlan}
-use Rattle.deploy_state.specs.States.{InIdle, InLoaded, activating_device, backing_device, booting_device, idle_device, rolling_device}
+use Rattle.deploy_state.specs.States.{OwnsIdle, OwnsLoaded, activating_device, backing_device, booting_device, idle_device, rolling_device}
 use Rattle.deploy_state.specs.declared.fault.LoadFault.{LoadFault}
 use Rattle.deploy_state.specs.declared.fault.LoadFault.TheVariants as load
 use Rattle.deploy_state.specs.declared.state.Idle.{Idle}
@@ -37,24 +37,24 @@ use Rattle.artifact_store.specs.declared.fault.SweepFault.{SweepFault}
 use Rattle.artifact_store.specs.declared.fault.SweepFault.TheVariants as sweep
 use Rattle.step_runner.specs.Entries.{Told as Heard}
 use Rattle.step_runner.specs.declared.entries.RunnerEntry.{RunnerEntry}
-use Rattle.components.specs.World.{World}
-use Rattle.session.specs.Courses.{Stands}
-use Rattle.session.specs.Happenings.{records_of}
-use Rattle.session.specs.Follows.{Lives}
-use Rattle.session.specs.Places.{Place, beginning}
-use Rattle.driver.specs.Stands.{IsFront}
-use Rattle.intake.specs.Takes.{LieElsewhere}
-use Rattle.intake.specs.declared.fault.Declined.{Declined}
-use Rattle.intake.proofs.Staying.{hand_stays}
-use Rattle.preparation.specs.Accepts.{IsOpen}
-use Rattle.deployments.specs.Calls.{Call, IsOrEdge, Spared, Stays}
-use Rattle.deployments.specs.Documents.{DrivesTaken, TakesRead}
-use Rattle.deployments.specs.Sweeping.{LeavesNoStray}
-use Rattle.deployments.proofs.Sweeping.{never_closes}
+use Rattle.components.specs.Components.{Components}
+use Rattle.histories.specs.Courses.{Stands}
+use Rattle.histories.specs.TraceEvents.{records_of}
+use Rattle.histories.specs.Follows.{Lives}
+use Rattle.histories.specs.States.{SessionState, beginning}
+use Rattle.session_boots.specs.Stands.{IsAtBootStage}
+use Rattle.admission.specs.Takes.{LieElsewhere}
+use Rattle.admission.specs.declared.fault.Declined.{Declined}
+use Rattle.admission.proofs.Staying.{hand_stays}
+use Rattle.session_admission.specs.Accepts.{IsOpen}
+use Rattle.session.specs.Calls.{Call, IsOrEdge, ChangesArtifactsAlone, Stays}
+use Rattle.session.specs.Documents.{DrivesTaken, TakesRead}
+use Rattle.session.specs.Sweeping.{LeavesNoStray}
+use Rattle.session.proofs.Sweeping.{never_closes}
 use Rattle.nucleus_top.specs.Answers.{HasRisen, Input, IsUnchanged, Printed, Prints, Shelf, Store, Told, status_of}
 use Rattle.nucleus_top.specs.Asked.{AsksFor, asked_of}
-use Rattle.nucleus_top.specs.Crashes.{KeepsJournal, KeepsSameWhole, LeavesFronts, LeavesSame}
-use Rattle.nucleus_top.specs.Drives.{DeploysOn, DriveParts, Drives, GoesUnread, IsDeployed, IsDeployedOn, IsResumedOn, IsTurnedAway, IsUnread, IsUnswept, NamesPendingOf, StartsFrom, TellsSweep, TellsUnread, TurnsAway, Withholds, WithholdsIdle, slots_start}
+use Rattle.nucleus_top.specs.Crashes.{KeepsJournal, KeepsSameWhole, LeavesPrefixes, LeavesSame}
+use Rattle.nucleus_top.specs.Drives.{DeploysOn, DriveParts, Drives, GoesUnread, IsDeployed, IsDeployedOn, IsResumedOn, IsRefusedBefore, IsUnread, IsUnswept, NamesPendingOf, StartsFrom, TellsSweep, TellsUnread, TurnsAway, MayNotOpen, MayNotOpenIdle, slots_start}
 use Rattle.nucleus_top.specs.Opening.{HasEntry, Stands as StandsFor}
 use Rattle.nucleus_top.specs.Parts.{Parts}
 use Rattle.nucleus_top.specs.Planning.{IsFound, NamesPending}
@@ -86,43 +86,43 @@ IsPending NoMemory = ⊤
 IsPending _ = ⊥
 
 module _ (store : Store) where
-  pub withheld_first : (a : Answer) → Withholds store a → IsFirst a
+  pub withheld_first : (a : Answer) → MayNotOpen store a → IsFirst a
   withheld_first DiskFailed why = tt
   withheld_first NotInitialised why = tt
   withheld_first (Damaged place) why = tt
   withheld_first NoMemory why = tt
   withheld_first a why = absurd why
 
-  pub idle_refusal : (a : Answer) → WithholdsIdle store a → IsFirst a ⊎ IsPending a
+  pub idle_refusal : (a : Answer) → MayNotOpenIdle store a → IsFirst a ⊎ IsPending a
   idle_refusal (Pending id) why = inr tt
   idle_refusal a why = inl (withheld_first a why)
 
   -- a journal that gives no device
-  pub refused_withholds : (a : Answer) → Refuses store a → Withholds store a
+  pub refused_withholds : (a : Answer) → Refuses store a → MayNotOpen store a
   refused_withholds DiskFailed why = inl why
   refused_withholds NotInitialised why = why
   refused_withholds (Damaged place) why = why
   refused_withholds NoMemory why = inl why
   refused_withholds a why = absurd why
 
-  pub withholds_idle : (a : Answer) → Withholds store a → WithholdsIdle store a
+  pub withholds_idle : (a : Answer) → MayNotOpen store a → MayNotOpenIdle store a
   withholds_idle (Pending id) why = absurd why
   withholds_idle a why = why
 
-  pub idle_turns : (input : Input) (a : Answer) → input.rest ≡ input.document → WithholdsIdle store a → TurnsAway store input a
+  pub idle_turns : (input : Input) (a : Answer) → input.rest ≡ input.document → MayNotOpenIdle store a → TurnsAway store input a
   idle_turns input (Pending id) same why = (why, same)
   idle_turns input SourceFailed same why = absurd why
   idle_turns input a same why = why
 
   -- of a device that is there
   module _ (d : Device) (found : IsFound store d) where
-    pub unswept_withholds : {S : Type 0} (result : Result S Answer) → IfErr result (λ a. IsUnswept a) → (IsErrOf result DiskFailed → HasRisen store) → IfErr result (λ a. Withholds store a)
+    pub unswept_withholds : {S : Type 0} (result : Result S Answer) → IfErr result (λ a. IsUnswept a) → (IsErrOf result DiskFailed → HasRisen store) → IfErr result (λ a. MayNotOpen store a)
     unswept_withholds (Ok s) is rose = tt
     unswept_withholds (Err DiskFailed) is rose = inr ((d, found), rose refl)
     unswept_withholds (Err NoMemory) is rose = inr (d, found)
     unswept_withholds (Err a) is rose = absurd is
 
-    pub pending_withholds : {S : Type 0} (result : Result S Answer) → IfErr result (λ a. NamesPendingOf d a) → IfErr result (λ a. WithholdsIdle store a)
+    pub pending_withholds : {S : Type 0} (result : Result S Answer) → IfErr result (λ a. NamesPendingOf d a) → IfErr result (λ a. MayNotOpenIdle store a)
     pending_withholds (Ok s) names = tt
     pending_withholds (Err (Pending id)) names = (d, found, names)
     pending_withholds (Err NoMemory) names = inr (d, found)
@@ -140,31 +140,31 @@ names_pending d q NoMemory is names = tt
 names_pending d q a is names = absurd names
 
 pub unread_goes : (input : Input) (f : ReadFault) (a : Answer) → TellsUnread f a → (f ≡ reading.Edge → Rose input.faults_before input.faults_after) → GoesUnread input a
-unread_goes input reading.Edge SourceFailed tells rose = rose refl
-unread_goes input reading.NoMemory NoMemory tells rose = tt
-unread_goes input f a tells rose = absurd tells
+unread_goes input reading.Edge SourceFailed is_modelled rose = rose refl
+unread_goes input reading.NoMemory NoMemory is_modelled rose = tt
+unread_goes input f a is_modelled rose = absurd is_modelled
 
 -- a disk that failed
 pub disk_of : (fault : LoadFault) (a : Answer) → TellsFault fault a → a ≡ DiskFailed → fault ≡ load.Disk
-disk_of load.Disk a tells is = refl
-disk_of load.NotInitialised a tells is = absurd (subst (TellsFault load.NotInitialised) is tells)
-disk_of (load.Damaged at) a tells is = absurd (subst (TellsFault (load.Damaged at)) is tells)
-disk_of load.NoMemory a tells is = absurd (subst (TellsFault load.NoMemory) is tells)
+disk_of load.Disk a is_modelled is = refl
+disk_of load.NotInitialised a is_modelled is = absurd (subst (TellsFault load.NotInitialised) is is_modelled)
+disk_of (load.Damaged at) a is_modelled is = absurd (subst (TellsFault (load.Damaged at)) is is_modelled)
+disk_of load.NoMemory a is_modelled is = absurd (subst (TellsFault load.NoMemory) is is_modelled)
 
 -- stray files that are not swept
 pub swept_unswept : (fault : SweepFault) (a : Answer) → TellsSweep fault a → IsUnswept a
-swept_unswept sweep.Disk DiskFailed tells = tt
-swept_unswept sweep.NoMemory NoMemory tells = tt
-swept_unswept fault a tells = absurd tells
+swept_unswept sweep.Disk DiskFailed is_modelled = tt
+swept_unswept sweep.NoMemory NoMemory is_modelled = tt
+swept_unswept fault a is_modelled = absurd is_modelled
 
 pub swept_disk : (fault : SweepFault) (a : Answer) → TellsSweep fault a → a ≡ DiskFailed → fault ≡ sweep.Disk
-swept_disk sweep.Disk a tells is = refl
-swept_disk sweep.NoMemory a tells is = absurd (subst (TellsSweep sweep.NoMemory) is tells)
+swept_disk sweep.Disk a is_modelled is = refl
+swept_disk sweep.NoMemory a is_modelled is = absurd (subst (TellsSweep sweep.NoMemory) is is_modelled)
 
 pub disk_swept : (fault : SweepFault) (a : Answer) → TellsSweep fault a → fault ≡ sweep.Disk → a ≡ DiskFailed
-disk_swept sweep.Disk DiskFailed tells is = refl
-disk_swept sweep.NoMemory a tells is = cc
-disk_swept sweep.Disk a tells is = absurd tells
+disk_swept sweep.Disk DiskFailed is_modelled is = refl
+disk_swept sweep.NoMemory a is_modelled is = cc
+disk_swept sweep.Disk a is_modelled is = absurd is_modelled
 
 -- a pending deployment
 pub pending_no_disk : {S : Type 0} (d : Device) (result : Result S Answer) → IfErr result (λ a. NamesPendingOf d a) → IsErrOf result DiskFailed → ⊥
@@ -222,15 +222,15 @@ pub record Tells (printed : Printed) (result : Status) (a : Answer) : Type 0 whe
   pub quiet : result ≢ status.Disk → result ≢ status.Edge → a ≢ DiskFailed
   pub quiet_sink : result ≢ status.Edge → printed.faults_after ≡ printed.faults_before
 
-pub tells : (printed : Printed) (result : Status) (a : Answer) → IsFirst a ⊎ IsPending a → Told printed result a → Tells printed result a
-tells printed result a is (inl told) = record {
+pub is_modelled : (printed : Printed) (result : Status) (a : Answer) → IsFirst a ⊎ IsPending a → Told printed result a → Tells printed result a
+is_modelled printed result a is (inl told) = record {
   disk = λ same. refusal_disk a is (sym told.0 ∙ same);
   edge = λ same. absurd (refusal_edge a is (sym told.0 ∙ same));
   library = λ same. refusal_library a is (sym told.0 ∙ same);
   quiet = λ other more fails. other (told.0 ∙ ap status_of fails);
   quiet_sink = λ other. told.2;
 }
-tells printed result a is (inr told) = record {
+is_modelled printed result a is (inr told) = record {
   disk = λ same. cc;
   edge = λ same. told.1.rose;
   library = λ same. cc;
@@ -239,17 +239,17 @@ tells printed result a is (inr told) = record {
 }
 
 -- its status is that of no close
-module _ (tells : Bool) (printed : Printed) (result : Status) (image : Image) where
+module _ (is_modelled : Bool) (printed : Printed) (result : Status) (image : Image) where
   told_or_edge : (a : Answer) → Told printed result a → IsOrEdge result (status_of a)
   told_or_edge a (inl told) = inl told.0
   told_or_edge a (inr told) = inr told.0
 
-  pub told_sweeps : (a : Answer) → IsFirst a ⊎ IsPending a → Told printed result a → LeavesNoStray tells slots_entries result image
-  told_sweeps DiskFailed is told = never_closes tells slots_entries result status.Disk image refl (told_or_edge DiskFailed told)
-  told_sweeps NotInitialised is told = never_closes tells slots_entries result status.NotInitialised image refl (told_or_edge NotInitialised told)
-  told_sweeps (Damaged place) is told = never_closes tells slots_entries result status.Damaged image refl (told_or_edge (Damaged place) told)
-  told_sweeps (Pending id) is told = never_closes tells slots_entries result status.PendingStands image refl (told_or_edge (Pending id) told)
-  told_sweeps NoMemory is told = never_closes tells slots_entries result status.Memory image refl (told_or_edge NoMemory told)
+  pub told_sweeps : (a : Answer) → IsFirst a ⊎ IsPending a → Told printed result a → LeavesNoStray is_modelled slots_entries result image
+  told_sweeps DiskFailed is told = never_closes is_modelled slots_entries result status.Disk image refl (told_or_edge DiskFailed told)
+  told_sweeps NotInitialised is told = never_closes is_modelled slots_entries result status.NotInitialised image refl (told_or_edge NotInitialised told)
+  told_sweeps (Damaged place) is told = never_closes is_modelled slots_entries result status.Damaged image refl (told_or_edge (Damaged place) told)
+  told_sweeps (Pending id) is told = never_closes is_modelled slots_entries result status.PendingStands image refl (told_or_edge (Pending id) told)
+  told_sweeps NoMemory is told = never_closes is_modelled slots_entries result status.Memory image refl (told_or_edge NoMemory told)
   told_sweeps a (inl is) told = absurd is
   told_sweeps a (inr is) told = absurd is
 
@@ -304,12 +304,12 @@ pub slots_elsewhere : JournalsLieElsewhere → LieElsewhere slots_files
 slots_elsewhere law name (inl is) below = law.0 (subst (IsBelow artifacts) is below)
 slots_elsewhere law name (inr is) below = law.1 (subst (IsBelow artifacts) is below)
 
-module _ {D J : Type 0} {tells : Bool} {seen : D → Image} {may_leave : D → Image → Type 0} {moment : D → ℕ} {left_since : D → ℕ → Image → Type 0}
-    (laws : DiskLaws tells seen may_leave moment left_since)
+module _ {D J : Type 0} {is_modelled : Bool} {seen : D → Image} {may_leave : D → Image → Type 0} {moment : D → ℕ} {left_since : D → ℕ → Image → Type 0}
+    (laws : DiskLaws is_modelled seen may_leave moment left_since)
     {files : List ℕ → Type 0} {entries : Image → List (List ℕ) → Type 0} {holds_none : Image → Type 0} {is_damaged : Image → ℕ → Type 0}
     {stands : J → Image → List (List ℕ) → Type 0} {end : J → ℕ} (journal : JournalLaws files entries holds_none is_damaged stands end) (apart : LieElsewhere files) where
   -- whatever becomes of the files of artifacts, a state stays one of the disk
-  pub loaded_stays : (s : Loaded J) (old new : D) → Spared may_leave moment left_since old new → InLoaded tells may_leave stands end s old → InLoaded tells may_leave stands end s new
+  pub loaded_stays : (s : Loaded J) (old new : D) → ChangesArtifactsAlone may_leave moment left_since old new → OwnsLoaded is_modelled may_leave stands end s old → OwnsLoaded is_modelled may_leave stands end s new
   loaded_stays (loaded.Idle s) old new leaves held = (hand_stays laws journal apart s.log (idle_device s) old new leaves held.0, held.1)
   loaded_stays (loaded.Booting s) old new leaves held = ((hand_stays laws journal apart s.hand.log (booting_device s) old new leaves held.0.0, held.0.1), held.1)
   loaded_stays (loaded.Activating s) old new leaves held = ((hand_stays laws journal apart s.hand.log (activating_device s) old new leaves held.0.0, held.0.1), held.1)
@@ -326,7 +326,7 @@ live_of log image payloads some h = by h.says
     by (inl says) = record { closed = h.closed; says = says; older = h.older }
     by (inr none) = absurd (some (none_of image (subst (λ (ps : List (List ℕ)). slots_entries image ps) none.0 (slots_laws.holds log image payloads h))))
 
-pub starts_from : {D : Type 0} {tells : Bool} {may_leave : D → Image → Type 0} {end : Slots → ℕ} (s : Idle Slots) (disk : D) (image : Image) → InIdle tells may_leave slots_stands end s disk
+pub starts_from : {D : Type 0} {is_modelled : Bool} {may_leave : D → Image → Type 0} {end : Slots → ℕ} (s : Idle Slots) (disk : D) (image : Image) → OwnsIdle is_modelled may_leave slots_stands end s disk
     → may_leave disk image → HasEntry image → StartsFrom image (idle_device s) (slots_start s.log (idle_device s))
 starts_from s disk image held left some = record {
   number = s.log.number;
@@ -392,11 +392,11 @@ module _ {D : Type 0} (may_leave : D → Image → Type 0) (moment : D → ℕ) 
 -- ---- a call begins
 
 -- no component from before
-abbrev pub no_world : World
+abbrev pub no_world : Components
 no_world = record { parts = []; moment = 0; steady = true }
 
 -- the place of a call that begins with this device and this runner
-abbrev pub begun : Device → Heard → Place
+abbrev pub begun : Device → Heard → SessionState
 begun d told = beginning false 0 d told.moment told.asked
 
 no_lives : (d : Device) (told : Heard) (n : ℕ) → Lives n (begun d told) → ⊥
@@ -413,8 +413,8 @@ stands_begun d told living none = record {
   children = λ n. (λ has. absurd (in_nil n (subst (λ (xs : List ℕ). Contains xs n) none has)), λ lives. absurd (no_lives d told n lives));
 }
 
-pub open_begun : (d : Device) (world : World) (told : Heard) (living : List ℕ) → world ≡ no_world → living ≡ [] → d.pending ≡ None → IsOpen (begun d told) d world told living
-open_begun d world told living is none idle = subst (λ (w : World). IsOpen (begun d told) d w told living) (sym is) (record {
+pub open_begun : (d : Device) (world : Components) (told : Heard) (living : List ℕ) → world ≡ no_world → living ≡ [] → d.pending ≡ None → IsOpen (begun d told) d world told living
+open_begun d world told living is none idle = subst (λ (w : Components). IsOpen (begun d told) d w told living) (sym is) (record {
   stands = stands_begun d told living none;
   quiet = record { told = refl; none = refl };
   going = refl;
@@ -425,11 +425,11 @@ open_begun d world told living is none idle = subst (λ (w : World). IsOpen (beg
   cut = refl;
 })
 
-pub front_begun : (d : Device) (world : World) (told : Heard) (living : List ℕ) → world ≡ no_world → living ≡ [] → IsFront (begun d told) d world told living
-front_begun d world told living is none = subst (λ (w : World). IsFront (begun d told) d w told living) (sym is) (record {
+pub front_begun : (d : Device) (world : Components) (told : Heard) (living : List ℕ) → world ≡ no_world → living ≡ [] → IsAtBootStage (begun d told) d world told living
+front_begun d world told living is none = subst (λ (w : Components). IsAtBootStage (begun d told) d w told living) (sym is) (record {
   between = record {
     stands = stands_begun d told living none;
-    still = record { stopped = refl; quiet = record { told = refl; none = refl }; crew = refl; cut = refl };
+    still = record { stopped = refl; quiet = record { told = refl; none = refl }; generation = refl; cut = refl };
     boot = refl;
     boot_end = refl;
     probed = refl;
@@ -442,29 +442,29 @@ front_begun d world told living is none = subst (λ (w : World). IsFront (begun 
 rose_behind : (a b c : ℕ) → a ≤ b → Rose b c → Rose a c
 rose_behind a b c later rose = omega (arith, later, rose)
 
-module _ {D : Type 0} {tells : Bool} {seen : D → Image} {may_leave : D → Image → Type 0} {moment : D → ℕ} {left_since : D → ℕ → Image → Type 0}
-    (laws : DiskLaws tells seen may_leave moment left_since) where
+module _ {D : Type 0} {is_modelled : Bool} {seen : D → Image} {may_leave : D → Image → Type 0} {moment : D → ℕ} {left_since : D → ℕ → Image → Type 0}
+    (laws : DiskLaws is_modelled seen may_leave moment left_since) where
   -- a call that changes nothing
-  pub same_spared : (old new : D) → Leaves moment left_since old new (may_leave old) → Spared may_leave moment left_since old new
+  pub same_spared : (old new : D) → Leaves moment left_since old new (may_leave old) → ChangesArtifactsAlone may_leave moment left_since old new
   same_spared old new leaves = weaker laws old new _ _ (none_spares (may_leave old) (IsBelow artifacts)) leaves
 
   -- no call
-  pub start_spared : (d : D) → Spared may_leave moment left_since d d
+  pub start_spared : (d : D) → ChangesArtifactsAlone may_leave moment left_since d d
   start_spared d = same_spared d d (at_start laws d)
 
-  pub then_spared : (old mid new : D) → Spared may_leave moment left_since old mid → Spared may_leave moment left_since mid new → Spared may_leave moment left_since old new
+  pub then_spared : (old mid new : D) → ChangesArtifactsAlone may_leave moment left_since old mid → ChangesArtifactsAlone may_leave moment left_since mid new → ChangesArtifactsAlone may_leave moment left_since old new
   then_spared old mid new first second = then_spares laws (IsBelow artifacts) old mid new first second
 
   -- behind a call that changes files of artifacts alone
-  module _ (old mid new : D) (first : Spared may_leave moment left_since old mid) (old_list new_list : Option (List RunnerEntry)) (old_held new_held : Option (List ℕ)) (result : Status) where
-    call_on : (p : Place) → Call slots_entries slots_files may_leave moment left_since mid new old_list new_list old_held new_held p result
+  module _ (old mid new : D) (first : ChangesArtifactsAlone may_leave moment left_since old mid) (old_list new_list : Option (List RunnerEntry)) (old_held new_held : Option (List ℕ)) (result : Status) where
+    call_on : (p : SessionState) → Call slots_entries slots_files may_leave moment left_since mid new old_list new_list old_held new_held p result
         → Call slots_entries slots_files may_leave moment left_since old new old_list new_list old_held new_held p result
     call_on p call = record {
       from = call.from;
       to = call.to;
       before = then_spared old mid call.from first call.before;
       history = call.history;
-      went = call.went;
+      trace = call.trace;
       after = call.after;
       ending = call.ending;
       answers = call.answers;
@@ -476,14 +476,14 @@ module _ {D : Type 0} {tells : Bool} {seen : D → Image} {may_leave : D → Ima
       once = call.once;
     }
 
-    module _ (p : Place) (start : ℕ → ℕ) (taken : Result code.Plan Declined) where
+    module _ (p : SessionState) (start : ℕ → ℕ) (taken : Result code.Plan Declined) where
       taken_on : DrivesTaken slots_entries slots_files may_leave moment left_since mid new old_list new_list old_held new_held p result start taken
           → DrivesTaken slots_entries slots_files may_leave moment left_since old new old_list new_list old_held new_held p result start taken
       unfolding call_on
       taken_on call = (call_on p call.0, call.1)
 
-  module _ (old mid new : D) (first : Spared may_leave moment left_since old mid) (old_list new_list : Option (List RunnerEntry)) (printed : Printed) (result : Status) (faults : D → ℕ) (later : faults old ≤ faults mid) (d : Device)
-      (images : LeavesFronts may_leave moment left_since old mid d []) (stands : IsTrue tells → StandsFor (seen old) d) (whole : KeepsSameWhole may_leave moment left_since seen old mid) where
+  module _ (old mid new : D) (first : ChangesArtifactsAlone may_leave moment left_since old mid) (old_list new_list : Option (List RunnerEntry)) (printed : Printed) (result : Status) (faults : D → ℕ) (later : faults old ≤ faults mid) (d : Device)
+      (images : LeavesPrefixes may_leave moment left_since old mid d []) (stands : IsTrue is_modelled → StandsFor (seen old) d) (whole : KeepsSameWhole may_leave moment left_since seen old mid) where
     pub deployed_on : (start : ℕ → ℕ) (library : Shelf) (bytes : List ℕ) → IsDeployedOn may_leave moment left_since faults mid new old_list new_list printed result d start library bytes
         → IsDeployedOn may_leave moment left_since faults old new old_list new_list printed result d start library bytes
     unfolding taken_on call_on
@@ -525,18 +525,18 @@ module _ {D : Type 0} {tells : Bool} {seen : D → Image} {may_leave : D → Ima
     }
 
   -- its document is not read behind such a call, or goes on with the device for which the journal stood
-  pub ran_on : (old mid new : D) (first : Spared may_leave moment left_since old mid) (old_list new_list : Option (List RunnerEntry)) (printed : Printed) (result : Status)
+  pub ran_on : (old mid new : D) (first : ChangesArtifactsAlone may_leave moment left_since old mid) (old_list new_list : Option (List RunnerEntry)) (printed : Printed) (result : Status)
       (faults : D → ℕ) (store : Store) (input : Input) (library : Shelf) (d : Device) (start : ℕ → ℕ) (Same : Type 0) → faults old ≤ faults mid
-      → IsFound store d → d.pending ≡ None → (IsTrue store.tells → StartsFrom store.before d start) → (IsTrue tells → StandsFor (seen old) d)
+      → IsFound store d → d.pending ≡ None → (IsTrue store.is_modelled → StartsFrom store.before d start) → (IsTrue is_modelled → StandsFor (seen old) d)
       → LeavesSame may_leave moment left_since seen old mid → KeepsSameWhole may_leave moment left_since seen old mid → KeepsJournal may_leave seen old mid
       → (IsUnread mid new input printed result × Same) ⊎ DeploysOn may_leave moment left_since faults mid new old_list new_list printed result d start input library
-      → (IsTurnedAway seen may_leave moment left_since (λ a. TurnsAway store input a) old new printed result × Same) ⊎ IsDeployed may_leave moment left_since faults old new old_list new_list printed result store input library
+      → (IsRefusedBefore seen may_leave moment left_since (λ a. TurnsAway store input a) old new printed result × Same) ⊎ IsDeployed may_leave moment left_since faults old new old_list new_list printed result store input library
   ran_on old mid new first old_list new_list printed result faults store input library d start Same later found idle starts stands images whole ends (inl away) = inl (
     record {
       answer = away.0.answer;
       why = unread_turns store d found input away.0.answer idle away.0.why;
       told = away.0.told;
-      spared = subst (λ (x : D). Spared may_leave moment left_since old x) (sym away.0.same) first;
+      spared = subst (λ (x : D). ChangesArtifactsAlone may_leave moment left_since old x) (sym away.0.same) first;
       images = subst (λ (x : D). LeavesSame may_leave moment left_since seen old x) (sym away.0.same) images;
       whole = subst (λ (x : D). KeepsSameWhole may_leave moment left_since seen old x) (sym away.0.same) whole;
       ends = inr (λ other. subst (λ (x : D). KeepsJournal may_leave seen old x) (sym away.0.same) ends);
@@ -544,12 +544,12 @@ module _ {D : Type 0} {tells : Bool} {seen : D → Image} {may_leave : D → Ima
     },
     away.1,
   )
-  ran_on old mid new first old_list new_list printed result faults store input library d start Same later found idle starts stands images whole ends (inr went) = inr (
+  ran_on old mid new first old_list new_list printed result faults store input library d start Same later found idle starts stands images whole ends (inr trace) = inr (
     d,
     start,
     found,
     starts,
-    (went.0, went.1, deployed_on old mid new first old_list new_list printed result faults later d (same_fronts laws old mid d stands images) stands whole start library went.0 went.2),
+    (trace.0, trace.1, deployed_on old mid new first old_list new_list printed result faults later d (same_fronts laws old mid d stands images) stands whole start library trace.0 trace.2),
   )
 
 -- ---- words
@@ -593,5 +593,5 @@ module _ (words : List (List ℕ)) (store : Store) (input : Input) (library : Sh
     library_failed = λ is. cc;
     library_stays = λ other more. shelf;
     others = λ told name apart outside. ap (λ (i : Image). i name) same;
-    swept = never_closes store.tells slots_entries status.Memory status.Memory store.after refl (inl refl);
+    swept = never_closes store.is_modelled slots_entries status.Memory status.Memory store.after refl (inl refl);
   }

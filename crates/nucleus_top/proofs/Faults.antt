@@ -18,14 +18,14 @@ use Rattle.nucleus_top.specs.declared.answer.Answer.{Answer}
 use Rattle.nucleus_top.specs.declared.answer.Answer.TheVariants.{Shown, Whole, Differs, DiskFailed, NotInitialised, Damaged, NoMemory}
 
 module _ (store : Store) (fault : LoadFault) (a : Answer) (tells_fault : TellsFault fault a) (same : IsUnchanged store)
-    (told : IsTrue store.tells → Opens store.before (Err fault)) (cause : fault ≡ load.Disk → HasRisen store) where
-  refuses_by : (f : LoadFault) (x : Answer) → TellsFault f x → (IsTrue store.tells → Opens store.before (Err f)) → (f ≡ load.Disk → HasRisen store) → Refuses store x
-  refuses_by load.Disk DiskFailed tells opens rose = (same, rose refl)
-  refuses_by load.NotInitialised NotInitialised tells opens rose = (same, opens)
-  refuses_by (load.Damaged at) (Damaged place) tells opens rose = (same, (at, tells, opens))
-  refuses_by (load.Damaged at) NoMemory tells opens rose = same
-  refuses_by load.NoMemory NoMemory tells opens rose = same
-  refuses_by f x tells opens rose = absurd tells
+    (told : IsTrue store.is_modelled → Opens store.before (Err fault)) (cause : fault ≡ load.Disk → HasRisen store) where
+  refuses_by : (f : LoadFault) (x : Answer) → TellsFault f x → (IsTrue store.is_modelled → Opens store.before (Err f)) → (f ≡ load.Disk → HasRisen store) → Refuses store x
+  refuses_by load.Disk DiskFailed is_modelled opens rose = (same, rose refl)
+  refuses_by load.NotInitialised NotInitialised is_modelled opens rose = (same, opens)
+  refuses_by (load.Damaged at) (Damaged place) is_modelled opens rose = (same, (at, is_modelled, opens))
+  refuses_by (load.Damaged at) NoMemory is_modelled opens rose = same
+  refuses_by load.NoMemory NoMemory is_modelled opens rose = same
+  refuses_by f x is_modelled opens rose = absurd is_modelled
 
   pub refuses : Refuses store a
   refuses = refuses_by fault a tells_fault told cause
@@ -48,26 +48,26 @@ refused_plans store input library NoMemory r = r
 refused_plans store input library a r = absurd r
 
 pub refused_inits : (origin : Origin) (store : Store) (fault : LoadFault) (a : Answer) → fault ≢ load.NotInitialised → TellsFault fault a → Refuses store a → Inits origin store a
-refused_inits origin store load.Disk DiskFailed other tells r = (r.1, λ told. inl r.0)
-refused_inits origin store load.NotInitialised a other tells r = absurd (other refl)
-refused_inits origin store (load.Damaged at) (Damaged place) other tells r = r
-refused_inits origin store (load.Damaged at) NoMemory other tells r = r
-refused_inits origin store load.NoMemory NoMemory other tells r = r
-refused_inits origin store fault a other tells r = absurd tells
+refused_inits origin store load.Disk DiskFailed other is_modelled r = (r.1, λ told. inl r.0)
+refused_inits origin store load.NotInitialised a other is_modelled r = absurd (other refl)
+refused_inits origin store (load.Damaged at) (Damaged place) other is_modelled r = r
+refused_inits origin store (load.Damaged at) NoMemory other is_modelled r = r
+refused_inits origin store load.NoMemory NoMemory other is_modelled r = r
+refused_inits origin store fault a other is_modelled r = absurd is_modelled
 
 -- the work is not done
 pub refused_keeps : (order : Order) (images : Image → Type 0) (seen : Image) (fault : LoadFault) (a : Answer) → TellsFault fault a → status_of a ≡ status.Done → IsDurable order images seen
-refused_keeps order images seen load.Disk DiskFailed tells done = cc
-refused_keeps order images seen load.NotInitialised NotInitialised tells done = cc
-refused_keeps order images seen (load.Damaged at) (Damaged place) tells done = cc
-refused_keeps order images seen (load.Damaged at) NoMemory tells done = cc
-refused_keeps order images seen load.NoMemory NoMemory tells done = cc
-refused_keeps order images seen fault a tells done = absurd tells
+refused_keeps order images seen load.Disk DiskFailed is_modelled done = cc
+refused_keeps order images seen load.NotInitialised NotInitialised is_modelled done = cc
+refused_keeps order images seen (load.Damaged at) (Damaged place) is_modelled done = cc
+refused_keeps order images seen (load.Damaged at) NoMemory is_modelled done = cc
+refused_keeps order images seen load.NoMemory NoMemory is_modelled done = cc
+refused_keeps order images seen fault a is_modelled done = absurd is_modelled
 
 -- another answer than that of a disk that failed tells another fault
 pub other_fault : (fault : LoadFault) (a : Answer) → TellsFault fault a → a ≢ DiskFailed → fault ≢ load.Disk
-other_fault load.Disk DiskFailed tells other = λ is. other refl
-other_fault load.NotInitialised a tells other = λ is. cc
-other_fault (load.Damaged at) a tells other = λ is. cc
-other_fault load.NoMemory a tells other = λ is. cc
-other_fault load.Disk a tells other = absurd tells
+other_fault load.Disk DiskFailed is_modelled other = λ is. other refl
+other_fault load.NotInitialised a is_modelled other = λ is. cc
+other_fault (load.Damaged at) a is_modelled other = λ is. cc
+other_fault load.NoMemory a is_modelled other = λ is. cc
+other_fault load.Disk a is_modelled other = absurd is_modelled

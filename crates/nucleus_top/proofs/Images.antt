@@ -12,7 +12,7 @@ use Rattle.records.specs.declared.record.Origin.{Origin}
 use Rattle.command_words.specs.declared.order.Order.{Order}
 use Rattle.command_words.specs.declared.order.Order.TheVariants.{Init}
 use Rattle.device.specs.Devices.{Device, no_device}
-use Rattle.deploy_state.specs.Hand.{IsInHand, LeavesEither, StandsForEither}
+use Rattle.deploy_state.specs.Owned.{OwnsJournal, LeavesEither, StandsForEither}
 use Rattle.nucleus_top.specs.Answers.{store_of}
 use Rattle.nucleus_top.specs.Begun.{IsNoneOrBegun, Begins, begun_device}
 use Rattle.nucleus_top.specs.Leaving.{LeavesOf, MayLeave}
@@ -25,10 +25,10 @@ none_or_begun : (o : Origin) (c : Image) → StandsForEither slots_entries no_de
 none_or_begun o c (inl stands) = inl (none_held c stands)
 none_or_begun o c (inr stands) = inr stands
 
-module _ {D : Type 0} {tells : Bool} {seen : D → Image} {may_leave : D → Image → Type 0} {moment : D → ℕ} {left_since : D → ℕ → Image → Type 0}
-    (laws : DiskLaws tells seen may_leave moment left_since) where
+module _ {D : Type 0} {is_modelled : Bool} {seen : D → Image} {may_leave : D → Image → Type 0} {moment : D → ℕ} {left_since : D → ℕ → Image → Type 0}
+    (laws : DiskLaws is_modelled seen may_leave moment left_since) where
   -- a store that is begun, over a journal that holds no entry
-  module _ (o : Origin) (old : D) (none : IsTrue tells → slots_none (seen old)) (settled : AreSettled seen may_leave slots_files old) where
+  module _ (o : Origin) (old : D) (none : IsTrue is_modelled → slots_none (seen old)) (settled : AreSettled seen may_leave slots_files old) where
     none_left : (c : Image) → may_leave old c → slots_none c
     none_left c left =
         let holds = none (tells_of laws old c left) in
@@ -43,7 +43,7 @@ module _ {D : Type 0} {tells : Bool} {seen : D → Image} {may_leave : D → Ima
         leaves
 
     -- what the disk then reads as is one of the images
-    pub begun : (new : D) → Leaves moment left_since old new (LeavesOf (Init o) (may_leave old)) → IsTrue tells
+    pub begun : (new : D) → Leaves moment left_since old new (LeavesOf (Init o) (may_leave old)) → IsTrue is_modelled
         → ((name : List ℕ) → ¬ (slots_files name) → seen new name ≡ seen old name) → Begins o (seen old) (seen new)
     begun new leaves told others = record {
       none = none told;
@@ -51,7 +51,7 @@ module _ {D : Type 0} {tells : Bool} {seen : D → Image} {may_leave : D → Ima
     }
 
   -- each image of a journal that is in hand stands for the device
-  pub held_stands : {end : Slots → ℕ} (log : Slots) (disk : D) (d : Device) → IsInHand tells may_leave slots_stands end log disk d → (c : Image) → may_leave disk c → Stands c d
+  pub held_stands : {end : Slots → ℕ} (log : Slots) (disk : D) (d : Device) → OwnsJournal is_modelled may_leave slots_stands end log disk d → (c : Image) → may_leave disk c → Stands c d
   held_stands log disk d hand c left =
       let means = hand.means (tells_of laws disk c left) in
       record { payloads = hand.payloads; live = slots_laws.holds log c hand.payloads (hand.behind.each c left); means = means.0; room = means.1 }
@@ -88,6 +88,6 @@ module _ {D : Type 0} {tells : Bool} {seen : D → Image} {may_leave : D → Ima
   by_none words old new leaves = weaker laws old new _ _ (λ c left. inl left) leaves
 
 -- a call after one that changed nothing and counted no fault
-pub store_after : {D : Type 0} (tells : Bool) (seen : D → Image) (faults : D → ℕ) (old mid new : D) → seen mid ≡ seen old → faults mid ≡ faults old
-    → store_of tells seen faults mid new ≡ store_of tells seen faults old new
-store_after tells seen faults old mid new same stays = λ i. record { tells = tells; before = same i; after = seen new; faults_before = stays i; faults_after = faults new }
+pub store_after : {D : Type 0} (is_modelled : Bool) (seen : D → Image) (faults : D → ℕ) (old mid new : D) → seen mid ≡ seen old → faults mid ≡ faults old
+    → store_of is_modelled seen faults mid new ≡ store_of is_modelled seen faults old new
+store_after is_modelled seen faults old mid new same stays = λ i. record { is_modelled = is_modelled; before = same i; after = seen new; faults_before = stays i; faults_after = faults new }

@@ -17,7 +17,7 @@ use Rattle.nucleus_top.proofs.Standing.{none_stands}
 use Rattle.nucleus_top.proofs.Told.{told_of}
 
 module _ (origin : Origin) (store : Store) (printed : Printed) (result : Status) where
-  done : (a : Answer) → Inits origin store a → Told printed result a → result ≡ status.Done → (IsTrue store.tells → IsMade store origin) × Prints printed (made_line origin.thing)
+  done : (a : Answer) → Inits origin store a → Told printed result a → result ≡ status.Done → (IsTrue store.is_modelled → IsMade store origin) × Prints printed (made_line origin.thing)
   done (Shown text) comes (inl told) is = absurd comes
   done (Made thing) comes (inl told) is = (comes.1, subst (λ (t : List ℕ). Prints printed (made_line t)) comes.0 told.1)
   done (Planned text) comes (inl told) is = absurd comes
@@ -26,16 +26,16 @@ module _ (origin : Origin) (store : Store) (printed : Printed) (result : Status)
   done a comes (inl told) is = cc
   done a comes (inr told) is = cc
 
-  done_comes : (a : Answer) → Inits origin store a → Told printed result a → IsTrue store.tells → slots_none store.before → Expects result status.Done
-  done_comes a comes (inr told) tells none = inr (inr (inl told.0))
-  done_comes (Made thing) comes (inl told) tells none = inr (inl told.0)
-  done_comes DiskFailed comes (inl told) tells none = inl told.0
-  done_comes (Damaged place) comes (inl told) tells none = absurd ((comes.1.2 tells).none no_device (none_stands store.before none))
-  done_comes (Initialised thing) comes (inl told) tells none = absurd ((comes.1 tells).some none)
-  done_comes NoMemory comes (inl told) tells none = inr (inr (inr told.0))
-  done_comes a comes (inl told) tells none = absurd comes
+  done_comes : (a : Answer) → Inits origin store a → Told printed result a → IsTrue store.is_modelled → slots_none store.before → Expects result status.Done
+  done_comes a comes (inr told) is_modelled none = inr (inr (inl told.0))
+  done_comes (Made thing) comes (inl told) is_modelled none = inr (inl told.0)
+  done_comes DiskFailed comes (inl told) is_modelled none = inl told.0
+  done_comes (Damaged place) comes (inl told) is_modelled none = absurd ((comes.1.2 is_modelled).none no_device (none_stands store.before none))
+  done_comes (Initialised thing) comes (inl told) is_modelled none = absurd ((comes.1 is_modelled).some none)
+  done_comes NoMemory comes (inl told) is_modelled none = inr (inr (inr told.0))
+  done_comes a comes (inl told) is_modelled none = absurd comes
 
-  failed : (a : Answer) → Inits origin store a → Told printed result a → result ≡ status.Disk → IsTrue store.tells → MayBegin store origin
+  failed : (a : Answer) → Inits origin store a → Told printed result a → result ≡ status.Disk → IsTrue store.is_modelled → MayBegin store origin
   failed DiskFailed comes (inl told) is = comes.1
   failed (Unplanned r text) comes (inl told) is = absurd comes
   failed a comes (inl told) is = cc
@@ -47,30 +47,30 @@ module _ (origin : Origin) (store : Store) (printed : Printed) (result : Status)
   damaged a comes (inl told) is = cc
   damaged a comes (inr told) is = cc
 
-  damaged_comes : (a : Answer) → Inits origin store a → Told printed result a → IsTrue store.tells → StandsForNone store.before → Expects result status.Damaged
-  damaged_comes a comes (inr told) tells refuses = inr (inr (inl told.0))
-  damaged_comes (Made thing) comes (inl told) tells refuses = absurd (refuses no_device (none_stands store.before (comes.1 tells).none))
-  damaged_comes DiskFailed comes (inl told) tells refuses = inl told.0
-  damaged_comes (Damaged place) comes (inl told) tells refuses = inr (inl told.0)
-  damaged_comes (Initialised thing) comes (inl told) tells refuses = absurd (refuses (comes.1 tells).device (comes.1 tells).stands)
-  damaged_comes NoMemory comes (inl told) tells refuses = inr (inr (inr told.0))
-  damaged_comes a comes (inl told) tells refuses = absurd comes
+  damaged_comes : (a : Answer) → Inits origin store a → Told printed result a → IsTrue store.is_modelled → StandsForNone store.before → Expects result status.Damaged
+  damaged_comes a comes (inr told) is_modelled refuses = inr (inr (inl told.0))
+  damaged_comes (Made thing) comes (inl told) is_modelled refuses = absurd (refuses no_device (none_stands store.before (comes.1 is_modelled).none))
+  damaged_comes DiskFailed comes (inl told) is_modelled refuses = inl told.0
+  damaged_comes (Damaged place) comes (inl told) is_modelled refuses = inr (inl told.0)
+  damaged_comes (Initialised thing) comes (inl told) is_modelled refuses = absurd (refuses (comes.1 is_modelled).device (comes.1 is_modelled).stands)
+  damaged_comes NoMemory comes (inl told) is_modelled refuses = inr (inr (inr told.0))
+  damaged_comes a comes (inl told) is_modelled refuses = absurd comes
 
   initialised : (a : Answer) → Inits origin store a → Told printed result a → result ≡ status.Initialised
-      → (thing : List ℕ) × IsUnchanged store × (IsTrue store.tells → IsInitialised store.before thing) × Prints printed (initialised_line thing)
+      → (thing : List ℕ) × IsUnchanged store × (IsTrue store.is_modelled → IsInitialised store.before thing) × Prints printed (initialised_line thing)
   initialised (Initialised thing) comes (inl told) is = (thing, comes.0, comes.1, told.1)
   initialised (Unplanned r text) comes (inl told) is = absurd comes
   initialised a comes (inl told) is = cc
   initialised a comes (inr told) is = cc
 
-  initialised_comes : (a : Answer) → Inits origin store a → Told printed result a → IsTrue store.tells → HasEntry store.before → (d : Device) → Stands store.before d → Expects result status.Initialised
-  initialised_comes a comes (inr told) tells some d stands = inr (inr (inl told.0))
-  initialised_comes (Made thing) comes (inl told) tells some d stands = absurd (some (comes.1 tells).none)
-  initialised_comes DiskFailed comes (inl told) tells some d stands = inl told.0
-  initialised_comes (Damaged place) comes (inl told) tells some d stands = absurd ((comes.1.2 tells).none d stands)
-  initialised_comes (Initialised thing) comes (inl told) tells some d stands = inr (inl told.0)
-  initialised_comes NoMemory comes (inl told) tells some d stands = inr (inr (inr told.0))
-  initialised_comes a comes (inl told) tells some d stands = absurd comes
+  initialised_comes : (a : Answer) → Inits origin store a → Told printed result a → IsTrue store.is_modelled → HasEntry store.before → (d : Device) → Stands store.before d → Expects result status.Initialised
+  initialised_comes a comes (inr told) is_modelled some d stands = inr (inr (inl told.0))
+  initialised_comes (Made thing) comes (inl told) is_modelled some d stands = absurd (some (comes.1 is_modelled).none)
+  initialised_comes DiskFailed comes (inl told) is_modelled some d stands = inl told.0
+  initialised_comes (Damaged place) comes (inl told) is_modelled some d stands = absurd ((comes.1.2 is_modelled).none d stands)
+  initialised_comes (Initialised thing) comes (inl told) is_modelled some d stands = inr (inl told.0)
+  initialised_comes NoMemory comes (inl told) is_modelled some d stands = inr (inr (inr told.0))
+  initialised_comes a comes (inl told) is_modelled some d stands = absurd comes
 
   pub init_parts : (a : Answer) → Inits origin store a → Told printed result a → InitParts origin store printed result
   init_parts a comes told = record {
@@ -85,8 +85,8 @@ module _ (origin : Origin) (store : Store) (printed : Printed) (result : Status)
   }
 
 -- the refusal of a store that stands for a device
-pub names_comes : (origin : Origin) (store : Store) (d : Device) (a : Answer) → NamesThing d a → IsUnchanged store → (IsTrue store.tells → HasEntry store.before × Stands store.before d) → Inits origin store a
-names_comes origin store d (Initialised thing) names same found = (same, λ tells. let f = found tells in record { some = f.0; device = d; stands = f.1; origin = names.0; origin_is = names.1; thing_is = names.2 })
+pub names_comes : (origin : Origin) (store : Store) (d : Device) (a : Answer) → NamesThing d a → IsUnchanged store → (IsTrue store.is_modelled → HasEntry store.before × Stands store.before d) → Inits origin store a
+names_comes origin store d (Initialised thing) names same found = (same, λ is_modelled. let f = found is_modelled in record { some = f.0; device = d; stands = f.1; origin = names.0; origin_is = names.1; thing_is = names.2 })
 names_comes origin store d NoMemory names same found = same
 names_comes origin store d a names same found = absurd names
 

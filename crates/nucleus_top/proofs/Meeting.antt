@@ -10,14 +10,14 @@ use Rattle.device.specs.Lawful.{applied}
 use Rattle.device.specs.Met.{BringMet, BringsMet}
 use Rattle.device.specs.Sound.{IsSound}
 use Rattle.device.proofs.Meeting.{after_run}
-use Rattle.session.specs.Happenings.{Happening, records_of}
-use Rattle.session.specs.Once.{TakesOnce}
-use Rattle.session.specs.Places.{Place}
-use Rattle.intake.specs.declared.fault.Declined.{Declined}
-use Rattle.intake.specs.Taken.{TakenAreMet}
-use Rattle.deployments.specs.Calls.{Ends}
-use Rattle.deployments.specs.Documents.{Begins, Follows, TakesRead}
-use Rattle.deployments.specs.Endings.{Ending, ResumesBy}
+use Rattle.histories.specs.TraceEvents.{TraceEvent, records_of}
+use Rattle.histories.specs.Once.{TakesOnce}
+use Rattle.histories.specs.States.{SessionState}
+use Rattle.admission.specs.declared.fault.Declined.{Declined}
+use Rattle.admission.specs.Taken.{TakenAreMet}
+use Rattle.session.specs.Calls.{Ends}
+use Rattle.session.specs.Documents.{Begins, Follows, TakesRead}
+use Rattle.session.specs.Endings.{Ending, ResumesBy}
 use Rattle.nucleus_top.specs.Meeting.{BroughtStayMet}
 
 -- what records bring, a front of them brings
@@ -37,10 +37,10 @@ once_brings d (Accepted p ∷ records) once = let never : true ≡ false = once.
 once_brings d (r ∷ records) once = (tt, once_brings (applied d r) records once.1)
 
 -- a call that resumes: there is nothing to resume, or one was taken before
-pub resumed_brings : (d : Device) (o : Option Pending) (ending : Ending) (h : List Happening) (q : Place) → ResumesBy o ending → Ends ending h q → TakesOnce (is_some o) (records_of h) → BringMet d (records_of h)
+pub resumed_brings : (d : Device) (o : Option Pending) (ending : Ending) (h : List TraceEvent) (q : SessionState) → ResumesBy o ending → Ends ending h q → TakesOnce (is_some o) (records_of h) → BringMet d (records_of h)
 resumed_brings d None ending h q resumes ends once =
     let none : h ≡ [] = (subst (λ (e : Ending). Ends e h q) resumes ends).0 in
-    subst (λ (l : List Happening). BringMet d (records_of l)) (sym none) tt
+    subst (λ (l : List TraceEvent). BringMet d (records_of l)) (sym none) tt
 resumed_brings d (Some p) ending h q resumes ends once = once_brings d (records_of h) once
 
 module _ (law : TakenAreMet) (d : Device) (o : Origin) (content : Option Content) (before after : ℕ) (bytes : List ℕ) (sound : IsSound d) (start : ℕ → ℕ) (ending : Ending) (records : List Record) where

@@ -55,11 +55,11 @@ module _ (store : Store) (input : Input) (library : Shelf) (printed : Printed) (
   done a comes (inr told) is = cc
 
   pending : (a : Answer) → Plans store input library a → Told printed result a → result ≡ status.PendingStands
-      → (id : List ℕ) × (IsTrue store.tells → IsPending store.before id) × (input.rest ≡ input.document) × Prints printed (pending_line id)
+      → (id : List ℕ) × (IsTrue store.is_modelled → IsPending store.before id) × (input.rest ≡ input.document) × Prints printed (pending_line id)
   pending (Pending id) comes (inl told) is =
       let on = comes.1.2 in (
         id,
-        λ tells. record { some = (comes.1.1 tells).0; device = comes.1.0; stands = (comes.1.1 tells).1; plan = on.1.0; pending = on.1.1; id_is = on.1.2 },
+        λ is_modelled. record { some = (comes.1.1 is_modelled).0; device = comes.1.0; stands = (comes.1.1 is_modelled).1; plan = on.1.0; pending = on.1.1; id_is = on.1.2 },
         on.0,
         told.1,
       )
@@ -68,25 +68,25 @@ module _ (store : Store) (input : Input) (library : Shelf) (printed : Printed) (
   pending a comes (inr told) is = cc
 
   -- a device without a pending deployment is not the one that the journal stands for
-  busy : (d e : Device) (q : PendingPlan) → IsTrue store.tells → IsFound store e → e.pending ≡ None → Stands store.before d → d.pending ≡ Some q → ⊥
-  busy d e q tells found idle stands is =
-      let same : d ≡ e = same_device store.before d e stands (found tells).1 in
+  busy : (d e : Device) (q : PendingPlan) → IsTrue store.is_modelled → IsFound store e → e.pending ≡ None → Stands store.before d → d.pending ≡ Some q → ⊥
+  busy d e q is_modelled found idle stands is =
+      let same : d ≡ e = same_device store.before d e stands (found is_modelled).1 in
       let none : d.pending ≡ None = ap (λ (x : Device). x.pending) same ∙ idle in
       let clash : None ≡ Some q = sym none ∙ is in cc
 
-  pending_comes : (a : Answer) → Plans store input library a → Told printed result a → IsTrue store.tells → HasEntry store.before
+  pending_comes : (a : Answer) → Plans store input library a → Told printed result a → IsTrue store.is_modelled → HasEntry store.before
       → (d : Device) → Stands store.before d → (q : PendingPlan) → d.pending ≡ Some q → Expects result status.PendingStands
-  pending_comes a comes (inr told) tells some d stands q is = inr (inr (inl told.0))
-  pending_comes (Planned text) comes (inl told) tells some d stands q is = absurd (busy d comes.1.0 q tells comes.1.1 comes.1.2.1.idle stands is)
-  pending_comes (Unplanned r text) comes (inl told) tells some d stands q is = absurd (busy d comes.1.0 q tells comes.1.1 comes.1.2.0.idle stands is)
-  pending_comes LibraryFailed comes (inl told) tells some d stands q is = absurd (busy d comes.1.0 q tells comes.1.1 comes.1.2.0.idle stands is)
-  pending_comes (Pending id) comes (inl told) tells some d stands q is = inr (inl told.0)
-  pending_comes DiskFailed comes (inl told) tells some d stands q is = inl told.0
-  pending_comes SourceFailed comes (inl told) tells some d stands q is = inr (inr (inl told.0))
-  pending_comes NotInitialised comes (inl told) tells some d stands q is = absurd (some (comes.1 tells))
-  pending_comes (Damaged place) comes (inl told) tells some d stands q is = absurd ((comes.1.2 tells).none d stands)
-  pending_comes NoMemory comes (inl told) tells some d stands q is = inr (inr (inr told.0))
-  pending_comes a comes (inl told) tells some d stands q is = absurd comes.1.2
+  pending_comes a comes (inr told) is_modelled some d stands q is = inr (inr (inl told.0))
+  pending_comes (Planned text) comes (inl told) is_modelled some d stands q is = absurd (busy d comes.1.0 q is_modelled comes.1.1 comes.1.2.1.idle stands is)
+  pending_comes (Unplanned r text) comes (inl told) is_modelled some d stands q is = absurd (busy d comes.1.0 q is_modelled comes.1.1 comes.1.2.0.idle stands is)
+  pending_comes LibraryFailed comes (inl told) is_modelled some d stands q is = absurd (busy d comes.1.0 q is_modelled comes.1.1 comes.1.2.0.idle stands is)
+  pending_comes (Pending id) comes (inl told) is_modelled some d stands q is = inr (inl told.0)
+  pending_comes DiskFailed comes (inl told) is_modelled some d stands q is = inl told.0
+  pending_comes SourceFailed comes (inl told) is_modelled some d stands q is = inr (inr (inl told.0))
+  pending_comes NotInitialised comes (inl told) is_modelled some d stands q is = absurd (some (comes.1 is_modelled))
+  pending_comes (Damaged place) comes (inl told) is_modelled some d stands q is = absurd ((comes.1.2 is_modelled).none d stands)
+  pending_comes NoMemory comes (inl told) is_modelled some d stands q is = inr (inr (inr told.0))
+  pending_comes a comes (inl told) is_modelled some d stands q is = absurd comes.1.2
 
   given : (a : Answer) → Plans store input library a → Told printed result a → result ≡ status.Library → Rose library.faults_before library.faults_after × Prints printed library_line
   given LibraryFailed comes (inl told) is = (comes.1.2.1, told.1)
@@ -94,20 +94,20 @@ module _ (store : Store) (input : Input) (library : Shelf) (printed : Printed) (
   given a comes (inl told) is = cc
   given a comes (inr told) is = cc
 
-  none : (a : Answer) → Plans store input library a → Told printed result a → result ≡ status.NotInitialised → (IsTrue store.tells → slots_none store.before) × Prints printed none_line
+  none : (a : Answer) → Plans store input library a → Told printed result a → result ≡ status.NotInitialised → (IsTrue store.is_modelled → slots_none store.before) × Prints printed none_line
   none NotInitialised comes (inl told) is = (comes.1, told.1)
   none (Unplanned r text) comes (inl told) is = absurd (no_refusal r status.NotInitialised refl (sym told.0 ∙ is))
   none a comes (inl told) is = cc
   none a comes (inr told) is = cc
 
-  none_comes : (a : Answer) → Plans store input library a → Told printed result a → IsTrue store.tells → slots_none store.before → Expects result status.NotInitialised
-  none_comes a comes (inr told) tells holds_none = inr (inr (inl told.0))
-  none_comes DiskFailed comes (inl told) tells holds_none = inl told.0
-  none_comes SourceFailed comes (inl told) tells holds_none = inr (inr (inl told.0))
-  none_comes NotInitialised comes (inl told) tells holds_none = inr (inl told.0)
-  none_comes (Damaged place) comes (inl told) tells holds_none = absurd ((comes.1.2 tells).none no_device (none_stands store.before holds_none))
-  none_comes NoMemory comes (inl told) tells holds_none = inr (inr (inr told.0))
-  none_comes a comes (inl told) tells holds_none = absurd ((comes.1.1 tells).0 holds_none)
+  none_comes : (a : Answer) → Plans store input library a → Told printed result a → IsTrue store.is_modelled → slots_none store.before → Expects result status.NotInitialised
+  none_comes a comes (inr told) is_modelled holds_none = inr (inr (inl told.0))
+  none_comes DiskFailed comes (inl told) is_modelled holds_none = inl told.0
+  none_comes SourceFailed comes (inl told) is_modelled holds_none = inr (inr (inl told.0))
+  none_comes NotInitialised comes (inl told) is_modelled holds_none = inr (inl told.0)
+  none_comes (Damaged place) comes (inl told) is_modelled holds_none = absurd ((comes.1.2 is_modelled).none no_device (none_stands store.before holds_none))
+  none_comes NoMemory comes (inl told) is_modelled holds_none = inr (inr (inr told.0))
+  none_comes a comes (inl told) is_modelled holds_none = absurd ((comes.1.1 is_modelled).0 holds_none)
 
   damaged : (a : Answer) → Plans store input library a → Told printed result a → result ≡ status.Damaged → (place : List ℕ) × IsRefusedAt store place × Prints printed (damaged_line place)
   damaged (Damaged place) comes (inl told) is = (place, comes, told.1)
@@ -115,14 +115,14 @@ module _ (store : Store) (input : Input) (library : Shelf) (printed : Printed) (
   damaged a comes (inl told) is = cc
   damaged a comes (inr told) is = cc
 
-  damaged_comes : (a : Answer) → Plans store input library a → Told printed result a → IsTrue store.tells → StandsForNone store.before → Expects result status.Damaged
-  damaged_comes a comes (inr told) tells refuses = inr (inr (inl told.0))
-  damaged_comes DiskFailed comes (inl told) tells refuses = inl told.0
-  damaged_comes SourceFailed comes (inl told) tells refuses = inr (inr (inl told.0))
-  damaged_comes NotInitialised comes (inl told) tells refuses = absurd (refuses no_device (none_stands store.before (comes.1 tells)))
-  damaged_comes (Damaged place) comes (inl told) tells refuses = inr (inl told.0)
-  damaged_comes NoMemory comes (inl told) tells refuses = inr (inr (inr told.0))
-  damaged_comes a comes (inl told) tells refuses = absurd (refuses comes.1.0 (comes.1.1 tells).1)
+  damaged_comes : (a : Answer) → Plans store input library a → Told printed result a → IsTrue store.is_modelled → StandsForNone store.before → Expects result status.Damaged
+  damaged_comes a comes (inr told) is_modelled refuses = inr (inr (inl told.0))
+  damaged_comes DiskFailed comes (inl told) is_modelled refuses = inl told.0
+  damaged_comes SourceFailed comes (inl told) is_modelled refuses = inr (inr (inl told.0))
+  damaged_comes NotInitialised comes (inl told) is_modelled refuses = absurd (refuses no_device (none_stands store.before (comes.1 is_modelled)))
+  damaged_comes (Damaged place) comes (inl told) is_modelled refuses = inr (inl told.0)
+  damaged_comes NoMemory comes (inl told) is_modelled refuses = inr (inr (inr told.0))
+  damaged_comes a comes (inl told) is_modelled refuses = absurd (refuses comes.1.0 (comes.1.1 is_modelled).1)
 
   pub plan_parts : (a : Answer) → Plans store input library a → Told printed result a → PlanParts store input library printed result
   plan_parts a comes told = record {

@@ -8,11 +8,11 @@ use Rattle.records.specs.Stored.{Plan, Record, Accepted}
 use Rattle.device.specs.After.{course}
 use Rattle.device.specs.Devices.{Device}
 use Rattle.device.specs.Lawful.{Run}
-use Rattle.driver.specs.Went.{StandsForMost}
+use Rattle.session_boots.specs.Traces.{StandsForMost}
 use Rattle.step_runner.specs.declared.entries.RunnerEntry.{RunnerEntry}
-use Rattle.session.specs.Happenings.{records_of}
-use Rattle.session.specs.Places.{Place, left_by}
-use Rattle.deployments.specs.Calls.{Call}
+use Rattle.histories.specs.TraceEvents.{records_of}
+use Rattle.histories.specs.States.{SessionState, state_after}
+use Rattle.session.specs.Calls.{Call}
 use Rattle.nucleus_top.specs.Lasting.{IsTaken, Lasts}
 use Rattle.nucleus_top.specs.Opening.{Stands}
 use Rattle.nucleus_top.proofs.Lasting.{runs_take}
@@ -45,8 +45,8 @@ told_front d c records told (r ∷ []) before after plan split few is whole most
     (most.device, most.stands, runs_take d most.device before (after ++ more.0) plan (subst (λ (l : List Record). Run d l most.device) same most.run))
 told_front d c records told (r ∷ s ∷ rest) before after plan split few is whole most = absurd (omega (arith, few))
 
-pub call_lasts : {D : Type 0} (may_leave : D → Image → Type 0) (moment : D → ℕ) (left_since : D → ℕ → Image → Type 0) (old new : D) (old_list new_list : Option (List RunnerEntry)) (old_held new_held : Option (List ℕ)) (p : Place) (status : Status)
+pub call_lasts : {D : Type 0} (may_leave : D → Image → Type 0) (moment : D → ℕ) (left_since : D → ℕ → Image → Type 0) (old new : D) (old_list new_list : Option (List RunnerEntry)) (old_held new_held : Option (List ℕ)) (p : SessionState) (status : Status)
     → (call : Call slots_entries slots_files may_leave moment left_since old new old_list new_list old_held new_held p status) → Lasts (may_leave new) call.prints.told
 call_lasts may_leave moment left_since old new old_list new_list old_held new_held p status call before after plan is c left =
     told_front p.device c (records_of call.history) call.prints.told call.prints.rest before after plan call.prints.split call.prints.few is
-    (λ none. ((left_by p call.history).device, call.went.run, call.prints.stable none c left)) (call.stands c left)
+    (λ none. ((state_after p call.history).device, call.trace.run, call.prints.stable none c left)) (call.stands c left)

@@ -91,27 +91,27 @@ proposed d input library front result some idle is comes =
 -- the answer that tells what comes
 pub told_on : (d : Device) (input : Input) (library : Shelf) (result : Result Draft Refusal) (a : Answer) → IsProposed d input library result
     → (IsErrOf result (Candidates gather.Library) → Rose library.faults_before library.faults_after) → Tells result a → PlansOn d input library a
-told_on d input library (Ok draft) (Planned text) proposal cause tells = (draft, proposal, tells)
-told_on d input library (Ok draft) NoMemory proposal cause tells = tt
-told_on d input library (Ok draft) a proposal cause tells = absurd tells
-told_on d input library (Err refusal) (Unplanned r text) proposal cause tells =
-    subst (λ (x : Refusal). PlansOn d input library (Unplanned x text)) (sym tells.0) (proposal, tells.1, tells.2)
-told_on d input library (Err refusal) LibraryFailed proposal cause tells =
-    let is : refusal ≡ Candidates gather.Library = only_library refusal tells in
+told_on d input library (Ok draft) (Planned text) proposal cause is_modelled = (draft, proposal, is_modelled)
+told_on d input library (Ok draft) NoMemory proposal cause is_modelled = tt
+told_on d input library (Ok draft) a proposal cause is_modelled = absurd is_modelled
+told_on d input library (Err refusal) (Unplanned r text) proposal cause is_modelled =
+    subst (λ (x : Refusal). PlansOn d input library (Unplanned x text)) (sym is_modelled.0) (proposal, is_modelled.1, is_modelled.2)
+told_on d input library (Err refusal) LibraryFailed proposal cause is_modelled =
+    let is : refusal ≡ Candidates gather.Library = only_library refusal is_modelled in
     (subst (λ (x : Refusal). IsProposed d input library (Err x)) is proposal, cause (cc))
-told_on d input library (Err refusal) NoMemory proposal cause tells = tt
-told_on d input library (Err refusal) a proposal cause tells = absurd tells
+told_on d input library (Err refusal) NoMemory proposal cause is_modelled = tt
+told_on d input library (Err refusal) a proposal cause is_modelled = absurd is_modelled
 
 failed : (refusal : Refusal) (result : Result Draft Refusal) → result ≡ Err refusal → IsErrOf result (Candidates gather.Library) → status_of_refusal refusal ≡ status.Library
 failed refusal result refused is = let same : refusal ≡ Candidates gather.Library = cc in ap status_of_refusal same
 
 pub told_still : (library : Shelf) (result : Result Draft Refusal) (a : Answer) → Tells result a
     → (¬ (IsErrOf result (Candidates gather.Library)) → library.faults_after ≡ library.faults_before) → IsStill library a
-told_still library (Ok draft) a tells quiet = λ other. quiet (λ is. cc)
-told_still library (Err refusal) (Unplanned r text) tells quiet = λ other. quiet (λ is. tells.2 (failed refusal (Err refusal) refl is))
-told_still library (Err refusal) LibraryFailed tells quiet = λ other. absurd (other refl)
-told_still library (Err refusal) NoMemory tells quiet = λ other. quiet (λ is. tells (failed refusal (Err refusal) refl is))
-told_still library (Err refusal) a tells quiet = absurd tells
+told_still library (Ok draft) a is_modelled quiet = λ other. quiet (λ is. cc)
+told_still library (Err refusal) (Unplanned r text) is_modelled quiet = λ other. quiet (λ is. is_modelled.2 (failed refusal (Err refusal) refl is))
+told_still library (Err refusal) LibraryFailed is_modelled quiet = λ other. absurd (other refl)
+told_still library (Err refusal) NoMemory is_modelled quiet = λ other. quiet (λ is. is_modelled (failed refusal (Err refusal) refl is))
+told_still library (Err refusal) a is_modelled quiet = absurd is_modelled
 
 -- ---- any device
 

@@ -11,11 +11,11 @@ use Rattle.device.specs.Devices.{Device, no_device}
 use Rattle.device.specs.Lawful.{Run}
 use Rattle.device.specs.Met.{Met}
 use Rattle.device.proofs.Course.{run}
-use Rattle.driver.specs.Went.{StandsForMost}
-use Rattle.driver.proofs.Fronts.{none_most, run_on}
+use Rattle.session_boots.specs.Traces.{StandsForMost}
+use Rattle.session_boots.proofs.Prefixes.{none_most, run_on}
 use Rattle.nucleus_top.specs.Begun.{Begins, IsNoneOrBegun, begun_device}
 use Rattle.nucleus_top.specs.Opening.{Stands}
-use Rattle.nucleus_top.specs.Crashes.{AllowedOrFront, AllowedOrSame}
+use Rattle.nucleus_top.specs.Crashes.{AllowedOrPrefix, AllowedOrSame}
 use Rattle.nucleus_top.specs.Series.{AllStayMet, AreKept, DrivesEnd, DrivesGoOn, Follow, IsFrontOf, IsLeftOn, IsReached, LeftAs, LeftBy, Made, TurnedEnd, TurnedGoOn, keeps_none, stopped}
 use Rattle.nucleus_top.proofs.Crashes.{means_sound}
 use Rattle.nucleus_top.proofs.Lasting.{runs_lose_nothing}
@@ -99,13 +99,13 @@ calls_reach d (c ∷ before) image follow left = reach_on d c before image (λ i
 
 -- ---- the calls of a disk
 
-module _ {D : Type 0} {tells : Bool} {seen : D → Image} {may_leave : D → Image → Type 0} {moment : D → ℕ} {left_since : D → ℕ → Image → Type 0}
-    (laws : DiskLaws tells seen may_leave moment left_since) where
+module _ {D : Type 0} {is_modelled : Bool} {seen : D → Image} {may_leave : D → Image → Type 0} {moment : D → ℕ} {left_since : D → ℕ → Image → Type 0}
+    (laws : DiskLaws is_modelled seen may_leave moment left_since) where
   pub drives_go_on : DrivesGoOn may_leave moment left_since
   drives_go_on d e before records old new begins leaves =
       let call : Made = stopped e records in (
         (begins.follow, (begins.start, begins.left begins.start begins.is_one, begins.stands)),
-        weaker laws old new (AllowedOrFront (may_leave old) e records) (LeftBy d (call ∷ before)) (λ c was. ⊎_elim (λ left. inl (begins.left c left)) (λ front. inr front) was) leaves,
+        weaker laws old new (AllowedOrPrefix (may_leave old) e records) (LeftBy d (call ∷ before)) (λ c was. ⊎_elim (λ left. inl (begins.left c left)) (λ front. inr front) was) leaves,
       )
 
   pub turned_go_on : TurnedGoOn may_leave moment left_since seen
@@ -116,13 +116,13 @@ module _ {D : Type 0} {tells : Bool} {seen : D → Image} {may_leave : D → Ima
     keeps = leaves.keeps;
   }
     where
-      by : IsTrue tells → (c : Image) → AllowedOrSame (may_leave old) (seen old) c → IsLeftOn d before (seen old) c
+      by : IsTrue is_modelled → (c : Image) → AllowedOrSame (may_leave old) (seen old) c → IsLeftOn d before (seen old) c
       by told c (inl allowed) = inl (left c allowed)
       by told c (inr same) = inr (same.0, same.1, (follow, (seen old, left (seen old) (laws.reads old told), same.1)), none_most slots_entries same.0 c same.2)
 
   pub drives_end : DrivesEnd may_leave
   drives_end d e before records old new begins ends = ((begins.follow, (begins.start, begins.left begins.start begins.is_one, begins.stands)), ends)
 
-  pub turned_end : TurnedEnd may_leave tells seen
+  pub turned_end : TurnedEnd may_leave is_modelled seen
   turned_end d e before old new told follow left stood keeps =
       ((follow, (seen old, left (seen old) (laws.reads old told), stood)), λ c was. none_most slots_entries e c ((keeps c was).device e stood))

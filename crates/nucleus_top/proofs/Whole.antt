@@ -10,19 +10,19 @@ use Rattle.checkpoint_log.specs.declared.slots.Slots.{Slots}
 use Rattle.records.specs.Stored.{Record}
 use Rattle.device.specs.Devices.{Device}
 use Rattle.device.specs.Lawful.{Run}
-use Rattle.deploy_state.specs.States.{InLoaded, loaded_device}
+use Rattle.deploy_state.specs.States.{OwnsLoaded, loaded_device}
 use Rattle.deploy_state.specs.declared.state.Loaded.{Loaded}
 use Rattle.artifact_store.specs.Holding.{AllHoldDevice, HoldsDevice}
-use Rattle.intake.specs.Takes.{LieElsewhere}
-use Rattle.deployments.specs.Calls.{Spared, StandsWhole}
-use Rattle.deployments.proofs.Holding.{both_leave}
+use Rattle.admission.specs.Takes.{LieElsewhere}
+use Rattle.session.specs.Calls.{ChangesArtifactsAlone, StandsWhole}
+use Rattle.session.proofs.Holding.{both_leave}
 use Rattle.nucleus_top.specs.Crashes.{AllHoldTheirs, AllowedOrSameWhole, AllowedOrWhole, KeepsSameWhole, KeepsWhole}
 use Rattle.nucleus_top.specs.Opening.{Stands}
 use Rattle.nucleus_top.proofs.Crashes.{journal_stays, loaded_stands, none_whole, stands_stays, told_weaker}
 use Rattle.nucleus_top.proofs.Standing.{same_device}
 
-module _ {D : Type 0} {tells : Bool} {seen : D → Image} {may_leave : D → Image → Type 0} {moment : D → ℕ} {left_since : D → ℕ → Image → Type 0}
-    (laws : DiskLaws tells seen may_leave moment left_since) where
+module _ {D : Type 0} {is_modelled : Bool} {seen : D → Image} {may_leave : D → Image → Type 0} {moment : D → ℕ} {left_since : D → ℕ → Image → Type 0}
+    (laws : DiskLaws is_modelled seen may_leave moment left_since) where
   -- ---- behind a call that keeps no record
 
   theirs_on : (old mid : D) → Leaves moment left_since old mid (AllowedOrSameWhole (may_leave old) (seen old)) → AllHoldTheirs (may_leave old) → AllHoldTheirs (may_leave mid)
@@ -37,8 +37,8 @@ module _ {D : Type 0} {tells : Bool} {seen : D → Image} {may_leave : D → Ima
   same_kept old new leaves theirs = weaker laws old new (may_leave old) (AllowedOrSameWhole (may_leave old) (seen old)) (λ c left. inl left) leaves
 
   -- the journal is opened, and stray files are swept
-  pub opened_whole : LieElsewhere slots_files → (old opened new : D) (s : Loaded Slots) → Leaves moment left_since old opened (may_leave old) → (IsTrue tells → Stands (seen old) (loaded_device s))
-      → InLoaded tells may_leave slots_stands (λ log. log.live.end) s opened → Spared may_leave moment left_since opened new
+  pub opened_whole : LieElsewhere slots_files → (old opened new : D) (s : Loaded Slots) → Leaves moment left_since old opened (may_leave old) → (IsTrue is_modelled → Stands (seen old) (loaded_device s))
+      → OwnsLoaded is_modelled may_leave slots_stands (λ log. log.live.end) s opened → ChangesArtifactsAlone may_leave moment left_since opened new
       → (AllHoldDevice (may_leave opened) (loaded_device s) → Leaves moment left_since opened new (λ c. HoldsDevice c (loaded_device s))) → KeepsSameWhole may_leave moment left_since seen old new
   opened_whole apart old opened new s opening stands held spared safe theirs =
       let d = loaded_device s in
@@ -53,7 +53,7 @@ module _ {D : Type 0} {tells : Bool} {seen : D → Image} {may_leave : D → Ima
   -- ---- a call that keeps records
 
   -- of the device for which the journal stood
-  same_whole : (old new : D) (d : Device) → (IsTrue tells → Stands (seen old) d) → Leaves moment left_since old new (AllowedOrSameWhole (may_leave old) (seen old)) → Leaves moment left_since old new (AllowedOrWhole (may_leave old) d [])
+  same_whole : (old new : D) (d : Device) → (IsTrue is_modelled → Stands (seen old) d) → Leaves moment left_since old new (AllowedOrSameWhole (may_leave old) (seen old)) → Leaves moment left_since old new (AllowedOrWhole (may_leave old) d [])
   same_whole old new d stands leaves =
       told_weaker laws old new (AllowedOrSameWhole (may_leave old) (seen old)) (AllowedOrWhole (may_leave old) d [])
       (λ told c was. ⊎_elim (λ left. inl left)
@@ -69,7 +69,7 @@ module _ {D : Type 0} {tells : Bool} {seen : D → Image} {may_leave : D → Ima
       by (r ∷ front) is run = cc
 
   -- one behind the other
-  pub whole_on : (old mid new : D) (d : Device) (records : List Record) → (IsTrue tells → Stands (seen old) d) → KeepsSameWhole may_leave moment left_since seen old mid → KeepsWhole may_leave moment left_since mid new d records
+  pub whole_on : (old mid new : D) (d : Device) (records : List Record) → (IsTrue is_modelled → Stands (seen old) d) → KeepsSameWhole may_leave moment left_since seen old mid → KeepsWhole may_leave moment left_since mid new d records
       → KeepsWhole may_leave moment left_since old new d records
   whole_on old mid new d records stands first second theirs =
       joined laws old mid new (AllowedOrWhole (may_leave old) d []) (AllowedOrWhole (may_leave mid) d records) (AllowedOrWhole (may_leave old) d records) before

@@ -6,7 +6,7 @@ use Rattle.disk_model.specs.Disk.{Image}
 use Rattle.nuc_base.specs.declared.status.Status.{Status}
 use Rattle.nuc_base.specs.declared.status.Status.TheVariants as status
 use Rattle.nuc_base.specs.Faults.{Rose}
-use Rattle.edges.specs.Pieces.{AppendsFront}
+use Rattle.edges.specs.Pieces.{AppendsPrefix}
 use Rattle.library_core.specs.Library.{Content}
 use Rattle.refusal_lines.specs.Statuses.{status_of_refusal}
 use Rattle.nucleus_top.specs.declared.answer.Answer.{Answer}
@@ -73,14 +73,14 @@ lines_of NoMemory = codes ""
 
 -- The disk of a call: whether it tells, what its files read as before and after, and its counts of faults.
 pub record Store : Type 0 where
-  pub tells : Bool
+  pub is_modelled : Bool
   pub before : Image
   pub after : Image
   pub faults_before : ℕ
   pub faults_after : ℕ
 
 abbrev pub store_of : {D : Type 0} → Bool → (D → Image) → (D → ℕ) → D → D → Store
-store_of tells seen faults old new = record { tells = tells; before = seen old; after = seen new; faults_before = faults old; faults_after = faults new }
+store_of is_modelled seen faults old new = record { is_modelled = is_modelled; before = seen old; after = seen new; faults_before = faults old; faults_after = faults new }
 
 -- What a call reads from: the bytes that it has left before and after. Untold bytes are None.
 pub record Input : Type 0 where
@@ -133,7 +133,7 @@ IsStill library answer = answer ≢ LibraryFailed → library.faults_after ≡ l
 -- The sink failed, and got a front of the lines of this answer.
 pub record IsCutShort (printed : Printed) (answer : Answer) : Type 0 where
   pub rose : Rose printed.faults_before printed.faults_after
-  pub front : AppendsFront printed.before printed.after (lines_of answer)
+  pub front : AppendsPrefix printed.before printed.after (lines_of answer)
 
 -- What the sink got: the lines of the answer, and its count stays; or where it failed a front of them.
 abbrev pub Told : Printed → Status → Answer → Type 0

@@ -34,11 +34,11 @@ pub record NamesDifferent (image : Image) (d : Device) (text : List ℕ) : Type 
 
 -- what comparing the files of a device answers, where the disk tells what they hold
 abbrev pub Compares : Bool → Image → Device → Answer → Type 0
-Compares tells image d Whole = IsTrue tells → HoldsDevice image d
-Compares tells image d (Differs text) = IsTrue tells → NamesDifferent image d text
-Compares tells image d DiskFailed = ⊤
-Compares tells image d NoMemory = ⊤
-Compares tells image d _ = ⊥
+Compares is_modelled image d Whole = IsTrue is_modelled → HoldsDevice image d
+Compares is_modelled image d (Differs text) = IsTrue is_modelled → NamesDifferent image d text
+Compares is_modelled image d DiskFailed = ⊤
+Compares is_modelled image d NoMemory = ⊤
+Compares is_modelled image d _ = ⊥
 
 -- the journal has an entry and stands for a device, each of whose artifacts has its digest
 pub record IsWhole (image : Image) : Type 0 where
@@ -56,8 +56,8 @@ pub record IsDifferent (image : Image) (text : List ℕ) : Type 0 where
 
 -- Why an answer comes, and what it leaves on the disk.
 abbrev pub Audits : Store → Answer → Type 0
-Audits store Whole = IsUnchanged store × (IsTrue store.tells → IsWhole store.before)
-Audits store (Differs text) = IsUnchanged store × (IsTrue store.tells → IsDifferent store.before text)
+Audits store Whole = IsUnchanged store × (IsTrue store.is_modelled → IsWhole store.before)
+Audits store (Differs text) = IsUnchanged store × (IsTrue store.is_modelled → IsDifferent store.before text)
 Audits store answer = Refuses store answer
 
 pub record AuditParts (store : Store) (printed : Printed) (result : Status) : Type 0 where
@@ -66,14 +66,14 @@ pub record AuditParts (store : Store) (printed : Printed) (result : Status) : Ty
   -- Whatever it answers, every file reads as before.
   pub reads_only : IsUnchanged store
   -- 0 comes exactly where each artifact of the device has its digest.
-  pub done : result ≡ status.Done → (IsTrue store.tells → IsWhole store.before) × Prints printed whole_line
-  pub done_comes : IsTrue store.tells → IsWhole store.before → Expects result status.Done
+  pub done : result ≡ status.Done → (IsTrue store.is_modelled → IsWhole store.before) × Prints printed whole_line
+  pub done_comes : IsTrue store.is_modelled → IsWhole store.before → Expects result status.Done
   -- 20 comes exactly where some file has another, and the first of them is named with the digest found.
-  pub differs : result ≡ status.Differs → (text : List ℕ) × (IsTrue store.tells → IsDifferent store.before text) × Prints printed text
-  pub differs_comes : IsTrue store.tells → HasEntry store.before → (d : Device) → Stands store.before d → (HoldsDevice store.before d → ⊥) → Expects result status.Differs
+  pub differs : result ≡ status.Differs → (text : List ℕ) × (IsTrue store.is_modelled → IsDifferent store.before text) × Prints printed text
+  pub differs_comes : IsTrue store.is_modelled → HasEntry store.before → (d : Device) → Stands store.before d → (HoldsDevice store.before d → ⊥) → Expects result status.Differs
   -- 8 comes exactly where the journal holds no entry.
-  pub none : result ≡ status.NotInitialised → (IsTrue store.tells → slots_none store.before) × Prints printed none_line
-  pub none_comes : IsTrue store.tells → slots_none store.before → Expects result status.NotInitialised
+  pub none : result ≡ status.NotInitialised → (IsTrue store.is_modelled → slots_none store.before) × Prints printed none_line
+  pub none_comes : IsTrue store.is_modelled → slots_none store.before → Expects result status.NotInitialised
   -- 9 comes exactly where the journal stands for no device.
   pub damaged : result ≡ status.Damaged → (place : List ℕ) × IsRefusedAt store place × Prints printed (damaged_line place)
-  pub damaged_comes : IsTrue store.tells → StandsForNone store.before → Expects result status.Damaged
+  pub damaged_comes : IsTrue store.is_modelled → StandsForNone store.before → Expects result status.Damaged

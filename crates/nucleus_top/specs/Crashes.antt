@@ -5,13 +5,13 @@ use Rattle.checkpoint_log.specs.Slots.{slots_entries, slots_none}
 use Rattle.records.specs.Stored.{Record}
 use Rattle.device.specs.Devices.{Device}
 use Rattle.artifact_store.specs.Holding.{HoldsDevice}
-use Rattle.driver.specs.Went.{StandsForFront}
-use Rattle.deployments.specs.Calls.{StandsWhole}
+use Rattle.session_boots.specs.Traces.{StandsForPrefix}
+use Rattle.session.specs.Calls.{StandsWhole}
 use Rattle.nucleus_top.specs.Opening.{Stands, StandsForNone}
 
 -- an image that the call's start allowed, or one that stands for what a front of these records makes of the device
-abbrev pub AllowedOrFront : (Image → Type 0) → Device → List Record → Image → Type 0
-AllowedOrFront allowed d records image = allowed image ⊎ StandsForFront slots_entries d records image
+abbrev pub AllowedOrPrefix : (Image → Type 0) → Device → List Record → Image → Type 0
+AllowedOrPrefix allowed d records image = allowed image ⊎ StandsForPrefix slots_entries d records image
 
 -- an image that the start allowed, or one that stands for the device for which the journal stands as it read at the start
 abbrev pub AllowedOrSame : (Image → Type 0) → Image → Image → Type 0
@@ -43,8 +43,8 @@ AllowedOrSameWhole allowed seen image = allowed image ⊎ ((d : Device) × Stand
 
 module _ {D : Type 0} (may_leave : D → Image → Type 0) (moment : D → ℕ) (left_since : D → ℕ → Image → Type 0) where
   -- so it is at each moment of a call that keeps these records
-  abbrev pub LeavesFronts : D → D → Device → List Record → Type 0
-  LeavesFronts old new d records = Leaves moment left_since old new (AllowedOrFront (may_leave old) d records)
+  abbrev pub LeavesPrefixes : D → D → Device → List Record → Type 0
+  LeavesPrefixes old new d records = Leaves moment left_since old new (AllowedOrPrefix (may_leave old) d records)
 
   -- and of one that keeps none
   abbrev pub LeavesSame : (D → Image) → D → D → Type 0
@@ -64,5 +64,5 @@ abbrev pub KeepsJournal : {D : Type 0} → (D → Image → Type 0) → (D → I
 KeepsJournal may_leave seen old new = (c : Image) → may_leave new c → SaysSame (seen old) c
 
 -- so it is, or every file reads as it did
-abbrev pub KeepsOrReads : {D : Type 0} → (D → Image → Type 0) → (D → Image) → D → D → Type 0
-KeepsOrReads may_leave seen old new = KeepsJournal may_leave seen old new ⊎ (seen new ≡ seen old)
+abbrev pub KeepsJournalOrFiles : {D : Type 0} → (D → Image → Type 0) → (D → Image) → D → D → Type 0
+KeepsJournalOrFiles may_leave seen old new = KeepsJournal may_leave seen old new ⊎ (seen new ≡ seen old)

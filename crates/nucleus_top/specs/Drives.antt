@@ -19,17 +19,17 @@ use Rattle.artifact_store.specs.declared.fault.SweepFault.TheVariants as sweep
 use Rattle.edges.specs.declared.source.ReadFault.{ReadFault}
 use Rattle.edges.specs.declared.source.ReadFault.TheVariants as reading
 use Rattle.step_runner.specs.declared.entries.RunnerEntry.{RunnerEntry}
-use Rattle.session.specs.Happenings.{records_of}
-use Rattle.session.specs.Places.{Place}
-use Rattle.history_laws.specs.Stood.{IsHistory}
-use Rattle.intake.specs.Takes.{HasDiskFailed, HasLibraryFailed}
-use Rattle.intake.specs.declared.fault.Declined.{Declined}
-use Rattle.deployments.specs.Calls.{Call, Elsewhere, IsPendingAs, Spared}
-use Rattle.deployments.specs.Documents.{DrivesTaken, TakesRead}
-use Rattle.deployments.specs.Endings.{Fails, Resumes}
-use Rattle.deployments.specs.Sweeping.{LeavesNoStray}
+use Rattle.histories.specs.TraceEvents.{records_of}
+use Rattle.histories.specs.States.{SessionState}
+use Rattle.law_histories.specs.Stood.{IsHistory}
+use Rattle.admission.specs.Takes.{HasDiskFailed, HasLibraryFailed}
+use Rattle.admission.specs.declared.fault.Declined.{Declined}
+use Rattle.session.specs.Calls.{Call, Elsewhere, IsPendingAs, ChangesArtifactsAlone}
+use Rattle.session.specs.Documents.{DrivesTaken, TakesRead}
+use Rattle.session.specs.Endings.{Fails, Resumes}
+use Rattle.session.specs.Sweeping.{LeavesNoStray}
 use Rattle.nucleus_top.specs.Answers.{Expects, HasRisen, Input, Printed, Prints, Shelf, Store, Told, damaged_line, none_line, pending_line}
-use Rattle.nucleus_top.specs.Crashes.{KeepsJournal, KeepsOrReads, KeepsSameWhole, KeepsWhole, LeavesFronts, LeavesSame}
+use Rattle.nucleus_top.specs.Crashes.{KeepsJournal, KeepsJournalOrFiles, KeepsSameWhole, KeepsWhole, LeavesPrefixes, LeavesSame}
 use Rattle.nucleus_top.specs.Inits.{IsRefusedAt}
 use Rattle.nucleus_top.specs.Lasting.{Lasts}
 use Rattle.nucleus_top.specs.Meeting.{StayMet}
@@ -54,23 +54,23 @@ abbrev pub IsThere : Store → Type 0
 IsThere store = (d : Device) × IsFound store d
 
 -- Why there is no device in hand: the journal gives none, or its stray files are not swept.
-abbrev pub Withholds : Store → Answer → Type 0
-Withholds store DiskFailed = Refuses store DiskFailed ⊎ (IsThere store × HasRisen store)
-Withholds store NotInitialised = Refuses store NotInitialised
-Withholds store (Damaged place) = Refuses store (Damaged place)
-Withholds store NoMemory = Refuses store NoMemory ⊎ IsThere store
-Withholds store _ = ⊥
+abbrev pub MayNotOpen : Store → Answer → Type 0
+MayNotOpen store DiskFailed = Refuses store DiskFailed ⊎ (IsThere store × HasRisen store)
+MayNotOpen store NotInitialised = Refuses store NotInitialised
+MayNotOpen store (Damaged place) = Refuses store (Damaged place)
+MayNotOpen store NoMemory = Refuses store NoMemory ⊎ IsThere store
+MayNotOpen store _ = ⊥
 
 -- Why there is none without a pending deployment: there is none, or the deployment of this id is pending.
-abbrev pub WithholdsIdle : Store → Answer → Type 0
-WithholdsIdle store (Pending id) = (d : Device) × IsFound store d × IsPendingAs id d
-WithholdsIdle store answer = Withholds store answer
+abbrev pub MayNotOpenIdle : Store → Answer → Type 0
+MayNotOpenIdle store (Pending id) = (d : Device) × IsFound store d × IsPendingAs id d
+MayNotOpenIdle store answer = MayNotOpen store answer
 
 -- Why `deploy` is turned away: there is none, and where one is pending the source is left as it was; or the source failed.
 abbrev pub TurnsAway : Store → Input → Answer → Type 0
-TurnsAway store input (Pending id) = WithholdsIdle store (Pending id) × (input.rest ≡ input.document)
+TurnsAway store input (Pending id) = MayNotOpenIdle store (Pending id) × (input.rest ≡ input.document)
 TurnsAway store input SourceFailed = ((d : Device) × IsFound store d × (d.pending ≡ None)) × Rose input.faults_before input.faults_after
-TurnsAway store input answer = Withholds store answer
+TurnsAway store input answer = MayNotOpen store answer
 
 -- the refusal that names the pending deployment of the device, or want of memory
 abbrev pub NamesPendingOf : Device → Answer → Type 0
@@ -113,15 +113,15 @@ module _ {D : Type 0} (seen : D → Image) (may_leave : D → Image → Type 0) 
   -- A call is refused before anything of a deployment begins, for this reason: the answer is told, and at most files of
   -- artifacts change. A crash leaves the device that there was. At the end the disk is as it was, or the journal says what it
   -- said, where the disk did not fail; and where it failed, the journal does so or every file reads as it did.
-  pub record IsTurnedAway (why_so : Answer → Type 0) (old new : D) (printed : Printed) (result : Status) : Type 0 where
+  pub record IsRefusedBefore (why_so : Answer → Type 0) (old new : D) (printed : Printed) (result : Status) : Type 0 where
     pub answer : Answer
     pub why : why_so answer
     pub told : Told printed result answer
-    pub spared : Spared may_leave moment left_since old new
+    pub spared : ChangesArtifactsAlone may_leave moment left_since old new
     pub images : LeavesSame may_leave moment left_since seen old new
     pub whole : KeepsSameWhole may_leave moment left_since seen old new
     pub ends : (new ≡ old) ⊎ (answer ≢ DiskFailed → KeepsJournal may_leave seen old new)
-    pub reads : KeepsOrReads may_leave seen old new
+    pub reads : KeepsJournalOrFiles may_leave seen old new
 
 -- ---- `deploy`
 
@@ -149,7 +149,7 @@ module _ {D : Type 0} (may_leave : D → Image → Type 0) (moment : D → ℕ) 
   -- deployment goes on by its plan, or the plan is put off. A crash leaves what a front of the records makes of the device, with
   -- all artifacts of that, where the images at the start had theirs.
   pub record IsDeployedOn (d : Device) (start : ℕ → ℕ) (library : Shelf) (bytes : List ℕ) : Type 0 where
-    pub place : Place
+    pub place : SessionState
     pub serves : place.serves ≡ false
     pub device_is : place.device ≡ d
     pub sound : IsSound d
@@ -165,7 +165,7 @@ module _ {D : Type 0} (may_leave : D → Image → Type 0) (moment : D → ℕ) 
     pub failed : call.0.ending ≡ Fails → Rose (faults old) (faults new)
     pub disk_cause : HasDiskFailed taken → Rose (faults old) (faults new)
     pub library_cause : HasLibraryFailed taken → Rose library.faults_before library.faults_after
-    pub images : LeavesFronts may_leave moment left_since old new d (records_of call.0.history)
+    pub images : LeavesPrefixes may_leave moment left_since old new d (records_of call.0.history)
     pub whole : KeepsWhole may_leave moment left_since old new d (records_of call.0.history)
     -- what meets its groups and its items does at each record
     pub met : StayMet d (records_of call.0.history)
@@ -178,14 +178,14 @@ module _ {D : Type 0} (may_leave : D → Image → Type 0) (moment : D → ℕ) 
 
   -- and with the device for which the journal stands, where the disk tells it
   abbrev pub IsDeployed : Store → Input → Shelf → Type 0
-  IsDeployed store input library = (d : Device) × (start : ℕ → ℕ) × IsFound store d × (IsTrue store.tells → StartsFrom store.before d start) × DeploysOn d start input library
+  IsDeployed store input library = (d : Device) × (start : ℕ → ℕ) × IsFound store d × (IsTrue store.is_modelled → StartsFrom store.before d start) × DeploysOn d start input library
 
   -- ---- `resume`
 
   -- From the start of a call with this device its pending deployment goes on, where it has one. A crash leaves what a front of
   -- the records makes of the device, with all artifacts of that, where the images at the start had theirs.
   pub record IsResumedOn (d : Device) : Type 0 where
-    pub place : Place
+    pub place : SessionState
     pub serves : place.serves ≡ false
     pub device_is : place.device ≡ d
     pub sound : IsSound d
@@ -193,7 +193,7 @@ module _ {D : Type 0} (may_leave : D → Image → Type 0) (moment : D → ℕ) 
     pub resumes : Resumes d call.ending
     pub history : IsHistory place call.history
     pub failed : call.ending ≡ Fails → Rose (faults old) (faults new)
-    pub images : LeavesFronts may_leave moment left_since old new d (records_of call.history)
+    pub images : LeavesPrefixes may_leave moment left_since old new d (records_of call.history)
     pub whole : KeepsWhole may_leave moment left_since old new d (records_of call.history)
     pub met : StayMet d (records_of call.history)
 
@@ -206,16 +206,16 @@ module _ {D : Type 0} (may_leave : D → Image → Type 0) (moment : D → ℕ) 
 -- when the refusals of a journal come that gives no device, where no 5, 6 or 15 comes in their place
 pub record RefusedParts (store : Store) (printed : Printed) (result : Status) : Type 0 where
   -- 8 comes exactly where the journal holds no entry.
-  pub none : result ≡ status.NotInitialised → (IsTrue store.tells → slots_none store.before) × Prints printed none_line
-  pub none_comes : IsTrue store.tells → slots_none store.before → Expects result status.NotInitialised
+  pub none : result ≡ status.NotInitialised → (IsTrue store.is_modelled → slots_none store.before) × Prints printed none_line
+  pub none_comes : IsTrue store.is_modelled → slots_none store.before → Expects result status.NotInitialised
   -- 9 comes exactly where it stands for no device.
   pub damaged : result ≡ status.Damaged → (place : List ℕ) × IsRefusedAt store place × Prints printed (damaged_line place)
-  pub damaged_comes : IsTrue store.tells → StandsForNone store.before → Expects result status.Damaged
+  pub damaged_comes : IsTrue store.is_modelled → StandsForNone store.before → Expects result status.Damaged
 
 -- 4 comes exactly where a deployment is pending. The source is then left as it was.
 pub record PendingParts (store : Store) (input : Input) (printed : Printed) (result : Status) : Type 0 where
-  pub pending : result ≡ status.PendingStands → (id : List ℕ) × (IsTrue store.tells → IsPending store.before id) × (input.rest ≡ input.document) × Prints printed (pending_line id)
-  pub pending_comes : IsTrue store.tells → (d : Device) → Stands store.before d → (q : PendingPlan) → d.pending ≡ Some q → Expects result status.PendingStands
+  pub pending : result ≡ status.PendingStands → (id : List ℕ) × (IsTrue store.is_modelled → IsPending store.before id) × (input.rest ≡ input.document) × Prints printed (pending_line id)
+  pub pending_comes : IsTrue store.is_modelled → (d : Device) → Stands store.before d → (q : PendingPlan) → d.pending ≡ Some q → Expects result status.PendingStands
 
 -- ---- faults, and files
 
@@ -229,5 +229,5 @@ pub record DriveParts (store : Store) (input : Input) (library : Shelf) (printed
   pub edges_stay : result ≢ status.Edge → (input.faults_after ≡ input.faults_before) × (printed.faults_after ≡ printed.faults_before)
   pub library_failed : result ≡ status.Library → Rose library.faults_before library.faults_after
   pub library_stays : result ≢ status.Library → result ≢ status.Edge → library.faults_after ≡ library.faults_before
-  pub others : IsTrue store.tells → Elsewhere slots_files store.before store.after
-  pub swept : LeavesNoStray store.tells slots_entries result store.after
+  pub others : IsTrue store.is_modelled → Elsewhere slots_files store.before store.after
+  pub swept : LeavesNoStray store.is_modelled slots_entries result store.after

@@ -24,7 +24,7 @@ MayBegin store origin = IsUnchanged store ⊎ Begins origin store.before store.a
 
 -- refused by a fault of the journal, with its place
 abbrev pub IsRefusedAt : Store → List ℕ → Type 0
-IsRefusedAt store place = IsUnchanged store × ((at : ℕ) × (place ≡ decimal at) × (IsTrue store.tells → IsDamage store.before at))
+IsRefusedAt store place = IsUnchanged store × ((at : ℕ) × (place ≡ decimal at) × (IsTrue store.is_modelled → IsDamage store.before at))
 
 -- such an answer to a fault at this place, or want of memory
 abbrev pub IsPlace : ℕ → Answer → Type 0
@@ -40,10 +40,10 @@ NamesThing d _ = ⊥
 
 -- Why an answer comes, and what it leaves on the disk.
 abbrev pub Inits : Origin → Store → Answer → Type 0
-Inits origin store (Made thing) = (thing ≡ origin.thing) × (IsTrue store.tells → IsMade store origin)
-Inits origin store DiskFailed = HasRisen store × (IsTrue store.tells → MayBegin store origin)
+Inits origin store (Made thing) = (thing ≡ origin.thing) × (IsTrue store.is_modelled → IsMade store origin)
+Inits origin store DiskFailed = HasRisen store × (IsTrue store.is_modelled → MayBegin store origin)
 Inits origin store (Damaged place) = IsRefusedAt store place
-Inits origin store (Initialised thing) = IsUnchanged store × (IsTrue store.tells → IsInitialised store.before thing)
+Inits origin store (Initialised thing) = IsUnchanged store × (IsTrue store.is_modelled → IsInitialised store.before thing)
 Inits origin store NoMemory = IsUnchanged store
 Inits origin store _ = ⊥
 
@@ -51,13 +51,13 @@ pub record InitParts (origin : Origin) (store : Store) (printed : Printed) (resu
   -- The status is that of an answer that comes by its cause, or 6.
   pub which : (result ≡ status.Edge) ⊎ ((answer : Answer) × Inits origin store answer × (result ≡ status_of answer))
   -- 0 comes exactly where the journal held no entry; it then stands for the device of the origin.
-  pub done : result ≡ status.Done → (IsTrue store.tells → IsMade store origin) × Prints printed (made_line origin.thing)
-  pub done_comes : IsTrue store.tells → slots_none store.before → Expects result status.Done
+  pub done : result ≡ status.Done → (IsTrue store.is_modelled → IsMade store origin) × Prints printed (made_line origin.thing)
+  pub done_comes : IsTrue store.is_modelled → slots_none store.before → Expects result status.Done
   -- 5: every file reads as before, or the journal held no entry, and holds none or stands for the device of the origin.
-  pub failed : result ≡ status.Disk → IsTrue store.tells → MayBegin store origin
+  pub failed : result ≡ status.Disk → IsTrue store.is_modelled → MayBegin store origin
   -- 9 comes exactly where the journal stands for no device.
   pub damaged : result ≡ status.Damaged → (place : List ℕ) × IsRefusedAt store place × Prints printed (damaged_line place)
-  pub damaged_comes : IsTrue store.tells → StandsForNone store.before → Expects result status.Damaged
+  pub damaged_comes : IsTrue store.is_modelled → StandsForNone store.before → Expects result status.Damaged
   -- 16 comes exactly where it has an entry and stands for a device, whose thing is named.
-  pub initialised : result ≡ status.Initialised → (thing : List ℕ) × IsUnchanged store × (IsTrue store.tells → IsInitialised store.before thing) × Prints printed (initialised_line thing)
-  pub initialised_comes : IsTrue store.tells → HasEntry store.before → (d : Device) → Stands store.before d → Expects result status.Initialised
+  pub initialised : result ≡ status.Initialised → (thing : List ℕ) × IsUnchanged store × (IsTrue store.is_modelled → IsInitialised store.before thing) × Prints printed (initialised_line thing)
+  pub initialised_comes : IsTrue store.is_modelled → HasEntry store.before → (d : Device) → Stands store.before d → Expects result status.Initialised

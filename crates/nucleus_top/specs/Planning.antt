@@ -75,7 +75,7 @@ PlansOn d input library _ = ⊥
 
 -- the device for which the journal stands, where the disk tells that
 abbrev pub IsFound : Store → Device → Type 0
-IsFound store d = IsTrue store.tells → HasEntry store.before × Stands store.before d
+IsFound store d = IsTrue store.is_modelled → HasEntry store.before × Stands store.before d
 
 -- an answer that comes on that device
 abbrev pub ComesOn : Store → Input → Shelf → Answer → Type 0
@@ -116,13 +116,13 @@ pub record PlanParts (store : Store) (input : Input) (library : Shelf) (printed 
   -- 0: a plan was printed, or how the document's deployment closed.
   pub done : result ≡ status.Done → IsPlanPrinted store input library printed ⊎ IsClosePrinted store input library printed
   -- 4 comes exactly where a deployment is pending. The source is then left as it was.
-  pub pending : result ≡ status.PendingStands → (id : List ℕ) × (IsTrue store.tells → IsPending store.before id) × (input.rest ≡ input.document) × Prints printed (pending_line id)
-  pub pending_comes : IsTrue store.tells → HasEntry store.before → (d : Device) → Stands store.before d → (q : PendingPlan) → d.pending ≡ Some q → Expects result status.PendingStands
+  pub pending : result ≡ status.PendingStands → (id : List ℕ) × (IsTrue store.is_modelled → IsPending store.before id) × (input.rest ≡ input.document) × Prints printed (pending_line id)
+  pub pending_comes : IsTrue store.is_modelled → HasEntry store.before → (d : Device) → Stands store.before d → (q : PendingPlan) → d.pending ≡ Some q → Expects result status.PendingStands
   -- 7 comes only where the library's count rose.
   pub library_failed : result ≡ status.Library → Rose library.faults_before library.faults_after × Prints printed library_line
   -- 8 comes exactly where the journal holds no entry.
-  pub none : result ≡ status.NotInitialised → (IsTrue store.tells → slots_none store.before) × Prints printed none_line
-  pub none_comes : IsTrue store.tells → slots_none store.before → Expects result status.NotInitialised
+  pub none : result ≡ status.NotInitialised → (IsTrue store.is_modelled → slots_none store.before) × Prints printed none_line
+  pub none_comes : IsTrue store.is_modelled → slots_none store.before → Expects result status.NotInitialised
   -- 9 comes exactly where the journal stands for no device.
   pub damaged : result ≡ status.Damaged → (place : List ℕ) × IsRefusedAt store place × Prints printed (damaged_line place)
-  pub damaged_comes : IsTrue store.tells → StandsForNone store.before → Expects result status.Damaged
+  pub damaged_comes : IsTrue store.is_modelled → StandsForNone store.before → Expects result status.Damaged

@@ -21,7 +21,7 @@ TellsFault _ _ = ⊥
 -- why such an answer comes; every file reads as before
 abbrev pub Refuses : Store → Answer → Type 0
 Refuses store DiskFailed = IsUnchanged store × HasRisen store
-Refuses store NotInitialised = IsUnchanged store × (IsTrue store.tells → slots_none store.before)
+Refuses store NotInitialised = IsUnchanged store × (IsTrue store.is_modelled → slots_none store.before)
 Refuses store (Damaged place) = IsRefusedAt store place
 Refuses store NoMemory = IsUnchanged store
 Refuses store _ = ⊥

@@ -9,9 +9,9 @@ use Rattle.device.specs.After.{After, course}
 use Rattle.device.specs.Devices.{Device, no_device}
 use Rattle.device.specs.Lawful.{Run}
 use Rattle.device.specs.Met.{Met}
-use Rattle.driver.specs.Went.{StandsForMost}
+use Rattle.session_boots.specs.Traces.{StandsForMost}
 use Rattle.nucleus_top.specs.Begun.{Begins}
-use Rattle.nucleus_top.specs.Crashes.{AllowedOrFront, KeepsJournal, LeavesFronts, LeavesSame}
+use Rattle.nucleus_top.specs.Crashes.{AllowedOrPrefix, KeepsJournal, LeavesPrefixes, LeavesSame}
 use Rattle.nucleus_top.specs.Lasting.{LosesNothing}
 use Rattle.nucleus_top.specs.Meeting.{StayMet}
 use Rattle.nucleus_top.specs.Opening.{Stands}
@@ -37,7 +37,7 @@ keeps_none d = finished d []
 -- records, or of all but the last. Inside it is one of those, or stands for what a front of the records makes.
 abbrev pub LeftAs : Bool → (Image → Type 0) → Device → List Record → Image → Type 0
 LeftAs true before d records = StandsForMost slots_entries d records
-LeftAs false before d records = AllowedOrFront before d records
+LeftAs false before d records = AllowedOrPrefix before d records
 
 -- What a crash inside the last of these calls, or its end, may leave. The last one stands first, and before all of them the
 -- journal stands for d: for no device where it holds no entry.
@@ -112,7 +112,7 @@ IsLeftOn d before seen image = LeftBy d before image ⊎ ((e : Device) × Stands
 module _ {D : Type 0} (may_leave : D → Image → Type 0) (moment : D → ℕ) (left_since : D → ℕ → Image → Type 0) where
   -- What a call that drives a deployment says of its images makes it one more of these calls, with the records that it keeps.
   abbrev pub DrivesGoOn : Type 0
-  DrivesGoOn = (d e : Device) (before : List Made) (records : List Record) (old new : D) → BeginsBehind may_leave d before e old → LeavesFronts may_leave moment left_since old new e records
+  DrivesGoOn = (d e : Device) (before : List Made) (records : List Record) (old new : D) → BeginsBehind may_leave d before e old → LeavesPrefixes may_leave moment left_since old new e records
       → Follow d (stopped e records ∷ before) × Leaves moment left_since old new (LeftBy d (stopped e records ∷ before))
 
   -- and what one that is turned away says of them, one that keeps no record
@@ -129,5 +129,5 @@ module _ {D : Type 0} (may_leave : D → Image → Type 0) where
 
   -- So does what one that is turned away says of what the journal says then: with the device for which it stood as it read.
   abbrev pub TurnedEnd : Bool → (D → Image) → Type 0
-  TurnedEnd tells seen = (d e : Device) (before : List Made) (old new : D) → IsTrue tells → Follow d before → AreLeftBy may_leave d before old → Stands (seen old) e
+  TurnedEnd is_modelled seen = (d e : Device) (before : List Made) (old new : D) → IsTrue is_modelled → Follow d before → AreLeftBy may_leave d before old → Stands (seen old) e
       → KeepsJournal may_leave seen old new → Follow d (keeps_none e ∷ before) × AreLeftBy may_leave d (keeps_none e ∷ before) new

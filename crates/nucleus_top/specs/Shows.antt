@@ -34,7 +34,7 @@ ShowsDevice json d _ = ⊥
 
 -- Why an answer comes, and what it leaves on the disk.
 abbrev pub Shows : Bool → Store → Answer → Type 0
-Shows json store (Shown text) = IsUnchanged store × (IsTrue store.tells → IsShown store.before json text)
+Shows json store (Shown text) = IsUnchanged store × (IsTrue store.is_modelled → IsShown store.before json text)
 Shows json store answer = Refuses store answer
 
 pub record StatusParts (json : Bool) (store : Store) (printed : Printed) (result : Status) : Type 0 where
@@ -43,11 +43,11 @@ pub record StatusParts (json : Bool) (store : Store) (printed : Printed) (result
   -- Whatever it answers, every file reads as before.
   pub reads_only : IsUnchanged store
   -- 0 comes exactly where the journal has an entry and stands for a device, which is printed.
-  pub done : result ≡ status.Done → (text : List ℕ) × (IsTrue store.tells → IsShown store.before json text) × Prints printed text
-  pub done_comes : IsTrue store.tells → HasEntry store.before → (d : Device) → Stands store.before d → Expects result status.Done
+  pub done : result ≡ status.Done → (text : List ℕ) × (IsTrue store.is_modelled → IsShown store.before json text) × Prints printed text
+  pub done_comes : IsTrue store.is_modelled → HasEntry store.before → (d : Device) → Stands store.before d → Expects result status.Done
   -- 8 comes exactly where the journal holds no entry.
-  pub none : result ≡ status.NotInitialised → (IsTrue store.tells → slots_none store.before) × Prints printed none_line
-  pub none_comes : IsTrue store.tells → slots_none store.before → Expects result status.NotInitialised
+  pub none : result ≡ status.NotInitialised → (IsTrue store.is_modelled → slots_none store.before) × Prints printed none_line
+  pub none_comes : IsTrue store.is_modelled → slots_none store.before → Expects result status.NotInitialised
   -- 9 comes exactly where the journal stands for no device.
   pub damaged : result ≡ status.Damaged → (place : List ℕ) × IsRefusedAt store place × Prints printed (damaged_line place)
-  pub damaged_comes : IsTrue store.tells → StandsForNone store.before → Expects result status.Damaged
+  pub damaged_comes : IsTrue store.is_modelled → StandsForNone store.before → Expects result status.Damaged

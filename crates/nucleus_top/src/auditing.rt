@@ -49,7 +49,7 @@ fn differs_text(alloc: Global, file: &FileName, digest: &[u8; 32]) -> Result<Tex
 
 /// Compares the files of the device's artifacts with their digests.
 fn compare<D: Disk>(alloc: Global, disk: &mut D, device: &Device) -> Answer
-    ensures comes { Compares D.tells (D.seen disk.old) (device_view device.now) result }
+    ensures comes { Compares D.is_modelled (D.seen disk.old) (device_view device.now) result }
     ensures seen { D.seen disk.new ≡ D.seen disk.old }
     ensures moments { Leaves D.moment D.left_since disk.old disk.new (D.may_leave disk.old) }
     ensures cause { result ≡ Answer.DiskFailed → Rose (D.faults disk.old) (D.faults disk.new) }
@@ -70,7 +70,7 @@ fn compare<D: Disk>(alloc: Global, disk: &mut D, device: &Device) -> Answer
 
 /// The same of a state's device.
 fn compare_stored<D: Disk, S: HasDevice + Drop>(alloc: Global, disk: &mut D, state: S) -> Answer
-    ensures comes { Compares D.tells (D.seen disk.old) (S.stands_for state) result }
+    ensures comes { Compares D.is_modelled (D.seen disk.old) (S.stands_for state) result }
     ensures seen { D.seen disk.new ≡ D.seen disk.old }
     ensures moments { Leaves D.moment D.left_since disk.old disk.new (D.may_leave disk.old) }
     ensures cause { result ≡ Answer.DiskFailed → Rose (D.faults disk.old) (D.faults disk.new) }
@@ -83,7 +83,7 @@ fn compare_stored<D: Disk, S: HasDevice + Drop>(alloc: Global, disk: &mut D, sta
 /// Compares the files of the artifacts of the device for which the journal stands, those of its set and of its pending
 /// plan, with the digests that are kept. It writes nothing to the disk.
 pub fn audit<D: Disk>(alloc: Global, disk: &mut D) -> Answer
-    ensures comes { Audits (store_of D.tells D.seen D.faults disk.old disk.new) result }
+    ensures comes { Audits (store_of D.is_modelled D.seen D.faults disk.old disk.new) result }
     ensures moments { Leaves D.moment D.left_since disk.old disk.new (D.may_leave disk.old) }
     ensures keeps { Keeps order.Audit (D.may_leave disk.new) (D.seen disk.new) result }
     ensures seen { D.seen disk.new ≡ D.seen disk.old }

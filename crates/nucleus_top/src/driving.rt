@@ -7,29 +7,29 @@ ghost use Rattle.nuc_base.specs.Faults.{Rose};
 ghost use Rattle.nuc_base.specs.declared.status.Status.TheVariants as statuses;
 ghost use Rattle.checkpoint_log.specs.Slots.{slots_entries, slots_files, slots_stands};
 ghost use Rattle.deploy_state.specs.Accepting.{idle_log};
-ghost use Rattle.deploy_state.specs.States.{InIdle, InLoaded, idle_device, loaded_device};
+ghost use Rattle.deploy_state.specs.States.{OwnsIdle, OwnsLoaded, idle_device, loaded_device};
 ghost use Rattle.device.specs.Devices.{Device};
-ghost use Rattle.deployments.specs.Calls.{Elsewhere, Spared, Stays};
-ghost use Rattle.deployments.specs.Sweeping.{LeavesNoStray};
+ghost use Rattle.session.specs.Calls.{Elsewhere, ChangesArtifactsAlone, Stays};
+ghost use Rattle.session.specs.Sweeping.{LeavesNoStray};
 ghost use Rattle.checkpoint_log.specs.declared.slots.Slots.{Slots as Journal};
 ghost use Rattle.deploy_state.specs.declared.state.Idle as idles;
 ghost use Rattle.edges.specs.Reading.{ReadsUpTo};
 ghost use Rattle.nucleus_top.specs.Answers.{input_of, printed_of, shelf_of, store_of};
-ghost use Rattle.nucleus_top.specs.Crashes.{KeepsJournal, KeepsOrReads, KeepsSameWhole, LeavesSame};
+ghost use Rattle.nucleus_top.specs.Crashes.{KeepsJournal, KeepsJournalOrFiles, KeepsSameWhole, LeavesSame};
 ghost use Rattle.nucleus_top.specs.Opening.{HasEntry, Stands};
-ghost use Rattle.nucleus_top.specs.Drives.{DeploysOn, IsDeployed, IsDeployedOn, IsResumed, IsTurnedAway, IsUnread, IsUnswept, NamesPendingOf, StartsFrom, TellsSweep, TellsUnread, TurnsAway, Withholds, WithholdsIdle, slots_start};
+ghost use Rattle.nucleus_top.specs.Drives.{DeploysOn, IsDeployed, IsDeployedOn, IsResumed, IsRefusedBefore, IsUnread, IsUnswept, NamesPendingOf, StartsFrom, TellsSweep, TellsUnread, TurnsAway, MayNotOpen, MayNotOpenIdle, slots_start};
 
 use crate::answer::Answer;
 use crate::opening::{HasDevice, open, refused};
+use admission::plans_are_met;
 use artifact_store::{SweepFault, needed_files_stay, sweep};
 use checkpoint_log::Slots;
 use deploy_state::{Idle, Loaded};
-use deployments::{resume as resume_on, run_document};
 use disk_model::Disk;
 use edges::{ReadFault, Sink, Source, read_up_to};
 use library_core::Library;
-use intake::plans_are_met;
 use nuc_base::{Copied, DOCUMENT_LIMIT, Status};
+use session::{resume as resume_on, run_document};
 use std::alloc::Global;
 use step_runner::Runner;
 use supervisor::Supervisor;
@@ -47,10 +47,10 @@ fn unswept(fault: SweepFault) -> Answer
 /// The state, once files are swept that are strays of its device.
 fn swept<T: HasDevice + Drop, D: Disk>(alloc: Global, state: T, disk: &mut D) -> Result<T, Answer>
     ensures kept { IfOk result (λ s. s ≡ state) }
-    ensures spared { Spared D.may_leave D.moment D.left_since disk.old disk.new }
+    ensures spared { ChangesArtifactsAlone D.may_leave D.moment D.left_since disk.old disk.new }
     ensures safe { AllHoldDevice (D.may_leave disk.old) (T.stands_for state) → Leaves D.moment D.left_since disk.old disk.new (λ c. HoldsDevice c (T.stands_for state)) }
-    ensures clean { IsTrue D.tells → IfOk result (λ s. IsSwept (items_of (T.stands_for s)) (D.seen disk.new)) }
-    ensures others { IsTrue D.tells → Elsewhere slots_files (D.seen disk.old) (D.seen disk.new) }
+    ensures clean { IsTrue D.is_modelled → IfOk result (λ s. IsSwept (items_of (T.stands_for s)) (D.seen disk.new)) }
+    ensures others { IsTrue D.is_modelled → Elsewhere slots_files (D.seen disk.old) (D.seen disk.new) }
     ensures disk { IsErrOf result Answer.DiskFailed → Rose (D.faults disk.old) (D.faults disk.new) }
     ensures quiet { ¬ (IsErrOf result Answer.DiskFailed) → D.faults disk.new ≡ D.faults disk.old }
     ensures later { D.faults disk.old ≤ D.faults disk.new }
@@ -64,20 +64,20 @@ fn swept<T: HasDevice + Drop, D: Disk>(alloc: Global, state: T, disk: &mut D) ->
 
 /// The device for which the journal stands, once stray files are swept.
 fn open_swept<D: Disk>(alloc: Global, disk: &mut D) -> Result<Loaded<Slots>, Answer>
-    ensures opened { IsTrue D.tells → IfOk result (λ s. HasEntry (D.seen disk.old) × Stands (D.seen disk.old) (loaded_device s)) }
-    ensures start { IsTrue D.tells → IfOk result (λ s. (idle : idles.Idle Journal) → s ≡ Loaded.Idle idle → StartsFrom (D.seen disk.old) (idle_device idle) (slots_start (idle_log idle) (idle_device idle))) }
-    ensures held { IfOk result (λ s. InLoaded D.tells D.may_leave slots_stands (λ log. log.live.end) s disk.new) }
+    ensures opened { IsTrue D.is_modelled → IfOk result (λ s. HasEntry (D.seen disk.old) × Stands (D.seen disk.old) (loaded_device s)) }
+    ensures start { IsTrue D.is_modelled → IfOk result (λ s. (idle : idles.Idle Journal) → s ≡ Loaded.Idle idle → StartsFrom (D.seen disk.old) (idle_device idle) (slots_start (idle_log idle) (idle_device idle))) }
+    ensures held { IfOk result (λ s. OwnsLoaded D.is_modelled D.may_leave slots_stands (λ log. log.live.end) s disk.new) }
     ensures images { LeavesSame D.may_leave D.moment D.left_since D.seen disk.old disk.new }
     ensures whole { KeepsSameWhole D.may_leave D.moment D.left_since D.seen disk.old disk.new }
     ensures ends { ¬ (IsErrOf result Answer.DiskFailed) → KeepsJournal D.may_leave D.seen disk.old disk.new }
-    ensures reads { KeepsOrReads D.may_leave D.seen disk.old disk.new }
-    ensures spared { Spared D.may_leave D.moment D.left_since disk.old disk.new }
-    ensures clean { IsTrue D.tells → IfOk result (λ s. IsSwept (items_of (loaded_device s)) (D.seen disk.new)) }
-    ensures others { IsTrue D.tells → Elsewhere slots_files (D.seen disk.old) (D.seen disk.new) }
+    ensures reads { KeepsJournalOrFiles D.may_leave D.seen disk.old disk.new }
+    ensures spared { ChangesArtifactsAlone D.may_leave D.moment D.left_since disk.old disk.new }
+    ensures clean { IsTrue D.is_modelled → IfOk result (λ s. IsSwept (items_of (loaded_device s)) (D.seen disk.new)) }
+    ensures others { IsTrue D.is_modelled → Elsewhere slots_files (D.seen disk.old) (D.seen disk.new) }
     ensures disk { IsErrOf result Answer.DiskFailed → Rose (D.faults disk.old) (D.faults disk.new) }
     ensures quiet { ¬ (IsErrOf result Answer.DiskFailed) → D.faults disk.new ≡ D.faults disk.old }
     ensures later { D.faults disk.old ≤ D.faults disk.new }
-    ensures answers { IfErr result (λ a. Withholds (store_of D.tells D.seen D.faults disk.old disk.new) a) }
+    ensures answers { IfErr result (λ a. MayNotOpen (store_of D.is_modelled D.seen D.faults disk.old disk.new) a) }
 {
     // The journal does not lie among the files of artifacts.
     needed_files_stay();
@@ -112,20 +112,20 @@ fn idle_of(alloc: Global, state: Loaded<Slots>) -> Result<Idle<Slots>, Answer>
 
 /// The same of a device without a pending deployment. One with a pending deployment is refused.
 fn open_idle<D: Disk>(alloc: Global, disk: &mut D) -> Result<Idle<Slots>, Answer>
-    ensures opened { IsTrue D.tells → IfOk result (λ s. HasEntry (D.seen disk.old) × Stands (D.seen disk.old) (idle_device s)) }
-    ensures start { IsTrue D.tells → IfOk result (λ s. StartsFrom (D.seen disk.old) (idle_device s) (slots_start (idle_log s) (idle_device s))) }
-    ensures held { IfOk result (λ s. InIdle D.tells D.may_leave slots_stands (λ log. log.live.end) s disk.new) }
+    ensures opened { IsTrue D.is_modelled → IfOk result (λ s. HasEntry (D.seen disk.old) × Stands (D.seen disk.old) (idle_device s)) }
+    ensures start { IsTrue D.is_modelled → IfOk result (λ s. StartsFrom (D.seen disk.old) (idle_device s) (slots_start (idle_log s) (idle_device s))) }
+    ensures held { IfOk result (λ s. OwnsIdle D.is_modelled D.may_leave slots_stands (λ log. log.live.end) s disk.new) }
     ensures images { LeavesSame D.may_leave D.moment D.left_since D.seen disk.old disk.new }
     ensures whole { KeepsSameWhole D.may_leave D.moment D.left_since D.seen disk.old disk.new }
     ensures ends { ¬ (IsErrOf result Answer.DiskFailed) → KeepsJournal D.may_leave D.seen disk.old disk.new }
-    ensures reads { KeepsOrReads D.may_leave D.seen disk.old disk.new }
-    ensures spared { Spared D.may_leave D.moment D.left_since disk.old disk.new }
-    ensures clean { IsTrue D.tells → IfOk result (λ s. IsSwept (items_of (idle_device s)) (D.seen disk.new)) }
-    ensures others { IsTrue D.tells → Elsewhere slots_files (D.seen disk.old) (D.seen disk.new) }
+    ensures reads { KeepsJournalOrFiles D.may_leave D.seen disk.old disk.new }
+    ensures spared { ChangesArtifactsAlone D.may_leave D.moment D.left_since disk.old disk.new }
+    ensures clean { IsTrue D.is_modelled → IfOk result (λ s. IsSwept (items_of (idle_device s)) (D.seen disk.new)) }
+    ensures others { IsTrue D.is_modelled → Elsewhere slots_files (D.seen disk.old) (D.seen disk.new) }
     ensures disk { IsErrOf result Answer.DiskFailed → Rose (D.faults disk.old) (D.faults disk.new) }
     ensures quiet { ¬ (IsErrOf result Answer.DiskFailed) → D.faults disk.new ≡ D.faults disk.old }
     ensures later { D.faults disk.old ≤ D.faults disk.new }
-    ensures answers { IfErr result (λ a. WithholdsIdle (store_of D.tells D.seen D.faults disk.old disk.new) a) }
+    ensures answers { IfErr result (λ a. MayNotOpenIdle (store_of D.is_modelled D.seen D.faults disk.old disk.new) a) }
 {
     match open_swept(alloc, disk) {
         Ok(state) => idle_of(alloc, state),
@@ -153,12 +153,12 @@ fn deploy_document<D: Disk, L: Library, K: Sink, R: Runner>(
     sink: &mut K,
     runner: &mut R,
 ) -> Status
-    requires held { InIdle D.tells D.may_leave slots_stands (λ log. log.live.end) idle disk.old }
+    requires held { OwnsIdle D.is_modelled D.may_leave slots_stands (λ log. log.live.end) idle disk.old }
     requires none { R.living runner.old ≡ [] }
     ensures driven { IsDeployedOn D.may_leave D.moment D.left_since D.faults disk.old disk.new (R.list runner.old) (R.list runner.new) (printed_of K.held K.faults sink.old sink.new) result
         (idle_device idle) (slots_start (idle_log idle) (idle_device idle)) (shelf_of L.content L.faults library.old library.new) document.now }
     ensures none { R.living runner.new ≡ [] }
-    ensures others { IsTrue D.tells → Elsewhere slots_files (D.seen disk.old) (D.seen disk.new) }
+    ensures others { IsTrue D.is_modelled → Elsewhere slots_files (D.seen disk.old) (D.seen disk.new) }
     ensures disk { result ≡ statuses.Disk → Rose (D.faults disk.old) (D.faults disk.new) }
     ensures edge { result ≡ statuses.Edge → Rose (K.faults sink.old) (K.faults sink.new) }
     ensures quiet_disk { result ≢ statuses.Disk → result ≢ statuses.Edge → D.faults disk.new ≡ D.faults disk.old }
@@ -169,7 +169,7 @@ fn deploy_document<D: Disk, L: Library, K: Sink, R: Runner>(
     ensures library_later { L.faults library.old ≤ L.faults library.new }
     ensures kept { L.content library.new ≡ L.content library.old }
     // No stray file is left where none was there at the start.
-    ensures swept { (IsTrue D.tells → IsSwept (items_of (idle_device idle)) (D.seen disk.old)) → LeavesNoStray D.tells slots_entries result (D.seen disk.new) }
+    ensures swept { (IsTrue D.is_modelled → IsSwept (items_of (idle_device idle)) (D.seen disk.old)) → LeavesNoStray D.is_modelled slots_entries result (D.seen disk.new) }
 {
     // The journal does not lie among the files of artifacts, and a plan that is taken in is met.
     needed_files_stay();
@@ -197,13 +197,13 @@ fn deploy_read<D: Disk, L: Library, S: Source, K: Sink, R: Runner>(
     sink: &mut K,
     runner: &mut R,
 ) -> Status
-    requires held { InIdle D.tells D.may_leave slots_stands (λ log. log.live.end) idle disk.old }
+    requires held { OwnsIdle D.is_modelled D.may_leave slots_stands (λ log. log.live.end) idle disk.old }
     requires none { R.living runner.old ≡ [] }
     ensures ran { (IsUnread disk.old disk.new (input_of S.left S.faults source.old source.new) (printed_of K.held K.faults sink.old sink.new) result × (runner.new ≡ runner.old))
         ⊎ DeploysOn D.may_leave D.moment D.left_since D.faults disk.old disk.new (R.list runner.old) (R.list runner.new) (printed_of K.held K.faults sink.old sink.new) result
         (idle_device idle) (slots_start (idle_log idle) (idle_device idle)) (input_of S.left S.faults source.old source.new) (shelf_of L.content L.faults library.old library.new) }
     ensures none { R.living runner.new ≡ [] }
-    ensures others { IsTrue D.tells → Elsewhere slots_files (D.seen disk.old) (D.seen disk.new) }
+    ensures others { IsTrue D.is_modelled → Elsewhere slots_files (D.seen disk.old) (D.seen disk.new) }
     ensures disk { result ≡ statuses.Disk → Rose (D.faults disk.old) (D.faults disk.new) }
     ensures quiet_disk { result ≢ statuses.Disk → result ≢ statuses.Edge → D.faults disk.new ≡ D.faults disk.old }
     ensures quiet_sink { result ≢ statuses.Edge → K.faults sink.new ≡ K.faults sink.old }
@@ -213,7 +213,7 @@ fn deploy_read<D: Disk, L: Library, S: Source, K: Sink, R: Runner>(
     ensures library_later { L.faults library.old ≤ L.faults library.new }
     ensures kept { L.content library.new ≡ L.content library.old }
     // No stray file is left where none was there at the start.
-    ensures swept { (IsTrue D.tells → IsSwept (items_of (idle_device idle)) (D.seen disk.old)) → LeavesNoStray D.tells slots_entries result (D.seen disk.new) }
+    ensures swept { (IsTrue D.is_modelled → IsSwept (items_of (idle_device idle)) (D.seen disk.old)) → LeavesNoStray D.is_modelled slots_entries result (D.seen disk.new) }
     ensures edge { result ≡ statuses.Edge → Rose (S.faults source.old) (S.faults source.new) ⊎ Rose (K.faults sink.old) (K.faults sink.new) }
     ensures quiet_source { result ≢ statuses.Edge → S.faults source.new ≡ S.faults source.old }
     ensures read { ReadsUpTo 524289 (S.left source.old) (S.left source.new) }
@@ -241,11 +241,11 @@ pub(crate) fn deploy<D: Disk, L: Library, S: Source, K: Sink, R: Runner>(
     runner: &mut R,
 ) -> Status
     requires none { R.living runner.old ≡ [] }
-    ensures ran { (IsTurnedAway D.seen D.may_leave D.moment D.left_since (λ a. TurnsAway (store_of D.tells D.seen D.faults disk.old disk.new) (input_of S.left S.faults source.old source.new) a) disk.old disk.new (printed_of K.held K.faults sink.old sink.new) result × (runner.new ≡ runner.old))
+    ensures ran { (IsRefusedBefore D.seen D.may_leave D.moment D.left_since (λ a. TurnsAway (store_of D.is_modelled D.seen D.faults disk.old disk.new) (input_of S.left S.faults source.old source.new) a) disk.old disk.new (printed_of K.held K.faults sink.old sink.new) result × (runner.new ≡ runner.old))
         ⊎ IsDeployed D.may_leave D.moment D.left_since D.faults disk.old disk.new (R.list runner.old) (R.list runner.new) (printed_of K.held K.faults sink.old sink.new) result
-        (store_of D.tells D.seen D.faults disk.old disk.new) (input_of S.left S.faults source.old source.new) (shelf_of L.content L.faults library.old library.new) }
+        (store_of D.is_modelled D.seen D.faults disk.old disk.new) (input_of S.left S.faults source.old source.new) (shelf_of L.content L.faults library.old library.new) }
     ensures none { R.living runner.new ≡ [] }
-    ensures others { IsTrue D.tells → Elsewhere slots_files (D.seen disk.old) (D.seen disk.new) }
+    ensures others { IsTrue D.is_modelled → Elsewhere slots_files (D.seen disk.old) (D.seen disk.new) }
     ensures disk { result ≡ statuses.Disk → Rose (D.faults disk.old) (D.faults disk.new) }
     ensures quiet_disk { result ≢ statuses.Disk → result ≢ statuses.Edge → D.faults disk.new ≡ D.faults disk.old }
     ensures quiet_sink { result ≢ statuses.Edge → K.faults sink.new ≡ K.faults sink.old }
@@ -254,7 +254,7 @@ pub(crate) fn deploy<D: Disk, L: Library, S: Source, K: Sink, R: Runner>(
     ensures library_quiet { result ≢ statuses.Library → result ≢ statuses.Edge → L.faults library.new ≡ L.faults library.old }
     ensures library_later { L.faults library.old ≤ L.faults library.new }
     ensures kept { L.content library.new ≡ L.content library.old }
-    ensures swept { LeavesNoStray D.tells slots_entries result (D.seen disk.new) }
+    ensures swept { LeavesNoStray D.is_modelled slots_entries result (D.seen disk.new) }
     ensures edge { result ≡ statuses.Edge → Rose (S.faults source.old) (S.faults source.new) ⊎ Rose (K.faults sink.old) (K.faults sink.new) }
     ensures quiet_source { result ≢ statuses.Edge → S.faults source.new ≡ S.faults source.old }
     ensures read { ReadsUpTo 524289 (S.left source.old) (S.left source.new) }
@@ -278,18 +278,18 @@ pub(crate) fn resume<D: Disk, K: Sink, R: Runner>(
     runner: &mut R,
 ) -> Status
     requires none { R.living runner.old ≡ [] }
-    ensures ran { (IsTurnedAway D.seen D.may_leave D.moment D.left_since (λ a. Withholds (store_of D.tells D.seen D.faults disk.old disk.new) a) disk.old disk.new (printed_of K.held K.faults sink.old sink.new) result × (runner.new ≡ runner.old))
+    ensures ran { (IsRefusedBefore D.seen D.may_leave D.moment D.left_since (λ a. MayNotOpen (store_of D.is_modelled D.seen D.faults disk.old disk.new) a) disk.old disk.new (printed_of K.held K.faults sink.old sink.new) result × (runner.new ≡ runner.old))
         ⊎ IsResumed D.may_leave D.moment D.left_since D.faults disk.old disk.new (R.list runner.old) (R.list runner.new) (printed_of K.held K.faults sink.old sink.new) result
-        (store_of D.tells D.seen D.faults disk.old disk.new) }
+        (store_of D.is_modelled D.seen D.faults disk.old disk.new) }
     ensures none { R.living runner.new ≡ [] }
-    ensures others { IsTrue D.tells → Elsewhere slots_files (D.seen disk.old) (D.seen disk.new) }
+    ensures others { IsTrue D.is_modelled → Elsewhere slots_files (D.seen disk.old) (D.seen disk.new) }
     ensures disk { result ≡ statuses.Disk → Rose (D.faults disk.old) (D.faults disk.new) }
     ensures edge { result ≡ statuses.Edge → Rose (K.faults sink.old) (K.faults sink.new) }
     ensures own { result ≢ statuses.Library }
     ensures quiet_disk { result ≢ statuses.Disk → result ≢ statuses.Edge → D.faults disk.new ≡ D.faults disk.old }
     ensures quiet_sink { result ≢ statuses.Edge → K.faults sink.new ≡ K.faults sink.old }
     ensures later { Stays (D.faults disk.old) (D.faults disk.new) × Stays (K.faults sink.old) (K.faults sink.new) }
-    ensures swept { LeavesNoStray D.tells slots_entries result (D.seen disk.new) }
+    ensures swept { LeavesNoStray D.is_modelled slots_entries result (D.seen disk.new) }
 {
     match open_swept(alloc, disk) {
         Ok(state) => {

@@ -24,13 +24,13 @@ use std::alloc::Global;
 
 /// Begins a store whose journal holds no entry. All memory is taken before the first write.
 fn begin<D: Disk>(alloc: Global, origin: Origin, disk: &mut D) -> Answer
-    requires none { IsTrue D.tells → slots_none (D.seen disk.old) }
+    requires none { IsTrue D.is_modelled → slots_none (D.seen disk.old) }
     requires settled { AreSettled D.seen D.may_leave slots_files disk.old }
     requires short { length origin.root ≤ 1024 }
-    ensures comes { Inits origin (store_of D.tells D.seen D.faults disk.old disk.new) result }
+    ensures comes { Inits origin (store_of D.is_modelled D.seen D.faults disk.old disk.new) result }
     ensures moments { Leaves D.moment D.left_since disk.old disk.new (LeavesOf (order.Init origin) (D.may_leave disk.old)) }
     ensures keeps { Keeps (order.Init origin) (D.may_leave disk.new) (D.seen disk.new) result }
-    ensures others { IsTrue D.tells → (name : List ℕ) → ¬ (slots_files name) → D.seen disk.new name ≡ D.seen disk.old name }
+    ensures others { IsTrue D.is_modelled → (name : List ℕ) → ¬ (slots_files name) → D.seen disk.new name ≡ D.seen disk.old name }
     ensures quiet { result ≢ Answer.DiskFailed → D.faults disk.new ≡ D.faults disk.old }
     ensures later { D.faults disk.old ≤ D.faults disk.new }
 {
@@ -72,10 +72,10 @@ fn initialised_stored<S: HasDevice + Drop>(alloc: Global, state: S) -> Answer
 /// Makes the store of this origin, unless there is one.
 pub fn init<D: Disk>(alloc: Global, origin: Origin, disk: &mut D) -> Answer
     requires { length origin.root ≤ 1024 }
-    ensures comes { Inits origin (store_of D.tells D.seen D.faults disk.old disk.new) result }
+    ensures comes { Inits origin (store_of D.is_modelled D.seen D.faults disk.old disk.new) result }
     ensures moments { Leaves D.moment D.left_since disk.old disk.new (LeavesOf (order.Init origin) (D.may_leave disk.old)) }
     ensures keeps { Keeps (order.Init origin) (D.may_leave disk.new) (D.seen disk.new) result }
-    ensures others { IsTrue D.tells → (name : List ℕ) → ¬ (slots_files name) → D.seen disk.new name ≡ D.seen disk.old name }
+    ensures others { IsTrue D.is_modelled → (name : List ℕ) → ¬ (slots_files name) → D.seen disk.new name ≡ D.seen disk.old name }
     ensures quiet { result ≢ Answer.DiskFailed → D.faults disk.new ≡ D.faults disk.old }
     ensures later { D.faults disk.old ≤ D.faults disk.new }
 {

@@ -41,5 +41,5 @@ pub fn calls_go_on<D: Disk>()
     ensures drives { DrivesGoOn D.may_leave D.moment D.left_since }
     ensures turned { TurnedGoOn D.may_leave D.moment D.left_since D.seen }
     ensures drives_end { DrivesEnd D.may_leave }
-    ensures turned_end { TurnedEnd D.may_leave D.tells D.seen }
+    ensures turned_end { TurnedEnd D.may_leave D.is_modelled D.seen }
 {}

@@ -31,15 +31,15 @@ fn answer<D: Disk, L: Library, S: Source>(
     library: &mut L,
     source: &mut S,
 ) -> Answer
-    ensures comes { Comes (map string_bytes words.now.items) (store_of D.tells D.seen D.faults disk.old disk.new) (input_of S.left S.faults source.old source.new) (shelf_of L.content L.faults library.old library.new) result }
-    ensures quiet { IsQuiet (store_of D.tells D.seen D.faults disk.old disk.new) (input_of S.left S.faults source.old source.new) result }
+    ensures comes { Comes (map string_bytes words.now.items) (store_of D.is_modelled D.seen D.faults disk.old disk.new) (input_of S.left S.faults source.old source.new) (shelf_of L.content L.faults library.old library.new) result }
+    ensures quiet { IsQuiet (store_of D.is_modelled D.seen D.faults disk.old disk.new) (input_of S.left S.faults source.old source.new) result }
     ensures still { IsStill (shelf_of L.content L.faults library.old library.new) result }
     ensures unread { (Asks (map string_bytes words.now.items) order.Plan → ⊥) → source.new ≡ source.old }
     ensures unasked { (Asks (map string_bytes words.now.items) order.Plan → ⊥) → library.new ≡ library.old }
     ensures kept { L.content library.new ≡ L.content library.old }
     ensures moments { Leaves D.moment D.left_since disk.old disk.new (MayLeave (map string_bytes words.now.items) (D.may_leave disk.old)) }
     ensures keeps { (order : Order) → Asks (map string_bytes words.now.items) order → Keeps order (D.may_leave disk.new) (D.seen disk.new) result }
-    ensures others { (order : Order) → Asks (map string_bytes words.now.items) order → IsTrue D.tells →
+    ensures others { (order : Order) → Asks (map string_bytes words.now.items) order → IsTrue D.is_modelled →
         (name : List ℕ) → ¬ (files_of order name) → D.seen disk.new name ≡ D.seen disk.old name }
     ensures disk_later { D.faults disk.old ≤ D.faults disk.new }
     ensures library_later { L.faults library.old ≤ L.faults library.new }
@@ -72,7 +72,7 @@ pub(crate) fn look<D: Disk, L: Library, S: Source, K: Sink>(
     source: &mut S,
     sink: &mut K,
 ) -> Status
-    ensures parts { Parts (map string_bytes words.now.items) (store_of D.tells D.seen D.faults disk.old disk.new)
+    ensures parts { Parts (map string_bytes words.now.items) (store_of D.is_modelled D.seen D.faults disk.old disk.new)
         (input_of S.left S.faults source.old source.new) (shelf_of L.content L.faults library.old library.new)
         (printed_of K.held K.faults sink.old sink.new) result }
     // `plan` alone reads from the source and asks the library.
@@ -84,7 +84,7 @@ pub(crate) fn look<D: Disk, L: Library, S: Source, K: Sink>(
     // Once the lines of finished work are printed, a crash does not undo it.
     ensures durable { (order : Order) → Asks (map string_bytes words.now.items) order → result ≡ status.Done →
         IsDurable order (D.may_leave disk.new) (D.seen disk.new) }
-    ensures others { (order : Order) → Asks (map string_bytes words.now.items) order → IsTrue D.tells →
+    ensures others { (order : Order) → Asks (map string_bytes words.now.items) order → IsTrue D.is_modelled →
         (name : List ℕ) → ¬ (files_of order name) → D.seen disk.new name ≡ D.seen disk.old name }
     ensures disk_later { D.faults disk.old ≤ D.faults disk.new }
     ensures library_later { L.faults library.old ≤ L.faults library.new }

@@ -6,7 +6,7 @@ ghost use Rattle.disk_model.specs.Disk.{Leaves};
 ghost use Rattle.gate_log.specs.Journal.{AreSettled};
 ghost use Rattle.checkpoint_log.specs.Slots.{slots_files, slots_stands};
 ghost use Rattle.deploy_state.specs.Loading.{IsReady};
-ghost use Rattle.deploy_state.specs.States.{InLoaded, loaded_device};
+ghost use Rattle.deploy_state.specs.States.{OwnsLoaded, loaded_device};
 ghost use Rattle.nucleus_top.specs.Opening.{Opens};
 ghost use Rattle.nucleus_top.specs.Inits.{IsPlace};
 ghost use Rattle.nucleus_top.specs.Refusing.{TellsFault};
@@ -41,8 +41,8 @@ impl HasDevice for Loaded<Slots> {
 
 /// Makes the journal stable and replays it. It writes nothing.
 pub fn open<D: Disk>(alloc: Global, disk: &mut D) -> Result<Loaded<Slots>, LoadFault>
-    ensures told { IsTrue D.tells → Opens (D.seen disk.old) result }
-    ensures held { IfOk result (λ s. InLoaded D.tells D.may_leave slots_stands (λ log. log.live.end) s disk.new) }
+    ensures told { IsTrue D.is_modelled → Opens (D.seen disk.old) result }
+    ensures held { IfOk result (λ s. OwnsLoaded D.is_modelled D.may_leave slots_stands (λ log. log.live.end) s disk.new) }
     ensures ready { IfOk result (λ s. IsReady (loaded_device s)) }
     // A crash leaves the journal as it reads.
     ensures settled { ¬ (IsErrOf result LoadFault.Disk) → AreSettled D.seen D.may_leave slots_files disk.new }

@@ -43,7 +43,7 @@ fn show<S: HasDevice + Drop>(alloc: Global, json: bool, state: S) -> Answer
 
 /// Shows the device for which the journal stands. It writes nothing to the disk.
 pub fn status<D: Disk>(alloc: Global, json: bool, disk: &mut D) -> Answer
-    ensures comes { Shows json (store_of D.tells D.seen D.faults disk.old disk.new) result }
+    ensures comes { Shows json (store_of D.is_modelled D.seen D.faults disk.old disk.new) result }
     ensures moments { Leaves D.moment D.left_since disk.old disk.new (D.may_leave disk.old) }
     ensures keeps { Keeps (order.Status json) (D.may_leave disk.new) (D.seen disk.new) result }
     ensures seen { D.seen disk.new ≡ D.seen disk.old }

@@ -4,9 +4,9 @@ ghost use Rattle.nuc_base.specs.declared.status.Status.TheVariants as status;
 ghost use Rattle.command_words.specs.Words.{IsOrder};
 ghost use Rattle.command_words.specs.declared.order.Order.{Order};
 ghost use Rattle.command_words.specs.declared.order.Order.TheVariants as order;
-ghost use Rattle.deployments.specs.Calls.{Stays};
+ghost use Rattle.session.specs.Calls.{Stays};
 ghost use Rattle.edges.specs.Reading.{ReadsUpTo};
-ghost use Rattle.nucleus_top.specs.Drives.{Deploys, DriveParts, Drives, IsDeployed, IsResumed, IsTurnedAway, PendingParts, RefusedParts, TurnsAway, Withholds};
+ghost use Rattle.nucleus_top.specs.Drives.{Deploys, DriveParts, Drives, IsDeployed, IsResumed, IsRefusedBefore, PendingParts, RefusedParts, TurnsAway, MayNotOpen};
 ghost use Rattle.nucleus_top.specs.Words.{Asks};
 ghost use Rattle.nucleus_top.specs.Answers.{store_of, input_of, shelf_of, printed_of};
 ghost use Rattle.nucleus_top.specs.Leaving.{IsDurable, MayLeave, files_of};
@@ -51,7 +51,7 @@ pub fn nucleus<D: Disk, L: Library, S: Source, K: Sink, R: Runner>(
 ) -> Status
     // No child lives yet.
     requires none { R.living runner.old ≡ [] }
-    ensures parts { (Drives (map string_bytes words.now.items) → ⊥) → Parts (map string_bytes words.now.items) (store_of D.tells D.seen D.faults disk.old disk.new)
+    ensures parts { (Drives (map string_bytes words.now.items) → ⊥) → Parts (map string_bytes words.now.items) (store_of D.is_modelled D.seen D.faults disk.old disk.new)
         (input_of S.left S.faults source.old source.new) (shelf_of L.content L.faults library.old library.new)
         (printed_of K.held K.faults sink.old sink.new) result }
     // `deploy` and `plan` alone read from the source and ask the library.
@@ -63,28 +63,28 @@ pub fn nucleus<D: Disk, L: Library, S: Source, K: Sink, R: Runner>(
     // Once the lines of finished work are printed, a crash does not undo it.
     ensures durable { (order : Order) → Asks (map string_bytes words.now.items) order → result ≡ status.Done →
         IsDurable order (D.may_leave disk.new) (D.seen disk.new) }
-    ensures others { (order : Order) → Asks (map string_bytes words.now.items) order → IsTrue D.tells →
+    ensures others { (order : Order) → Asks (map string_bytes words.now.items) order → IsTrue D.is_modelled →
         (name : List ℕ) → ¬ (files_of order name) → D.seen disk.new name ≡ D.seen disk.old name }
     // `deploy`: turned away before anything begins, with an answer that has its cause; or the document that was read of the
     // source is taken in by the checks in their order or not, and its deployment goes on from the start of the call. Whenever
     // a crash comes during it, it leaves an image that the start allowed, or one whose journal stands for what the call's
     // records, up to one of them, make of the device: with none of them where the call is turned away.
     ensures deploys { (root : List ℕ) → IsOrder (map string_bytes words.now.items) root order.Deploy →
-        (IsTurnedAway D.seen D.may_leave D.moment D.left_since (λ a. TurnsAway (store_of D.tells D.seen D.faults disk.old disk.new) (input_of S.left S.faults source.old source.new) a)
+        (IsRefusedBefore D.seen D.may_leave D.moment D.left_since (λ a. TurnsAway (store_of D.is_modelled D.seen D.faults disk.old disk.new) (input_of S.left S.faults source.old source.new) a)
         disk.old disk.new (printed_of K.held K.faults sink.old sink.new) result × (runner.new ≡ runner.old))
         ⊎ IsDeployed D.may_leave D.moment D.left_since D.faults disk.old disk.new (R.list runner.old) (R.list runner.new) (printed_of K.held K.faults sink.old sink.new) result
-        (store_of D.tells D.seen D.faults disk.old disk.new) (input_of S.left S.faults source.old source.new) (shelf_of L.content L.faults library.old library.new) }
+        (store_of D.is_modelled D.seen D.faults disk.old disk.new) (input_of S.left S.faults source.old source.new) (shelf_of L.content L.faults library.old library.new) }
     // `resume`: so it is with the pending deployment, which goes on where there is one.
     ensures resumes { (root : List ℕ) → IsOrder (map string_bytes words.now.items) root order.Resume →
-        (IsTurnedAway D.seen D.may_leave D.moment D.left_since (λ a. Withholds (store_of D.tells D.seen D.faults disk.old disk.new) a)
+        (IsRefusedBefore D.seen D.may_leave D.moment D.left_since (λ a. MayNotOpen (store_of D.is_modelled D.seen D.faults disk.old disk.new) a)
         disk.old disk.new (printed_of K.held K.faults sink.old sink.new) result × (runner.new ≡ runner.old))
         ⊎ IsResumed D.may_leave D.moment D.left_since D.faults disk.old disk.new (R.list runner.old) (R.list runner.new) (printed_of K.held K.faults sink.old sink.new) result
-        (store_of D.tells D.seen D.faults disk.old disk.new) }
+        (store_of D.is_modelled D.seen D.faults disk.old disk.new) }
     // Of both: when the refusals of a journal that gives no device come, and of `deploy` that of a pending deployment.
-    ensures refused { Drives (map string_bytes words.now.items) → RefusedParts (store_of D.tells D.seen D.faults disk.old disk.new) (printed_of K.held K.faults sink.old sink.new) result }
-    ensures pending { (root : List ℕ) → IsOrder (map string_bytes words.now.items) root order.Deploy → PendingParts (store_of D.tells D.seen D.faults disk.old disk.new) (input_of S.left S.faults source.old source.new) (printed_of K.held K.faults sink.old sink.new) result }
+    ensures refused { Drives (map string_bytes words.now.items) → RefusedParts (store_of D.is_modelled D.seen D.faults disk.old disk.new) (printed_of K.held K.faults sink.old sink.new) result }
+    ensures pending { (root : List ℕ) → IsOrder (map string_bytes words.now.items) root order.Deploy → PendingParts (store_of D.is_modelled D.seen D.faults disk.old disk.new) (input_of S.left S.faults source.old source.new) (printed_of K.held K.faults sink.old sink.new) result }
     // When 5, 6 and 7 come, and which files change.
-    ensures driven { Drives (map string_bytes words.now.items) → DriveParts (store_of D.tells D.seen D.faults disk.old disk.new)
+    ensures driven { Drives (map string_bytes words.now.items) → DriveParts (store_of D.is_modelled D.seen D.faults disk.old disk.new)
         (input_of S.left S.faults source.old source.new) (shelf_of L.content L.faults library.old library.new)
         (printed_of K.held K.faults sink.old sink.new) result }
     // No other command runs a child, and none lives at the end.

@@ -39,10 +39,10 @@ use Rattle.records.specs.Layout.{Kind, kinds, label, requirement, revision, Want
 use Rattle.records.proofs.Codecs.{IsBytes, IsBytes-rest, Takes, number_is, long_is, IsCodec, fixed_is, string_is, texts_is, those_is, both, as_a_is, nothing_is, byte_is, list_is}
 
 ruled_says : (test : List ℕ → Bool) (Rule : List ℕ → Type 0) → ((t : List ℕ) → test t ≡ true → Rule t) → (t x : List ℕ) → only_if (test t) t ≡ Some x → (x ≡ t) × Rule x
-ruled_says test Rule tells t x e =
+ruled_says test Rule is_modelled t x e =
     let a = if_some (test t) (Some t) x e in
     let one = some_is t x a.1 in
-    (sym one, subst Rule one (tells t a.0))
+    (sym one, subst Rule one (is_modelled t a.0))
 
 pub text_is : IsCodec layout.text
 text_is = texts_is (λ t. t) (λ t. only_if (is_utf8 t) t) IsUtf8 IsShort (ruled_says is_utf8 IsUtf8 IsUtf8-from_is_utf8) (λ t h. rw (is_utf8-from_IsUtf8 t h) refl) (λ t h short. short)

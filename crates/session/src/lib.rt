@@ -1,9 +1,16 @@
-//! What a session is: the definitions of its history.
+//! One deployment in one call: from its document, or from where a call before left it, to the end of the call.
 //!
-//! It promises that histories join, and what follows of failures and bootstraps from a history alone. `history_rows` has the
-//! worked rows and the wrong bodies.
+//! It joins the checks and files of a document (`admission`), what is made ready (`session_admission`), its acceptance
+//! (`acceptance`), its course (`session_rollout`), and what follows its close: the sweep of stray files and the stop of all
+//! components.
 #![tactic(auto)]
 
-mod laws;
+mod closes;
+mod declines;
+mod ends;
+mod lines;
+mod resumes;
+mod runs;
 
-pub use laws::{causes, joins, made_ready, one_is_taken};
+pub use resumes::resume;
+pub use runs::{run_deployment, run_document};

@@ -35,7 +35,7 @@ pub struct ScriptedRunner {
     clock: u64,
     told: u64,
     asked: bool,
-    tells: bool,
+    is_modelled: bool,
     faults: u64,
     ghost in_time: { clock < 2 ^ 62 },
     ghost past: { told ≤ clock },
@@ -44,10 +44,10 @@ pub struct ScriptedRunner {
 }
 
 /// Adds an entry where the list is still told and there is memory. Answers whether it was added.
-fn note(entries: &mut List<RunnerEntry>, tells: bool, entry: RunnerEntry) -> bool
-    ensures { IsTrue result → (tells ≡ true) × (entries.new ≡ entries.old ++ entry ∷ []) }
+fn note(entries: &mut List<RunnerEntry>, is_modelled: bool, entry: RunnerEntry) -> bool
+    ensures { IsTrue result → (is_modelled ≡ true) × (entries.new ≡ entries.old ++ entry ∷ []) }
 {
-    tells && entries.push(entry).is_ok()
+    is_modelled && entries.push(entry).is_ok()
 }
 
 /// An end that cannot be had is a fault.
@@ -121,7 +121,7 @@ impl ScriptedRunner {
             clock: 0,
             told: 0,
             asked: false,
-            tells: true,
+            is_modelled: true,
             faults: 0,
         }
     }
@@ -143,7 +143,7 @@ impl ScriptedRunner {
             asked: self.asked,
             seen,
         };
-        self.tells = note(&mut self.entries, self.tells, entry);
+        self.is_modelled = note(&mut self.entries, self.is_modelled, entry);
         self.asked = false;
     }
 
@@ -154,7 +154,7 @@ impl ScriptedRunner {
         ensures asked { is_asked self.new ≡ false }
         ensures same { Same self.old self.new }
     {
-        self.tells = false;
+        self.is_modelled = false;
         self.asked = false;
     }
 

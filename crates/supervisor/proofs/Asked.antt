@@ -13,7 +13,7 @@ use Rattle.lifecycle.specs.declared.kinds.StepSet.{StepSet}
 use Rattle.lifecycle.specs.declared.kinds.After.{After}
 use Rattle.lifecycle.specs.declared.kinds.LifeEvent.TheVariants as event
 use Rattle.components.specs.Fitted.{Fitted, prepared_of, steps_of}
-use Rattle.components.specs.World.{Part, Child, has_orphan, is_orphan, is_running}
+use Rattle.components.specs.Components.{ComponentState, Child, has_orphan, is_orphan, is_running}
 use Rattle.components.specs.Deadlines.{has_passed}
 use Rattle.components.specs.Turns.{is_begun, is_late, is_to_start, is_unstarted, may_retry}
 use Rattle.components.specs.Rows.{is_stop_ready}
@@ -41,7 +41,7 @@ own_busy : (t : Step) (steps : StepSet) (o : Option Step) → is_busy_with t o �
 own_busy t steps None b h = absurd (cc)
 own_busy t steps (Some s) b h = subst (λ (x : Step). has_step x steps ≡ true) (sym (same_step t s b)) h
 
-pub start_of : (p : Part) (t : Step) → IsKeptPart p → is_begun t p ≡ true → p.handed ≡ false → HasStart t p
+pub start_of : (p : ComponentState) (t : Step) → IsKeptPart p → is_begun t p ≡ true → p.handed ≡ false → HasStart t p
 start_of p t k b h =
     let x = and_parts (is_busy_with t p.life.busy) (not (list_any (λ (c : Child). is_same_step t c.of) p.children)) b in
     record {
@@ -70,7 +70,7 @@ found_some test [] = refl
 found_some test (d ∷ ds) = some_at (test d) d (find test ds) (list_any test ds) (found_some test ds)
 
 -- one that passes a stronger test
-pub has_found : (test other : Child → Bool) (p : Part) (c : Child) → ((d : Child) → test d ≡ true → other d ≡ true) → find test p.children ≡ Some c → HasChild other c.number p
+pub has_found : (test other : Child → Bool) (p : ComponentState) (c : Child) → ((d : Child) → test d ≡ true → other d ≡ true) → find test p.children ≡ Some c → HasChild other c.number p
 has_found test other p c f e = let x = found test p.children c e in record { child = c; here = x.0; number = refl; passes = f c x.1 }
 
 any_either : (f g : Child → Bool) (cs : List Child) → list_any (λ (c : Child). f c || g c) cs ≡ (list_any f cs || list_any g cs)
@@ -83,12 +83,12 @@ any_either f g (c ∷ cs) = ap (λ (b : Bool). (f c || g c) || b) (any_either f 
   four false false x y = refl
 
 -- one that is late, or that outlived the stop
-pub overdue_some : (m : ℕ) (p : Part) (o : Option Child) → o ≡ find (λ (c : Child). has_passed m c.deadline || is_orphan p.life c.of) p.children → is_some o ≡ (is_late m p || has_orphan p)
+pub overdue_some : (m : ℕ) (p : ComponentState) (o : Option Child) → o ≡ find (λ (c : Child). has_passed m c.deadline || is_orphan p.life c.of) p.children → is_some o ≡ (is_late m p || has_orphan p)
 overdue_some m p o e =
     ap (λ (x : Option Child). is_some x) e ∙ found_some (λ (c : Child). has_passed m c.deadline || is_orphan p.life c.of) p.children
     ∙ any_either (λ (c : Child). has_passed m c.deadline) (λ (c : Child). is_orphan p.life c.of) p.children
 
-pub overdue_child : (m : ℕ) (p : Part) (c : Child) → Some c ≡ find (λ (d : Child). has_passed m d.deadline || is_orphan p.life d.of) p.children → HasChild (λ (d : Child). has_passed m d.deadline || is_orphan p.life d.of) c.number p
+pub overdue_child : (m : ℕ) (p : ComponentState) (c : Child) → Some c ≡ find (λ (d : Child). has_passed m d.deadline || is_orphan p.life d.of) p.children → HasChild (λ (d : Child). has_passed m d.deadline || is_orphan p.life d.of) c.number p
 overdue_child m p c e =
     let t : Child → Bool = λ (d : Child). has_passed m d.deadline || is_orphan p.life d.of in
     has_found t t p c (λ d h. h) (sym e)
@@ -98,7 +98,7 @@ overdue_child m p c e =
 pub kills_stop : (c : Life) (a : After) → is_awaited (event.Stop a) c ≡ true → (elim (table c (event.Stop a)) [ None ↦ false | Some r ↦ is_kill r.0 ]) ≡ (not (is_running c.state && c.steps.shutdown) && (c.runs || is_some c.busy))
 kills_stop c a h = grind (arith, h)
 
-pub kills_is : (p : Part) (a : After) → IsKeptPart p → is_awaited (event.Stop a) p.life ≡ true → kills (event.Stop a) p ≡ (not (is_running p.life.state && is_some p.fitted.shutdown) && (p.life.runs || is_some p.life.busy))
+pub kills_is : (p : ComponentState) (a : After) → IsKeptPart p → is_awaited (event.Stop a) p.life ≡ true → kills (event.Stop a) p ≡ (not (is_running p.life.state && is_some p.fitted.shutdown) && (p.life.runs || is_some p.life.busy))
 kills_is p a k h = kills_stop p.life a h ∙ ap (λ (s : StepSet). not (is_running p.life.state && s.shutdown) && (p.life.runs || is_some p.life.busy)) k.steps
 
 pub spares_stop : (c : Life) (a : After) → is_awaited (event.Stop a) c ≡ true → (elim (table c (event.Stop a)) [ None ↦ false | Some r ↦ is_kill r.0 ]) ≡ false
@@ -106,7 +106,7 @@ pub spares_stop : (c : Life) (a : After) → is_awaited (event.Stop a) c ≡ tru
 spares_stop c a h e = grind (arith, h, e)
 
 -- the parts of a stop that is ready
-pub ready_parts : (p : Part) (a : After) → p.stop ≡ Some a → is_stop_ready p ≡ true → (is_awaited (event.Stop a) p.life ≡ true) × (is_unstarted p ≡ false)
+pub ready_parts : (p : ComponentState) (a : After) → p.stop ≡ Some a → is_stop_ready p ≡ true → (is_awaited (event.Stop a) p.life ≡ true) × (is_unstarted p ≡ false)
 ready_parts p a e h =
     let x : (is_awaited (event.Stop a) p.life && not (has_orphan p || is_unstarted p)) ≡ true
     = subst (λ (o : Option After). (elim o [ None ↦ false | Some b ↦ is_awaited (event.Stop b) p.life && not (has_orphan p || is_unstarted p) ]) ≡ true) e h in
@@ -116,7 +116,7 @@ ready_parts p a e h =
       not_so true q = absurd (cc)
       not_so false q = refl
 
-stands_on : (p : Part) (a : After) → is_awaited (event.Stop a) p.life ≡ true → p.life.gone ≡ false
+stands_on : (p : ComponentState) (a : After) → is_awaited (event.Stop a) p.life ≡ true → p.life.gone ≡ false
 stands_on p a h = stands_at p.life.gone (and_parts (not p.life.gone) (awaits (event.Stop a) p.life) h).0 where
   stands_at : (b : Bool) → not b ≡ true → b ≡ false
   stands_at true q = absurd (cc)
@@ -137,7 +137,7 @@ no_run true false e f h = absurd (cc)
 no_run false g e f h = absurd (cc)
 
 -- a stop that kills has a child to kill
-pub has_one : (p : Part) (a : After) → IsWhole p → p.stop ≡ Some a → is_stop_ready p ≡ true → (p.life.runs || is_some p.life.busy) ≡ true → p.children ≡ [] → ⊥
+pub has_one : (p : ComponentState) (a : After) → IsWhole p → p.stop ≡ Some a → is_stop_ready p ≡ true → (p.life.runs || is_some p.life.busy) ≡ true → p.children ≡ [] → ⊥
 has_one p a w e h k none =
     let x = ready_parts p a e h in
     let u = subst (λ (cs : List Child). (elim p.life.busy [ None ↦ false | Some s ↦ is_busy_with s p.life.busy && not (list_any (λ (c : Child). is_same_step s c.of) cs) ]) ≡ false) none x.1 in
@@ -155,13 +155,13 @@ none_here : (cs : List Child) → None ≡ slice_get cs 0 → cs ≡ []
 none_here [] e = refl
 none_here (c ∷ cs) e = absurd (cc)
 
-pub stop_awaits : (p : Part) (a : After) → p.stop ≡ Some a → is_stop_ready p ≡ true → is_awaited (event.Stop a) p.life ≡ true
+pub stop_awaits : (p : ComponentState) (a : After) → p.stop ≡ Some a → is_stop_ready p ≡ true → is_awaited (event.Stop a) p.life ≡ true
 stop_awaits p a e r = (ready_parts p a e r).0
 
-pub stop_moves : (p : Part) (a : After) → p.stop ≡ Some a → is_stop_ready p ≡ true → kills (event.Stop a) p ≡ false → (m : ℕ) (b : Bool) → IsFor m b (Some a) p (Moves (event.Stop a))
+pub stop_moves : (p : ComponentState) (a : After) → p.stop ≡ Some a → is_stop_ready p ≡ true → kills (event.Stop a) p ≡ false → (m : ℕ) (b : Bool) → IsFor m b (Some a) p (Moves (event.Stop a))
 stop_moves p a e r k m b = (refl, spares_stop p.life a (stop_awaits p a e r) k)
 
-pub stop_first : (p : Part) (a : After) (c : Child) → kills (event.Stop a) p ≡ true → Some c ≡ slice_get p.children 0 → (m : ℕ) (b : Bool) → IsFor m b (Some a) p (Kills c.number)
+pub stop_first : (p : ComponentState) (a : After) (c : Child) → kills (event.Stop a) p ≡ true → Some c ≡ slice_get p.children 0 → (m : ℕ) (b : Bool) → IsFor m b (Some a) p (Kills c.number)
 stop_first p a c k e m b = record {
   child = c;
   here = first_here p.children c e;
@@ -169,26 +169,26 @@ stop_first p a c k e m b = record {
   passes = or_right (has_passed m c.deadline) (is_orphan p.life c.of || kills (event.Stop a) p) (or_right (is_orphan p.life c.of) (kills (event.Stop a) p) k);
 }
 
-pub stop_none : (p : Part) (a : After) → IsWhole p → p.stop ≡ Some a → is_stop_ready p ≡ true → kills (event.Stop a) p ≡ true → None ≡ slice_get p.children 0 → ⊥
+pub stop_none : (p : ComponentState) (a : After) → IsWhole p → p.stop ≡ Some a → is_stop_ready p ≡ true → kills (event.Stop a) p ≡ true → None ≡ slice_get p.children 0 → ⊥
 stop_none p a w e r k n =
     let x = and_parts (not (is_running p.life.state && p.life.steps.shutdown)) (p.life.runs || is_some p.life.busy) (sym (kills_stop p.life a (stop_awaits p a e r)) ∙ k) in
     has_one p a w e r x.1 (none_here p.children n)
 
 -- ---- all of it
 
-pub deed_begins : (m : ℕ) (b : Bool) (st : Option After) (p : Part) → b ≡ true → true ≡ has_deed m b st p
+pub deed_begins : (m : ℕ) (b : Bool) (st : Option After) (p : ComponentState) → b ≡ true → true ≡ has_deed m b st p
 deed_begins m b st p e = sym (or_left (b || may_retry p) (is_late m p || (is_some st || (has_orphan p || is_to_start p))) (or_left b (may_retry p) e))
 
-pub deed_retries : (m : ℕ) (b : Bool) (st : Option After) (p : Part) → may_retry p ≡ true → true ≡ has_deed m b st p
+pub deed_retries : (m : ℕ) (b : Bool) (st : Option After) (p : ComponentState) → may_retry p ≡ true → true ≡ has_deed m b st p
 deed_retries m b st p e = sym (or_left (b || may_retry p) (is_late m p || (is_some st || (has_orphan p || is_to_start p))) (or_right b (may_retry p) e))
 
-pub deed_overdue : (m : ℕ) (b : Bool) (st : Option After) (p : Part) → true ≡ (is_late m p || has_orphan p) → true ≡ has_deed m b st p
+pub deed_overdue : (m : ℕ) (b : Bool) (st : Option After) (p : ComponentState) → true ≡ (is_late m p || has_orphan p) → true ≡ has_deed m b st p
 deed_overdue m b st p e = sym (or_right (b || may_retry p) (is_late m p || (is_some st || (has_orphan p || is_to_start p))) (elim (or_cases (is_late m p) (has_orphan p) (sym e)) [
   | inl x ↦ or_left (is_late m p) (is_some st || (has_orphan p || is_to_start p)) x
   | inr x ↦ or_right (is_late m p) (is_some st || (has_orphan p || is_to_start p)) (or_right (is_some st) (has_orphan p || is_to_start p) (or_left (has_orphan p) (is_to_start p) x))
 ]))
 
-pub deed_stops : (m : ℕ) (b : Bool) (st : Option After) (p : Part) → is_some st ≡ true → true ≡ has_deed m b st p
+pub deed_stops : (m : ℕ) (b : Bool) (st : Option After) (p : ComponentState) → is_some st ≡ true → true ≡ has_deed m b st p
 deed_stops m b st p e = sym (or_right (b || may_retry p) (is_late m p || (is_some st || (has_orphan p || is_to_start p)))
     (or_right (is_late m p) (is_some st || (has_orphan p || is_to_start p)) (or_left (is_some st) (has_orphan p || is_to_start p) e)))
 
@@ -200,12 +200,12 @@ last_of false false false true o t e f g h i = absurd (cc)
 last_of false false false false true t e f g h i = absurd (cc)
 last_of false false false false false t e f g h i = refl
 
-pub deed_starts : (m : ℕ) (b : Bool) (st : Option After) (p : Part) (x : Bool) → b ≡ false → may_retry p ≡ false → false ≡ (is_late m p || has_orphan p) → is_some st ≡ false → x ≡ is_to_start p → x ≡ has_deed m b st p
+pub deed_starts : (m : ℕ) (b : Bool) (st : Option After) (p : ComponentState) (x : Bool) → b ≡ false → may_retry p ≡ false → false ≡ (is_late m p || has_orphan p) → is_some st ≡ false → x ≡ is_to_start p → x ≡ has_deed m b st p
 deed_starts m b st p x e f g h i =
     let y = or_parts (is_late m p) (has_orphan p) (sym g) in
     i ∙ last_of b (may_retry p) (is_late m p) (is_some st) (has_orphan p) (is_to_start p) e f y.0 h y.1
 
-pub overdue_due : (m : ℕ) (b : Bool) (st : Option After) (p : Part) (n : ℕ) → HasChild (λ (c : Child). has_passed m c.deadline || is_orphan p.life c.of) n p → IsFor m b st p (Kills n)
+pub overdue_due : (m : ℕ) (b : Bool) (st : Option After) (p : ComponentState) (n : ℕ) → HasChild (λ (c : Child). has_passed m c.deadline || is_orphan p.life c.of) n p → IsFor m b st p (Kills n)
 overdue_due m b st p n h =
     let c : Child = h.child in
     record {
@@ -218,5 +218,5 @@ overdue_due m b st p n h =
       ];
     }
 
-pub stop_given : (m : ℕ) (b : Bool) (st : Option After) (p : Part) (a : After) (d : Deed) → st ≡ Some a → IsFor m b (Some a) p d → IsFor m b st p d
+pub stop_given : (m : ℕ) (b : Bool) (st : Option After) (p : ComponentState) (a : After) (d : Deed) → st ≡ Some a → IsFor m b (Some a) p d → IsFor m b st p d
 stop_given m b st p a d e h = subst (λ (o : Option After). IsFor m b o p d) (sym e) h

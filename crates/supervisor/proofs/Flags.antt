@@ -6,7 +6,7 @@ use Rattle.std.proofs.Math.ListN.{set}
 use Rattle.std.proofs.lemmas.Bool.{cases_eq}
 use Rattle.std.specs.Str.{bytes_eq}
 use Rattle.std.specs.Prelude.{◌&&◌, ◌||◌, not, if◌then◌else◌, slice_set}
-use Rattle.components.specs.World.{Part, At, part_name}
+use Rattle.components.specs.Components.{ComponentState, At, component_name}
 use Rattle.components.specs.Changes.{is_replacing, replanned}
 use Rattle.components.specs.Marks.{Flagged, grown, reaching, is_flagged, needs_flagged, flagged, flagged_at, marked, restarted, may_restart, may_replan, Within, IsClosedBack}
 use Rattle.components.specs.Flags.{with_flags, free, may_by, joins, Under, Grows, Spreads}
@@ -19,8 +19,8 @@ antisym_flag false false f g = refl
 antisym_flag true false f g = sym (f refl)
 antisym_flag false true f g = g refl
 
-pair_is : (f h : Part × Bool) → f.0 ≡ h.0 → f.1 ≡ h.1 → f ≡ h
-pair_is f h e b = ap (λ (p : Part). (p, f.1)) e ∙ ap (λ (x : Bool). (h.0, x)) b
+pair_is : (f h : ComponentState × Bool) → f.0 ≡ h.0 → f.1 ≡ h.1 → f ≡ h
+pair_is f h e b = ap (λ (p : ComponentState). (p, f.1)) e ∙ ap (λ (x : Bool). (h.0, x)) b
 
 -- as flags go both ways they are the same
 pub same_flags : (fs hs : Flagged) → Within fs hs → Within hs fs → fs ≡ hs
@@ -29,11 +29,11 @@ same_flags [] (h ∷ hs) v w = absurd v
 same_flags (f ∷ fs) [] v w = absurd v
 same_flags (f ∷ fs) (h ∷ hs) v w =
     let g : f ≡ h = pair_is f h v.0 (antisym_flag f.1 h.1 v.1 w.1) in
-    ap (λ (x : Part × Bool). x ∷ fs) g ∙ ap (λ (xs : Flagged). h ∷ xs) (same_flags fs hs v.2 w.2)
+    ap (λ (x : ComponentState × Bool). x ∷ fs) g ∙ ap (λ (xs : Flagged). h ∷ xs) (same_flags fs hs v.2 w.2)
 
 -- ---- one more flag
 
-pub within_set : (ps : List Part) (bs : List Bool) (k : ℕ) → Within (with_flags ps bs) (with_flags ps (set bs k true))
+pub within_set : (ps : List ComponentState) (bs : List Bool) (k : ℕ) → Within (with_flags ps bs) (with_flags ps (set bs k true))
 within_set [] bs k = tt
 within_set (p ∷ ps) [] k = tt
 within_set (p ∷ ps) (b ∷ bs) zero = (refl, (λ e. refl), within_refl (with_flags ps bs))
@@ -45,7 +45,7 @@ flag_is [] k = false
 flag_is (h ∷ hs) zero = h.1
 flag_is (h ∷ hs) (suc k) = flag_is hs k
 
-set_under : (ps : List Part) (bs : List Bool) (hs : Flagged) (k : ℕ) → Within (with_flags ps bs) hs → (k < length ps → k < length bs → flag_is hs k ≡ true) → Within (with_flags ps (set bs k true)) hs
+set_under : (ps : List ComponentState) (bs : List Bool) (hs : Flagged) (k : ℕ) → Within (with_flags ps bs) hs → (k < length ps → k < length bs → flag_is hs k ≡ true) → Within (with_flags ps (set bs k true)) hs
 set_under [] bs hs k w f = w
 set_under (p ∷ ps) [] hs k w f = w
 set_under (p ∷ ps) (b ∷ bs) [] k w f = absurd w
@@ -56,31 +56,31 @@ or_right : (a b : Bool) → b ≡ true → (a || b) ≡ true
 or_right true b e = refl
 or_right false b e = e
 
-tail_is : (all : Flagged) (h : Part × Bool) (hs : Flagged) → grown all (h ∷ hs) ≡ h ∷ hs → grown all hs ≡ hs
+tail_is : (all : Flagged) (h : ComponentState × Bool) (hs : Flagged) → grown all (h ∷ hs) ≡ h ∷ hs → grown all hs ≡ hs
 tail_is all h hs c = cc
 
 -- in what is closed, one that needs a flagged one has a flag
-closed_flag : (all hs : Flagged) (ps : List Part) (bs : List Bool) (k : ℕ) → grown all hs ≡ hs → Within (with_flags ps bs) hs → k < length ps → k < length bs → At k (λ p. needs_flagged p.fitted.hard all ≡ true) ps → flag_is hs k ≡ true
+closed_flag : (all hs : Flagged) (ps : List ComponentState) (bs : List Bool) (k : ℕ) → grown all hs ≡ hs → Within (with_flags ps bs) hs → k < length ps → k < length bs → At k (λ p. needs_flagged p.fitted.hard all ≡ true) ps → flag_is hs k ≡ true
 closed_flag all hs [] bs k c w l m n = absurd n
 closed_flag all hs (p ∷ ps) [] k c w l m n = absurd (omega arith)
 closed_flag all [] (p ∷ ps) (b ∷ bs) k c w l m n = absurd w
 closed_flag all (h ∷ hs) (p ∷ ps) (b ∷ bs) zero c w l m n =
     let e : (h.1 || needs_flagged h.0.fitted.hard all) ≡ h.1 = ap (λ (fs : Flagged). flag_is fs zero) c in
-    sym e ∙ or_right h.1 (needs_flagged h.0.fitted.hard all) (subst (λ (q : Part). needs_flagged q.fitted.hard all ≡ true) w.0 n)
+    sym e ∙ or_right h.1 (needs_flagged h.0.fitted.hard all) (subst (λ (q : ComponentState). needs_flagged q.fitted.hard all ≡ true) w.0 n)
 closed_flag all (h ∷ hs) (p ∷ ps) (b ∷ bs) (suc k) c w l m n = closed_flag all hs ps bs k (tail_is all h hs c) w.2 (omega arith) (omega arith) n
 
 -- ---- a pass
 
-pub join_under : (ps : List Part) (old bs : List Bool) (k : ℕ) → Under ps old bs → At k (λ p. needs_flagged p.fitted.hard (with_flags ps bs) ≡ true) ps → Under ps old (set bs k true)
+pub join_under : (ps : List ComponentState) (old bs : List Bool) (k : ℕ) → Under ps old bs → At k (λ p. needs_flagged p.fitted.hard (with_flags ps bs) ≡ true) ps → Under ps old (set bs k true)
 join_under ps old bs k u n = λ hs w c.
     let v = u hs w c in
     set_under ps bs hs k v (λ l m. closed_flag hs hs ps bs k c v l m (at_more (λ p. needs_flagged p.fitted.hard (with_flags ps bs) ≡ true) (λ p. needs_flagged p.fitted.hard hs ≡ true) ps k (λ p e. needs_more p.fitted.hard (with_flags ps bs) hs v e) n))
 
-under_refl : (ps : List Part) (bs : List Bool) → Under ps bs bs
+under_refl : (ps : List ComponentState) (bs : List Bool) → Under ps bs bs
 under_refl ps bs = λ hs w c. w
 
 -- a pass so far: up to the place none joins, where none joined before
-pub record Passes (ps : List Part) (old bs : List Bool) (grew : Bool) (k : ℕ) : Type 0 where
+pub record Passes (ps : List ComponentState) (old bs : List Bool) (grew : Bool) (k : ℕ) : Type 0 where
   pub many : length bs ≡ length old
   pub more : Within (with_flags ps old) (with_flags ps bs)
   pub under : Under ps old bs
@@ -88,7 +88,7 @@ pub record Passes (ps : List Part) (old bs : List Bool) (grew : Bool) (k : ℕ) 
   pub same : grew ≡ false → bs ≡ old
   pub none : grew ≡ false → (j : ℕ) → j < k → At j (λ p. joins ps old j p ≡ false) ps
 
-pub passes_none : (ps : List Part) (old : List Bool) → Passes ps old old false 0
+pub passes_none : (ps : List ComponentState) (old : List Bool) → Passes ps old old false 0
 passes_none ps old = record {
   many = refl;
   more = within_refl (with_flags ps old);
@@ -101,7 +101,7 @@ passes_none ps old = record {
 at_split : (j k : ℕ) → j < k + 1 → (j < k) ⊎ (j ≡ k)
 at_split j k l = elim (cases_eq j k) [ inl e ↦ inr e | inr ne ↦ inl (omega (arith, ne)) ]
 
-pub passes_skip : (ps : List Part) (old bs : List Bool) (grew : Bool) (k : ℕ) → Passes ps old bs grew k → At k (λ p. false ≡ joins ps bs k p) ps → Passes ps old bs grew (k + 1)
+pub passes_skip : (ps : List ComponentState) (old bs : List Bool) (grew : Bool) (k : ℕ) → Passes ps old bs grew k → At k (λ p. false ≡ joins ps bs k p) ps → Passes ps old bs grew (k + 1)
 passes_skip ps old bs grew k p j = record {
   many = p.many;
   more = p.more;
@@ -136,12 +136,12 @@ length-set [] k = refl
 length-set (b ∷ bs) zero = refl
 length-set (b ∷ bs) (suc k) = ap suc (length-set bs k)
 
-joined_free : (ps qs : List Part) (bs : List Bool) (k j : ℕ) → At j (λ p. true ≡ joins ps bs k p) qs → get_or bs k false ≡ false
+joined_free : (ps qs : List ComponentState) (bs : List Bool) (k j : ℕ) → At j (λ p. true ≡ joins ps bs k p) qs → get_or bs k false ≡ false
 joined_free ps [] bs k j h = absurd h
 joined_free ps (q ∷ qs) bs k zero h = and_left (get_or bs k false) (needs_flagged q.fitted.hard (with_flags ps bs)) h
 joined_free ps (q ∷ qs) bs k (suc j) h = joined_free ps qs bs k j h
 
-pub passes_set : (ps : List Part) (old bs : List Bool) (grew : Bool) (k : ℕ) → k < length bs → Passes ps old bs grew k → At k (λ p. true ≡ joins ps bs k p) ps → Passes ps old (set bs k true) true (k + 1)
+pub passes_set : (ps : List ComponentState) (old bs : List Bool) (grew : Bool) (k : ℕ) → k < length bs → Passes ps old bs grew k → At k (λ p. true ≡ joins ps bs k p) ps → Passes ps old (set bs k true) true (k + 1)
 passes_set ps old bs grew k l p j = record {
   many = length-set bs k ∙ p.many;
   more = trans (with_flags ps old) (with_flags ps bs) (with_flags ps (set bs k true)) p.more (within_set ps bs k);
@@ -159,7 +159,7 @@ or_none : (a : Bool) → (a || false) ≡ a
 or_none true = refl
 or_none false = refl
 
-pub passes_next : (ps : List Part) (old bs new : List Bool) (grew b : Bool) (k : ℕ) → k < length bs → Passes ps old bs grew k → At k (λ p. b ≡ joins ps bs k p) ps → new ≡ (if b then slice_set bs k true else bs)
+pub passes_next : (ps : List ComponentState) (old bs new : List Bool) (grew b : Bool) (k : ℕ) → k < length bs → Passes ps old bs grew k → At k (λ p. b ≡ joins ps bs k p) ps → new ≡ (if b then slice_set bs k true else bs)
     → Passes ps old new (grew || b) (k + 1)
 passes_next ps old bs new grew true k l p j e = rw (e, or_is grew) (passes_set ps old bs grew k l p j)
 passes_next ps old bs new grew false k l p j e = rw (e, or_none grew) (passes_skip ps old bs grew k p j)
@@ -168,7 +168,7 @@ no_join : (b n : Bool) → (not b && n) ≡ false → (b || n) ≡ b
 no_join true n e = refl
 no_join false n e = e
 
-closed_all : (all : Flagged) (ps : List Part) (bs : List Bool) → length bs ≡ length ps → ((j : ℕ) → j < length ps → At j (λ p. (not (get_or bs j false) && needs_flagged p.fitted.hard all) ≡ false) ps) → grown all (with_flags ps bs) ≡ with_flags ps bs
+closed_all : (all : Flagged) (ps : List ComponentState) (bs : List Bool) → length bs ≡ length ps → ((j : ℕ) → j < length ps → At j (λ p. (not (get_or bs j false) && needs_flagged p.fitted.hard all) ≡ false) ps) → grown all (with_flags ps bs) ≡ with_flags ps bs
 closed_all all [] bs m f = refl
 closed_all all (p ∷ ps) [] m f = absurd (omega (arith, m))
 closed_all all (p ∷ ps) (b ∷ bs) m f =
@@ -176,7 +176,7 @@ closed_all all (p ∷ ps) (b ∷ bs) m f =
     let i : grown all (with_flags ps bs) ≡ with_flags ps bs = closed_all all ps bs (omega (arith, m)) (λ j l. f (suc j) (omega arith)) in
     ap (λ (x : Bool). (p, x) ∷ grown all (with_flags ps bs)) e ∙ ap (λ (fs : Flagged). (p, b) ∷ fs) i
 
-pub spreads_of : (ps : List Part) (old bs : List Bool) (grew : Bool) (k : ℕ) → length old ≡ length ps → length ps ≤ k → Passes ps old bs grew k → Spreads ps old bs grew
+pub spreads_of : (ps : List ComponentState) (old bs : List Bool) (grew : Bool) (k : ℕ) → length old ≡ length ps → length ps ≤ k → Passes ps old bs grew k → Spreads ps old bs grew
 spreads_of ps old bs grew k m l p = record {
   many = p.many;
   more = p.more;
@@ -187,33 +187,33 @@ spreads_of ps old bs grew k m l p = record {
 
 -- ---- all passes
 
-pub grows_none : (ps : List Part) (bs : List Bool) → Grows ps bs bs
+pub grows_none : (ps : List ComponentState) (bs : List Bool) → Grows ps bs bs
 grows_none ps bs = record { many = refl; more = within_refl (with_flags ps bs); under = under_refl ps bs }
 
-pub grows_more : (ps : List Part) (first bs new : List Bool) → Grows ps first bs → Grows ps bs new → Grows ps first new
+pub grows_more : (ps : List ComponentState) (first bs new : List Bool) → Grows ps first bs → Grows ps bs new → Grows ps first new
 grows_more ps first bs new g h = record {
   many = h.many ∙ g.many;
   more = trans (with_flags ps first) (with_flags ps bs) (with_flags ps new) g.more h.more;
   under = λ hs w c. h.under hs (g.under hs w c) c;
 }
 
-pub grows_spread : (ps : List Part) (first bs new : List Bool) (grew : Bool) → Grows ps first bs → Spreads ps bs new grew → Grows ps first new
+pub grows_spread : (ps : List ComponentState) (first bs new : List Bool) (grew : Bool) → Grows ps first bs → Spreads ps bs new grew → Grows ps first new
 grows_spread ps first bs new grew g s = grows_more ps first bs new g (record { many = s.many; more = s.more; under = s.under })
 
 -- one that needs a flagged one gets a flag
-pub grows_join : (ps : List Part) (bs : List Bool) (k : ℕ) → At k (λ p. needs_flagged p.fitted.hard (with_flags ps bs) ≡ true) ps → Grows ps bs (set bs k true)
+pub grows_join : (ps : List ComponentState) (bs : List Bool) (k : ℕ) → At k (λ p. needs_flagged p.fitted.hard (with_flags ps bs) ≡ true) ps → Grows ps bs (set bs k true)
 grows_join ps bs k n = record {
   many = length-set bs k;
   more = within_set ps bs k;
   under = join_under ps bs bs k (under_refl ps bs) n;
 }
 
-with_length : (ps : List Part) (bs : List Bool) → length bs ≡ length ps → length (with_flags ps bs) ≡ length ps
+with_length : (ps : List ComponentState) (bs : List Bool) → length bs ≡ length ps → length (with_flags ps bs) ≡ length ps
 with_length [] bs e = refl
 with_length (p ∷ ps) [] e = absurd (omega (arith, e))
 with_length (p ∷ ps) (b ∷ bs) e = ap suc (with_length ps bs (omega (arith, e)))
 
-pub reached : (ps : List Part) (first bs : List Bool) → length first ≡ length ps → Grows ps first bs → IsClosedBack (with_flags ps bs) → with_flags ps bs ≡ reaching (length ps) (with_flags ps first)
+pub reached : (ps : List ComponentState) (first bs : List Bool) → length first ≡ length ps → Grows ps first bs → IsClosedBack (with_flags ps bs) → with_flags ps bs ≡ reaching (length ps) (with_flags ps first)
 reached ps first bs m r c =
     let fs = with_flags ps first in
     let e = with_length ps first m in
@@ -222,24 +222,24 @@ reached ps first bs m r c =
 
 -- ---- the first flag
 
-none_flagged : (ps : List Part) → with_flags ps (replicate (length ps) false) ≡ flagged (λ q. false) ps
+none_flagged : (ps : List ComponentState) → with_flags ps (replicate (length ps) false) ≡ flagged (λ q. false) ps
 none_flagged [] = refl
 none_flagged (p ∷ ps) = ap (λ (fs : Flagged). (p, false) ∷ fs) (none_flagged ps)
 
-flag_at_place : (ps : List Part) (k : ℕ) → with_flags ps (set (replicate (length ps) false) k true) ≡ flagged_at k ps
+flag_at_place : (ps : List ComponentState) (k : ℕ) → with_flags ps (set (replicate (length ps) false) k true) ≡ flagged_at k ps
 flag_at_place [] k = refl
 flag_at_place (p ∷ ps) zero = ap (λ (fs : Flagged). (p, true) ∷ fs) (none_flagged ps)
 flag_at_place (p ∷ ps) (suc k) = ap (λ (fs : Flagged). (p, false) ∷ fs) (flag_at_place ps k)
 
-pub flag_at_one : (ps : List Part) (n k : ℕ) → length ps ≡ n → with_flags ps (set (replicate n false) k true) ≡ flagged_at k ps
+pub flag_at_one : (ps : List ComponentState) (n k : ℕ) → length ps ≡ n → with_flags ps (set (replicate n false) k true) ≡ flagged_at k ps
 flag_at_one ps n k e = subst (λ (m : ℕ). with_flags ps (set (replicate m false) k true) ≡ flagged_at k ps) e (flag_at_place ps k)
 
 -- ---- marks
 
-abbrev pub mark_one : Bool → (Part → Bool) → Part → Part
+abbrev pub mark_one : Bool → (ComponentState → Bool) → ComponentState → ComponentState
 mark_one b may p = if b && may p then record p { stop = Some after.Restart } else p
 
-pub marks_more : (may : Part → Bool) (xs ys : List Part) (bs : List Bool) (k : ℕ) (d t : Part) → length bs ≡ length xs → k < length xs → t ≡ mark_one (get_or bs k false) may (get_or ys k d)
+pub marks_more : (may : ComponentState → Bool) (xs ys : List ComponentState) (bs : List Bool) (k : ℕ) (d t : ComponentState) → length bs ≡ length xs → k < length xs → t ≡ mark_one (get_or bs k false) may (get_or ys k d)
     → take k ys ≡ take k (marked may (with_flags xs bs)) → drop k ys ≡ drop k xs
     → (take (k + 1) (set ys k t) ≡ take (k + 1) (marked may (with_flags xs bs))) × (drop (k + 1) (set ys k t) ≡ drop (k + 1) xs)
 marks_more may [] ys bs k d t m l h a b = absurd (omega (arith, l))
@@ -248,33 +248,33 @@ marks_more may (x ∷ xs) [] (c ∷ cs) zero d t m l h a b = absurd (cc)
 marks_more may (x ∷ xs) [] (c ∷ cs) (suc k) d t m l h a b = absurd (cc)
 marks_more may (x ∷ xs) (y ∷ ys) (c ∷ cs) zero d t m l h a b =
     let r : y ≡ x = cc in let s : ys ≡ xs = cc in
-    (ap (λ (p : Part). p ∷ []) (h ∙ ap (mark_one c may) r), s)
+    (ap (λ (p : ComponentState). p ∷ []) (h ∙ ap (mark_one c may) r), s)
 marks_more may (x ∷ xs) (y ∷ ys) (c ∷ cs) (suc k) d t m l h a b =
     let e : y ≡ mark_one c may x = cc in
     let f : take k ys ≡ take k (marked may (with_flags xs cs)) = cc in
     let i = marks_more may xs ys cs k d t (omega (arith, m)) (omega (arith, l)) h f b in
-    rw add-one (let j = rw add-one at i.0 in ap (λ (p : Part). p ∷ take (suc k) (set ys k t)) e ∙ ap (λ (ps : List Part). mark_one c may x ∷ ps) j, rw add-one at i.1)
+    rw add-one (let j = rw add-one at i.0 in ap (λ (p : ComponentState). p ∷ take (suc k) (set ys k t)) e ∙ ap (λ (ps : List ComponentState). mark_one c may x ∷ ps) j, rw add-one at i.1)
 
-marked_length : (may : Part → Bool) (xs : List Part) (bs : List Bool) → length bs ≡ length xs → length (marked may (with_flags xs bs)) ≡ length xs
+marked_length : (may : ComponentState → Bool) (xs : List ComponentState) (bs : List Bool) → length bs ≡ length xs → length (marked may (with_flags xs bs)) ≡ length xs
 marked_length may [] bs e = refl
 marked_length may (x ∷ xs) [] e = absurd (omega (arith, e))
 marked_length may (x ∷ xs) (b ∷ bs) e = ap suc (marked_length may xs bs (omega (arith, e)))
 
-pub marks_whole : (may : Part → Bool) (xs ys : List Part) (bs : List Bool) (k : ℕ) → length bs ≡ length xs → length ys ≡ length xs → length xs ≤ k → take k ys ≡ take k (marked may (with_flags xs bs)) → ys ≡ marked may (with_flags xs bs)
+pub marks_whole : (may : ComponentState → Bool) (xs ys : List ComponentState) (bs : List Bool) (k : ℕ) → length bs ≡ length xs → length ys ≡ length xs → length xs ≤ k → take k ys ≡ take k (marked may (with_flags xs bs)) → ys ≡ marked may (with_flags xs bs)
 marks_whole may xs ys bs k m n l e =
     let f = marked_length may xs bs m in
     sym (take_all k ys (omega (arith, n, l))) ∙ e ∙ take_all k (marked may (with_flags xs bs)) (omega (arith, f, l))
 
 -- ---- a search for a flag
 
-pub flagged_skip : (n : List ℕ) (ps : List Part) (bs : List Bool) (k : ℕ) → k < length bs → At k (λ p. false ≡ (get_or bs k false && bytes_eq (part_name p) n)) ps
+pub flagged_skip : (n : List ℕ) (ps : List ComponentState) (bs : List Bool) (k : ℕ) → k < length bs → At k (λ p. false ≡ (get_or bs k false && bytes_eq (component_name p) n)) ps
     → is_flagged n (with_flags (drop k ps) (drop k bs)) ≡ is_flagged n (with_flags (drop (k + 1) ps) (drop (k + 1) bs))
 flagged_skip n [] bs k l h = absurd h
 flagged_skip n (p ∷ ps) [] k l h = absurd (omega (arith, l))
 flagged_skip n (p ∷ ps) (b ∷ bs) zero l h = ap (λ (x : Bool). x || is_flagged n (with_flags ps bs)) (sym h)
 flagged_skip n (p ∷ ps) (b ∷ bs) (suc k) l h = rw add-one (rw add-one at (flagged_skip n ps bs k (omega (arith, l)) h))
 
-pub flagged_here : (n : List ℕ) (ps : List Part) (bs : List Bool) (k : ℕ) → k < length bs → At k (λ p. true ≡ (get_or bs k false && bytes_eq (part_name p) n)) ps → true ≡ is_flagged n (with_flags (drop k ps) (drop k bs))
+pub flagged_here : (n : List ℕ) (ps : List ComponentState) (bs : List Bool) (k : ℕ) → k < length bs → At k (λ p. true ≡ (get_or bs k false && bytes_eq (component_name p) n)) ps → true ≡ is_flagged n (with_flags (drop k ps) (drop k bs))
 flagged_here n [] bs k l h = absurd h
 flagged_here n (p ∷ ps) [] k l h = absurd (omega (arith, l))
 flagged_here n (p ∷ ps) (b ∷ bs) zero l h = ap (λ (x : Bool). x || is_flagged n (with_flags ps bs)) h
@@ -282,19 +282,19 @@ flagged_here n (p ∷ ps) (b ∷ bs) (suc k) l h = flagged_here n ps bs k (omega
 
 -- ---- all marks of one failure
 
-length_flagged : (t : Part → Bool) (ps : List Part) → length (flagged t ps) ≡ length ps
+length_flagged : (t : ComponentState → Bool) (ps : List ComponentState) → length (flagged t ps) ≡ length ps
 length_flagged t [] = refl
 length_flagged t (p ∷ ps) = ap suc (length_flagged t ps)
 
-length_flagged_at : (k : ℕ) (ps : List Part) → length (flagged_at k ps) ≡ length ps
+length_flagged_at : (k : ℕ) (ps : List ComponentState) → length (flagged_at k ps) ≡ length ps
 length_flagged_at k [] = refl
 length_flagged_at zero (p ∷ ps) = ap suc (length_flagged (λ q. false) ps)
 length_flagged_at (suc k) (p ∷ ps) = ap suc (length_flagged_at k ps)
 
-pub restarted_is : (ps new : List Part) (k : ℕ) (fs hs : Flagged) → new ≡ marked (may_by false) hs → hs ≡ reaching (length ps) fs → fs ≡ flagged_at k ps → new ≡ restarted may_restart (flagged_at k ps)
+pub restarted_is : (ps new : List ComponentState) (k : ℕ) (fs hs : Flagged) → new ≡ marked (may_by false) hs → hs ≡ reaching (length ps) fs → fs ≡ flagged_at k ps → new ≡ restarted may_restart (flagged_at k ps)
 restarted_is ps new k fs hs e r f =
     e ∙ ap (marked may_restart) (r ∙ ap (reaching (length ps)) f ∙ ap (λ (n : ℕ). reaching n (flagged_at k ps)) (sym (length_flagged_at k ps)))
 
-pub replanned_is : (ps new : List Part) (fs hs : Flagged) → new ≡ marked (may_by true) hs → hs ≡ reaching (length ps) fs → fs ≡ flagged is_replacing ps → new ≡ replanned ps
+pub replanned_is : (ps new : List ComponentState) (fs hs : Flagged) → new ≡ marked (may_by true) hs → hs ≡ reaching (length ps) fs → fs ≡ flagged is_replacing ps → new ≡ replanned ps
 replanned_is ps new fs hs e r f =
     e ∙ ap (marked may_replan) (r ∙ ap (reaching (length ps)) f ∙ ap (λ (n : ℕ). reaching n (flagged is_replacing ps)) (sym (length_flagged is_replacing ps)))

@@ -6,7 +6,7 @@ use Rattle.nuc_base.specs.declared.kinds.Step.{Step}
 use Rattle.nuc_base.specs.declared.kinds.Step.TheVariants.{Install, Run, Startup, Shutdown, Recover, Bootstrap}
 use Rattle.lifecycle.specs.Awaits.{is_same_step}
 use Rattle.supervisor.specs.Steps.{count_of, IsOnce}
-use Rattle.components.specs.World.{Child}
+use Rattle.components.specs.Components.{Child}
 
 pub same_is : (s t : Step) → is_same_step s t ≡ true → s ≡ t
 same_is Install Install e = refl

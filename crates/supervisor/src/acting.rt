@@ -10,13 +10,13 @@ ghost use Rattle.components.specs.Readied.{AreApart, AreNamesApart, HaveNames, I
 ghost use Rattle.components.specs.Rows.{is_stop_ready};
 ghost use Rattle.components.specs.Turns.{may_act, may_begin as may_begin_among, may_stop, is_met, is_held as is_held_among, serves_softly, owes};
 ghost use Rattle.components.specs.Whole.{AreWhole};
-ghost use Rattle.components.specs.World.{At, changed_at, part_name, is_to_stop, stands_up as stands};
+ghost use Rattle.components.specs.Components.{At, changed_at, component_name, is_to_stop, stands_up as stands};
 
 use crate::befall::{kill_child, live_at};
-use components::Act;
 use crate::needs::{Need, User};
 use crate::places::{found_place, user_after};
 use crate::slot::Slot;
+use components::Act;
 use lifecycle::{After, LifeEvent};
 use nuc_base::{Name, Step};
 
@@ -32,14 +32,14 @@ pub enum Deed {
 
 /// Whether it has this name and stands up.
 fn stands_as(slot: &Slot, name: &Name) -> bool
-    ensures { result ≡ (bytes_eq (part_name slot.now) name.now && stands slot.now) }
+    ensures { result ≡ (bytes_eq (component_name slot.now) name.now && stands slot.now) }
 {
     slot.stands_up() && *slot.name() == *name
 }
 
 /// Whether it has this name and is enough for one that needs it softly.
 fn serves_as(slot: &Slot, name: &Name) -> bool
-    ensures { result ≡ (bytes_eq (part_name slot.now) name.now && serves_softly slot.now) }
+    ensures { result ≡ (bytes_eq (component_name slot.now) name.now && serves_softly slot.now) }
 {
     slot.serves_softly() && *slot.name() == *name
 }
@@ -58,7 +58,7 @@ fn any_serves(slots: &[Slot], name: &Name) -> bool
 
 /// Whether the one that is needed stands up.
 fn is_up(slots: &[Slot], need: &Need) -> bool
-    requires { AreNamesApart (map part_name slots.now) }
+    requires { AreNamesApart (map component_name slots.now) }
     ensures { result ≡ is_met stands slots.now need.now }
 {
     match found_place(slots, need) {
@@ -69,7 +69,7 @@ fn is_up(slots: &[Slot], need: &Need) -> bool
 
 /// Whether the one that is needed softly is enough.
 fn is_served(slots: &[Slot], need: &Need) -> bool
-    requires { AreNamesApart (map part_name slots.now) }
+    requires { AreNamesApart (map component_name slots.now) }
     ensures { result ≡ is_met serves_softly slots.now need.now }
 {
     match found_place(slots, need) {
@@ -80,7 +80,7 @@ fn is_served(slots: &[Slot], need: &Need) -> bool
 
 /// Whether the need of this number is there and not met.
 fn is_missing(slots: &[Slot], needs: &[Need], at: usize) -> bool
-    requires { AreNamesApart (map part_name slots.now) }
+    requires { AreNamesApart (map component_name slots.now) }
     ensures { result ≡ true → list_all (is_met stands slots.now) needs.now ≡ false }
 {
     at < needs.len() && !is_up(slots, &needs[at])
@@ -88,7 +88,7 @@ fn is_missing(slots: &[Slot], needs: &[Need], at: usize) -> bool
 
 /// Keeps the number of the first hard need that is not met.
 fn note_missing(slots: &[Slot], slot: &Slot)
-    requires { AreNamesApart (map part_name slots.now) }
+    requires { AreNamesApart (map component_name slots.now) }
 {
     if let Some(at) = slot.hard().iter().position(|need| !is_up(slots, need)) {
         slot.set_missing(at);
@@ -97,7 +97,7 @@ fn note_missing(slots: &[Slot], slot: &Slot)
 
 /// Whether all that it needs hard stand up. The need that was not met the last time is asked first.
 fn are_up(slots: &[Slot], slot: &Slot) -> bool
-    requires { AreNamesApart (map part_name slots.now) }
+    requires { AreNamesApart (map component_name slots.now) }
     ensures { result ≡ list_all (is_met stands slots.now) slot.now.fitted.hard }
 {
     if is_missing(slots, slot.hard(), slot.missing()) {
@@ -111,7 +111,7 @@ fn are_up(slots: &[Slot], slot: &Slot) -> bool
 }
 
 fn are_served(slots: &[Slot], needs: &[Need]) -> bool
-    requires { AreNamesApart (map part_name slots.now) }
+    requires { AreNamesApart (map component_name slots.now) }
     ensures { result ≡ list_all (is_met serves_softly slots.now) needs.now }
 {
     needs.iter().all(|need| is_served(slots, need))
@@ -119,7 +119,7 @@ fn are_served(slots: &[Slot], needs: &[Need]) -> bool
 
 /// Whether the component may begin among these.
 fn may_begin(slots: &[Slot], slot: &Slot) -> bool
-    requires { AreNamesApart (map part_name slots.now) }
+    requires { AreNamesApart (map component_name slots.now) }
     ensures { result ≡ may_begin_among (at_moment slots.now 0 true) slot.now }
 {
     slot.waits() && (are_up(slots, slot) && are_served(slots, slot.soft()))
@@ -159,7 +159,7 @@ fn is_held_by(slots: &[Slot], user: User, name: &Name) -> bool
 
 /// Whether one of those that are known to need it is to be stopped.
 fn is_held_by_user(slots: &[Slot], slot: &Slot) -> bool
-    ensures { result ≡ true → is_held_among (part_name slot.now) slots.now ≡ true }
+    ensures { result ≡ true → is_held_among (component_name slot.now) slots.now ≡ true }
 {
     let mut user = slot.first_user();
     for turn in 0..slots.len() {
@@ -176,7 +176,7 @@ fn is_held_by_user(slots: &[Slot], slot: &Slot) -> bool
 
 /// Whether one that needs it hard is to be stopped. Those that are known are asked first.
 fn is_held(slots: &[Slot], slot: &Slot) -> bool
-    ensures { result ≡ is_held_among (part_name slot.now) slots.now }
+    ensures { result ≡ is_held_among (component_name slot.now) slots.now }
 {
     if is_held_by_user(slots, slot) {
         return true;
@@ -205,7 +205,7 @@ fn stop_of(slots: &[Slot], slot: &Slot) -> Option<After>
 fn deed_at(slots: &[Slot], at: u32, moment: u64) -> Option<Deed>
     requires at { at < length slots.now }
     requires apart { AreApart (living_numbers slots.now) }
-    requires names { AreNamesApart (map part_name slots.now) }
+    requires names { AreNamesApart (map component_name slots.now) }
     requires whole { AreWhole slots.now }
     ensures none { result ≡ None → At at (λ p. may_act (at_moment slots.now moment true) p ≡ false) slots.now }
     ensures some { IfSome result (MayDo (at_moment slots.now moment true) at) }
@@ -220,7 +220,7 @@ fn deed_at(slots: &[Slot], at: u32, moment: u64) -> Option<Deed>
 fn first_deed(slots: &[Slot], moment: u64) -> Option<(u32, Deed)>
     requires few { length slots.now < 2 ^ 32 }
     requires apart { AreApart (living_numbers slots.now) }
-    requires names { AreNamesApart (map part_name slots.now) }
+    requires names { AreNamesApart (map component_name slots.now) }
     requires whole { AreWhole slots.now }
     ensures { IsFirst (at_moment slots.now moment true) result }
 {
@@ -313,7 +313,7 @@ fn tell_at(slots: &mut [Slot], at: u32)
 /// A failure that is owed is handed out.
 fn tell_first(slots: &mut [Slot]) -> Option<Act>
     requires few { length slots.old < 2 ^ 32 }
-    requires names { AreNamesApart (map part_name slots.old) }
+    requires names { AreNamesApart (map component_name slots.old) }
     ensures none { result ≡ None → (list_any owes slots.old ≡ false) × (slots.new ≡ slots.old) }
     ensures some { IfSome result (λ act. (m : ℕ) (s : Bool) → HandsOut (at_moment slots.old m s) (Some act) (at_moment slots.new m s)) }
     ensures told { IfSome result (λ act. IsTold slots.old slots.new) }

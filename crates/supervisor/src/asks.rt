@@ -6,12 +6,11 @@ ghost use Rattle.components.specs.Deadlines.{least_of, earlier};
 ghost use Rattle.components.specs.Numbers.{number_above, least_above, IsNumberAt};
 ghost use Rattle.components.specs.Readied.{AreApart};
 ghost use Rattle.components.specs.Fitted.{prepared_of};
-ghost use Rattle.components.specs.World.{At, part_name, is_over, stands_up, is_broken as is_state_broken, owner};
+ghost use Rattle.components.specs.Components.{At, component_name, is_over, stands_up, is_broken as is_state_broken, owner};
 
-use components::Child;
 use crate::children::{child_of, earlier_of, least_with};
-use components::Prepared;
 use crate::slot::Slot;
+use components::{Child, Prepared};
 use nuc_base::{Name, Step};
 use recipe_reader::Skip;
 use step_runner::Command;
@@ -54,7 +53,7 @@ pub(crate) fn are_stopped(slots: &[Slot]) -> bool
 }
 
 pub(crate) fn broken_in(slots: &[Slot]) -> Option<&Name>
-    ensures { option_map (λ n. n.now) result ≡ option_map part_name (find (λ p. is_state_broken p.life.state && not p.life.gone) slots.now) }
+    ensures { option_map (λ n. n.now) result ≡ option_map component_name (find (λ p. is_state_broken p.life.state && not p.life.gone) slots.now) }
 {
     match slots
         .iter()
@@ -77,7 +76,7 @@ pub(crate) fn deadline_in(slots: &[Slot]) -> Option<u64>
 
 pub(crate) fn name_at(slots: &[Slot], at: u32) -> &Name
     requires { at < length slots.now }
-    ensures { slice_get (map part_name slots.now) at ≡ Some result.now }
+    ensures { slice_get (map component_name slots.now) at ≡ Some result.now }
 {
     slots[at as usize].name()
 }

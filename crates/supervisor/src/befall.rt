@@ -8,12 +8,12 @@ ghost use Rattle.components.specs.Readied.{HaveNames, StartsShort};
 ghost use Rattle.components.specs.Runs.{IsShort};
 ghost use Rattle.components.specs.Lives.{lived, lived_at, drops_at};
 ghost use Rattle.components.specs.Turns.{is_begun};
-ghost use Rattle.components.specs.World.{At, changed_at, without_child};
+ghost use Rattle.components.specs.Components.{At, changed_at, without_child};
 
 use crate::asks::owner_of;
-use components::Event;
 use crate::marks::restart_from;
 use crate::slot::Slot;
+use components::Event;
 use lifecycle::LifeEvent;
 use nuc_base::{Exit, Step};
 

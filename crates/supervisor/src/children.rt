@@ -3,7 +3,7 @@ ghost use Rattle.std.specs.Prelude.{◌≡◌, ◌∷◌, [], ◌==◌, ◌||◌
 ghost use Rattle.std.specs.List.{list_any, find};
 ghost use Rattle.lifecycle.specs.Awaits.{is_same_step, is_busy_with};
 ghost use Rattle.components.specs.Deadlines.{has_passed, child_deadline, earlier};
-ghost use Rattle.components.specs.World.{is_orphan};
+ghost use Rattle.components.specs.Components.{is_orphan};
 
 use components::Child;
 use lifecycle::Component;
@@ -19,7 +19,7 @@ pub struct Children {
 
 impl Model for Children {
     ghost use Rattle.std.specs.Prelude.{◌≤◌, List, vec_capacity};
-    ghost use Rattle.components.specs.World.{Child};
+    ghost use Rattle.components.specs.Components.{Child};
     ghost use Rattle.supervisor.specs.Steps.{IsOnce};
 
     ghost Value = { List Child };

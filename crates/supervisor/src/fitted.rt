@@ -12,9 +12,8 @@ ghost use Rattle.components.specs.Fitted.{name_of, prepared_of, steps_of, limit_
 ghost use Rattle.components.specs.Made.{IsFittedAt, hard_names, soft_names};
 ghost use Rattle.components.specs.Runs.{IsFittedBy, AreFirst, AreLast, AreFit, IsShort, IsFit};
 
-use components::Prepared;
 use crate::needs::Need;
-use components::{known_recipe, prepare_step};
+use components::{Prepared, known_recipe, prepare_step};
 use device::scope_of;
 use interpolation::Scope;
 use lifecycle::StepSet;

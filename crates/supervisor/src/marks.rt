@@ -1,6 +1,6 @@
 //! Who is stopped because of another: those that reach it by hard needs.
 ghost use Rattle.std.specs.Prelude.{◌≡◌, ◌<◌, ◌&&◌, ◌||◌, true, false, if◌then◌else◌, slice_set, get_or, length, map};
-ghost use Rattle.components.specs.World.{Part, At, part_name};
+ghost use Rattle.components.specs.Components.{ComponentState, At, component_name};
 ghost use Rattle.std.specs.Str.{bytes_eq};
 ghost use Rattle.std.specs.Prelude.{List as ListOf};
 ghost use Rattle.components.specs.Flags.{with_flags, may_by, joins as joins_at, Grows, Spreads};
@@ -17,7 +17,7 @@ use nuc_base::Name;
 fn is_flagged_at(slots: &[Slot], flags: &[bool], at: usize, name: &Name) -> bool
     requires at { at < length slots.now }
     requires many { length flags.now ≡ length slots.now }
-    ensures { At at (λ p. result ≡ (get_or flags.now at false && bytes_eq (part_name p) name.now)) slots.now }
+    ensures { At at (λ p. result ≡ (get_or flags.now at false && bytes_eq (component_name p) name.now)) slots.now }
 {
     flags[at] && *slots[at].name() == *name
 }
@@ -38,7 +38,7 @@ fn is_flagged(slots: &[Slot], flags: &[bool], name: &Name) -> bool
 /// Whether the one that is needed has a flag.
 fn is_need_flagged(slots: &[Slot], flags: &[bool], need: &Need) -> bool
     requires many { length flags.now ≡ length slots.now }
-    requires names { AreNamesApart (map part_name slots.now) }
+    requires names { AreNamesApart (map component_name slots.now) }
     ensures { result ≡ is_named_flagged need.now (with_flags slots.now flags.now) }
 {
     match found_place(slots, need) {
@@ -50,7 +50,7 @@ fn is_need_flagged(slots: &[Slot], flags: &[bool], need: &Need) -> bool
 /// Whether one of those that are needed has a flag.
 fn needs_flagged(slots: &[Slot], flags: &[bool], needs: &[Need]) -> bool
     requires many { length flags.now ≡ length slots.now }
-    requires names { AreNamesApart (map part_name slots.now) }
+    requires names { AreNamesApart (map component_name slots.now) }
     ensures { result ≡ are_needs_flagged needs.now (with_flags slots.now flags.now) }
 {
     for need in needs {
@@ -65,7 +65,7 @@ fn needs_flagged(slots: &[Slot], flags: &[bool], needs: &[Need]) -> bool
 fn joins(slots: &[Slot], flags: &[bool], at: usize) -> bool
     requires at { at < length slots.now }
     requires many { length flags.now ≡ length slots.now }
-    requires names { AreNamesApart (map part_name slots.now) }
+    requires names { AreNamesApart (map component_name slots.now) }
     ensures { At at (λ p. result ≡ joins_at slots.now flags.now at p) slots.now }
 {
     !flags[at] && needs_flagged(slots, flags, slots[at].hard())
@@ -75,7 +75,7 @@ fn joins(slots: &[Slot], flags: &[bool], at: usize) -> bool
 fn join_at(slots: &[Slot], flags: &mut [bool], at: usize) -> bool
     requires at { at < length slots.now }
     requires many { length flags.old ≡ length slots.now }
-    requires names { AreNamesApart (map part_name slots.now) }
+    requires names { AreNamesApart (map component_name slots.now) }
     ensures joined { At at (λ p. result ≡ joins_at slots.now flags.old at p) slots.now }
     ensures flags { flags.new ≡ (if result then slice_set flags.old at true else flags.old) }
 {
@@ -95,7 +95,7 @@ fn either(a: bool, b: bool) -> bool
 /// Gives a flag to those that need one with a flag, in one pass. The answer is whether there was any.
 fn spread_once(slots: &[Slot], flags: &mut [bool]) -> bool
     requires many { length flags.old ≡ length slots.now }
-    requires names { AreNamesApart (map part_name slots.now) }
+    requires names { AreNamesApart (map component_name slots.now) }
     ensures { Spreads slots.now flags.old flags.new result }
 {
     let mut grew = false;
@@ -109,7 +109,7 @@ fn spread_once(slots: &[Slot], flags: &mut [bool]) -> bool
 /// Whether the need of this number is there and has a flag.
 fn is_flagged_need(slots: &[Slot], flags: &[bool], needs: &[Need], at: usize) -> bool
     requires many { length flags.now ≡ length slots.now }
-    requires names { AreNamesApart (map part_name slots.now) }
+    requires names { AreNamesApart (map component_name slots.now) }
     ensures { result ≡ true → are_needs_flagged needs.now (with_flags slots.now flags.now) ≡ true }
 {
     if at >= needs.len() {
@@ -121,7 +121,7 @@ fn is_flagged_need(slots: &[Slot], flags: &[bool], needs: &[Need], at: usize) ->
 /// Whether the user has no flag yet and needs one that has.
 fn joins_as(slots: &[Slot], flags: &[bool], user: User) -> bool
     requires many { length flags.now ≡ length slots.now }
-    requires names { AreNamesApart (map part_name slots.now) }
+    requires names { AreNamesApart (map component_name slots.now) }
     ensures { result ≡ true → At user.component (λ p. are_needs_flagged p.fitted.hard (with_flags slots.now flags.now) ≡ true) slots.now }
 {
     let at = user.component;
@@ -137,7 +137,7 @@ fn joins_as(slots: &[Slot], flags: &[bool], user: User) -> bool
 /// The user gets a flag, where it needs one that has. The answer is whether it got it now.
 fn join_user(slots: &[Slot], flags: &mut [bool], user: User) -> bool
     requires many { length flags.old ≡ length slots.now }
-    requires names { AreNamesApart (map part_name slots.now) }
+    requires names { AreNamesApart (map component_name slots.now) }
     ensures { Grows slots.now flags.old flags.new }
 {
     let at = user.component;
@@ -152,7 +152,7 @@ fn join_user(slots: &[Slot], flags: &mut [bool], user: User) -> bool
 /// from. The answer is the first one of these.
 fn join_users(slots: &[Slot], flags: &mut [bool], at: usize) -> Option<usize>
     requires many { length flags.old ≡ length slots.now }
-    requires names { AreNamesApart (map part_name slots.now) }
+    requires names { AreNamesApart (map component_name slots.now) }
     ensures { Grows slots.now flags.old flags.new }
 {
     let mut first = rest_after(slots, at);
@@ -180,7 +180,7 @@ fn first_flagged(slots: &[Slot], flags: &[bool]) -> Option<usize> {
 /// Gives a flag to those that are known to reach one with a flag, in one pass over them: it mostly leaves none to the others.
 fn spread_known(slots: &[Slot], flags: &mut [bool])
     requires many { length flags.old ≡ length slots.now }
-    requires names { AreNamesApart (map part_name slots.now) }
+    requires names { AreNamesApart (map component_name slots.now) }
     ensures { Grows slots.now flags.old flags.new }
 {
     let mut first = first_flagged(slots, flags);
@@ -195,7 +195,7 @@ fn spread_known(slots: &[Slot], flags: &mut [bool])
 /// Gives a flag to all that reach one with a flag.
 fn spread(slots: &[Slot], flags: &mut [bool])
     requires many { length flags.old ≡ length slots.now }
-    requires names { AreNamesApart (map part_name slots.now) }
+    requires names { AreNamesApart (map component_name slots.now) }
     ensures reached { with_flags slots.now flags.new ≡ reaching (length slots.now) (with_flags slots.now flags.old) }
     ensures many { length flags.new ≡ length flags.old }
 {
@@ -210,7 +210,7 @@ fn spread(slots: &[Slot], flags: &mut [bool])
 /// The component alone gets a flag.
 fn flag_one(flags: &mut [bool], at: usize)
     requires { at < length flags.old }
-    ensures one { (ps : ListOf Part) → length ps ≡ length flags.old → with_flags ps flags.new ≡ flagged_at at ps }
+    ensures one { (ps : ListOf ComponentState) → length ps ≡ length flags.old → with_flags ps flags.new ≡ flagged_at at ps }
     ensures many { length flags.new ≡ length flags.old }
 {
     flags.fill(false);
@@ -232,7 +232,7 @@ fn mark(slots: &mut [Slot], flags: &[bool], anyway: bool)
 pub(crate) fn restart_from(slots: &mut [Slot], flags: &mut [bool], at: usize)
     requires at { at < length slots.old }
     requires many { length flags.old ≡ length slots.old }
-    requires names { AreNamesApart (map part_name slots.old) }
+    requires names { AreNamesApart (map component_name slots.old) }
     ensures restarted { slots.new ≡ restarted may_restart (flagged_at at slots.old) }
     ensures many { length flags.new ≡ length flags.old }
 {
@@ -245,7 +245,7 @@ pub(crate) fn restart_from(slots: &mut [Slot], flags: &mut [bool], at: usize)
 pub(crate) fn replan(slots: &mut [Slot], flags: &mut [bool])
     requires flags { with_flags slots.old flags.old ≡ flagged is_replacing slots.old }
     requires many { length flags.old ≡ length slots.old }
-    requires names { AreNamesApart (map part_name slots.old) }
+    requires names { AreNamesApart (map component_name slots.old) }
     ensures replanned { slots.new ≡ replanned slots.old }
     ensures many { length flags.new ≡ length flags.old }
 {

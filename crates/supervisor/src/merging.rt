@@ -8,13 +8,13 @@ ghost use Rattle.components.specs.Flags.{with_flags};
 ghost use Rattle.components.specs.Marks.{flagged};
 ghost use Rattle.components.specs.Merges.{has_name, unmet, without};
 ghost use Rattle.components.specs.Readied.{AreFresh, AreNamesApart, HaveNames, KeepSteps, coming_of};
-ghost use Rattle.components.specs.World.{At, Part, part_name, place_of as place_of_name};
+ghost use Rattle.components.specs.Components.{At, ComponentState, component_name, place_of as place_of_name};
 
-use components::Mode;
 use crate::marks::replan;
 use crate::places::{is_named_at, link};
 use crate::ready::Ready;
 use crate::slot::Slot;
+use components::Mode;
 use nuc_base::Name;
 use std::cmp::Ordering;
 use std::mem::swap;
@@ -29,7 +29,7 @@ fn begin_each(coming: &mut [Slot], failures: &[u8; 128])
     requires few { All (λ (n : ℕ). n < 3) failures.now }
     requires count { length coming.old ≤ 128 }
     requires fresh { AreFresh coming.old }
-    ensures { coming.new ≡ map fresh_part (counted 0 failures.now (map (λ (p : Part). p.fitted) coming.old)) }
+    ensures { coming.new ≡ map fresh_part (counted 0 failures.now (map (λ (p : ComponentState). p.fitted) coming.old)) }
 {
     for at in 0..coming.len() {
         coming[at].begin_with(failures[at]);
@@ -41,7 +41,7 @@ fn begin_all(coming: &mut Vec<Slot>, failures: &[u8; 128])
     requires few { All (λ (n : ℕ). n < 3) failures.now }
     requires count { length coming.old.items ≤ 128 }
     requires fresh { AreFresh coming.old.items }
-    ensures { coming.new.items ≡ map fresh_part (counted 0 failures.now (map (λ (p : Part). p.fitted) coming.old.items)) }
+    ensures { coming.new.items ≡ map fresh_part (counted 0 failures.now (map (λ (p : ComponentState). p.fitted) coming.old.items)) }
 {
     begin_each(coming.as_mut_slice(), failures);
 }
@@ -79,9 +79,9 @@ fn take_named(coming: &mut Vec<Slot>, name: &Name) -> Option<Slot>
 /// It meets what comes for it, or goes away.
 fn meet_one(slot: &mut Slot, coming: &mut Vec<Slot>)
     requires fresh { AreFresh coming.old.items }
-    requires same { KeepSteps (map (λ (p : Part). p.fitted) coming.old.items) (slot.old ∷ []) }
+    requires same { KeepSteps (map (λ (p : ComponentState). p.fitted) coming.old.items) (slot.old ∷ []) }
     ensures met { slot.new ≡ fate (map coming_of coming.old.items) slot.old }
-    ensures rest { coming.new.items ≡ without (part_name slot.old) coming.old.items }
+    ensures rest { coming.new.items ≡ without (component_name slot.old) coming.old.items }
 {
     match take_named(coming, slot.name()) {
         None => slot.leave(),
@@ -91,9 +91,9 @@ fn meet_one(slot: &mut Slot, coming: &mut Vec<Slot>)
 
 fn meet_each(slots: &mut [Slot], coming: &mut Vec<Slot>)
     requires fresh { AreFresh coming.old.items }
-    requires apart { AreNamesApart (map part_name slots.old) }
-    requires coming_apart { AreNamesApart (map part_name coming.old.items) }
-    requires same { KeepSteps (map (λ (p : Part). p.fitted) coming.old.items) slots.old }
+    requires apart { AreNamesApart (map component_name slots.old) }
+    requires coming_apart { AreNamesApart (map component_name coming.old.items) }
+    requires same { KeepSteps (map (λ (p : ComponentState). p.fitted) coming.old.items) slots.old }
     ensures met { slots.new ≡ map (fate (map coming_of coming.old.items)) slots.old }
     ensures rest { coming.new.items ≡ unmet slots.old coming.old.items }
 {
@@ -105,9 +105,9 @@ fn meet_each(slots: &mut [Slot], coming: &mut Vec<Slot>)
 /// Each meets what comes for it, or goes away.
 fn meet_in(slots: &mut Vec<Slot>, coming: &mut Vec<Slot>)
     requires fresh { AreFresh coming.old.items }
-    requires apart { AreNamesApart (map part_name slots.old.items) }
-    requires coming_apart { AreNamesApart (map part_name coming.old.items) }
-    requires same { KeepSteps (map (λ (p : Part). p.fitted) coming.old.items) slots.old.items }
+    requires apart { AreNamesApart (map component_name slots.old.items) }
+    requires coming_apart { AreNamesApart (map component_name coming.old.items) }
+    requires same { KeepSteps (map (λ (p : ComponentState). p.fitted) coming.old.items) slots.old.items }
     ensures met { slots.new.items ≡ map (fate (map coming_of coming.old.items)) slots.old.items }
     ensures rest { coming.new.items ≡ unmet slots.old.items coming.old.items }
 {
@@ -139,7 +139,7 @@ fn flag_replacing(slots: &Vec<Slot>, flags: &mut Vec<bool>)
 fn replan_in(slots: &mut Vec<Slot>, flags: &mut Vec<bool>)
     requires flags { with_flags slots.old.items flags.old.items ≡ flagged is_replacing slots.old.items }
     requires many { length flags.old.items ≡ length slots.old.items }
-    requires names { AreNamesApart (map part_name slots.old.items) }
+    requires names { AreNamesApart (map component_name slots.old.items) }
     ensures replanned { slots.new.items ≡ replanned slots.old.items }
     ensures many { length flags.new.items ≡ length flags.old.items }
     ensures capacity { vec_capacity flags.new ≡ vec_capacity flags.old }
@@ -151,7 +151,7 @@ fn replan_in(slots: &mut Vec<Slot>, flags: &mut Vec<bool>)
 fn restart_all(slots: &mut Vec<Slot>, flags: &mut Vec<bool>)
     requires empty { flags.old.items ≡ [] }
     requires room { length slots.old.items ≤ vec_capacity flags.old }
-    requires names { AreNamesApart (map part_name slots.old.items) }
+    requires names { AreNamesApart (map component_name slots.old.items) }
     ensures replanned { slots.new.items ≡ replanned slots.old.items }
     ensures many { length flags.new.items ≡ length slots.old.items }
     ensures capacity { vec_capacity flags.new ≡ vec_capacity flags.old }
@@ -174,7 +174,7 @@ fn move_all(slots: &mut Vec<Slot>, room: &mut Vec<Slot>)
 
 fn is_before_at(slots: &[Slot], at: usize, name: &Name) -> bool
     requires { at < length slots.now }
-    ensures { At at (λ p. result ≡ is_name_before name.now (part_name p)) slots.now }
+    ensures { At at (λ p. result ≡ is_name_before name.now (component_name p)) slots.now }
 {
     matches!(name.cmp(slots[at].name()), Ordering::Less)
 }
@@ -182,7 +182,7 @@ fn is_before_at(slots: &[Slot], at: usize, name: &Name) -> bool
 /// Where one of this name is to stand.
 fn place_among(slots: &[Slot], name: &Name) -> usize
     ensures within { result ≤ length slots.now }
-    ensures placed { (p : Part) → part_name p ≡ name.now → insert slots.now result p ≡ placed p slots.now }
+    ensures placed { (p : ComponentState) → component_name p ≡ name.now → insert slots.now result p ≡ placed p slots.now }
 {
     for at in 0..slots.len() {
         if is_before_at(slots, at, name) {
@@ -235,8 +235,8 @@ fn place_all(room: &mut Vec<Slot>, flags: &mut Vec<bool>, mut coming: Vec<Slot>)
 fn meet_all(slots: &mut Vec<Slot>, coming: &mut Vec<Slot>, flags: &mut Vec<bool>)
     requires fresh { AreFresh coming.old.items }
     requires names { HaveNames slots.old.items }
-    requires coming_apart { AreNamesApart (map part_name coming.old.items) }
-    requires same { KeepSteps (map (λ (p : Part). p.fitted) coming.old.items) (standing slots.old.items) }
+    requires coming_apart { AreNamesApart (map component_name coming.old.items) }
+    requires same { KeepSteps (map (λ (p : ComponentState). p.fitted) coming.old.items) (standing slots.old.items) }
     requires empty { flags.old.items ≡ [] }
     requires room { length (standing slots.old.items) ≤ vec_capacity flags.old }
     ensures met { slots.new.items ≡ replanned (map (fate (map coming_of coming.old.items)) (standing slots.old.items)) }

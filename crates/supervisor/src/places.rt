@@ -1,7 +1,7 @@
 //! Where those stand that are needed, and who needs them. All of it only saves searches: whoever goes by it compares names.
 ghost use Rattle.std.specs.Prelude.{◌≡◌, ◌<◌, true, length, IfSome};
 ghost use Rattle.std.specs.Str.{bytes_eq};
-ghost use Rattle.components.specs.World.{At, part_name};
+ghost use Rattle.components.specs.Components.{At, component_name};
 
 use crate::needs::{Need, User};
 use crate::slot::Slot;
@@ -95,14 +95,14 @@ pub(crate) fn user_after(slots: &[Slot], user: User) -> Option<User> {
 
 pub(crate) fn is_named_at(slots: &[Slot], at: usize, name: &Name) -> bool
     requires { at < length slots.now }
-    ensures { At at (λ p. result ≡ bytes_eq name.now (part_name p)) slots.now }
+    ensures { At at (λ p. result ≡ bytes_eq name.now (component_name p)) slots.now }
 {
     *name == *slots[at].name()
 }
 
 /// The place of the need, where the component that stands there has the name.
 pub(crate) fn found_place(slots: &[Slot], need: &Need) -> Option<usize>
-    ensures { IfSome result (λ k. At k (λ p. bytes_eq need.now (part_name p) ≡ true) slots.now) }
+    ensures { IfSome result (λ k. At k (λ p. bytes_eq need.now (component_name p) ≡ true) slots.now) }
 {
     let at = need.place();
     if at < slots.len() && is_named_at(slots, at, need.name()) {

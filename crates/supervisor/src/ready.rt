@@ -6,7 +6,7 @@ ghost use Rattle.device.specs.Plans.{AreRegularItems, HasSomeRecipe, Rise, item_
 ghost use Rattle.device.specs.Scopes.{HasScope};
 ghost use Rattle.components.specs.Made.{AreFitted, IsFittedAt};
 ghost use Rattle.components.specs.Readied.{IsFresh, AreFresh};
-ghost use Rattle.components.specs.World.{Part};
+ghost use Rattle.components.specs.Components.{ComponentState};
 
 use crate::children::Children;
 use crate::fitted::fit;
@@ -26,7 +26,7 @@ pub struct Ready {
 
 impl Model for Ready {
     ghost use Rattle.std.specs.Prelude.{◌≡◌, ◌<◌, ◌≤◌, ◌-◌, ◌^◌, [], length, map, vec_capacity};
-    ghost use Rattle.components.specs.World.{Part, part_name};
+    ghost use Rattle.components.specs.Components.{ComponentState, component_name};
     ghost use Rattle.components.specs.Readied.{Readied, AreFresh, AreNamesApart};
     ghost use Rattle.std.specs.Coded.{codes};
     ghost use Rattle.supervisor.specs.Coding.{data_code};
@@ -35,9 +35,9 @@ impl Model for Ready {
 
     ghost coded = { Prim.hlevel (codes, data_code) };
 
-    ghost view = { λ r. record { coming = map (λ (p : Part). p.fitted) r.coming.items; room = vec_capacity r.room - length r.coming.items } };
+    ghost view = { λ r. record { coming = map (λ (p : ComponentState). p.fitted) r.coming.items; room = vec_capacity r.room - length r.coming.items } };
 
-    ghost invariant = { λ r. (r.room.items ≡ []) × (r.flags.items ≡ []) × (length r.coming.items ≤ vec_capacity r.room) × (vec_capacity r.room ≤ vec_capacity r.flags) × (vec_capacity r.room < 2 ^ 32) × (length r.coming.items ≤ 128) × AreFresh r.coming.items × AreNamesApart (map part_name r.coming.items) };
+    ghost invariant = { λ r. (r.room.items ≡ []) × (r.flags.items ≡ []) × (length r.coming.items ≤ vec_capacity r.room) × (vec_capacity r.room ≤ vec_capacity r.flags) × (vec_capacity r.room < 2 ^ 32) × (length r.coming.items ≤ 128) × AreFresh r.coming.items × AreNamesApart (map component_name r.coming.items) };
 }
 
 /// The item at that place made ready, as a component that did not stand before.
@@ -57,7 +57,7 @@ fn fit_all(alloc: Global, origin: &Origin, items: &List<Item>) -> Result<Vec<Slo
     requires few { length items.now ≤ 128 }
     requires recipes { AllByRecursion (λ i. HasSomeRecipe origin.now.platform i.recipe) (map item_view items.now) }
     requires regular { AreRegularItems (map item_view items.now) }
-    ensures fitted { IfOk result (λ slots. AreFitted origin.now (map item_view items.now) (map (λ (p : Part). p.fitted) slots.items)) }
+    ensures fitted { IfOk result (λ slots. AreFitted origin.now (map item_view items.now) (map (λ (p : ComponentState). p.fitted) slots.items)) }
     ensures fresh { IfOk result (λ slots. AreFresh slots.items) }
 {
     let mut slots = Vec::with_capacity(alloc, items.len())?;

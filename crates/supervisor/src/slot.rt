@@ -1,7 +1,7 @@
 //! One component.
 ghost use Rattle.std.specs.Prelude.{◌≡◌, ℕ, Bool, ◌<◌, ◌≤◌, ◌^◌, ◌&&◌, ◌||◌, ◌∷◌, [], not, true, false, None, Some, is_some, option_map, if◌then◌else◌, IfSome};
 ghost use Rattle.components.specs.Fitted.{prepared_of, limit_of, steps_of, is_same_item};
-ghost use Rattle.components.specs.World.{part_name, without_child, is_orphan, is_up as is_state_up, is_running as is_state_running, is_broken as is_state_broken, is_to_stop, stands_up, is_over, has_orphan as has_an_orphan, is_spared};
+ghost use Rattle.components.specs.Components.{component_name, without_child, is_orphan, is_up as is_state_up, is_running as is_state_running, is_broken as is_state_broken, is_to_stop, stands_up, is_over, has_orphan as has_an_orphan, is_spared};
 ghost use Rattle.components.specs.Turns.{may_retry, serves_softly, is_begun, is_late, is_unstarted, is_to_start};
 ghost use Rattle.components.specs.Lives.{lived, drops};
 ghost use Rattle.components.specs.Runs.{IsShort};
@@ -18,12 +18,11 @@ ghost use Rattle.components.specs.Whole.{IsWhole};
 ghost use Rattle.lifecycle.specs.Awaits.{is_awaited};
 
 use crate::acting::Deed;
-use components::Child;
 use crate::children::{Children, has_child_of, has_orphan, is_late_child, outlives, overdue};
 use crate::fitted::FittedItem;
-use components::Prepared;
 use crate::lives;
 use crate::needs::{Need, User};
+use components::{Child, Prepared};
 use lifecycle::{After, Component, LifeEvent};
 use nuc_base::{Exit, Name, Step};
 use std::cell::Cell;
@@ -52,13 +51,13 @@ pub struct Slot {
 }
 
 impl Model for Slot {
-    ghost use Rattle.components.specs.World.{Part};
+    ghost use Rattle.components.specs.Components.{ComponentState};
     ghost use Rattle.components.specs.Rows.{next_of};
     ghost use Rattle.components.specs.Runs.{IsKeptPart};
     ghost use Rattle.std.specs.Coded.{codes};
     ghost use Rattle.supervisor.specs.Coding.{data_code};
 
-    ghost Value = { Part };
+    ghost Value = { ComponentState };
 
     ghost coded = { Prim.hlevel (codes, data_code) };
 
@@ -95,7 +94,7 @@ fn limit_in(step: Option<&Prepared>) -> Option<u64>
 
 impl Slot {
     pub(crate) fn name(&self) -> &Name
-        ensures { result.now ≡ part_name self.now }
+        ensures { result.now ≡ component_name self.now }
     {
         self.fitted.name()
     }

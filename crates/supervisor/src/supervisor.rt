@@ -12,18 +12,17 @@ ghost use Rattle.components.specs.Changes.{changed_to, all_stopped, standing, st
 ghost use Rattle.components.specs.Deadlines.{least_deadline};
 ghost use Rattle.components.specs.Events.{noticed, later};
 ghost use Rattle.components.specs.Fitted.{prepared_of};
-ghost use Rattle.components.specs.World.{World, At, part_name, is_settled, is_stopped};
+ghost use Rattle.components.specs.Components.{Components, At, component_name, is_settled, is_stopped};
 ghost use Rattle.components.specs.Readied.{KeepSteps, Readied};
 
 use crate::acting::next_in;
 use crate::befall::befall_in;
 use crate::changing::{forget_all, leave_all};
-use components::{Act, Event, Mode};
 use crate::merging::change_in;
 use crate::ready::{Ready, make_ready};
 use crate::slot::Slot;
-use components::Supervise;
 use crate::{asks, merging};
+use components::{Act, Event, Mode, Supervise};
 use nuc_base::{List, Name, NoMemory, Step};
 use recipe_reader::Skip;
 use records::{Item, Origin};
@@ -43,13 +42,13 @@ pub struct Supervisor {
 
 impl Model for Supervisor {
     ghost use Rattle.std.specs.Prelude.{◌≡◌, length};
-    ghost use Rattle.components.specs.World.{World};
+    ghost use Rattle.components.specs.Components.{Components};
     ghost use Rattle.components.specs.Readied.{IsKept};
     ghost use Rattle.components.specs.Whole.{AreWhole};
     ghost use Rattle.std.specs.Coded.{codes};
     ghost use Rattle.supervisor.specs.Coding.{data_code};
 
-    ghost Value = { World };
+    ghost Value = { Components };
 
     ghost coded = { Prim.hlevel (codes, data_code) };
 
@@ -192,7 +191,7 @@ impl Supervisor {
     /// The name of the component of this number.
     pub fn name(&self, component: u32) -> &Name
         requires { component < length self.now.parts }
-        ensures { slice_get (map part_name self.now.parts) component ≡ Some result.now }
+        ensures { slice_get (map component_name self.now.parts) component ≡ Some result.now }
     {
         asks::name_at(self.slots.as_slice(), component)
     }
@@ -218,7 +217,7 @@ impl Supervisor {
 impl Supervise for Supervisor {
     type Ready = Ready;
 
-    ghost world = { λ (s : World). s };
+    ghost world = { λ (s : Components). s };
 
     ghost coming = { λ (r : Readied). r.coming };
 

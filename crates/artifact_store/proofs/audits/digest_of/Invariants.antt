@@ -9,7 +9,7 @@ invariant-loop-at g l = record {
   seen : g.D.Disk.seen l.disk ≡ g.D.Disk.seen l.fn.disk;
   faults : g.D.Disk.faults l.disk ≡ g.D.Disk.faults l.fn.disk;
   long : length l.piece ≡ 65536;
-  read : (m : List ℕ) × Holds256 l.hasher m × (IsTrue g.D.Disk.tells → m ≡ take l.at (g.D.Disk.seen l.fn.disk l.file));
+  read : (m : List ℕ) × Holds256 l.hasher m × (IsTrue g.D.Disk.is_modelled → m ≡ take l.at (g.D.Disk.seen l.fn.disk l.file));
 }
 
 abbrev pub decreases-loop-at : goal.decreases-loop-at

@@ -16,7 +16,7 @@ use Rattle.artifact_store.proofs.stages.stage_files.Given as goal
 abbrev pub invariant-loop-artifact : goal.invariant-loop-artifact
 invariant-loop-artifact g l = record {
   goes : Leaves g.D.Disk.moment g.D.Disk.left_since l.fn.disk l.disk (After (g.D.Disk.may_leave l.fn.disk) (Spares (IsFileOfDraft (draft_item_view l.item))));
-  others : IsTrue g.D.Disk.tells → Spares (IsFileOfDraft (draft_item_view l.item)) (g.D.Disk.seen l.fn.disk) (g.D.Disk.seen l.disk);
+  others : IsTrue g.D.Disk.is_modelled → Spares (IsFileOfDraft (draft_item_view l.item)) (g.D.Disk.seen l.fn.disk) (g.D.Disk.seen l.disk);
   disk_faults : g.D.Disk.faults l.disk ≡ g.D.Disk.faults l.fn.disk;
   content : g.L.Library.content l.library ≡ g.L.Library.content l.fn.library;
   library_faults : g.L.Library.faults l.library ≡ g.L.Library.faults l.fn.library;

@@ -18,7 +18,7 @@ invariant-loop-draft g l = record {
   can_next : (goal.iterator-loop-draft g).can_next l.draft-iterator;
   is_finite : (goal.iterator-loop-draft g).is_finite l.draft-iterator;
   goes : Leaves g.D.Disk.moment g.D.Disk.left_since l.fn.disk l.disk (After (g.D.Disk.may_leave l.fn.disk) (Spares (IsStagedAmong (map item_view l.kept) (map draft_item_view l.fn.drafts))));
-  others : IsTrue g.D.Disk.tells → Spares (IsStagedAmong (map item_view l.kept) (map draft_item_view l.fn.drafts)) (g.D.Disk.seen l.fn.disk) (g.D.Disk.seen l.disk);
+  others : IsTrue g.D.Disk.is_modelled → Spares (IsStagedAmong (map item_view l.kept) (map draft_item_view l.fn.drafts)) (g.D.Disk.seen l.fn.disk) (g.D.Disk.seen l.disk);
   disk_faults : g.D.Disk.faults l.disk ≡ g.D.Disk.faults l.fn.disk;
   content : g.L.Library.content l.library ≡ g.L.Library.content l.fn.library;
   library_faults : g.L.Library.faults l.library ≡ g.L.Library.faults l.fn.library;

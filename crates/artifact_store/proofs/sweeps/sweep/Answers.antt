@@ -24,7 +24,7 @@ returns-in_err-sweep_file-clause-moments g c =
     let below : i < length xs = omega arith in
     let has : Contains all x = next_in all i x _ (next_is xs all i x c.as_slice-file-items.ensures below c.file-item.is) in
     let needed : Bool = contains (slice_cmp nat_cmp) c.in_ok-needed.needed x in
-    let stray : IsTrue g.D.Disk.tells → (name : List ℕ) → IsUnneeded needed x name → IsStray items name = λ told. stray_of items all (g.D.Disk.seen c.args.disk.now) x needed (c.in_ok-listed.ensures.told told) has (c.in_ok-needed.ensures x) in
+    let stray : IsTrue g.D.Disk.is_modelled → (name : List ℕ) → IsUnneeded needed x name → IsStray items name = λ told. stray_of items all (g.D.Disk.seen c.args.disk.now) x needed (c.in_ok-listed.ensures.told told) has (c.in_ok-needed.ensures x) in
     told_spares g.met.D.Disk.laws (IsUnneeded needed x) (IsStray items) c.args.disk.now c.loop-file.disk c.sweep_file.new.disk stray so.goes c.sweep_file.ensures.moments
 
 pub returns-in_err-sweep_file-clause-others : goal.returns-in_err-sweep_file-clause-others
@@ -38,8 +38,8 @@ returns-in_err-sweep_file-clause-others g c = λ told.
     let below : i < length xs = omega arith in
     let has : Contains all x = next_in all i x _ (next_is xs all i x c.as_slice-file-items.ensures below c.file-item.is) in
     let needed : Bool = contains (slice_cmp nat_cmp) c.in_ok-needed.needed x in
-    let stray : IsTrue g.D.Disk.tells → (name : List ℕ) → IsUnneeded needed x name → IsStray items name = λ told. stray_of items all (g.D.Disk.seen c.args.disk.now) x needed (c.in_ok-listed.ensures.told told) has (c.in_ok-needed.ensures x) in
-    spares_told (IsTrue g.D.Disk.tells) (IsUnneeded needed x) (IsStray items) (g.D.Disk.seen c.args.disk.now) (g.D.Disk.seen c.loop-file.disk) (g.D.Disk.seen c.sweep_file.new.disk) told stray (so.others told) (c.sweep_file.ensures.others told)
+    let stray : IsTrue g.D.Disk.is_modelled → (name : List ℕ) → IsUnneeded needed x name → IsStray items name = λ told. stray_of items all (g.D.Disk.seen c.args.disk.now) x needed (c.in_ok-listed.ensures.told told) has (c.in_ok-needed.ensures x) in
+    spares_told (IsTrue g.D.Disk.is_modelled) (IsUnneeded needed x) (IsStray items) (g.D.Disk.seen c.args.disk.now) (g.D.Disk.seen c.loop-file.disk) (g.D.Disk.seen c.sweep_file.new.disk) told stray (so.others told) (c.sweep_file.ensures.others told)
 
 pub loop-file-preserved : goal.loop-file-preserved
 loop-file-preserved g c =
@@ -52,10 +52,10 @@ loop-file-preserved g c =
     let below : i < length xs = omega arith in
     let has : Contains all x = next_in all i x _ (next_is xs all i x c.as_slice-file-items.ensures below c.file-item.is) in
     let needed : Bool = contains (slice_cmp nat_cmp) c.in_ok-needed.needed x in
-    let stray : IsTrue g.D.Disk.tells → (name : List ℕ) → IsUnneeded needed x name → IsStray items name = λ told. stray_of items all (g.D.Disk.seen c.args.disk.now) x needed (c.in_ok-listed.ensures.told told) has (c.in_ok-needed.ensures x) in
+    let stray : IsTrue g.D.Disk.is_modelled → (name : List ℕ) → IsUnneeded needed x name → IsStray items name = λ told. stray_of items all (g.D.Disk.seen c.args.disk.now) x needed (c.in_ok-listed.ensures.told told) has (c.in_ok-needed.ensures x) in
     record {
       goes = told_spares g.met.D.Disk.laws (IsUnneeded needed x) (IsStray items) c.args.disk.now c.loop-file.disk c.sweep_file.new.disk stray so.goes c.sweep_file.ensures.moments;
-      others = λ told. spares_told (IsTrue g.D.Disk.tells) (IsUnneeded needed x) (IsStray items) (g.D.Disk.seen c.args.disk.now) (g.D.Disk.seen c.loop-file.disk) (g.D.Disk.seen c.sweep_file.new.disk) told stray (so.others told) (c.sweep_file.ensures.others told);
+      others = λ told. spares_told (IsTrue g.D.Disk.is_modelled) (IsUnneeded needed x) (IsStray items) (g.D.Disk.seen c.args.disk.now) (g.D.Disk.seen c.loop-file.disk) (g.D.Disk.seen c.sweep_file.new.disk) told stray (so.others told) (c.sweep_file.ensures.others told);
       faults = c.in_ok-sweep_file.ensures.quiet ∙ so.faults;
       gone = λ told.
           gone_next items xs i x needed (g.D.Disk.seen c.loop-file.disk) (g.D.Disk.seen c.sweep_file.new.disk) below c.file-item.is (c.in_ok-needed.ensures x) (c.in_ok-sweep_file.ensures.gone told) (c.sweep_file.ensures.others told) (so.gone told);

@@ -15,7 +15,7 @@ returns-then-first-eq0-clause-shut g c told =
 pub returns-in_err-write_at-clause-moments : goal.returns-in_err-write_at-clause-moments
 returns-in_err-write_at-clause-moments g c =
     let file = g.D.Disk.seen c.sync.new.self c.args.file.now in
-    let some : IsTrue g.D.Disk.tells → (get_or file 0 0 ≢ 0) ⊎ (length file ≡ 0) = λ told.
+    let some : IsTrue g.D.Disk.is_modelled → (get_or file 0 0 ≢ 0) ⊎ (length file ≡ 0) = λ told.
     let read = c.in_ok-n.ensures.told told in
     not_shut file c.read.new.into _ c.in_ok-n.n read.0 read.1
     (elim c.else-n-eq1.branch [
@@ -27,7 +27,7 @@ returns-in_err-write_at-clause-moments g c =
 pub returns-clause-moments : goal.returns-clause-moments
 returns-clause-moments g c =
     let file = g.D.Disk.seen c.sync.new.self c.args.file.now in
-    let some : IsTrue g.D.Disk.tells → (get_or file 0 0 ≢ 0) ⊎ (length file ≡ 0) = λ told.
+    let some : IsTrue g.D.Disk.is_modelled → (get_or file 0 0 ≢ 0) ⊎ (length file ≡ 0) = λ told.
     let read = c.in_ok-n.ensures.told told in
     not_shut file c.read.new.into _ c.in_ok-n.n read.0 read.1
     (elim c.else-n-eq1.branch [

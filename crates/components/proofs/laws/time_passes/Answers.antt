@@ -1,4 +1,4 @@
-use Rattle.components.specs.World.{owner}
+use Rattle.components.specs.Components.{owner}
 use Rattle.components.proofs.Times.{by_owner}
 use Rattle.components.proofs.laws.time_passes.Goals as goal
 

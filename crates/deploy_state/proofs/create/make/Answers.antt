@@ -3,14 +3,14 @@ use Rattle.device.specs.Devices.{no_device}
 use Rattle.device.specs.Lawful.{applied}
 use Rattle.device.proofs.OneDevice.{none_stands_for}
 use Rattle.records.specs.Stored as stored
-use Rattle.deploy_state.specs.Hand.{StandsForEither}
+use Rattle.deploy_state.specs.Owned.{StandsForEither}
 use Rattle.deploy_state.proofs.Meaning.{append_rose, of_entry}
 use Rattle.deploy_state.proofs.Creating.{begins_store, first_means, first_short, begun_in_hand, one_first}
 use Rattle.deploy_state.proofs.Within.{more_within, then_within}
 use Rattle.deploy_state.proofs.create.make.Goals as goal
 
 pub append-requires-clause-first : goal.append-requires-clause-first
-append-requires-clause-first g c = λ tells on. let first = c.requires.first in begins_store c.args.payload.now first.0 first.1
+append-requires-clause-first g c = λ is_modelled on. let first = c.requires.first in begins_store c.args.payload.now first.0 first.1
 
 pub append-requires-clause-some : goal.append-requires-clause-some
 append-requires-clause-some g c = let first = c.requires.first in (first_short c.args.payload.now first.0 first.1 first.2.1).0
@@ -46,7 +46,7 @@ returns-in-Err-clause-moments g c = λ o spelled.
 pub returns-in-Ok-clause-hand : goal.returns-in-Ok-clause-hand
 returns-in-Ok-clause-hand g c = λ o spelled.
     let first = c.requires.first in
-    begun_in_hand g.D.Disk.tells g.D.Disk.may_leave g.J.Journal.stands g.J.Journal.end c.append.new.self c.append.new.disk c.args.payload.now o spelled (one_first c.args.payload.now first.0 o first.1 spelled first.2)
+    begun_in_hand g.D.Disk.is_modelled g.D.Disk.may_leave g.J.Journal.stands g.J.Journal.end c.append.new.self c.append.new.disk c.args.payload.now o spelled (one_first c.args.payload.now first.0 o first.1 spelled first.2)
     (c.in-Ok.ensures.added [] c.in_ok-log.ensures.made.1)
 
 pub returns-in-Err-clause-cause : goal.returns-in-Err-clause-cause

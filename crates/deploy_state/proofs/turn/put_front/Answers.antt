@@ -11,7 +11,7 @@ loop-at-init g c =
     let d = device_view c.args.device.now in
     let none = sym (no_payloads c.args.number d) in
     record {
-      put = subst (λ (l : List (List ℕ)). IsPut g.D.Disk.tells g.D.Disk.seen g.J.Journal.put_there c.args.log.now c.args.disk.now l) none c.requires.put;
+      put = subst (λ (l : List (List ℕ)). IsPut g.D.Disk.is_modelled g.D.Disk.seen g.J.Journal.put_there c.args.log.now c.args.disk.now l) none c.requires.put;
       put_end = c.requires.put_end ∙ ap place_behind none;
       spelled = none_spelled c.args.number d;
       stays = λ payloads behind. behind;

@@ -32,8 +32,8 @@ returns-in-Ok-put-clause-put g c =
     let d = device_view c.args.device.now in
     let ps = front_payloads c.args.number d in
     let done = c.in-Ok-put.ensures.is_put (take c.args.at ps) c.requires.begun c.requires.put in
-    let here = subst (λ (b : List ℕ). IsPut g.D.Disk.tells g.D.Disk.seen g.J.Journal.put_there c.put.new.self c.put.new.disk (take c.args.at ps ++ b ∷ [])) c.as_slice.ensures done.1 in
-    subst (λ (l : List (List ℕ)). IsPut g.D.Disk.tells g.D.Disk.seen g.J.Journal.put_there c.put.new.self c.put.new.disk l) (sym (next_payload c.args.number d c.args.at c.in-Ok.payload c.in-Ok.ensures)) here
+    let here = subst (λ (b : List ℕ). IsPut g.D.Disk.is_modelled g.D.Disk.seen g.J.Journal.put_there c.put.new.self c.put.new.disk (take c.args.at ps ++ b ∷ [])) c.as_slice.ensures done.1 in
+    subst (λ (l : List (List ℕ)). IsPut g.D.Disk.is_modelled g.D.Disk.seen g.J.Journal.put_there c.put.new.self c.put.new.disk l) (sym (next_payload c.args.number d c.args.at c.in-Ok.payload c.in-Ok.ensures)) here
 
 pub returns-in-Ok-put-clause-put_end : goal.returns-in-Ok-put-clause-put_end
 returns-in-Ok-put-clause-put_end g c =

@@ -41,7 +41,7 @@ returns-in_err-end_turn-clause-moments g c =
     let mid = c.begin_turn.new.disk in
     let put = c.put_front.new.disk in
     let new = c.end_turn.new.disk in
-    let has = front_of_hand g.D.Disk.tells g.D.Disk.may_leave g.J.Journal.stands g.J.Journal.end c.args.log.now old d h c.requires.idle in
+    let has = front_of_hand g.D.Disk.is_modelled g.D.Disk.may_leave g.J.Journal.stands g.J.Journal.end c.args.log.now old d h c.requires.idle in
     let begun = c.in_ok-begin_turn.ensures.stays h.payloads h.behind in
     let done = c.in_ok-put_front.ensures in
     again_within laws files old put new (λ i. StandsFor entries i d)
@@ -62,7 +62,7 @@ returns-clause-moments g c =
     let mid = c.begin_turn.new.disk in
     let put = c.put_front.new.disk in
     let new = c.end_turn.new.disk in
-    let has = front_of_hand g.D.Disk.tells g.D.Disk.may_leave g.J.Journal.stands g.J.Journal.end c.args.log.now old d h c.requires.idle in
+    let has = front_of_hand g.D.Disk.is_modelled g.D.Disk.may_leave g.J.Journal.stands g.J.Journal.end c.args.log.now old d h c.requires.idle in
     let begun = c.in_ok-begin_turn.ensures.stays h.payloads h.behind in
     let done = c.in_ok-put_front.ensures in
     again_within laws files old put new (λ i. StandsFor entries i d)
@@ -76,8 +76,8 @@ pub returns-clause-hand : goal.returns-clause-hand
 returns-clause-hand g c = λ _.
     let h = c.requires.hand in
     let d = device_view c.args.device.now in
-    let has = front_of_hand g.D.Disk.tells g.D.Disk.may_leave g.J.Journal.stands g.J.Journal.end c.args.log.now c.args.disk.now d h c.requires.idle in
+    let has = front_of_hand g.D.Disk.is_modelled g.D.Disk.may_leave g.J.Journal.stands g.J.Journal.end c.args.log.now c.args.disk.now d h c.requires.idle in
     let done = c.in_ok-put_front.ensures in
     let turns = subst (λ (b : Bool). IsTrue b) (sym (c.put_front.ensures.same.2 ∙ c.begin_turn.ensures.same.2)) (turns_if (g.J.Journal.turns c.args.log.now) _ c.requires.can) in
     let turned = c.in_ok-end_turn.ensures.turned _ turns done.put in
-    idle_hand g.D.Disk.tells g.D.Disk.may_leave g.J.Journal.stands g.J.Journal.end c.end_turn.new.self c.end_turn.new.disk d _ turned.2 (λ told. means_anew _ d has done.spelled) has h.regular
+    idle_hand g.D.Disk.is_modelled g.D.Disk.may_leave g.J.Journal.stands g.J.Journal.end c.end_turn.new.self c.end_turn.new.disk d _ turned.2 (λ told. means_anew _ d has done.spelled) has h.regular

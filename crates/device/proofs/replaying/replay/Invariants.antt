@@ -14,7 +14,7 @@ invariant-loop-at g l = record {
   regular : IsRegularDevice (device_view l.device);
   sound : IsSound (device_view l.device);
   ahead : IsAhead l.at l.behind (device_view l.device);
-  reached : IsTrue g.D.Disk.tells → (payloads : List (List ℕ)) → g.J.Journal.stands l.log (g.D.Disk.seen l.fn.disk) payloads
+  reached : IsTrue g.D.Disk.is_modelled → (payloads : List (List ℕ)) → g.J.Journal.stands l.log (g.D.Disk.seen l.fn.disk) payloads
       → Reached payloads l.end l.at l.behind (device_view l.device);
 }
 

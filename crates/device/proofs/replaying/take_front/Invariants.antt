@@ -10,7 +10,7 @@ invariant-loop-building g l = record {
   seen : g.D.Disk.seen l.disk ≡ g.D.Disk.seen l.fn.disk;
   faults : g.D.Disk.faults l.disk ≡ g.D.Disk.faults l.fn.disk;
   orderly : IsOrderly (building_view l.building);
-  walked : IsTrue g.D.Disk.tells → (payloads : List (List ℕ)) → g.J.Journal.stands l.log (g.D.Disk.seen l.fn.disk) payloads
+  walked : IsTrue g.D.Disk.is_modelled → (payloads : List (List ℕ)) → g.J.Journal.stands l.log (g.D.Disk.seen l.fn.disk) payloads
       → Walked payloads l.at (building_view l.building);
 }
 

@@ -4,7 +4,7 @@ use Rattle.nuc_base.specs.Faults.{Rose}
 use Rattle.deploy_state.specs.States.{idle_device}
 use Rattle.nucleus_top.specs.Answers.{Input, Printed, Shelf, Store, input_of, printed_of, shelf_of, store_of}
 use Rattle.nucleus_top.specs.Drives.{slots_start}
-use Rattle.nucleus_top.proofs.Driven.{idle_refusal, idle_turns, ran_on, stays, stays_on, tells, told_sweeps}
+use Rattle.nucleus_top.proofs.Driven.{idle_refusal, idle_turns, ran_on, stays, stays_on, is_modelled, told_sweeps}
 use Rattle.nucleus_top.proofs.Reading.{reads_none}
 use Rattle.nucleus_top.proofs.driving.deploy.Goals as goal
 
@@ -19,7 +19,7 @@ deploy_read-requires-clause-none g c = c.requires.none
 pub returns-in-Ok-clause-ran : goal.returns-in-Ok-clause-ran
 returns-in-Ok-clause-ran g c =
     let d = idle_device c.in-Ok.idle in
-    let store : Store = store_of g.D.Disk.tells g.D.Disk.seen g.D.Disk.faults c.args.disk.now c.deploy_read.new.disk in
+    let store : Store = store_of g.D.Disk.is_modelled g.D.Disk.seen g.D.Disk.faults c.args.disk.now c.deploy_read.new.disk in
     let input : Input = input_of g.S.Source.left g.S.Source.faults c.args.source.now c.deploy_read.new.source in
     let library : Shelf = shelf_of g.L.Library.content g.L.Library.faults c.args.library.now c.deploy_read.new.library in
     let printed : Printed = printed_of g.K.Sink.held g.K.Sink.faults c.args.sink.now c.deploy_read.new.sink in
@@ -65,7 +65,7 @@ returns-in-Ok-clause-quiet_source g c = c.deploy_read.ensures.quiet_source
 
 pub returns-in-Err-clause-ran : goal.returns-in-Err-clause-ran
 returns-in-Err-clause-ran g c =
-    let store : Store = store_of g.D.Disk.tells g.D.Disk.seen g.D.Disk.faults c.args.disk.now c.open_idle.new.disk in
+    let store : Store = store_of g.D.Disk.is_modelled g.D.Disk.seen g.D.Disk.faults c.args.disk.now c.open_idle.new.disk in
     let input : Input = input_of g.S.Source.left g.S.Source.faults c.args.source.now c.args.source.now in
     inl (
       record {
@@ -87,27 +87,27 @@ returns-in-Err-clause-others g c = c.open_idle.ensures.others
 pub returns-in-Err-clause-disk : goal.returns-in-Err-clause-disk
 returns-in-Err-clause-disk g c = λ is.
     let printed : Printed = printed_of g.K.Sink.held g.K.Sink.faults c.args.sink.now c.tell-status.new.sink in
-    c.in-Err.ensures.disk (ap Err ((tells printed c.tell-status.result c.in-Err.answer (idle_refusal (store_of g.D.Disk.tells g.D.Disk.seen g.D.Disk.faults c.args.disk.now c.open_idle.new.disk) c.in-Err.answer c.in-Err.ensures.answers) c.tell-status.ensures.told).disk is))
+    c.in-Err.ensures.disk (ap Err ((is_modelled printed c.tell-status.result c.in-Err.answer (idle_refusal (store_of g.D.Disk.is_modelled g.D.Disk.seen g.D.Disk.faults c.args.disk.now c.open_idle.new.disk) c.in-Err.answer c.in-Err.ensures.answers) c.tell-status.ensures.told).disk is))
 
 pub returns-in-Err-clause-quiet_disk : goal.returns-in-Err-clause-quiet_disk
 returns-in-Err-clause-quiet_disk g c = λ other more.
     let printed : Printed = printed_of g.K.Sink.held g.K.Sink.faults c.args.sink.now c.tell-status.new.sink in
-    c.in-Err.ensures.quiet (λ is. (tells printed c.tell-status.result c.in-Err.answer (idle_refusal (store_of g.D.Disk.tells g.D.Disk.seen g.D.Disk.faults c.args.disk.now c.open_idle.new.disk) c.in-Err.answer c.in-Err.ensures.answers) c.tell-status.ensures.told).quiet other more (cc))
+    c.in-Err.ensures.quiet (λ is. (is_modelled printed c.tell-status.result c.in-Err.answer (idle_refusal (store_of g.D.Disk.is_modelled g.D.Disk.seen g.D.Disk.faults c.args.disk.now c.open_idle.new.disk) c.in-Err.answer c.in-Err.ensures.answers) c.tell-status.ensures.told).quiet other more (cc))
 
 pub returns-in-Err-clause-quiet_sink : goal.returns-in-Err-clause-quiet_sink
 returns-in-Err-clause-quiet_sink g c =
     let printed : Printed = printed_of g.K.Sink.held g.K.Sink.faults c.args.sink.now c.tell-status.new.sink in
-    (tells printed c.tell-status.result c.in-Err.answer (idle_refusal (store_of g.D.Disk.tells g.D.Disk.seen g.D.Disk.faults c.args.disk.now c.open_idle.new.disk) c.in-Err.answer c.in-Err.ensures.answers) c.tell-status.ensures.told).quiet_sink
+    (is_modelled printed c.tell-status.result c.in-Err.answer (idle_refusal (store_of g.D.Disk.is_modelled g.D.Disk.seen g.D.Disk.faults c.args.disk.now c.open_idle.new.disk) c.in-Err.answer c.in-Err.ensures.answers) c.tell-status.ensures.told).quiet_sink
 
 pub returns-in-Err-clause-library : goal.returns-in-Err-clause-library
 returns-in-Err-clause-library g c = λ is.
     let printed : Printed = printed_of g.K.Sink.held g.K.Sink.faults c.args.sink.now c.tell-status.new.sink in
-    absurd ((tells printed c.tell-status.result c.in-Err.answer (idle_refusal (store_of g.D.Disk.tells g.D.Disk.seen g.D.Disk.faults c.args.disk.now c.open_idle.new.disk) c.in-Err.answer c.in-Err.ensures.answers) c.tell-status.ensures.told).library is)
+    absurd ((is_modelled printed c.tell-status.result c.in-Err.answer (idle_refusal (store_of g.D.Disk.is_modelled g.D.Disk.seen g.D.Disk.faults c.args.disk.now c.open_idle.new.disk) c.in-Err.answer c.in-Err.ensures.answers) c.tell-status.ensures.told).library is)
 
 pub returns-in-Err-clause-edge : goal.returns-in-Err-clause-edge
 returns-in-Err-clause-edge g c = λ is.
     let printed : Printed = printed_of g.K.Sink.held g.K.Sink.faults c.args.sink.now c.tell-status.new.sink in
-    inr ((tells printed c.tell-status.result c.in-Err.answer (idle_refusal (store_of g.D.Disk.tells g.D.Disk.seen g.D.Disk.faults c.args.disk.now c.open_idle.new.disk) c.in-Err.answer c.in-Err.ensures.answers) c.tell-status.ensures.told).edge is)
+    inr ((is_modelled printed c.tell-status.result c.in-Err.answer (idle_refusal (store_of g.D.Disk.is_modelled g.D.Disk.seen g.D.Disk.faults c.args.disk.now c.open_idle.new.disk) c.in-Err.answer c.in-Err.ensures.answers) c.tell-status.ensures.told).edge is)
 
 pub returns-in-Err-clause-later : goal.returns-in-Err-clause-later
 returns-in-Err-clause-later g c =
@@ -121,8 +121,8 @@ returns-in-Ok-clause-swept g c = c.deploy_read.ensures.swept c.in-Ok.ensures.cle
 pub returns-in-Err-clause-swept : goal.returns-in-Err-clause-swept
 returns-in-Err-clause-swept g c =
     let printed : Printed = printed_of g.K.Sink.held g.K.Sink.faults c.args.sink.now c.tell-status.new.sink in
-    told_sweeps g.D.Disk.tells printed c.tell-status.result (g.D.Disk.seen c.open_idle.new.disk) c.in-Err.answer
-    (idle_refusal (store_of g.D.Disk.tells g.D.Disk.seen g.D.Disk.faults c.args.disk.now c.open_idle.new.disk) c.in-Err.answer c.in-Err.ensures.answers) c.tell-status.ensures.told
+    told_sweeps g.D.Disk.is_modelled printed c.tell-status.result (g.D.Disk.seen c.open_idle.new.disk) c.in-Err.answer
+    (idle_refusal (store_of g.D.Disk.is_modelled g.D.Disk.seen g.D.Disk.faults c.args.disk.now c.open_idle.new.disk) c.in-Err.answer c.in-Err.ensures.answers) c.tell-status.ensures.told
 
 -- ---- what is read of the source
 

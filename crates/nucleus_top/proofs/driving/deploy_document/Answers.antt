@@ -1,8 +1,8 @@
 use Rattle.std.proofs.Common.{refl, ap}
 use Rattle.deploy_state.specs.States.{idle_device}
 use Rattle.step_runner.specs.Entries.{Listed}
-use Rattle.components.specs.World.{World}
-use Rattle.session.specs.Happenings.{records_of}
+use Rattle.components.specs.Components.{Components}
+use Rattle.histories.specs.TraceEvents.{records_of}
 use Rattle.nucleus_top.specs.Drives.{slots_start}
 use Rattle.nucleus_top.proofs.Crashes.{kept_fronts}
 use Rattle.nucleus_top.proofs.Driven.{begun, open_begun, slots_elsewhere}
@@ -20,7 +20,7 @@ pub run_document-requires-clause-apart : goal.run_document-requires-clause-apart
 run_document-requires-clause-apart g c = slots_elsewhere c.needed_files_stay.ensures.journals
 
 pub run_document-requires-clause-empty : goal.run_document-requires-clause-empty
-run_document-requires-clause-empty g c = ap (λ (w : World). w.parts) c.new-supervisor.ensures
+run_document-requires-clause-empty g c = ap (λ (w : Components). w.parts) c.new-supervisor.ensures
 
 pub run_document-requires-clause-placed : goal.run_document-requires-clause-placed
 run_document-requires-clause-placed g c =
@@ -45,7 +45,7 @@ returns-clause-driven g c =
       taken = run.0;
       takes = run.1 origin.0 origin.1;
       call = run.2;
-      history = record { start = refl; proper = run.2.0.went.proper; run = run.2.0.went.run };
+      history = record { start = refl; proper = run.2.0.trace.proper; run = run.2.0.trace.run };
       failed = run.4;
       disk_cause = run.5;
       library_cause = run.6;

@@ -2,7 +2,7 @@ use Rattle.std.proofs.Common.{ℕ, List, inl, inr, refl, ap, arith, subst}
 use Rattle.std.specs.Prelude.{Err}
 use Rattle.checkpoint_log.specs.Laws.{slots_laws}
 use Rattle.deploy_state.specs.States.{idle_device}
-use Rattle.deployments.proofs.Sweeping.{none_closes}
+use Rattle.session.proofs.Sweeping.{none_closes}
 use Rattle.nucleus_top.specs.Answers.{Input, Printed, Shelf, input_of, printed_of, shelf_of}
 use Rattle.nucleus_top.specs.Drives.{IsDeployedOn, slots_start}
 use Rattle.nucleus_top.proofs.Driven.{document_deploys, first_by, stays, tells_none, unread_goes}

@@ -3,7 +3,7 @@ use Rattle.std.specs.Prelude.{Err}
 use Rattle.artifact_store.specs.Swept.{IsSwept, items_of}
 use Rattle.checkpoint_log.specs.Slots.{slots_stands}
 use Rattle.checkpoint_log.specs.declared.slots.Slots.{Slots}
-use Rattle.deploy_state.specs.States.{InLoaded, idle_device, loaded_device}
+use Rattle.deploy_state.specs.States.{OwnsLoaded, idle_device, loaded_device}
 use Rattle.deploy_state.specs.declared.state.Idle.{Idle}
 use Rattle.deploy_state.specs.declared.state.Loaded.{Loaded}
 use Rattle.deploy_state.specs.declared.state.Loaded.TheVariants as loaded
@@ -25,7 +25,7 @@ returns-in-Ok-clause-start g c = λ told.
 
 pub returns-in-Ok-clause-held : goal.returns-in-Ok-clause-held
 returns-in-Ok-clause-held g c =
-    idle_ok (λ (s : Loaded Slots). InLoaded g.D.Disk.tells g.D.Disk.may_leave slots_stands (λ (log : Slots). log.live.end) s c.open_swept.new.disk) (λ (s : Idle Slots). loaded.Idle s) c.in-Ok.state c.idle_of.result
+    idle_ok (λ (s : Loaded Slots). OwnsLoaded g.D.Disk.is_modelled g.D.Disk.may_leave slots_stands (λ (log : Slots). log.live.end) s c.open_swept.new.disk) (λ (s : Idle Slots). loaded.Idle s) c.in-Ok.state c.idle_of.result
     c.idle_of.ensures.idle c.in-Ok.ensures.held
 
 pub returns-in-Ok-clause-images : goal.returns-in-Ok-clause-images
@@ -58,7 +58,7 @@ returns-in-Ok-clause-quiet g c = λ other. c.in-Ok.ensures.quiet (λ is. cc)
 
 pub returns-in-Ok-clause-answers : goal.returns-in-Ok-clause-answers
 returns-in-Ok-clause-answers g c =
-    let store : Store = store_of g.D.Disk.tells g.D.Disk.seen g.D.Disk.faults c.args.disk.now c.open_swept.new.disk in
+    let store : Store = store_of g.D.Disk.is_modelled g.D.Disk.seen g.D.Disk.faults c.args.disk.now c.open_swept.new.disk in
     pending_withholds store (loaded_device c.in-Ok.state) c.in-Ok.ensures.opened c.idle_of.result c.idle_of.ensures.answers
 
 pub returns-in-Err-clause-images : goal.returns-in-Err-clause-images
@@ -87,4 +87,4 @@ returns-in-Err-clause-quiet g c = λ other. c.in-Err.ensures.quiet (λ is. other
 
 pub returns-in-Err-clause-answers : goal.returns-in-Err-clause-answers
 returns-in-Err-clause-answers g c =
-    withholds_idle (store_of g.D.Disk.tells g.D.Disk.seen g.D.Disk.faults c.args.disk.now c.open_swept.new.disk) c.in-Err.answer c.in-Err.ensures.answers
+    withholds_idle (store_of g.D.Disk.is_modelled g.D.Disk.seen g.D.Disk.faults c.args.disk.now c.open_swept.new.disk) c.in-Err.answer c.in-Err.ensures.answers

@@ -5,7 +5,7 @@ use Rattle.disk_model.specs.Disk.{Image}
 use Rattle.checkpoint_log.specs.Laws.{slots_laws}
 use Rattle.checkpoint_log.specs.Slots.{slots_stands}
 use Rattle.checkpoint_log.specs.declared.slots.Slots.{Slots}
-use Rattle.deploy_state.specs.States.{InLoaded, idle_device, loaded_device}
+use Rattle.deploy_state.specs.States.{OwnsLoaded, idle_device, loaded_device}
 use Rattle.deploy_state.specs.declared.state.Idle.{Idle}
 use Rattle.deploy_state.specs.declared.state.Loaded.{Loaded}
 use Rattle.deploy_state.specs.declared.state.Loaded.TheVariants as loaded
@@ -27,13 +27,13 @@ returns-in-Ok-clause-start g c = λ told.
     kept_ok (λ (s : Loaded Slots). (idle : Idle Slots) → s ≡ loaded.Idle idle → StartsFrom (g.D.Disk.seen c.args.disk.now) (idle_device idle) (slots_start idle.log (idle_device idle))) c.in-Ok.state c.swept.result c.swept.ensures.kept
     (λ idle is. subst (λ (image : Image). StartsFrom image (idle_device idle) (slots_start idle.log (idle_device idle))) c.open.ensures.seen
     (starts_from idle c.open.new.disk (g.D.Disk.seen c.open.new.disk)
-    (subst (λ (s : Loaded Slots). InLoaded g.D.Disk.tells g.D.Disk.may_leave slots_stands (λ (log : Slots). log.live.end) s c.open.new.disk) is c.in-Ok.ensures.held)
+    (subst (λ (s : Loaded Slots). OwnsLoaded g.D.Disk.is_modelled g.D.Disk.may_leave slots_stands (λ (log : Slots). log.live.end) s c.open.new.disk) is c.in-Ok.ensures.held)
     (g.met.D.Disk.laws.reads c.open.new.disk told)
     (subst HasEntry (sym c.open.ensures.seen) (c.in-Ok.ensures.told told).0)))
 
 pub returns-in-Ok-clause-held : goal.returns-in-Ok-clause-held
 returns-in-Ok-clause-held g c =
-    kept_ok (λ (s : Loaded Slots). InLoaded g.D.Disk.tells g.D.Disk.may_leave slots_stands (λ (log : Slots). log.live.end) s c.swept.new.disk) c.in-Ok.state c.swept.result c.swept.ensures.kept
+    kept_ok (λ (s : Loaded Slots). OwnsLoaded g.D.Disk.is_modelled g.D.Disk.may_leave slots_stands (λ (log : Slots). log.live.end) s c.swept.new.disk) c.in-Ok.state c.swept.result c.swept.ensures.kept
     (loaded_stays g.met.D.Disk.laws slots_laws (slots_elsewhere c.needed_files_stay.ensures.journals) c.in-Ok.state c.open.new.disk c.swept.new.disk c.swept.ensures.spared c.in-Ok.ensures.held)
 
 pub returns-in-Ok-clause-images : goal.returns-in-Ok-clause-images
@@ -102,12 +102,12 @@ returns-in-Err-clause-quiet g c = λ other. c.in-Err.ensures.quiet (λ is. other
 
 pub returns-in-Ok-clause-answers : goal.returns-in-Ok-clause-answers
 returns-in-Ok-clause-answers g c =
-    let store : Store = store_of g.D.Disk.tells g.D.Disk.seen g.D.Disk.faults c.args.disk.now c.swept.new.disk in
+    let store : Store = store_of g.D.Disk.is_modelled g.D.Disk.seen g.D.Disk.faults c.args.disk.now c.swept.new.disk in
     unswept_withholds store (loaded_device c.in-Ok.state) c.in-Ok.ensures.told c.swept.result c.swept.ensures.answers
     (λ is. let rose : Rose (g.D.Disk.faults c.args.disk.now) (g.D.Disk.faults c.swept.new.disk) = omega (arith, c.swept.ensures.disk is, c.open.ensures.later) in rose)
 
 pub returns-in-Err-clause-answers : goal.returns-in-Err-clause-answers
 returns-in-Err-clause-answers g c =
-    let store : Store = store_of g.D.Disk.tells g.D.Disk.seen g.D.Disk.faults c.args.disk.now c.open.new.disk in
+    let store : Store = store_of g.D.Disk.is_modelled g.D.Disk.seen g.D.Disk.faults c.args.disk.now c.open.new.disk in
     refused_withholds store c.refused.result
     (refuses store c.in-Err.fault c.refused.result c.refused.ensures c.open.ensures.seen c.in-Err.ensures.told (λ is. c.in-Err.ensures.cause (ap Err is)))

@@ -3,12 +3,12 @@ use Rattle.std.specs.Prelude.{Err}
 use Rattle.nuc_base.specs.Faults.{Rose}
 use Rattle.deploy_state.specs.States.{loaded_device}
 use Rattle.step_runner.specs.Entries.{Listed}
-use Rattle.components.specs.World.{World}
-use Rattle.session.specs.Happenings.{records_of}
-use Rattle.session.specs.Places.{left_by}
+use Rattle.components.specs.Components.{Components}
+use Rattle.histories.specs.TraceEvents.{records_of}
+use Rattle.histories.specs.States.{state_after}
 use Rattle.nucleus_top.specs.Answers.{Printed, printed_of, store_of}
 use Rattle.nucleus_top.proofs.Crashes.{kept_fronts, loaded_sound, loaded_stands, same_fronts}
-use Rattle.nucleus_top.proofs.Driven.{begun, front_begun, resumed_on, slots_elsewhere, stays, stays_on, tells, told_sweeps, withheld_first}
+use Rattle.nucleus_top.proofs.Driven.{begun, front_begun, resumed_on, slots_elsewhere, stays, stays_on, is_modelled, told_sweeps, withheld_first}
 use Rattle.nucleus_top.proofs.Meeting.{brought_stay_met, resumed_brings}
 use Rattle.nucleus_top.proofs.Whole.{held_whole}
 use Rattle.nucleus_top.proofs.driving.resume.Goals as goal
@@ -22,7 +22,7 @@ pub resume-requires-clause-apart : goal.resume-requires-clause-apart
 resume-requires-clause-apart g c = slots_elsewhere c.needed_files_stay.ensures.journals
 
 pub resume-requires-clause-empty : goal.resume-requires-clause-empty
-resume-requires-clause-empty g c = ap (λ (w : World). w.parts) c.new-supervisor.ensures
+resume-requires-clause-empty g c = ap (λ (w : Components). w.parts) c.new-supervisor.ensures
 
 pub resume-requires-clause-placed : goal.resume-requires-clause-placed
 resume-requires-clause-placed g c =
@@ -41,8 +41,8 @@ returns-in-Ok-clause-ran g c =
       c.in-Ok.ensures.opened,
       resumed_on g.met.D.Disk.laws c.args.disk.now c.open_swept.new.disk c.resume.new.disk c.open_swept.ensures.spared
           (g.R.Runner.list c.args.runner.now) (g.R.Runner.list c.resume.new.runner) printed c.resume.result g.D.Disk.faults c.open_swept.ensures.later d
-          (same_fronts g.met.D.Disk.laws c.args.disk.now c.open_swept.new.disk d (λ tells. (c.in-Ok.ensures.opened tells).1) c.open_swept.ensures.images)
-          (λ tells. (c.in-Ok.ensures.opened tells).1) c.open_swept.ensures.whole
+          (same_fronts g.met.D.Disk.laws c.args.disk.now c.open_swept.new.disk d (λ is_modelled. (c.in-Ok.ensures.opened is_modelled).1) c.open_swept.ensures.images)
+          (λ is_modelled. (c.in-Ok.ensures.opened is_modelled).1) c.open_swept.ensures.whole
           (record {
             place = begun d told;
             serves = refl;
@@ -50,14 +50,14 @@ returns-in-Ok-clause-ran g c =
             sound = loaded_sound g.met.D.Disk.laws c.in-Ok.state c.open_swept.new.disk c.in-Ok.ensures.held;
             call = call.0;
             resumes = call.1;
-            history = record { start = refl; proper = call.0.went.proper; run = call.0.went.run };
+            history = record { start = refl; proper = call.0.trace.proper; run = call.0.trace.run };
             failed = call.3;
             images = kept_fronts g.met.D.Disk.laws (slots_elsewhere c.needed_files_stay.ensures.journals) c.open_swept.new.disk c.resume.new.disk
                 (g.R.Runner.list c.args.runner.now) (g.R.Runner.list c.resume.new.runner) (g.K.Sink.held c.args.sink.now) (g.K.Sink.held c.resume.new.sink) (begun d told) c.resume.result
                 (loaded_stands g.met.D.Disk.laws c.in-Ok.state c.open_swept.new.disk c.in-Ok.ensures.held) call.0;
             whole = held_whole g.met.D.Disk.laws c.open_swept.new.disk c.resume.new.disk d (records_of call.0.history) (loaded_stands g.met.D.Disk.laws c.in-Ok.state c.open_swept.new.disk c.in-Ok.ensures.held) call.2;
             met = brought_stay_met d (records_of call.0.history)
-                (resumed_brings d d.pending call.0.ending call.0.history (left_by (begun d told) call.0.history) call.1 call.0.ends call.0.once);
+                (resumed_brings d d.pending call.0.ending call.0.history (state_after (begun d told) call.0.history) call.1 call.0.ends call.0.once);
           }),
     )
 
@@ -111,27 +111,27 @@ returns-in-Err-clause-others g c = c.open_swept.ensures.others
 pub returns-in-Err-clause-disk : goal.returns-in-Err-clause-disk
 returns-in-Err-clause-disk g c = λ is.
     let printed : Printed = printed_of g.K.Sink.held g.K.Sink.faults c.args.sink.now c.tell-status.new.sink in
-    c.in-Err.ensures.disk (ap Err ((tells printed c.tell-status.result c.in-Err.answer (inl (withheld_first (store_of g.D.Disk.tells g.D.Disk.seen g.D.Disk.faults c.args.disk.now c.open_swept.new.disk) c.in-Err.answer c.in-Err.ensures.answers)) c.tell-status.ensures.told).disk is))
+    c.in-Err.ensures.disk (ap Err ((is_modelled printed c.tell-status.result c.in-Err.answer (inl (withheld_first (store_of g.D.Disk.is_modelled g.D.Disk.seen g.D.Disk.faults c.args.disk.now c.open_swept.new.disk) c.in-Err.answer c.in-Err.ensures.answers)) c.tell-status.ensures.told).disk is))
 
 pub returns-in-Err-clause-edge : goal.returns-in-Err-clause-edge
 returns-in-Err-clause-edge g c =
     let printed : Printed = printed_of g.K.Sink.held g.K.Sink.faults c.args.sink.now c.tell-status.new.sink in
-    (tells printed c.tell-status.result c.in-Err.answer (inl (withheld_first (store_of g.D.Disk.tells g.D.Disk.seen g.D.Disk.faults c.args.disk.now c.open_swept.new.disk) c.in-Err.answer c.in-Err.ensures.answers)) c.tell-status.ensures.told).edge
+    (is_modelled printed c.tell-status.result c.in-Err.answer (inl (withheld_first (store_of g.D.Disk.is_modelled g.D.Disk.seen g.D.Disk.faults c.args.disk.now c.open_swept.new.disk) c.in-Err.answer c.in-Err.ensures.answers)) c.tell-status.ensures.told).edge
 
 pub returns-in-Err-clause-quiet_disk : goal.returns-in-Err-clause-quiet_disk
 returns-in-Err-clause-quiet_disk g c = λ other more.
     let printed : Printed = printed_of g.K.Sink.held g.K.Sink.faults c.args.sink.now c.tell-status.new.sink in
-    c.in-Err.ensures.quiet (λ is. (tells printed c.tell-status.result c.in-Err.answer (inl (withheld_first (store_of g.D.Disk.tells g.D.Disk.seen g.D.Disk.faults c.args.disk.now c.open_swept.new.disk) c.in-Err.answer c.in-Err.ensures.answers)) c.tell-status.ensures.told).quiet other more (cc))
+    c.in-Err.ensures.quiet (λ is. (is_modelled printed c.tell-status.result c.in-Err.answer (inl (withheld_first (store_of g.D.Disk.is_modelled g.D.Disk.seen g.D.Disk.faults c.args.disk.now c.open_swept.new.disk) c.in-Err.answer c.in-Err.ensures.answers)) c.tell-status.ensures.told).quiet other more (cc))
 
 pub returns-in-Err-clause-quiet_sink : goal.returns-in-Err-clause-quiet_sink
 returns-in-Err-clause-quiet_sink g c =
     let printed : Printed = printed_of g.K.Sink.held g.K.Sink.faults c.args.sink.now c.tell-status.new.sink in
-    (tells printed c.tell-status.result c.in-Err.answer (inl (withheld_first (store_of g.D.Disk.tells g.D.Disk.seen g.D.Disk.faults c.args.disk.now c.open_swept.new.disk) c.in-Err.answer c.in-Err.ensures.answers)) c.tell-status.ensures.told).quiet_sink
+    (is_modelled printed c.tell-status.result c.in-Err.answer (inl (withheld_first (store_of g.D.Disk.is_modelled g.D.Disk.seen g.D.Disk.faults c.args.disk.now c.open_swept.new.disk) c.in-Err.answer c.in-Err.ensures.answers)) c.tell-status.ensures.told).quiet_sink
 
 pub returns-in-Err-clause-own : goal.returns-in-Err-clause-own
 returns-in-Err-clause-own g c =
     let printed : Printed = printed_of g.K.Sink.held g.K.Sink.faults c.args.sink.now c.tell-status.new.sink in
-    (tells printed c.tell-status.result c.in-Err.answer (inl (withheld_first (store_of g.D.Disk.tells g.D.Disk.seen g.D.Disk.faults c.args.disk.now c.open_swept.new.disk) c.in-Err.answer c.in-Err.ensures.answers)) c.tell-status.ensures.told).library
+    (is_modelled printed c.tell-status.result c.in-Err.answer (inl (withheld_first (store_of g.D.Disk.is_modelled g.D.Disk.seen g.D.Disk.faults c.args.disk.now c.open_swept.new.disk) c.in-Err.answer c.in-Err.ensures.answers)) c.tell-status.ensures.told).library
 
 pub returns-in-Err-clause-later : goal.returns-in-Err-clause-later
 returns-in-Err-clause-later g c =
@@ -145,5 +145,5 @@ returns-in-Ok-clause-swept g c = c.resume.ensures.swept c.in-Ok.ensures.clean
 pub returns-in-Err-clause-swept : goal.returns-in-Err-clause-swept
 returns-in-Err-clause-swept g c =
     let printed : Printed = printed_of g.K.Sink.held g.K.Sink.faults c.args.sink.now c.tell-status.new.sink in
-    told_sweeps g.D.Disk.tells printed c.tell-status.result (g.D.Disk.seen c.open_swept.new.disk) c.in-Err.answer
-    (inl (withheld_first (store_of g.D.Disk.tells g.D.Disk.seen g.D.Disk.faults c.args.disk.now c.open_swept.new.disk) c.in-Err.answer c.in-Err.ensures.answers)) c.tell-status.ensures.told
+    told_sweeps g.D.Disk.is_modelled printed c.tell-status.result (g.D.Disk.seen c.open_swept.new.disk) c.in-Err.answer
+    (inl (withheld_first (store_of g.D.Disk.is_modelled g.D.Disk.seen g.D.Disk.faults c.args.disk.now c.open_swept.new.disk) c.in-Err.answer c.in-Err.ensures.answers)) c.tell-status.ensures.told

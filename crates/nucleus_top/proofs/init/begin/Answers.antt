@@ -11,11 +11,11 @@ returns-in-Ok-made-clause-comes g c =
     let s = c.in-Ok-made.idle in
     let image = g.D.Disk.seen c.create-made.new.disk in (
       c.in-Ok.ensures,
-      λ tells. record {
-        none = c.requires.none tells;
+      λ is_modelled. record {
+        none = c.requires.none is_modelled;
         stands = subst (λ (d : Device). Stands image d) c.in-Ok-made.ensures.made
-            (held_stands g.met.D.Disk.laws s.log c.create-made.new.disk (idle_device s) c.in-Ok-made.ensures.held.0 image (g.met.D.Disk.laws.reads c.create-made.new.disk tells));
-        others = c.create-made.ensures.others tells;
+            (held_stands g.met.D.Disk.laws s.log c.create-made.new.disk (idle_device s) c.in-Ok-made.ensures.held.0 image (g.met.D.Disk.laws.reads c.create-made.new.disk is_modelled));
+        others = c.create-made.ensures.others is_modelled;
       },
     )
 
@@ -34,7 +34,7 @@ returns-in-Disk-clause-comes g c =
     let origin = c.args.origin in
     let moments = created g.met.D.Disk.laws origin c.args.disk.now c.requires.none c.requires.settled c.create-made.new.disk (c.in-Err.ensures.moments (λ is. cc)) in (
       c.in-Err.ensures.cause (ap Err c.in-Disk.is),
-      λ tells. inr (begun g.met.D.Disk.laws origin c.args.disk.now c.requires.none c.requires.settled c.create-made.new.disk moments tells (c.create-made.ensures.others tells)),
+      λ is_modelled. inr (begun g.met.D.Disk.laws origin c.args.disk.now c.requires.none c.requires.settled c.create-made.new.disk moments is_modelled (c.create-made.ensures.others is_modelled)),
     )
 
 pub returns-in-Disk-clause-moments : goal.returns-in-Disk-clause-moments

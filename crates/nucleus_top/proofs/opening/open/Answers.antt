@@ -19,7 +19,7 @@ opens image (Err (load.Damaged at)) loads = loads
 opens image (Err load.NoMemory) loads = tt
 
 pub returns-clause-told : goal.returns-clause-told
-returns-clause-told g c = λ tells. opens (g.D.Disk.seen c.args.disk.now) c.load.result (c.load.ensures.told tells)
+returns-clause-told g c = λ is_modelled. opens (g.D.Disk.seen c.args.disk.now) c.load.result (c.load.ensures.told is_modelled)
 
 pub returns-clause-held : goal.returns-clause-held
 returns-clause-held g c = c.load.ensures.held

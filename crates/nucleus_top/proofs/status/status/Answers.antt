@@ -11,7 +11,7 @@ show-requires g c = record { ready = c.in-Ok.ensures.ready }
 
 pub returns-in-Ok-clause-comes : goal.returns-in-Ok-clause-comes
 returns-in-Ok-clause-comes g c =
-    let store : Store = store_of g.D.Disk.tells g.D.Disk.seen g.D.Disk.faults c.args.disk.now c.open.new.disk in
+    let store : Store = store_of g.D.Disk.is_modelled g.D.Disk.seen g.D.Disk.faults c.args.disk.now c.open.new.disk in
     found_shows c.args.json store (loaded_device c.in-Ok.state) c.show.result c.show.ensures c.open.ensures.seen c.in-Ok.ensures.told
 
 pub returns-in-Ok-clause-moments : goal.returns-in-Ok-clause-moments
@@ -31,7 +31,7 @@ returns-in-Ok-clause-later g c = c.open.ensures.later
 
 pub returns-in-Err-clause-comes : goal.returns-in-Err-clause-comes
 returns-in-Err-clause-comes g c =
-    let store : Store = store_of g.D.Disk.tells g.D.Disk.seen g.D.Disk.faults c.args.disk.now c.open.new.disk in
+    let store : Store = store_of g.D.Disk.is_modelled g.D.Disk.seen g.D.Disk.faults c.args.disk.now c.open.new.disk in
     refused_shows c.args.json store c.refused.result (refuses store c.in-Err.fault c.refused.result c.refused.ensures c.open.ensures.seen c.in-Err.ensures.told (λ is. c.in-Err.ensures.cause (ap Err is)))
 
 pub returns-in-Err-clause-moments : goal.returns-in-Err-clause-moments

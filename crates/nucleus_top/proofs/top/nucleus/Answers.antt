@@ -20,7 +20,7 @@ use Rattle.nucleus_top.proofs.top.nucleus.Goals as goal
 pub returns-in-NoMemory-clause-parts : goal.returns-in-NoMemory-clause-parts
 returns-in-NoMemory-clause-parts g c = λ other.
     let words : List (List ℕ) = map string_bytes c.args.words.now.items in
-    let store : Store = store_of g.D.Disk.tells g.D.Disk.seen g.D.Disk.faults c.args.disk.now c.args.disk.now in
+    let store : Store = store_of g.D.Disk.is_modelled g.D.Disk.seen g.D.Disk.faults c.args.disk.now c.args.disk.now in
     let input : Input = input_of g.S.Source.left g.S.Source.faults c.args.source.now c.args.source.now in
     let library : Shelf = shelf_of g.L.Library.content g.L.Library.faults c.args.library.now c.args.library.now in
     let printed : Printed = printed_of g.K.Sink.held g.K.Sink.faults c.args.sink.now c.args.sink.now in
@@ -68,7 +68,7 @@ returns-in-NoMemory-clause-resumes g c = λ root asks. inl (
 pub returns-in-NoMemory-clause-driven : goal.returns-in-NoMemory-clause-driven
 returns-in-NoMemory-clause-driven g c = λ drives.
     let words : List (List ℕ) = map string_bytes c.args.words.now.items in
-    let store : Store = store_of g.D.Disk.tells g.D.Disk.seen g.D.Disk.faults c.args.disk.now c.args.disk.now in
+    let store : Store = store_of g.D.Disk.is_modelled g.D.Disk.seen g.D.Disk.faults c.args.disk.now c.args.disk.now in
     let input : Input = input_of g.S.Source.left g.S.Source.faults c.args.source.now c.args.source.now in
     let library : Shelf = shelf_of g.L.Library.content g.L.Library.faults c.args.library.now c.args.library.now in
     let printed : Printed = printed_of g.K.Sink.held g.K.Sink.faults c.args.sink.now c.args.sink.now in
@@ -294,46 +294,46 @@ returns-in-NoMemory-clause-sink_later g c = stays (g.K.Sink.faults c.args.sink.n
 
 pub returns-in-NoMemory-clause-refused : goal.returns-in-NoMemory-clause-refused
 returns-in-NoMemory-clause-refused g c = λ drives.
-    let store : Store = store_of g.D.Disk.tells g.D.Disk.seen g.D.Disk.faults c.args.disk.now c.args.disk.now in
+    let store : Store = store_of g.D.Disk.is_modelled g.D.Disk.seen g.D.Disk.faults c.args.disk.now c.args.disk.now in
     let input : Input = input_of g.S.Source.left g.S.Source.faults c.args.source.now c.args.source.now in
     let printed : Printed = printed_of g.K.Sink.held g.K.Sink.faults c.args.sink.now c.args.sink.now in
     refused_parts store input printed status.Memory (inl (starved store input printed (inl refl) (inl (refl, Appends-nil (g.K.Sink.held c.args.sink.now), refl))))
 
 pub returns-in-NoMemory-clause-pending : goal.returns-in-NoMemory-clause-pending
 returns-in-NoMemory-clause-pending g c = λ root is.
-    let store : Store = store_of g.D.Disk.tells g.D.Disk.seen g.D.Disk.faults c.args.disk.now c.args.disk.now in
+    let store : Store = store_of g.D.Disk.is_modelled g.D.Disk.seen g.D.Disk.faults c.args.disk.now c.args.disk.now in
     let input : Input = input_of g.S.Source.left g.S.Source.faults c.args.source.now c.args.source.now in
     let printed : Printed = printed_of g.K.Sink.held g.K.Sink.faults c.args.sink.now c.args.sink.now in
     pending_parts store input printed status.Memory (inl (starved store input printed (inl refl) (inl (refl, Appends-nil (g.K.Sink.held c.args.sink.now), refl))))
 
 pub returns-in-Deploy-clause-refused : goal.returns-in-Deploy-clause-refused
 returns-in-Deploy-clause-refused g c = λ drives.
-    let store : Store = store_of g.D.Disk.tells g.D.Disk.seen g.D.Disk.faults c.args.disk.now c.deploy.new.disk in
+    let store : Store = store_of g.D.Disk.is_modelled g.D.Disk.seen g.D.Disk.faults c.args.disk.now c.deploy.new.disk in
     let input : Input = input_of g.S.Source.left g.S.Source.faults c.args.source.now c.deploy.new.source in
     let library : Shelf = shelf_of g.L.Library.content g.L.Library.faults c.args.library.now c.deploy.new.library in
     let printed : Printed = printed_of g.K.Sink.held g.K.Sink.faults c.args.sink.now c.deploy.new.sink in
     refused_parts store input printed c.deploy.result
-    (⊎_elim (λ away. inl (away.0.answer, away.0.why, away.0.told)) (λ went. inr (deployed_is_on g.D.Disk.may_leave g.D.Disk.moment g.D.Disk.left_since g.D.Disk.faults c.args.disk.now c.deploy.new.disk
-    (g.R.Runner.list c.args.runner.now) (g.R.Runner.list c.deploy.new.runner) printed c.deploy.result store input library went).0) c.deploy.ensures.ran)
+    (⊎_elim (λ away. inl (away.0.answer, away.0.why, away.0.told)) (λ trace. inr (deployed_is_on g.D.Disk.may_leave g.D.Disk.moment g.D.Disk.left_since g.D.Disk.faults c.args.disk.now c.deploy.new.disk
+    (g.R.Runner.list c.args.runner.now) (g.R.Runner.list c.deploy.new.runner) printed c.deploy.result store input library trace).0) c.deploy.ensures.ran)
 
 pub returns-in-Deploy-clause-pending : goal.returns-in-Deploy-clause-pending
 returns-in-Deploy-clause-pending g c = λ root is.
-    let store : Store = store_of g.D.Disk.tells g.D.Disk.seen g.D.Disk.faults c.args.disk.now c.deploy.new.disk in
+    let store : Store = store_of g.D.Disk.is_modelled g.D.Disk.seen g.D.Disk.faults c.args.disk.now c.deploy.new.disk in
     let input : Input = input_of g.S.Source.left g.S.Source.faults c.args.source.now c.deploy.new.source in
     let library : Shelf = shelf_of g.L.Library.content g.L.Library.faults c.args.library.now c.deploy.new.library in
     let printed : Printed = printed_of g.K.Sink.held g.K.Sink.faults c.args.sink.now c.deploy.new.sink in
     pending_parts store input printed c.deploy.result
-    (⊎_elim (λ away. inl (away.0.answer, away.0.why, away.0.told)) (λ went. inr (deployed_is_on g.D.Disk.may_leave g.D.Disk.moment g.D.Disk.left_since g.D.Disk.faults c.args.disk.now c.deploy.new.disk
-    (g.R.Runner.list c.args.runner.now) (g.R.Runner.list c.deploy.new.runner) printed c.deploy.result store input library went)) c.deploy.ensures.ran)
+    (⊎_elim (λ away. inl (away.0.answer, away.0.why, away.0.told)) (λ trace. inr (deployed_is_on g.D.Disk.may_leave g.D.Disk.moment g.D.Disk.left_since g.D.Disk.faults c.args.disk.now c.deploy.new.disk
+    (g.R.Runner.list c.args.runner.now) (g.R.Runner.list c.deploy.new.runner) printed c.deploy.result store input library trace)) c.deploy.ensures.ran)
 
 pub returns-in-Resume-clause-refused : goal.returns-in-Resume-clause-refused
 returns-in-Resume-clause-refused g c = λ drives.
-    let store : Store = store_of g.D.Disk.tells g.D.Disk.seen g.D.Disk.faults c.args.disk.now c.resume.new.disk in
+    let store : Store = store_of g.D.Disk.is_modelled g.D.Disk.seen g.D.Disk.faults c.args.disk.now c.resume.new.disk in
     let input : Input = input_of g.S.Source.left g.S.Source.faults c.args.source.now c.args.source.now in
     let printed : Printed = printed_of g.K.Sink.held g.K.Sink.faults c.args.sink.now c.resume.new.sink in
     refused_parts store input printed c.resume.result
-    (⊎_elim (λ away. inl (away.0.answer, withholds_turns store input away.0.answer away.0.why, away.0.told)) (λ went. inr (resumed_is_on g.D.Disk.may_leave g.D.Disk.moment g.D.Disk.left_since g.D.Disk.faults c.args.disk.now c.resume.new.disk
-    (g.R.Runner.list c.args.runner.now) (g.R.Runner.list c.resume.new.runner) printed c.resume.result store went)) c.resume.ensures.ran)
+    (⊎_elim (λ away. inl (away.0.answer, withholds_turns store input away.0.answer away.0.why, away.0.told)) (λ trace. inr (resumed_is_on g.D.Disk.may_leave g.D.Disk.moment g.D.Disk.left_since g.D.Disk.faults c.args.disk.now c.resume.new.disk
+    (g.R.Runner.list c.args.runner.now) (g.R.Runner.list c.resume.new.runner) printed c.resume.result store trace)) c.resume.ensures.ran)
 
 pub returns-in-Resume-clause-pending : goal.returns-in-Resume-clause-pending
 returns-in-Resume-clause-pending g c = λ root is.

@@ -1,6 +1,6 @@
 use Rattle.std.proofs.Common.{sym, true}
 use Rattle.components.specs.Flags.{at_moment}
-use Rattle.components.specs.World.{World}
+use Rattle.components.specs.Components.{Components}
 use Rattle.supervisor.proofs.Deeds.{do_below, first_in_any, no_turns, none_in_any, turn_last, turn_more, turns_over}
 use Rattle.supervisor.proofs.acting.act_first.Goals as goal
 
@@ -22,8 +22,8 @@ first_deed-requires-clause-whole c = c.turns.invariant.so_far.sound.whole
 pub returns-in_default-clause-next : goal.returns-in_default-clause-next
 returns-in_default-clause-next c =
     let m = c.args.moment in
-    let w : World = at_moment c.args.slots.now m c.args.steady in
-    let v : World = at_moment c.turns.slots m c.args.steady in
+    let w : Components = at_moment c.args.slots.now m c.args.steady in
+    let v : Components = at_moment c.turns.slots m c.args.steady in
     turns_over w v c.turns.invariant.so_far (none_in_any c.turns.slots m true c.args.steady c.in_default.ensures)
 
 pub returns-in_default-clause-kept : goal.returns-in_default-clause-kept
@@ -46,18 +46,18 @@ perform-act-requires-clause-names c = record { apart = c.turns.invariant.so_far.
 pub returns-then-is_some-clause-next : goal.returns-then-is_some-clause-next
 returns-then-is_some-clause-next c =
     let m = c.args.moment in
-    let w : World = at_moment c.args.slots.now m c.args.steady in
-    let v : World = at_moment c.turns.slots m c.args.steady in
-    let u : World = at_moment c.perform-act.new.slots m c.args.steady in
+    let w : Components = at_moment c.args.slots.now m c.args.steady in
+    let v : Components = at_moment c.turns.slots m c.args.steady in
+    let u : Components = at_moment c.perform-act.new.slots m c.args.steady in
     let f = first_in_any c.turns.slots m c.in-Some.at true c.args.steady c.in-Some.deed c.in-Some.ensures in
     (turn_last w v u c.in-Some.at c.in-Some.deed c.perform-act.result c.turns.invariant.so_far f c.perform-act.ensures.done (sym c.if-is_some.ensures)).0
 
 pub returns-then-is_some-clause-kept : goal.returns-then-is_some-clause-kept
 returns-then-is_some-clause-kept c =
     let m = c.args.moment in
-    let w : World = at_moment c.args.slots.now m c.args.steady in
-    let v : World = at_moment c.turns.slots m c.args.steady in
-    let u : World = at_moment c.perform-act.new.slots m c.args.steady in
+    let w : Components = at_moment c.args.slots.now m c.args.steady in
+    let v : Components = at_moment c.turns.slots m c.args.steady in
+    let u : Components = at_moment c.perform-act.new.slots m c.args.steady in
     let f = first_in_any c.turns.slots m c.in-Some.at true c.args.steady c.in-Some.deed c.in-Some.ensures in
     let s = (turn_last w v u c.in-Some.at c.in-Some.deed c.perform-act.result c.turns.invariant.so_far f c.perform-act.ensures.done (sym c.if-is_some.ensures)).1 in
     s.kept
@@ -65,9 +65,9 @@ returns-then-is_some-clause-kept c =
 pub returns-then-is_some-clause-whole : goal.returns-then-is_some-clause-whole
 returns-then-is_some-clause-whole c =
     let m = c.args.moment in
-    let w : World = at_moment c.args.slots.now m c.args.steady in
-    let v : World = at_moment c.turns.slots m c.args.steady in
-    let u : World = at_moment c.perform-act.new.slots m c.args.steady in
+    let w : Components = at_moment c.args.slots.now m c.args.steady in
+    let v : Components = at_moment c.turns.slots m c.args.steady in
+    let u : Components = at_moment c.perform-act.new.slots m c.args.steady in
     let f = first_in_any c.turns.slots m c.in-Some.at true c.args.steady c.in-Some.deed c.in-Some.ensures in
     let s = (turn_last w v u c.in-Some.at c.in-Some.deed c.perform-act.result c.turns.invariant.so_far f c.perform-act.ensures.done (sym c.if-is_some.ensures)).1 in
     s.whole
@@ -75,9 +75,9 @@ returns-then-is_some-clause-whole c =
 pub turns-preserved : goal.turns-preserved
 turns-preserved c =
     let m = c.args.moment in
-    let w : World = at_moment c.args.slots.now m c.args.steady in
-    let v : World = at_moment c.turns.slots m c.args.steady in
-    let u : World = at_moment c.perform-act.new.slots m c.args.steady in
+    let w : Components = at_moment c.args.slots.now m c.args.steady in
+    let v : Components = at_moment c.turns.slots m c.args.steady in
+    let u : Components = at_moment c.perform-act.new.slots m c.args.steady in
     let f = first_in_any c.turns.slots m c.in-Some.at true c.args.steady c.in-Some.deed c.in-Some.ensures in
     record {
       many = c.perform-act.ensures.many;
@@ -87,8 +87,8 @@ turns-preserved c =
 pub turns-smaller : goal.turns-smaller
 turns-smaller c =
     let m = c.args.moment in
-    let w : World = at_moment c.args.slots.now m c.args.steady in
-    let v : World = at_moment c.turns.slots m c.args.steady in
-    let u : World = at_moment c.perform-act.new.slots m c.args.steady in
+    let w : Components = at_moment c.args.slots.now m c.args.steady in
+    let v : Components = at_moment c.turns.slots m c.args.steady in
+    let u : Components = at_moment c.perform-act.new.slots m c.args.steady in
     let f = first_in_any c.turns.slots m c.in-Some.at true c.args.steady c.in-Some.deed c.in-Some.ensures in
     (turn_more w v u c.in-Some.at c.in-Some.deed c.perform-act.result c.turns.invariant.so_far f c.perform-act.ensures.done (sym c.if-is_some.ensures)).1

@@ -1,6 +1,6 @@
 use Rattle.std.proofs.Common.{◌==◌, ◌∙◌, ap, List}
 use Rattle.std.specs.List.{find}
-use Rattle.components.specs.World.{Child}
+use Rattle.components.specs.Components.{Child}
 use Rattle.components.proofs.Each.{at_is}
 use Rattle.supervisor.proofs.asks.child_at.Goals as goal
 

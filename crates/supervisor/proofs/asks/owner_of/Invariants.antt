@@ -1,5 +1,5 @@
 use Rattle.std.proofs.Common.{◌≡◌, drop}
-use Rattle.components.specs.World.{owner, owner_from}
+use Rattle.components.specs.Components.{owner, owner_from}
 use Rattle.supervisor.proofs.asks.owner_of.Given as goal
 
 abbrev pub invariant-loop-at : goal.invariant-loop-at

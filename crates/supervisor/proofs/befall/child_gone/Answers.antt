@@ -2,7 +2,7 @@ use Rattle.std.proofs.Common.{ap, refl, sym, ◌∙◌, Option}
 use Rattle.lifecycle.specs.declared.kinds.LifeEvent.{LifeEvent}
 use Rattle.components.specs.Events.{gone_by}
 use Rattle.components.specs.Flags.{at_moment}
-use Rattle.components.specs.World.{without_child}
+use Rattle.components.specs.Components.{without_child}
 use Rattle.components.proofs.Names.{names_changed}
 use Rattle.supervisor.proofs.Worlds.{gone_orphan, gone_living}
 use Rattle.supervisor.proofs.befall.child_gone.Goals as goal

@@ -1,4 +1,4 @@
-use Rattle.components.specs.World.{without_child}
+use Rattle.components.specs.Components.{without_child}
 use Rattle.components.proofs.Each.{set_changed}
 use Rattle.supervisor.proofs.befall.remove_at.Goals as goal
 

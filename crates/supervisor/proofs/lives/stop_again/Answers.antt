@@ -1,5 +1,5 @@
 use Rattle.std.proofs.Common.{◌∙◌, ap, sym}
-use Rattle.components.specs.World.{is_gone}
+use Rattle.components.specs.Components.{is_gone}
 use Rattle.supervisor.proofs.Slots.{again_stop, gone_stop}
 use Rattle.supervisor.proofs.lives.stop_again.Goals as goal
 

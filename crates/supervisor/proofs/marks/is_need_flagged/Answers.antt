@@ -1,13 +1,13 @@
 use Rattle.std.proofs.Common.{◌≡◌, arith, true}
 use Rattle.std.specs.Str.{bytes_eq}
-use Rattle.components.specs.World.{part_name}
+use Rattle.components.specs.Components.{component_name}
 use Rattle.components.proofs.Each.{at_below}
 use Rattle.supervisor.proofs.Found.{flagged_place}
 use Rattle.supervisor.proofs.marks.is_need_flagged.Goals as goal
 
 pub bounds-flags-at : goal.bounds-flags-at
 bounds-flags-at c =
-    let l = at_below (λ p. bytes_eq c.args.need.now (part_name p) ≡ true) c.args.slots.now c.in-Some.at c.in-Some.ensures in
+    let l = at_below (λ p. bytes_eq c.args.need.now (component_name p) ≡ true) c.args.slots.now c.in-Some.at c.in-Some.ensures in
     omega (arith, l, c.requires.many)
 
 pub returns-in-Some : goal.returns-in-Some

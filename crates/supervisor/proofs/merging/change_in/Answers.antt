@@ -2,7 +2,7 @@ use Rattle.std.proofs.Common.{◌∙◌, List, ap, arith, length, map, not, subs
 use Rattle.components.specs.Changes.{counted, standing, with_items, with_newcomers}
 use Rattle.components.specs.Fitted.{Fitted, name_of}
 use Rattle.components.specs.Readied.{AreFresh, AreNamesApart, KeepSteps, Readied}
-use Rattle.components.specs.World.{Part}
+use Rattle.components.specs.Components.{ComponentState}
 use Rattle.supervisor.proofs.Merged.{all_changed}
 use Rattle.components.proofs.Meets.{began_fits, began_fresh, began_length, began_names, fit_names, fits, is_among}
 use Rattle.components.proofs.Names.{names}
@@ -20,14 +20,14 @@ meet_all-requires-clause-fresh c = subst AreFresh (sym c.begin_all.ensures) (beg
 
 pub meet_all-requires-clause-coming_apart : goal.meet_all-requires-clause-coming_apart
 meet_all-requires-clause-coming_apart c =
-    let cs : List Part = c.ready.inside.coming.items in
-    subst (λ (ps : List Part). AreNamesApart (names ps)) (sym c.begin_all.ensures)
+    let cs : List ComponentState = c.ready.inside.coming.items in
+    subst (λ (ps : List ComponentState). AreNamesApart (names ps)) (sym c.begin_all.ensures)
     (subst AreNamesApart (sym (began_names 0 c.args.failures.now (fits cs) ∙ fit_names cs)) c.ready.invariant.7)
 
 pub meet_all-requires-clause-same : goal.meet_all-requires-clause-same
 meet_all-requires-clause-same c =
-    let cs : List Part = c.ready.inside.coming.items in
-    let e = ap (λ (ps : List Part). fits ps) c.begin_all.ensures ∙ began_fits 0 c.args.failures.now (fits cs) ∙ ap (λ (r : Readied). r.coming) c.ready.view_is in
+    let cs : List ComponentState = c.ready.inside.coming.items in
+    let e = ap (λ (ps : List ComponentState). fits ps) c.begin_all.ensures ∙ began_fits 0 c.args.failures.now (fits cs) ∙ ap (λ (r : Readied). r.coming) c.ready.view_is in
     subst (λ (fs : List Fitted). KeepSteps fs (standing c.args.slots.now.items)) (sym e) c.requires.same
 
 pub meet_all-requires-clause-empty : goal.meet_all-requires-clause-empty
@@ -49,10 +49,10 @@ move_all-requires-clause-room c =
 
 pub place_all-requires-clause-room : goal.place_all-requires-clause-room
 place_all-requires-clause-room c =
-    let cs : List Part = c.ready.inside.coming.items in
-    let ds : List Part = c.begin_all.new.coming.items in
+    let cs : List ComponentState = c.ready.inside.coming.items in
+    let ds : List ComponentState = c.begin_all.new.coming.items in
     let r = rw (← c.ready.view_is) at c.requires.room in
-    let f = filter_few (λ (q : Part). not (is_among (standing c.args.slots.now.items) q)) ds in
+    let f = filter_few (λ (q : ComponentState). not (is_among (standing c.args.slots.now.items) q)) ds in
     let b = ap length c.begin_all.ensures ∙ began_length 0 c.args.failures.now cs in
     let u = ap length c.meet_all.ensures.rest in
     let m = ap length c.move_all.ensures.moved in
@@ -60,20 +60,20 @@ place_all-requires-clause-room c =
 
 pub place_all-requires-clause-flags : goal.place_all-requires-clause-flags
 place_all-requires-clause-flags c =
-    let cs : List Part = c.ready.inside.coming.items in
-    let ds : List Part = c.begin_all.new.coming.items in
+    let cs : List ComponentState = c.ready.inside.coming.items in
+    let ds : List ComponentState = c.begin_all.new.coming.items in
     let r = rw (← c.ready.view_is) at c.requires.room in
-    let f = filter_few (λ (q : Part). not (is_among (standing c.args.slots.now.items) q)) ds in
+    let f = filter_few (λ (q : ComponentState). not (is_among (standing c.args.slots.now.items) q)) ds in
     let b = ap length c.begin_all.ensures ∙ began_length 0 c.args.failures.now cs in
     let u = ap length c.meet_all.ensures.rest in
     omega (arith, r, f, b, u, c.meet_all.ensures.many, c.meet_all.ensures.capacity, c.ready.invariant.2, c.ready.invariant.3)
 
 pub returns-clause-few : goal.returns-clause-few
 returns-clause-few c =
-    let cs : List Part = c.ready.inside.coming.items in
-    let ds : List Part = c.begin_all.new.coming.items in
+    let cs : List ComponentState = c.ready.inside.coming.items in
+    let ds : List ComponentState = c.begin_all.new.coming.items in
     let r = rw (← c.ready.view_is) at c.requires.room in
-    let f = filter_few (λ (q : Part). not (is_among (standing c.args.slots.now.items) q)) ds in
+    let f = filter_few (λ (q : ComponentState). not (is_among (standing c.args.slots.now.items) q)) ds in
     let b = ap length c.begin_all.ensures ∙ began_length 0 c.args.failures.now cs in
     let u = ap length c.meet_all.ensures.rest in
     let m = ap length c.move_all.ensures.moved in
@@ -82,12 +82,12 @@ returns-clause-few c =
 pub returns-clause-changed : goal.returns-clause-changed
 returns-clause-changed c =
     let fs : List Fitted = fits c.ready.inside.coming.items in
-    let ps : List Part = standing c.args.slots.now.items in
+    let ps : List ComponentState = standing c.args.slots.now.items in
     rw c.swap.ensures.x_after (all_changed (counted 0 c.args.failures.now fs) ps c.begin_all.new.coming.items c.meet_all.new.coming.items c.meet_all.new.slots.items c.place_all.new.room.items c.begin_all.ensures c.meet_all.ensures.rest c.meet_all.ensures.met
-    (c.place_all.ensures.placed ∙ ap (λ (xs : List Part). with_newcomers c.meet_all.new.coming.items xs) c.move_all.ensures.moved)
+    (c.place_all.ensures.placed ∙ ap (λ (xs : List ComponentState). with_newcomers c.meet_all.new.coming.items xs) c.move_all.ensures.moved)
     ∙ ap (λ (r : Readied). with_items (counted 0 c.args.failures.now r.coming) ps) c.ready.view_is)
 
 pub returns-clause-coming_apart : goal.returns-clause-coming_apart
 returns-clause-coming_apart c =
-    let cs : List Part = c.ready.inside.coming.items in
+    let cs : List ComponentState = c.ready.inside.coming.items in
     subst AreNamesApart (sym (fit_names cs) ∙ ap (λ (r : Readied). map name_of r.coming) c.ready.view_is) c.ready.invariant.7

@@ -1,6 +1,6 @@
 use Rattle.std.proofs.Common.{◌++◌, [], ℕ, ◌-◌, List, take, refl, sym, ap, ◌∙◌, arith}
 use Rattle.components.specs.Changes.{with_newcomers}
-use Rattle.components.specs.World.{Part}
+use Rattle.components.specs.Components.{ComponentState}
 use Rattle.components.proofs.Meets.{newcomers_last}
 use Rattle.supervisor.proofs.merging.place_all.Goals as goal
 
@@ -39,11 +39,11 @@ returns-clause-few c =
 
 pub rest-preserved : goal.rest-preserved
 rest-preserved c =
-    let ns : List Part = c.pop.new.self.items in
+    let ns : List ComponentState = c.pop.new.self.items in
     let len = c.in-Some.ensures.cases in
     record {
       placed = ap (with_newcomers ns) c.place.ensures.placed ∙ sym (newcomers_last ns c.in-Some.slot c.rest.room.items)
-          ∙ ap (λ (xs : List Part). with_newcomers xs c.rest.room.items) (sym c.in-Some.ensures.items) ∙ c.rest.invariant.placed;
+          ∙ ap (λ (xs : List ComponentState). with_newcomers xs c.rest.room.items) (sym c.in-Some.ensures.items) ∙ c.rest.invariant.placed;
       sum = (let e = c.place.ensures.len in let s = c.rest.invariant.sum in omega (arith, len, e, s));
       many = (let e = c.place.ensures.len in let l = c.push_reserved.ensures.len in let m = c.rest.invariant.many in omega (arith, e, l, m));
       room = c.place.ensures.capacity ∙ c.rest.invariant.room;
@@ -52,5 +52,5 @@ rest-preserved c =
 
 pub returns-clause-placed : goal.returns-clause-placed
 returns-clause-placed c =
-    let empty = c.in_default.ensures.items ∙ ap (λ (xs : List Part). xs ++ []) (c.in_default.ensures.rest ∙ ap (λ (n : ℕ). take (n - 1) c.rest.coming.items) c.in_default.ensures.cases.0) in
-    ap (λ (ns : List Part). with_newcomers ns c.rest.room.items) (sym empty) ∙ c.rest.invariant.placed
+    let empty = c.in_default.ensures.items ∙ ap (λ (xs : List ComponentState). xs ++ []) (c.in_default.ensures.rest ∙ ap (λ (n : ℕ). take (n - 1) c.rest.coming.items) c.in_default.ensures.cases.0) in
+    ap (λ (ns : List ComponentState). with_newcomers ns c.rest.room.items) (sym empty) ∙ c.rest.invariant.placed

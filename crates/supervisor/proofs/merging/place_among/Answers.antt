@@ -1,6 +1,6 @@
 use Rattle.std.proofs.Common.{◌≡◌, arith, refl, sym, subst, ◌∙◌, List, ℕ, true, false}
 use Rattle.components.specs.Fitted.{is_before}
-use Rattle.components.specs.World.{Part, At, part_name}
+use Rattle.components.specs.Components.{ComponentState, At, component_name}
 use Rattle.components.proofs.Meets.{placed_here, placed_last, placed_skip}
 use Rattle.supervisor.proofs.merging.place_among.Goals as goal
 
@@ -9,12 +9,12 @@ loop-at-init c = λ p e. refl
 
 pub loop-at-preserved : goal.loop-at-preserved
 loop-at-preserved c = λ p e.
-    let h = subst (λ (n : List ℕ). At c.loop-at.at (λ (q : Part). false ≡ is_before n (part_name q)) c.args.slots.now) (sym e) c.if-is_before_at.ensures in
+    let h = subst (λ (n : List ℕ). At c.loop-at.at (λ (q : ComponentState). false ≡ is_before n (component_name q)) c.args.slots.now) (sym e) c.if-is_before_at.ensures in
     c.loop-at.invariant p e ∙ placed_skip p c.args.slots.now c.loop-at.at h
 
 pub returns-then-is_before_at-clause-placed : goal.returns-then-is_before_at-clause-placed
 returns-then-is_before_at-clause-placed c = λ p e.
-    let h = subst (λ (n : List ℕ). At c.loop-at.at (λ (q : Part). true ≡ is_before n (part_name q)) c.args.slots.now) (sym e) c.if-is_before_at.ensures in
+    let h = subst (λ (n : List ℕ). At c.loop-at.at (λ (q : ComponentState). true ≡ is_before n (component_name q)) c.args.slots.now) (sym e) c.if-is_before_at.ensures in
     placed_here p c.args.slots.now c.loop-at.at h ∙ sym (c.loop-at.invariant p e)
 
 pub returns-clause-placed : goal.returns-clause-placed

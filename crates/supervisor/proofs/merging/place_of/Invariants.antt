@@ -1,5 +1,5 @@
 use Rattle.std.proofs.Common.{◌≡◌, drop}
-use Rattle.components.specs.World.{place_from, place_of}
+use Rattle.components.specs.Components.{place_from, place_of}
 use Rattle.supervisor.proofs.merging.place_of.Given as goal
 
 abbrev pub invariant-loop-at : goal.invariant-loop-at

@@ -1,5 +1,5 @@
 use Rattle.std.proofs.Common.{◌∙◌, Some, ap, arith, sym}
-use Rattle.components.specs.World.{place_of}
+use Rattle.components.specs.Components.{place_of}
 use Rattle.components.proofs.Meets.{found_place, lacks_place}
 use Rattle.supervisor.proofs.merging.take_named.Goals as goal
 

@@ -1,13 +1,13 @@
 use Rattle.std.proofs.Common.{◌≤◌, List, arith, length, map}
 use Rattle.records.specs.Stored.{item_view}
 use Rattle.std.proofs.lemmas.List.{length-map}
-use Rattle.components.specs.World.{Part}
+use Rattle.components.specs.Components.{ComponentState}
 use Rattle.supervisor.proofs.Readies.{ready_apart, ready_few}
 use Rattle.supervisor.proofs.ready.make_ready.Goals as goal
 
 pub invariant_of-result : goal.invariant_of-result
 invariant_of-result c =
-    let ps : List Part = c.in_ok-coming.coming.items in
+    let ps : List ComponentState = c.in_ok-coming.coming.items in
     let items = map item_view c.args.items.now in
     let l = length-map c.args.items.now item_view in
     let few : length ps ≤ 128 = ready_few c.args.origin.now items ps c.in_ok-coming.ensures.fitted (omega (arith, l, c.requires.few)) in

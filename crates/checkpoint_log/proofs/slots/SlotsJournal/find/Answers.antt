@@ -44,7 +44,7 @@ returns-in-Ok-clause-open g c =
     let seen = c.end_in.ensures.seen ∙ c.live_number.ensures.seen in
     let settled = all_settled g.met.D.Disk.laws c.settle.new.disk c.end_in.new.disk
     (then_same g.met.D.Disk.laws c.settle.new.disk c.live_number.new.disk c.end_in.new.disk _ c.live_number.ensures.moments c.end_in.ensures.moments) seen c.in_ok-settle.ensures.settled in
-    found_open g.D.Disk.tells g.met.D.Disk.laws _ c.end_in.new.disk
+    found_open g.D.Disk.is_modelled g.met.D.Disk.laws _ c.end_in.new.disk
     (λ told.
     let number : IsNumber image (Ok c.in_ok-number.number) = subst (λ (i : Image). IsNumber i (Ok c.in_ok-number.number)) (sym seen) (c.in_ok-number.ensures.told told) in
     let file : g.D.Disk.seen c.live_number.new.disk c.slot_name.result.now ≡ image (slot c.in_ok-number.number) =

@@ -1,6 +1,6 @@
 use Rattle.std.proofs.Common.{inl}
 use Rattle.device.specs.Lawful.{applied}
-use Rattle.deploy_state.specs.Hand.{StandsForEither}
+use Rattle.deploy_state.specs.Owned.{StandsForEither}
 use Rattle.deploy_state.specs.States.{device_of}
 use Rattle.deploy_state.proofs.Steps.{in_hand_stands, may_begin}
 use Rattle.deploy_state.proofs.Within.{start_within}

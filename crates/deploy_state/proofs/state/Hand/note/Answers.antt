@@ -15,12 +15,12 @@ sized : (into : List ℕ) (n : ℕ) → length into ≡ 1024 → n ≤ 160 → l
 sized into n long small = length-take-le n into (omega (arith, long, small))
 
 pub append-requires-clause-first : goal.append-requires-clause-first
-append-requires-clause-first g c = λ tells on.
+append-requires-clause-first g c = λ is_modelled on.
     let h = c.requires.hand in
     let image = g.D.Disk.seen c.args.disk.now in
-    let behind = reads_behind g.met.D.Disk.laws g.J.Journal.stands c.args.self.now.log c.args.disk.now h.payloads h.behind tells in
+    let behind = reads_behind g.met.D.Disk.laws g.J.Journal.stands c.args.self.now.log c.args.disk.now h.payloads h.behind is_modelled in
     let laws = g.met.J.Journal.laws in
-    absurd (has_entry h.payloads (device_of c.args.self.now) h.origin (h.means tells).0
+    absurd (has_entry h.payloads (device_of c.args.self.now) h.origin (h.means is_modelled).0
     (laws.one image h.payloads [] (laws.holds c.args.self.now.log image h.payloads behind) (laws.holds c.args.self.now.log image [] on)))
 
 pub returns-in-Ok-clause-moments : goal.returns-in-Ok-clause-moments
@@ -54,7 +54,7 @@ returns-in-Ok-clause-hand g c =
     let w = c.write_mark-size in
     let h = c.requires.hand in
     let may = c.requires.may in
-    handed (g.D.Disk.tells) (g.D.Disk.may_leave) (g.J.Journal.stands) (g.J.Journal.end) c.args.self.now.log c.append.new.self c.args.disk.now c.append.new.disk
+    handed (g.D.Disk.is_modelled) (g.D.Disk.may_leave) (g.J.Journal.stands) (g.J.Journal.end) c.args.self.now.log c.append.new.self c.args.disk.now c.append.new.disk
     (device_of c.args.self.now) _ c.args.mark may.0 (take w.result w.new.into) h may.1 may.2 (w.ensures.spelled may.0 may.1) (c.apply_mark.ensures.applied may.0 may.1)
     (c.in-Ok.ensures.added h.payloads h.behind) c.in-Ok.ensures.place
 

@@ -5,7 +5,7 @@ use Rattle.records.specs.Stored.{plan_view}
 use Rattle.device.specs.Lawful.{applied}
 use Rattle.device.specs.Standing.{StandsFor}
 use Rattle.deploy_state.specs.Accepting.{booting_log, idle_log}
-use Rattle.deploy_state.specs.Hand.{StandsForEither}
+use Rattle.deploy_state.specs.Owned.{StandsForEither}
 use Rattle.deploy_state.specs.States.{idle_device}
 use Rattle.deploy_state.specs.Turning.{can_turn, next_front, plan_bytes, starts_at}
 use Rattle.deploy_state.proofs.Accepted.{plan_short}

@@ -13,12 +13,12 @@ use Rattle.deploy_state.proofs.Turning.{place_more}
 use Rattle.deploy_state.proofs.state.Idle.enter.Goals as goal
 
 pub append-requires-clause-first : goal.append-requires-clause-first
-append-requires-clause-first g c = λ tells on.
+append-requires-clause-first g c = λ is_modelled on.
     let h = c.requires.held.0 in
     let image = g.D.Disk.seen c.args.disk.now in
-    let behind = reads_behind g.met.D.Disk.laws g.J.Journal.stands c.args.self.log c.args.disk.now h.payloads h.behind tells in
+    let behind = reads_behind g.met.D.Disk.laws g.J.Journal.stands c.args.self.log c.args.disk.now h.payloads h.behind is_modelled in
     let laws = g.met.J.Journal.laws in
-    absurd (has_entry h.payloads (idle_device c.args.self) h.origin (h.means tells).0
+    absurd (has_entry h.payloads (idle_device c.args.self) h.origin (h.means is_modelled).0
     (laws.one image h.payloads [] (laws.holds c.args.self.log image h.payloads behind) (laws.holds c.args.self.log image [] on)))
 
 pub append-requires-clause-some : goal.append-requires-clause-some
@@ -65,7 +65,7 @@ returns-in-Ok-clause-held g c =
     let place = c.in-Ok.ensures.place in
     let same = ap length c.as_slice.ensures in
     let behind = subst (λ (b : List ℕ). IsBehind g.D.Disk.may_leave g.J.Journal.stands c.append.new.self c.append.new.disk (h.payloads ++ b ∷ [])) c.as_slice.ensures (c.in-Ok.ensures.added h.payloads h.behind) in
-    let hand = plan_in_hand g.D.Disk.tells g.D.Disk.may_leave g.J.Journal.stands g.J.Journal.end c.args.self.log c.append.new.self c.args.disk.now c.append.new.disk d (device_view c.take_plan.new.self) plan p h
+    let hand = plan_in_hand g.D.Disk.is_modelled g.D.Disk.may_leave g.J.Journal.stands g.J.Journal.end c.args.self.log c.append.new.self c.args.disk.now c.append.new.disk d (device_view c.take_plan.new.self) plan p h
     c.requires.held.1 c.requires.lawful c.requires.regular c.requires.payload is behind
     (λ told.
     let on = reads_behind g.met.D.Disk.laws g.J.Journal.stands c.args.self.log c.args.disk.now h.payloads h.behind told in

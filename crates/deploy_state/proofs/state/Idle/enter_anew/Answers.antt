@@ -3,7 +3,7 @@ use Rattle.records.specs.Stored as stored
 use Rattle.records.specs.Stored.{plan_view}
 use Rattle.device.specs.Lawful.{applied}
 use Rattle.device.specs.Standing.{StandsFor}
-use Rattle.deploy_state.specs.Hand.{StandsForEither}
+use Rattle.deploy_state.specs.Owned.{StandsForEither}
 use Rattle.deploy_state.specs.States.{idle_device}
 use Rattle.deploy_state.proofs.Within.{then_within}
 use Rattle.deploy_state.proofs.state.Idle.enter_anew.Goals as goal

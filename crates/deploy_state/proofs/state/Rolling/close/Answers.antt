@@ -3,7 +3,7 @@ use Rattle.nuc_base.specs.declared.kinds.Outcome.{Outcome}
 use Rattle.disk_model.specs.Disk.{Leaves}
 use Rattle.records.specs.Stored as stored
 use Rattle.device.specs.Lawful.{applied}
-use Rattle.deploy_state.specs.Hand.{LeavesEither}
+use Rattle.deploy_state.specs.Owned.{LeavesEither}
 use Rattle.deploy_state.specs.States.{device_of, idle_device}
 use Rattle.deploy_state.proofs.Steps.{may_roll}
 use Rattle.deploy_state.proofs.state.Rolling.close.Goals as goal

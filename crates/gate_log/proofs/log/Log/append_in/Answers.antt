@@ -19,12 +19,12 @@ has_gate : (file : List ℕ) (end : ℕ) (payloads : List (List ℕ)) → Closed
 has_gate file end payloads h = omega (arith, ap length h.file_is, length-append (joined h.entries) (0 ∷ h.tail), h.end_is)
 
 -- an entry is staged behind the closed gate, stable, and the gate is opened: the moments of both
-opened_moments : {D : Type 0} {tells : Bool} {seen : D → Image} {may_leave : D → Image → Type 0} {moment : D → ℕ} {left_since : D → ℕ → Image → Type 0}
-    → DiskLaws tells seen may_leave moment left_since → (file : List ℕ) (log : Log) (old mid new : D) (payloads : List (List ℕ)) (payload : List ℕ)
+opened_moments : {D : Type 0} {is_modelled : Bool} {seen : D → Image} {may_leave : D → Image → Type 0} {moment : D → ℕ} {left_since : D → ℕ → Image → Type 0}
+    → DiskLaws is_modelled seen may_leave moment left_since → (file : List ℕ) (log : Log) (old mid new : D) (payloads : List (List ℕ)) (payload : List ℕ)
     → IsBehind may_leave (stands_in file) log old payloads → 1 ≤ length payload → length payload ≤ most_payload
     → Leaves moment left_since old mid (After (may_leave old) (Step file (λ a b. take (log.end + 1) b ≡ take (log.end + 1) a)))
     → Settled (may_leave mid) file (seen mid file)
-    → (IsTrue tells → (rest : List ℕ) × (seen mid file ≡ take (log.end + 1) (seen old file) ++ to_be_bytes w32 (length payload) ++ payload ++ 0 ∷ rest))
+    → (IsTrue is_modelled → (rest : List ℕ) × (seen mid file ≡ take (log.end + 1) (seen old file) ++ to_be_bytes w32 (length payload) ++ payload ++ 0 ∷ rest))
     → Leaves moment left_since mid new (After (may_leave mid) (Step file (Torn log.end 1)))
     → Leaves moment left_since old new (After (may_leave old) (Within (files_of file) (BeforeOrAfter (entries_in file) payloads payload)))
 opened_moments {seen = seen} laws file log old mid new payloads payload behind some fits staging settled written opening =

@@ -1,6 +1,6 @@
 use Rattle.std.proofs.Common.{◌≡◌, rules, not, ◌==◌, filter}
 use Rattle.std.proofs.lemmas.Fn.{filter_same}
-use Rattle.components.specs.World.{Child}
+use Rattle.components.specs.Components.{Child}
 use Rattle.supervisor.proofs.Once.{once_filtered}
 use Rattle.supervisor.proofs.children.Children.remove.Goals as goal
 

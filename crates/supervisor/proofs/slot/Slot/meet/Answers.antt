@@ -2,7 +2,7 @@ use Rattle.std.proofs.Common.{◌≡◌, ◌<◌, ap, subst, sym, true}
 use Rattle.components.specs.Changes.{Coming}
 use Rattle.components.specs.Fitted.{is_same_item, steps_of}
 use Rattle.components.specs.Readied.{coming_of}
-use Rattle.components.specs.World.{Part}
+use Rattle.components.specs.Components.{ComponentState}
 use Rattle.supervisor.proofs.Slots.{comes_by, meets_by}
 use Rattle.supervisor.proofs.slot.Slot.meet.Goals as goal
 
@@ -17,7 +17,7 @@ meet_item-requires-clause-few c = subst (λ (n : Coming). n.1 < 3) (sym c.into_c
 
 pub meet_item-requires-clause-same : goal.meet_item-requires-clause-same
 meet_item-requires-clause-same c =
-    let p : Part = c.args.self.now in
+    let p : ComponentState = c.args.self.now in
     subst (λ (n : Coming). is_same_item n.0.item p.fitted.item ≡ true → steps_of n.0 ≡ steps_of p.fitted) (sym c.into_coming-coming.ensures) c.requires.same
 
 pub returns-else-is_gone : goal.returns-else-is_gone

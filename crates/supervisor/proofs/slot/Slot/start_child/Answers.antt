@@ -1,6 +1,6 @@
 use Rattle.lifecycle.specs.Awaits.{is_same_step, is_busy_with}
 use Rattle.std.specs.List.{list_any}
-use Rattle.components.specs.World.{Child}
+use Rattle.components.specs.Components.{Child}
 use Rattle.components.proofs.Lived.{and_not}
 use Rattle.supervisor.proofs.slot.Slot.start_child.Goals as goal
 

@@ -1,6 +1,6 @@
 use Rattle.std.proofs.Common.{◌∙◌, ap, sym, List}
 use Rattle.std.specs.Prelude.{slice_get}
-use Rattle.components.specs.World.{Child}
+use Rattle.components.specs.Components.{Child}
 use Rattle.supervisor.proofs.Asked.{stop_awaits, stop_first, stop_moves, stop_none}
 use Rattle.supervisor.proofs.slot.Slot.stop_deed.Goals as goal
 

@@ -1,6 +1,0 @@
-use Rattle.std.specs.List.{AllByRecursion}
-use Rattle.device.specs.Fronts.{IsRegularEntry}
-use Rattle.device_vectors.proofs.fronts.records_of.Given as goal
-
-abbrev pub invariant-loop-payload : goal.invariant-loop-payload
-invariant-loop-payload l = AllByRecursion IsRegularEntry l.records

@@ -1,5 +1,0 @@
-use Rattle.device.specs.Devices.{device_view, IsRegularDevice}
-use Rattle.device_vectors.proofs.statuses.take_all.Given as goal
-
-abbrev pub invariant-loop-bytes : goal.invariant-loop-bytes
-invariant-loop-bytes l = IsRegularDevice (device_view l.device)

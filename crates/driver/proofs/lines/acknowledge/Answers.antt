@@ -1,5 +1,0 @@
-use Rattle.driver.proofs.Written.{accepted_joined}
-use Rattle.driver.proofs.lines.acknowledge.Goals as goal
-
-pub returns-clause-line : goal.returns-clause-line
-returns-clause-line g c = rw (← c.id.ensures, ← accepted_joined c.id.result.now, ← c.as_str.ensures.value) c.write_pieces.ensures.bytes

@@ -1,0 +1,9 @@
+pub mod Causes
+pub mod Courses
+pub mod Follows
+pub mod TraceEvents
+pub mod Once
+pub mod Phases
+pub mod States
+pub mod Ready
+pub mod Waits

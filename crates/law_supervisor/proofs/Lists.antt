@@ -1,0 +1,64 @@
+-- What stands in a list of components.
+use Rattle.std.proofs.Common.{◌≡◌, ℕ, suc, zero, List, [], ◌∷◌, map, Option, Some, None, Bool, true, false, refl, ap, ◌⊎◌, inl, inr, subst}
+use Rattle.std.specs.Prelude.{◌||◌, not, is_some, slice_get}
+use Rattle.std.specs.List.{AllByRecursion}
+use Rattle.components.specs.Components.{ComponentState, changed_at}
+
+pub either : (b : Bool) → (b ≡ true) ⊎ (b ≡ false)
+either true = inl refl
+either false = inr refl
+
+pub clash : {A : Type 0} (b : Bool) → b ≡ true → b ≡ false → A
+clash true e f = absurd (cc)
+clash false e f = absurd (cc)
+
+pub not_so : (b : Bool) → not b ≡ true → b ≡ false
+not_so true e = absurd (cc)
+not_so false e = refl
+
+pub none_of : {X : Type 0} (o : Option X) → is_some o ≡ false → o ≡ None
+none_of None e = refl
+none_of (Some x) e = absurd (cc)
+
+pub second_true : (a b : Bool) → (a || b) ≡ true → a ≡ false → b ≡ true
+second_true true b e f = absurd (cc)
+second_true false b e f = e
+
+pub some_same : {X : Type 0} (x y : X) → Some x ≡ Some y → x ≡ y
+some_same x y e = ap (λ o. elim o [ None ↦ x | Some z ↦ z ]) e
+
+pub no_some : {A : Type 0} {X : Type 0} (x : X) → None ≡ Some x → A
+no_some x e = absurd (cc)
+
+-- ---- by places, and by recursion
+
+pub from_places : (P : ComponentState → Type 0) (ps : List ComponentState) → ((k : ℕ) (p : ComponentState) → slice_get ps k ≡ Some p → P p) → AllByRecursion P ps
+from_places P [] f = tt
+from_places P (p ∷ ps) f = (f 0 p refl, from_places P ps (λ k q e. f (suc k) q e))
+
+pub at_places : (P : ComponentState → Type 0) (ps : List ComponentState) → AllByRecursion P ps → (k : ℕ) (p : ComponentState) → slice_get ps k ≡ Some p → P p
+at_places P [] a k p e = no_some p e
+at_places P (q ∷ qs) a zero p e = subst P (some_same q p e) a.0
+at_places P (q ∷ qs) a (suc k) p e = at_places P qs a.1 k p e
+
+-- ---- one changes
+
+pub changed_all : (P : ComponentState → Type 0) (k : ℕ) (g : ComponentState → ComponentState) (ps : List ComponentState) → AllByRecursion P ps → ((p : ComponentState) → slice_get ps k ≡ Some p → P p → P (g p)) → AllByRecursion P (changed_at k g ps)
+changed_all P k g [] a f = tt
+changed_all P zero g (p ∷ ps) a f = (f p refl a.0, a.1)
+changed_all P (suc k) g (p ∷ ps) a f = (a.0, changed_all P k g ps a.1 f)
+
+pub changed_same : {X : Type 0} (v : ComponentState → X) (k : ℕ) (g : ComponentState → ComponentState) (ps : List ComponentState) → ((p : ComponentState) → slice_get ps k ≡ Some p → v (g p) ≡ v p) → map v (changed_at k g ps) ≡ map v ps
+changed_same v k g [] f = refl
+changed_same v zero g (p ∷ ps) f = ap (λ x. x ∷ map v ps) (f p refl)
+changed_same v (suc k) g (p ∷ ps) f = ap (λ xs. v p ∷ xs) (changed_same v k g ps f)
+
+pub twice : (k : ℕ) (g h : ComponentState → ComponentState) (ps : List ComponentState) → changed_at k g (changed_at k h ps) ≡ changed_at k (λ p. g (h p)) ps
+twice k g h [] = refl
+twice zero g h (p ∷ ps) = refl
+twice (suc k) g h (p ∷ ps) = ap (λ (qs : List ComponentState). p ∷ qs) (twice k g h ps)
+
+pub changed_nothing : (k : ℕ) (ps : List ComponentState) → changed_at k (λ p. p) ps ≡ ps
+changed_nothing k [] = refl
+changed_nothing zero (p ∷ ps) = refl
+changed_nothing (suc k) (p ∷ ps) = ap (λ (qs : List ComponentState). p ∷ qs) (changed_nothing k ps)

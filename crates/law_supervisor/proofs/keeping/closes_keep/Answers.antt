@@ -1,0 +1,11 @@
+use Rattle.law_supervisor.proofs.Steadied.{owner_steadied, steadied_orderly, told_steadied}
+use Rattle.law_supervisor.proofs.keeping.closes_keep.Goals as goal
+
+pub returns-clause-orderly : goal.returns-clause-orderly
+returns-clause-orderly c = steadied_orderly
+
+pub returns-clause-owners : goal.returns-clause-owners
+returns-clause-owners c = owner_steadied
+
+pub returns-clause-told : goal.returns-clause-told
+returns-clause-told c = told_steadied

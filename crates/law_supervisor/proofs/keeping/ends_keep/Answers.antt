@@ -1,0 +1,8 @@
+use Rattle.law_supervisor.proofs.Gone.{ended_keeps, ended_owns}
+use Rattle.law_supervisor.proofs.keeping.ends_keep.Goals as goal
+
+pub returns-clause-keeps : goal.returns-clause-keeps
+returns-clause-keeps c = ended_keeps
+
+pub returns-clause-owners : goal.returns-clause-owners
+returns-clause-owners c = ended_owns

@@ -1,0 +1,33 @@
+// Small worlds in which what is to be kept holds, so that no law speaks of nothing.
+ghost use Rattle.std.specs.Prelude.{◌≡◌, false, Some, None, [], ◌∷◌, map, pos};
+ghost use Rattle.nuc_base.specs.declared.kinds.Exit.TheVariants as exits;
+ghost use Rattle.nuc_base.specs.declared.kinds.Step.TheVariants as step;
+ghost use Rattle.lifecycle.specs.declared.kinds.After.TheVariants as after;
+ghost use Rattle.components.specs.declared.kinds.Prepared.{Prepared};
+ghost use Rattle.components.specs.Acts.{Quietly, OwesAt};
+ghost use Rattle.law_supervisor.specs.Keeps.{Keeps, IsTold, Owns, count_of};
+ghost use Rattle.law_supervisor.specs.Sound.{IsOrderly};
+ghost use Rattle.law_supervisor.specs.Rows.{fitted_a, device_a, comes, begins, begun_a, lives, failed, recorded, told, stands, replaced};
+
+/// A component comes, its install begins, its child lives and fails, and the failure is told and recorded: it is kept
+/// all the way, and the premises of each law are met.
+pub fn one_fails_once()
+    ensures comes { (m : Prepared) → Keeps device_a (comes m) }
+    ensures moves { (m : Prepared) → Quietly (comes m) (begins ∷ []) (begun_a m) }
+    ensures begins { (m : Prepared) → Keeps device_a (begun_a m) }
+    ensures lives { (m : Prepared) → Keeps device_a (lives m) }
+    ensures owns { (m : Prepared) → Owns (lives m) 7 }
+    ensures fails { (m : Prepared) → Keeps device_a (failed m) }
+    ensures owes { (m : Prepared) → OwesAt (failed m) 0 step.Install (exits.Code (pos 1)) false }
+    ensures told { (m : Prepared) → Keeps recorded (told m) }
+    ensures empty { (m : Prepared) → IsTold (told m) }
+    ensures counted { count_of recorded (97 ∷ []) ≡ Some 1 }
+{}
+
+/// Version 1 comes for version 2, which failed twice: it is to be stopped, and then begins with the device's count.
+pub fn one_is_replaced()
+    ensures orderly { (m : Prepared) → IsOrderly (stands m) }
+    ensures keeps { (m : Prepared) → Keeps device_a (replaced m) }
+    ensures waits { (m : Prepared) → map (λ p. p.next) (replaced m).parts ≡ Some (fitted_a 49 m, 0) ∷ [] }
+    ensures stops { (m : Prepared) → map (λ p. p.stop) (replaced m).parts ≡ Some after.Again ∷ [] }
+{}

@@ -1,0 +1,139 @@
+-- What falls in one component at each event of the table.
+use Rattle.std.proofs.Common.{◌≡◌, ◌≤◌, ◌+◌, ℕ, Bool, true, false, arith, is_some, List, Option}
+use Rattle.nuc_base.specs.declared.kinds.Step.{Step}
+use Rattle.nuc_base.specs.declared.kinds.Step.TheVariants as step
+use Rattle.nuc_base.specs.declared.kinds.Exit.{Exit}
+use Rattle.lifecycle.specs.Life.{IsSound}
+use Rattle.lifecycle.specs.Table.{table}
+use Rattle.lifecycle.specs.declared.kinds.StepSet.{StepSet}
+use Rattle.lifecycle.specs.declared.kinds.State.{State}
+use Rattle.lifecycle.specs.declared.kinds.State.TheVariants as state
+use Rattle.lifecycle.specs.declared.kinds.After.{After}
+use Rattle.lifecycle.specs.declared.kinds.After.TheVariants as after
+use Rattle.lifecycle.specs.declared.kinds.LifeEvent.{LifeEvent}
+use Rattle.lifecycle.specs.declared.kinds.LifeEvent.TheVariants as event
+use Rattle.components.specs.Fitted.{Fitted}
+use Rattle.components.specs.Components.{ComponentState, Child, under_way}
+use Rattle.components.specs.Lives.{lived}
+use Rattle.law_termination.specs.Kept.{MayBefall}
+use Rattle.law_supervisor.specs.Sound.{may_ask}
+use Rattle.law_termination.specs.Rank.{core, gain}
+
+module _ (f : Fitted) (steps : StepSet) (n : ℕ) (busy : Option Step) (runs inst : Bool) (way : Option After) (cs : List Child) (hd : Bool) (o : Option (Step × Exit)) (asked : Option After) (nx : Option (Fitted × ℕ)) where
+  -- a component that stands
+  abbrev pub mk : State → ComponentState
+  mk s = record {
+    fitted = f;
+    children = cs;
+    handed = hd;
+    owed = o;
+    stop = asked;
+    next = nx;
+    life = record { steps = steps; state = s; failures = n; busy = busy; runs = runs; install_failed = inst; stop = way; gone = false };
+  }
+
+  pub falls_at : (s : State) (e : LifeEvent) → IsSound (mk s).life → may_ask (under_way (mk s).life) asked ≡ true → MayBefall e (mk s) → is_some (table (mk s).life e) ≡ true → core (lived false e (mk s)) + gain e (lived false e (mk s)).life.busy ≤ core (mk s)
+  falls_at state.New event.MayBegin k a m t = grind (arith, k, a, m, t)
+  falls_at state.New event.Retry k a m t = grind (arith, k, a, m, t)
+  falls_at state.New event.Launched k a m t = grind (arith, k, a, m, t)
+  falls_at state.New event.Skipped k a m t = grind (arith, k, a, m, t)
+  falls_at state.New (event.Stop after.Restart) k a m t = grind (arith, k, a, m, t)
+  falls_at state.New (event.Stop after.Again) k a m t = grind (arith, k, a, m, t)
+  falls_at state.New (event.Stop after.Gone) k a m t = grind (arith, k, a, m, t)
+  falls_at state.New (event.Ended step.Install x) k a m t = grind (arith, k, a, m, t)
+  falls_at state.New (event.Ended step.Run x) k a m t = grind (arith, k, a, m, t)
+  falls_at state.New (event.Ended step.Startup x) k a m t = grind (arith, k, a, m, t)
+  falls_at state.New (event.Ended step.Shutdown x) k a m t = grind (arith, k, a, m, t)
+  falls_at state.New (event.Ended step.Recover x) k a m t = grind (arith, k, a, m, t)
+  falls_at state.New (event.Ended step.Bootstrap x) k a m t = grind (arith, k, a, m, t)
+  falls_at state.Installed event.MayBegin k a m t = grind (arith, k, a, m, t)
+  falls_at state.Installed event.Retry k a m t = grind (arith, k, a, m, t)
+  falls_at state.Installed event.Launched k a m t = grind (arith, k, a, m, t)
+  falls_at state.Installed event.Skipped k a m t = grind (arith, k, a, m, t)
+  falls_at state.Installed (event.Stop after.Restart) k a m t = grind (arith, k, a, m, t)
+  falls_at state.Installed (event.Stop after.Again) k a m t = grind (arith, k, a, m, t)
+  falls_at state.Installed (event.Stop after.Gone) k a m t = grind (arith, k, a, m, t)
+  falls_at state.Installed (event.Ended step.Install x) k a m t = grind (arith, k, a, m, t)
+  falls_at state.Installed (event.Ended step.Run x) k a m t = grind (arith, k, a, m, t)
+  falls_at state.Installed (event.Ended step.Startup x) k a m t = grind (arith, k, a, m, t)
+  falls_at state.Installed (event.Ended step.Shutdown x) k a m t = grind (arith, k, a, m, t)
+  falls_at state.Installed (event.Ended step.Recover x) k a m t = grind (arith, k, a, m, t)
+  falls_at state.Installed (event.Ended step.Bootstrap x) k a m t = grind (arith, k, a, m, t)
+  falls_at state.Starting event.MayBegin k a m t = grind (arith, k, a, m, t)
+  falls_at state.Starting event.Retry k a m t = grind (arith, k, a, m, t)
+  falls_at state.Starting event.Launched k a m t = grind (arith, k, a, m, t)
+  falls_at state.Starting event.Skipped k a m t = grind (arith, k, a, m, t)
+  falls_at state.Starting (event.Stop after.Restart) k a m t = grind (arith, k, a, m, t)
+  falls_at state.Starting (event.Stop after.Again) k a m t = grind (arith, k, a, m, t)
+  falls_at state.Starting (event.Stop after.Gone) k a m t = grind (arith, k, a, m, t)
+  falls_at state.Starting (event.Ended step.Install x) k a m t = grind (arith, k, a, m, t)
+  falls_at state.Starting (event.Ended step.Run x) k a m t = grind (arith, k, a, m, t)
+  falls_at state.Starting (event.Ended step.Startup x) k a m t = grind (arith, k, a, m, t)
+  falls_at state.Starting (event.Ended step.Shutdown x) k a m t = grind (arith, k, a, m, t)
+  falls_at state.Starting (event.Ended step.Recover x) k a m t = grind (arith, k, a, m, t)
+  falls_at state.Starting (event.Ended step.Bootstrap x) k a m t = grind (arith, k, a, m, t)
+  falls_at state.Running event.MayBegin k a m t = grind (arith, k, a, m, t)
+  falls_at state.Running event.Retry k a m t = grind (arith, k, a, m, t)
+  falls_at state.Running event.Launched k a m t = grind (arith, k, a, m, t)
+  falls_at state.Running event.Skipped k a m t = grind (arith, k, a, m, t)
+  falls_at state.Running (event.Stop after.Restart) k a m t = grind (arith, k, a, m, t)
+  falls_at state.Running (event.Stop after.Again) k a m t = grind (arith, k, a, m, t)
+  falls_at state.Running (event.Stop after.Gone) k a m t = grind (arith, k, a, m, t)
+  falls_at state.Running (event.Ended step.Install x) k a m t = grind (arith, k, a, m, t)
+  falls_at state.Running (event.Ended step.Run x) k a m t = grind (arith, k, a, m, t)
+  falls_at state.Running (event.Ended step.Startup x) k a m t = grind (arith, k, a, m, t)
+  falls_at state.Running (event.Ended step.Shutdown x) k a m t = grind (arith, k, a, m, t)
+  falls_at state.Running (event.Ended step.Recover x) k a m t = grind (arith, k, a, m, t)
+  falls_at state.Running (event.Ended step.Bootstrap x) k a m t = grind (arith, k, a, m, t)
+  falls_at state.Stopping event.MayBegin k a m t = grind (arith, k, a, m, t)
+  falls_at state.Stopping event.Retry k a m t = grind (arith, k, a, m, t)
+  falls_at state.Stopping event.Launched k a m t = grind (arith, k, a, m, t)
+  falls_at state.Stopping event.Skipped k a m t = grind (arith, k, a, m, t)
+  falls_at state.Stopping (event.Stop after.Restart) k a m t = grind (arith, k, a, m, t)
+  falls_at state.Stopping (event.Stop after.Again) k a m t = grind (arith, k, a, m, t)
+  falls_at state.Stopping (event.Stop after.Gone) k a m t = grind (arith, k, a, m, t)
+  falls_at state.Stopping (event.Ended step.Install x) k a m t = grind (arith, k, a, m, t)
+  falls_at state.Stopping (event.Ended step.Run x) k a m t = grind (arith, k, a, m, t)
+  falls_at state.Stopping (event.Ended step.Startup x) k a m t = grind (arith, k, a, m, t)
+  falls_at state.Stopping (event.Ended step.Shutdown x) k a m t = grind (arith, k, a, m, t)
+  falls_at state.Stopping (event.Ended step.Recover x) k a m t = grind (arith, k, a, m, t)
+  falls_at state.Stopping (event.Ended step.Bootstrap x) k a m t = grind (arith, k, a, m, t)
+  falls_at state.Finished event.MayBegin k a m t = grind (arith, k, a, m, t)
+  falls_at state.Finished event.Retry k a m t = grind (arith, k, a, m, t)
+  falls_at state.Finished event.Launched k a m t = grind (arith, k, a, m, t)
+  falls_at state.Finished event.Skipped k a m t = grind (arith, k, a, m, t)
+  falls_at state.Finished (event.Stop after.Restart) k a m t = grind (arith, k, a, m, t)
+  falls_at state.Finished (event.Stop after.Again) k a m t = grind (arith, k, a, m, t)
+  falls_at state.Finished (event.Stop after.Gone) k a m t = grind (arith, k, a, m, t)
+  falls_at state.Finished (event.Ended step.Install x) k a m t = grind (arith, k, a, m, t)
+  falls_at state.Finished (event.Ended step.Run x) k a m t = grind (arith, k, a, m, t)
+  falls_at state.Finished (event.Ended step.Startup x) k a m t = grind (arith, k, a, m, t)
+  falls_at state.Finished (event.Ended step.Shutdown x) k a m t = grind (arith, k, a, m, t)
+  falls_at state.Finished (event.Ended step.Recover x) k a m t = grind (arith, k, a, m, t)
+  falls_at state.Finished (event.Ended step.Bootstrap x) k a m t = grind (arith, k, a, m, t)
+  falls_at state.Errored event.MayBegin k a m t = grind (arith, k, a, m, t)
+  falls_at state.Errored event.Retry k a m t = grind (arith, k, a, m, t)
+  falls_at state.Errored event.Launched k a m t = grind (arith, k, a, m, t)
+  falls_at state.Errored event.Skipped k a m t = grind (arith, k, a, m, t)
+  falls_at state.Errored (event.Stop after.Restart) k a m t = grind (arith, k, a, m, t)
+  falls_at state.Errored (event.Stop after.Again) k a m t = grind (arith, k, a, m, t)
+  falls_at state.Errored (event.Stop after.Gone) k a m t = grind (arith, k, a, m, t)
+  falls_at state.Errored (event.Ended step.Install x) k a m t = grind (arith, k, a, m, t)
+  falls_at state.Errored (event.Ended step.Run x) k a m t = grind (arith, k, a, m, t)
+  falls_at state.Errored (event.Ended step.Startup x) k a m t = grind (arith, k, a, m, t)
+  falls_at state.Errored (event.Ended step.Shutdown x) k a m t = grind (arith, k, a, m, t)
+  falls_at state.Errored (event.Ended step.Recover x) k a m t = grind (arith, k, a, m, t)
+  falls_at state.Errored (event.Ended step.Bootstrap x) k a m t = grind (arith, k, a, m, t)
+  falls_at state.Broken event.MayBegin k a m t = grind (arith, k, a, m, t)
+  falls_at state.Broken event.Retry k a m t = grind (arith, k, a, m, t)
+  falls_at state.Broken event.Launched k a m t = grind (arith, k, a, m, t)
+  falls_at state.Broken event.Skipped k a m t = grind (arith, k, a, m, t)
+  falls_at state.Broken (event.Stop after.Restart) k a m t = grind (arith, k, a, m, t)
+  falls_at state.Broken (event.Stop after.Again) k a m t = grind (arith, k, a, m, t)
+  falls_at state.Broken (event.Stop after.Gone) k a m t = grind (arith, k, a, m, t)
+  falls_at state.Broken (event.Ended step.Install x) k a m t = grind (arith, k, a, m, t)
+  falls_at state.Broken (event.Ended step.Run x) k a m t = grind (arith, k, a, m, t)
+  falls_at state.Broken (event.Ended step.Startup x) k a m t = grind (arith, k, a, m, t)
+  falls_at state.Broken (event.Ended step.Shutdown x) k a m t = grind (arith, k, a, m, t)
+  falls_at state.Broken (event.Ended step.Recover x) k a m t = grind (arith, k, a, m, t)
+  falls_at state.Broken (event.Ended step.Bootstrap x) k a m t = grind (arith, k, a, m, t)

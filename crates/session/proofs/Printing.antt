@@ -1,0 +1,167 @@
+-- What a call prints: the lines of its records, and those before and behind them.
+use Rattle.std.specs.Prelude.{ℕ, List, [], ◌∷◌, ◌++◌, length, Option, Some, None}
+use Rattle.std.specs.Io.KnownBytes.{Appends}
+use Rattle.std.specs.Option.{IsSome}
+use Rattle.std.proofs.Common.{◌≡◌, ◌≢◌, ◌≤◌, ◌∙◌, inl, refl, sym, ap, subst, append_assoc, arith}
+use Rattle.std.proofs.KnownBytes.{Appends-nil, Appends-trans}
+use Rattle.std.proofs.lemmas.List.{append-nil}
+use Rattle.nuc_base.specs.declared.status.Status.{Status}
+use Rattle.nuc_base.specs.declared.status.Status.TheVariants as statuses
+use Rattle.edges.specs.Pieces.{AppendsPrefix}
+use Rattle.records.specs.Stored.{Record}
+use Rattle.device.specs.Devices.{Device, Pending}
+use Rattle.session_boots.specs.Lines.{id_of, lines_of}
+use Rattle.session_boots.specs.Ends.{LinesAt}
+use Rattle.session_boots.specs.declared.ends.SessionFault.{SessionFault}
+use Rattle.session_boots.specs.declared.ends.SessionFault.TheVariants as over
+use Rattle.artifact_store.specs.declared.fault.StageFault.TheVariants as stage
+use Rattle.admission.specs.declared.fault.Declined.{Declined}
+use Rattle.admission.specs.declared.fault.Declined.TheVariants.{Unstaged}
+use Rattle.session.specs.Calls.{AnswersOver, IsOrEdge, Prints, SaysLine, SaysRefusal, call_lines, opening_line, resumed_line}
+use Rattle.session.specs.Declines.{large_line, line_of_declined, mismatch_line, status_of_declined}
+use Rattle.session.specs.Endings.{Ending, Closes, Restarts, Reboots, Fails, Breaks, Forgets, Starves, Declines, Full, Idle, line_of_ending}
+
+front_joined : (a b c : Option (List ℕ)) (x y : List ℕ) → Appends a b x → AppendsPrefix b c y → AppendsPrefix a c (x ++ y)
+front_joined a b c x y one two = (
+  x ++ two.0,
+  two.1,
+  ap (λ (l : List ℕ). x ++ l) two.2 ∙ sym (append_assoc x two.0 two.1),
+  Appends-trans a b c x two.0 one two.3,
+)
+
+front_longer : (a b : Option (List ℕ)) (x y : List ℕ) → AppendsPrefix a b x → AppendsPrefix a b (x ++ y)
+front_longer a b x y one = (one.0, one.1 ++ y, ap (λ (l : List ℕ). l ++ y) one.2 ∙ append_assoc one.0 one.1 y, one.3)
+
+-- ---- one line
+
+-- nothing at all
+pub says_none : (a b : Option (List ℕ)) (status : Status) → b ≡ a → SaysLine a b status []
+says_none a b status same =
+    let none : Appends a b [] = subst (λ (x : Option (List ℕ)). Appends a x []) (sym same) (Appends-nil a) in
+    (([], [], refl, none), λ well. none)
+
+-- the same line
+pub says_as : (a b : Option (List ℕ)) (status : Status) (x y : List ℕ) → x ≡ y → SaysLine a b status x → SaysLine a b status y
+says_as a b status x y same says = subst (λ (l : List ℕ). SaysLine a b status l) same says
+
+-- that of a file with another digest
+pub mismatch_says : {x y : List ℕ} (d : Declined) (a b : Option (List ℕ)) (status : Status) → SaysRefusal a b status statuses.Artifact (mismatch_line x y) → d ≡ Unstaged (stage.Mismatch x y)
+    → SaysRefusal a b status (status_of_declined d) (line_of_declined d)
+mismatch_says d a b status says is = subst (λ (e : Declined). SaysRefusal a b status (status_of_declined e) (line_of_declined e)) (sym is) says
+
+-- that of a file with too many bytes
+pub large_says : {x : List ℕ} {y : ℕ} (d : Declined) (a b : Option (List ℕ)) (status : Status) → SaysLine a b status (large_line x y) → IsOrEdge status statuses.Limit → d ≡ Unstaged (stage.TooLarge x y)
+    → SaysRefusal a b status (status_of_declined d) (line_of_declined d)
+large_says d a b status says answers is = subst (λ (e : Declined). SaysRefusal a b status (status_of_declined e) (line_of_declined e)) (sym is) (inl (says, answers))
+
+-- ---- before the records
+
+opened_as : (o : Option Pending) → IsSome o → resumed_line (elim o [ None ↦ [] | Some q ↦ q.plan.id ]) ≡ elim o [ None ↦ [] | Some q ↦ resumed_line q.plan.id ]
+opened_as None h = absurd cc
+opened_as (Some q) h = refl
+
+-- a pending deployment is resumed
+opening_is : (d : Device) → IsSome d.pending → resumed_line (id_of d) ≡ opening_line d
+opening_is d pending = opened_as d.pending pending
+
+pub opening_at : (d e : Device) → d ≡ e → IsSome e.pending → resumed_line (id_of e) ≡ opening_line d
+opening_at d e same pending = opening_is e pending ∙ ap opening_line (sym same)
+
+-- none is
+pub opening_none : (a : Option (List ℕ)) (d : Device) → d.pending ≡ None → Appends a a (opening_line d)
+opening_none a d none = subst (λ (o : Option Pending). Appends a a (elim o [ None ↦ [] | Some q ↦ resumed_line q.plan.id ])) (sym none) (Appends-nil a)
+
+-- ---- the lines of a call
+
+lines_are : (d : Device) (records : List Record) (ending : Ending) → ending ≢ Starves → opening_line d ++ (lines_of d records ++ line_of_ending ending) ≡ call_lines d records ending
+lines_are d records (Closes o) fed = refl
+lines_are d records (Restarts id) fed = refl
+lines_are d records (Reboots id) fed = refl
+lines_are d records Fails fed = refl
+lines_are d records Breaks fed = refl
+lines_are d records Forgets fed = refl
+lines_are d records Starves fed = absurd (fed refl)
+lines_are d records (Declines x) fed = refl
+lines_are d records (Full at) fed = refl
+lines_are d records Idle fed = refl
+
+-- the lines of some of the records, and one behind them
+told_prints : (sure : Type 0) (a b c e : Option (List ℕ)) (d : Device) (records told rest : List Record) (ending : Ending) (status : Status) → (rest ≡ [] → sure) → ending ≢ Starves → Appends a b (opening_line d) → Appends b c (lines_of d told)
+    → records ≡ told ++ rest → length rest ≤ 1 → (ending ≢ Fails → rest ≡ []) → SaysLine c e status (line_of_ending ending) → Prints a e d records ending status sure
+told_prints sure a b c e d records told rest ending status stable fed before lines split few all says =
+    let line = line_of_ending ending in
+    let same = lines_are d told ending fed in
+    record {
+      told = told;
+      rest = rest;
+      split = split;
+      few = few;
+      all = all;
+      front = subst (λ (l : List ℕ). AppendsPrefix a e l) same (front_joined a b e (opening_line d) (lines_of d told ++ line) before (front_joined b c e (lines_of d told) line lines says.0));
+      whole = λ well. subst (λ (l : List ℕ). Appends a e l) same (Appends-trans a b e (opening_line d) (lines_of d told ++ line) before (Appends-trans b c e (lines_of d told) line lines (says.1 well)));
+      stable = stable;
+    }
+
+-- those of all
+pub all_prints : (sure : Type 0) (a b c e : Option (List ℕ)) (d : Device) (records : List Record) (ending : Ending) (status : Status) → sure → ending ≢ Starves → Appends a b (opening_line d) → Appends b c (lines_of d records)
+    → SaysLine c e status (line_of_ending ending) → Prints a e d records ending status sure
+all_prints sure a b c e d records ending status stable fed before lines says =
+    told_prints sure a b c e d records records [] ending status (λ none. stable) fed before lines (sym (append-nil records)) (omega arith) (λ other. refl) says
+
+-- no record was kept, and none was pending
+pub said_prints : (sure : Type 0) (a b : Option (List ℕ)) (d : Device) (ending : Ending) (status : Status) → sure → ending ≢ Starves → d.pending ≡ None → SaysLine a b status (line_of_ending ending) → Prints a b d [] ending status sure
+said_prints sure a b d ending status stable fed none says = all_prints sure a a a b d [] ending status stable fed (opening_none a d none) (Appends-nil a) says
+
+-- there was no memory to begin
+pub starved_prints : (sure : Type 0) (a b : Option (List ℕ)) (d : Device) (status : Status) → sure → b ≡ a → Prints a b d [] Starves status sure
+starved_prints sure a b d status stable same =
+    let says = says_none a b status same in
+    record {
+      told = [];
+      rest = [];
+      split = refl;
+      few = omega arith;
+      all = λ other. refl;
+      front = says.0;
+      whole = says.1;
+      stable = λ none. stable;
+    }
+
+-- the line of a deployment that is resumed was not written
+pub unopened_prints : (sure : Type 0) (a b : Option (List ℕ)) (d : Device) (status : Status) → sure → AppendsPrefix a b (opening_line d) → status ≡ statuses.Edge → Prints a b d [] Breaks status sure
+unopened_prints sure a b d status stable front is = record {
+  told = [];
+  rest = [];
+  split = refl;
+  few = omega arith;
+  all = λ other. refl;
+  front = front_longer a b (opening_line d) ([] ++ []) front;
+  whole = λ well. absurd (well is);
+  stable = λ none. stable;
+}
+
+-- a front of them, where the sink failed
+edge_prints : (sure : Type 0) (a b c : Option (List ℕ)) (d : Device) (records : List Record) (status : Status) → sure → Appends a b (opening_line d) → AppendsPrefix b c (lines_of d records) → status ≡ statuses.Edge → Prints a c d records Breaks status sure
+edge_prints sure a b c d records status stable before lines is = record {
+  told = records;
+  rest = [];
+  split = sym (append-nil records);
+  few = omega arith;
+  all = λ other. refl;
+  front = front_joined a b c (opening_line d) (lines_of d records ++ []) before (front_longer b c (lines_of d records) [] lines);
+  whole = λ well. absurd (well is);
+  stable = λ none. stable;
+}
+
+-- how a call ends whose deployment was given up
+abbrev pub ending_over : SessionFault → Ending
+ending_over over.Disk = Fails
+ending_over over.Edge = Breaks
+
+-- a deployment that was given up
+pub over_prints : (sure : Type 0) (e : SessionFault) (a b c f : Option (List ℕ)) (d : Device) (records : List Record) (status : Status) → (e ≡ over.Edge → sure) → Appends a b (opening_line d) → LinesAt b c d records e
+    → SaysLine c f status (line_of_ending (ending_over e)) → (e ≡ over.Edge → f ≡ c) → AnswersOver e status → Prints a f d records (ending_over e) status sure
+over_prints sure over.Disk a b c f d records status stable before lines says silent answers =
+    told_prints sure a b c f d records lines.0 (lines.1 ∷ []) Fails status (λ none. cc) (λ is. cc) before lines.3 lines.2 (omega arith) (λ other. absurd (other refl)) says
+over_prints sure over.Edge a b c f d records status stable before lines says silent answers =
+    subst (λ (x : Option (List ℕ)). Prints a x d records Breaks status sure) (sym (silent refl)) (edge_prints sure a b c d records status (stable refl) before lines answers)

@@ -1,5 +1,0 @@
-use Rattle.session.proofs.Once.{takes_once}
-use Rattle.session.proofs.laws.one_is_taken.Goals as goal
-
-pub returns : goal.returns
-returns c = λ p h serves proper. takes_once p h serves proper

@@ -1,0 +1,255 @@
+//! A document is deployed.
+ghost use Rattle.std.specs.Prelude.{◌≡◌, ◌≢◌, ◌⊎◌, ◌≤◌, [], ℕ, List, false, None, Some, IsSome, IsTrue, IfOk, Result, map};
+ghost use Rattle.artifact_store.specs.Holding.{AllHoldDevice};
+ghost use Rattle.artifact_store.specs.Swept.{IsSwept, items_of};
+ghost use Rattle.nuc_base.specs.Faults.{Rose};
+ghost use Rattle.nuc_base.specs.declared.status.Status.TheVariants as statuses;
+ghost use Rattle.records.specs.Stored as stored;
+ghost use Rattle.records.specs.Stored.{plan_view};
+ghost use Rattle.records.specs.declared.record.Plan as code;
+ghost use Rattle.records.specs.declared.record.Origin.{Origin};
+ghost use Rattle.device.specs.Devices.{IsRegularDevice};
+ghost use Rattle.device.specs.Lawful.{Allowed};
+ghost use Rattle.device.specs.Regularity.{IsRegularRecord};
+ghost use Rattle.device.specs.Sound.{IsSound};
+ghost use Rattle.deploy_state.specs.Accepting.{idle_log};
+ghost use Rattle.deploy_state.specs.States.{OwnsIdle, idle_device};
+ghost use Rattle.deploy_state.specs.Turning.{start_of};
+ghost use Rattle.deployment_doc.specs.Sound.{AreSound};
+ghost use Rattle.step_runner.specs.Entries.{Listed};
+ghost use Rattle.histories.specs.States.{SessionState};
+ghost use Rattle.session_admission.specs.Accepts.{IsOpen};
+ghost use Rattle.admission.specs.Takes.{HasDiskFailed, HasLibraryFailed, LieElsewhere, TakesIn};
+ghost use Rattle.admission.specs.declared.fault.Declined.{Declined};
+ghost use Rattle.session.specs.Calls.{AllHoldBoth, Elsewhere, IsReadiedOn, Stays};
+ghost use Rattle.session.specs.Documents.{DrivesPlan, DrivesTaken, KeepsArtifacts, TakesRead};
+ghost use Rattle.session.specs.Endings.{Fails};
+ghost use Rattle.session.specs.Sweeping.{LeavesNoStray};
+
+use crate::declines::{say_declined, say_full, say_refusal};
+use crate::ends::end_call;
+use crate::lines::say_disk;
+use admission::take_in;
+use components::Supervise;
+use deploy_state::Idle;
+use deployment_doc::Document;
+use disk_model::Disk;
+use edges::Sink;
+use gate_log::Journal;
+use library_core::Library;
+use nuc_base::{NoMemory, Status};
+use plan_core::Refusal;
+use records::Plan;
+use session_admission::{Readied, Taken, accept_plan, prepare};
+use session_boots::SessionFault;
+use session_rollout::boot;
+use std::alloc::Global;
+use step_runner::Runner;
+
+/// All that the plan needs, made ready before it is accepted.
+fn ready_for<J: Journal + Drop, S: Supervise>(
+    alloc: Global,
+    idle: &Idle<J>,
+    plan: &Plan,
+    supervisor: &S,
+) -> Result<Readied<S::Ready>, NoMemory>
+where
+    S::Ready: Drop,
+    requires sound { IsSound (idle_device idle.now) }
+    requires regular_device { IsRegularDevice (idle_device idle.now) }
+    requires lawful { Allowed (idle_device idle.now) (stored.Accepted (plan_view plan.now)) }
+    requires regular { IsRegularRecord (stored.Accepted (plan_view plan.now)) }
+    ensures { IfOk result (λ r. IsReadiedOn (idle_device idle.now) (plan_view plan.now) r.boots r.backs (S.coming r.items) (S.coming r.earlier)) }
+{
+    let device = idle.device();
+    let Some(origin) = &device.origin else {
+        unreachable!();
+    };
+    prepare(alloc, supervisor, origin, &device.set, plan)
+}
+
+/// Accepts the plan, and drives its deployment to the end of the call. For want of memory the plan may be given back.
+fn run_plan<D: Disk, J: Journal + Drop, K: Sink, R: Runner, S: Supervise>(
+    alloc: Global,
+    idle: Idle<J>,
+    plan: Plan,
+    ready: Readied<S::Ready>,
+    disk: &mut D,
+    sink: &mut K,
+    runner: &mut R,
+    supervisor: &mut S,
+) -> Status
+where
+    S::Ready: Drop,
+    requires held { OwnsIdle D.is_modelled D.may_leave J.stands J.end idle disk.old }
+    requires apart { LieElsewhere J.files }
+    requires lawful { Allowed (idle_device idle) (stored.Accepted (plan_view plan)) }
+    requires regular { IsRegularRecord (stored.Accepted (plan_view plan)) }
+    requires ready { IsReadiedOn (idle_device idle) (plan_view plan) ready.boots ready.backs (S.coming ready.items) (S.coming ready.earlier) }
+    requires empty { (S.world supervisor.old).parts ≡ [] }
+    requires placed { (p : SessionState) × IsOpen p (idle_device idle) (S.world supervisor.old) (Listed R.list R.told R.asked runner.old) (R.living runner.old) × (p.serves ≡ false) }
+    // Where the images at the start have the artifacts that are needed, so has each of each moment. The call ends as one whose
+    // disk failed only where the disk's count rose.
+    ensures call { (p : SessionState) → IsOpen p (idle_device idle) (S.world supervisor.old) (Listed R.list R.told R.asked runner.old) (R.living runner.old) → (p.serves ≡ false) →
+        (t : DrivesPlan J.entries J.files D.may_leave D.moment D.left_since disk.old disk.new (R.list runner.old) (R.list runner.new) (K.held sink.old) (K.held sink.new) p result (start_of J.end J.number J.turns (idle_log idle) (idle_device idle)) (plan_view plan))
+        × (AllHoldBoth (D.may_leave disk.old) p.device (plan_view plan).items → KeepsArtifacts J.entries J.files D.may_leave D.moment D.left_since disk.old disk.new (R.list runner.old) (R.list runner.new) (K.held sink.old) (K.held sink.new) p result t.0)
+        × (t.0.ending ≡ Fails → Rose (D.faults disk.old) (D.faults disk.new)) }
+    ensures own { result ≢ statuses.Library }
+    ensures none { R.living runner.new ≡ [] }
+    ensures others { IsTrue D.is_modelled → Elsewhere J.files (D.seen disk.old) (D.seen disk.new) }
+    ensures disk { result ≡ statuses.Disk → Rose (D.faults disk.old) (D.faults disk.new) }
+    ensures edge { result ≡ statuses.Edge → Rose (K.faults sink.old) (K.faults sink.new) }
+    ensures quiet_disk { result ≢ statuses.Disk → result ≢ statuses.Edge → D.faults disk.new ≡ D.faults disk.old }
+    ensures quiet_sink { result ≢ statuses.Edge → K.faults sink.new ≡ K.faults sink.old }
+    ensures later { Stays (D.faults disk.old) (D.faults disk.new) × Stays (K.faults sink.old) (K.faults sink.new) }
+    ensures swept { LeavesNoStray D.is_modelled J.entries result (D.seen disk.new) }
+{
+    match accept_plan(alloc, idle, plan, disk, sink) {
+        Ok(Taken::Accepted(state)) => {
+            let driven = boot(state, ready, disk, sink, runner, supervisor);
+            end_call(alloc, driven, disk, sink, runner, supervisor)
+        }
+        Ok(Taken::Full(idle, at)) => {
+            drop(idle);
+            drop(ready);
+            say_full(at, sink)
+        }
+        Ok(Taken::NoMemory(idle)) => {
+            drop(idle);
+            drop(ready);
+            Status::Memory
+        }
+        Err(SessionFault::Disk) => {
+            drop(ready);
+            say_disk(sink)
+        }
+        Err(SessionFault::Edge) => {
+            drop(ready);
+            Status::Edge
+        }
+    }
+}
+
+/// Takes a document in, and deploys it. It is refused by name where a check fails, and then the device is as before.
+pub fn run_deployment<D: Disk, J: Journal + Drop, L: Library, K: Sink, R: Runner, S: Supervise>(
+    alloc: Global,
+    idle: Idle<J>,
+    document: &Document,
+    disk: &mut D,
+    library: &mut L,
+    sink: &mut K,
+    runner: &mut R,
+    supervisor: &mut S,
+) -> Status
+where
+    S::Ready: Drop,
+    requires held { OwnsIdle D.is_modelled D.may_leave J.stands J.end idle disk.old }
+    // The journal does not lie among the files of artifacts.
+    requires apart { LieElsewhere J.files }
+    requires roots { AreSound document.now.roots }
+    // No component stands.
+    requires empty { (S.world supervisor.old).parts ≡ [] }
+    requires placed { (p : SessionState) × IsOpen p (idle_device idle) (S.world supervisor.old) (Listed R.list R.told R.asked runner.old) (R.living runner.old) × (p.serves ≡ false) }
+    // Where the images at the start have the artifacts that are needed, so has each of each moment. The call ends as one whose
+    // disk failed only where the disk's count rose, and its document is declined for the disk or for the library only where the
+    // count of that rose.
+    ensures call { (p : SessionState) → IsOpen p (idle_device idle) (S.world supervisor.old) (Listed R.list R.told R.asked runner.old) (R.living runner.old) → (p.serves ≡ false) →
+        (taken : Result code.Plan Declined) × ((o : Origin) → (idle_device idle).origin ≡ Some o → TakesIn (idle_device idle) o (L.content library.old) (L.faults library.old) (L.faults library.new) document.now taken)
+        × (t : DrivesTaken J.entries J.files D.may_leave D.moment D.left_since disk.old disk.new (R.list runner.old) (R.list runner.new) (K.held sink.old) (K.held sink.new) p result (start_of J.end J.number J.turns (idle_log idle) (idle_device idle)) taken)
+        × (AllHoldDevice (D.may_leave disk.old) p.device → KeepsArtifacts J.entries J.files D.may_leave D.moment D.left_since disk.old disk.new (R.list runner.old) (R.list runner.new) (K.held sink.old) (K.held sink.new) p result t.0)
+        × (t.0.ending ≡ Fails → Rose (D.faults disk.old) (D.faults disk.new))
+        × (HasDiskFailed taken → Rose (D.faults disk.old) (D.faults disk.new))
+        × (HasLibraryFailed taken → Rose (L.faults library.old) (L.faults library.new)) }
+    ensures none { R.living runner.new ≡ [] }
+    ensures others { IsTrue D.is_modelled → Elsewhere J.files (D.seen disk.old) (D.seen disk.new) }
+    ensures disk { result ≡ statuses.Disk → Rose (D.faults disk.old) (D.faults disk.new) }
+    ensures edge { result ≡ statuses.Edge → Rose (K.faults sink.old) (K.faults sink.new) }
+    ensures quiet_disk { result ≢ statuses.Disk → result ≢ statuses.Edge → D.faults disk.new ≡ D.faults disk.old }
+    ensures quiet_sink { result ≢ statuses.Edge → K.faults sink.new ≡ K.faults sink.old }
+    ensures later { Stays (D.faults disk.old) (D.faults disk.new) × Stays (K.faults sink.old) (K.faults sink.new) }
+    // No stray file is left where none was there at the start.
+    ensures swept { (IsTrue D.is_modelled → IsSwept (items_of (idle_device idle)) (D.seen disk.old)) → LeavesNoStray D.is_modelled J.entries result (D.seen disk.new) }
+    ensures library { result ≡ statuses.Library → Rose (L.faults library.old) (L.faults library.new) }
+    ensures kept { L.content library.new ≡ L.content library.old }
+    ensures library_quiet { result ≢ statuses.Library → result ≢ statuses.Edge → L.faults library.new ≡ L.faults library.old }
+    ensures library_later { L.faults library.old ≤ L.faults library.new }
+{
+    let plan = match take_in(alloc, &idle, document, disk, library) {
+        Ok(plan) => plan,
+        Err(declined) => {
+            drop(idle);
+            let status = say_declined(alloc, &declined, sink);
+            drop(declined);
+            return status;
+        }
+    };
+    match ready_for(alloc, &idle, &plan, supervisor) {
+        Ok(ready) => run_plan(alloc, idle, plan, ready, disk, sink, runner, supervisor),
+        Err(_) => {
+            drop(plan);
+            drop(idle);
+            Status::Memory
+        }
+    }
+}
+
+/// The same of a document in these bytes, which is refused by name where it cannot be read.
+pub fn run_document<D: Disk, J: Journal + Drop, L: Library, K: Sink, R: Runner, S: Supervise>(
+    alloc: Global,
+    idle: Idle<J>,
+    document: &[u8],
+    disk: &mut D,
+    library: &mut L,
+    sink: &mut K,
+    runner: &mut R,
+    supervisor: &mut S,
+) -> Status
+where
+    S::Ready: Drop,
+    requires held { OwnsIdle D.is_modelled D.may_leave J.stands J.end idle disk.old }
+    // The journal does not lie among the files of artifacts.
+    requires apart { LieElsewhere J.files }
+    // No component stands.
+    requires empty { (S.world supervisor.old).parts ≡ [] }
+    requires placed { (p : SessionState) × IsOpen p (idle_device idle) (S.world supervisor.old) (Listed R.list R.told R.asked runner.old) (R.living runner.old) × (p.serves ≡ false) }
+    // Where the images at the start have the artifacts that are needed, so has each of each moment. The call ends as one whose
+    // disk failed only where the disk's count rose, and its document is declined for the disk or for the library only where the
+    // count of that rose.
+    ensures call { (p : SessionState) → IsOpen p (idle_device idle) (S.world supervisor.old) (Listed R.list R.told R.asked runner.old) (R.living runner.old) → (p.serves ≡ false) →
+        (taken : Result code.Plan Declined) × ((o : Origin) → (idle_device idle).origin ≡ Some o → TakesRead (idle_device idle) o (L.content library.old) (L.faults library.old) (L.faults library.new) document.now taken)
+        × (t : DrivesTaken J.entries J.files D.may_leave D.moment D.left_since disk.old disk.new (R.list runner.old) (R.list runner.new) (K.held sink.old) (K.held sink.new) p result (start_of J.end J.number J.turns (idle_log idle) (idle_device idle)) taken)
+        × (AllHoldDevice (D.may_leave disk.old) p.device → KeepsArtifacts J.entries J.files D.may_leave D.moment D.left_since disk.old disk.new (R.list runner.old) (R.list runner.new) (K.held sink.old) (K.held sink.new) p result t.0)
+        × (t.0.ending ≡ Fails → Rose (D.faults disk.old) (D.faults disk.new))
+        × (HasDiskFailed taken → Rose (D.faults disk.old) (D.faults disk.new))
+        × (HasLibraryFailed taken → Rose (L.faults library.old) (L.faults library.new)) }
+    ensures none { R.living runner.new ≡ [] }
+    ensures others { IsTrue D.is_modelled → Elsewhere J.files (D.seen disk.old) (D.seen disk.new) }
+    ensures disk { result ≡ statuses.Disk → Rose (D.faults disk.old) (D.faults disk.new) }
+    ensures edge { result ≡ statuses.Edge → Rose (K.faults sink.old) (K.faults sink.new) }
+    ensures quiet_disk { result ≢ statuses.Disk → result ≢ statuses.Edge → D.faults disk.new ≡ D.faults disk.old }
+    ensures quiet_sink { result ≢ statuses.Edge → K.faults sink.new ≡ K.faults sink.old }
+    ensures later { Stays (D.faults disk.old) (D.faults disk.new) × Stays (K.faults sink.old) (K.faults sink.new) }
+    // No stray file is left where none was there at the start.
+    ensures swept { (IsTrue D.is_modelled → IsSwept (items_of (idle_device idle)) (D.seen disk.old)) → LeavesNoStray D.is_modelled J.entries result (D.seen disk.new) }
+    ensures library { result ≡ statuses.Library → Rose (L.faults library.old) (L.faults library.new) }
+    ensures kept { L.content library.new ≡ L.content library.old }
+    ensures library_quiet { result ≢ statuses.Library → result ≢ statuses.Edge → L.faults library.new ≡ L.faults library.old }
+    ensures library_later { L.faults library.old ≤ L.faults library.new }
+{
+    match Document::read(alloc, document) {
+        Ok(document) => {
+            let status = run_deployment(
+                alloc, idle, &document, disk, library, sink, runner, supervisor,
+            );
+            drop(document);
+            status
+        }
+        Err(fault) => {
+            drop(idle);
+            let refusal = Refusal::from(fault);
+            let status = say_refusal(alloc, &refusal, sink);
+            drop(refusal);
+            status
+        }
+    }
+}

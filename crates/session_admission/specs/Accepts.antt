@@ -1,0 +1,99 @@
+-- A deployment begins: from where it may, and what its acceptance leaves.
+use Rattle.std.specs.Prelude.{◌≡◌, ℕ, Bool, true, false, List, None, Result, Ok, Err, ⊤, if◌then◌else◌}
+use Rattle.disk_model.specs.Disk.{Image}
+use Rattle.records.specs.Stored.{Plan, Accepted}
+use Rattle.device.specs.Devices.{Device}
+use Rattle.device.specs.Lawful.{applied}
+use Rattle.deploy_state.specs.States.{OwnsBooting, OwnsIdle, booting_device, idle_device}
+use Rattle.deploy_state.specs.declared.fault.AcceptRefusal.{AcceptRefusal}
+use Rattle.deploy_state.specs.declared.fault.AcceptRefusal.TheVariants as refused
+use Rattle.step_runner.specs.Entries.{Told}
+use Rattle.components.specs.Components.{Components, is_stopped}
+use Rattle.components.specs.Turns.{IsQuiet}
+use Rattle.histories.specs.Phases.{Generation, previous, draining, is_shutting_down}
+use Rattle.histories.specs.States.{SessionState}
+use Rattle.histories.specs.Courses.{Stands}
+use Rattle.histories.specs.Follows.{MayTakeBy}
+use Rattle.session_boots.specs.declared.ends.SessionFault.{SessionFault}
+use Rattle.session_boots.specs.declared.ends.SessionFault.TheVariants as over
+use Rattle.session_admission.specs.declared.accepting.Taken.{Taken}
+use Rattle.session_admission.specs.declared.accepting.Taken.TheVariants as taken
+
+-- ---- where a deployment may begin
+
+-- Nothing is open, no component may act, and the call may take a document.
+pub record IsOpen (p : SessionState) (d : Device) (world : Components) (told : Told) (living : List ℕ) : Type 0 where
+  pub stands : Stands p d world told living
+  pub quiet : IsQuiet p.world
+  pub going : is_shutting_down p.generation ≡ false
+  pub boot : p.boot ≡ None
+  pub boot_end : p.boot_end ≡ None
+  pub takes : MayTakeBy p.serves p
+  pub over : p.over ≡ false
+  pub cut : p.cut ≡ false
+
+-- ---- what its acceptance leaves
+
+-- those that stand are to be stopped before the first bootstrap; where none stands, all are stopped already
+abbrev pub generation_of : Components → Generation
+generation_of w = if is_stopped w then draining else previous
+
+-- The deployment is pending, and nothing of it was done.
+pub record IsOpened (p : SessionState) (d : Device) (world : Components) (told : Told) (living : List ℕ) : Type 0 where
+  pub stands : Stands p d world told living
+  pub quiet : IsQuiet p.world
+  pub generation : p.generation ≡ generation_of p.world
+  pub boot : p.boot ≡ None
+  pub boot_end : p.boot_end ≡ None
+  pub probed : p.probed ≡ false
+  pub over : p.over ≡ false
+  pub cut : p.cut ≡ false
+
+-- ---- answers
+
+abbrev pub Answer : Type 0 → Type 0
+Answer J = Result (Taken J) SessionFault
+
+-- what a refusal is answered with
+abbrev pub answer_of : {J : Type 0} → AcceptRefusal J → Answer J
+answer_of (refused.Full s at) = Ok (taken.Full s at)
+answer_of (refused.NoMemory s) = Ok (taken.NoMemory s)
+answer_of (refused.Stopped s) = Err over.Disk
+
+-- the plan was not given back
+abbrev pub HasTaken : {J : Type 0} → Answer J → Type 0
+HasTaken (Ok (taken.Accepted s)) = ⊤
+HasTaken (Ok (taken.Full s at)) = ⊥
+HasTaken (Ok (taken.NoMemory s)) = ⊥
+HasTaken (Err e) = ⊤
+
+abbrev pub Opened : {J : Type 0} → Taken J → SessionState → Components → Told → List ℕ → Type 0
+Opened (taken.Accepted s) q world told living = IsOpened q (booting_device s) world told living
+Opened (taken.Full s at) q world told living = ⊥
+Opened (taken.NoMemory s) q world told living = ⊥
+
+-- with the plan accepted the device has it pending, and else it is as it was
+abbrev pub IsTakenOf : {J : Type 0} → Device → Plan → Taken J → Type 0
+IsTakenOf d plan (taken.Accepted s) = booting_device s ≡ applied d (Accepted plan)
+IsTakenOf d plan (taken.Full s at) = idle_device s ≡ d
+IsTakenOf d plan (taken.NoMemory s) = idle_device s ≡ d
+
+module _ {J D : Type 0} (is_modelled : Bool) (may_leave : D → Image → Type 0) (stands : J → Image → List (List ℕ) → Type 0) (end : J → ℕ) where
+  abbrev pub OwnsTaken : Taken J → D → Type 0
+  OwnsTaken (taken.Accepted s) disk = OwnsBooting is_modelled may_leave stands end s disk
+  OwnsTaken (taken.Full s at) disk = OwnsIdle is_modelled may_leave stands end s disk
+  OwnsTaken (taken.NoMemory s) disk = OwnsIdle is_modelled may_leave stands end s disk
+
+-- it does not fit from this place on
+abbrev pub IsFullAt : {J : Type 0} → Answer J → ℕ → Type 0
+IsFullAt (Ok (taken.Accepted s)) at = ⊥
+IsFullAt (Ok (taken.Full s place)) at = place ≡ at
+IsFullAt (Ok (taken.NoMemory s)) at = ⊥
+IsFullAt (Err e) at = ⊥
+
+-- so it is, or there is no memory
+abbrev pub IsFullOrShort : {J : Type 0} → Answer J → ℕ → Type 0
+IsFullOrShort (Ok (taken.Accepted s)) at = ⊥
+IsFullOrShort (Ok (taken.Full s place)) at = place ≡ at
+IsFullOrShort (Ok (taken.NoMemory s)) at = ⊤
+IsFullOrShort (Err e) at = ⊥

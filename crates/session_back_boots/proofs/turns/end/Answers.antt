@@ -1,0 +1,102 @@
+use Rattle.std.proofs.Common.{◌≡◌, ◌∙◌, List, ℕ, [], ◌∷◌, refl, sym, ap, subst}
+use Rattle.std.specs.Io.KnownBytes.{Appends}
+use Rattle.edges.specs.Pieces.{AppendsPrefix}
+use Rattle.deploy_state.proofs.Steps.{in_hand_stands}
+use Rattle.deploy_state.specs.Fields.{next_name}
+use Rattle.deploy_state.specs.States.{IsIn, backed_device, backing_device}
+use Rattle.device.specs.Devices.{Device}
+use Rattle.device.specs.Lawful.{applied}
+use Rattle.device.specs.Standing.{StandsFor}
+use Rattle.device.specs.declared.staged.Stage.TheVariants as stages
+use Rattle.records.specs.Stored as stored
+use Rattle.histories.specs.TraceEvents.{Recorded}
+use Rattle.histories.specs.Phases.{duty_of}
+use Rattle.session_back_boots.proofs.Duties.{allowed_ended, in_turn, mark_ended, may_end, named, still_backing, still_named}
+use Rattle.session_boots.proofs.Records.{bare_ended, between_ended, doubt_at, end_went, over_ended}
+use Rattle.session_back_boots.proofs.Records.{line_ended}
+use Rattle.session_back_boots.proofs.Staged.{backed_by, still_by}
+use Rattle.session_boots.proofs.Told.{last_untold}
+use Rattle.session_back_boots.proofs.turns.end.Goals as goal
+
+pub ended-requires-clause-may : goal.ended-requires-clause-may
+ended-requires-clause-may g c =
+    let d = backing_device c.args.state in
+    let n = named (duty_of d).turn c.requires.turn in
+    may_end d n.0 c.args.exit (in_turn d n.0 c.requires.held.1 n.1) c.requires.begun
+
+pub returns-in-Ok-tell_end-clause-trace : goal.returns-in-Ok-tell_end-clause-trace
+returns-in-Ok-tell_end-clause-trace g c = λ p world told living h.
+    let d = backing_device c.args.state in
+    let e = backed_device c.in-Ok.next in
+    let x = c.args.exit in
+    let n = named (duty_of d).turn c.requires.turn in
+    let t = in_turn d n.0 c.requires.held.1 n.1 in
+    let r = stored.BootEnded n.0 x in
+    let mark = mark_ended d n.0 x t in
+    let same = c.in-Ok.ensures.taken r mark in (
+      Recorded r ∷ [],
+      end_went g.J.Journal.entries g.J.Journal.files g.met.D.Disk.laws c.args.disk.now c.ended.new.disk told.list p d x world told living n.0 h (allowed_ended d n.0 x t c.requires.begun) (c.ended.ensures.moments r mark),
+      subst (λ (l : List ℕ). Appends (g.K.Sink.held c.args.sink.now) (g.K.Sink.held c.tell_end.new.sink) l) (line_ended p d e n.0 x h.stands.device_is same)
+          (c.in-Ok-tell_end.ensures.line n.0 (λ fails. ap next_name same ∙ still_named d n.0 x t fails)),
+      (between_ended p d e x world told living n.0 h same, over_ended p d e x n.0 h.stands.device_is same, ([], n.0, refl)),
+      tt,
+    )
+
+pub returns-in-Ok-tell_end-clause-ends : goal.returns-in-Ok-tell_end-clause-ends
+returns-in-Ok-tell_end-clause-ends g c =
+    let d = backing_device c.args.state in
+    let n = named (duty_of d).turn c.requires.turn in
+    let t = in_turn d n.0 c.requires.held.1 n.1 in
+    (n.0, n.1, c.in-Ok.ensures.taken (stored.BootEnded n.0 c.args.exit) (mark_ended d n.0 c.args.exit t))
+
+pub returns-in-Err-tell_end-clause-trace : goal.returns-in-Err-tell_end-clause-trace
+returns-in-Err-tell_end-clause-trace g c = λ p world told living h.
+    let d = backing_device c.args.state in
+    let e = backed_device c.in-Ok.next in
+    let x = c.args.exit in
+    let n = named (duty_of d).turn c.requires.turn in
+    let t = in_turn d n.0 c.requires.held.1 n.1 in
+    let r = stored.BootEnded n.0 x in
+    let mark = mark_ended d n.0 x t in
+    let same = c.in-Ok.ensures.taken r mark in
+    let back : e ≡ applied p.device r = same ∙ ap (λ (y : Device). applied y r) (sym h.stands.device_is) in (
+      Recorded r ∷ [],
+      end_went g.J.Journal.entries g.J.Journal.files g.met.D.Disk.laws c.args.disk.now c.ended.new.disk told.list p d x world told living n.0 h (allowed_ended d n.0 x t c.requires.begun) (c.ended.ensures.moments r mark),
+      subst (λ (l : List ℕ). AppendsPrefix (g.K.Sink.held c.args.sink.now) (g.K.Sink.held c.tell_end.new.sink) l) (line_ended p d e n.0 x h.stands.device_is same)
+          (c.in-Err-tell_end.ensures.line n.0 (λ fails. ap next_name same ∙ still_named d n.0 x t fails)),
+      (
+        refl,
+        λ i left. subst (λ (y : Device). StandsFor g.J.Journal.entries i y) back (
+            backed_by g.D.Disk.is_modelled g.D.Disk.may_leave g.J.Journal.stands g.J.Journal.end c.ended.new.disk (λ y. StandsFor g.J.Journal.entries i y)
+            (λ log y held. in_hand_stands g.met.D.Disk.laws g.met.J.Journal.laws log c.ended.new.disk y held i left) c.in-Ok.next c.in-Ok.ensures.held),
+      ),
+      bare_ended p d x world told living n.0 h,
+    )
+
+pub returns-in-Err-clause-trace : goal.returns-in-Err-clause-trace
+returns-in-Err-clause-trace g c = λ p world told living h.
+    let d = backing_device c.args.state in
+    let x = c.args.exit in
+    let n = named (duty_of d).turn c.requires.turn in
+    let t = in_turn d n.0 c.requires.held.1 n.1 in
+    let r = stored.BootEnded n.0 x in
+    let allowed = allowed_ended d n.0 x t c.requires.begun in
+    let notes = c.ended.ensures.moments r (mark_ended d n.0 x t) in (
+      Recorded r ∷ [],
+      end_went g.J.Journal.entries g.J.Journal.files g.met.D.Disk.laws c.args.disk.now c.ended.new.disk told.list p d x world told living n.0 h allowed notes,
+      last_untold (g.K.Sink.held c.args.sink.now) p.device r,
+      doubt_at g.J.Journal.entries g.J.Journal.files g.met.D.Disk.laws c.args.disk.now c.ended.new.disk p d r h.stands.device_is allowed notes,
+      bare_ended p d x world told living n.0 h,
+    )
+
+pub tell_end-requires : goal.tell_end-requires
+tell_end-requires g c = record {
+  stage = λ fails.
+      let d = backing_device c.args.state in
+      let x = c.args.exit in
+      let n = named (duty_of d).turn c.requires.turn in
+      let t = in_turn d n.0 c.requires.held.1 n.1 in
+      let same = c.in-Ok.ensures.taken (stored.BootEnded n.0 x) (mark_ended d n.0 x t) in
+      still_by g.D.Disk.is_modelled g.D.Disk.may_leave g.J.Journal.stands g.J.Journal.end c.ended.new.disk c.in-Ok.next c.in-Ok.ensures.held
+      (subst (λ (y : Device). IsIn stages.Backing y) (sym same) (still_backing d n.0 x c.requires.held.1 fails));
+}

@@ -1,0 +1,17 @@
+pub mod Prefixes
+pub mod Acting
+pub mod Joins
+pub mod Told
+pub mod Still
+pub mod Entries
+pub mod Duties
+pub mod Records
+pub mod Turning
+pub mod Written
+pub mod Between
+pub mod Turn
+pub mod Limits
+pub mod Alone
+pub mod Ending
+pub mod Restarts
+pub mod Same

@@ -1,0 +1,9 @@
+pub mod Lines
+pub mod Traces
+pub mod Ends
+pub mod Made
+pub mod Stands
+pub mod Steps
+pub mod Turns
+pub mod Booted
+pub mod Same

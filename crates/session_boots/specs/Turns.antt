@@ -1,0 +1,24 @@
+-- What one bootstrap step changes of a device.
+use Rattle.std.specs.Prelude.{◌≡◌, ℕ, ◌+◌, ◌-◌, List, Some, length, if◌then◌else◌}
+use Rattle.std.specs.Option.{option_map_or}
+use Rattle.nuc_base.specs.declared.kinds.Exit.{Exit}
+use Rattle.records.specs.Stored.{BootBegun, BootEnded}
+use Rattle.device.specs.Devices.{Device}
+use Rattle.device.specs.Lawful.{applied}
+use Rattle.histories.specs.Phases.{duty_of}
+
+-- the one whose turn it is begins; where it was begun before, nothing changes
+abbrev pub Begins : Device → Device → Type 0
+Begins d e = (name : List ℕ) × ((duty_of d).turn ≡ Some name) × (e ≡ applied d (BootBegun name))
+
+-- the one whose turn it is ends so
+abbrev pub Ends : Device → Exit → Device → Type 0
+Ends d exit e = (name : List ℕ) × ((duty_of d).turn ≡ Some name) × (e ≡ applied d (BootEnded name exit))
+
+-- it begins and ends
+abbrev pub Turns : Device → Exit → Device → Type 0
+Turns d exit e = (begun : Device) × Begins d begun × Ends begun exit e
+
+-- so many steps are left at most; none is after one that failed
+abbrev pub steps_left : Device → ℕ
+steps_left d = option_map_or (λ q. if q.boot_failed then 0 else 1 + (length q.plan.boots - q.ended)) d.pending 0

@@ -1,0 +1,19 @@
+//! How a deployment is driven: the calls that run its steps, keep their records and print their lines.
+//!
+//! It promises that what happens in each of its calls is a history that `histories` allows, that at every moment each image
+//! that a crash may leave stands for the device that a front of its records gives, and that the lines are those of the
+//! records. It stands on `deploy_state` for the records, on `step_runner` for children, and on `histories` for what a
+//! history is.
+#![tactic(auto)]
+
+mod boots;
+mod ends;
+mod lines;
+mod steps;
+mod turns;
+
+pub use boots::{restart_of, run_boots, step_at};
+pub use ends::{Booted, SessionFault};
+pub use lines::{acknowledge, tell_exit, tell_failed_boot};
+pub use steps::{probes, run_step};
+pub use turns::goes_on;

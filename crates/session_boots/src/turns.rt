@@ -1,0 +1,171 @@
+// One bootstrap step, with its records and its line.
+ghost use Rattle.std.specs.Prelude.{◌≡◌, ◌≤◌, [], ℕ, List, Bool, true, false, is_none, is_some, IfOk, OnOk, OnErr, IsErrOf, IsTrue, Some};
+ghost use Rattle.nuc_base.specs.Faults.{HasCause, Rose};
+ghost use Rattle.device.specs.Lawful.{goes_on};
+ghost use Rattle.deploy_state.specs.Fields.{CanBegin, next_name};
+ghost use Rattle.deploy_state.specs.States.{OwnsBooting, booting_device};
+ghost use Rattle.edges.specs.Pieces.{Writes};
+ghost use Rattle.records.specs.Stored.{BootEnded};
+ghost use Rattle.step_runner.specs.Entries.{Listed, Told};
+ghost use Rattle.components.specs.Components.{Components};
+ghost use Rattle.histories.specs.Courses.{IsBare};
+ghost use Rattle.histories.specs.TraceEvents.{TraceEvent, records_of};
+ghost use Rattle.histories.specs.Phases.{duty_of};
+ghost use Rattle.histories.specs.States.{SessionState, state_after};
+ghost use Rattle.session_boots.specs.Booted.{EndsWith, restart_of};
+ghost use Rattle.session_boots.specs.Lines.{line_of, lines_of};
+ghost use Rattle.session_boots.specs.Made.{IsTurn};
+ghost use Rattle.session_boots.specs.Ends.{IsOne, Left, Lines};
+ghost use Rattle.session_boots.specs.Stands.{IsBetween, IsAtBootStage};
+ghost use Rattle.session_boots.specs.Steps.{HasEnd};
+ghost use Rattle.session_boots.specs.Turns.{Begins, Ends, Turns};
+ghost use Rattle.session_boots.specs.Traces.{IsTrace};
+
+use crate::ends::SessionFault;
+use crate::lines::tell_failed_boot;
+use crate::steps::run_step;
+use components::Prepared;
+use deploy_state::Booting;
+use disk_model::Disk;
+use edges::{EdgeFault, Sink};
+use gate_log::Journal;
+use nuc_base::Exit;
+use recipe_reader::recipe_laws;
+use step_runner::Runner;
+
+/// Records that the step begins whose turn it is.
+fn begin<D: Disk, J: Journal + Drop>(
+    state: Booting<J>,
+    disk: &mut D,
+) -> Result<Booting<J>, SessionFault>
+    requires held { OwnsBooting D.is_modelled D.may_leave J.stands J.end state disk.old }
+    requires may { CanBegin (booting_device state) }
+    // Where it gives up, no child lives.
+    ensures trace { (p : SessionState) → (world : Components) → (told : Told) → (living : List ℕ) → IsAtBootStage p (booting_device state) world told living →
+        (h : List TraceEvent) × IsTrace J.entries J.files D.may_leave D.moment D.left_since disk.old disk.new told.list told.list p h
+        × (lines_of p.device (records_of h) ≡ [])
+        × Left J.entries D.may_leave disk.new p h (λ s q. IsAtBootStage q (booting_device s) world told living) result
+        × OnErr result (IsBare (state_after p h)) × OnErr result (IsOne (records_of h)) }
+    ensures begins { IfOk result (λ s. Begins (booting_device state) (booting_device s)) }
+    ensures held { IfOk result (λ s. OwnsBooting D.is_modelled D.may_leave J.stands J.end s disk.new) }
+    ensures others { IsTrue D.is_modelled → (name : List ℕ) → ¬ (J.files name) → D.seen disk.new name ≡ D.seen disk.old name }
+    ensures disk { IsErrOf result SessionFault.Disk → Rose (D.faults disk.old) (D.faults disk.new) }
+    ensures edge { IsErrOf result SessionFault.Edge → ⊥ }
+    ensures quiet { ¬ (IsErrOf result SessionFault.Disk) → D.faults disk.new ≡ D.faults disk.old }
+    ensures later { D.faults disk.old ≤ D.faults disk.new }
+{
+    match state.begin(disk) {
+        Ok(next) => Ok(next),
+        Err(_) => Err(SessionFault::Disk),
+    }
+}
+
+/// Whether the end is no failure.
+pub fn goes_on(exit: Exit) -> bool
+    ensures { result ≡ goes_on exit }
+{
+    match exit {
+        Exit::Code(code) => code == 0 || code == 100 || code == 101,
+        Exit::Signal | Exit::TimedOut | Exit::NotStarted | Exit::Lost => false,
+    }
+}
+
+/// Prints the line of the end that was recorded, where it is a failure.
+fn tell_end<J: Journal + Drop, K: Sink>(
+    state: &Booting<J>,
+    sink: &mut K,
+    exit: Exit,
+) -> Result<(), EdgeFault>
+    ensures line { (name : List ℕ) → (goes_on exit ≡ false → next_name (booting_device state.now) ≡ Some name) →
+        Writes (K.held sink.old) (K.held sink.new) (line_of (booting_device state.now) (BootEnded name exit)) result }
+    ensures cause { HasCause (K.faults sink.old) (K.faults sink.new) result }
+    ensures quiet { OnOk result (K.faults sink.new ≡ K.faults sink.old) }
+{
+    if goes_on(exit) {
+        return Ok(());
+    }
+    let Some(pending) = &state.device().pending else {
+        return Ok(());
+    };
+    match state.next() {
+        Some(name) => tell_failed_boot(sink, &pending.plan.id, name, exit),
+        None => Ok(()),
+    }
+}
+
+/// Records how the step ended that was begun, and prints its line.
+fn end<D: Disk, J: Journal + Drop, K: Sink>(
+    state: Booting<J>,
+    disk: &mut D,
+    sink: &mut K,
+    exit: Exit,
+) -> Result<Booting<J>, SessionFault>
+    requires held { OwnsBooting D.is_modelled D.may_leave J.stands J.end state disk.old }
+    requires turn { is_some (duty_of (booting_device state)).turn ≡ true }
+    requires begun { (duty_of (booting_device state)).begun ≡ true }
+    // Where it gives up, no child lives.
+    ensures trace { (p : SessionState) → (world : Components) → (told : Told) → (living : List ℕ) → HasEnd p (booting_device state) exit world told living →
+        (h : List TraceEvent) × IsTrace J.entries J.files D.may_leave D.moment D.left_since disk.old disk.new told.list told.list p h
+        × Lines (K.held sink.old) (K.held sink.new) p.device (records_of h) result
+        × Left J.entries D.may_leave disk.new p h (λ s q. IsBetween q (booting_device s) world told living × (q.over ≡ is_some (restart_of exit (is_none (duty_of (booting_device s)).turn))) × EndsWith exit (records_of h)) result
+        × OnErr result (IsBare (state_after p h)) }
+    ensures ends { IfOk result (λ s. Ends (booting_device state) exit (booting_device s)) }
+    ensures held { IfOk result (λ s. OwnsBooting D.is_modelled D.may_leave J.stands J.end s disk.new) }
+    ensures others { IsTrue D.is_modelled → (name : List ℕ) → ¬ (J.files name) → D.seen disk.new name ≡ D.seen disk.old name }
+    ensures disk { IsErrOf result SessionFault.Disk → Rose (D.faults disk.old) (D.faults disk.new) }
+    ensures edge { IsErrOf result SessionFault.Edge → Rose (K.faults sink.old) (K.faults sink.new) }
+    ensures quiet_disk { ¬ (IsErrOf result SessionFault.Disk) → D.faults disk.new ≡ D.faults disk.old }
+    ensures quiet_sink { ¬ (IsErrOf result SessionFault.Edge) → K.faults sink.new ≡ K.faults sink.old }
+    ensures later { (D.faults disk.old ≤ D.faults disk.new) × (K.faults sink.old ≤ K.faults sink.new) }
+{
+    match state.ended(disk, exit) {
+        Ok(next) => match tell_end(&next, sink, exit) {
+            Ok(()) => Ok(next),
+            Err(_) => {
+                drop(next);
+                Err(SessionFault::Edge)
+            }
+        },
+        Err(_) => Err(SessionFault::Disk),
+    }
+}
+
+/// Runs the bootstrap step whose turn it is to its recorded end.
+pub(crate) fn run_turn<D: Disk, J: Journal + Drop, K: Sink, R: Runner>(
+    state: Booting<J>,
+    step: &Prepared,
+    disk: &mut D,
+    sink: &mut K,
+    runner: &mut R,
+) -> Result<(Booting<J>, Exit), SessionFault>
+    requires held { OwnsBooting D.is_modelled D.may_leave J.stands J.end state disk.old }
+    requires turn { IsTurn (booting_device state) step.now }
+    requires placed { (p : SessionState) × (world : Components) × IsAtBootStage p (booting_device state) world (Listed R.list R.told R.asked runner.old) (R.living runner.old) }
+    // Where it gives up, no child lives.
+    ensures trace { (p : SessionState) → (world : Components) → IsAtBootStage p (booting_device state) world (Listed R.list R.told R.asked runner.old) (R.living runner.old) →
+        (h : List TraceEvent) × IsTrace J.entries J.files D.may_leave D.moment D.left_since disk.old disk.new (R.list runner.old) (R.list runner.new) p h
+        × Lines (K.held sink.old) (K.held sink.new) p.device (records_of h) result
+        × Left J.entries D.may_leave disk.new p h (λ x q. IsBetween q (booting_device x.0) world (Listed R.list R.told R.asked runner.new) (R.living runner.new) × (q.over ≡ is_some (restart_of x.1 (is_none (duty_of (booting_device x.0)).turn))) × EndsWith x.1 (records_of h)) result
+        × OnErr result (IsBare (state_after p h)) }
+    ensures none { R.living runner.new ≡ [] }
+    ensures turns { IfOk result (λ x. Turns (booting_device state) x.1 (booting_device x.0)) }
+    ensures held { IfOk result (λ x. OwnsBooting D.is_modelled D.may_leave J.stands J.end x.0 disk.new) }
+    ensures others { IsTrue D.is_modelled → (name : List ℕ) → ¬ (J.files name) → D.seen disk.new name ≡ D.seen disk.old name }
+    ensures disk { IsErrOf result SessionFault.Disk → Rose (D.faults disk.old) (D.faults disk.new) }
+    ensures edge { IsErrOf result SessionFault.Edge → Rose (K.faults sink.old) (K.faults sink.new) }
+    ensures quiet_disk { ¬ (IsErrOf result SessionFault.Disk) → D.faults disk.new ≡ D.faults disk.old }
+    ensures quiet_sink { ¬ (IsErrOf result SessionFault.Edge) → K.faults sink.new ≡ K.faults sink.old }
+    ensures later { (D.faults disk.old ≤ D.faults disk.new) × (K.faults sink.old ≤ K.faults sink.new) }
+{
+    let begun = match begin(state, disk) {
+        Ok(begun) => begun,
+        Err(over) => return Err(over),
+    };
+    // Each recipe gives its bootstrap step a limit.
+    recipe_laws();
+    let exit = run_step(runner, step);
+    match end(begun, disk, sink, exit) {
+        Ok(next) => Ok((next, exit)),
+        Err(over) => Err(over),
+    }
+}

@@ -1,0 +1,57 @@
+use Rattle.std.proofs.Common.{sym, subst}
+use Rattle.device.specs.Devices.{Device}
+use Rattle.deploy_state.specs.States.{activating_device, booting_device}
+use Rattle.step_runner.specs.Entries.{Listed}
+use Rattle.histories.specs.TraceEvents.{records_of}
+use Rattle.histories.specs.States.{state_after}
+use Rattle.session_boots.specs.Lines.{lines_of}
+use Rattle.session_boots.specs.Same.{IsSameDeployment}
+use Rattle.session_boots.proofs.Between.{no_living}
+use Rattle.session_boots.proofs.Same.{same_activated}
+use Rattle.session_boots.proofs.Told.{none_at, nothing_told}
+use Rattle.session_transitions.specs.Enters.{AreReady}
+use Rattle.session_rollout.proofs.Joining.{given_up, joined}
+use Rattle.session_rollout.proofs.Leaving.{driven_on}
+use Rattle.session_rollout.proofs.Ways.{way_on}
+use Rattle.session_rollout.proofs.boots.end_boots.Goals as goal
+
+pub activate_on-requires-clause-items : goal.activate_on-requires-clause-items
+activate_on-requires-clause-items g c = subst (λ (d : Device). AreReady d (g.S.Supervise.coming c.args.items)) (sym c.in-Ok.ensures.taken) c.requires.items
+
+pub activate_on-requires-clause-ready : goal.activate_on-requires-clause-ready
+activate_on-requires-clause-ready g c =
+    let d = booting_device c.args.state in
+    way_on c.args.backs.now (g.S.Supervise.coming c.args.ready) d (activating_device c.in-Ok.state)
+    (subst (λ (x : Device). IsSameDeployment d x) (sym c.in-Ok.ensures.taken) (same_activated d)) c.requires.ready
+
+pub activate_on-requires-clause-placed : goal.activate_on-requires-clause-placed
+activate_on-requires-clause-placed g c =
+    let q = c.requires.placed in
+    let told = Listed g.R.Runner.list g.R.Runner.told g.R.Runner.asked c.args.runner.now in
+    let t = c.in-Ok.ensures.trace q.0 (g.S.Supervise.world c.args.supervisor.now) told (g.R.Runner.living c.args.runner.now) q.1 in
+    (state_after q.0 t.0, t.3)
+
+pub returns-in-Ok-clause-course : goal.returns-in-Ok-clause-course
+returns-in-Ok-clause-course g c = λ p front.
+    let told = Listed g.R.Runner.list g.R.Runner.told g.R.Runner.asked c.args.runner.now in
+    let last = Listed g.R.Runner.list g.R.Runner.told g.R.Runner.asked c.activate_on.new.runner in
+    let t = c.in-Ok.ensures.trace p (g.S.Supervise.world c.args.supervisor.now) told (g.R.Runner.living c.args.runner.now) front in
+    joined g.J.Journal.entries g.J.Journal.files g.met.D.Disk.laws c.args.disk.now c.begin_items.new.disk c.activate_on.new.disk told.list told.list last.list
+    (g.K.Sink.held c.args.sink.now) (g.K.Sink.held c.args.sink.now) (g.K.Sink.held c.activate_on.new.sink) p t.0 c.activate_on.result _
+    t.1
+    (nothing_told (g.K.Sink.held c.args.sink.now) (lines_of p.device (records_of t.0)) t.2)
+    (driven_on (g.S.Supervise.world c.activate_on.new.supervisor) last (g.R.Runner.living c.activate_on.new.runner) t.0)
+    (c.activate_on.ensures.course (state_after p t.0) t.3)
+
+pub returns-in-Err-clause-course : goal.returns-in-Err-clause-course
+returns-in-Err-clause-course g c = λ p front.
+    let told = Listed g.R.Runner.list g.R.Runner.told g.R.Runner.asked c.args.runner.now in
+    let t = c.in-Err.ensures.trace p (g.S.Supervise.world c.args.supervisor.now) told (g.R.Runner.living c.args.runner.now) front in
+    given_up g.J.Journal.entries g.J.Journal.files c.args.disk.now c.begin_items.new.disk told.list told.list
+    (g.K.Sink.held c.args.sink.now) (g.K.Sink.held c.args.sink.now) p t.0 c.in-Err.over _
+    t.1 (none_at (g.K.Sink.held c.args.sink.now) p.device (records_of t.0) c.in-Err.over t.5) t.3 t.4
+
+pub returns-in-Err-clause-none : goal.returns-in-Err-clause-none
+returns-in-Err-clause-none g c =
+    let q = c.requires.placed in
+    no_living q.0 (booting_device c.args.state) (g.S.Supervise.world c.args.supervisor.now) (Listed g.R.Runner.list g.R.Runner.told g.R.Runner.asked c.args.runner.now) (g.R.Runner.living c.args.runner.now) q.1

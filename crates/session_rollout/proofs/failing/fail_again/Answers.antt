@@ -1,0 +1,90 @@
+use Rattle.std.proofs.Common.{◌∙◌, sym, ap}
+use Rattle.nuc_base.specs.declared.kinds.Outcome.TheVariants as outcomes
+use Rattle.deploy_state.specs.States.{activating_device, broken_device}
+use Rattle.step_runner.specs.Entries.{Listed}
+use Rattle.histories.specs.TraceEvents.{records_of}
+use Rattle.histories.specs.States.{state_after}
+use Rattle.session_boots.specs.Lines.{lines_of}
+use Rattle.session_boots.proofs.Between.{no_living}
+use Rattle.session_boots.proofs.Told.{none_at, nothing_told}
+use Rattle.session_transitions.specs.Fails.{is_to_roll_back}
+use Rattle.session_transitions.proofs.Rising.{orderly_at}
+use Rattle.session_rollout.specs.declared.driven.Driven.TheVariants as driven
+use Rattle.session_rollout.proofs.Endings.{ended}
+use Rattle.session_rollout.proofs.Joining.{given_up, joined}
+use Rattle.session_rollout.proofs.Leaving.{driven_on}
+use Rattle.session_rollout.proofs.Ways.{way_broken}
+use Rattle.session_rollout.proofs.failing.fail_again.Goals as goal
+
+-- ---- it is rolled back
+
+pub begin_rollback_again-requires-clause-policy : goal.begin_rollback_again-requires-clause-policy
+begin_rollback_again-requires-clause-policy g c = ap is_to_roll_back (sym c.device.ensures) ∙ sym c.is_to_roll_back.ensures ∙ c.if-is_to_roll_back.true
+
+pub roll_back-requires-clause-ready : goal.roll_back-requires-clause-ready
+roll_back-requires-clause-ready g c =
+    way_broken c.args.backs.now (g.S.Supervise.coming c.args.ready) (activating_device c.args.state) (broken_device c.in-Ok.broke) c.in-Ok.ensures.breaks c.requires.ready
+
+pub roll_back-requires-clause-placed : goal.roll_back-requires-clause-placed
+roll_back-requires-clause-placed g c =
+    let q = c.requires.placed in
+    let told = Listed g.R.Runner.list g.R.Runner.told g.R.Runner.asked c.args.runner.now in
+    let t = c.in-Ok.ensures.trace q.0 (g.S.Supervise.world c.args.supervisor.now) told (g.R.Runner.living c.args.runner.now) q.1 in
+    (state_after q.0 t.0, t.3)
+
+pub returns-in-Ok-clause-course : goal.returns-in-Ok-clause-course
+returns-in-Ok-clause-course g c = λ p front.
+    let told = Listed g.R.Runner.list g.R.Runner.told g.R.Runner.asked c.args.runner.now in
+    let last = Listed g.R.Runner.list g.R.Runner.told g.R.Runner.asked c.roll_back.new.runner in
+    let t = c.in-Ok.ensures.trace p (g.S.Supervise.world c.args.supervisor.now) told (g.R.Runner.living c.args.runner.now) front in
+    joined g.J.Journal.entries g.J.Journal.files g.met.D.Disk.laws c.args.disk.now c.begin_rollback_again.new.disk c.roll_back.new.disk told.list told.list last.list
+    (g.K.Sink.held c.args.sink.now) (g.K.Sink.held c.args.sink.now) (g.K.Sink.held c.roll_back.new.sink) p t.0 c.roll_back.result _
+    t.1
+    (nothing_told (g.K.Sink.held c.args.sink.now) (lines_of p.device (records_of t.0)) t.2)
+    (driven_on (g.S.Supervise.world c.roll_back.new.supervisor) last (g.R.Runner.living c.roll_back.new.runner) t.0)
+    (c.roll_back.ensures.course (state_after p t.0) t.3)
+
+pub returns-in-Err-clause-course : goal.returns-in-Err-clause-course
+returns-in-Err-clause-course g c = λ p front.
+    let told = Listed g.R.Runner.list g.R.Runner.told g.R.Runner.asked c.args.runner.now in
+    let t = c.in-Err.ensures.trace p (g.S.Supervise.world c.args.supervisor.now) told (g.R.Runner.living c.args.runner.now) front in
+    given_up g.J.Journal.entries g.J.Journal.files c.args.disk.now c.begin_rollback_again.new.disk told.list told.list
+    (g.K.Sink.held c.args.sink.now) (g.K.Sink.held c.args.sink.now) p t.0 c.in-Err.over _
+    t.1 (none_at (g.K.Sink.held c.args.sink.now) p.device (records_of t.0) c.in-Err.over t.5) t.3 t.4
+
+pub returns-in-Err-clause-none : goal.returns-in-Err-clause-none
+returns-in-Err-clause-none g c =
+    let q = c.requires.placed in
+    no_living q.0 (activating_device c.args.state) (g.S.Supervise.world c.args.supervisor.now) (Listed g.R.Runner.list g.R.Runner.told g.R.Runner.asked c.args.runner.now) (g.R.Runner.living c.args.runner.now) q.1
+
+-- ---- it stays as it is
+
+pub close_failed_again-requires-clause-policy : goal.close_failed_again-requires-clause-policy
+close_failed_again-requires-clause-policy g c = ap is_to_roll_back (sym c.device.ensures) ∙ sym c.is_to_roll_back.ensures ∙ c.if-is_to_roll_back.false
+
+pub returns-in-Ok-close_failed_again-clause-course : goal.returns-in-Ok-close_failed_again-clause-course
+returns-in-Ok-close_failed_again-clause-course g c = λ p front.
+    let d = activating_device c.args.state in
+    let world = g.S.Supervise.world c.args.supervisor.now in
+    let told = Listed g.R.Runner.list g.R.Runner.told g.R.Runner.asked c.args.runner.now in
+    let living = g.R.Runner.living c.args.runner.now in
+    let t = c.in-Ok-close_failed_again.ensures.trace p told living front (orderly_at p d world told living front c.requires.orderly) in
+    ended g.J.Journal.entries g.J.Journal.files c.args.disk.now c.close_failed_again.new.disk told.list told.list
+    (g.K.Sink.held c.args.sink.now) (g.K.Sink.held c.close_failed_again.new.sink) p t.0 (driven.Closed c.in-Ok-close_failed_again.idle outcomes.RollbackNotRequested) _
+    t.1 t.2 t.3
+
+pub returns-in-Err-close_failed_again-clause-course : goal.returns-in-Err-close_failed_again-clause-course
+returns-in-Err-close_failed_again-clause-course g c = λ p front.
+    let d = activating_device c.args.state in
+    let world = g.S.Supervise.world c.args.supervisor.now in
+    let told = Listed g.R.Runner.list g.R.Runner.told g.R.Runner.asked c.args.runner.now in
+    let living = g.R.Runner.living c.args.runner.now in
+    let t = c.in-Err-close_failed_again.ensures.trace p told living front (orderly_at p d world told living front c.requires.orderly) in
+    given_up g.J.Journal.entries g.J.Journal.files c.args.disk.now c.close_failed_again.new.disk told.list told.list
+    (g.K.Sink.held c.args.sink.now) (g.K.Sink.held c.close_failed_again.new.sink) p t.0 c.in-Err-close_failed_again.over _
+    t.1 t.2 t.3 t.4
+
+pub returns-in-Err-close_failed_again-clause-none : goal.returns-in-Err-close_failed_again-clause-none
+returns-in-Err-close_failed_again-clause-none g c =
+    let q = c.requires.placed in
+    no_living q.0 (activating_device c.args.state) (g.S.Supervise.world c.args.supervisor.now) (Listed g.R.Runner.list g.R.Runner.told g.R.Runner.asked c.args.runner.now) (g.R.Runner.living c.args.runner.now) q.1

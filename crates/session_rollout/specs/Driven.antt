@@ -1,0 +1,46 @@
+-- The course of a deployment that is driven, and how it ends.
+use Rattle.std.specs.Prelude.{ℕ, Bool, List, Option, Result, OnErr}
+use Rattle.device.specs.Devices.{Device}
+use Rattle.disk_model.specs.Disk.{Image}
+use Rattle.deploy_state.specs.States.{OwnsIdle, OwnsLoaded, idle_device, loaded_device}
+use Rattle.step_runner.specs.Entries.{Told}
+use Rattle.step_runner.specs.declared.entries.RunnerEntry.{RunnerEntry}
+use Rattle.components.specs.Components.{Components}
+use Rattle.histories.specs.Courses.{IsBare}
+use Rattle.histories.specs.TraceEvents.{TraceEvent, records_of}
+use Rattle.histories.specs.States.{SessionState, state_after}
+use Rattle.session_boots.specs.Booted.{BootsLeft}
+use Rattle.session_boots.specs.Ends.{Left, Lines}
+use Rattle.session_boots.specs.Traces.{IsTrace}
+use Rattle.session_boots.specs.declared.ends.SessionFault.{SessionFault}
+use Rattle.session_boots.specs.declared.ends.Booted.TheVariants as booted
+use Rattle.session_startup.specs.Ended.{HasClosed}
+use Rattle.session_rollout.specs.declared.driven.Driven.{Driven}
+use Rattle.session_rollout.specs.declared.driven.Driven.TheVariants as driven
+
+-- It closed, and the components are as they were; or a bootstrap's end asks that the call ends.
+abbrev pub DrivenLeft : {J : Type 0} → Driven J → List TraceEvent → SessionState → Components → Told → List ℕ → Type 0
+DrivenLeft (driven.Closed s o) h q world told living = HasClosed o (records_of h) q (idle_device s) world told living
+DrivenLeft (driven.Restart s) h q world told living = BootsLeft booted.Restart (records_of h) q (loaded_device s) world told living
+DrivenLeft (driven.Reboot s) h q world told living = BootsLeft booted.Reboot (records_of h) q (loaded_device s) world told living
+
+abbrev pub driven_device : {J : Type 0} → Driven J → Device
+driven_device (driven.Closed s o) = idle_device s
+driven_device (driven.Restart s) = loaded_device s
+driven_device (driven.Reboot s) = loaded_device s
+
+module _ {J D : Type 0} (is_modelled : Bool) (may_leave : D → Image → Type 0) (stands : J → Image → List (List ℕ) → Type 0) (end : J → ℕ) where
+  abbrev pub OwnsDriven : Driven J → D → Type 0
+  OwnsDriven (driven.Closed s o) disk = OwnsIdle is_modelled may_leave stands end s disk
+  OwnsDriven (driven.Restart s) disk = OwnsLoaded is_modelled may_leave stands end s disk
+  OwnsDriven (driven.Reboot s) disk = OwnsLoaded is_modelled may_leave stands end s disk
+
+-- From a place on this happened, its lines were printed, and it leaves what is said of the result. Where it gives up no
+-- child lives.
+module _ (entries : Image → List (List ℕ) → Type 0) (files : List ℕ → Type 0) {D : Type 0} (may_leave : D → Image → Type 0) (moment : D → ℕ) (left_since : D → ℕ → Image → Type 0) where
+  pub record Course {A : Type 0} (old new : D) (old_list new_list : Option (List RunnerEntry)) (old_held new_held : Option (List ℕ)) (p : SessionState) (result : Result A SessionFault) (is : A → List TraceEvent → SessionState → Type 0) : Type 0 where
+    pub history : List TraceEvent
+    pub trace : IsTrace entries files may_leave moment left_since old new old_list new_list p history
+    pub lines : Lines old_held new_held p.device (records_of history) result
+    pub left : Left entries may_leave new p history (λ x q. is x history q) result
+    pub bare : OnErr result (IsBare (state_after p history))

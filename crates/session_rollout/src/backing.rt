@@ -1,0 +1,151 @@
+//! The bootstraps of the set run again, and then its items come up.
+ghost use Rattle.law_termination.specs.Drives.{Drives};
+ghost use Rattle.std.specs.Prelude.{◌≡◌, [], ℕ, List, IsTrue, IfOk, OnErr, IsErrOf, true};
+ghost use Rattle.nuc_base.specs.Faults.{Rose};
+ghost use Rattle.session_back_boots.specs.Backs.{IsStillBacking};
+ghost use Rattle.deploy_state.specs.Fields.{has_failed};
+ghost use Rattle.deploy_state.specs.States.{OwnsBacked, OwnsBacking, InBrokeOff, backed_device, backing_device, broken_device};
+ghost use Rattle.session_rollout.specs.Backwards.{EndsBacks, HasWayBack, paused_of};
+ghost use Rattle.session_rollout.specs.Driven.{Course, DrivenLeft, OwnsDriven};
+ghost use Rattle.session_boots.specs.Stands.{IsAtBootStage};
+ghost use Rattle.histories.specs.States.{SessionState};
+ghost use Rattle.step_runner.specs.Entries.{Listed};
+ghost use Rattle.law_supervisor.specs.Sound.{IsOrderly};
+
+use crate::driven::Driven;
+use crate::rolling::roll_on;
+use components::{Prepared, Supervise};
+use deploy_state::{Backed, Backing, BrokeOff, Loaded};
+use disk_model::Disk;
+use edges::Sink;
+use gate_log::Journal;
+use nuc_base::Outcome;
+use session_back_boots::run_rollback_boots;
+use session_boots::{Booted, SessionFault};
+use session_transitions::close_failed_backing;
+use step_runner::Runner;
+
+fn paused<J: Journal + Drop>(backed: Backed<J>) -> Loaded<J>
+    ensures { result ≡ paused_of backed }
+{
+    match backed {
+        Backed::Backing(state) => Loaded::Backing(state),
+        Backed::Rolling(state) => Loaded::Rolling(state),
+    }
+}
+
+/// Behind the bootstraps that ran again: the items of the set come up, or the deployment closes where one failed.
+fn end_backs<D: Disk, J: Journal + Drop, K: Sink, R: Runner, S: Supervise>(
+    backed: Backed<J>,
+    ready: S::Ready,
+    disk: &mut D,
+    sink: &mut K,
+    runner: &mut R,
+    supervisor: &mut S,
+) -> Result<Driven<J>, SessionFault>
+where
+    S::Ready: Drop,
+    requires held { OwnsBacked D.is_modelled D.may_leave J.stands J.end backed disk.old }
+    requires failed { IsStillBacking backed → has_failed (backed_device backed) ≡ true }
+    requires ready { EndsBacks backed (S.coming ready) }
+    requires drives { Drives (S.world supervisor.old) }
+    requires orderly { IsOrderly (S.world supervisor.old) }
+    requires placed { (p : SessionState) × IsAtBootStage p (backed_device backed) (S.world supervisor.old) (Listed R.list R.told R.asked runner.old) (R.living runner.old) }
+    ensures course { (p : SessionState) → IsAtBootStage p (backed_device backed) (S.world supervisor.old) (Listed R.list R.told R.asked runner.old) (R.living runner.old) →
+        Course J.entries J.files D.may_leave D.moment D.left_since disk.old disk.new (R.list runner.old) (R.list runner.new) (K.held sink.old) (K.held sink.new) p result
+        (λ x h q. DrivenLeft x h q (S.world supervisor.new) (Listed R.list R.told R.asked runner.new) (R.living runner.new)) }
+    ensures none { OnErr result (R.living runner.new ≡ []) }
+    ensures drives { IfOk result (λ x. Drives (S.world supervisor.new)) }
+    ensures held { IfOk result (λ x. OwnsDriven D.is_modelled D.may_leave J.stands J.end x disk.new) }
+    ensures others { IsTrue D.is_modelled → (name : List ℕ) → ¬ (J.files name) → D.seen disk.new name ≡ D.seen disk.old name }
+    ensures disk { IsErrOf result SessionFault.Disk → Rose (D.faults disk.old) (D.faults disk.new) }
+    ensures edge { IsErrOf result SessionFault.Edge → Rose (K.faults sink.old) (K.faults sink.new) }
+    ensures quiet_disk { ¬ (IsErrOf result SessionFault.Disk) → D.faults disk.new ≡ D.faults disk.old }
+    ensures quiet_sink { ¬ (IsErrOf result SessionFault.Edge) → K.faults sink.new ≡ K.faults sink.old }
+{
+    match backed {
+        Backed::Rolling(state) => roll_on(state, ready, disk, sink, runner, supervisor),
+        Backed::Backing(state) => {
+            drop(ready);
+            match close_failed_backing(state, disk, sink, supervisor) {
+                Ok(idle) => Ok(Driven::Closed(idle, Outcome::UnableToRollback)),
+                Err(over) => Err(over),
+            }
+        }
+    }
+}
+
+/// The bootstraps of the set run again, from the first that is not ended, and then its items come up.
+pub(crate) fn back_on<D: Disk, J: Journal + Drop, K: Sink, R: Runner, S: Supervise>(
+    state: Backing<J>,
+    backs: &[Prepared],
+    ready: S::Ready,
+    disk: &mut D,
+    sink: &mut K,
+    runner: &mut R,
+    supervisor: &mut S,
+) -> Result<Driven<J>, SessionFault>
+where
+    S::Ready: Drop,
+    requires held { OwnsBacking D.is_modelled D.may_leave J.stands J.end state disk.old }
+    requires ready { HasWayBack (backing_device state) backs.now (S.coming ready) }
+    requires drives { Drives (S.world supervisor.old) }
+    requires orderly { IsOrderly (S.world supervisor.old) }
+    requires placed { (p : SessionState) × IsAtBootStage p (backing_device state) (S.world supervisor.old) (Listed R.list R.told R.asked runner.old) (R.living runner.old) }
+    ensures course { (p : SessionState) → IsAtBootStage p (backing_device state) (S.world supervisor.old) (Listed R.list R.told R.asked runner.old) (R.living runner.old) →
+        Course J.entries J.files D.may_leave D.moment D.left_since disk.old disk.new (R.list runner.old) (R.list runner.new) (K.held sink.old) (K.held sink.new) p result
+        (λ x h q. DrivenLeft x h q (S.world supervisor.new) (Listed R.list R.told R.asked runner.new) (R.living runner.new)) }
+    ensures none { OnErr result (R.living runner.new ≡ []) }
+    ensures drives { IfOk result (λ x. Drives (S.world supervisor.new)) }
+    ensures held { IfOk result (λ x. OwnsDriven D.is_modelled D.may_leave J.stands J.end x disk.new) }
+    ensures others { IsTrue D.is_modelled → (name : List ℕ) → ¬ (J.files name) → D.seen disk.new name ≡ D.seen disk.old name }
+    ensures disk { IsErrOf result SessionFault.Disk → Rose (D.faults disk.old) (D.faults disk.new) }
+    ensures edge { IsErrOf result SessionFault.Edge → Rose (K.faults sink.old) (K.faults sink.new) }
+    ensures quiet_disk { ¬ (IsErrOf result SessionFault.Disk) → D.faults disk.new ≡ D.faults disk.old }
+    ensures quiet_sink { ¬ (IsErrOf result SessionFault.Edge) → K.faults sink.new ≡ K.faults sink.old }
+{
+    match run_rollback_boots(state, backs, disk, sink, runner) {
+        Ok((backed, booted)) => match booted {
+            Booted::Restart => Ok(Driven::Restart(paused(backed))),
+            Booted::Reboot => Ok(Driven::Reboot(paused(backed))),
+            Booted::Through => end_backs(backed, ready, disk, sink, runner, supervisor),
+            Booted::Failed => end_backs(backed, ready, disk, sink, runner, supervisor),
+        },
+        Err(over) => Err(over),
+    }
+}
+
+/// The way back begins: by the bootstraps of the set that run again, where there are any.
+pub(crate) fn roll_back<D: Disk, J: Journal + Drop, K: Sink, R: Runner, S: Supervise>(
+    broke: BrokeOff<J>,
+    backs: &[Prepared],
+    ready: S::Ready,
+    disk: &mut D,
+    sink: &mut K,
+    runner: &mut R,
+    supervisor: &mut S,
+) -> Result<Driven<J>, SessionFault>
+where
+    S::Ready: Drop,
+    requires held { InBrokeOff D.is_modelled D.may_leave J.stands J.end broke disk.old }
+    requires ready { HasWayBack (broken_device broke) backs.now (S.coming ready) }
+    requires drives { Drives (S.world supervisor.old) }
+    requires orderly { IsOrderly (S.world supervisor.old) }
+    requires placed { (p : SessionState) × IsAtBootStage p (broken_device broke) (S.world supervisor.old) (Listed R.list R.told R.asked runner.old) (R.living runner.old) }
+    ensures course { (p : SessionState) → IsAtBootStage p (broken_device broke) (S.world supervisor.old) (Listed R.list R.told R.asked runner.old) (R.living runner.old) →
+        Course J.entries J.files D.may_leave D.moment D.left_since disk.old disk.new (R.list runner.old) (R.list runner.new) (K.held sink.old) (K.held sink.new) p result
+        (λ x h q. DrivenLeft x h q (S.world supervisor.new) (Listed R.list R.told R.asked runner.new) (R.living runner.new)) }
+    ensures none { OnErr result (R.living runner.new ≡ []) }
+    ensures drives { IfOk result (λ x. Drives (S.world supervisor.new)) }
+    ensures held { IfOk result (λ x. OwnsDriven D.is_modelled D.may_leave J.stands J.end x disk.new) }
+    ensures others { IsTrue D.is_modelled → (name : List ℕ) → ¬ (J.files name) → D.seen disk.new name ≡ D.seen disk.old name }
+    ensures disk { IsErrOf result SessionFault.Disk → Rose (D.faults disk.old) (D.faults disk.new) }
+    ensures edge { IsErrOf result SessionFault.Edge → Rose (K.faults sink.old) (K.faults sink.new) }
+    ensures quiet_disk { ¬ (IsErrOf result SessionFault.Disk) → D.faults disk.new ≡ D.faults disk.old }
+    ensures quiet_sink { ¬ (IsErrOf result SessionFault.Edge) → K.faults sink.new ≡ K.faults sink.old }
+{
+    match broke {
+        BrokeOff::Backing(state) => back_on(state, backs, ready, disk, sink, runner, supervisor),
+        BrokeOff::Rolling(state) => roll_on(state, ready, disk, sink, runner, supervisor),
+    }
+}

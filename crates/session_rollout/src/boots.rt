@@ -1,0 +1,215 @@
+//! The bootstraps of the plan run, and then its items come up.
+ghost use Rattle.law_termination.specs.Drives.{Drives};
+ghost use Rattle.std.specs.Prelude.{◌≡◌, [], ℕ, List, IsTrue, IfOk, OnErr, IsErrOf, None, true, false};
+ghost use Rattle.nuc_base.specs.Faults.{Rose};
+ghost use Rattle.deploy_state.specs.Fields.{has_failed};
+ghost use Rattle.deploy_state.specs.States.{OwnsBooting, booting_device};
+ghost use Rattle.session_rollout.specs.Backwards.{HasWayBack};
+ghost use Rattle.session_rollout.specs.Driven.{Course, DrivenLeft, OwnsDriven};
+ghost use Rattle.device.specs.Lawful.{applied};
+ghost use Rattle.session_boots.specs.Stands.{IsAtBootStage};
+ghost use Rattle.session_admission.specs.Readied.{AreReadiedFor};
+ghost use Rattle.records.specs.Stored as stored;
+ghost use Rattle.histories.specs.Phases.{duty_of};
+ghost use Rattle.histories.specs.States.{SessionState};
+ghost use Rattle.session_transitions.specs.Enters.{AreReady};
+ghost use Rattle.session_transitions.specs.Fails.{is_to_roll_back};
+ghost use Rattle.step_runner.specs.Entries.{Listed};
+ghost use Rattle.law_supervisor.specs.Sound.{IsOrderly};
+
+use crate::backing::roll_back;
+use crate::driven::Driven;
+use crate::items::activate_on;
+use components::{Prepared, Supervise};
+use deploy_state::{Booting, Loaded};
+use disk_model::Disk;
+use edges::Sink;
+use gate_log::Journal;
+use nuc_base::Outcome;
+use session_admission::Readied;
+use session_boots::{Booted, SessionFault, run_boots};
+use session_transitions::{
+    begin_items, begin_rollback_of_booting, close_failed_booting, is_to_roll_back,
+};
+use step_runner::Runner;
+
+/// The deployment is rolled back.
+fn break_off<D: Disk, J: Journal + Drop, K: Sink, R: Runner, S: Supervise>(
+    state: Booting<J>,
+    backs: &[Prepared],
+    ready: S::Ready,
+    disk: &mut D,
+    sink: &mut K,
+    runner: &mut R,
+    supervisor: &mut S,
+) -> Result<Driven<J>, SessionFault>
+where
+    S::Ready: Drop,
+    requires held { OwnsBooting D.is_modelled D.may_leave J.stands J.end state disk.old }
+    requires failed { has_failed (booting_device state) ≡ true }
+    requires policy { is_to_roll_back (booting_device state) ≡ true }
+    requires ready { HasWayBack (booting_device state) backs.now (S.coming ready) }
+    requires drives { Drives (S.world supervisor.old) }
+    requires orderly { IsOrderly (S.world supervisor.old) }
+    requires placed { (p : SessionState) × IsAtBootStage p (booting_device state) (S.world supervisor.old) (Listed R.list R.told R.asked runner.old) (R.living runner.old) }
+    ensures course { (p : SessionState) → IsAtBootStage p (booting_device state) (S.world supervisor.old) (Listed R.list R.told R.asked runner.old) (R.living runner.old) →
+        Course J.entries J.files D.may_leave D.moment D.left_since disk.old disk.new (R.list runner.old) (R.list runner.new) (K.held sink.old) (K.held sink.new) p result
+        (λ x h q. DrivenLeft x h q (S.world supervisor.new) (Listed R.list R.told R.asked runner.new) (R.living runner.new)) }
+    ensures none { OnErr result (R.living runner.new ≡ []) }
+    ensures drives { IfOk result (λ x. Drives (S.world supervisor.new)) }
+    ensures held { IfOk result (λ x. OwnsDriven D.is_modelled D.may_leave J.stands J.end x disk.new) }
+    ensures others { IsTrue D.is_modelled → (name : List ℕ) → ¬ (J.files name) → D.seen disk.new name ≡ D.seen disk.old name }
+    ensures disk { IsErrOf result SessionFault.Disk → Rose (D.faults disk.old) (D.faults disk.new) }
+    ensures edge { IsErrOf result SessionFault.Edge → Rose (K.faults sink.old) (K.faults sink.new) }
+    ensures quiet_disk { ¬ (IsErrOf result SessionFault.Disk) → D.faults disk.new ≡ D.faults disk.old }
+    ensures quiet_sink { ¬ (IsErrOf result SessionFault.Edge) → K.faults sink.new ≡ K.faults sink.old }
+{
+    match begin_rollback_of_booting(state, disk) {
+        Ok(broke) => roll_back(broke, backs, ready, disk, sink, runner, supervisor),
+        Err(over) => Err(over),
+    }
+}
+
+/// A bootstrap of the plan failed: what the plan wants then.
+fn fail_boots<D: Disk, J: Journal + Drop, K: Sink, R: Runner, S: Supervise>(
+    state: Booting<J>,
+    backs: &[Prepared],
+    ready: S::Ready,
+    disk: &mut D,
+    sink: &mut K,
+    runner: &mut R,
+    supervisor: &mut S,
+) -> Result<Driven<J>, SessionFault>
+where
+    S::Ready: Drop,
+    requires held { OwnsBooting D.is_modelled D.may_leave J.stands J.end state disk.old }
+    requires failed { has_failed (booting_device state) ≡ true }
+    requires ready { HasWayBack (booting_device state) backs.now (S.coming ready) }
+    requires drives { Drives (S.world supervisor.old) }
+    requires orderly { IsOrderly (S.world supervisor.old) }
+    requires placed { (p : SessionState) × IsAtBootStage p (booting_device state) (S.world supervisor.old) (Listed R.list R.told R.asked runner.old) (R.living runner.old) }
+    ensures course { (p : SessionState) → IsAtBootStage p (booting_device state) (S.world supervisor.old) (Listed R.list R.told R.asked runner.old) (R.living runner.old) →
+        Course J.entries J.files D.may_leave D.moment D.left_since disk.old disk.new (R.list runner.old) (R.list runner.new) (K.held sink.old) (K.held sink.new) p result
+        (λ x h q. DrivenLeft x h q (S.world supervisor.new) (Listed R.list R.told R.asked runner.new) (R.living runner.new)) }
+    ensures none { OnErr result (R.living runner.new ≡ []) }
+    ensures drives { IfOk result (λ x. Drives (S.world supervisor.new)) }
+    ensures held { IfOk result (λ x. OwnsDriven D.is_modelled D.may_leave J.stands J.end x disk.new) }
+    ensures others { IsTrue D.is_modelled → (name : List ℕ) → ¬ (J.files name) → D.seen disk.new name ≡ D.seen disk.old name }
+    ensures disk { IsErrOf result SessionFault.Disk → Rose (D.faults disk.old) (D.faults disk.new) }
+    ensures edge { IsErrOf result SessionFault.Edge → Rose (K.faults sink.old) (K.faults sink.new) }
+    ensures quiet_disk { ¬ (IsErrOf result SessionFault.Disk) → D.faults disk.new ≡ D.faults disk.old }
+    ensures quiet_sink { ¬ (IsErrOf result SessionFault.Edge) → K.faults sink.new ≡ K.faults sink.old }
+{
+    if is_to_roll_back(state.device()) {
+        return break_off(state, backs, ready, disk, sink, runner, supervisor);
+    }
+    drop(ready);
+    match close_failed_booting(state, disk, sink, supervisor) {
+        Ok(idle) => Ok(Driven::Closed(idle, Outcome::RollbackNotRequested)),
+        Err(over) => Err(over),
+    }
+}
+
+/// Behind the last bootstrap the plan's items come up.
+fn end_boots<D: Disk, J: Journal + Drop, K: Sink, R: Runner, S: Supervise>(
+    state: Booting<J>,
+    items: S::Ready,
+    backs: &[Prepared],
+    ready: S::Ready,
+    disk: &mut D,
+    sink: &mut K,
+    runner: &mut R,
+    supervisor: &mut S,
+) -> Result<Driven<J>, SessionFault>
+where
+    S::Ready: Drop,
+    requires held { OwnsBooting D.is_modelled D.may_leave J.stands J.end state disk.old }
+    requires through { ((duty_of (booting_device state)).turn ≡ None) × (has_failed (booting_device state) ≡ false) }
+    requires items { AreReady (applied (booting_device state) stored.Activating) (S.coming items) }
+    requires ready { HasWayBack (booting_device state) backs.now (S.coming ready) }
+    requires drives { Drives (S.world supervisor.old) }
+    requires orderly { IsOrderly (S.world supervisor.old) }
+    requires placed { (p : SessionState) × IsAtBootStage p (booting_device state) (S.world supervisor.old) (Listed R.list R.told R.asked runner.old) (R.living runner.old) }
+    ensures course { (p : SessionState) → IsAtBootStage p (booting_device state) (S.world supervisor.old) (Listed R.list R.told R.asked runner.old) (R.living runner.old) →
+        Course J.entries J.files D.may_leave D.moment D.left_since disk.old disk.new (R.list runner.old) (R.list runner.new) (K.held sink.old) (K.held sink.new) p result
+        (λ x h q. DrivenLeft x h q (S.world supervisor.new) (Listed R.list R.told R.asked runner.new) (R.living runner.new)) }
+    ensures none { OnErr result (R.living runner.new ≡ []) }
+    ensures drives { IfOk result (λ x. Drives (S.world supervisor.new)) }
+    ensures held { IfOk result (λ x. OwnsDriven D.is_modelled D.may_leave J.stands J.end x disk.new) }
+    ensures others { IsTrue D.is_modelled → (name : List ℕ) → ¬ (J.files name) → D.seen disk.new name ≡ D.seen disk.old name }
+    ensures disk { IsErrOf result SessionFault.Disk → Rose (D.faults disk.old) (D.faults disk.new) }
+    ensures edge { IsErrOf result SessionFault.Edge → Rose (K.faults sink.old) (K.faults sink.new) }
+    ensures quiet_disk { ¬ (IsErrOf result SessionFault.Disk) → D.faults disk.new ≡ D.faults disk.old }
+    ensures quiet_sink { ¬ (IsErrOf result SessionFault.Edge) → K.faults sink.new ≡ K.faults sink.old }
+{
+    match begin_items(state, disk) {
+        Ok(state) => activate_on(state, items, backs, ready, disk, sink, runner, supervisor),
+        Err(over) => Err(over),
+    }
+}
+
+/// Runs the bootstraps of the pending plan, from the first that is not ended, and brings its items up, to the close of the
+/// deployment.
+pub fn boot<D: Disk, J: Journal + Drop, K: Sink, R: Runner, S: Supervise>(
+    state: Booting<J>,
+    ready: Readied<S::Ready>,
+    disk: &mut D,
+    sink: &mut K,
+    runner: &mut R,
+    supervisor: &mut S,
+) -> Result<Driven<J>, SessionFault>
+where
+    S::Ready: Drop,
+    requires held { OwnsBooting D.is_modelled D.may_leave J.stands J.end state disk.old }
+    requires ready { AreReadiedFor (booting_device state) ready.boots ready.backs (S.coming ready.items) (S.coming ready.earlier) }
+    requires drives { Drives (S.world supervisor.old) }
+    requires orderly { IsOrderly (S.world supervisor.old) }
+    requires placed { (p : SessionState) × IsAtBootStage p (booting_device state) (S.world supervisor.old) (Listed R.list R.told R.asked runner.old) (R.living runner.old) }
+    ensures course { (p : SessionState) → IsAtBootStage p (booting_device state) (S.world supervisor.old) (Listed R.list R.told R.asked runner.old) (R.living runner.old) →
+        Course J.entries J.files D.may_leave D.moment D.left_since disk.old disk.new (R.list runner.old) (R.list runner.new) (K.held sink.old) (K.held sink.new) p result
+        (λ x h q. DrivenLeft x h q (S.world supervisor.new) (Listed R.list R.told R.asked runner.new) (R.living runner.new)) }
+    ensures none { OnErr result (R.living runner.new ≡ []) }
+    ensures drives { IfOk result (λ x. Drives (S.world supervisor.new)) }
+    ensures held { IfOk result (λ x. OwnsDriven D.is_modelled D.may_leave J.stands J.end x disk.new) }
+    ensures others { IsTrue D.is_modelled → (name : List ℕ) → ¬ (J.files name) → D.seen disk.new name ≡ D.seen disk.old name }
+    ensures disk { IsErrOf result SessionFault.Disk → Rose (D.faults disk.old) (D.faults disk.new) }
+    ensures edge { IsErrOf result SessionFault.Edge → Rose (K.faults sink.old) (K.faults sink.new) }
+    ensures quiet_disk { ¬ (IsErrOf result SessionFault.Disk) → D.faults disk.new ≡ D.faults disk.old }
+    ensures quiet_sink { ¬ (IsErrOf result SessionFault.Edge) → K.faults sink.new ≡ K.faults sink.old }
+{
+    let Readied {
+        boots,
+        backs,
+        items,
+        earlier,
+    } = ready;
+    match run_boots(state, boots.as_slice(), disk, sink, runner) {
+        Ok((state, Booted::Through)) => {
+            end_boots(
+                state,
+                items,
+                backs.as_slice(),
+                earlier,
+                disk,
+                sink,
+                runner,
+                supervisor,
+            )
+        }
+        Ok((state, Booted::Failed)) => {
+            drop(items);
+            fail_boots(
+                state,
+                backs.as_slice(),
+                earlier,
+                disk,
+                sink,
+                runner,
+                supervisor,
+            )
+        }
+        Ok((state, Booted::Restart)) => Ok(Driven::Restart(Loaded::Booting(state))),
+        Ok((state, Booted::Reboot)) => Ok(Driven::Reboot(Loaded::Booting(state))),
+        Err(over) => Err(over),
+    }
+}

@@ -1,0 +1,215 @@
+//! A component failed three times: the deployment turns back, or stays as it is.
+ghost use Rattle.law_termination.specs.Drives.{Drives};
+ghost use Rattle.std.specs.Prelude.{◌≡◌, [], ℕ, List, IsTrue, IfOk, OnErr, IsErrOf, true, false};
+ghost use Rattle.nuc_base.specs.Faults.{Rose};
+ghost use Rattle.session_startup.specs.Ended.{HasBroken};
+ghost use Rattle.deploy_state.specs.States.{OwnsActivating, InBrokeOff, activating_device, broken_device};
+ghost use Rattle.session_rollout.specs.Backwards.{HasWayBack};
+ghost use Rattle.session_rollout.specs.Driven.{Course, DrivenLeft, OwnsDriven};
+ghost use Rattle.session_boots.specs.Stands.{IsAtBootStage};
+ghost use Rattle.histories.specs.Phases.{duty_of};
+ghost use Rattle.histories.specs.States.{SessionState};
+ghost use Rattle.histories.specs.Waits.{has_three};
+ghost use Rattle.session_transitions.specs.Fails.{IsTurned, is_to_roll_back};
+ghost use Rattle.step_runner.specs.Entries.{Listed};
+ghost use Rattle.law_supervisor.specs.Sound.{IsOrderly};
+
+use crate::backing::roll_back;
+use crate::driven::Driven;
+use components::{Prepared, Supervise};
+use deploy_state::{Activating, BrokeOff};
+use disk_model::Disk;
+use edges::Sink;
+use gate_log::Journal;
+use nuc_base::Outcome;
+use session_boots::SessionFault;
+use session_shutdown::stop_all_components;
+use session_transitions::{
+    begin_rollback_again, begin_rollback_of_activating, close_failed_activating,
+    close_failed_again, is_to_roll_back, kill_all,
+};
+use step_runner::Runner;
+
+/// All components are stopped, and then the way back begins.
+fn stop_and_go_back<D: Disk, J: Journal + Drop, K: Sink, R: Runner, S: Supervise>(
+    broke: BrokeOff<J>,
+    backs: &[Prepared],
+    ready: S::Ready,
+    disk: &mut D,
+    sink: &mut K,
+    runner: &mut R,
+    supervisor: &mut S,
+) -> Result<Driven<J>, SessionFault>
+where
+    S::Ready: Drop,
+    requires drives { Drives (S.world supervisor.old) }
+    requires held { InBrokeOff D.is_modelled D.may_leave J.stands J.end broke disk.old }
+    requires ready { HasWayBack (broken_device broke) backs.now (S.coming ready) }
+    requires placed { (p : SessionState) × IsTurned p (broken_device broke) (S.world supervisor.old) (Listed R.list R.told R.asked runner.old) (R.living runner.old) }
+    ensures course { (p : SessionState) → IsTurned p (broken_device broke) (S.world supervisor.old) (Listed R.list R.told R.asked runner.old) (R.living runner.old) →
+        Course J.entries J.files D.may_leave D.moment D.left_since disk.old disk.new (R.list runner.old) (R.list runner.new) (K.held sink.old) (K.held sink.new) p result
+        (λ x h q. DrivenLeft x h q (S.world supervisor.new) (Listed R.list R.told R.asked runner.new) (R.living runner.new)) }
+    ensures none { OnErr result (R.living runner.new ≡ []) }
+    ensures drives { IfOk result (λ x. Drives (S.world supervisor.new)) }
+    ensures held { IfOk result (λ x. OwnsDriven D.is_modelled D.may_leave J.stands J.end x disk.new) }
+    ensures others { IsTrue D.is_modelled → (name : List ℕ) → ¬ (J.files name) → D.seen disk.new name ≡ D.seen disk.old name }
+    ensures disk { IsErrOf result SessionFault.Disk → Rose (D.faults disk.old) (D.faults disk.new) }
+    ensures edge { IsErrOf result SessionFault.Edge → Rose (K.faults sink.old) (K.faults sink.new) }
+    ensures quiet_disk { ¬ (IsErrOf result SessionFault.Disk) → D.faults disk.new ≡ D.faults disk.old }
+    ensures quiet_sink { ¬ (IsErrOf result SessionFault.Edge) → K.faults sink.new ≡ K.faults sink.old }
+{
+    stop_all_components(runner, supervisor);
+    roll_back(broke, backs, ready, disk, sink, runner, supervisor)
+}
+
+/// The deployment is rolled back.
+fn turn_back<D: Disk, J: Journal + Drop, K: Sink, R: Runner, S: Supervise>(
+    state: Activating<J>,
+    backs: &[Prepared],
+    ready: S::Ready,
+    disk: &mut D,
+    sink: &mut K,
+    runner: &mut R,
+    supervisor: &mut S,
+) -> Result<Driven<J>, SessionFault>
+where
+    S::Ready: Drop,
+    requires drives { Drives (S.world supervisor.old) }
+    requires held { OwnsActivating D.is_modelled D.may_leave J.stands J.end state disk.old }
+    requires policy { is_to_roll_back (activating_device state) ≡ true }
+    requires ready { HasWayBack (activating_device state) backs.now (S.coming ready) }
+    requires placed { (p : SessionState) × HasBroken p (activating_device state) (S.world supervisor.old) (Listed R.list R.told R.asked runner.old) (R.living runner.old) }
+    ensures course { (p : SessionState) → HasBroken p (activating_device state) (S.world supervisor.old) (Listed R.list R.told R.asked runner.old) (R.living runner.old) →
+        Course J.entries J.files D.may_leave D.moment D.left_since disk.old disk.new (R.list runner.old) (R.list runner.new) (K.held sink.old) (K.held sink.new) p result
+        (λ x h q. DrivenLeft x h q (S.world supervisor.new) (Listed R.list R.told R.asked runner.new) (R.living runner.new)) }
+    ensures none { OnErr result (R.living runner.new ≡ []) }
+    ensures drives { IfOk result (λ x. Drives (S.world supervisor.new)) }
+    ensures held { IfOk result (λ x. OwnsDriven D.is_modelled D.may_leave J.stands J.end x disk.new) }
+    ensures others { IsTrue D.is_modelled → (name : List ℕ) → ¬ (J.files name) → D.seen disk.new name ≡ D.seen disk.old name }
+    ensures disk { IsErrOf result SessionFault.Disk → Rose (D.faults disk.old) (D.faults disk.new) }
+    ensures edge { IsErrOf result SessionFault.Edge → Rose (K.faults sink.old) (K.faults sink.new) }
+    ensures quiet_disk { ¬ (IsErrOf result SessionFault.Disk) → D.faults disk.new ≡ D.faults disk.old }
+    ensures quiet_sink { ¬ (IsErrOf result SessionFault.Edge) → K.faults sink.new ≡ K.faults sink.old }
+{
+    match begin_rollback_of_activating(state, disk) {
+        Ok(broke) => stop_and_go_back(broke, backs, ready, disk, sink, runner, supervisor),
+        Err(over) => {
+            kill_all(runner, supervisor);
+            Err(over)
+        }
+    }
+}
+
+/// The deployment closes as it is.
+fn stay<D: Disk, J: Journal + Drop, K: Sink, R: Runner, S: Supervise>(
+    state: Activating<J>,
+    disk: &mut D,
+    sink: &mut K,
+    runner: &mut R,
+    supervisor: &mut S,
+) -> Result<Driven<J>, SessionFault>
+where
+    S::Ready: Drop,
+    requires drives { Drives (S.world supervisor.old) }
+    requires held { OwnsActivating D.is_modelled D.may_leave J.stands J.end state disk.old }
+    requires policy { is_to_roll_back (activating_device state) ≡ false }
+    requires placed { (p : SessionState) × HasBroken p (activating_device state) (S.world supervisor.old) (Listed R.list R.told R.asked runner.old) (R.living runner.old) }
+    ensures course { (p : SessionState) → HasBroken p (activating_device state) (S.world supervisor.old) (Listed R.list R.told R.asked runner.old) (R.living runner.old) →
+        Course J.entries J.files D.may_leave D.moment D.left_since disk.old disk.new (R.list runner.old) (R.list runner.new) (K.held sink.old) (K.held sink.new) p result
+        (λ x h q. DrivenLeft x h q (S.world supervisor.new) (Listed R.list R.told R.asked runner.new) (R.living runner.new)) }
+    ensures none { OnErr result (R.living runner.new ≡ []) }
+    ensures drives { IfOk result (λ x. Drives (S.world supervisor.new)) }
+    ensures held { IfOk result (λ x. OwnsDriven D.is_modelled D.may_leave J.stands J.end x disk.new) }
+    ensures others { IsTrue D.is_modelled → (name : List ℕ) → ¬ (J.files name) → D.seen disk.new name ≡ D.seen disk.old name }
+    ensures disk { IsErrOf result SessionFault.Disk → Rose (D.faults disk.old) (D.faults disk.new) }
+    ensures edge { IsErrOf result SessionFault.Edge → Rose (K.faults sink.old) (K.faults sink.new) }
+    ensures quiet_disk { ¬ (IsErrOf result SessionFault.Disk) → D.faults disk.new ≡ D.faults disk.old }
+    ensures quiet_sink { ¬ (IsErrOf result SessionFault.Edge) → K.faults sink.new ≡ K.faults sink.old }
+{
+    match close_failed_activating(state, disk, sink, supervisor) {
+        Ok(idle) => Ok(Driven::Closed(idle, Outcome::RollbackNotRequested)),
+        Err(over) => {
+            kill_all(runner, supervisor);
+            Err(over)
+        }
+    }
+}
+
+/// A component of the plan failed three times: what the plan wants then.
+pub(crate) fn fail_items<D: Disk, J: Journal + Drop, K: Sink, R: Runner, S: Supervise>(
+    state: Activating<J>,
+    backs: &[Prepared],
+    ready: S::Ready,
+    disk: &mut D,
+    sink: &mut K,
+    runner: &mut R,
+    supervisor: &mut S,
+) -> Result<Driven<J>, SessionFault>
+where
+    S::Ready: Drop,
+    requires drives { Drives (S.world supervisor.old) }
+    requires held { OwnsActivating D.is_modelled D.may_leave J.stands J.end state disk.old }
+    requires ready { HasWayBack (activating_device state) backs.now (S.coming ready) }
+    requires placed { (p : SessionState) × HasBroken p (activating_device state) (S.world supervisor.old) (Listed R.list R.told R.asked runner.old) (R.living runner.old) }
+    ensures course { (p : SessionState) → HasBroken p (activating_device state) (S.world supervisor.old) (Listed R.list R.told R.asked runner.old) (R.living runner.old) →
+        Course J.entries J.files D.may_leave D.moment D.left_since disk.old disk.new (R.list runner.old) (R.list runner.new) (K.held sink.old) (K.held sink.new) p result
+        (λ x h q. DrivenLeft x h q (S.world supervisor.new) (Listed R.list R.told R.asked runner.new) (R.living runner.new)) }
+    ensures none { OnErr result (R.living runner.new ≡ []) }
+    ensures drives { IfOk result (λ x. Drives (S.world supervisor.new)) }
+    ensures held { IfOk result (λ x. OwnsDriven D.is_modelled D.may_leave J.stands J.end x disk.new) }
+    ensures others { IsTrue D.is_modelled → (name : List ℕ) → ¬ (J.files name) → D.seen disk.new name ≡ D.seen disk.old name }
+    ensures disk { IsErrOf result SessionFault.Disk → Rose (D.faults disk.old) (D.faults disk.new) }
+    ensures edge { IsErrOf result SessionFault.Edge → Rose (K.faults sink.old) (K.faults sink.new) }
+    ensures quiet_disk { ¬ (IsErrOf result SessionFault.Disk) → D.faults disk.new ≡ D.faults disk.old }
+    ensures quiet_sink { ¬ (IsErrOf result SessionFault.Edge) → K.faults sink.new ≡ K.faults sink.old }
+{
+    if is_to_roll_back(state.device()) {
+        turn_back(state, backs, ready, disk, sink, runner, supervisor)
+    } else {
+        drop(ready);
+        stay(state, disk, sink, runner, supervisor)
+    }
+}
+
+/// A component of the plan failed three times before: what the plan wants then.
+pub(crate) fn fail_again<D: Disk, J: Journal + Drop, K: Sink, R: Runner, S: Supervise>(
+    state: Activating<J>,
+    backs: &[Prepared],
+    ready: S::Ready,
+    disk: &mut D,
+    sink: &mut K,
+    runner: &mut R,
+    supervisor: &mut S,
+) -> Result<Driven<J>, SessionFault>
+where
+    S::Ready: Drop,
+    requires held { OwnsActivating D.is_modelled D.may_leave J.stands J.end state disk.old }
+    requires failed { has_three (duty_of (activating_device state)).counts ≡ true }
+    requires ready { HasWayBack (activating_device state) backs.now (S.coming ready) }
+    requires drives { Drives (S.world supervisor.old) }
+    requires orderly { IsOrderly (S.world supervisor.old) }
+    requires placed { (p : SessionState) × IsAtBootStage p (activating_device state) (S.world supervisor.old) (Listed R.list R.told R.asked runner.old) (R.living runner.old) }
+    ensures course { (p : SessionState) → IsAtBootStage p (activating_device state) (S.world supervisor.old) (Listed R.list R.told R.asked runner.old) (R.living runner.old) →
+        Course J.entries J.files D.may_leave D.moment D.left_since disk.old disk.new (R.list runner.old) (R.list runner.new) (K.held sink.old) (K.held sink.new) p result
+        (λ x h q. DrivenLeft x h q (S.world supervisor.new) (Listed R.list R.told R.asked runner.new) (R.living runner.new)) }
+    ensures none { OnErr result (R.living runner.new ≡ []) }
+    ensures drives { IfOk result (λ x. Drives (S.world supervisor.new)) }
+    ensures held { IfOk result (λ x. OwnsDriven D.is_modelled D.may_leave J.stands J.end x disk.new) }
+    ensures others { IsTrue D.is_modelled → (name : List ℕ) → ¬ (J.files name) → D.seen disk.new name ≡ D.seen disk.old name }
+    ensures disk { IsErrOf result SessionFault.Disk → Rose (D.faults disk.old) (D.faults disk.new) }
+    ensures edge { IsErrOf result SessionFault.Edge → Rose (K.faults sink.old) (K.faults sink.new) }
+    ensures quiet_disk { ¬ (IsErrOf result SessionFault.Disk) → D.faults disk.new ≡ D.faults disk.old }
+    ensures quiet_sink { ¬ (IsErrOf result SessionFault.Edge) → K.faults sink.new ≡ K.faults sink.old }
+{
+    if is_to_roll_back(state.device()) {
+        return match begin_rollback_again(state, disk) {
+            Ok(broke) => roll_back(broke, backs, ready, disk, sink, runner, supervisor),
+            Err(over) => Err(over),
+        };
+    }
+    drop(ready);
+    match close_failed_again(state, disk, sink, supervisor) {
+        Ok(idle) => Ok(Driven::Closed(idle, Outcome::RollbackNotRequested)),
+        Err(over) => Err(over),
+    }
+}

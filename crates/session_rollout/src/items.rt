@@ -1,0 +1,142 @@
+//! The plan's items come up.
+ghost use Rattle.law_termination.specs.Drives.{Drives, Rises};
+ghost use Rattle.std.specs.Prelude.{◌≡◌, [], ℕ, List, IsTrue, IfOk, OnErr, IsErrOf, false};
+ghost use Rattle.nuc_base.specs.Faults.{Rose};
+ghost use Rattle.session_startup.specs.Runs.{IsAtTurnStart};
+ghost use Rattle.deploy_state.specs.States.{OwnsActivating, activating_device};
+ghost use Rattle.session_rollout.specs.Backwards.{HasWayBack};
+ghost use Rattle.session_rollout.specs.Driven.{Course, DrivenLeft, OwnsDriven};
+ghost use Rattle.session_boots.specs.Stands.{IsAtBootStage};
+ghost use Rattle.histories.specs.Phases.{duty_of};
+ghost use Rattle.histories.specs.States.{SessionState};
+ghost use Rattle.histories.specs.Waits.{has_three};
+ghost use Rattle.session_transitions.specs.Enters.{AreReady};
+ghost use Rattle.step_runner.specs.Entries.{Listed};
+ghost use Rattle.law_supervisor.specs.Sound.{IsOrderly};
+
+use crate::driven::Driven;
+use crate::failing::{fail_again, fail_items};
+use components::{Prepared, Supervise};
+use deploy_state::Activating;
+use disk_model::Disk;
+use edges::Sink;
+use gate_log::Journal;
+use nuc_base::Outcome;
+use session_boots::SessionFault;
+use session_startup::{Activated, activate};
+use session_transitions::{change_items, kill_all};
+use step_runner::Runner;
+
+/// Brings the plan's items up, to the close of the deployment, on its way back too.
+fn bring_up<D: Disk, J: Journal + Drop, K: Sink, R: Runner, S: Supervise>(
+    state: Activating<J>,
+    backs: &[Prepared],
+    ready: S::Ready,
+    disk: &mut D,
+    sink: &mut K,
+    runner: &mut R,
+    supervisor: &mut S,
+) -> Result<Driven<J>, SessionFault>
+where
+    S::Ready: Drop,
+    requires rises { Rises (S.world supervisor.old) }
+    requires held { OwnsActivating D.is_modelled D.may_leave J.stands J.end state disk.old }
+    requires ready { HasWayBack (activating_device state) backs.now (S.coming ready) }
+    requires placed { (p : SessionState) × IsAtTurnStart p (activating_device state) (S.world supervisor.old) (Listed R.list R.told R.asked runner.old) (R.living runner.old) }
+    ensures course { (p : SessionState) → IsAtTurnStart p (activating_device state) (S.world supervisor.old) (Listed R.list R.told R.asked runner.old) (R.living runner.old) →
+        Course J.entries J.files D.may_leave D.moment D.left_since disk.old disk.new (R.list runner.old) (R.list runner.new) (K.held sink.old) (K.held sink.new) p result
+        (λ x h q. DrivenLeft x h q (S.world supervisor.new) (Listed R.list R.told R.asked runner.new) (R.living runner.new)) }
+    ensures none { OnErr result (R.living runner.new ≡ []) }
+    ensures drives { IfOk result (λ x. Drives (S.world supervisor.new)) }
+    ensures held { IfOk result (λ x. OwnsDriven D.is_modelled D.may_leave J.stands J.end x disk.new) }
+    ensures others { IsTrue D.is_modelled → (name : List ℕ) → ¬ (J.files name) → D.seen disk.new name ≡ D.seen disk.old name }
+    ensures disk { IsErrOf result SessionFault.Disk → Rose (D.faults disk.old) (D.faults disk.new) }
+    ensures edge { IsErrOf result SessionFault.Edge → Rose (K.faults sink.old) (K.faults sink.new) }
+    ensures quiet_disk { ¬ (IsErrOf result SessionFault.Disk) → D.faults disk.new ≡ D.faults disk.old }
+    ensures quiet_sink { ¬ (IsErrOf result SessionFault.Edge) → K.faults sink.new ≡ K.faults sink.old }
+{
+    match activate(state, disk, sink, runner, supervisor) {
+        Ok(Activated::Closed(idle)) => Ok(Driven::Closed(idle, Outcome::Successful)),
+        Ok(Activated::Broken(state)) => {
+            fail_items(state, backs, ready, disk, sink, runner, supervisor)
+        }
+        Err(over) => {
+            kill_all(runner, supervisor);
+            Err(over)
+        }
+    }
+}
+
+/// The plan's items, none of which failed three times, take their places and come up.
+fn raise_plan<D: Disk, J: Journal + Drop, K: Sink, R: Runner, S: Supervise>(
+    state: Activating<J>,
+    items: S::Ready,
+    backs: &[Prepared],
+    ready: S::Ready,
+    disk: &mut D,
+    sink: &mut K,
+    runner: &mut R,
+    supervisor: &mut S,
+) -> Result<Driven<J>, SessionFault>
+where
+    S::Ready: Drop,
+    requires held { OwnsActivating D.is_modelled D.may_leave J.stands J.end state disk.old }
+    requires few { has_three (duty_of (activating_device state)).counts ≡ false }
+    requires items { AreReady (activating_device state) (S.coming items) }
+    requires ready { HasWayBack (activating_device state) backs.now (S.coming ready) }
+    requires drives { Drives (S.world supervisor.old) }
+    requires orderly { IsOrderly (S.world supervisor.old) }
+    requires placed { (p : SessionState) × IsAtBootStage p (activating_device state) (S.world supervisor.old) (Listed R.list R.told R.asked runner.old) (R.living runner.old) }
+    ensures course { (p : SessionState) → IsAtBootStage p (activating_device state) (S.world supervisor.old) (Listed R.list R.told R.asked runner.old) (R.living runner.old) →
+        Course J.entries J.files D.may_leave D.moment D.left_since disk.old disk.new (R.list runner.old) (R.list runner.new) (K.held sink.old) (K.held sink.new) p result
+        (λ x h q. DrivenLeft x h q (S.world supervisor.new) (Listed R.list R.told R.asked runner.new) (R.living runner.new)) }
+    ensures none { OnErr result (R.living runner.new ≡ []) }
+    ensures drives { IfOk result (λ x. Drives (S.world supervisor.new)) }
+    ensures held { IfOk result (λ x. OwnsDriven D.is_modelled D.may_leave J.stands J.end x disk.new) }
+    ensures others { IsTrue D.is_modelled → (name : List ℕ) → ¬ (J.files name) → D.seen disk.new name ≡ D.seen disk.old name }
+    ensures disk { IsErrOf result SessionFault.Disk → Rose (D.faults disk.old) (D.faults disk.new) }
+    ensures edge { IsErrOf result SessionFault.Edge → Rose (K.faults sink.old) (K.faults sink.new) }
+    ensures quiet_disk { ¬ (IsErrOf result SessionFault.Disk) → D.faults disk.new ≡ D.faults disk.old }
+    ensures quiet_sink { ¬ (IsErrOf result SessionFault.Edge) → K.faults sink.new ≡ K.faults sink.old }
+{
+    change_items(state.device(), items, supervisor);
+    bring_up(state, backs, ready, disk, sink, runner, supervisor)
+}
+
+/// The plan's items come up. Where one of them failed three times before, the deployment fails at once.
+pub(crate) fn activate_on<D: Disk, J: Journal + Drop, K: Sink, R: Runner, S: Supervise>(
+    state: Activating<J>,
+    items: S::Ready,
+    backs: &[Prepared],
+    ready: S::Ready,
+    disk: &mut D,
+    sink: &mut K,
+    runner: &mut R,
+    supervisor: &mut S,
+) -> Result<Driven<J>, SessionFault>
+where
+    S::Ready: Drop,
+    requires held { OwnsActivating D.is_modelled D.may_leave J.stands J.end state disk.old }
+    requires items { AreReady (activating_device state) (S.coming items) }
+    requires ready { HasWayBack (activating_device state) backs.now (S.coming ready) }
+    requires drives { Drives (S.world supervisor.old) }
+    requires orderly { IsOrderly (S.world supervisor.old) }
+    requires placed { (p : SessionState) × IsAtBootStage p (activating_device state) (S.world supervisor.old) (Listed R.list R.told R.asked runner.old) (R.living runner.old) }
+    ensures course { (p : SessionState) → IsAtBootStage p (activating_device state) (S.world supervisor.old) (Listed R.list R.told R.asked runner.old) (R.living runner.old) →
+        Course J.entries J.files D.may_leave D.moment D.left_since disk.old disk.new (R.list runner.old) (R.list runner.new) (K.held sink.old) (K.held sink.new) p result
+        (λ x h q. DrivenLeft x h q (S.world supervisor.new) (Listed R.list R.told R.asked runner.new) (R.living runner.new)) }
+    ensures none { OnErr result (R.living runner.new ≡ []) }
+    ensures drives { IfOk result (λ x. Drives (S.world supervisor.new)) }
+    ensures held { IfOk result (λ x. OwnsDriven D.is_modelled D.may_leave J.stands J.end x disk.new) }
+    ensures others { IsTrue D.is_modelled → (name : List ℕ) → ¬ (J.files name) → D.seen disk.new name ≡ D.seen disk.old name }
+    ensures disk { IsErrOf result SessionFault.Disk → Rose (D.faults disk.old) (D.faults disk.new) }
+    ensures edge { IsErrOf result SessionFault.Edge → Rose (K.faults sink.old) (K.faults sink.new) }
+    ensures quiet_disk { ¬ (IsErrOf result SessionFault.Disk) → D.faults disk.new ≡ D.faults disk.old }
+    ensures quiet_sink { ¬ (IsErrOf result SessionFault.Edge) → K.faults sink.new ≡ K.faults sink.old }
+{
+    if state.broken().is_none() {
+        return raise_plan(state, items, backs, ready, disk, sink, runner, supervisor);
+    }
+    drop(items);
+    fail_again(state, backs, ready, disk, sink, runner, supervisor)
+}

@@ -1,0 +1,110 @@
+//! A deployment is driven on from where a call before left it.
+ghost use Rattle.law_termination.specs.Drives.{Drives};
+ghost use Rattle.std.specs.Prelude.{◌≡◌, [], ℕ, List, IsTrue, IfOk, OnErr, IsErrOf, IsSome};
+ghost use Rattle.nuc_base.specs.Faults.{Rose};
+ghost use Rattle.deploy_state.specs.States.{OwnsLoaded, loaded_device};
+ghost use Rattle.session_rollout.specs.Driven.{Course, DrivenLeft, OwnsDriven};
+ghost use Rattle.session_boots.specs.Stands.{IsAtBootStage};
+ghost use Rattle.session_admission.specs.Readied.{AreReadiedFor};
+ghost use Rattle.histories.specs.States.{SessionState};
+ghost use Rattle.step_runner.specs.Entries.{Listed};
+ghost use Rattle.law_supervisor.specs.Sound.{IsOrderly};
+
+use crate::backing::back_on;
+use crate::boots::boot;
+use crate::driven::Driven;
+use crate::items::activate_on;
+use crate::rolling::roll_on;
+use components::Supervise;
+use deploy_state::Loaded;
+use disk_model::Disk;
+use edges::Sink;
+use gate_log::Journal;
+use session_admission::Readied;
+use session_boots::SessionFault;
+use step_runner::Runner;
+
+/// Drives the deployment on that is pending, from its recorded stage to its close. Nothing stands before.
+pub fn drive<D: Disk, J: Journal + Drop, K: Sink, R: Runner, S: Supervise>(
+    state: Loaded<J>,
+    ready: Readied<S::Ready>,
+    disk: &mut D,
+    sink: &mut K,
+    runner: &mut R,
+    supervisor: &mut S,
+) -> Result<Driven<J>, SessionFault>
+where
+    S::Ready: Drop,
+    requires held { OwnsLoaded D.is_modelled D.may_leave J.stands J.end state disk.old }
+    requires pending { IsSome (loaded_device state).pending }
+    requires ready { AreReadiedFor (loaded_device state) ready.boots ready.backs (S.coming ready.items) (S.coming ready.earlier) }
+    requires drives { Drives (S.world supervisor.old) }
+    requires orderly { IsOrderly (S.world supervisor.old) }
+    requires placed { (p : SessionState) × IsAtBootStage p (loaded_device state) (S.world supervisor.old) (Listed R.list R.told R.asked runner.old) (R.living runner.old) }
+    ensures course { (p : SessionState) → IsAtBootStage p (loaded_device state) (S.world supervisor.old) (Listed R.list R.told R.asked runner.old) (R.living runner.old) →
+        Course J.entries J.files D.may_leave D.moment D.left_since disk.old disk.new (R.list runner.old) (R.list runner.new) (K.held sink.old) (K.held sink.new) p result
+        (λ x h q. DrivenLeft x h q (S.world supervisor.new) (Listed R.list R.told R.asked runner.new) (R.living runner.new)) }
+    ensures none { OnErr result (R.living runner.new ≡ []) }
+    ensures drives { IfOk result (λ x. Drives (S.world supervisor.new)) }
+    ensures held { IfOk result (λ x. OwnsDriven D.is_modelled D.may_leave J.stands J.end x disk.new) }
+    ensures others { IsTrue D.is_modelled → (name : List ℕ) → ¬ (J.files name) → D.seen disk.new name ≡ D.seen disk.old name }
+    ensures disk { IsErrOf result SessionFault.Disk → Rose (D.faults disk.old) (D.faults disk.new) }
+    ensures edge { IsErrOf result SessionFault.Edge → Rose (K.faults sink.old) (K.faults sink.new) }
+    ensures quiet_disk { ¬ (IsErrOf result SessionFault.Disk) → D.faults disk.new ≡ D.faults disk.old }
+    ensures quiet_sink { ¬ (IsErrOf result SessionFault.Edge) → K.faults sink.new ≡ K.faults sink.old }
+{
+    match state {
+        Loaded::Booting(state) => boot(state, ready, disk, sink, runner, supervisor),
+        Loaded::Activating(state) => {
+            let Readied {
+                boots,
+                backs,
+                items,
+                earlier,
+            } = ready;
+            drop(boots);
+            activate_on(
+                state,
+                items,
+                backs.as_slice(),
+                earlier,
+                disk,
+                sink,
+                runner,
+                supervisor,
+            )
+        }
+        Loaded::Backing(state) => {
+            let Readied {
+                boots,
+                backs,
+                items,
+                earlier,
+            } = ready;
+            drop(boots);
+            drop(items);
+            back_on(
+                state,
+                backs.as_slice(),
+                earlier,
+                disk,
+                sink,
+                runner,
+                supervisor,
+            )
+        }
+        Loaded::Rolling(state) => {
+            let Readied {
+                boots,
+                backs,
+                items,
+                earlier,
+            } = ready;
+            drop(boots);
+            drop(backs);
+            drop(items);
+            roll_on(state, earlier, disk, sink, runner, supervisor)
+        }
+        Loaded::Idle(_) => unreachable!(),
+    }
+}

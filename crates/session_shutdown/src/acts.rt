@@ -1,0 +1,61 @@
+// One act, and all that are due.
+ghost use Rattle.std.specs.Prelude.{◌≡◌, ◌<◌, ◌^◌, ℕ, List, true, false};
+ghost use Rattle.step_runner.specs.Entries.{Listed};
+ghost use Rattle.histories.specs.TraceEvents.{TraceEvent};
+ghost use Rattle.histories.specs.States.{SessionState, state_after};
+ghost use Rattle.session_boots.specs.Traces.{Acts};
+ghost use Rattle.law_termination.specs.Drives.{Drives, Falls, NotAbove};
+ghost use Rattle.session_shutdown.specs.Runs.{ActLeft, IsInTurn};
+
+use crate::laws::leaving_laws;
+use crate::starts::start_step;
+use components::{Act, Supervise};
+use step_runner::Runner;
+
+/// Takes the next act. Tells whether there was none. A failure is none: who leaves owes none.
+fn act<R: Runner, S: Supervise>(runner: &mut R, supervisor: &mut S, now: u64) -> bool
+    requires now { (R.told runner.old ≡ now) × (now < 2 ^ 62) }
+    requires drives { Drives (S.world supervisor.old) }
+    requires placed { (p : SessionState) × IsInTurn p (S.world supervisor.old) (Listed R.list R.told R.asked runner.old) (R.living runner.old) }
+    ensures now { R.told runner.new ≡ now }
+    ensures trace { (p : SessionState) → IsInTurn p (S.world supervisor.old) (Listed R.list R.told R.asked runner.old) (R.living runner.old) →
+        (h : List TraceEvent) × Acts p h (R.list runner.old) (R.list runner.new)
+        × ActLeft (state_after p h) result (S.world supervisor.new) (Listed R.list R.told R.asked runner.new) (R.living runner.new) }
+    ensures not_above { NotAbove (S.world supervisor.old) (S.world supervisor.new) }
+    ensures falls { result ≡ false → Falls (S.world supervisor.old) (S.world supervisor.new) }
+{
+    leaving_laws();
+    match supervisor.next_act() {
+        None => true,
+        Some(next) => match next {
+            Act::Start(who, step) => {
+                start_step(runner, supervisor, who, step, now);
+                false
+            }
+            Act::Kill(child) => {
+                runner.kill(child);
+                false
+            }
+            Act::Failed(_who, _step, _exit) => unreachable!(),
+            Act::Broke(_who, _step, _exit) => unreachable!(),
+        },
+    }
+}
+
+/// Takes acts until none is left.
+pub(crate) fn take_acts<R: Runner, S: Supervise>(runner: &mut R, supervisor: &mut S, now: u64)
+    requires now { (R.told runner.old ≡ now) × (now < 2 ^ 62) }
+    requires drives { Drives (S.world supervisor.old) }
+    requires placed { (p : SessionState) × IsInTurn p (S.world supervisor.old) (Listed R.list R.told R.asked runner.old) (R.living runner.old) }
+    ensures now { R.told runner.new ≡ now }
+    ensures trace { (p : SessionState) → IsInTurn p (S.world supervisor.old) (Listed R.list R.told R.asked runner.old) (R.living runner.old) →
+        (h : List TraceEvent) × Acts p h (R.list runner.old) (R.list runner.new)
+        × ActLeft (state_after p h) true (S.world supervisor.new) (Listed R.list R.told R.asked runner.new) (R.living runner.new) }
+    ensures not_above { NotAbove (S.world supervisor.old) (S.world supervisor.new) }
+{
+    'acts: loop {
+        if act(runner, supervisor, now) {
+            return;
+        }
+    }
+}

@@ -1,0 +1,47 @@
+// All components are stopped.
+ghost use Rattle.std.specs.Prelude.{◌≡◌, ℕ, List};
+ghost use Rattle.device.specs.Devices.{Device};
+ghost use Rattle.step_runner.specs.Entries.{Listed};
+ghost use Rattle.histories.specs.TraceEvents.{TraceEvent};
+ghost use Rattle.histories.specs.States.{SessionState, state_after};
+ghost use Rattle.session_boots.specs.Traces.{Acts};
+ghost use Rattle.law_termination.specs.Drives.{Drives};
+ghost use Rattle.session_shutdown.specs.Runs.{IsAtTurnStart};
+ghost use Rattle.session_shutdown.specs.Stops.{HasStopped, MayStop};
+
+use crate::laws::{leaving_laws, stops_leave};
+use crate::turns::turn;
+use components::Supervise;
+use step_runner::Runner;
+
+/// Takes turns until none stands.
+fn stop_on<R: Runner, S: Supervise>(runner: &mut R, supervisor: &mut S)
+    requires drives { Drives (S.world supervisor.old) }
+    requires placed { (p : SessionState) × (d : Device) × IsAtTurnStart p d (S.world supervisor.old) (Listed R.list R.told R.asked runner.old) (R.living runner.old) }
+    ensures trace { (p : SessionState) → (d : Device) → IsAtTurnStart p d (S.world supervisor.old) (Listed R.list R.told R.asked runner.old) (R.living runner.old) →
+        (h : List TraceEvent) × Acts p h (R.list runner.old) (R.list runner.new)
+        × HasStopped (state_after p h) d (S.world supervisor.new) (Listed R.list R.told R.asked runner.new) (R.living runner.new) }
+    ensures drives { Drives (S.world supervisor.new) }
+{
+    'turns: loop {
+        if turn(runner, supervisor) {
+            return;
+        }
+    }
+}
+
+/// Stops all components, each with its shutdown step where it has one, until none stands and no child lives. No disk sees
+/// it: nothing is recorded.
+pub fn stop_all_components<R: Runner, S: Supervise>(runner: &mut R, supervisor: &mut S)
+    requires drives { Drives (S.world supervisor.old) }
+    requires placed { (p : SessionState) × (d : Device) × MayStop p d (S.world supervisor.old) (Listed R.list R.told R.asked runner.old) (R.living runner.old) }
+    ensures trace { (p : SessionState) → (d : Device) → MayStop p d (S.world supervisor.old) (Listed R.list R.told R.asked runner.old) (R.living runner.old) →
+        (h : List TraceEvent) × Acts p h (R.list runner.old) (R.list runner.new)
+        × HasStopped (state_after p h) d (S.world supervisor.new) (Listed R.list R.told R.asked runner.new) (R.living runner.new) }
+    ensures drives { Drives (S.world supervisor.new) }
+{
+    leaving_laws();
+    stops_leave();
+    supervisor.stop_all();
+    stop_on(runner, supervisor);
+}

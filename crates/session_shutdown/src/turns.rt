@@ -1,0 +1,38 @@
+// One turn of the stop of all.
+ghost use Rattle.std.specs.Prelude.{◌≡◌, ◌<◌, ℕ, List, false};
+ghost use Rattle.device.specs.Devices.{Device};
+ghost use Rattle.step_runner.specs.Entries.{Listed};
+ghost use Rattle.histories.specs.TraceEvents.{TraceEvent};
+ghost use Rattle.histories.specs.States.{SessionState, state_after};
+ghost use Rattle.session_boots.specs.Traces.{Acts};
+ghost use Rattle.components.specs.Events.{later};
+ghost use Rattle.law_termination.specs.Rank.{measure};
+ghost use Rattle.law_termination.specs.Drives.{Drives};
+ghost use Rattle.session_shutdown.specs.Runs.{IsAtTurnStart};
+ghost use Rattle.session_shutdown.specs.Stops.{TurnLeft};
+
+use crate::acts::take_acts;
+use crate::starts::pass;
+use crate::waits::wait_once;
+use components::Supervise;
+use step_runner::Runner;
+
+/// Asks for the moment, takes every act, and waits where one still stands: then a child ended, or time went on. Tells whether
+/// none stands.
+pub(crate) fn turn<R: Runner, S: Supervise>(runner: &mut R, supervisor: &mut S) -> bool
+    requires drives { Drives (S.world supervisor.old) }
+    requires placed { (p : SessionState) × (d : Device) × IsAtTurnStart p d (S.world supervisor.old) (Listed R.list R.told R.asked runner.old) (R.living runner.old) }
+    ensures trace { (p : SessionState) → (d : Device) → IsAtTurnStart p d (S.world supervisor.old) (Listed R.list R.told R.asked runner.old) (R.living runner.old) →
+        (h : List TraceEvent) × Acts p h (R.list runner.old) (R.list runner.new)
+        × TurnLeft result (state_after p h) d (S.world supervisor.new) (Listed R.list R.told R.asked runner.new) (R.living runner.new) }
+    ensures drives { Drives (S.world supervisor.new) }
+    ensures falls { result ≡ false → measure (later (R.clock runner.new) (S.world supervisor.new)) < measure (later (R.clock runner.old) (S.world supervisor.old)) }
+{
+    let now = pass(runner, supervisor);
+    take_acts(runner, supervisor, now);
+    if supervisor.stopped() {
+        return true;
+    }
+    wait_once(runner, supervisor, now);
+    false
+}

@@ -1,0 +1,56 @@
+// One act.
+ghost use Rattle.std.specs.Prelude.{◌≡◌, ◌<◌, ◌^◌, ℕ, List};
+ghost use Rattle.step_runner.specs.Entries.{Listed};
+ghost use Rattle.histories.specs.TraceEvents.{TraceEvent};
+ghost use Rattle.histories.specs.States.{SessionState, state_after};
+ghost use Rattle.session_boots.specs.Traces.{Acts};
+ghost use Rattle.law_termination.specs.Drives.{Drives, Falls, NotAbove};
+ghost use Rattle.session_startup.specs.Did.{DidLeave};
+ghost use Rattle.session_startup.specs.declared.acts.Did.TheVariants as did;
+ghost use Rattle.session_startup.specs.Runs.{IsInTurn};
+
+use crate::laws::driving_laws;
+use crate::starts::start_step;
+use components::{Act, Supervise};
+use nuc_base::{Exit, Step};
+use step_runner::Runner;
+
+/// What came of asking for the next act.
+#[derive(Clone, Copy, Debug, Drop, PartialEq, Eq)]
+pub(crate) enum Did {
+    /// There was none.
+    Nothing,
+    Something,
+    /// The step of this component failed, which is still to be recorded.
+    Failed(u32, Step, Exit),
+}
+
+/// Takes the next act.
+pub(crate) fn act<R: Runner, S: Supervise>(runner: &mut R, supervisor: &mut S, now: u64) -> Did
+    requires now { (R.told runner.old ≡ now) × (now < 2 ^ 62) }
+    requires drives { Drives (S.world supervisor.old) }
+    requires placed { (p : SessionState) × IsInTurn p (S.world supervisor.old) (Listed R.list R.told R.asked runner.old) (R.living runner.old) }
+    ensures now { R.told runner.new ≡ now }
+    ensures trace { (p : SessionState) → IsInTurn p (S.world supervisor.old) (Listed R.list R.told R.asked runner.old) (R.living runner.old) →
+        (h : List TraceEvent) × Acts p h (R.list runner.old) (R.list runner.new)
+        × DidLeave result (state_after p h) (S.world supervisor.new) (Listed R.list R.told R.asked runner.new) (R.living runner.new) }
+    ensures not_above { NotAbove (S.world supervisor.old) (S.world supervisor.new) }
+    ensures falls { ¬ (result ≡ did.Nothing) → Falls (S.world supervisor.old) (S.world supervisor.new) }
+{
+    driving_laws();
+    match supervisor.next_act() {
+        None => Did::Nothing,
+        Some(next) => match next {
+            Act::Start(who, step) => {
+                start_step(runner, supervisor, who, step, now);
+                Did::Something
+            }
+            Act::Kill(child) => {
+                runner.kill(child);
+                Did::Something
+            }
+            Act::Failed(who, step, exit) => Did::Failed(who, step, exit),
+            Act::Broke(who, step, exit) => Did::Failed(who, step, exit),
+        },
+    }
+}

@@ -1,0 +1,68 @@
+// The items of the set are brought up again.
+ghost use Rattle.std.specs.Prelude.{◌≡◌, ℕ, List, IsTrue, IfOk, OnErr, IsErrOf};
+ghost use Rattle.nuc_base.specs.Faults.{Rose};
+ghost use Rattle.deploy_state.specs.States.{OwnsIdle, OwnsRolling, idle_device, rolling_device};
+ghost use Rattle.step_runner.specs.Entries.{Listed};
+ghost use Rattle.histories.specs.TraceEvents.{TraceEvent, records_of};
+ghost use Rattle.histories.specs.States.{SessionState, state_after};
+ghost use Rattle.session_boots.specs.Ends.{Left, Lines};
+ghost use Rattle.session_boots.specs.Traces.{IsTrace};
+ghost use Rattle.law_termination.specs.Drives.{Drives, Rises};
+ghost use Rattle.session_startup.specs.Ended.{HasClosed};
+ghost use Rattle.session_startup.specs.Runs.{IsAtTurnStart, MayAbort};
+
+use crate::closing::close_set;
+use crate::coming::Coming;
+use crate::turns::{Turned, come_up};
+use components::Supervise;
+use deploy_state::{Idle, Rolling};
+use disk_model::Disk;
+use edges::Sink;
+use gate_log::Journal;
+use nuc_base::Outcome;
+use session_boots::SessionFault;
+use step_runner::Runner;
+
+/// Brings the items of the set up again: until all are, or one failed three times, and closes the deployment as rolled
+/// back or as not able to, which it tells. Each failure is recorded and its line printed before the next act, and before
+/// each wait every act was taken.
+pub fn roll<D: Disk, J: Journal + Drop, K: Sink, R: Runner, S: Supervise>(
+    state: Rolling<J>,
+    disk: &mut D,
+    sink: &mut K,
+    runner: &mut R,
+    supervisor: &mut S,
+) -> Result<(Idle<J>, Outcome), SessionFault>
+    requires held { OwnsRolling D.is_modelled D.may_leave J.stands J.end state disk.old }
+    requires rises { Rises (S.world supervisor.old) }
+    requires placed { (p : SessionState) × IsAtTurnStart p (rolling_device state) (S.world supervisor.old) (Listed R.list R.told R.asked runner.old) (R.living runner.old) }
+    ensures trace { (p : SessionState) → IsAtTurnStart p (rolling_device state) (S.world supervisor.old) (Listed R.list R.told R.asked runner.old) (R.living runner.old) →
+        (h : List TraceEvent) × IsTrace J.entries J.files D.may_leave D.moment D.left_since disk.old disk.new (R.list runner.old) (R.list runner.new) p h
+        × Lines (K.held sink.old) (K.held sink.new) p.device (records_of h) result
+        × Left J.entries D.may_leave disk.new p h (λ x q. HasClosed x.1 (records_of h) q (idle_device x.0) (S.world supervisor.new) (Listed R.list R.told R.asked runner.new) (R.living runner.new)) result
+        × OnErr result (MayAbort (state_after p h) (S.world supervisor.new) (Listed R.list R.told R.asked runner.new) (R.living runner.new)) }
+    ensures drives { Drives (S.world supervisor.new) }
+    ensures held { IfOk result (λ x. OwnsIdle D.is_modelled D.may_leave J.stands J.end x.0 disk.new) }
+    ensures others { IsTrue D.is_modelled → (name : List ℕ) → ¬ (J.files name) → D.seen disk.new name ≡ D.seen disk.old name }
+    ensures disk { IsErrOf result SessionFault.Disk → Rose (D.faults disk.old) (D.faults disk.new) }
+    ensures edge { IsErrOf result SessionFault.Edge → Rose (K.faults sink.old) (K.faults sink.new) }
+    ensures quiet_disk { ¬ (IsErrOf result SessionFault.Disk) → D.faults disk.new ≡ D.faults disk.old }
+    ensures quiet_sink { ¬ (IsErrOf result SessionFault.Edge) → K.faults sink.new ≡ K.faults sink.old }
+{
+    match come_up(Coming::Set(state), disk, sink, runner, supervisor) {
+        Ok((coming, turned)) => {
+            let state = coming.into_set();
+            match turned {
+                Turned::Settled => match close_set(state, disk, sink, supervisor) {
+                    Ok(idle) => Ok((idle, Outcome::RollbackComplete)),
+                    Err(over) => Err(over),
+                },
+                Turned::Broken => match close_set(state, disk, sink, supervisor) {
+                    Ok(idle) => Ok((idle, Outcome::UnableToRollback)),
+                    Err(over) => Err(over),
+                },
+            }
+        }
+        Err(over) => Err(over),
+    }
+}

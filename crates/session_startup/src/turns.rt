@@ -1,0 +1,209 @@
+// One turn, and the turns of a stage.
+ghost use Rattle.std.specs.Prelude.{◌≡◌, ◌≤◌, ◌<◌, ◌^◌, ℕ, List, None, Some, true, false, IsTrue, IfOk, OnErr, IsErrOf};
+ghost use Rattle.nuc_base.specs.Faults.{Rose};
+ghost use Rattle.step_runner.specs.Entries.{Listed};
+ghost use Rattle.histories.specs.TraceEvents.{TraceEvent, records_of};
+ghost use Rattle.histories.specs.States.{SessionState, state_after};
+ghost use Rattle.session_boots.specs.Ends.{Left, Lines};
+ghost use Rattle.session_boots.specs.Same.{IsSameDeployment};
+ghost use Rattle.session_boots.specs.Traces.{IsTrace};
+ghost use Rattle.components.specs.Events.{later};
+ghost use Rattle.law_termination.specs.Rank.{measure};
+ghost use Rattle.law_termination.specs.Drives.{Drives, Falls, NotAbove, Rises};
+ghost use Rattle.session_startup.specs.Coming.{OwnsComing, coming_device, is_plan};
+ghost use Rattle.session_startup.specs.Did.{ActLeft};
+ghost use Rattle.session_startup.specs.Runs.{IsAtTurnStart, MayAbort, IsInTurn};
+ghost use Rattle.session_startup.specs.Turns.{TurnLeft};
+
+use crate::acts::{Did, act};
+use crate::coming::Coming;
+use crate::failures::note_failure;
+use crate::starts::pass;
+use crate::waits::wait_once;
+use components::Supervise;
+use disk_model::Disk;
+use edges::Sink;
+use gate_log::Journal;
+use session_boots::SessionFault;
+use step_runner::Runner;
+
+/// What the turns of a stage come to.
+#[derive(Clone, Copy, Debug, Drop, PartialEq, Eq)]
+pub(crate) enum Turned {
+    /// All components are up.
+    Settled,
+    /// A component failed three times.
+    Broken,
+}
+
+/// Takes the next act, and records it where it is a failure. Tells whether none is left.
+fn take_act<D: Disk, J: Journal + Drop, K: Sink, R: Runner, S: Supervise>(
+    state: Coming<J>,
+    disk: &mut D,
+    sink: &mut K,
+    runner: &mut R,
+    supervisor: &mut S,
+    now: u64,
+) -> Result<(Coming<J>, bool), SessionFault>
+    requires now { (R.told runner.old ≡ now) × (now < 2 ^ 62) }
+    requires held { OwnsComing D.is_modelled D.may_leave J.stands J.end state disk.old }
+    requires drives { Drives (S.world supervisor.old) }
+    requires placed { (p : SessionState) × IsInTurn p (S.world supervisor.old) (Listed R.list R.told R.asked runner.old) (R.living runner.old) × (p.device ≡ coming_device state) }
+    ensures now { R.told runner.new ≡ now }
+    ensures trace { (p : SessionState) → IsInTurn p (S.world supervisor.old) (Listed R.list R.told R.asked runner.old) (R.living runner.old) → (p.device ≡ coming_device state) →
+        (h : List TraceEvent) × IsTrace J.entries J.files D.may_leave D.moment D.left_since disk.old disk.new (R.list runner.old) (R.list runner.new) p h
+        × Lines (K.held sink.old) (K.held sink.new) p.device (records_of h) result
+        × Left J.entries D.may_leave disk.new p h (λ s q. ActLeft q (coming_device s.0) s.1 (S.world supervisor.new) (Listed R.list R.told R.asked runner.new) (R.living runner.new)) result
+        × OnErr result (MayAbort (state_after p h) (S.world supervisor.new) (Listed R.list R.told R.asked runner.new) (R.living runner.new)) }
+    ensures held { IfOk result (λ s. OwnsComing D.is_modelled D.may_leave J.stands J.end s.0 disk.new) }
+    ensures same { IfOk result (λ s. is_plan s.0 ≡ is_plan state) }
+    ensures deployment { IfOk result (λ s. IsSameDeployment (coming_device state) (coming_device s.0)) }
+    ensures others { IsTrue D.is_modelled → (name : List ℕ) → ¬ (J.files name) → D.seen disk.new name ≡ D.seen disk.old name }
+    ensures disk { IsErrOf result SessionFault.Disk → Rose (D.faults disk.old) (D.faults disk.new) }
+    ensures edge { IsErrOf result SessionFault.Edge → Rose (K.faults sink.old) (K.faults sink.new) }
+    ensures quiet_disk { ¬ (IsErrOf result SessionFault.Disk) → D.faults disk.new ≡ D.faults disk.old }
+    ensures quiet_sink { ¬ (IsErrOf result SessionFault.Edge) → K.faults sink.new ≡ K.faults sink.old }
+    ensures not_above { NotAbove (S.world supervisor.old) (S.world supervisor.new) }
+    ensures falls { IfOk result (λ s. s.1 ≡ false → Falls (S.world supervisor.old) (S.world supervisor.new)) }
+    ensures later { (D.faults disk.old ≤ D.faults disk.new) × (K.faults sink.old ≤ K.faults sink.new) }
+{
+    match act(runner, supervisor, now) {
+        Did::Nothing => Ok((state, true)),
+        Did::Something => Ok((state, false)),
+        Did::Failed(who, step, exit) => {
+            match note_failure(state, disk, sink, supervisor, who, step, exit) {
+                Ok(next) => Ok((next, false)),
+                Err(over) => Err(over),
+            }
+        }
+    }
+}
+
+/// Takes acts until none is left.
+fn take_acts<D: Disk, J: Journal + Drop, K: Sink, R: Runner, S: Supervise>(
+    state: Coming<J>,
+    disk: &mut D,
+    sink: &mut K,
+    runner: &mut R,
+    supervisor: &mut S,
+    now: u64,
+) -> Result<Coming<J>, SessionFault>
+    requires now { (R.told runner.old ≡ now) × (now < 2 ^ 62) }
+    requires held { OwnsComing D.is_modelled D.may_leave J.stands J.end state disk.old }
+    requires drives { Drives (S.world supervisor.old) }
+    requires placed { (p : SessionState) × IsInTurn p (S.world supervisor.old) (Listed R.list R.told R.asked runner.old) (R.living runner.old) × (p.device ≡ coming_device state) }
+    ensures now { R.told runner.new ≡ now }
+    ensures trace { (p : SessionState) → IsInTurn p (S.world supervisor.old) (Listed R.list R.told R.asked runner.old) (R.living runner.old) → (p.device ≡ coming_device state) →
+        (h : List TraceEvent) × IsTrace J.entries J.files D.may_leave D.moment D.left_since disk.old disk.new (R.list runner.old) (R.list runner.new) p h
+        × Lines (K.held sink.old) (K.held sink.new) p.device (records_of h) result
+        × Left J.entries D.may_leave disk.new p h (λ s q. ActLeft q (coming_device s) true (S.world supervisor.new) (Listed R.list R.told R.asked runner.new) (R.living runner.new)) result
+        × OnErr result (MayAbort (state_after p h) (S.world supervisor.new) (Listed R.list R.told R.asked runner.new) (R.living runner.new)) }
+    ensures held { IfOk result (λ s. OwnsComing D.is_modelled D.may_leave J.stands J.end s disk.new) }
+    ensures same { IfOk result (λ s. is_plan s ≡ is_plan state) }
+    ensures deployment { IfOk result (λ s. IsSameDeployment (coming_device state) (coming_device s)) }
+    ensures others { IsTrue D.is_modelled → (name : List ℕ) → ¬ (J.files name) → D.seen disk.new name ≡ D.seen disk.old name }
+    ensures disk { IsErrOf result SessionFault.Disk → Rose (D.faults disk.old) (D.faults disk.new) }
+    ensures edge { IsErrOf result SessionFault.Edge → Rose (K.faults sink.old) (K.faults sink.new) }
+    ensures quiet_disk { ¬ (IsErrOf result SessionFault.Disk) → D.faults disk.new ≡ D.faults disk.old }
+    ensures quiet_sink { ¬ (IsErrOf result SessionFault.Edge) → K.faults sink.new ≡ K.faults sink.old }
+    ensures not_above { NotAbove (S.world supervisor.old) (S.world supervisor.new) }
+    ensures later { (D.faults disk.old ≤ D.faults disk.new) × (K.faults sink.old ≤ K.faults sink.new) }
+{
+    let mut state = state;
+    'acts: loop {
+        match take_act(state, disk, sink, runner, supervisor, now) {
+            Ok((next, none)) => {
+                if none {
+                    return Ok(next);
+                }
+                state = next;
+            }
+            Err(over) => return Err(over),
+        }
+    }
+}
+
+/// Asks for the moment, takes every act, and waits where there is something to wait for. Then a child ended, or time went on.
+fn turn<D: Disk, J: Journal + Drop, K: Sink, R: Runner, S: Supervise>(
+    state: Coming<J>,
+    disk: &mut D,
+    sink: &mut K,
+    runner: &mut R,
+    supervisor: &mut S,
+) -> Result<(Coming<J>, Option<Turned>), SessionFault>
+    requires held { OwnsComing D.is_modelled D.may_leave J.stands J.end state disk.old }
+    requires rises { Rises (S.world supervisor.old) }
+    requires placed { (p : SessionState) × IsAtTurnStart p (coming_device state) (S.world supervisor.old) (Listed R.list R.told R.asked runner.old) (R.living runner.old) }
+    ensures trace { (p : SessionState) → IsAtTurnStart p (coming_device state) (S.world supervisor.old) (Listed R.list R.told R.asked runner.old) (R.living runner.old) →
+        (h : List TraceEvent) × IsTrace J.entries J.files D.may_leave D.moment D.left_since disk.old disk.new (R.list runner.old) (R.list runner.new) p h
+        × Lines (K.held sink.old) (K.held sink.new) p.device (records_of h) result
+        × Left J.entries D.may_leave disk.new p h (λ s q. TurnLeft s.1 q (coming_device s.0) (S.world supervisor.new) (Listed R.list R.told R.asked runner.new) (R.living runner.new)) result
+        × OnErr result (MayAbort (state_after p h) (S.world supervisor.new) (Listed R.list R.told R.asked runner.new) (R.living runner.new)) }
+    ensures held { IfOk result (λ s. OwnsComing D.is_modelled D.may_leave J.stands J.end s.0 disk.new) }
+    ensures same { IfOk result (λ s. is_plan s.0 ≡ is_plan state) }
+    ensures deployment { IfOk result (λ s. IsSameDeployment (coming_device state) (coming_device s.0)) }
+    ensures others { IsTrue D.is_modelled → (name : List ℕ) → ¬ (J.files name) → D.seen disk.new name ≡ D.seen disk.old name }
+    ensures disk { IsErrOf result SessionFault.Disk → Rose (D.faults disk.old) (D.faults disk.new) }
+    ensures edge { IsErrOf result SessionFault.Edge → Rose (K.faults sink.old) (K.faults sink.new) }
+    ensures quiet_disk { ¬ (IsErrOf result SessionFault.Disk) → D.faults disk.new ≡ D.faults disk.old }
+    ensures quiet_sink { ¬ (IsErrOf result SessionFault.Edge) → K.faults sink.new ≡ K.faults sink.old }
+    ensures rises { Rises (S.world supervisor.new) }
+    ensures falls { IfOk result (λ s. s.1 ≡ None → measure (later (R.clock runner.new) (S.world supervisor.new)) < measure (later (R.clock runner.old) (S.world supervisor.old))) }
+    ensures later { (D.faults disk.old ≤ D.faults disk.new) × (K.faults sink.old ≤ K.faults sink.new) }
+{
+    let now = pass(runner, supervisor);
+    match take_acts(state, disk, sink, runner, supervisor, now) {
+        Ok(next) => {
+            if next.is_broken() {
+                return Ok((next, Some(Turned::Broken)));
+            }
+            if supervisor.settled() {
+                return Ok((next, Some(Turned::Settled)));
+            }
+            wait_once(runner, supervisor, now);
+            Ok((next, None))
+        }
+        Err(over) => Err(over),
+    }
+}
+
+/// Takes turns until all components are up or one failed three times, which it tells.
+pub(crate) fn come_up<D: Disk, J: Journal + Drop, K: Sink, R: Runner, S: Supervise>(
+    state: Coming<J>,
+    disk: &mut D,
+    sink: &mut K,
+    runner: &mut R,
+    supervisor: &mut S,
+) -> Result<(Coming<J>, Turned), SessionFault>
+    requires held { OwnsComing D.is_modelled D.may_leave J.stands J.end state disk.old }
+    requires rises { Rises (S.world supervisor.old) }
+    requires placed { (p : SessionState) × IsAtTurnStart p (coming_device state) (S.world supervisor.old) (Listed R.list R.told R.asked runner.old) (R.living runner.old) }
+    ensures trace { (p : SessionState) → IsAtTurnStart p (coming_device state) (S.world supervisor.old) (Listed R.list R.told R.asked runner.old) (R.living runner.old) →
+        (h : List TraceEvent) × IsTrace J.entries J.files D.may_leave D.moment D.left_since disk.old disk.new (R.list runner.old) (R.list runner.new) p h
+        × Lines (K.held sink.old) (K.held sink.new) p.device (records_of h) result
+        × Left J.entries D.may_leave disk.new p h (λ s q. TurnLeft (Some s.1) q (coming_device s.0) (S.world supervisor.new) (Listed R.list R.told R.asked runner.new) (R.living runner.new)) result
+        × OnErr result (MayAbort (state_after p h) (S.world supervisor.new) (Listed R.list R.told R.asked runner.new) (R.living runner.new)) }
+    ensures held { IfOk result (λ s. OwnsComing D.is_modelled D.may_leave J.stands J.end s.0 disk.new) }
+    ensures same { IfOk result (λ s. is_plan s.0 ≡ is_plan state) }
+    ensures deployment { IfOk result (λ s. IsSameDeployment (coming_device state) (coming_device s.0)) }
+    ensures others { IsTrue D.is_modelled → (name : List ℕ) → ¬ (J.files name) → D.seen disk.new name ≡ D.seen disk.old name }
+    ensures disk { IsErrOf result SessionFault.Disk → Rose (D.faults disk.old) (D.faults disk.new) }
+    ensures edge { IsErrOf result SessionFault.Edge → Rose (K.faults sink.old) (K.faults sink.new) }
+    ensures quiet_disk { ¬ (IsErrOf result SessionFault.Disk) → D.faults disk.new ≡ D.faults disk.old }
+    ensures quiet_sink { ¬ (IsErrOf result SessionFault.Edge) → K.faults sink.new ≡ K.faults sink.old }
+    ensures rises { Rises (S.world supervisor.new) }
+    ensures later { (D.faults disk.old ≤ D.faults disk.new) × (K.faults sink.old ≤ K.faults sink.new) }
+{
+    let mut state = state;
+    'turns: loop {
+        match turn(state, disk, sink, runner, supervisor) {
+            Ok((next, turned)) => match turned {
+                None => {
+                    state = next;
+                }
+                Some(turned) => return Ok((next, turned)),
+            },
+            Err(over) => return Err(over),
+        }
+    }
+}

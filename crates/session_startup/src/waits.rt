@@ -1,0 +1,53 @@
+// One wait.
+ghost use Rattle.std.specs.Prelude.{◌≡◌, ◌⊎◌, ◌≤◌, ◌<◌, ◌+◌, ◌^◌, ℕ, List};
+ghost use Rattle.device.specs.Devices.{Device};
+ghost use Rattle.step_runner.specs.Entries.{Listed};
+ghost use Rattle.components.specs.Deadlines.{least_deadline, until};
+ghost use Rattle.histories.specs.TraceEvents.{TraceEvent};
+ghost use Rattle.histories.specs.States.{SessionState, state_after};
+ghost use Rattle.session_boots.specs.Traces.{Acts};
+ghost use Rattle.law_termination.specs.Kept.{IsFalling};
+ghost use Rattle.law_termination.specs.Rank.{rank};
+ghost use Rattle.law_termination.specs.Time.{HasTime};
+ghost use Rattle.law_termination.specs.Drives.{Drives, NotAbove};
+ghost use Rattle.session_startup.specs.Runs.{IsAtTurnStart, IsReadyToWait};
+
+use crate::laws::driving_laws;
+use components::{Event, Supervise};
+use step_runner::{Runner, Waited};
+
+/// How long is waited where there is no deadline, in milliseconds: then all is looked at again.
+const LOOK_AGAIN_MS: u64 = 1_000;
+
+/// How long may be waited, in milliseconds: to the next deadline, or where there is none, until all is looked at again.
+pub fn longest_wait<S: Supervise>(supervisor: &S, now: u64) -> u64
+    requires { (S.world supervisor.now).moment ≡ now }
+    ensures limit { result ≡ until (least_deadline (S.world supervisor.now)) now }
+    ensures near { result ≤ 1000000000 }
+{
+    match supervisor.next_deadline() {
+        Some(deadline) => deadline.saturating_sub(now),
+        None => LOOK_AGAIN_MS,
+    }
+}
+
+/// Waits for the end of a child or to the next deadline, and tells what came.
+pub(crate) fn wait_once<R: Runner, S: Supervise>(runner: &mut R, supervisor: &mut S, now: u64)
+    requires now { (R.told runner.old ≡ now) × (now < 2 ^ 62) }
+    requires drives { Drives (S.world supervisor.old) × IsFalling (S.world supervisor.old) }
+    requires time { HasTime (S.world supervisor.old) × ((S.world supervisor.old).moment + 1 < 2 ^ 62) }
+    requires placed { (p : SessionState) × IsReadyToWait p (S.world supervisor.old) (Listed R.list R.told R.asked runner.old) (R.living runner.old) }
+    ensures trace { (p : SessionState) → (d : Device) → p.device ≡ d → IsReadyToWait p (S.world supervisor.old) (Listed R.list R.told R.asked runner.old) (R.living runner.old) →
+        (h : List TraceEvent) × Acts p h (R.list runner.old) (R.list runner.new)
+        × IsAtTurnStart (state_after p h) d (S.world supervisor.new) (Listed R.list R.told R.asked runner.new) (R.living runner.new) }
+    // A child ends, or time goes on.
+    ensures not_above { NotAbove (S.world supervisor.old) (S.world supervisor.new) }
+    ensures goes_on { (rank (S.world supervisor.new) < rank (S.world supervisor.old)) ⊎ (now < R.clock runner.new) }
+{
+    driving_laws();
+    let limit = longest_wait(supervisor, now);
+    match runner.wait(limit) {
+        Waited::Ended(child, exit) => supervisor.event(Event::Ended(child, exit), now),
+        Waited::Elapsed => {}
+    }
+}

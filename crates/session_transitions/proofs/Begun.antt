@@ -1,0 +1,64 @@
+-- The record that the plan's items are to run, in a history.
+use Rattle.std.specs.Prelude.{ℕ, Bool, true, false, List, [], ◌∷◌, Option, Some, None, if◌then◌else◌}
+use Rattle.std.specs.Option.{IsSomeAnd, option_map_or}
+use Rattle.std.proofs.Common.{◌≡◌, sym, subst}
+use Rattle.std.proofs.lemmas.Bool.{false≢true}
+use Rattle.disk_model.specs.Disk.{Image, Leaves, DiskLaws}
+use Rattle.records.specs.Stored as stored
+use Rattle.device.specs.Devices.{Device, Pending}
+use Rattle.device.specs.Lawful.{Allowed, MayActivate, applied, next_boot, no_failures}
+use Rattle.device.specs.declared.staged.Stage.{Stage}
+use Rattle.device.specs.declared.staged.Stage.TheVariants as stages
+use Rattle.deploy_state.specs.Fields.{has_failed}
+use Rattle.deploy_state.specs.Owned.{LeavesEither}
+use Rattle.deploy_state.specs.States.{IsIn}
+use Rattle.step_runner.specs.Entries.{Told}
+use Rattle.step_runner.specs.declared.entries.RunnerEntry.{RunnerEntry}
+use Rattle.components.specs.Components.{Components}
+use Rattle.histories.specs.Phases.{Duty, duty_in, duty_of}
+use Rattle.histories.specs.Phases as phases
+use Rattle.histories.specs.TraceEvents.{TraceEvent, Recorded}
+use Rattle.histories.specs.States.{SessionState}
+use Rattle.histories.specs.Follows.{MayFollow}
+use Rattle.session_boots.specs.Stands.{IsAtBootStage}
+use Rattle.session_boots.specs.Traces.{IsTrace}
+use Rattle.session_boots.proofs.Entries.{never}
+use Rattle.session_transitions.proofs.Closing.{boot_clear}
+use Rattle.session_transitions.proofs.Turned.{turn_went}
+
+abbrev pub Begin : TraceEvent
+Begin = Recorded stored.Activating
+
+-- ---- it is lawful
+
+none_next : (b : Bool) (o : Option (List ℕ)) → b ≡ false → (if b then None else o) ≡ None → o ≡ None
+none_next true o well none = absurd (false≢true (sym well))
+none_next false o well none = none
+
+pub can_activate : (d : Device) → IsIn stages.Booting d → (duty_of d).turn ≡ None → has_failed d ≡ false → Allowed d stored.Activating
+can_activate d is none well = by d.pending is none well
+  where
+    in_stage : (s : Stage) (q : Pending) → s ≡ stages.Booting → (duty_in d (record q { stage = s })).turn ≡ None → q.boot_failed ≡ false → next_boot (record q { stage = s }) ≡ None
+    in_stage s q is none well =
+        let there : Pending = record q { stage = stages.Booting } in
+        let turn : (duty_in d there).turn ≡ None = subst (λ (x : Stage). (duty_in d (record q { stage = x })).turn ≡ None) is none in
+        subst (λ (x : Stage). next_boot (record q { stage = x }) ≡ None) (sym is) (none_next q.boot_failed (next_boot there) well turn)
+
+    by : (o : Option Pending) → IsSomeAnd o (λ q. q.stage ≡ stages.Booting)
+        → (elim o as (λ (x : Option Pending). Duty) [ None ↦ record { origin = d.origin; phase = phases.idle; items = d.set; counts = no_failures; boots = []; turn = None; begun = false } | Some q ↦ duty_in d q ]).turn ≡ None
+        → option_map_or (λ q. q.boot_failed) o false ≡ false → IsSomeAnd o MayActivate
+    by None is none well = absurd is
+    by (Some q) is none well = (is, well, in_stage q.stage q is none well)
+
+-- ---- in a history
+
+begin_follows : (p : SessionState) (d : Device) (world : Components) (told : Told) (living : List ℕ) → IsAtBootStage p d world told living → MayFollow p Begin
+begin_follows p d world told living f = (boot_clear p d world told living f, (λ cut. absurd (never p.cut f.between.still.cut cut)), f.over)
+
+-- ---- over a disk
+
+module _ (entries : Image → List (List ℕ) → Type 0) (files : List ℕ → Type 0) {D : Type 0} {may_leave : D → Image → Type 0} {moment : D → ℕ} {left_since : D → ℕ → Image → Type 0} {is_modelled : Bool} {seen : D → Image}
+    (laws : DiskLaws is_modelled seen may_leave moment left_since) where
+  pub begin_went : (old new : D) (list : Option (List RunnerEntry)) (p : SessionState) (d : Device) (world : Components) (told : Told) (living : List ℕ) → IsAtBootStage p d world told living → Allowed d stored.Activating
+      → Leaves moment left_since old new (LeavesEither may_leave files entries old d (applied d stored.Activating)) → IsTrace entries files may_leave moment left_since old new list list p (Begin ∷ [])
+  begin_went old new list p d world told living f allowed notes = turn_went entries files laws old new list p d stored.Activating f.between.stands.device_is (begin_follows p d world told living f) allowed notes

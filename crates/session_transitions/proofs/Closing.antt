@@ -1,0 +1,182 @@
+-- The close of a deployment that failed and stays as it is, or on whose way back a bootstrap failed, in a history.
+use Rattle.std.specs.Prelude.{Contains, ℕ, Bool, true, false, not, ◌||◌, List, [], ◌∷◌, map, Option, Some, None, IsSome}
+use Rattle.std.specs.List.{list_any}
+use Rattle.std.proofs.Common.{◌≡◌, ◌↔◌, ◌⊎◌, ◌∙◌, inl, inr, refl, sym, ap, subst}
+use Rattle.disk_model.specs.Disk.{Image, Leaves, DiskLaws}
+use Rattle.nuc_base.specs.declared.kinds.Outcome.{Outcome}
+use Rattle.nuc_base.specs.declared.kinds.Outcome.TheVariants as outcomes
+use Rattle.nuc_base.specs.declared.kinds.Step.{Step}
+use Rattle.records.specs.Stored as stored
+use Rattle.records.specs.Stored.{Record}
+use Rattle.device.specs.Devices.{Device, Pending}
+use Rattle.device.specs.Lawful.{Allowed, applied, close_pending}
+use Rattle.deploy_state.specs.Owned.{LeavesEither}
+use Rattle.step_runner.specs.Entries.{Told}
+use Rattle.step_runner.specs.declared.entries.RunnerEntry.{RunnerEntry}
+use Rattle.components.specs.Components.{Components, ComponentState, is_over, is_stopped, owner}
+use Rattle.components.specs.Changes.{forgetting, steadied}
+use Rattle.histories.specs.Phases.{Generation, duty_of, is_shutting_down, is_idle, is_current, draining, current}
+use Rattle.histories.specs.TraceEvents.{Recorded, records_of}
+use Rattle.histories.specs.States.{SessionState, leaves}
+use Rattle.histories.specs.Follows.{IsBootChild, IsClear, Lives, MayClose as MayEnd, MayFollow}
+use Rattle.histories.specs.Courses.{IsBare, Stands}
+use Rattle.session_boots.specs.Stands.{IsAtBootStage}
+use Rattle.session_boots.specs.Ends.{LeftAt}
+use Rattle.session_boots.specs.Traces.{IsTrace}
+use Rattle.session_boots.specs.declared.ends.SessionFault.TheVariants as over
+use Rattle.session_boots.proofs.Entries.{never}
+use Rattle.session_boots.proofs.Joins.{kept_one}
+use Rattle.session_boots.proofs.Records.{doubt_at}
+use Rattle.session_boots.proofs.Still.{childless}
+use Rattle.law_supervisor.specs.Sound.{Differ, IsOrderly}
+use Rattle.law_supervisor.proofs.Steadied.{closed_orderly, living_steadied, owes_steadied, owner_steadied, steadied_orderly}
+use Rattle.session_startup.specs.Ended.{HasBroken, HasClosed}
+use Rattle.session_startup.proofs.Answered.{free_is, free_steadied, is_free}
+use Rattle.session_startup.proofs.Entering.{no_boot, without_boot}
+use Rattle.session_transitions.specs.Fails.{IsGivenUp}
+
+abbrev Unasked : Record
+Unasked = stored.Closed outcomes.RollbackNotRequested
+
+-- ---- components that are steadied
+
+over_at : (ps : List ComponentState) → list_any (λ p. not (is_over p)) (map forgetting ps) ≡ list_any (λ p. not (is_over p)) ps
+over_at [] = refl
+over_at (p ∷ ps) = ap (λ (b : Bool). not (is_over p) || b) (over_at ps)
+
+stopped_steadied : (w : Components) → is_stopped (steadied w) ≡ is_stopped w
+stopped_steadied w = ap not (over_at w.parts)
+
+-- ---- the device behind the close
+
+idle_of : (d : Device) (p : Option Pending) (o : Outcome) → IsSome p → is_idle (duty_of (close_pending o d p)).phase ≡ true
+idle_of d None o h = absurd cc
+idle_of d (Some q) o h = refl
+
+-- ---- where it leaves the call
+
+stands_closed : (p : SessionState) (d e : Device) (o : Outcome) (world : Components) (told : Told) (living : List ℕ) → Stands p d world told living → e ≡ applied d (stored.Closed o)
+    → Stands (leaves p (Recorded (stored.Closed o))) e (steadied world) told living
+stands_closed p d e o world told living s same = record {
+  device_is = ap (λ (x : Device). applied x (stored.Closed o)) s.device_is ∙ sym same;
+  world_is = ap (λ (w : Components). steadied w) s.world_is;
+  answered = free_is (steadied world) (free_steadied world ∙ is_free world s.answered);
+  not_before = s.not_before;
+  asked = s.asked;
+  children = λ n. subst (λ (x : Option (ℕ × Step)). Contains living n ↔ (IsSome x ⊎ IsBootChild n p)) (sym (owner_steadied n p.world)) (s.children n);
+}
+
+present_is : (c : Generation) → c ≡ current → is_current c ≡ true
+present_is c is = rw is refl
+
+going_on : (c : Generation) → c ≡ current → is_shutting_down c ≡ false
+going_on c is = rw is refl
+
+still_on : (c : Generation) → c ≡ draining → is_shutting_down c ≡ false
+still_on c is = rw is refl
+
+-- ---- from among bootstraps
+
+module _ (p : SessionState) (d : Device) (world : Components) (told : Told) (living : List ℕ) (f : IsAtBootStage p d world told living) where
+  pub boot_clear : IsClear p
+  boot_clear = record { told = f.between.still.quiet.told; alone = f.between.boot; no_end = f.between.boot_end; on = still_on p.generation f.between.still.generation }
+
+module _ (p : SessionState) (d : Device) (o : Outcome) (world : Components) (told : Told) (living : List ℕ) (f : IsAtBootStage p d world told living) where
+  boot_follows : MayEnd p o → MayFollow p (Recorded (stored.Closed o))
+  boot_follows may = ((boot_clear p d world told living f, may), (λ cut. absurd (never p.cut f.between.still.cut cut)), f.over)
+
+  pub boot_closed : (e : Device) → IsOrderly p.world → IsSome d.pending → e ≡ applied d (stored.Closed o) → HasClosed o (records_of (Recorded (stored.Closed o) ∷ [])) (leaves p (Recorded (stored.Closed o))) e (steadied world) told living
+  boot_closed e orderly pending same = record {
+    stands = stands_closed p d e o world told living f.between.stands same;
+    back = record {
+      idle_is = idle_of p.device p.device.pending o (subst (λ (x : Device). IsSome x.pending) (sym f.between.stands.device_is) pending);
+      going = still_on p.generation f.between.still.generation;
+      there = inr (stopped_steadied p.world ∙ f.between.still.stopped);
+      boot = f.between.boot;
+      boot_end = f.between.boot_end;
+      told = owes_steadied p.world ∙ f.between.still.quiet.told;
+      over = refl;
+      cut = f.between.still.cut;
+    };
+    orderly = steadied_orderly p.world orderly;
+    closed = ([], refl);
+  }
+
+  pub boot_bare : IsBare (leaves p (Recorded (stored.Closed o)))
+  boot_bare = record { parts = childless (steadied p.world) (stopped_steadied p.world ∙ f.between.still.stopped); boot = f.between.boot }
+
+-- ---- from among items that come up
+
+pub no_other : (p : SessionState) (n : ℕ) (living : List ℕ) → p.boot ≡ None → Contains living n ↔ Lives n p → Contains living n ↔ IsSome (owner n p.world.parts)
+no_other p n living boot same = ((λ h. without_boot (no_boot p.boot n boot) (same.0 h)), (λ h. same.1 (inl h)))
+
+module _ (p : SessionState) (d : Device) (world : Components) (told : Told) (living : List ℕ) (b : HasBroken p d world told living) where
+  pub items_clear : IsClear p
+  items_clear = record { told = b.quiet.told; alone = b.comes.on.boot; no_end = b.comes.on.boot_end; on = going_on p.generation b.comes.on.generation }
+
+  items_follow : MayFollow p (Recorded Unasked)
+  items_follow = ((items_clear, tt), (λ cut. absurd (never p.cut b.comes.on.cut cut)), b.comes.on.over)
+
+  pub items_closed : (e : Device) → IsSome d.pending → e ≡ applied d Unasked → HasClosed outcomes.RollbackNotRequested (records_of (Recorded Unasked ∷ [])) (leaves p (Recorded Unasked)) e (steadied world) told living
+  items_closed e pending same = record {
+    stands = stands_closed p d e outcomes.RollbackNotRequested world told living b.comes.stands same;
+    back = record {
+      idle_is = idle_of p.device p.device.pending outcomes.RollbackNotRequested (subst (λ (x : Device). IsSome x.pending) (sym b.comes.stands.device_is) pending);
+      going = going_on p.generation b.comes.on.generation;
+      there = inl (present_is p.generation b.comes.on.generation);
+      boot = b.comes.on.boot;
+      boot_end = b.comes.on.boot_end;
+      told = owes_steadied p.world ∙ b.quiet.told;
+      over = refl;
+      cut = b.comes.on.cut;
+    };
+    orderly = closed_orderly p.device p.world b.comes.keeps;
+    closed = ([], refl);
+  }
+
+  pub owners_now : (n : ℕ) → owner n world.parts ≡ owner n p.world.parts
+  owners_now n = sym (ap (λ (w : Components). owner n w.parts) b.comes.stands.world_is)
+
+  pub moment_now : told.moment ≡ p.world.moment
+  moment_now = sym (ap (λ (w : Components). w.moment) b.comes.stands.world_is)
+
+  -- where the call gives up behind the close, whether or not the supervisor knows of it
+  pub items_given_up : (now : Components) → ((n : ℕ) → owner n now.parts ≡ owner n world.parts) → IsGivenUp (leaves p (Recorded Unasked)) now told living
+  items_given_up now same = record {
+    moment = moment_now;
+    asked = b.comes.stands.asked;
+    boot = b.comes.on.boot;
+    boot_end = b.comes.on.boot_end;
+    over = refl;
+    cut = b.comes.on.cut;
+    differ = subst (λ (l : List ℕ). Differ l) (sym (living_steadied p.world)) b.comes.keeps.differ;
+    owners = λ n. same n ∙ owners_now n ∙ sym (owner_steadied n p.world);
+    children = λ n. subst (λ (x : Option (ℕ × Step)). Contains living n ↔ IsSome x) (sym (owner_steadied n p.world)) (no_other p n living b.comes.on.boot (b.comes.stands.children n));
+  }
+
+pub owners_steadied : (world now : Components) → now ≡ steadied world → (n : ℕ) → owner n now.parts ≡ owner n world.parts
+owners_steadied world now is n = ap (λ (w : Components). owner n w.parts) is ∙ owner_steadied n world
+
+-- ---- over a disk
+
+module _ (entries : Image → List (List ℕ) → Type 0) (files : List ℕ → Type 0) {D : Type 0} {may_leave : D → Image → Type 0} {moment : D → ℕ} {left_since : D → ℕ → Image → Type 0} {is_modelled : Bool} {seen : D → Image}
+    (laws : DiskLaws is_modelled seen may_leave moment left_since) where
+  abbrev pub Notes : D → D → Device → Outcome → Type 0
+  Notes old new d o = Leaves moment left_since old new (LeavesEither may_leave files entries old d (applied d (stored.Closed o)))
+
+  close_went : (old new : D) (list : Option (List RunnerEntry)) (p : SessionState) (d : Device) (o : Outcome) → p.device ≡ d → MayFollow p (Recorded (stored.Closed o)) → Allowed d (stored.Closed o) → Notes old new d o
+      → IsTrace entries files may_leave moment left_since old new list list p (Recorded (stored.Closed o) ∷ [])
+  close_went old new list p d o device may allowed notes =
+      let same = sym device in
+      kept_one entries files laws old new list p (stored.Closed o) may (subst (λ (x : Device). Allowed x (stored.Closed o)) same allowed) (subst (λ (x : Device). Notes old new x o) same notes)
+
+  pub boot_went : (old new : D) (list : Option (List RunnerEntry)) (p : SessionState) (d : Device) (o : Outcome) (world : Components) (told : Told) (living : List ℕ) → IsAtBootStage p d world told living → MayEnd p o → Allowed d (stored.Closed o) → Notes old new d o
+      → IsTrace entries files may_leave moment left_since old new list list p (Recorded (stored.Closed o) ∷ [])
+  boot_went old new list p d o world told living f may allowed notes = close_went old new list p d o f.between.stands.device_is (boot_follows p d o world told living f may) allowed notes
+
+  pub items_went : (old new : D) (list : Option (List RunnerEntry)) (p : SessionState) (d : Device) (world : Components) (told : Told) (living : List ℕ) → HasBroken p d world told living → Allowed d Unasked → Notes old new d outcomes.RollbackNotRequested
+      → IsTrace entries files may_leave moment left_since old new list list p (Recorded Unasked ∷ [])
+  items_went old new list p d world told living b allowed notes = close_went old new list p d outcomes.RollbackNotRequested b.comes.stands.device_is (items_follow p d world told living b) allowed notes
+
+  pub close_doubt : (old new : D) (p : SessionState) (d : Device) (o : Outcome) → p.device ≡ d → Allowed d (stored.Closed o) → Notes old new d o → LeftAt entries may_leave new p (Recorded (stored.Closed o) ∷ []) over.Disk
+  close_doubt old new p d o same allowed notes = doubt_at entries files laws old new p d (stored.Closed o) same allowed notes

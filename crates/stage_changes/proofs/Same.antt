@@ -1,9 +1,0 @@
--- A deployment that is turned back is the same.
-use Rattle.std.proofs.Common.{sym, subst}
-use Rattle.device.specs.Devices.{Device}
-use Rattle.driver.specs.Same.{IsSameDeployment}
-use Rattle.driver.proofs.Same.{same_broken}
-use Rattle.stage_changes.specs.Fails.{Breaks}
-
-pub same_broken_off : (d e : Device) → Breaks d e → IsSameDeployment d e
-same_broken_off d e b = subst (λ (x : Device). IsSameDeployment d x) (sym b.2) (same_broken d b.0 b.1)

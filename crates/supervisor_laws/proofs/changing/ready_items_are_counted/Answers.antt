@@ -1,8 +1,0 @@
-use Rattle.supervisor_laws.proofs.Ready.{ready_counted, ready_differ}
-use Rattle.supervisor_laws.proofs.changing.ready_items_are_counted.Goals as goal
-
-pub returns-clause-counted : goal.returns-clause-counted
-returns-clause-counted c = ready_counted
-
-pub returns-clause-differ : goal.returns-clause-differ
-returns-clause-differ c = ready_differ

@@ -1,8 +1,0 @@
-use Rattle.supervisor_laws.proofs.Gone.{ended_keeps, ended_owns}
-use Rattle.supervisor_laws.proofs.keeping.ends_keep.Goals as goal
-
-pub returns-clause-keeps : goal.returns-clause-keeps
-returns-clause-keeps c = ended_keeps
-
-pub returns-clause-owners : goal.returns-clause-owners
-returns-clause-owners c = ended_owns

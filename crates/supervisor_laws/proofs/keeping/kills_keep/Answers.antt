@@ -1,8 +1,0 @@
-use Rattle.supervisor_laws.proofs.Gone.{killed_keeps, killed_owns}
-use Rattle.supervisor_laws.proofs.keeping.kills_keep.Goals as goal
-
-pub returns-clause-keeps : goal.returns-clause-keeps
-returns-clause-keeps c = killed_keeps
-
-pub returns-clause-owners : goal.returns-clause-owners
-returns-clause-owners c = killed_owns

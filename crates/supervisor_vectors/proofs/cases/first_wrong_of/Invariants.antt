@@ -1,8 +1,0 @@
-use Rattle.std.proofs.Common.{◌≡◌, ◌<◌}
-use Rattle.std.specs.Prelude.{◌^◌, IfSome}
-use Rattle.records.specs.declared.record.Origin.{Origin}
-use Rattle.supervisor_vectors.specs.Stands.{Stands}
-use Rattle.supervisor_vectors.proofs.cases.first_wrong_of.Given as goal
-
-abbrev pub invariant-loop-line : goal.invariant-loop-line
-invariant-loop-line l = (l.supervisor.moment ≡ l.now) × (l.now < 2 ^ 62) × IfSome l.device.origin (λ (o : Origin). Stands o.platform l.supervisor)

@@ -1,5 +1,0 @@
-use Rattle.supervisor_vectors.proofs.Handing.{if_stands}
-use Rattle.supervisor_vectors.proofs.cases.is_line.Goals as goal
-
-pub returns-clause-stands : goal.returns-clause-stands
-returns-clause-stands c = if_stands c.args.device.now.origin c.tell_all.new.supervisor c.is_answer.new.supervisor c.in_ok-fits.ensures.stands c.tell_all.ensures.stands
