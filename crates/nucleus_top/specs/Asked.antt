@@ -10,7 +10,16 @@ use Rattle.nucleus_top.specs.declared.asking.Asked.TheVariants.{Deploy, Resume, 
 abbrev pub asked_of : Order → Asked
 asked_of orders.Deploy = Deploy
 asked_of orders.Resume = Resume
-asked_of _ = Other
+asked_of (orders.Init origin) = Other
+asked_of (orders.Status json) = Other
+asked_of orders.Plan = Other
+asked_of (orders.Serve turns) = Other
+asked_of (orders.Workload seed) = Other
+asked_of orders.Audit = Other
+asked_of orders.Local = Other
+asked_of (orders.ConfigGet name at) = Other
+asked_of (orders.ConfigSet name) = Other
+asked_of orders.Why = Other
 
 abbrev pub AsksFor : List (List ℕ) → Asked → Type 0
 AsksFor words Deploy = (root : List ℕ) × IsOrder words root orders.Deploy

@@ -22,7 +22,16 @@ fn asked_by(order: &Order) -> Asked
     match order {
         Order::Deploy => Asked::Deploy,
         Order::Resume => Asked::Resume,
-        _ => Asked::Other,
+        Order::Init(_)
+        | Order::Status(_)
+        | Order::Plan
+        | Order::Serve(_)
+        | Order::Workload(_)
+        | Order::Audit
+        | Order::Local
+        | Order::ConfigGet(..)
+        | Order::ConfigSet(_)
+        | Order::Why => Asked::Other,
     }
 }
 

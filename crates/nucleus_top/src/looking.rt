@@ -57,8 +57,15 @@ fn answer<D: Disk, L: Library, S: Source>(
         Order::Status(json) => status(alloc, json, disk),
         Order::Plan => plan(alloc, disk, library, source),
         Order::Audit => audit(alloc, disk),
-        // The other commands are not built yet.
-        _ => Answer::WrongWords,
+        // These drive components: they are dispatched before.
+        Order::Deploy | Order::Resume => Answer::WrongWords,
+        // These are not built yet.
+        Order::Serve(_)
+        | Order::Workload(_)
+        | Order::Local
+        | Order::ConfigGet(..)
+        | Order::ConfigSet(_)
+        | Order::Why => Answer::WrongWords,
     }
 }
 

@@ -1,5 +1,5 @@
 // Behind a close.
-ghost use Rattle.std.specs.Prelude.{◌≡◌, ◌≢◌, ◌⊎◌, ◌≤◌, [], ℕ, List, false, IsTrue};
+ghost use Rattle.std.specs.Prelude.{◌≡◌, ◌≢◌, ◌⊎◌, ◌≤◌, [], List, false, IsTrue};
 ghost use Rattle.nuc_base.specs.Faults.{Rose};
 ghost use Rattle.nuc_base.specs.declared.status.Status.TheVariants as statuses;
 ghost use Rattle.artifact_store.specs.Holding.{AllHoldDevice, HoldsDevice};
@@ -10,7 +10,6 @@ ghost use Rattle.disk_model.specs.Spares.{Spares};
 ghost use Rattle.records.specs.Stored.{Record};
 ghost use Rattle.device.specs.Devices.{Device};
 ghost use Rattle.deploy_state.specs.States.{idle_device};
-ghost use Rattle.step_runner.specs.Entries.{Listed};
 ghost use Rattle.histories.specs.Courses.{IsEnd};
 ghost use Rattle.histories.specs.TraceEvents.{TraceEvent};
 ghost use Rattle.histories.specs.States.{SessionState, state_after};
@@ -21,6 +20,7 @@ ghost use Rattle.session_shutdown.specs.Stops.{MayStop};
 ghost use Rattle.refusal_lines.specs.Statuses.{status_of_outcome};
 ghost use Rattle.session.specs.Calls.{EndsClosed, SaysEnding, ChangesArtifactsAlone};
 ghost use Rattle.session.specs.Endings.{Fails};
+ghost use Rattle.session_boots.specs.Stages.{AsTold};
 
 use crate::lines::say_disk;
 use artifact_store::{SweepFault, sweep};
@@ -39,8 +39,8 @@ use step_runner::Runner;
 /// Stops all components, and answers how the deployment closed.
 fn stop<R: Runner, S: Supervise>(outcome: Outcome, runner: &mut R, supervisor: &mut S) -> Status
     requires drives { Drives (S.world supervisor.old) }
-    requires placed { (p : SessionState) × (d : Device) × MayStop p d (S.world supervisor.old) (Listed R.list R.told R.asked runner.old) (R.living runner.old) }
-    ensures trace { (p : SessionState) → (d : Device) → MayStop p d (S.world supervisor.old) (Listed R.list R.told R.asked runner.old) (R.living runner.old) →
+    requires placed { (p : SessionState) × (d : Device) × AsTold R.Runner runner.old (MayStop p d (S.world supervisor.old)) }
+    ensures trace { (p : SessionState) → (d : Device) → AsTold R.Runner runner.old (MayStop p d (S.world supervisor.old)) →
         (h : List TraceEvent) × Acts p h (R.list runner.old) (R.list runner.new) × IsEnd (state_after p h) result false }
     ensures answers { result ≡ status_of_outcome outcome }
     ensures none { R.living runner.new ≡ [] }
@@ -61,8 +61,8 @@ pub(crate) fn end_closed<D: Disk, J: Journal + Drop, K: Sink, R: Runner, S: Supe
     supervisor: &mut S,
 ) -> Status
     requires drives { Drives (S.world supervisor.old) }
-    requires placed { (p : SessionState) × (records : List Record) × HasClosed outcome records p (idle_device idle.now) (S.world supervisor.old) (Listed R.list R.told R.asked runner.old) (R.living runner.old) × (p.serves ≡ false) }
-    ensures trace { (p : SessionState) → (records : List Record) → HasClosed outcome records p (idle_device idle.now) (S.world supervisor.old) (Listed R.list R.told R.asked runner.old) (R.living runner.old) → (p.serves ≡ false) →
+    requires placed { (p : SessionState) × (records : List Record) × AsTold R.Runner runner.old (HasClosed outcome records p (idle_device idle.now) (S.world supervisor.old)) × (p.serves ≡ false) }
+    ensures trace { (p : SessionState) → (records : List Record) → AsTold R.Runner runner.old (HasClosed outcome records p (idle_device idle.now) (S.world supervisor.old)) → (p.serves ≡ false) →
         (h : List TraceEvent) × Acts p h (R.list runner.old) (R.list runner.new) × IsEnd (state_after p h) result false }
     ensures none { R.living runner.new ≡ [] }
     ensures spared { ChangesArtifactsAlone D.may_leave D.moment D.left_since disk.old disk.new }

@@ -1,5 +1,5 @@
 // How a call ends behind the course of its deployment.
-ghost use Rattle.std.specs.Prelude.{◌≡◌, ◌≢◌, ◌⊎◌, ◌≤◌, [], ◌++◌, ℕ, List, false, IsTrue, IfOk, OnOk, OnErr, IsErrOf, Ok, codes};
+ghost use Rattle.std.specs.Prelude.{◌≡◌, ◌≢◌, ◌⊎◌, ◌≤◌, [], ◌++◌, List, false, IsTrue, IfOk, OnErr, IsErrOf, Ok, codes};
 ghost use Rattle.nuc_base.specs.Faults.{Rose};
 ghost use Rattle.nuc_base.specs.declared.kinds.Outcome.{Outcome};
 ghost use Rattle.nuc_base.specs.declared.status.Status.TheVariants as statuses;
@@ -8,7 +8,6 @@ ghost use Rattle.artifact_store.specs.Swept.{IsSwept, items_of};
 ghost use Rattle.disk_model.specs.Disk.{Leaves};
 ghost use Rattle.disk_model.specs.Listing.{artifacts, IsBelow};
 ghost use Rattle.disk_model.specs.Spares.{Spares};
-ghost use Rattle.step_runner.specs.Entries.{Listed};
 ghost use Rattle.histories.specs.Courses.{IsEnd};
 ghost use Rattle.histories.specs.TraceEvents.{TraceEvent};
 ghost use Rattle.histories.specs.States.{SessionState, state_after};
@@ -20,6 +19,7 @@ ghost use Rattle.session_rollout.specs.Driven.{DrivenLeft, driven_device};
 ghost use Rattle.session.specs.Calls.{AnswersFor, EndsFor, IsOrEdge, SaysEnding, SaysLine, ChangesArtifactsAlone};
 ghost use Rattle.session.specs.Endings.{Fails};
 ghost use Rattle.refusal_lines.specs.Statuses.{status_of_outcome};
+ghost use Rattle.session_boots.specs.Stages.{AsTold};
 
 use crate::closes::end_closed;
 use crate::lines::{pending_id, say, say_disk};
@@ -60,9 +60,9 @@ fn end_driven<D: Disk, J: Journal + Drop, K: Sink, R: Runner, S: Supervise>(
     runner: &mut R,
     supervisor: &mut S,
 ) -> Status
-    requires placed { (p : SessionState) × (h : List TraceEvent) × DrivenLeft driven.now h p (S.world supervisor.old) (Listed R.list R.told R.asked runner.old) (R.living runner.old) × (p.serves ≡ false) }
+    requires placed { (p : SessionState) × (h : List TraceEvent) × AsTold R.Runner runner.old (DrivenLeft driven.now h p (S.world supervisor.old)) × (p.serves ≡ false) }
     requires drives { Drives (S.world supervisor.old) }
-    ensures trace { (p : SessionState) → (h : List TraceEvent) → DrivenLeft driven.now h p (S.world supervisor.old) (Listed R.list R.told R.asked runner.old) (R.living runner.old) → (p.serves ≡ false) →
+    ensures trace { (p : SessionState) → (h : List TraceEvent) → AsTold R.Runner runner.old (DrivenLeft driven.now h p (S.world supervisor.old)) → (p.serves ≡ false) →
         (k : List TraceEvent) × Acts p k (R.list runner.old) (R.list runner.new) × IsEnd (state_after p k) result false }
     ensures none { R.living runner.new ≡ [] }
     ensures spared { ChangesArtifactsAlone D.may_leave D.moment D.left_since disk.old disk.new }
@@ -97,10 +97,10 @@ pub(crate) fn end_call<D: Disk, J: Journal + Drop, K: Sink, R: Runner, S: Superv
     runner: &mut R,
     supervisor: &mut S,
 ) -> Status
-    requires placed { IfOk driven (λ x. (p : SessionState) × (h : List TraceEvent) × DrivenLeft x h p (S.world supervisor.old) (Listed R.list R.told R.asked runner.old) (R.living runner.old) × (p.serves ≡ false)) }
+    requires placed { IfOk driven (λ x. (p : SessionState) × (h : List TraceEvent) × AsTold R.Runner runner.old (DrivenLeft x h p (S.world supervisor.old)) × (p.serves ≡ false)) }
     requires drives { IfOk driven (λ x. Drives (S.world supervisor.old)) }
     requires none { OnErr driven (R.living runner.old ≡ []) }
-    ensures trace { IfOk driven (λ x. (p : SessionState) → (h : List TraceEvent) → DrivenLeft x h p (S.world supervisor.old) (Listed R.list R.told R.asked runner.old) (R.living runner.old) → (p.serves ≡ false) →
+    ensures trace { IfOk driven (λ x. (p : SessionState) → (h : List TraceEvent) → AsTold R.Runner runner.old (DrivenLeft x h p (S.world supervisor.old)) → (p.serves ≡ false) →
         (k : List TraceEvent) × Acts p k (R.list runner.old) (R.list runner.new) × IsEnd (state_after p k) result false) }
     ensures still { OnErr driven (R.list runner.new ≡ R.list runner.old) }
     ensures none { R.living runner.new ≡ [] }

@@ -1,5 +1,5 @@
 //! A pending deployment is driven on.
-ghost use Rattle.std.specs.Prelude.{◌≡◌, ◌≢◌, ◌⊎◌, ◌≤◌, [], ℕ, List, false, None, IsSome, IsTrue, IfOk, is_some, map};
+ghost use Rattle.std.specs.Prelude.{◌≡◌, ◌≢◌, ◌≤◌, [], false, IsSome, IsTrue, IfOk, is_some};
 ghost use Rattle.artifact_store.specs.Holding.{AllHoldDevice};
 ghost use Rattle.artifact_store.specs.Swept.{IsSwept, items_of};
 ghost use Rattle.nuc_base.specs.Faults.{Rose};
@@ -9,7 +9,6 @@ ghost use Rattle.device.specs.Sound.{IsSound};
 ghost use Rattle.deploy_state.specs.States.{OwnsLoaded, loaded_device};
 ghost use Rattle.session_boots.specs.Lines.{id_of};
 ghost use Rattle.session_boots.specs.Stands.{IsAtBootStage};
-ghost use Rattle.step_runner.specs.Entries.{Listed};
 ghost use Rattle.histories.specs.States.{SessionState};
 ghost use Rattle.session_admission.specs.Readied.{AreReadiedFor};
 ghost use Rattle.admission.specs.Takes.{LieElsewhere};
@@ -17,6 +16,7 @@ ghost use Rattle.session.specs.Calls.{Call, Elsewhere, IsOrEdge, SaysLine, Stays
 ghost use Rattle.session.specs.Documents.{KeepsArtifacts};
 ghost use Rattle.session.specs.Endings.{Fails, Resumes};
 ghost use Rattle.session.specs.Sweeping.{LeavesNoStray};
+ghost use Rattle.session_boots.specs.Stages.{AsTold, Holds};
 
 use crate::ends::end_call;
 use crate::lines::{pending_id, say};
@@ -73,15 +73,15 @@ pub fn resume<D: Disk, J: Journal + Drop, K: Sink, R: Runner, S: Supervise>(
 ) -> Status
 where
     S::Ready: Drop,
-    requires held { OwnsLoaded D.is_modelled D.may_leave J.stands J.end state disk.old }
+    requires held { Holds D.Disk J.Journal OwnsLoaded state disk.old }
     // The journal does not lie among the files of artifacts.
     requires apart { LieElsewhere J.files }
     // No component stands.
     requires empty { (S.world supervisor.old).parts ≡ [] }
-    requires placed { (p : SessionState) × IsAtBootStage p (loaded_device state) (S.world supervisor.old) (Listed R.list R.told R.asked runner.old) (R.living runner.old) × (p.serves ≡ false) }
+    requires placed { (p : SessionState) × AsTold R.Runner runner.old (IsAtBootStage p (loaded_device state) (S.world supervisor.old)) × (p.serves ≡ false) }
     // Where the images at the start have the device's artifacts, each of each moment has those of the device for which it stands.
     // The call ends as one whose disk failed only where the disk's count rose.
-    ensures call { (p : SessionState) → IsAtBootStage p (loaded_device state) (S.world supervisor.old) (Listed R.list R.told R.asked runner.old) (R.living runner.old) → (p.serves ≡ false) → (p.taken ≡ is_some p.device.pending) →
+    ensures call { (p : SessionState) → AsTold R.Runner runner.old (IsAtBootStage p (loaded_device state) (S.world supervisor.old)) → (p.serves ≡ false) → (p.taken ≡ is_some p.device.pending) →
         (c : Call J.entries J.files D.may_leave D.moment D.left_since disk.old disk.new (R.list runner.old) (R.list runner.new) (K.held sink.old) (K.held sink.new) p result) × Resumes (loaded_device state) c.ending
         × (AllHoldDevice (D.may_leave disk.old) p.device → KeepsArtifacts J.entries J.files D.may_leave D.moment D.left_since disk.old disk.new (R.list runner.old) (R.list runner.new) (K.held sink.old) (K.held sink.new) p result c)
         × (c.ending ≡ Fails → Rose (D.faults disk.old) (D.faults disk.new)) }

@@ -1,5 +1,5 @@
 //! A document is deployed.
-ghost use Rattle.std.specs.Prelude.{◌≡◌, ◌≢◌, ◌⊎◌, ◌≤◌, [], ℕ, List, false, None, Some, IsSome, IsTrue, IfOk, Result, map};
+ghost use Rattle.std.specs.Prelude.{◌≡◌, ◌≢◌, ◌≤◌, [], false, Some, IsTrue, IfOk, Result};
 ghost use Rattle.artifact_store.specs.Holding.{AllHoldDevice};
 ghost use Rattle.artifact_store.specs.Swept.{IsSwept, items_of};
 ghost use Rattle.nuc_base.specs.Faults.{Rose};
@@ -16,7 +16,6 @@ ghost use Rattle.deploy_state.specs.Accepting.{idle_log};
 ghost use Rattle.deploy_state.specs.States.{OwnsIdle, idle_device};
 ghost use Rattle.deploy_state.specs.Turning.{start_of};
 ghost use Rattle.deployment_doc.specs.Sound.{AreSound};
-ghost use Rattle.step_runner.specs.Entries.{Listed};
 ghost use Rattle.histories.specs.States.{SessionState};
 ghost use Rattle.session_admission.specs.Accepts.{IsOpen};
 ghost use Rattle.admission.specs.Takes.{HasDiskFailed, HasLibraryFailed, LieElsewhere, TakesIn};
@@ -25,6 +24,7 @@ ghost use Rattle.session.specs.Calls.{AllHoldBoth, Elsewhere, IsReadiedOn, Stays
 ghost use Rattle.session.specs.Documents.{DrivesPlan, DrivesTaken, KeepsArtifacts, TakesRead};
 ghost use Rattle.session.specs.Endings.{Fails};
 ghost use Rattle.session.specs.Sweeping.{LeavesNoStray};
+ghost use Rattle.session_boots.specs.Stages.{AsTold, Holds};
 
 use crate::declines::{say_declined, say_full, say_refusal};
 use crate::ends::end_call;
@@ -81,16 +81,16 @@ fn run_plan<D: Disk, J: Journal + Drop, K: Sink, R: Runner, S: Supervise>(
 ) -> Status
 where
     S::Ready: Drop,
-    requires held { OwnsIdle D.is_modelled D.may_leave J.stands J.end idle disk.old }
+    requires held { Holds D.Disk J.Journal OwnsIdle idle disk.old }
     requires apart { LieElsewhere J.files }
     requires lawful { Allowed (idle_device idle) (stored.Accepted (plan_view plan)) }
     requires regular { IsRegularRecord (stored.Accepted (plan_view plan)) }
     requires ready { IsReadiedOn (idle_device idle) (plan_view plan) ready.boots ready.backs (S.coming ready.items) (S.coming ready.earlier) }
     requires empty { (S.world supervisor.old).parts ≡ [] }
-    requires placed { (p : SessionState) × IsOpen p (idle_device idle) (S.world supervisor.old) (Listed R.list R.told R.asked runner.old) (R.living runner.old) × (p.serves ≡ false) }
+    requires placed { (p : SessionState) × AsTold R.Runner runner.old (IsOpen p (idle_device idle) (S.world supervisor.old)) × (p.serves ≡ false) }
     // Where the images at the start have the artifacts that are needed, so has each of each moment. The call ends as one whose
     // disk failed only where the disk's count rose.
-    ensures call { (p : SessionState) → IsOpen p (idle_device idle) (S.world supervisor.old) (Listed R.list R.told R.asked runner.old) (R.living runner.old) → (p.serves ≡ false) →
+    ensures call { (p : SessionState) → AsTold R.Runner runner.old (IsOpen p (idle_device idle) (S.world supervisor.old)) → (p.serves ≡ false) →
         (t : DrivesPlan J.entries J.files D.may_leave D.moment D.left_since disk.old disk.new (R.list runner.old) (R.list runner.new) (K.held sink.old) (K.held sink.new) p result (start_of J.end J.number J.turns (idle_log idle) (idle_device idle)) (plan_view plan))
         × (AllHoldBoth (D.may_leave disk.old) p.device (plan_view plan).items → KeepsArtifacts J.entries J.files D.may_leave D.moment D.left_since disk.old disk.new (R.list runner.old) (R.list runner.new) (K.held sink.old) (K.held sink.new) p result t.0)
         × (t.0.ending ≡ Fails → Rose (D.faults disk.old) (D.faults disk.new)) }
@@ -143,17 +143,17 @@ pub fn run_deployment<D: Disk, J: Journal + Drop, L: Library, K: Sink, R: Runner
 ) -> Status
 where
     S::Ready: Drop,
-    requires held { OwnsIdle D.is_modelled D.may_leave J.stands J.end idle disk.old }
+    requires held { Holds D.Disk J.Journal OwnsIdle idle disk.old }
     // The journal does not lie among the files of artifacts.
     requires apart { LieElsewhere J.files }
     requires roots { AreSound document.now.roots }
     // No component stands.
     requires empty { (S.world supervisor.old).parts ≡ [] }
-    requires placed { (p : SessionState) × IsOpen p (idle_device idle) (S.world supervisor.old) (Listed R.list R.told R.asked runner.old) (R.living runner.old) × (p.serves ≡ false) }
+    requires placed { (p : SessionState) × AsTold R.Runner runner.old (IsOpen p (idle_device idle) (S.world supervisor.old)) × (p.serves ≡ false) }
     // Where the images at the start have the artifacts that are needed, so has each of each moment. The call ends as one whose
     // disk failed only where the disk's count rose, and its document is declined for the disk or for the library only where the
     // count of that rose.
-    ensures call { (p : SessionState) → IsOpen p (idle_device idle) (S.world supervisor.old) (Listed R.list R.told R.asked runner.old) (R.living runner.old) → (p.serves ≡ false) →
+    ensures call { (p : SessionState) → AsTold R.Runner runner.old (IsOpen p (idle_device idle) (S.world supervisor.old)) → (p.serves ≡ false) →
         (taken : Result code.Plan Declined) × ((o : Origin) → (idle_device idle).origin ≡ Some o → TakesIn (idle_device idle) o (L.content library.old) (L.faults library.old) (L.faults library.new) document.now taken)
         × (t : DrivesTaken J.entries J.files D.may_leave D.moment D.left_since disk.old disk.new (R.list runner.old) (R.list runner.new) (K.held sink.old) (K.held sink.new) p result (start_of J.end J.number J.turns (idle_log idle) (idle_device idle)) taken)
         × (AllHoldDevice (D.may_leave disk.old) p.device → KeepsArtifacts J.entries J.files D.may_leave D.moment D.left_since disk.old disk.new (R.list runner.old) (R.list runner.new) (K.held sink.old) (K.held sink.new) p result t.0)
@@ -206,16 +206,16 @@ pub fn run_document<D: Disk, J: Journal + Drop, L: Library, K: Sink, R: Runner, 
 ) -> Status
 where
     S::Ready: Drop,
-    requires held { OwnsIdle D.is_modelled D.may_leave J.stands J.end idle disk.old }
+    requires held { Holds D.Disk J.Journal OwnsIdle idle disk.old }
     // The journal does not lie among the files of artifacts.
     requires apart { LieElsewhere J.files }
     // No component stands.
     requires empty { (S.world supervisor.old).parts ≡ [] }
-    requires placed { (p : SessionState) × IsOpen p (idle_device idle) (S.world supervisor.old) (Listed R.list R.told R.asked runner.old) (R.living runner.old) × (p.serves ≡ false) }
+    requires placed { (p : SessionState) × AsTold R.Runner runner.old (IsOpen p (idle_device idle) (S.world supervisor.old)) × (p.serves ≡ false) }
     // Where the images at the start have the artifacts that are needed, so has each of each moment. The call ends as one whose
     // disk failed only where the disk's count rose, and its document is declined for the disk or for the library only where the
     // count of that rose.
-    ensures call { (p : SessionState) → IsOpen p (idle_device idle) (S.world supervisor.old) (Listed R.list R.told R.asked runner.old) (R.living runner.old) → (p.serves ≡ false) →
+    ensures call { (p : SessionState) → AsTold R.Runner runner.old (IsOpen p (idle_device idle) (S.world supervisor.old)) → (p.serves ≡ false) →
         (taken : Result code.Plan Declined) × ((o : Origin) → (idle_device idle).origin ≡ Some o → TakesRead (idle_device idle) o (L.content library.old) (L.faults library.old) (L.faults library.new) document.now taken)
         × (t : DrivesTaken J.entries J.files D.may_leave D.moment D.left_since disk.old disk.new (R.list runner.old) (R.list runner.new) (K.held sink.old) (K.held sink.new) p result (start_of J.end J.number J.turns (idle_log idle) (idle_device idle)) taken)
         × (AllHoldDevice (D.may_leave disk.old) p.device → KeepsArtifacts J.entries J.files D.may_leave D.moment D.left_since disk.old disk.new (R.list runner.old) (R.list runner.new) (K.held sink.old) (K.held sink.new) p result t.0)

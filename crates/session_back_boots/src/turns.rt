@@ -1,26 +1,27 @@
 // One bootstrap step that runs again, with its records and its line.
-ghost use Rattle.std.specs.Prelude.{◌≡◌, ◌≤◌, [], ℕ, List, Bool, true, false, is_none, is_some, IfOk, OnOk, OnErr, IsErrOf, IsTrue, Some};
+ghost use Rattle.std.specs.Prelude.{◌≡◌, ◌≤◌, [], ℕ, List, true, false, is_some, IfOk, OnOk, OnErr, IsErrOf, Some};
 ghost use Rattle.nuc_base.specs.Faults.{HasCause, Rose};
 ghost use Rattle.device.specs.Lawful.{goes_on};
 ghost use Rattle.deploy_state.specs.Fields.{CanBegin, next_name};
 ghost use Rattle.deploy_state.specs.States.{OwnsBacked, OwnsBacking, backed_device, backing_device};
 ghost use Rattle.edges.specs.Pieces.{Writes};
 ghost use Rattle.records.specs.Stored.{BootEnded};
-ghost use Rattle.step_runner.specs.Entries.{Listed, Told};
+ghost use Rattle.step_runner.specs.Entries.{Told};
 ghost use Rattle.components.specs.Components.{Components};
 ghost use Rattle.histories.specs.Courses.{IsBare};
 ghost use Rattle.histories.specs.TraceEvents.{TraceEvent, records_of};
 ghost use Rattle.histories.specs.Phases.{duty_of};
 ghost use Rattle.histories.specs.States.{SessionState, state_after};
-ghost use Rattle.session_boots.specs.Booted.{EndsWith, restart_of};
+ghost use Rattle.session_boots.specs.Booted.{BootTurnLeft};
 ghost use Rattle.session_boots.specs.Lines.{line_of, lines_of};
 ghost use Rattle.session_boots.specs.Made.{IsTurn};
-ghost use Rattle.session_boots.specs.Ends.{IsOne, Left, Lines};
-ghost use Rattle.session_boots.specs.Stands.{IsBetween, IsAtBootStage};
+ghost use Rattle.session_boots.specs.Ends.{IsOne, Lines};
+ghost use Rattle.session_boots.specs.Stands.{IsAtBootStage};
 ghost use Rattle.session_boots.specs.Steps.{HasEnd};
 ghost use Rattle.session_boots.specs.Turns.{Begins, Ends, Turns};
-ghost use Rattle.session_boots.specs.Traces.{IsTrace};
 ghost use Rattle.session_back_boots.specs.Backs.{IsStillBacking};
+ghost use Rattle.session_boots.specs.Stages.{AsTold, HasTrace, Holds, IsTraceOver, KeepsOthers, LeftOver};
+ghost use Rattle.session_boots.specs.Stages.{AsTold, HasTrace, Holds, IsTraceOver, KeepsOthers, LeftOver};
 
 use components::Prepared;
 use deploy_state::{Backed, Backing};
@@ -37,17 +38,17 @@ fn begin<D: Disk, J: Journal + Drop>(
     state: Backing<J>,
     disk: &mut D,
 ) -> Result<Backing<J>, SessionFault>
-    requires held { OwnsBacking D.is_modelled D.may_leave J.stands J.end state disk.old }
+    requires held { Holds D.Disk J.Journal OwnsBacking state disk.old }
     requires may { CanBegin (backing_device state) }
     // Where it gives up, no child lives.
     ensures trace { (p : SessionState) → (world : Components) → (told : Told) → (living : List ℕ) → IsAtBootStage p (backing_device state) world told living →
-        (h : List TraceEvent) × IsTrace J.entries J.files D.may_leave D.moment D.left_since disk.old disk.new told.list told.list p h
+        (h : List TraceEvent) × IsTraceOver D.Disk J.Journal disk.old disk.new told.list told.list p h
         × (lines_of p.device (records_of h) ≡ [])
-        × Left J.entries D.may_leave disk.new p h (λ s q. IsAtBootStage q (backing_device s) world told living) result
+        × LeftOver D.Disk J.Journal disk.new p h (λ s q. IsAtBootStage q (backing_device s) world told living) result
         × OnErr result (IsBare (state_after p h)) × OnErr result (IsOne (records_of h)) }
     ensures begins { IfOk result (λ s. Begins (backing_device state) (backing_device s)) }
-    ensures held { IfOk result (λ s. OwnsBacking D.is_modelled D.may_leave J.stands J.end s disk.new) }
-    ensures others { IsTrue D.is_modelled → (name : List ℕ) → ¬ (J.files name) → D.seen disk.new name ≡ D.seen disk.old name }
+    ensures held { IfOk result (λ s. Holds D.Disk J.Journal OwnsBacking s disk.new) }
+    ensures others { KeepsOthers D.Disk J.Journal disk.old disk.new }
     ensures disk { IsErrOf result SessionFault.Disk → Rose (D.faults disk.old) (D.faults disk.new) }
     ensures edge { IsErrOf result SessionFault.Edge → ⊥ }
     ensures quiet { ¬ (IsErrOf result SessionFault.Disk) → D.faults disk.new ≡ D.faults disk.old }
@@ -93,18 +94,18 @@ fn end<D: Disk, J: Journal + Drop, K: Sink>(
     sink: &mut K,
     exit: Exit,
 ) -> Result<Backed<J>, SessionFault>
-    requires held { OwnsBacking D.is_modelled D.may_leave J.stands J.end state disk.old }
+    requires held { Holds D.Disk J.Journal OwnsBacking state disk.old }
     requires turn { is_some (duty_of (backing_device state)).turn ≡ true }
     requires begun { (duty_of (backing_device state)).begun ≡ true }
     // Where it gives up, no child lives.
     ensures trace { (p : SessionState) → (world : Components) → (told : Told) → (living : List ℕ) → HasEnd p (backing_device state) exit world told living →
-        (h : List TraceEvent) × IsTrace J.entries J.files D.may_leave D.moment D.left_since disk.old disk.new told.list told.list p h
+        (h : List TraceEvent) × IsTraceOver D.Disk J.Journal disk.old disk.new told.list told.list p h
         × Lines (K.held sink.old) (K.held sink.new) p.device (records_of h) result
-        × Left J.entries D.may_leave disk.new p h (λ s q. IsBetween q (backed_device s) world told living × (q.over ≡ is_some (restart_of exit (is_none (duty_of (backed_device s)).turn))) × EndsWith exit (records_of h)) result
+        × LeftOver D.Disk J.Journal disk.new p h (λ s q. BootTurnLeft exit (records_of h) q (backed_device s) world told living) result
         × OnErr result (IsBare (state_after p h)) }
     ensures ends { IfOk result (λ s. Ends (backing_device state) exit (backed_device s)) }
-    ensures held { IfOk result (λ s. OwnsBacked D.is_modelled D.may_leave J.stands J.end s disk.new) }
-    ensures others { IsTrue D.is_modelled → (name : List ℕ) → ¬ (J.files name) → D.seen disk.new name ≡ D.seen disk.old name }
+    ensures held { IfOk result (λ s. Holds D.Disk J.Journal OwnsBacked s disk.new) }
+    ensures others { KeepsOthers D.Disk J.Journal disk.old disk.new }
     ensures disk { IsErrOf result SessionFault.Disk → Rose (D.faults disk.old) (D.faults disk.new) }
     ensures edge { IsErrOf result SessionFault.Edge → Rose (K.faults sink.old) (K.faults sink.new) }
     ensures quiet_disk { ¬ (IsErrOf result SessionFault.Disk) → D.faults disk.new ≡ D.faults disk.old }
@@ -131,19 +132,18 @@ pub(crate) fn run_turn<D: Disk, J: Journal + Drop, K: Sink, R: Runner>(
     sink: &mut K,
     runner: &mut R,
 ) -> Result<(Backed<J>, Exit), SessionFault>
-    requires held { OwnsBacking D.is_modelled D.may_leave J.stands J.end state disk.old }
+    requires held { Holds D.Disk J.Journal OwnsBacking state disk.old }
     requires turn { IsTurn (backing_device state) step.now }
-    requires placed { (p : SessionState) × (world : Components) × IsAtBootStage p (backing_device state) world (Listed R.list R.told R.asked runner.old) (R.living runner.old) }
+    requires placed { (p : SessionState) × (world : Components) × AsTold R.Runner runner.old (IsAtBootStage p (backing_device state) world) }
     // Where it gives up, no child lives.
-    ensures trace { (p : SessionState) → (world : Components) → IsAtBootStage p (backing_device state) world (Listed R.list R.told R.asked runner.old) (R.living runner.old) →
-        (h : List TraceEvent) × IsTrace J.entries J.files D.may_leave D.moment D.left_since disk.old disk.new (R.list runner.old) (R.list runner.new) p h
-        × Lines (K.held sink.old) (K.held sink.new) p.device (records_of h) result
-        × Left J.entries D.may_leave disk.new p h (λ x q. IsBetween q (backed_device x.0) world (Listed R.list R.told R.asked runner.new) (R.living runner.new) × (q.over ≡ is_some (restart_of x.1 (is_none (duty_of (backed_device x.0)).turn))) × EndsWith x.1 (records_of h)) result
-        × OnErr result (IsBare (state_after p h)) }
+    ensures trace { (p : SessionState) → (world : Components) → AsTold R.Runner runner.old (IsAtBootStage p (backing_device state) world) →
+        HasTrace D.Disk J.Journal K.Sink R.Runner disk.old disk.new sink.old sink.new runner.old runner.new p
+        (λ x h q. AsTold R.Runner runner.new (BootTurnLeft x.1 (records_of h) q (backed_device x.0) world))
+        IsBare result }
     ensures none { R.living runner.new ≡ [] }
     ensures turns { IfOk result (λ x. Turns (backing_device state) x.1 (backed_device x.0)) }
-    ensures held { IfOk result (λ x. OwnsBacked D.is_modelled D.may_leave J.stands J.end x.0 disk.new) }
-    ensures others { IsTrue D.is_modelled → (name : List ℕ) → ¬ (J.files name) → D.seen disk.new name ≡ D.seen disk.old name }
+    ensures held { IfOk result (λ x. Holds D.Disk J.Journal OwnsBacked x.0 disk.new) }
+    ensures others { KeepsOthers D.Disk J.Journal disk.old disk.new }
     ensures disk { IsErrOf result SessionFault.Disk → Rose (D.faults disk.old) (D.faults disk.new) }
     ensures edge { IsErrOf result SessionFault.Edge → Rose (K.faults sink.old) (K.faults sink.new) }
     ensures quiet_disk { ¬ (IsErrOf result SessionFault.Disk) → D.faults disk.new ≡ D.faults disk.old }

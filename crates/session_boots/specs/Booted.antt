@@ -1,5 +1,5 @@
 -- What the bootstraps of a stage leave.
-use Rattle.std.specs.Prelude.{◌≡◌, ℕ, Bool, true, false, List, [], ◌∷◌, ◌++◌, Option, Some, None, is_none, pos, ◌&&◌, if◌then◌else◌}
+use Rattle.std.specs.Prelude.{◌≡◌, ℕ, Bool, true, false, List, [], ◌∷◌, ◌++◌, Option, Some, None, is_none, pos, is_some, ◌&&◌, if◌then◌else◌}
 use Rattle.std.specs.Ordering.{int_eq}
 use Rattle.nuc_base.specs.declared.kinds.Exit.{Exit}
 use Rattle.nuc_base.specs.declared.kinds.Exit.TheVariants as exits
@@ -36,3 +36,7 @@ BootsLeft booted.Through records q d world told living = IsAtBootStage q d world
 BootsLeft booted.Failed records q d world told living = IsAtBootStage q d world told living × (has_failed d ≡ true)
 BootsLeft booted.Restart records q d world told living = IsBetween q d world told living × (q.over ≡ true) × AsksFor booted.Restart records d
 BootsLeft booted.Reboot records q d world told living = IsBetween q d world told living × (q.over ≡ true) × AsksFor booted.Reboot records d
+
+-- The run of one bootstrap left it so: its end is recorded, and the call is over where that end asks for it.
+abbrev pub BootTurnLeft : Exit → List Record → SessionState → Device → Components → Told → List ℕ → Type 0
+BootTurnLeft exit records q d world told living = IsBetween q d world told living × (q.over ≡ is_some (restart_of exit (is_none (duty_of d).turn))) × EndsWith exit records

@@ -7,3 +7,4 @@ pub mod Steps
 pub mod Turns
 pub mod Booted
 pub mod Same
+pub mod Stages

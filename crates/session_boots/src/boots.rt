@@ -1,19 +1,17 @@
 // The bootstrap steps of a stage, one after another.
-ghost use Rattle.std.specs.Prelude.{◌≡◌, ◌≤◌, [], ℕ, List, is_none, None, IfOk, IfSome, IsErrOf, IsTrue, OnErr, option_map, slice_get};
+ghost use Rattle.std.specs.Prelude.{◌≡◌, [], is_none, None, IfOk, IfSome, IsErrOf, option_map, slice_get};
 ghost use Rattle.nuc_base.specs.Faults.{Rose};
 ghost use Rattle.device.specs.declared.staged.Stage.TheVariants as stages;
 ghost use Rattle.deploy_state.specs.States.{OwnsBooting, IsIn, booting_device};
-ghost use Rattle.step_runner.specs.Entries.{Listed};
 ghost use Rattle.components.specs.Components.{Components};
 ghost use Rattle.histories.specs.Courses.{IsBare};
-ghost use Rattle.histories.specs.TraceEvents.{TraceEvent, records_of};
+ghost use Rattle.histories.specs.TraceEvents.{records_of};
 ghost use Rattle.histories.specs.Phases.{duty_of};
-ghost use Rattle.histories.specs.States.{SessionState, state_after};
+ghost use Rattle.histories.specs.States.{SessionState};
 ghost use Rattle.session_boots.specs.Booted.{BootsLeft, restart_of};
 ghost use Rattle.session_boots.specs.Made.{AreMade, IsTurn};
-ghost use Rattle.session_boots.specs.Ends.{Left, Lines};
 ghost use Rattle.session_boots.specs.Stands.{IsAtBootStage};
-ghost use Rattle.session_boots.specs.Traces.{IsTrace};
+ghost use Rattle.session_boots.specs.Stages.{AsTold, HasTrace, Holds, KeepsOthers};
 
 use crate::ends::{Booted, SessionFault};
 use crate::turns::run_turn;
@@ -90,18 +88,17 @@ pub fn run_boots<D: Disk, J: Journal + Drop, K: Sink, R: Runner>(
     sink: &mut K,
     runner: &mut R,
 ) -> Result<(Booting<J>, Booted), SessionFault>
-    requires held { OwnsBooting D.is_modelled D.may_leave J.stands J.end state disk.old }
+    requires held { Holds D.Disk J.Journal OwnsBooting state disk.old }
     requires made { AreMade (booting_device state) made.now }
-    requires placed { (p : SessionState) × (world : Components) × IsAtBootStage p (booting_device state) world (Listed R.list R.told R.asked runner.old) (R.living runner.old) }
+    requires placed { (p : SessionState) × (world : Components) × AsTold R.Runner runner.old (IsAtBootStage p (booting_device state) world) }
     // Where it gives up, no child lives.
-    ensures trace { (p : SessionState) → (world : Components) → IsAtBootStage p (booting_device state) world (Listed R.list R.told R.asked runner.old) (R.living runner.old) →
-        (h : List TraceEvent) × IsTrace J.entries J.files D.may_leave D.moment D.left_since disk.old disk.new (R.list runner.old) (R.list runner.new) p h
-        × Lines (K.held sink.old) (K.held sink.new) p.device (records_of h) result
-        × Left J.entries D.may_leave disk.new p h (λ x q. BootsLeft x.1 (records_of h) q (booting_device x.0) world (Listed R.list R.told R.asked runner.new) (R.living runner.new)) result
-        × OnErr result (IsBare (state_after p h)) }
+    ensures trace { (p : SessionState) → (world : Components) → AsTold R.Runner runner.old (IsAtBootStage p (booting_device state) world) →
+        HasTrace D.Disk J.Journal K.Sink R.Runner disk.old disk.new sink.old sink.new runner.old runner.new p
+        (λ x h q. AsTold R.Runner runner.new (BootsLeft x.1 (records_of h) q (booting_device x.0) world))
+        IsBare result }
     ensures none { R.living runner.new ≡ [] }
-    ensures held { IfOk result (λ x. OwnsBooting D.is_modelled D.may_leave J.stands J.end x.0 disk.new) }
-    ensures others { IsTrue D.is_modelled → (name : List ℕ) → ¬ (J.files name) → D.seen disk.new name ≡ D.seen disk.old name }
+    ensures held { IfOk result (λ x. Holds D.Disk J.Journal OwnsBooting x.0 disk.new) }
+    ensures others { KeepsOthers D.Disk J.Journal disk.old disk.new }
     ensures disk { IsErrOf result SessionFault.Disk → Rose (D.faults disk.old) (D.faults disk.new) }
     ensures edge { IsErrOf result SessionFault.Edge → Rose (K.faults sink.old) (K.faults sink.new) }
     ensures quiet_disk { ¬ (IsErrOf result SessionFault.Disk) → D.faults disk.new ≡ D.faults disk.old }

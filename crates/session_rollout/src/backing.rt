@@ -1,6 +1,6 @@
 //! The bootstraps of the set run again, and then its items come up.
 ghost use Rattle.law_termination.specs.Drives.{Drives};
-ghost use Rattle.std.specs.Prelude.{◌≡◌, [], ℕ, List, IsTrue, IfOk, OnErr, IsErrOf, true};
+ghost use Rattle.std.specs.Prelude.{◌≡◌, [], IfOk, OnErr, IsErrOf, true};
 ghost use Rattle.nuc_base.specs.Faults.{Rose};
 ghost use Rattle.session_back_boots.specs.Backs.{IsStillBacking};
 ghost use Rattle.deploy_state.specs.Fields.{has_failed};
@@ -9,8 +9,8 @@ ghost use Rattle.session_rollout.specs.Backwards.{EndsBacks, HasWayBack, paused_
 ghost use Rattle.session_rollout.specs.Driven.{Course, DrivenLeft, OwnsDriven};
 ghost use Rattle.session_boots.specs.Stands.{IsAtBootStage};
 ghost use Rattle.histories.specs.States.{SessionState};
-ghost use Rattle.step_runner.specs.Entries.{Listed};
 ghost use Rattle.law_supervisor.specs.Sound.{IsOrderly};
+ghost use Rattle.session_boots.specs.Stages.{AsTold, Holds, KeepsOthers};
 
 use crate::driven::Driven;
 use crate::rolling::roll_on;
@@ -45,19 +45,19 @@ fn end_backs<D: Disk, J: Journal + Drop, K: Sink, R: Runner, S: Supervise>(
 ) -> Result<Driven<J>, SessionFault>
 where
     S::Ready: Drop,
-    requires held { OwnsBacked D.is_modelled D.may_leave J.stands J.end backed disk.old }
+    requires held { Holds D.Disk J.Journal OwnsBacked backed disk.old }
     requires failed { IsStillBacking backed → has_failed (backed_device backed) ≡ true }
     requires ready { EndsBacks backed (S.coming ready) }
     requires drives { Drives (S.world supervisor.old) }
     requires orderly { IsOrderly (S.world supervisor.old) }
-    requires placed { (p : SessionState) × IsAtBootStage p (backed_device backed) (S.world supervisor.old) (Listed R.list R.told R.asked runner.old) (R.living runner.old) }
-    ensures course { (p : SessionState) → IsAtBootStage p (backed_device backed) (S.world supervisor.old) (Listed R.list R.told R.asked runner.old) (R.living runner.old) →
+    requires placed { (p : SessionState) × AsTold R.Runner runner.old (IsAtBootStage p (backed_device backed) (S.world supervisor.old)) }
+    ensures course { (p : SessionState) → AsTold R.Runner runner.old (IsAtBootStage p (backed_device backed) (S.world supervisor.old)) →
         Course J.entries J.files D.may_leave D.moment D.left_since disk.old disk.new (R.list runner.old) (R.list runner.new) (K.held sink.old) (K.held sink.new) p result
-        (λ x h q. DrivenLeft x h q (S.world supervisor.new) (Listed R.list R.told R.asked runner.new) (R.living runner.new)) }
+        (λ x h q. AsTold R.Runner runner.new (DrivenLeft x h q (S.world supervisor.new))) }
     ensures none { OnErr result (R.living runner.new ≡ []) }
     ensures drives { IfOk result (λ x. Drives (S.world supervisor.new)) }
-    ensures held { IfOk result (λ x. OwnsDriven D.is_modelled D.may_leave J.stands J.end x disk.new) }
-    ensures others { IsTrue D.is_modelled → (name : List ℕ) → ¬ (J.files name) → D.seen disk.new name ≡ D.seen disk.old name }
+    ensures held { IfOk result (λ x. Holds D.Disk J.Journal OwnsDriven x disk.new) }
+    ensures others { KeepsOthers D.Disk J.Journal disk.old disk.new }
     ensures disk { IsErrOf result SessionFault.Disk → Rose (D.faults disk.old) (D.faults disk.new) }
     ensures edge { IsErrOf result SessionFault.Edge → Rose (K.faults sink.old) (K.faults sink.new) }
     ensures quiet_disk { ¬ (IsErrOf result SessionFault.Disk) → D.faults disk.new ≡ D.faults disk.old }
@@ -87,18 +87,18 @@ pub(crate) fn back_on<D: Disk, J: Journal + Drop, K: Sink, R: Runner, S: Supervi
 ) -> Result<Driven<J>, SessionFault>
 where
     S::Ready: Drop,
-    requires held { OwnsBacking D.is_modelled D.may_leave J.stands J.end state disk.old }
+    requires held { Holds D.Disk J.Journal OwnsBacking state disk.old }
     requires ready { HasWayBack (backing_device state) backs.now (S.coming ready) }
     requires drives { Drives (S.world supervisor.old) }
     requires orderly { IsOrderly (S.world supervisor.old) }
-    requires placed { (p : SessionState) × IsAtBootStage p (backing_device state) (S.world supervisor.old) (Listed R.list R.told R.asked runner.old) (R.living runner.old) }
-    ensures course { (p : SessionState) → IsAtBootStage p (backing_device state) (S.world supervisor.old) (Listed R.list R.told R.asked runner.old) (R.living runner.old) →
+    requires placed { (p : SessionState) × AsTold R.Runner runner.old (IsAtBootStage p (backing_device state) (S.world supervisor.old)) }
+    ensures course { (p : SessionState) → AsTold R.Runner runner.old (IsAtBootStage p (backing_device state) (S.world supervisor.old)) →
         Course J.entries J.files D.may_leave D.moment D.left_since disk.old disk.new (R.list runner.old) (R.list runner.new) (K.held sink.old) (K.held sink.new) p result
-        (λ x h q. DrivenLeft x h q (S.world supervisor.new) (Listed R.list R.told R.asked runner.new) (R.living runner.new)) }
+        (λ x h q. AsTold R.Runner runner.new (DrivenLeft x h q (S.world supervisor.new))) }
     ensures none { OnErr result (R.living runner.new ≡ []) }
     ensures drives { IfOk result (λ x. Drives (S.world supervisor.new)) }
-    ensures held { IfOk result (λ x. OwnsDriven D.is_modelled D.may_leave J.stands J.end x disk.new) }
-    ensures others { IsTrue D.is_modelled → (name : List ℕ) → ¬ (J.files name) → D.seen disk.new name ≡ D.seen disk.old name }
+    ensures held { IfOk result (λ x. Holds D.Disk J.Journal OwnsDriven x disk.new) }
+    ensures others { KeepsOthers D.Disk J.Journal disk.old disk.new }
     ensures disk { IsErrOf result SessionFault.Disk → Rose (D.faults disk.old) (D.faults disk.new) }
     ensures edge { IsErrOf result SessionFault.Edge → Rose (K.faults sink.old) (K.faults sink.new) }
     ensures quiet_disk { ¬ (IsErrOf result SessionFault.Disk) → D.faults disk.new ≡ D.faults disk.old }
@@ -127,18 +127,18 @@ pub(crate) fn roll_back<D: Disk, J: Journal + Drop, K: Sink, R: Runner, S: Super
 ) -> Result<Driven<J>, SessionFault>
 where
     S::Ready: Drop,
-    requires held { InBrokeOff D.is_modelled D.may_leave J.stands J.end broke disk.old }
+    requires held { Holds D.Disk J.Journal InBrokeOff broke disk.old }
     requires ready { HasWayBack (broken_device broke) backs.now (S.coming ready) }
     requires drives { Drives (S.world supervisor.old) }
     requires orderly { IsOrderly (S.world supervisor.old) }
-    requires placed { (p : SessionState) × IsAtBootStage p (broken_device broke) (S.world supervisor.old) (Listed R.list R.told R.asked runner.old) (R.living runner.old) }
-    ensures course { (p : SessionState) → IsAtBootStage p (broken_device broke) (S.world supervisor.old) (Listed R.list R.told R.asked runner.old) (R.living runner.old) →
+    requires placed { (p : SessionState) × AsTold R.Runner runner.old (IsAtBootStage p (broken_device broke) (S.world supervisor.old)) }
+    ensures course { (p : SessionState) → AsTold R.Runner runner.old (IsAtBootStage p (broken_device broke) (S.world supervisor.old)) →
         Course J.entries J.files D.may_leave D.moment D.left_since disk.old disk.new (R.list runner.old) (R.list runner.new) (K.held sink.old) (K.held sink.new) p result
-        (λ x h q. DrivenLeft x h q (S.world supervisor.new) (Listed R.list R.told R.asked runner.new) (R.living runner.new)) }
+        (λ x h q. AsTold R.Runner runner.new (DrivenLeft x h q (S.world supervisor.new))) }
     ensures none { OnErr result (R.living runner.new ≡ []) }
     ensures drives { IfOk result (λ x. Drives (S.world supervisor.new)) }
-    ensures held { IfOk result (λ x. OwnsDriven D.is_modelled D.may_leave J.stands J.end x disk.new) }
-    ensures others { IsTrue D.is_modelled → (name : List ℕ) → ¬ (J.files name) → D.seen disk.new name ≡ D.seen disk.old name }
+    ensures held { IfOk result (λ x. Holds D.Disk J.Journal OwnsDriven x disk.new) }
+    ensures others { KeepsOthers D.Disk J.Journal disk.old disk.new }
     ensures disk { IsErrOf result SessionFault.Disk → Rose (D.faults disk.old) (D.faults disk.new) }
     ensures edge { IsErrOf result SessionFault.Edge → Rose (K.faults sink.old) (K.faults sink.new) }
     ensures quiet_disk { ¬ (IsErrOf result SessionFault.Disk) → D.faults disk.new ≡ D.faults disk.old }

@@ -1,6 +1,6 @@
 //! The bootstraps of the plan run, and then its items come up.
 ghost use Rattle.law_termination.specs.Drives.{Drives};
-ghost use Rattle.std.specs.Prelude.{◌≡◌, [], ℕ, List, IsTrue, IfOk, OnErr, IsErrOf, None, true, false};
+ghost use Rattle.std.specs.Prelude.{◌≡◌, [], IfOk, OnErr, IsErrOf, None, true, false};
 ghost use Rattle.nuc_base.specs.Faults.{Rose};
 ghost use Rattle.deploy_state.specs.Fields.{has_failed};
 ghost use Rattle.deploy_state.specs.States.{OwnsBooting, booting_device};
@@ -14,8 +14,8 @@ ghost use Rattle.histories.specs.Phases.{duty_of};
 ghost use Rattle.histories.specs.States.{SessionState};
 ghost use Rattle.session_transitions.specs.Enters.{AreReady};
 ghost use Rattle.session_transitions.specs.Fails.{is_to_roll_back};
-ghost use Rattle.step_runner.specs.Entries.{Listed};
 ghost use Rattle.law_supervisor.specs.Sound.{IsOrderly};
+ghost use Rattle.session_boots.specs.Stages.{AsTold, Holds, KeepsOthers};
 
 use crate::backing::roll_back;
 use crate::driven::Driven;
@@ -45,20 +45,20 @@ fn break_off<D: Disk, J: Journal + Drop, K: Sink, R: Runner, S: Supervise>(
 ) -> Result<Driven<J>, SessionFault>
 where
     S::Ready: Drop,
-    requires held { OwnsBooting D.is_modelled D.may_leave J.stands J.end state disk.old }
+    requires held { Holds D.Disk J.Journal OwnsBooting state disk.old }
     requires failed { has_failed (booting_device state) ≡ true }
     requires policy { is_to_roll_back (booting_device state) ≡ true }
     requires ready { HasWayBack (booting_device state) backs.now (S.coming ready) }
     requires drives { Drives (S.world supervisor.old) }
     requires orderly { IsOrderly (S.world supervisor.old) }
-    requires placed { (p : SessionState) × IsAtBootStage p (booting_device state) (S.world supervisor.old) (Listed R.list R.told R.asked runner.old) (R.living runner.old) }
-    ensures course { (p : SessionState) → IsAtBootStage p (booting_device state) (S.world supervisor.old) (Listed R.list R.told R.asked runner.old) (R.living runner.old) →
+    requires placed { (p : SessionState) × AsTold R.Runner runner.old (IsAtBootStage p (booting_device state) (S.world supervisor.old)) }
+    ensures course { (p : SessionState) → AsTold R.Runner runner.old (IsAtBootStage p (booting_device state) (S.world supervisor.old)) →
         Course J.entries J.files D.may_leave D.moment D.left_since disk.old disk.new (R.list runner.old) (R.list runner.new) (K.held sink.old) (K.held sink.new) p result
-        (λ x h q. DrivenLeft x h q (S.world supervisor.new) (Listed R.list R.told R.asked runner.new) (R.living runner.new)) }
+        (λ x h q. AsTold R.Runner runner.new (DrivenLeft x h q (S.world supervisor.new))) }
     ensures none { OnErr result (R.living runner.new ≡ []) }
     ensures drives { IfOk result (λ x. Drives (S.world supervisor.new)) }
-    ensures held { IfOk result (λ x. OwnsDriven D.is_modelled D.may_leave J.stands J.end x disk.new) }
-    ensures others { IsTrue D.is_modelled → (name : List ℕ) → ¬ (J.files name) → D.seen disk.new name ≡ D.seen disk.old name }
+    ensures held { IfOk result (λ x. Holds D.Disk J.Journal OwnsDriven x disk.new) }
+    ensures others { KeepsOthers D.Disk J.Journal disk.old disk.new }
     ensures disk { IsErrOf result SessionFault.Disk → Rose (D.faults disk.old) (D.faults disk.new) }
     ensures edge { IsErrOf result SessionFault.Edge → Rose (K.faults sink.old) (K.faults sink.new) }
     ensures quiet_disk { ¬ (IsErrOf result SessionFault.Disk) → D.faults disk.new ≡ D.faults disk.old }
@@ -82,19 +82,19 @@ fn fail_boots<D: Disk, J: Journal + Drop, K: Sink, R: Runner, S: Supervise>(
 ) -> Result<Driven<J>, SessionFault>
 where
     S::Ready: Drop,
-    requires held { OwnsBooting D.is_modelled D.may_leave J.stands J.end state disk.old }
+    requires held { Holds D.Disk J.Journal OwnsBooting state disk.old }
     requires failed { has_failed (booting_device state) ≡ true }
     requires ready { HasWayBack (booting_device state) backs.now (S.coming ready) }
     requires drives { Drives (S.world supervisor.old) }
     requires orderly { IsOrderly (S.world supervisor.old) }
-    requires placed { (p : SessionState) × IsAtBootStage p (booting_device state) (S.world supervisor.old) (Listed R.list R.told R.asked runner.old) (R.living runner.old) }
-    ensures course { (p : SessionState) → IsAtBootStage p (booting_device state) (S.world supervisor.old) (Listed R.list R.told R.asked runner.old) (R.living runner.old) →
+    requires placed { (p : SessionState) × AsTold R.Runner runner.old (IsAtBootStage p (booting_device state) (S.world supervisor.old)) }
+    ensures course { (p : SessionState) → AsTold R.Runner runner.old (IsAtBootStage p (booting_device state) (S.world supervisor.old)) →
         Course J.entries J.files D.may_leave D.moment D.left_since disk.old disk.new (R.list runner.old) (R.list runner.new) (K.held sink.old) (K.held sink.new) p result
-        (λ x h q. DrivenLeft x h q (S.world supervisor.new) (Listed R.list R.told R.asked runner.new) (R.living runner.new)) }
+        (λ x h q. AsTold R.Runner runner.new (DrivenLeft x h q (S.world supervisor.new))) }
     ensures none { OnErr result (R.living runner.new ≡ []) }
     ensures drives { IfOk result (λ x. Drives (S.world supervisor.new)) }
-    ensures held { IfOk result (λ x. OwnsDriven D.is_modelled D.may_leave J.stands J.end x disk.new) }
-    ensures others { IsTrue D.is_modelled → (name : List ℕ) → ¬ (J.files name) → D.seen disk.new name ≡ D.seen disk.old name }
+    ensures held { IfOk result (λ x. Holds D.Disk J.Journal OwnsDriven x disk.new) }
+    ensures others { KeepsOthers D.Disk J.Journal disk.old disk.new }
     ensures disk { IsErrOf result SessionFault.Disk → Rose (D.faults disk.old) (D.faults disk.new) }
     ensures edge { IsErrOf result SessionFault.Edge → Rose (K.faults sink.old) (K.faults sink.new) }
     ensures quiet_disk { ¬ (IsErrOf result SessionFault.Disk) → D.faults disk.new ≡ D.faults disk.old }
@@ -123,20 +123,20 @@ fn end_boots<D: Disk, J: Journal + Drop, K: Sink, R: Runner, S: Supervise>(
 ) -> Result<Driven<J>, SessionFault>
 where
     S::Ready: Drop,
-    requires held { OwnsBooting D.is_modelled D.may_leave J.stands J.end state disk.old }
+    requires held { Holds D.Disk J.Journal OwnsBooting state disk.old }
     requires through { ((duty_of (booting_device state)).turn ≡ None) × (has_failed (booting_device state) ≡ false) }
     requires items { AreReady (applied (booting_device state) stored.Activating) (S.coming items) }
     requires ready { HasWayBack (booting_device state) backs.now (S.coming ready) }
     requires drives { Drives (S.world supervisor.old) }
     requires orderly { IsOrderly (S.world supervisor.old) }
-    requires placed { (p : SessionState) × IsAtBootStage p (booting_device state) (S.world supervisor.old) (Listed R.list R.told R.asked runner.old) (R.living runner.old) }
-    ensures course { (p : SessionState) → IsAtBootStage p (booting_device state) (S.world supervisor.old) (Listed R.list R.told R.asked runner.old) (R.living runner.old) →
+    requires placed { (p : SessionState) × AsTold R.Runner runner.old (IsAtBootStage p (booting_device state) (S.world supervisor.old)) }
+    ensures course { (p : SessionState) → AsTold R.Runner runner.old (IsAtBootStage p (booting_device state) (S.world supervisor.old)) →
         Course J.entries J.files D.may_leave D.moment D.left_since disk.old disk.new (R.list runner.old) (R.list runner.new) (K.held sink.old) (K.held sink.new) p result
-        (λ x h q. DrivenLeft x h q (S.world supervisor.new) (Listed R.list R.told R.asked runner.new) (R.living runner.new)) }
+        (λ x h q. AsTold R.Runner runner.new (DrivenLeft x h q (S.world supervisor.new))) }
     ensures none { OnErr result (R.living runner.new ≡ []) }
     ensures drives { IfOk result (λ x. Drives (S.world supervisor.new)) }
-    ensures held { IfOk result (λ x. OwnsDriven D.is_modelled D.may_leave J.stands J.end x disk.new) }
-    ensures others { IsTrue D.is_modelled → (name : List ℕ) → ¬ (J.files name) → D.seen disk.new name ≡ D.seen disk.old name }
+    ensures held { IfOk result (λ x. Holds D.Disk J.Journal OwnsDriven x disk.new) }
+    ensures others { KeepsOthers D.Disk J.Journal disk.old disk.new }
     ensures disk { IsErrOf result SessionFault.Disk → Rose (D.faults disk.old) (D.faults disk.new) }
     ensures edge { IsErrOf result SessionFault.Edge → Rose (K.faults sink.old) (K.faults sink.new) }
     ensures quiet_disk { ¬ (IsErrOf result SessionFault.Disk) → D.faults disk.new ≡ D.faults disk.old }
@@ -160,18 +160,18 @@ pub fn boot<D: Disk, J: Journal + Drop, K: Sink, R: Runner, S: Supervise>(
 ) -> Result<Driven<J>, SessionFault>
 where
     S::Ready: Drop,
-    requires held { OwnsBooting D.is_modelled D.may_leave J.stands J.end state disk.old }
+    requires held { Holds D.Disk J.Journal OwnsBooting state disk.old }
     requires ready { AreReadiedFor (booting_device state) ready.boots ready.backs (S.coming ready.items) (S.coming ready.earlier) }
     requires drives { Drives (S.world supervisor.old) }
     requires orderly { IsOrderly (S.world supervisor.old) }
-    requires placed { (p : SessionState) × IsAtBootStage p (booting_device state) (S.world supervisor.old) (Listed R.list R.told R.asked runner.old) (R.living runner.old) }
-    ensures course { (p : SessionState) → IsAtBootStage p (booting_device state) (S.world supervisor.old) (Listed R.list R.told R.asked runner.old) (R.living runner.old) →
+    requires placed { (p : SessionState) × AsTold R.Runner runner.old (IsAtBootStage p (booting_device state) (S.world supervisor.old)) }
+    ensures course { (p : SessionState) → AsTold R.Runner runner.old (IsAtBootStage p (booting_device state) (S.world supervisor.old)) →
         Course J.entries J.files D.may_leave D.moment D.left_since disk.old disk.new (R.list runner.old) (R.list runner.new) (K.held sink.old) (K.held sink.new) p result
-        (λ x h q. DrivenLeft x h q (S.world supervisor.new) (Listed R.list R.told R.asked runner.new) (R.living runner.new)) }
+        (λ x h q. AsTold R.Runner runner.new (DrivenLeft x h q (S.world supervisor.new))) }
     ensures none { OnErr result (R.living runner.new ≡ []) }
     ensures drives { IfOk result (λ x. Drives (S.world supervisor.new)) }
-    ensures held { IfOk result (λ x. OwnsDriven D.is_modelled D.may_leave J.stands J.end x disk.new) }
-    ensures others { IsTrue D.is_modelled → (name : List ℕ) → ¬ (J.files name) → D.seen disk.new name ≡ D.seen disk.old name }
+    ensures held { IfOk result (λ x. Holds D.Disk J.Journal OwnsDriven x disk.new) }
+    ensures others { KeepsOthers D.Disk J.Journal disk.old disk.new }
     ensures disk { IsErrOf result SessionFault.Disk → Rose (D.faults disk.old) (D.faults disk.new) }
     ensures edge { IsErrOf result SessionFault.Edge → Rose (K.faults sink.old) (K.faults sink.new) }
     ensures quiet_disk { ¬ (IsErrOf result SessionFault.Disk) → D.faults disk.new ≡ D.faults disk.old }

@@ -1,6 +1,6 @@
 //! The plan's items come up.
 ghost use Rattle.law_termination.specs.Drives.{Drives, Rises};
-ghost use Rattle.std.specs.Prelude.{◌≡◌, [], ℕ, List, IsTrue, IfOk, OnErr, IsErrOf, false};
+ghost use Rattle.std.specs.Prelude.{◌≡◌, [], IfOk, OnErr, IsErrOf, false};
 ghost use Rattle.nuc_base.specs.Faults.{Rose};
 ghost use Rattle.session_startup.specs.Runs.{IsAtTurnStart};
 ghost use Rattle.deploy_state.specs.States.{OwnsActivating, activating_device};
@@ -11,8 +11,8 @@ ghost use Rattle.histories.specs.Phases.{duty_of};
 ghost use Rattle.histories.specs.States.{SessionState};
 ghost use Rattle.histories.specs.Waits.{has_three};
 ghost use Rattle.session_transitions.specs.Enters.{AreReady};
-ghost use Rattle.step_runner.specs.Entries.{Listed};
 ghost use Rattle.law_supervisor.specs.Sound.{IsOrderly};
+ghost use Rattle.session_boots.specs.Stages.{AsTold, Holds, KeepsOthers};
 
 use crate::driven::Driven;
 use crate::failing::{fail_again, fail_items};
@@ -40,16 +40,16 @@ fn bring_up<D: Disk, J: Journal + Drop, K: Sink, R: Runner, S: Supervise>(
 where
     S::Ready: Drop,
     requires rises { Rises (S.world supervisor.old) }
-    requires held { OwnsActivating D.is_modelled D.may_leave J.stands J.end state disk.old }
+    requires held { Holds D.Disk J.Journal OwnsActivating state disk.old }
     requires ready { HasWayBack (activating_device state) backs.now (S.coming ready) }
-    requires placed { (p : SessionState) × IsAtTurnStart p (activating_device state) (S.world supervisor.old) (Listed R.list R.told R.asked runner.old) (R.living runner.old) }
-    ensures course { (p : SessionState) → IsAtTurnStart p (activating_device state) (S.world supervisor.old) (Listed R.list R.told R.asked runner.old) (R.living runner.old) →
+    requires placed { (p : SessionState) × AsTold R.Runner runner.old (IsAtTurnStart p (activating_device state) (S.world supervisor.old)) }
+    ensures course { (p : SessionState) → AsTold R.Runner runner.old (IsAtTurnStart p (activating_device state) (S.world supervisor.old)) →
         Course J.entries J.files D.may_leave D.moment D.left_since disk.old disk.new (R.list runner.old) (R.list runner.new) (K.held sink.old) (K.held sink.new) p result
-        (λ x h q. DrivenLeft x h q (S.world supervisor.new) (Listed R.list R.told R.asked runner.new) (R.living runner.new)) }
+        (λ x h q. AsTold R.Runner runner.new (DrivenLeft x h q (S.world supervisor.new))) }
     ensures none { OnErr result (R.living runner.new ≡ []) }
     ensures drives { IfOk result (λ x. Drives (S.world supervisor.new)) }
-    ensures held { IfOk result (λ x. OwnsDriven D.is_modelled D.may_leave J.stands J.end x disk.new) }
-    ensures others { IsTrue D.is_modelled → (name : List ℕ) → ¬ (J.files name) → D.seen disk.new name ≡ D.seen disk.old name }
+    ensures held { IfOk result (λ x. Holds D.Disk J.Journal OwnsDriven x disk.new) }
+    ensures others { KeepsOthers D.Disk J.Journal disk.old disk.new }
     ensures disk { IsErrOf result SessionFault.Disk → Rose (D.faults disk.old) (D.faults disk.new) }
     ensures edge { IsErrOf result SessionFault.Edge → Rose (K.faults sink.old) (K.faults sink.new) }
     ensures quiet_disk { ¬ (IsErrOf result SessionFault.Disk) → D.faults disk.new ≡ D.faults disk.old }
@@ -80,20 +80,20 @@ fn raise_plan<D: Disk, J: Journal + Drop, K: Sink, R: Runner, S: Supervise>(
 ) -> Result<Driven<J>, SessionFault>
 where
     S::Ready: Drop,
-    requires held { OwnsActivating D.is_modelled D.may_leave J.stands J.end state disk.old }
+    requires held { Holds D.Disk J.Journal OwnsActivating state disk.old }
     requires few { has_three (duty_of (activating_device state)).counts ≡ false }
     requires items { AreReady (activating_device state) (S.coming items) }
     requires ready { HasWayBack (activating_device state) backs.now (S.coming ready) }
     requires drives { Drives (S.world supervisor.old) }
     requires orderly { IsOrderly (S.world supervisor.old) }
-    requires placed { (p : SessionState) × IsAtBootStage p (activating_device state) (S.world supervisor.old) (Listed R.list R.told R.asked runner.old) (R.living runner.old) }
-    ensures course { (p : SessionState) → IsAtBootStage p (activating_device state) (S.world supervisor.old) (Listed R.list R.told R.asked runner.old) (R.living runner.old) →
+    requires placed { (p : SessionState) × AsTold R.Runner runner.old (IsAtBootStage p (activating_device state) (S.world supervisor.old)) }
+    ensures course { (p : SessionState) → AsTold R.Runner runner.old (IsAtBootStage p (activating_device state) (S.world supervisor.old)) →
         Course J.entries J.files D.may_leave D.moment D.left_since disk.old disk.new (R.list runner.old) (R.list runner.new) (K.held sink.old) (K.held sink.new) p result
-        (λ x h q. DrivenLeft x h q (S.world supervisor.new) (Listed R.list R.told R.asked runner.new) (R.living runner.new)) }
+        (λ x h q. AsTold R.Runner runner.new (DrivenLeft x h q (S.world supervisor.new))) }
     ensures none { OnErr result (R.living runner.new ≡ []) }
     ensures drives { IfOk result (λ x. Drives (S.world supervisor.new)) }
-    ensures held { IfOk result (λ x. OwnsDriven D.is_modelled D.may_leave J.stands J.end x disk.new) }
-    ensures others { IsTrue D.is_modelled → (name : List ℕ) → ¬ (J.files name) → D.seen disk.new name ≡ D.seen disk.old name }
+    ensures held { IfOk result (λ x. Holds D.Disk J.Journal OwnsDriven x disk.new) }
+    ensures others { KeepsOthers D.Disk J.Journal disk.old disk.new }
     ensures disk { IsErrOf result SessionFault.Disk → Rose (D.faults disk.old) (D.faults disk.new) }
     ensures edge { IsErrOf result SessionFault.Edge → Rose (K.faults sink.old) (K.faults sink.new) }
     ensures quiet_disk { ¬ (IsErrOf result SessionFault.Disk) → D.faults disk.new ≡ D.faults disk.old }
@@ -116,19 +116,19 @@ pub(crate) fn activate_on<D: Disk, J: Journal + Drop, K: Sink, R: Runner, S: Sup
 ) -> Result<Driven<J>, SessionFault>
 where
     S::Ready: Drop,
-    requires held { OwnsActivating D.is_modelled D.may_leave J.stands J.end state disk.old }
+    requires held { Holds D.Disk J.Journal OwnsActivating state disk.old }
     requires items { AreReady (activating_device state) (S.coming items) }
     requires ready { HasWayBack (activating_device state) backs.now (S.coming ready) }
     requires drives { Drives (S.world supervisor.old) }
     requires orderly { IsOrderly (S.world supervisor.old) }
-    requires placed { (p : SessionState) × IsAtBootStage p (activating_device state) (S.world supervisor.old) (Listed R.list R.told R.asked runner.old) (R.living runner.old) }
-    ensures course { (p : SessionState) → IsAtBootStage p (activating_device state) (S.world supervisor.old) (Listed R.list R.told R.asked runner.old) (R.living runner.old) →
+    requires placed { (p : SessionState) × AsTold R.Runner runner.old (IsAtBootStage p (activating_device state) (S.world supervisor.old)) }
+    ensures course { (p : SessionState) → AsTold R.Runner runner.old (IsAtBootStage p (activating_device state) (S.world supervisor.old)) →
         Course J.entries J.files D.may_leave D.moment D.left_since disk.old disk.new (R.list runner.old) (R.list runner.new) (K.held sink.old) (K.held sink.new) p result
-        (λ x h q. DrivenLeft x h q (S.world supervisor.new) (Listed R.list R.told R.asked runner.new) (R.living runner.new)) }
+        (λ x h q. AsTold R.Runner runner.new (DrivenLeft x h q (S.world supervisor.new))) }
     ensures none { OnErr result (R.living runner.new ≡ []) }
     ensures drives { IfOk result (λ x. Drives (S.world supervisor.new)) }
-    ensures held { IfOk result (λ x. OwnsDriven D.is_modelled D.may_leave J.stands J.end x disk.new) }
-    ensures others { IsTrue D.is_modelled → (name : List ℕ) → ¬ (J.files name) → D.seen disk.new name ≡ D.seen disk.old name }
+    ensures held { IfOk result (λ x. Holds D.Disk J.Journal OwnsDriven x disk.new) }
+    ensures others { KeepsOthers D.Disk J.Journal disk.old disk.new }
     ensures disk { IsErrOf result SessionFault.Disk → Rose (D.faults disk.old) (D.faults disk.new) }
     ensures edge { IsErrOf result SessionFault.Edge → Rose (K.faults sink.old) (K.faults sink.new) }
     ensures quiet_disk { ¬ (IsErrOf result SessionFault.Disk) → D.faults disk.new ≡ D.faults disk.old }

@@ -1,11 +1,11 @@
 // One act, and all that are due.
-ghost use Rattle.std.specs.Prelude.{◌≡◌, ◌<◌, ◌^◌, ℕ, List, true, false};
-ghost use Rattle.step_runner.specs.Entries.{Listed};
+ghost use Rattle.std.specs.Prelude.{◌≡◌, ◌<◌, ◌^◌, List, true, false};
 ghost use Rattle.histories.specs.TraceEvents.{TraceEvent};
 ghost use Rattle.histories.specs.States.{SessionState, state_after};
 ghost use Rattle.session_boots.specs.Traces.{Acts};
 ghost use Rattle.law_termination.specs.Drives.{Drives, Falls, NotAbove};
 ghost use Rattle.session_shutdown.specs.Runs.{ActLeft, IsInTurn};
+ghost use Rattle.session_boots.specs.Stages.{AsTold};
 
 use crate::laws::leaving_laws;
 use crate::starts::start_step;
@@ -16,11 +16,11 @@ use step_runner::Runner;
 fn act<R: Runner, S: Supervise>(runner: &mut R, supervisor: &mut S, now: u64) -> bool
     requires now { (R.told runner.old ≡ now) × (now < 2 ^ 62) }
     requires drives { Drives (S.world supervisor.old) }
-    requires placed { (p : SessionState) × IsInTurn p (S.world supervisor.old) (Listed R.list R.told R.asked runner.old) (R.living runner.old) }
+    requires placed { (p : SessionState) × AsTold R.Runner runner.old (IsInTurn p (S.world supervisor.old)) }
     ensures now { R.told runner.new ≡ now }
-    ensures trace { (p : SessionState) → IsInTurn p (S.world supervisor.old) (Listed R.list R.told R.asked runner.old) (R.living runner.old) →
+    ensures trace { (p : SessionState) → AsTold R.Runner runner.old (IsInTurn p (S.world supervisor.old)) →
         (h : List TraceEvent) × Acts p h (R.list runner.old) (R.list runner.new)
-        × ActLeft (state_after p h) result (S.world supervisor.new) (Listed R.list R.told R.asked runner.new) (R.living runner.new) }
+        × AsTold R.Runner runner.new (ActLeft (state_after p h) result (S.world supervisor.new)) }
     ensures not_above { NotAbove (S.world supervisor.old) (S.world supervisor.new) }
     ensures falls { result ≡ false → Falls (S.world supervisor.old) (S.world supervisor.new) }
 {
@@ -46,11 +46,11 @@ fn act<R: Runner, S: Supervise>(runner: &mut R, supervisor: &mut S, now: u64) ->
 pub(crate) fn take_acts<R: Runner, S: Supervise>(runner: &mut R, supervisor: &mut S, now: u64)
     requires now { (R.told runner.old ≡ now) × (now < 2 ^ 62) }
     requires drives { Drives (S.world supervisor.old) }
-    requires placed { (p : SessionState) × IsInTurn p (S.world supervisor.old) (Listed R.list R.told R.asked runner.old) (R.living runner.old) }
+    requires placed { (p : SessionState) × AsTold R.Runner runner.old (IsInTurn p (S.world supervisor.old)) }
     ensures now { R.told runner.new ≡ now }
-    ensures trace { (p : SessionState) → IsInTurn p (S.world supervisor.old) (Listed R.list R.told R.asked runner.old) (R.living runner.old) →
+    ensures trace { (p : SessionState) → AsTold R.Runner runner.old (IsInTurn p (S.world supervisor.old)) →
         (h : List TraceEvent) × Acts p h (R.list runner.old) (R.list runner.new)
-        × ActLeft (state_after p h) true (S.world supervisor.new) (Listed R.list R.told R.asked runner.new) (R.living runner.new) }
+        × AsTold R.Runner runner.new (ActLeft (state_after p h) true (S.world supervisor.new)) }
     ensures not_above { NotAbove (S.world supervisor.old) (S.world supervisor.new) }
 {
     'acts: loop {

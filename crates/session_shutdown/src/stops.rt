@@ -1,13 +1,13 @@
 // All components are stopped.
-ghost use Rattle.std.specs.Prelude.{◌≡◌, ℕ, List};
+ghost use Rattle.std.specs.Prelude.{List};
 ghost use Rattle.device.specs.Devices.{Device};
-ghost use Rattle.step_runner.specs.Entries.{Listed};
 ghost use Rattle.histories.specs.TraceEvents.{TraceEvent};
 ghost use Rattle.histories.specs.States.{SessionState, state_after};
 ghost use Rattle.session_boots.specs.Traces.{Acts};
 ghost use Rattle.law_termination.specs.Drives.{Drives};
 ghost use Rattle.session_shutdown.specs.Runs.{IsAtTurnStart};
 ghost use Rattle.session_shutdown.specs.Stops.{HasStopped, MayStop};
+ghost use Rattle.session_boots.specs.Stages.{AsTold};
 
 use crate::laws::{leaving_laws, stops_leave};
 use crate::turns::turn;
@@ -17,10 +17,10 @@ use step_runner::Runner;
 /// Takes turns until none stands.
 fn stop_on<R: Runner, S: Supervise>(runner: &mut R, supervisor: &mut S)
     requires drives { Drives (S.world supervisor.old) }
-    requires placed { (p : SessionState) × (d : Device) × IsAtTurnStart p d (S.world supervisor.old) (Listed R.list R.told R.asked runner.old) (R.living runner.old) }
-    ensures trace { (p : SessionState) → (d : Device) → IsAtTurnStart p d (S.world supervisor.old) (Listed R.list R.told R.asked runner.old) (R.living runner.old) →
+    requires placed { (p : SessionState) × (d : Device) × AsTold R.Runner runner.old (IsAtTurnStart p d (S.world supervisor.old)) }
+    ensures trace { (p : SessionState) → (d : Device) → AsTold R.Runner runner.old (IsAtTurnStart p d (S.world supervisor.old)) →
         (h : List TraceEvent) × Acts p h (R.list runner.old) (R.list runner.new)
-        × HasStopped (state_after p h) d (S.world supervisor.new) (Listed R.list R.told R.asked runner.new) (R.living runner.new) }
+        × AsTold R.Runner runner.new (HasStopped (state_after p h) d (S.world supervisor.new)) }
     ensures drives { Drives (S.world supervisor.new) }
 {
     'turns: loop {
@@ -34,10 +34,10 @@ fn stop_on<R: Runner, S: Supervise>(runner: &mut R, supervisor: &mut S)
 /// it: nothing is recorded.
 pub fn stop_all_components<R: Runner, S: Supervise>(runner: &mut R, supervisor: &mut S)
     requires drives { Drives (S.world supervisor.old) }
-    requires placed { (p : SessionState) × (d : Device) × MayStop p d (S.world supervisor.old) (Listed R.list R.told R.asked runner.old) (R.living runner.old) }
-    ensures trace { (p : SessionState) → (d : Device) → MayStop p d (S.world supervisor.old) (Listed R.list R.told R.asked runner.old) (R.living runner.old) →
+    requires placed { (p : SessionState) × (d : Device) × AsTold R.Runner runner.old (MayStop p d (S.world supervisor.old)) }
+    ensures trace { (p : SessionState) → (d : Device) → AsTold R.Runner runner.old (MayStop p d (S.world supervisor.old)) →
         (h : List TraceEvent) × Acts p h (R.list runner.old) (R.list runner.new)
-        × HasStopped (state_after p h) d (S.world supervisor.new) (Listed R.list R.told R.asked runner.new) (R.living runner.new) }
+        × AsTold R.Runner runner.new (HasStopped (state_after p h) d (S.world supervisor.new)) }
     ensures drives { Drives (S.world supervisor.new) }
 {
     leaving_laws();

@@ -1,7 +1,6 @@
 // One turn of the stop of all.
-ghost use Rattle.std.specs.Prelude.{◌≡◌, ◌<◌, ℕ, List, false};
+ghost use Rattle.std.specs.Prelude.{◌≡◌, ◌<◌, List, false};
 ghost use Rattle.device.specs.Devices.{Device};
-ghost use Rattle.step_runner.specs.Entries.{Listed};
 ghost use Rattle.histories.specs.TraceEvents.{TraceEvent};
 ghost use Rattle.histories.specs.States.{SessionState, state_after};
 ghost use Rattle.session_boots.specs.Traces.{Acts};
@@ -10,6 +9,7 @@ ghost use Rattle.law_termination.specs.Rank.{measure};
 ghost use Rattle.law_termination.specs.Drives.{Drives};
 ghost use Rattle.session_shutdown.specs.Runs.{IsAtTurnStart};
 ghost use Rattle.session_shutdown.specs.Stops.{TurnLeft};
+ghost use Rattle.session_boots.specs.Stages.{AsTold};
 
 use crate::acts::take_acts;
 use crate::starts::pass;
@@ -21,10 +21,10 @@ use step_runner::Runner;
 /// none stands.
 pub(crate) fn turn<R: Runner, S: Supervise>(runner: &mut R, supervisor: &mut S) -> bool
     requires drives { Drives (S.world supervisor.old) }
-    requires placed { (p : SessionState) × (d : Device) × IsAtTurnStart p d (S.world supervisor.old) (Listed R.list R.told R.asked runner.old) (R.living runner.old) }
-    ensures trace { (p : SessionState) → (d : Device) → IsAtTurnStart p d (S.world supervisor.old) (Listed R.list R.told R.asked runner.old) (R.living runner.old) →
+    requires placed { (p : SessionState) × (d : Device) × AsTold R.Runner runner.old (IsAtTurnStart p d (S.world supervisor.old)) }
+    ensures trace { (p : SessionState) → (d : Device) → AsTold R.Runner runner.old (IsAtTurnStart p d (S.world supervisor.old)) →
         (h : List TraceEvent) × Acts p h (R.list runner.old) (R.list runner.new)
-        × TurnLeft result (state_after p h) d (S.world supervisor.new) (Listed R.list R.told R.asked runner.new) (R.living runner.new) }
+        × AsTold R.Runner runner.new (TurnLeft result (state_after p h) d (S.world supervisor.new)) }
     ensures drives { Drives (S.world supervisor.new) }
     ensures falls { result ≡ false → measure (later (R.clock runner.new) (S.world supervisor.new)) < measure (later (R.clock runner.old) (S.world supervisor.old)) }
 {

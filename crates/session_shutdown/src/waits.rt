@@ -1,7 +1,6 @@
 // One wait.
-ghost use Rattle.std.specs.Prelude.{◌≡◌, ◌⊎◌, ◌<◌, ◌+◌, ◌^◌, ℕ, List};
+ghost use Rattle.std.specs.Prelude.{◌≡◌, ◌⊎◌, ◌<◌, ◌+◌, ◌^◌, List};
 ghost use Rattle.device.specs.Devices.{Device};
-ghost use Rattle.step_runner.specs.Entries.{Listed};
 ghost use Rattle.histories.specs.TraceEvents.{TraceEvent};
 ghost use Rattle.histories.specs.States.{SessionState, state_after};
 ghost use Rattle.session_boots.specs.Traces.{Acts};
@@ -10,6 +9,7 @@ ghost use Rattle.law_termination.specs.Rank.{rank};
 ghost use Rattle.law_termination.specs.Time.{HasTime};
 ghost use Rattle.law_termination.specs.Drives.{Drives, NotAbove};
 ghost use Rattle.session_shutdown.specs.Runs.{IsAtTurnStart, IsReadyToWait};
+ghost use Rattle.session_boots.specs.Stages.{AsTold};
 
 use crate::laws::leaving_laws;
 use components::{Event, Supervise};
@@ -21,10 +21,10 @@ pub(crate) fn wait_once<R: Runner, S: Supervise>(runner: &mut R, supervisor: &mu
     requires now { (R.told runner.old ≡ now) × (now < 2 ^ 62) }
     requires drives { Drives (S.world supervisor.old) × IsFalling (S.world supervisor.old) }
     requires time { HasTime (S.world supervisor.old) × ((S.world supervisor.old).moment + 1 < 2 ^ 62) }
-    requires placed { (p : SessionState) × IsReadyToWait p (S.world supervisor.old) (Listed R.list R.told R.asked runner.old) (R.living runner.old) }
-    ensures trace { (p : SessionState) → (d : Device) → p.device ≡ d → IsReadyToWait p (S.world supervisor.old) (Listed R.list R.told R.asked runner.old) (R.living runner.old) →
+    requires placed { (p : SessionState) × AsTold R.Runner runner.old (IsReadyToWait p (S.world supervisor.old)) }
+    ensures trace { (p : SessionState) → (d : Device) → p.device ≡ d → AsTold R.Runner runner.old (IsReadyToWait p (S.world supervisor.old)) →
         (h : List TraceEvent) × Acts p h (R.list runner.old) (R.list runner.new)
-        × IsAtTurnStart (state_after p h) d (S.world supervisor.new) (Listed R.list R.told R.asked runner.new) (R.living runner.new) }
+        × AsTold R.Runner runner.new (IsAtTurnStart (state_after p h) d (S.world supervisor.new)) }
     // A child ends, or time goes on.
     ensures not_above { NotAbove (S.world supervisor.old) (S.world supervisor.new) }
     ensures goes_on { (rank (S.world supervisor.new) < rank (S.world supervisor.old)) ⊎ (now < R.clock runner.new) }

@@ -1,6 +1,5 @@
 // One act.
-ghost use Rattle.std.specs.Prelude.{◌≡◌, ◌<◌, ◌^◌, ℕ, List};
-ghost use Rattle.step_runner.specs.Entries.{Listed};
+ghost use Rattle.std.specs.Prelude.{◌≡◌, ◌<◌, ◌^◌, List};
 ghost use Rattle.histories.specs.TraceEvents.{TraceEvent};
 ghost use Rattle.histories.specs.States.{SessionState, state_after};
 ghost use Rattle.session_boots.specs.Traces.{Acts};
@@ -8,6 +7,7 @@ ghost use Rattle.law_termination.specs.Drives.{Drives, Falls, NotAbove};
 ghost use Rattle.session_startup.specs.Did.{DidLeave};
 ghost use Rattle.session_startup.specs.declared.acts.Did.TheVariants as did;
 ghost use Rattle.session_startup.specs.Runs.{IsInTurn};
+ghost use Rattle.session_boots.specs.Stages.{AsTold};
 
 use crate::laws::driving_laws;
 use crate::starts::start_step;
@@ -29,11 +29,11 @@ pub(crate) enum Did {
 pub(crate) fn act<R: Runner, S: Supervise>(runner: &mut R, supervisor: &mut S, now: u64) -> Did
     requires now { (R.told runner.old ≡ now) × (now < 2 ^ 62) }
     requires drives { Drives (S.world supervisor.old) }
-    requires placed { (p : SessionState) × IsInTurn p (S.world supervisor.old) (Listed R.list R.told R.asked runner.old) (R.living runner.old) }
+    requires placed { (p : SessionState) × AsTold R.Runner runner.old (IsInTurn p (S.world supervisor.old)) }
     ensures now { R.told runner.new ≡ now }
-    ensures trace { (p : SessionState) → IsInTurn p (S.world supervisor.old) (Listed R.list R.told R.asked runner.old) (R.living runner.old) →
+    ensures trace { (p : SessionState) → AsTold R.Runner runner.old (IsInTurn p (S.world supervisor.old)) →
         (h : List TraceEvent) × Acts p h (R.list runner.old) (R.list runner.new)
-        × DidLeave result (state_after p h) (S.world supervisor.new) (Listed R.list R.told R.asked runner.new) (R.living runner.new) }
+        × AsTold R.Runner runner.new (DidLeave result (state_after p h) (S.world supervisor.new)) }
     ensures not_above { NotAbove (S.world supervisor.old) (S.world supervisor.new) }
     ensures falls { ¬ (result ≡ did.Nothing) → Falls (S.world supervisor.old) (S.world supervisor.new) }
 {

@@ -1,18 +1,17 @@
 // The closes of both stages.
-ghost use Rattle.std.specs.Prelude.{◌≡◌, ◌≤◌, ℕ, Bool, List, true, false, IsTrue, IfOk, IsErrOf, OnErr, if◌then◌else◌};
+ghost use Rattle.std.specs.Prelude.{◌≡◌, ◌≤◌, ℕ, Bool, List, true, false, IfOk, IsErrOf, OnErr, if◌then◌else◌};
 ghost use Rattle.nuc_base.specs.Faults.{Rose};
 ghost use Rattle.nuc_base.specs.declared.kinds.Outcome.TheVariants as outcomes;
-ghost use Rattle.deploy_state.specs.Fields.{rolled_outcome};
 ghost use Rattle.deploy_state.specs.States.{OwnsActivating, OwnsIdle, OwnsRolling, activating_device, idle_device, rolling_device};
 ghost use Rattle.step_runner.specs.Entries.{Told};
 ghost use Rattle.components.specs.Components.{is_settled};
 ghost use Rattle.histories.specs.TraceEvents.{TraceEvent, records_of};
 ghost use Rattle.histories.specs.States.{SessionState, state_after};
-ghost use Rattle.session_boots.specs.Ends.{Left, Lines};
-ghost use Rattle.session_boots.specs.Traces.{IsTrace};
+ghost use Rattle.session_boots.specs.Ends.{Lines};
 ghost use Rattle.law_termination.specs.Drives.{Drives};
 ghost use Rattle.session_startup.specs.Ended.{HasClosed};
 ghost use Rattle.session_startup.specs.Runs.{MayAbort, HasNoActLeft};
+ghost use Rattle.session_boots.specs.Stages.{Holds, IsTraceOver, KeepsOthers, LeftOver};
 
 use crate::lines::tell_close;
 use components::Supervise;
@@ -29,17 +28,17 @@ pub(crate) fn close_plan<D: Disk, J: Journal + Drop, K: Sink, S: Supervise>(
     sink: &mut K,
     supervisor: &mut S,
 ) -> Result<Idle<J>, SessionFault>
-    requires held { OwnsActivating D.is_modelled D.may_leave J.stands J.end state disk.old }
+    requires held { Holds D.Disk J.Journal OwnsActivating state disk.old }
     requires drives { Drives (S.world supervisor.old) }
     requires placed { (p : SessionState) × (told : Told) × (living : List ℕ) × HasNoActLeft p (activating_device state) false (S.world supervisor.old) told living × (is_settled p.world ≡ true) }
     ensures trace { (p : SessionState) → (told : Told) → (living : List ℕ) → HasNoActLeft p (activating_device state) false (S.world supervisor.old) told living → (is_settled p.world ≡ true) →
-        (h : List TraceEvent) × IsTrace J.entries J.files D.may_leave D.moment D.left_since disk.old disk.new told.list told.list p h
+        (h : List TraceEvent) × IsTraceOver D.Disk J.Journal disk.old disk.new told.list told.list p h
         × Lines (K.held sink.old) (K.held sink.new) p.device (records_of h) result
-        × Left J.entries D.may_leave disk.new p h (λ s q. HasClosed outcomes.Successful (records_of h) q (idle_device s) (S.world supervisor.new) told living) result
+        × LeftOver D.Disk J.Journal disk.new p h (λ s q. HasClosed outcomes.Successful (records_of h) q (idle_device s) (S.world supervisor.new) told living) result
         × OnErr result (MayAbort (state_after p h) (S.world supervisor.new) told living) }
     ensures drives { Drives (S.world supervisor.new) }
-    ensures held { IfOk result (λ s. OwnsIdle D.is_modelled D.may_leave J.stands J.end s disk.new) }
-    ensures others { IsTrue D.is_modelled → (name : List ℕ) → ¬ (J.files name) → D.seen disk.new name ≡ D.seen disk.old name }
+    ensures held { IfOk result (λ s. Holds D.Disk J.Journal OwnsIdle s disk.new) }
+    ensures others { KeepsOthers D.Disk J.Journal disk.old disk.new }
     ensures disk { IsErrOf result SessionFault.Disk → Rose (D.faults disk.old) (D.faults disk.new) }
     ensures edge { IsErrOf result SessionFault.Edge → Rose (K.faults sink.old) (K.faults sink.new) }
     ensures quiet_disk { ¬ (IsErrOf result SessionFault.Disk) → D.faults disk.new ≡ D.faults disk.old }
@@ -68,17 +67,17 @@ pub(crate) fn close_set<D: Disk, J: Journal + Drop, K: Sink, S: Supervise>(
     sink: &mut K,
     supervisor: &mut S,
 ) -> Result<Idle<J>, SessionFault>
-    requires held { OwnsRolling D.is_modelled D.may_leave J.stands J.end state disk.old }
+    requires held { Holds D.Disk J.Journal OwnsRolling state disk.old }
     requires drives { Drives (S.world supervisor.old) }
     requires placed { (p : SessionState) × (told : Told) × (living : List ℕ) × (broken : Bool) × HasNoActLeft p (rolling_device state) broken (S.world supervisor.old) told living × (broken ≡ false → is_settled p.world ≡ true) }
     ensures trace { (p : SessionState) → (told : Told) → (living : List ℕ) → (broken : Bool) → HasNoActLeft p (rolling_device state) broken (S.world supervisor.old) told living → (broken ≡ false → is_settled p.world ≡ true) →
-        (h : List TraceEvent) × IsTrace J.entries J.files D.may_leave D.moment D.left_since disk.old disk.new told.list told.list p h
+        (h : List TraceEvent) × IsTraceOver D.Disk J.Journal disk.old disk.new told.list told.list p h
         × Lines (K.held sink.old) (K.held sink.new) p.device (records_of h) result
-        × Left J.entries D.may_leave disk.new p h (λ s q. HasClosed (if broken then outcomes.UnableToRollback else outcomes.RollbackComplete) (records_of h) q (idle_device s) (S.world supervisor.new) told living) result
+        × LeftOver D.Disk J.Journal disk.new p h (λ s q. HasClosed (if broken then outcomes.UnableToRollback else outcomes.RollbackComplete) (records_of h) q (idle_device s) (S.world supervisor.new) told living) result
         × OnErr result (MayAbort (state_after p h) (S.world supervisor.new) told living) }
     ensures drives { Drives (S.world supervisor.new) }
-    ensures held { IfOk result (λ s. OwnsIdle D.is_modelled D.may_leave J.stands J.end s disk.new) }
-    ensures others { IsTrue D.is_modelled → (name : List ℕ) → ¬ (J.files name) → D.seen disk.new name ≡ D.seen disk.old name }
+    ensures held { IfOk result (λ s. Holds D.Disk J.Journal OwnsIdle s disk.new) }
+    ensures others { KeepsOthers D.Disk J.Journal disk.old disk.new }
     ensures disk { IsErrOf result SessionFault.Disk → Rose (D.faults disk.old) (D.faults disk.new) }
     ensures edge { IsErrOf result SessionFault.Edge → Rose (K.faults sink.old) (K.faults sink.new) }
     ensures quiet_disk { ¬ (IsErrOf result SessionFault.Disk) → D.faults disk.new ≡ D.faults disk.old }

@@ -1,5 +1,5 @@
 // The two stages in which items come up, as one.
-ghost use Rattle.std.specs.Prelude.{◌≡◌, ℕ, List, true, false, IsTrue, OnOk, IfOk};
+ghost use Rattle.std.specs.Prelude.{◌≡◌, true, false, OnOk, IfOk};
 ghost use Rattle.nuc_base.specs.Faults.{HasCause};
 ghost use Rattle.disk_model.specs.Disk.{Leaves};
 ghost use Rattle.records.specs.Stored.{StepFailed};
@@ -9,6 +9,7 @@ ghost use Rattle.deploy_state.specs.Owned.{LeavesEither};
 ghost use Rattle.histories.specs.Phases.{duty_of};
 ghost use Rattle.histories.specs.Waits.{has_three};
 ghost use Rattle.session_startup.specs.Coming.{OwnsComing, coming_device, is_plan};
+ghost use Rattle.session_boots.specs.Stages.{Holds, KeepsOthers};
 
 use deploy_state::{Activating, Rolling, Stopped};
 use device::Device;
@@ -53,13 +54,13 @@ impl<J: Journal + Drop> Coming<J> {
         step: Step,
         exit: Exit,
     ) -> Result<Coming<J>, Stopped<J>>
-        requires held { OwnsComing D.is_modelled D.may_leave J.stands J.end self disk.old }
+        requires held { Holds D.Disk J.Journal OwnsComing self disk.old }
         requires may { Allowed (coming_device self) (StepFailed name.now step exit) }
         ensures moments { Leaves D.moment D.left_since disk.old disk.new (LeavesEither D.may_leave J.files J.entries disk.old (coming_device self) (applied (coming_device self) (StepFailed name.now step exit))) }
         ensures taken { IfOk result (λ s. coming_device s ≡ applied (coming_device self) (StepFailed name.now step exit)) }
-        ensures held { IfOk result (λ s. OwnsComing D.is_modelled D.may_leave J.stands J.end s disk.new) }
+        ensures held { IfOk result (λ s. Holds D.Disk J.Journal OwnsComing s disk.new) }
         ensures same { IfOk result (λ s. is_plan s ≡ is_plan self) }
-        ensures others { IsTrue D.is_modelled → (name : List ℕ) → ¬ (J.files name) → D.seen disk.new name ≡ D.seen disk.old name }
+        ensures others { KeepsOthers D.Disk J.Journal disk.old disk.new }
         ensures cause { HasCause (D.faults disk.old) (D.faults disk.new) result }
         ensures quiet { OnOk result (D.faults disk.new ≡ D.faults disk.old) }
     {

@@ -1,5 +1,5 @@
 // The record of a failure, and its line.
-ghost use Rattle.std.specs.Prelude.{◌≡◌, ◌≤◌, ℕ, List, IsTrue, IfOk, IsErrOf, OnErr, OnOk, IsSome};
+ghost use Rattle.std.specs.Prelude.{◌≡◌, ◌≤◌, ℕ, List, IfOk, IsErrOf, OnErr, OnOk, IsSome};
 ghost use Rattle.nuc_base.specs.Faults.{HasCause, Rose};
 ghost use Rattle.edges.specs.Pieces.{Writes};
 ghost use Rattle.records.specs.Stored.{StepFailed};
@@ -7,11 +7,11 @@ ghost use Rattle.step_runner.specs.Entries.{Told};
 ghost use Rattle.histories.specs.TraceEvents.{TraceEvent, records_of};
 ghost use Rattle.histories.specs.States.{SessionState, state_after};
 ghost use Rattle.session_boots.specs.Lines.{line_of};
-ghost use Rattle.session_boots.specs.Ends.{Left, Lines};
+ghost use Rattle.session_boots.specs.Ends.{Lines};
 ghost use Rattle.session_boots.specs.Same.{IsSameDeployment};
-ghost use Rattle.session_boots.specs.Traces.{IsTrace};
 ghost use Rattle.session_startup.specs.Coming.{OwnsComing, coming_device, is_plan};
 ghost use Rattle.session_startup.specs.Runs.{HasFailed, MayAbort, IsInTurn};
+ghost use Rattle.session_boots.specs.Stages.{Holds, IsTraceOver, KeepsOthers, LeftOver};
 
 use crate::coming::Coming;
 use crate::laws::driving_laws;
@@ -52,17 +52,17 @@ pub(crate) fn note_failure<D: Disk, J: Journal + Drop, K: Sink, S: Supervise>(
     step: Step,
     exit: Exit,
 ) -> Result<Coming<J>, SessionFault>
-    requires held { OwnsComing D.is_modelled D.may_leave J.stands J.end state disk.old }
+    requires held { Holds D.Disk J.Journal OwnsComing state disk.old }
     requires placed { (p : SessionState) × (told : Told) × (living : List ℕ) × HasFailed p who step exit (S.world supervisor.now) told living × (p.device ≡ coming_device state) }
     ensures trace { (p : SessionState) → (told : Told) → (living : List ℕ) → HasFailed p who step exit (S.world supervisor.now) told living → (p.device ≡ coming_device state) →
-        (h : List TraceEvent) × IsTrace J.entries J.files D.may_leave D.moment D.left_since disk.old disk.new told.list told.list p h
+        (h : List TraceEvent) × IsTraceOver D.Disk J.Journal disk.old disk.new told.list told.list p h
         × Lines (K.held sink.old) (K.held sink.new) p.device (records_of h) result
-        × Left J.entries D.may_leave disk.new p h (λ s q. IsInTurn q (S.world supervisor.now) told living × (q.device ≡ coming_device s)) result
+        × LeftOver D.Disk J.Journal disk.new p h (λ s q. IsInTurn q (S.world supervisor.now) told living × (q.device ≡ coming_device s)) result
         × OnErr result (MayAbort (state_after p h) (S.world supervisor.now) told living) }
-    ensures held { IfOk result (λ s. OwnsComing D.is_modelled D.may_leave J.stands J.end s disk.new) }
+    ensures held { IfOk result (λ s. Holds D.Disk J.Journal OwnsComing s disk.new) }
     ensures same { IfOk result (λ s. is_plan s ≡ is_plan state) }
     ensures deployment { IfOk result (λ s. IsSameDeployment (coming_device state) (coming_device s)) }
-    ensures others { IsTrue D.is_modelled → (name : List ℕ) → ¬ (J.files name) → D.seen disk.new name ≡ D.seen disk.old name }
+    ensures others { KeepsOthers D.Disk J.Journal disk.old disk.new }
     ensures disk { IsErrOf result SessionFault.Disk → Rose (D.faults disk.old) (D.faults disk.new) }
     ensures edge { IsErrOf result SessionFault.Edge → Rose (K.faults sink.old) (K.faults sink.new) }
     ensures quiet_disk { ¬ (IsErrOf result SessionFault.Disk) → D.faults disk.new ≡ D.faults disk.old }

@@ -1,15 +1,13 @@
 // The items of the set are brought up again.
-ghost use Rattle.std.specs.Prelude.{◌≡◌, ℕ, List, IsTrue, IfOk, OnErr, IsErrOf};
+ghost use Rattle.std.specs.Prelude.{◌≡◌, IfOk, IsErrOf};
 ghost use Rattle.nuc_base.specs.Faults.{Rose};
 ghost use Rattle.deploy_state.specs.States.{OwnsIdle, OwnsRolling, idle_device, rolling_device};
-ghost use Rattle.step_runner.specs.Entries.{Listed};
-ghost use Rattle.histories.specs.TraceEvents.{TraceEvent, records_of};
-ghost use Rattle.histories.specs.States.{SessionState, state_after};
-ghost use Rattle.session_boots.specs.Ends.{Left, Lines};
-ghost use Rattle.session_boots.specs.Traces.{IsTrace};
+ghost use Rattle.histories.specs.TraceEvents.{records_of};
+ghost use Rattle.histories.specs.States.{SessionState};
 ghost use Rattle.law_termination.specs.Drives.{Drives, Rises};
 ghost use Rattle.session_startup.specs.Ended.{HasClosed};
 ghost use Rattle.session_startup.specs.Runs.{IsAtTurnStart, MayAbort};
+ghost use Rattle.session_boots.specs.Stages.{AsTold, HasTrace, Holds, KeepsOthers};
 
 use crate::closing::close_set;
 use crate::coming::Coming;
@@ -33,17 +31,16 @@ pub fn roll<D: Disk, J: Journal + Drop, K: Sink, R: Runner, S: Supervise>(
     runner: &mut R,
     supervisor: &mut S,
 ) -> Result<(Idle<J>, Outcome), SessionFault>
-    requires held { OwnsRolling D.is_modelled D.may_leave J.stands J.end state disk.old }
+    requires held { Holds D.Disk J.Journal OwnsRolling state disk.old }
     requires rises { Rises (S.world supervisor.old) }
-    requires placed { (p : SessionState) × IsAtTurnStart p (rolling_device state) (S.world supervisor.old) (Listed R.list R.told R.asked runner.old) (R.living runner.old) }
-    ensures trace { (p : SessionState) → IsAtTurnStart p (rolling_device state) (S.world supervisor.old) (Listed R.list R.told R.asked runner.old) (R.living runner.old) →
-        (h : List TraceEvent) × IsTrace J.entries J.files D.may_leave D.moment D.left_since disk.old disk.new (R.list runner.old) (R.list runner.new) p h
-        × Lines (K.held sink.old) (K.held sink.new) p.device (records_of h) result
-        × Left J.entries D.may_leave disk.new p h (λ x q. HasClosed x.1 (records_of h) q (idle_device x.0) (S.world supervisor.new) (Listed R.list R.told R.asked runner.new) (R.living runner.new)) result
-        × OnErr result (MayAbort (state_after p h) (S.world supervisor.new) (Listed R.list R.told R.asked runner.new) (R.living runner.new)) }
+    requires placed { (p : SessionState) × AsTold R.Runner runner.old (IsAtTurnStart p (rolling_device state) (S.world supervisor.old)) }
+    ensures trace { (p : SessionState) → AsTold R.Runner runner.old (IsAtTurnStart p (rolling_device state) (S.world supervisor.old)) →
+        HasTrace D.Disk J.Journal K.Sink R.Runner disk.old disk.new sink.old sink.new runner.old runner.new p
+        (λ x h q. AsTold R.Runner runner.new (HasClosed x.1 (records_of h) q (idle_device x.0) (S.world supervisor.new)))
+        (λ q. AsTold R.Runner runner.new (MayAbort q (S.world supervisor.new))) result }
     ensures drives { Drives (S.world supervisor.new) }
-    ensures held { IfOk result (λ x. OwnsIdle D.is_modelled D.may_leave J.stands J.end x.0 disk.new) }
-    ensures others { IsTrue D.is_modelled → (name : List ℕ) → ¬ (J.files name) → D.seen disk.new name ≡ D.seen disk.old name }
+    ensures held { IfOk result (λ x. Holds D.Disk J.Journal OwnsIdle x.0 disk.new) }
+    ensures others { KeepsOthers D.Disk J.Journal disk.old disk.new }
     ensures disk { IsErrOf result SessionFault.Disk → Rose (D.faults disk.old) (D.faults disk.new) }
     ensures edge { IsErrOf result SessionFault.Edge → Rose (K.faults sink.old) (K.faults sink.new) }
     ensures quiet_disk { ¬ (IsErrOf result SessionFault.Disk) → D.faults disk.new ≡ D.faults disk.old }

@@ -1,7 +1,6 @@
 // The moment, and the start of one step.
-ghost use Rattle.std.specs.Prelude.{◌≡◌, ◌≤◌, ◌<◌, ◌^◌, ℕ, List, true, false};
+ghost use Rattle.std.specs.Prelude.{◌≡◌, ◌≤◌, ◌<◌, ◌^◌, List, true, false};
 ghost use Rattle.device.specs.Devices.{Device};
-ghost use Rattle.step_runner.specs.Entries.{Listed};
 ghost use Rattle.components.specs.Events.{skipped};
 ghost use Rattle.histories.specs.TraceEvents.{TraceEvent};
 ghost use Rattle.histories.specs.States.{SessionState, state_after};
@@ -9,6 +8,7 @@ ghost use Rattle.session_boots.specs.Traces.{Acts};
 ghost use Rattle.law_termination.specs.Kept.{IsFalling};
 ghost use Rattle.law_termination.specs.Drives.{Drives, Falls, NotAbove};
 ghost use Rattle.session_startup.specs.Runs.{IsAtTurnStart, IsStarting, MayLaunch, IsInTurn};
+ghost use Rattle.session_boots.specs.Stages.{AsTold};
 
 use crate::laws::driving_laws;
 use components::{Event, Supervise};
@@ -19,11 +19,11 @@ use step_runner::Runner;
 /// Asks for the moment and tells it.
 pub(crate) fn pass<R: Runner, S: Supervise>(runner: &mut R, supervisor: &mut S) -> u64
     requires drives { Drives (S.world supervisor.old) }
-    requires placed { (p : SessionState) × (d : Device) × IsAtTurnStart p d (S.world supervisor.old) (Listed R.list R.told R.asked runner.old) (R.living runner.old) }
+    requires placed { (p : SessionState) × (d : Device) × AsTold R.Runner runner.old (IsAtTurnStart p d (S.world supervisor.old)) }
     ensures now { (R.told runner.new ≡ result) × (result < 2 ^ 62) }
-    ensures trace { (p : SessionState) → (d : Device) → IsAtTurnStart p d (S.world supervisor.old) (Listed R.list R.told R.asked runner.old) (R.living runner.old) →
+    ensures trace { (p : SessionState) → (d : Device) → AsTold R.Runner runner.old (IsAtTurnStart p d (S.world supervisor.old)) →
         (h : List TraceEvent) × Acts p h (R.list runner.old) (R.list runner.new)
-        × IsInTurn (state_after p h) (S.world supervisor.new) (Listed R.list R.told R.asked runner.new) (R.living runner.new) }
+        × AsTold R.Runner runner.new (IsInTurn (state_after p h) (S.world supervisor.new)) }
     ensures not_above { NotAbove (S.world supervisor.old) (S.world supervisor.new) }
     ensures clock { R.clock runner.old ≤ result }
 {
@@ -35,13 +35,13 @@ pub(crate) fn pass<R: Runner, S: Supervise>(runner: &mut R, supervisor: &mut S) 
 
 /// Whether the step is to be skipped that is to be started, which its probe says.
 fn is_skipped<R: Runner, S: Supervise>(runner: &mut R, supervisor: &S, who: u32, step: Step) -> bool
-    requires placed { (p : SessionState) × IsStarting p who step (S.world supervisor.now) (Listed R.list R.told R.asked runner.old) (R.living runner.old) }
-    ensures skipped { result ≡ true → (p : SessionState) → IsStarting p who step (S.world supervisor.now) (Listed R.list R.told R.asked runner.old) (R.living runner.old) →
+    requires placed { (p : SessionState) × AsTold R.Runner runner.old (IsStarting p who step (S.world supervisor.now)) }
+    ensures skipped { result ≡ true → (p : SessionState) → AsTold R.Runner runner.old (IsStarting p who step (S.world supervisor.now)) →
         (h : List TraceEvent) × Acts p h (R.list runner.old) (R.list runner.new)
-        × IsInTurn (state_after p h) (skipped who (S.world supervisor.now)) (Listed R.list R.told R.asked runner.new) (R.living runner.new) }
-    ensures starts { result ≡ false → (p : SessionState) → IsStarting p who step (S.world supervisor.now) (Listed R.list R.told R.asked runner.old) (R.living runner.old) →
+        × AsTold R.Runner runner.new (IsInTurn (state_after p h) (skipped who (S.world supervisor.now))) }
+    ensures starts { result ≡ false → (p : SessionState) → AsTold R.Runner runner.old (IsStarting p who step (S.world supervisor.now)) →
         (h : List TraceEvent) × Acts p h (R.list runner.old) (R.list runner.new)
-        × MayLaunch (state_after p h) who step (S.world supervisor.now) (Listed R.list R.told R.asked runner.new) (R.living runner.new) }
+        × AsTold R.Runner runner.new (MayLaunch (state_after p h) who step (S.world supervisor.now)) }
     ensures told { R.told runner.new ≡ R.told runner.old }
 {
     driving_laws();
@@ -61,11 +61,11 @@ fn launch<R: Runner, S: Supervise>(
 )
     requires now { (R.told runner.old ≡ now) × (now < 2 ^ 62) }
     requires drives { Drives (S.world supervisor.old) × IsFalling (S.world supervisor.old) }
-    requires placed { (p : SessionState) × MayLaunch p who step (S.world supervisor.old) (Listed R.list R.told R.asked runner.old) (R.living runner.old) }
+    requires placed { (p : SessionState) × AsTold R.Runner runner.old (MayLaunch p who step (S.world supervisor.old)) }
     ensures now { R.told runner.new ≡ now }
-    ensures trace { (p : SessionState) → MayLaunch p who step (S.world supervisor.old) (Listed R.list R.told R.asked runner.old) (R.living runner.old) →
+    ensures trace { (p : SessionState) → AsTold R.Runner runner.old (MayLaunch p who step (S.world supervisor.old)) →
         (h : List TraceEvent) × Acts p h (R.list runner.old) (R.list runner.new)
-        × IsInTurn (state_after p h) (S.world supervisor.new) (Listed R.list R.told R.asked runner.new) (R.living runner.new) }
+        × AsTold R.Runner runner.new (IsInTurn (state_after p h) (S.world supervisor.new)) }
     ensures falls { Falls (S.world supervisor.old) (S.world supervisor.new) }
 {
     driving_laws();
@@ -85,11 +85,11 @@ pub(crate) fn start_step<R: Runner, S: Supervise>(
 )
     requires now { (R.told runner.old ≡ now) × (now < 2 ^ 62) }
     requires drives { Drives (S.world supervisor.old) × IsFalling (S.world supervisor.old) }
-    requires placed { (p : SessionState) × IsStarting p who step (S.world supervisor.old) (Listed R.list R.told R.asked runner.old) (R.living runner.old) }
+    requires placed { (p : SessionState) × AsTold R.Runner runner.old (IsStarting p who step (S.world supervisor.old)) }
     ensures now { R.told runner.new ≡ now }
-    ensures trace { (p : SessionState) → IsStarting p who step (S.world supervisor.old) (Listed R.list R.told R.asked runner.old) (R.living runner.old) →
+    ensures trace { (p : SessionState) → AsTold R.Runner runner.old (IsStarting p who step (S.world supervisor.old)) →
         (h : List TraceEvent) × Acts p h (R.list runner.old) (R.list runner.new)
-        × IsInTurn (state_after p h) (S.world supervisor.new) (Listed R.list R.told R.asked runner.new) (R.living runner.new) }
+        × AsTold R.Runner runner.new (IsInTurn (state_after p h) (S.world supervisor.new)) }
     ensures falls { Falls (S.world supervisor.old) (S.world supervisor.new) }
 {
     if is_skipped(runner, supervisor, who, step) {

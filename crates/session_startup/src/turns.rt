@@ -1,12 +1,8 @@
 // One turn, and the turns of a stage.
-ghost use Rattle.std.specs.Prelude.{◌≡◌, ◌≤◌, ◌<◌, ◌^◌, ℕ, List, None, Some, true, false, IsTrue, IfOk, OnErr, IsErrOf};
+ghost use Rattle.std.specs.Prelude.{◌≡◌, ◌≤◌, ◌<◌, ◌^◌, None, Some, true, false, IfOk, IsErrOf};
 ghost use Rattle.nuc_base.specs.Faults.{Rose};
-ghost use Rattle.step_runner.specs.Entries.{Listed};
-ghost use Rattle.histories.specs.TraceEvents.{TraceEvent, records_of};
-ghost use Rattle.histories.specs.States.{SessionState, state_after};
-ghost use Rattle.session_boots.specs.Ends.{Left, Lines};
+ghost use Rattle.histories.specs.States.{SessionState};
 ghost use Rattle.session_boots.specs.Same.{IsSameDeployment};
-ghost use Rattle.session_boots.specs.Traces.{IsTrace};
 ghost use Rattle.components.specs.Events.{later};
 ghost use Rattle.law_termination.specs.Rank.{measure};
 ghost use Rattle.law_termination.specs.Drives.{Drives, Falls, NotAbove, Rises};
@@ -14,6 +10,7 @@ ghost use Rattle.session_startup.specs.Coming.{OwnsComing, coming_device, is_pla
 ghost use Rattle.session_startup.specs.Did.{ActLeft};
 ghost use Rattle.session_startup.specs.Runs.{IsAtTurnStart, MayAbort, IsInTurn};
 ghost use Rattle.session_startup.specs.Turns.{TurnLeft};
+ghost use Rattle.session_boots.specs.Stages.{AsTold, HasTrace, Holds, KeepsOthers};
 
 use crate::acts::{Did, act};
 use crate::coming::Coming;
@@ -46,19 +43,18 @@ fn take_act<D: Disk, J: Journal + Drop, K: Sink, R: Runner, S: Supervise>(
     now: u64,
 ) -> Result<(Coming<J>, bool), SessionFault>
     requires now { (R.told runner.old ≡ now) × (now < 2 ^ 62) }
-    requires held { OwnsComing D.is_modelled D.may_leave J.stands J.end state disk.old }
+    requires held { Holds D.Disk J.Journal OwnsComing state disk.old }
     requires drives { Drives (S.world supervisor.old) }
-    requires placed { (p : SessionState) × IsInTurn p (S.world supervisor.old) (Listed R.list R.told R.asked runner.old) (R.living runner.old) × (p.device ≡ coming_device state) }
+    requires placed { (p : SessionState) × AsTold R.Runner runner.old (IsInTurn p (S.world supervisor.old)) × (p.device ≡ coming_device state) }
     ensures now { R.told runner.new ≡ now }
-    ensures trace { (p : SessionState) → IsInTurn p (S.world supervisor.old) (Listed R.list R.told R.asked runner.old) (R.living runner.old) → (p.device ≡ coming_device state) →
-        (h : List TraceEvent) × IsTrace J.entries J.files D.may_leave D.moment D.left_since disk.old disk.new (R.list runner.old) (R.list runner.new) p h
-        × Lines (K.held sink.old) (K.held sink.new) p.device (records_of h) result
-        × Left J.entries D.may_leave disk.new p h (λ s q. ActLeft q (coming_device s.0) s.1 (S.world supervisor.new) (Listed R.list R.told R.asked runner.new) (R.living runner.new)) result
-        × OnErr result (MayAbort (state_after p h) (S.world supervisor.new) (Listed R.list R.told R.asked runner.new) (R.living runner.new)) }
-    ensures held { IfOk result (λ s. OwnsComing D.is_modelled D.may_leave J.stands J.end s.0 disk.new) }
+    ensures trace { (p : SessionState) → AsTold R.Runner runner.old (IsInTurn p (S.world supervisor.old)) → (p.device ≡ coming_device state) →
+        HasTrace D.Disk J.Journal K.Sink R.Runner disk.old disk.new sink.old sink.new runner.old runner.new p
+        (λ s h q. AsTold R.Runner runner.new (ActLeft q (coming_device s.0) s.1 (S.world supervisor.new)))
+        (λ q. AsTold R.Runner runner.new (MayAbort q (S.world supervisor.new))) result }
+    ensures held { IfOk result (λ s. Holds D.Disk J.Journal OwnsComing s.0 disk.new) }
     ensures same { IfOk result (λ s. is_plan s.0 ≡ is_plan state) }
     ensures deployment { IfOk result (λ s. IsSameDeployment (coming_device state) (coming_device s.0)) }
-    ensures others { IsTrue D.is_modelled → (name : List ℕ) → ¬ (J.files name) → D.seen disk.new name ≡ D.seen disk.old name }
+    ensures others { KeepsOthers D.Disk J.Journal disk.old disk.new }
     ensures disk { IsErrOf result SessionFault.Disk → Rose (D.faults disk.old) (D.faults disk.new) }
     ensures edge { IsErrOf result SessionFault.Edge → Rose (K.faults sink.old) (K.faults sink.new) }
     ensures quiet_disk { ¬ (IsErrOf result SessionFault.Disk) → D.faults disk.new ≡ D.faults disk.old }
@@ -89,19 +85,18 @@ fn take_acts<D: Disk, J: Journal + Drop, K: Sink, R: Runner, S: Supervise>(
     now: u64,
 ) -> Result<Coming<J>, SessionFault>
     requires now { (R.told runner.old ≡ now) × (now < 2 ^ 62) }
-    requires held { OwnsComing D.is_modelled D.may_leave J.stands J.end state disk.old }
+    requires held { Holds D.Disk J.Journal OwnsComing state disk.old }
     requires drives { Drives (S.world supervisor.old) }
-    requires placed { (p : SessionState) × IsInTurn p (S.world supervisor.old) (Listed R.list R.told R.asked runner.old) (R.living runner.old) × (p.device ≡ coming_device state) }
+    requires placed { (p : SessionState) × AsTold R.Runner runner.old (IsInTurn p (S.world supervisor.old)) × (p.device ≡ coming_device state) }
     ensures now { R.told runner.new ≡ now }
-    ensures trace { (p : SessionState) → IsInTurn p (S.world supervisor.old) (Listed R.list R.told R.asked runner.old) (R.living runner.old) → (p.device ≡ coming_device state) →
-        (h : List TraceEvent) × IsTrace J.entries J.files D.may_leave D.moment D.left_since disk.old disk.new (R.list runner.old) (R.list runner.new) p h
-        × Lines (K.held sink.old) (K.held sink.new) p.device (records_of h) result
-        × Left J.entries D.may_leave disk.new p h (λ s q. ActLeft q (coming_device s) true (S.world supervisor.new) (Listed R.list R.told R.asked runner.new) (R.living runner.new)) result
-        × OnErr result (MayAbort (state_after p h) (S.world supervisor.new) (Listed R.list R.told R.asked runner.new) (R.living runner.new)) }
-    ensures held { IfOk result (λ s. OwnsComing D.is_modelled D.may_leave J.stands J.end s disk.new) }
+    ensures trace { (p : SessionState) → AsTold R.Runner runner.old (IsInTurn p (S.world supervisor.old)) → (p.device ≡ coming_device state) →
+        HasTrace D.Disk J.Journal K.Sink R.Runner disk.old disk.new sink.old sink.new runner.old runner.new p
+        (λ s h q. AsTold R.Runner runner.new (ActLeft q (coming_device s) true (S.world supervisor.new)))
+        (λ q. AsTold R.Runner runner.new (MayAbort q (S.world supervisor.new))) result }
+    ensures held { IfOk result (λ s. Holds D.Disk J.Journal OwnsComing s disk.new) }
     ensures same { IfOk result (λ s. is_plan s ≡ is_plan state) }
     ensures deployment { IfOk result (λ s. IsSameDeployment (coming_device state) (coming_device s)) }
-    ensures others { IsTrue D.is_modelled → (name : List ℕ) → ¬ (J.files name) → D.seen disk.new name ≡ D.seen disk.old name }
+    ensures others { KeepsOthers D.Disk J.Journal disk.old disk.new }
     ensures disk { IsErrOf result SessionFault.Disk → Rose (D.faults disk.old) (D.faults disk.new) }
     ensures edge { IsErrOf result SessionFault.Edge → Rose (K.faults sink.old) (K.faults sink.new) }
     ensures quiet_disk { ¬ (IsErrOf result SessionFault.Disk) → D.faults disk.new ≡ D.faults disk.old }
@@ -131,18 +126,17 @@ fn turn<D: Disk, J: Journal + Drop, K: Sink, R: Runner, S: Supervise>(
     runner: &mut R,
     supervisor: &mut S,
 ) -> Result<(Coming<J>, Option<Turned>), SessionFault>
-    requires held { OwnsComing D.is_modelled D.may_leave J.stands J.end state disk.old }
+    requires held { Holds D.Disk J.Journal OwnsComing state disk.old }
     requires rises { Rises (S.world supervisor.old) }
-    requires placed { (p : SessionState) × IsAtTurnStart p (coming_device state) (S.world supervisor.old) (Listed R.list R.told R.asked runner.old) (R.living runner.old) }
-    ensures trace { (p : SessionState) → IsAtTurnStart p (coming_device state) (S.world supervisor.old) (Listed R.list R.told R.asked runner.old) (R.living runner.old) →
-        (h : List TraceEvent) × IsTrace J.entries J.files D.may_leave D.moment D.left_since disk.old disk.new (R.list runner.old) (R.list runner.new) p h
-        × Lines (K.held sink.old) (K.held sink.new) p.device (records_of h) result
-        × Left J.entries D.may_leave disk.new p h (λ s q. TurnLeft s.1 q (coming_device s.0) (S.world supervisor.new) (Listed R.list R.told R.asked runner.new) (R.living runner.new)) result
-        × OnErr result (MayAbort (state_after p h) (S.world supervisor.new) (Listed R.list R.told R.asked runner.new) (R.living runner.new)) }
-    ensures held { IfOk result (λ s. OwnsComing D.is_modelled D.may_leave J.stands J.end s.0 disk.new) }
+    requires placed { (p : SessionState) × AsTold R.Runner runner.old (IsAtTurnStart p (coming_device state) (S.world supervisor.old)) }
+    ensures trace { (p : SessionState) → AsTold R.Runner runner.old (IsAtTurnStart p (coming_device state) (S.world supervisor.old)) →
+        HasTrace D.Disk J.Journal K.Sink R.Runner disk.old disk.new sink.old sink.new runner.old runner.new p
+        (λ s h q. AsTold R.Runner runner.new (TurnLeft s.1 q (coming_device s.0) (S.world supervisor.new)))
+        (λ q. AsTold R.Runner runner.new (MayAbort q (S.world supervisor.new))) result }
+    ensures held { IfOk result (λ s. Holds D.Disk J.Journal OwnsComing s.0 disk.new) }
     ensures same { IfOk result (λ s. is_plan s.0 ≡ is_plan state) }
     ensures deployment { IfOk result (λ s. IsSameDeployment (coming_device state) (coming_device s.0)) }
-    ensures others { IsTrue D.is_modelled → (name : List ℕ) → ¬ (J.files name) → D.seen disk.new name ≡ D.seen disk.old name }
+    ensures others { KeepsOthers D.Disk J.Journal disk.old disk.new }
     ensures disk { IsErrOf result SessionFault.Disk → Rose (D.faults disk.old) (D.faults disk.new) }
     ensures edge { IsErrOf result SessionFault.Edge → Rose (K.faults sink.old) (K.faults sink.new) }
     ensures quiet_disk { ¬ (IsErrOf result SessionFault.Disk) → D.faults disk.new ≡ D.faults disk.old }
@@ -175,18 +169,17 @@ pub(crate) fn come_up<D: Disk, J: Journal + Drop, K: Sink, R: Runner, S: Supervi
     runner: &mut R,
     supervisor: &mut S,
 ) -> Result<(Coming<J>, Turned), SessionFault>
-    requires held { OwnsComing D.is_modelled D.may_leave J.stands J.end state disk.old }
+    requires held { Holds D.Disk J.Journal OwnsComing state disk.old }
     requires rises { Rises (S.world supervisor.old) }
-    requires placed { (p : SessionState) × IsAtTurnStart p (coming_device state) (S.world supervisor.old) (Listed R.list R.told R.asked runner.old) (R.living runner.old) }
-    ensures trace { (p : SessionState) → IsAtTurnStart p (coming_device state) (S.world supervisor.old) (Listed R.list R.told R.asked runner.old) (R.living runner.old) →
-        (h : List TraceEvent) × IsTrace J.entries J.files D.may_leave D.moment D.left_since disk.old disk.new (R.list runner.old) (R.list runner.new) p h
-        × Lines (K.held sink.old) (K.held sink.new) p.device (records_of h) result
-        × Left J.entries D.may_leave disk.new p h (λ s q. TurnLeft (Some s.1) q (coming_device s.0) (S.world supervisor.new) (Listed R.list R.told R.asked runner.new) (R.living runner.new)) result
-        × OnErr result (MayAbort (state_after p h) (S.world supervisor.new) (Listed R.list R.told R.asked runner.new) (R.living runner.new)) }
-    ensures held { IfOk result (λ s. OwnsComing D.is_modelled D.may_leave J.stands J.end s.0 disk.new) }
+    requires placed { (p : SessionState) × AsTold R.Runner runner.old (IsAtTurnStart p (coming_device state) (S.world supervisor.old)) }
+    ensures trace { (p : SessionState) → AsTold R.Runner runner.old (IsAtTurnStart p (coming_device state) (S.world supervisor.old)) →
+        HasTrace D.Disk J.Journal K.Sink R.Runner disk.old disk.new sink.old sink.new runner.old runner.new p
+        (λ s h q. AsTold R.Runner runner.new (TurnLeft (Some s.1) q (coming_device s.0) (S.world supervisor.new)))
+        (λ q. AsTold R.Runner runner.new (MayAbort q (S.world supervisor.new))) result }
+    ensures held { IfOk result (λ s. Holds D.Disk J.Journal OwnsComing s.0 disk.new) }
     ensures same { IfOk result (λ s. is_plan s.0 ≡ is_plan state) }
     ensures deployment { IfOk result (λ s. IsSameDeployment (coming_device state) (coming_device s.0)) }
-    ensures others { IsTrue D.is_modelled → (name : List ℕ) → ¬ (J.files name) → D.seen disk.new name ≡ D.seen disk.old name }
+    ensures others { KeepsOthers D.Disk J.Journal disk.old disk.new }
     ensures disk { IsErrOf result SessionFault.Disk → Rose (D.faults disk.old) (D.faults disk.new) }
     ensures edge { IsErrOf result SessionFault.Edge → Rose (K.faults sink.old) (K.faults sink.new) }
     ensures quiet_disk { ¬ (IsErrOf result SessionFault.Disk) → D.faults disk.new ≡ D.faults disk.old }

@@ -1,6 +1,6 @@
 //! A deployment failed before the last stop, and neither its turn back nor its close is recorded: nothing stands now, and the
 //! one record is kept.
-ghost use Rattle.std.specs.Prelude.{◌≡◌, ◌≤◌, [], ℕ, List, true, false, IsTrue, IfOk, IsErrOf, OnErr};
+ghost use Rattle.std.specs.Prelude.{◌≡◌, ◌≤◌, [], ℕ, List, true, false, IfOk, IsErrOf, OnErr};
 ghost use Rattle.nuc_base.specs.Faults.{Rose};
 ghost use Rattle.nuc_base.specs.declared.kinds.Outcome.TheVariants as outcomes;
 ghost use Rattle.records.specs.Stored as stored;
@@ -15,12 +15,12 @@ ghost use Rattle.histories.specs.Phases.{duty_of};
 ghost use Rattle.histories.specs.States.{SessionState, state_after};
 ghost use Rattle.histories.specs.Waits.{has_three};
 ghost use Rattle.session_boots.specs.Lines.{lines_of};
-ghost use Rattle.session_boots.specs.Ends.{IsOne, Left, Lines};
+ghost use Rattle.session_boots.specs.Ends.{IsOne, Lines};
 ghost use Rattle.session_boots.specs.Stands.{IsAtBootStage};
-ghost use Rattle.session_boots.specs.Traces.{IsTrace};
 ghost use Rattle.law_termination.specs.Drives.{Drives};
 ghost use Rattle.session_startup.specs.Ended.{HasClosed};
 ghost use Rattle.session_transitions.specs.Fails.{Breaks, is_to_roll_back};
+ghost use Rattle.session_boots.specs.Stages.{Holds, IsTraceOver, KeepsOthers, LeftOver};
 
 use components::Supervise;
 use deploy_state::{Activating, BrokeOff, Idle, Rolling};
@@ -36,18 +36,18 @@ pub fn begin_rollback_again<D: Disk, J: Journal + Drop>(
     state: Activating<J>,
     disk: &mut D,
 ) -> Result<BrokeOff<J>, SessionFault>
-    requires held { OwnsActivating D.is_modelled D.may_leave J.stands J.end state disk.old }
+    requires held { Holds D.Disk J.Journal OwnsActivating state disk.old }
     requires failed { has_three (duty_of (activating_device state)).counts ≡ true }
     requires policy { is_to_roll_back (activating_device state) ≡ true }
     // Where it gives up, no child lives.
     ensures trace { (p : SessionState) → (world : Components) → (told : Told) → (living : List ℕ) → IsAtBootStage p (activating_device state) world told living →
-        (h : List TraceEvent) × IsTrace J.entries J.files D.may_leave D.moment D.left_since disk.old disk.new told.list told.list p h
+        (h : List TraceEvent) × IsTraceOver D.Disk J.Journal disk.old disk.new told.list told.list p h
         × (lines_of p.device (records_of h) ≡ [])
-        × Left J.entries D.may_leave disk.new p h (λ s q. IsAtBootStage q (broken_device s) world told living) result
+        × LeftOver D.Disk J.Journal disk.new p h (λ s q. IsAtBootStage q (broken_device s) world told living) result
         × OnErr result (IsBare (state_after p h)) × OnErr result (IsOne (records_of h)) }
     ensures breaks { IfOk result (λ s. Breaks (activating_device state) (broken_device s)) }
-    ensures held { IfOk result (λ s. InBrokeOff D.is_modelled D.may_leave J.stands J.end s disk.new) }
-    ensures others { IsTrue D.is_modelled → (name : List ℕ) → ¬ (J.files name) → D.seen disk.new name ≡ D.seen disk.old name }
+    ensures held { IfOk result (λ s. Holds D.Disk J.Journal InBrokeOff s disk.new) }
+    ensures others { KeepsOthers D.Disk J.Journal disk.old disk.new }
     ensures disk { IsErrOf result SessionFault.Disk → Rose (D.faults disk.old) (D.faults disk.new) }
     ensures edge { IsErrOf result SessionFault.Edge → ⊥ }
     ensures quiet { ¬ (IsErrOf result SessionFault.Disk) → D.faults disk.new ≡ D.faults disk.old }
@@ -68,19 +68,19 @@ pub fn close_failed_again<D: Disk, J: Journal + Drop, K: Sink, S: Supervise>(
     supervisor: &mut S,
 ) -> Result<Idle<J>, SessionFault>
     requires drives { Drives (S.world supervisor.old) }
-    requires held { OwnsActivating D.is_modelled D.may_leave J.stands J.end state disk.old }
+    requires held { Holds D.Disk J.Journal OwnsActivating state disk.old }
     requires failed { has_three (duty_of (activating_device state)).counts ≡ true }
     requires policy { is_to_roll_back (activating_device state) ≡ false }
     // Where it gives up, no child lives.
     ensures trace { (p : SessionState) → (told : Told) → (living : List ℕ) → IsAtBootStage p (activating_device state) (S.world supervisor.old) told living → IsOrderly p.world →
-        (h : List TraceEvent) × IsTrace J.entries J.files D.may_leave D.moment D.left_since disk.old disk.new told.list told.list p h
+        (h : List TraceEvent) × IsTraceOver D.Disk J.Journal disk.old disk.new told.list told.list p h
         × Lines (K.held sink.old) (K.held sink.new) p.device (records_of h) result
-        × Left J.entries D.may_leave disk.new p h (λ s q. HasClosed outcomes.RollbackNotRequested (records_of h) q (idle_device s) (S.world supervisor.new) told living) result
+        × LeftOver D.Disk J.Journal disk.new p h (λ s q. HasClosed outcomes.RollbackNotRequested (records_of h) q (idle_device s) (S.world supervisor.new) told living) result
         × OnErr result (IsBare (state_after p h)) }
     ensures taken { IfOk result (λ s. idle_device s ≡ applied (activating_device state) (stored.Closed outcomes.RollbackNotRequested)) }
     ensures drives { Drives (S.world supervisor.new) }
-    ensures held { IfOk result (λ s. OwnsIdle D.is_modelled D.may_leave J.stands J.end s disk.new) }
-    ensures others { IsTrue D.is_modelled → (name : List ℕ) → ¬ (J.files name) → D.seen disk.new name ≡ D.seen disk.old name }
+    ensures held { IfOk result (λ s. Holds D.Disk J.Journal OwnsIdle s disk.new) }
+    ensures others { KeepsOthers D.Disk J.Journal disk.old disk.new }
     ensures disk { IsErrOf result SessionFault.Disk → Rose (D.faults disk.old) (D.faults disk.new) }
     ensures edge { IsErrOf result SessionFault.Edge → Rose (K.faults sink.old) (K.faults sink.new) }
     ensures quiet_disk { ¬ (IsErrOf result SessionFault.Disk) → D.faults disk.new ≡ D.faults disk.old }
@@ -111,18 +111,18 @@ pub fn close_again<D: Disk, J: Journal + Drop, K: Sink, S: Supervise>(
     supervisor: &mut S,
 ) -> Result<Idle<J>, SessionFault>
     requires drives { Drives (S.world supervisor.old) }
-    requires held { OwnsRolling D.is_modelled D.may_leave J.stands J.end state disk.old }
+    requires held { Holds D.Disk J.Journal OwnsRolling state disk.old }
     requires failed { has_three (duty_of (rolling_device state)).counts ≡ true }
     // Where it gives up, no child lives.
     ensures trace { (p : SessionState) → (told : Told) → (living : List ℕ) → IsAtBootStage p (rolling_device state) (S.world supervisor.old) told living → IsOrderly p.world →
-        (h : List TraceEvent) × IsTrace J.entries J.files D.may_leave D.moment D.left_since disk.old disk.new told.list told.list p h
+        (h : List TraceEvent) × IsTraceOver D.Disk J.Journal disk.old disk.new told.list told.list p h
         × Lines (K.held sink.old) (K.held sink.new) p.device (records_of h) result
-        × Left J.entries D.may_leave disk.new p h (λ s q. HasClosed outcomes.UnableToRollback (records_of h) q (idle_device s) (S.world supervisor.new) told living) result
+        × LeftOver D.Disk J.Journal disk.new p h (λ s q. HasClosed outcomes.UnableToRollback (records_of h) q (idle_device s) (S.world supervisor.new) told living) result
         × OnErr result (IsBare (state_after p h)) }
     ensures taken { IfOk result (λ s. idle_device s ≡ applied (rolling_device state) (stored.Closed outcomes.UnableToRollback)) }
     ensures drives { Drives (S.world supervisor.new) }
-    ensures held { IfOk result (λ s. OwnsIdle D.is_modelled D.may_leave J.stands J.end s disk.new) }
-    ensures others { IsTrue D.is_modelled → (name : List ℕ) → ¬ (J.files name) → D.seen disk.new name ≡ D.seen disk.old name }
+    ensures held { IfOk result (λ s. Holds D.Disk J.Journal OwnsIdle s disk.new) }
+    ensures others { KeepsOthers D.Disk J.Journal disk.old disk.new }
     ensures disk { IsErrOf result SessionFault.Disk → Rose (D.faults disk.old) (D.faults disk.new) }
     ensures edge { IsErrOf result SessionFault.Edge → Rose (K.faults sink.old) (K.faults sink.new) }
     ensures quiet_disk { ¬ (IsErrOf result SessionFault.Disk) → D.faults disk.new ≡ D.faults disk.old }

@@ -1,5 +1,5 @@
 //! A deployment fails and stays as it is, or its way back fails: its close.
-ghost use Rattle.std.specs.Prelude.{◌≡◌, ◌≤◌, ℕ, List, true, false, IsTrue, IfOk, IsErrOf, OnErr};
+ghost use Rattle.std.specs.Prelude.{◌≡◌, ◌≤◌, ℕ, List, true, false, IfOk, IsErrOf, OnErr};
 ghost use Rattle.nuc_base.specs.Faults.{Rose};
 ghost use Rattle.nuc_base.specs.declared.kinds.Outcome.TheVariants as outcomes;
 ghost use Rattle.records.specs.Stored as stored;
@@ -14,12 +14,12 @@ ghost use Rattle.histories.specs.TraceEvents.{TraceEvent, records_of};
 ghost use Rattle.histories.specs.Phases.{duty_of};
 ghost use Rattle.histories.specs.States.{SessionState, state_after};
 ghost use Rattle.histories.specs.Waits.{has_three};
-ghost use Rattle.session_boots.specs.Ends.{Left, Lines};
+ghost use Rattle.session_boots.specs.Ends.{Lines};
 ghost use Rattle.session_boots.specs.Stands.{IsAtBootStage};
-ghost use Rattle.session_boots.specs.Traces.{IsTrace};
 ghost use Rattle.law_termination.specs.Drives.{Drives};
 ghost use Rattle.session_startup.specs.Ended.{HasBroken, HasClosed};
 ghost use Rattle.session_transitions.specs.Fails.{IsGivenUp, is_to_roll_back};
+ghost use Rattle.session_boots.specs.Stages.{Holds, IsTraceOver, KeepsOthers, LeftOver};
 
 use components::Supervise;
 use deploy_state::{Activating, Backing, Booting, Idle};
@@ -49,19 +49,19 @@ pub fn close_failed_booting<D: Disk, J: Journal + Drop, K: Sink, S: Supervise>(
     supervisor: &mut S,
 ) -> Result<Idle<J>, SessionFault>
     requires drives { Drives (S.world supervisor.old) }
-    requires held { OwnsBooting D.is_modelled D.may_leave J.stands J.end state disk.old }
+    requires held { Holds D.Disk J.Journal OwnsBooting state disk.old }
     requires failed { has_failed (booting_device state) ≡ true }
     requires policy { is_to_roll_back (booting_device state) ≡ false }
     // Where it gives up, no child lives.
     ensures trace { (p : SessionState) → (told : Told) → (living : List ℕ) → IsAtBootStage p (booting_device state) (S.world supervisor.old) told living → IsOrderly p.world →
-        (h : List TraceEvent) × IsTrace J.entries J.files D.may_leave D.moment D.left_since disk.old disk.new told.list told.list p h
+        (h : List TraceEvent) × IsTraceOver D.Disk J.Journal disk.old disk.new told.list told.list p h
         × Lines (K.held sink.old) (K.held sink.new) p.device (records_of h) result
-        × Left J.entries D.may_leave disk.new p h (λ s q. HasClosed outcomes.RollbackNotRequested (records_of h) q (idle_device s) (S.world supervisor.new) told living) result
+        × LeftOver D.Disk J.Journal disk.new p h (λ s q. HasClosed outcomes.RollbackNotRequested (records_of h) q (idle_device s) (S.world supervisor.new) told living) result
         × OnErr result (IsBare (state_after p h)) }
     ensures taken { IfOk result (λ s. idle_device s ≡ applied (booting_device state) (stored.Closed outcomes.RollbackNotRequested)) }
     ensures drives { Drives (S.world supervisor.new) }
-    ensures held { IfOk result (λ s. OwnsIdle D.is_modelled D.may_leave J.stands J.end s disk.new) }
-    ensures others { IsTrue D.is_modelled → (name : List ℕ) → ¬ (J.files name) → D.seen disk.new name ≡ D.seen disk.old name }
+    ensures held { IfOk result (λ s. Holds D.Disk J.Journal OwnsIdle s disk.new) }
+    ensures others { KeepsOthers D.Disk J.Journal disk.old disk.new }
     ensures disk { IsErrOf result SessionFault.Disk → Rose (D.faults disk.old) (D.faults disk.new) }
     ensures edge { IsErrOf result SessionFault.Edge → Rose (K.faults sink.old) (K.faults sink.new) }
     ensures quiet_disk { ¬ (IsErrOf result SessionFault.Disk) → D.faults disk.new ≡ D.faults disk.old }
@@ -92,18 +92,18 @@ pub fn close_failed_activating<D: Disk, J: Journal + Drop, K: Sink, S: Supervise
     supervisor: &mut S,
 ) -> Result<Idle<J>, SessionFault>
     requires drives { Drives (S.world supervisor.old) }
-    requires held { OwnsActivating D.is_modelled D.may_leave J.stands J.end state disk.old }
+    requires held { Holds D.Disk J.Journal OwnsActivating state disk.old }
     requires failed { has_three (duty_of (activating_device state)).counts ≡ true }
     requires policy { is_to_roll_back (activating_device state) ≡ false }
     ensures trace { (p : SessionState) → (told : Told) → (living : List ℕ) → HasBroken p (activating_device state) (S.world supervisor.old) told living →
-        (h : List TraceEvent) × IsTrace J.entries J.files D.may_leave D.moment D.left_since disk.old disk.new told.list told.list p h
+        (h : List TraceEvent) × IsTraceOver D.Disk J.Journal disk.old disk.new told.list told.list p h
         × Lines (K.held sink.old) (K.held sink.new) p.device (records_of h) result
-        × Left J.entries D.may_leave disk.new p h (λ s q. HasClosed outcomes.RollbackNotRequested (records_of h) q (idle_device s) (S.world supervisor.new) told living) result
+        × LeftOver D.Disk J.Journal disk.new p h (λ s q. HasClosed outcomes.RollbackNotRequested (records_of h) q (idle_device s) (S.world supervisor.new) told living) result
         × OnErr result (IsGivenUp (state_after p h) (S.world supervisor.new) told living) }
     ensures taken { IfOk result (λ s. idle_device s ≡ applied (activating_device state) (stored.Closed outcomes.RollbackNotRequested)) }
     ensures drives { Drives (S.world supervisor.new) }
-    ensures held { IfOk result (λ s. OwnsIdle D.is_modelled D.may_leave J.stands J.end s disk.new) }
-    ensures others { IsTrue D.is_modelled → (name : List ℕ) → ¬ (J.files name) → D.seen disk.new name ≡ D.seen disk.old name }
+    ensures held { IfOk result (λ s. Holds D.Disk J.Journal OwnsIdle s disk.new) }
+    ensures others { KeepsOthers D.Disk J.Journal disk.old disk.new }
     ensures disk { IsErrOf result SessionFault.Disk → Rose (D.faults disk.old) (D.faults disk.new) }
     ensures edge { IsErrOf result SessionFault.Edge → Rose (K.faults sink.old) (K.faults sink.new) }
     ensures quiet_disk { ¬ (IsErrOf result SessionFault.Disk) → D.faults disk.new ≡ D.faults disk.old }
@@ -133,18 +133,18 @@ pub fn close_failed_backing<D: Disk, J: Journal + Drop, K: Sink, S: Supervise>(
     supervisor: &mut S,
 ) -> Result<Idle<J>, SessionFault>
     requires drives { Drives (S.world supervisor.old) }
-    requires held { OwnsBacking D.is_modelled D.may_leave J.stands J.end state disk.old }
+    requires held { Holds D.Disk J.Journal OwnsBacking state disk.old }
     requires failed { has_failed (backing_device state) ≡ true }
     // Where it gives up, no child lives.
     ensures trace { (p : SessionState) → (told : Told) → (living : List ℕ) → IsAtBootStage p (backing_device state) (S.world supervisor.old) told living → IsOrderly p.world →
-        (h : List TraceEvent) × IsTrace J.entries J.files D.may_leave D.moment D.left_since disk.old disk.new told.list told.list p h
+        (h : List TraceEvent) × IsTraceOver D.Disk J.Journal disk.old disk.new told.list told.list p h
         × Lines (K.held sink.old) (K.held sink.new) p.device (records_of h) result
-        × Left J.entries D.may_leave disk.new p h (λ s q. HasClosed outcomes.UnableToRollback (records_of h) q (idle_device s) (S.world supervisor.new) told living) result
+        × LeftOver D.Disk J.Journal disk.new p h (λ s q. HasClosed outcomes.UnableToRollback (records_of h) q (idle_device s) (S.world supervisor.new) told living) result
         × OnErr result (IsBare (state_after p h)) }
     ensures taken { IfOk result (λ s. idle_device s ≡ applied (backing_device state) (stored.Closed outcomes.UnableToRollback)) }
     ensures drives { Drives (S.world supervisor.new) }
-    ensures held { IfOk result (λ s. OwnsIdle D.is_modelled D.may_leave J.stands J.end s disk.new) }
-    ensures others { IsTrue D.is_modelled → (name : List ℕ) → ¬ (J.files name) → D.seen disk.new name ≡ D.seen disk.old name }
+    ensures held { IfOk result (λ s. Holds D.Disk J.Journal OwnsIdle s disk.new) }
+    ensures others { KeepsOthers D.Disk J.Journal disk.old disk.new }
     ensures disk { IsErrOf result SessionFault.Disk → Rose (D.faults disk.old) (D.faults disk.new) }
     ensures edge { IsErrOf result SessionFault.Edge → Rose (K.faults sink.old) (K.faults sink.new) }
     ensures quiet_disk { ¬ (IsErrOf result SessionFault.Disk) → D.faults disk.new ≡ D.faults disk.old }

@@ -1,5 +1,5 @@
 //! From the bootstraps of a deployment to its items.
-ghost use Rattle.std.specs.Prelude.{◌≡◌, ◌≤◌, [], ℕ, List, None, false, IfOk, IsErrOf, IsTrue, OnErr};
+ghost use Rattle.std.specs.Prelude.{◌≡◌, ◌≤◌, [], ℕ, List, None, false, IfOk, IsErrOf, OnErr};
 ghost use Rattle.nuc_base.specs.Faults.{Rose};
 ghost use Rattle.records.specs.Stored as stored;
 ghost use Rattle.device.specs.Lawful.{applied};
@@ -12,9 +12,9 @@ ghost use Rattle.histories.specs.TraceEvents.{TraceEvent, records_of};
 ghost use Rattle.histories.specs.Phases.{duty_of};
 ghost use Rattle.histories.specs.States.{SessionState, state_after};
 ghost use Rattle.session_boots.specs.Lines.{lines_of};
-ghost use Rattle.session_boots.specs.Ends.{IsOne, Left};
+ghost use Rattle.session_boots.specs.Ends.{IsOne};
 ghost use Rattle.session_boots.specs.Stands.{IsAtBootStage};
-ghost use Rattle.session_boots.specs.Traces.{IsTrace};
+ghost use Rattle.session_boots.specs.Stages.{Holds, IsTraceOver, KeepsOthers, LeftOver};
 
 use deploy_state::{Activating, Booting};
 use disk_model::Disk;
@@ -26,17 +26,17 @@ pub fn begin_items<D: Disk, J: Journal + Drop>(
     state: Booting<J>,
     disk: &mut D,
 ) -> Result<Activating<J>, SessionFault>
-    requires held { OwnsBooting D.is_modelled D.may_leave J.stands J.end state disk.old }
+    requires held { Holds D.Disk J.Journal OwnsBooting state disk.old }
     requires through { ((duty_of (booting_device state)).turn ≡ None) × (has_failed (booting_device state) ≡ false) }
     // Where it gives up, no child lives.
     ensures trace { (p : SessionState) → (world : Components) → (told : Told) → (living : List ℕ) → IsAtBootStage p (booting_device state) world told living →
-        (h : List TraceEvent) × IsTrace J.entries J.files D.may_leave D.moment D.left_since disk.old disk.new told.list told.list p h
+        (h : List TraceEvent) × IsTraceOver D.Disk J.Journal disk.old disk.new told.list told.list p h
         × (lines_of p.device (records_of h) ≡ [])
-        × Left J.entries D.may_leave disk.new p h (λ s q. IsAtBootStage q (activating_device s) world told living) result
+        × LeftOver D.Disk J.Journal disk.new p h (λ s q. IsAtBootStage q (activating_device s) world told living) result
         × OnErr result (IsBare (state_after p h)) × OnErr result (IsOne (records_of h)) }
     ensures taken { IfOk result (λ s. activating_device s ≡ applied (booting_device state) stored.Activating) }
-    ensures held { IfOk result (λ s. OwnsActivating D.is_modelled D.may_leave J.stands J.end s disk.new) }
-    ensures others { IsTrue D.is_modelled → (name : List ℕ) → ¬ (J.files name) → D.seen disk.new name ≡ D.seen disk.old name }
+    ensures held { IfOk result (λ s. Holds D.Disk J.Journal OwnsActivating s disk.new) }
+    ensures others { KeepsOthers D.Disk J.Journal disk.old disk.new }
     ensures disk { IsErrOf result SessionFault.Disk → Rose (D.faults disk.old) (D.faults disk.new) }
     ensures edge { IsErrOf result SessionFault.Edge → ⊥ }
     ensures quiet { ¬ (IsErrOf result SessionFault.Disk) → D.faults disk.new ≡ D.faults disk.old }
