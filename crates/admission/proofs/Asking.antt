@@ -44,7 +44,8 @@ module _ (P : Group → Type 0) (new : Group) (here : P new) where
       → (b : Bool) → bytes_eq new.arn g.arn ≡ b → AllByRecursion P (if b then new ∷ groups else g ∷ put_group groups new)
   put_by g groups others differ rest true is = (
     here,
-    others_hold g groups (λ h among. others h (in_there g groups h among)) ((bytes_eq-Decides new.arn g.arn).0 is) (IsDistinct-head bytes_eq g.arn (arns groups) differ),
+    others_hold g groups (λ h among. others h (in_there g groups h among)) ((bytes_eq-Decides new.arn g.arn).0 is)
+        (IsDistinct-head bytes_eq g.arn (arns groups) differ),
   )
   put_by g groups others differ rest false is = (others g (in_here g groups) is, rest)
 
@@ -59,16 +60,19 @@ module _ (P : Group → Type 0) (new : Group) (here : P new) where
 -- ---- what is wanted
 
 -- what is wanted for them is met by the set
-module _ (ms : List Member) (set : List ℕ) (groups : List Group) (document : Document) (met : All (λ w. IsMet ms set w.name w.range) (wanted_of groups document)) where
+module _ (ms : List Member) (set : List ℕ) (groups : List Group) (document : Document)
+    (met : All (λ w. IsMet ms set w.name w.range) (wanted_of groups document)) where
   wanted_met : (w : Need) → Contains (wanted_of groups document) w → IsMet ms set w.name w.range
   wanted_met w among = All-contains (λ (x : Need). IsMet ms set x.name x.range) (wanted_of groups document) w met among
 
-  beside_has : (g : Group) (r : Requirement) → Contains g.requirements r → (b : Bool) → b ≡ false → Contains (if b then [] else map requirement_need g.requirements) (requirement_need r)
+  beside_has : (g : Group) (r : Requirement) → Contains g.requirements r → (b : Bool) → b ≡ false →
+      Contains (if b then [] else map requirement_need g.requirements) (requirement_need r)
   beside_has g r has true is = cc
   beside_has g r has false is = in_map requirement_need g.requirements r has
 
   -- of another group
-  pub other_met : (g : Group) (r : Requirement) → Contains groups g → bytes_eq document.group g.arn ≡ false → Contains g.requirements r → IsMet ms set r.name r.range
+  pub other_met : (g : Group) (r : Requirement) → Contains groups g → bytes_eq document.group g.arn ≡ false → Contains g.requirements r →
+      IsMet ms set r.name r.range
   other_met g r among other has =
       wanted_met (requirement_need r) (Contains-append_left (flat_map (asked_beside document.group) groups) (map root_need document.roots) (requirement_need r)
       (in_flat (asked_beside document.group) groups g (requirement_need r) among (beside_has g r has (bytes_eq document.group g.arn) other)))

@@ -48,7 +48,8 @@ use Rattle.admission.proofs.Sample.{sample, sample_item, sample_fills, sample_na
 less_self : (n : List ℕ) → slice_cmp nat_cmp n n ≡ Less → ⊥
 less_self n less = false≢true (sym (ap is_eq less) ∙ is_eq-slice_cmp n n ∙ (bytes_eq-Decides n n).1 refl)
 
-below_all : (n : List ℕ) (items : List Item) → AllByRecursion (λ m. slice_cmp nat_cmp n m ≡ Less) (map item_name items) → (i : Item) → Contains items i → slice_cmp nat_cmp n i.name ≡ Less
+below_all : (n : List ℕ) (items : List Item) → AllByRecursion (λ m. slice_cmp nat_cmp n m ≡ Less) (map item_name items) → (i : Item) → Contains items i →
+    slice_cmp nat_cmp n i.name ≡ Less
 below_all n [] less i has = absurd (in_nil i has)
 below_all n (x ∷ items) less i has = elim (in_cons x items i has) [
   | inl here ↦ subst (λ (y : Item). slice_cmp nat_cmp n y.name ≡ Less) here less.0
@@ -62,10 +63,12 @@ same_item [] rise a b i j same = absurd (in_nil a i)
 same_item (x ∷ items) rise a b i j same = elim (in_cons x items a i) [
   | inl e ↦ elim (in_cons x items b j) [
     | inl f ↦ sym e ∙ f
-    | inr there ↦ absurd (less_self b.name (subst (λ (n : List ℕ). slice_cmp nat_cmp n b.name ≡ Less) (ap item_name e ∙ same) (below_all x.name items rise.0 b there)))
+    | inr there ↦ absurd (less_self b.name (subst (λ (n : List ℕ). slice_cmp nat_cmp n b.name ≡ Less) (ap item_name e ∙ same)
+        (below_all x.name items rise.0 b there)))
   ]
   | inr here ↦ elim (in_cons x items b j) [
-    | inl f ↦ absurd (less_self a.name (subst (λ (n : List ℕ). slice_cmp nat_cmp n a.name ≡ Less) (ap item_name f ∙ sym same) (below_all x.name items rise.0 a here)))
+    | inl f ↦ absurd (less_self a.name (subst (λ (n : List ℕ). slice_cmp nat_cmp n a.name ≡ Less) (ap item_name f ∙ sym same)
+        (below_all x.name items rise.0 a here)))
     | inr there ↦ same_item items rise.1 a b here there same
   ]
 ]
@@ -93,7 +96,8 @@ some_found test (y ∷ ys) x has is = find_step test y ys (test y) refl (λ no_m
   | inr there ↦ some_found test ys x there is
 ])
 
-held_beside : (parts : List Artifact) (helds : List Held) → AllZip IsHeldFor parts helds → (a : Artifact) → Contains parts a → (h : Held) × Contains helds h × (h.file ≡ a.file)
+held_beside : (parts : List Artifact) (helds : List Held) → AllZip IsHeldFor parts helds → (a : Artifact) → Contains parts a → (h : Held) × Contains helds h ×
+    (h.file ≡ a.file)
 held_beside [] [] z a has = absurd (in_nil a has)
 held_beside [] (h ∷ helds) z a has = absurd z
 held_beside (b ∷ parts) [] z a has = absurd z
@@ -114,7 +118,8 @@ kept_by helds a (Some h) is some =
 
 kept_file : (k : Item) (a : Artifact) → (h : Held) × Contains k.artifacts h × (h.file ≡ a.file) → HasKeptFile k.artifacts (artifact_of (Some k) a)
 kept_file k a held =
-    kept_by k.artifacts a (find (has_file a.file) k.artifacts) refl (some_found (has_file a.file) k.artifacts held.0 held.1 ((bytes_eq-Decides a.file held.0.file).1 (sym held.2)))
+    kept_by k.artifacts a (find (has_file a.file) k.artifacts) refl
+    (some_found (has_file a.file) k.artifacts held.0 held.1 ((bytes_eq-Decides a.file held.0.file).1 (sym held.2)))
 
 kept_files : (k : Item) (parts : List Artifact) → ((a : Artifact) → Contains parts a → (h : Held) × Contains k.artifacts h × (h.file ≡ a.file))
     → AllByRecursion (HasKeptFile k.artifacts) (map (artifact_of (Some k)) parts)
@@ -125,11 +130,13 @@ kept_files k (a ∷ parts) held = (kept_file k a (held a (in_here a parts)), kep
 
 module _ (one : IsOneRecipe) (p : Platform) (set : List Item) (items : AreItems p set) (roots : List Root) where
   -- what is found is the item
-  found_is : (c : Candidate) (k : Item) (o : Option Item) → item_in c.recipe.name c.recipe.version set ≡ o → IsSome o → Contains set k → k.name ≡ c.recipe.name → o ≡ Some k
+  found_is : (c : Candidate) (k : Item) (o : Option Item) → item_in c.recipe.name c.recipe.version set ≡ o → IsSome o → Contains set k →
+      k.name ≡ c.recipe.name → o ≡ Some k
   found_is c k None is some has named = absurd (false≢true some)
   found_is c k (Some i) is some has named =
       let f = found (λ (j : Item). bytes_eq c.recipe.name j.name && bytes_eq c.recipe.version j.version) set i is in
-      let same : c.recipe.name ≡ i.name = (bytes_eq-Decides c.recipe.name i.name).0 (and_both (bytes_eq c.recipe.name i.name) (bytes_eq c.recipe.version i.version) f.1).0 in
+      let same : c.recipe.name ≡ i.name = (bytes_eq-Decides c.recipe.name i.name).0
+      (and_both (bytes_eq c.recipe.name i.name) (bytes_eq c.recipe.version i.version) f.1).0 in
       ap (λ (j : Item). Some j) (same_item set items.rise i k f.0 has (sym same ∙ sym named))
 
   keeps_one : (c : Candidate) → IsReadFor p c → KeepBytes set (c ∷ []) → KeepsFiles set (item_of set roots c)
@@ -139,12 +146,14 @@ module _ (one : IsOneRecipe) (p : Platform) (set : List Item) (items : AreItems 
       let alike = one k.recipe p r.0 c.recipe r.1.reads (subst (λ (b : List ℕ). Reads b p c.recipe) bytes reads) in
       let parts : AllZip IsHeldFor c.recipe.artifacts k.artifacts = subst (λ (l : List Artifact). AllZip IsHeldFor l k.artifacts) alike.artifacts r.1.files in
       let test = some_found (λ (j : Item). bytes_eq c.recipe.name j.name && bytes_eq c.recipe.version j.version) set k has
-      (both (bytes_eq c.recipe.name k.name) (bytes_eq c.recipe.version k.version) ((bytes_eq-Decides c.recipe.name k.name).1 (sym named)) ((bytes_eq-Decides c.recipe.version k.version).1 (sym versioned))) in
+      (both (bytes_eq c.recipe.name k.name) (bytes_eq c.recipe.version k.version) ((bytes_eq-Decides c.recipe.name k.name).1 (sym named))
+      ((bytes_eq-Decides c.recipe.version k.version).1 (sym versioned))) in
       let is : item_in c.recipe.name c.recipe.version set ≡ Some k = found_is c k (item_in c.recipe.name c.recipe.version set) refl test has named in
       subst (λ (o : Option Item). AllByRecursion (HasKeptFile k.artifacts) (map (artifact_of o) c.recipe.artifacts)) (sym is)
       (kept_files k c.recipe.artifacts (held_beside c.recipe.artifacts k.artifacts parts))
 
-  keeps_all : (cs : List Candidate) → ((c : Candidate) → Contains cs c → IsReadFor p c × KeepBytes set (c ∷ [])) → AllByRecursion (KeepsFiles set) (items_of set roots cs)
+  keeps_all : (cs : List Candidate) → ((c : Candidate) → Contains cs c → IsReadFor p c × KeepBytes set (c ∷ [])) →
+      AllByRecursion (KeepsFiles set) (items_of set roots cs)
   keeps_all [] fits = tt
   keeps_all (c ∷ cs) fits = (keeps_one c (fits c (in_here c cs)).0 (fits c (in_here c cs)).1, keeps_all cs (λ x there. fits x (in_there c cs x there)))
 
@@ -171,7 +180,8 @@ files_of_items sound p (i ∷ items) has =
 
 -- ---- the whole
 
-module _ (one : IsOneRecipe) (sound : ReadsSound) (allowed : FilledIsAllowed) (o : Origin) (d : Device) (cs : List Candidate) (document : Document) (draft : Draft)
+module _ (one : IsOneRecipe) (sound : ReadsSound) (allowed : FilledIsAllowed) (o : Origin) (d : Device) (cs : List Candidate) (document : Document)
+    (draft : Draft)
     (has : d.origin ≡ Some o) (rising : IsRising (members cs)) (may : MayPlan o d cs document) (planned : IsPlanned o d cs document draft) where
   sample_items : AreItems o.platform (map sample_item draft.items)
   sample_items =

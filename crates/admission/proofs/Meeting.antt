@@ -57,7 +57,8 @@ beside {A = A} R (a ∷ xs) (y ∷ ys) z x i = elim (in_cons a xs x i) [
 module _ (cs : List Candidate) (set : List ℕ) (below : All (λ p. p < length cs) set) (drafts : Candidate → DraftItem)
     (named : (c : Candidate) → (drafts c).name ≡ c.recipe.name) (versioned : (c : Candidate) → (drafts c).version ≡ c.recipe.version)
     (items : List Item) (fills : AllZip FillsItem (map drafts (chosen cs set)) items) where
-  answered_by : (r : Requirement) (q : ℕ) → Contains set q → IsMetBy (members cs) r.name r.range q → (o : Option Candidate) → slice_get cs q ≡ o → IsAnswered items r
+  answered_by : (r : Requirement) (q : ℕ) → Contains set q → IsMetBy (members cs) r.name r.range q → (o : Option Candidate) → slice_get cs q ≡ o →
+      IsAnswered items r
   answered_by r q has met None is = absurd (some_below cs q (All-contains (λ (p : ℕ). p < length cs) set q below has) is)
   answered_by r q has met (Some c) is =
       let i = beside FillsItem (map drafts (chosen cs set)) items fills (drafts c) (in_map drafts (chosen cs set) c (in_chosen cs set q c is has)) in
@@ -76,15 +77,18 @@ module _ (cs : List Candidate) (set : List ℕ) (below : All (λ p. p < length c
 
 -- ---- a plan that is taken in
 
-module _ (d : Device) (o : Origin) (cs : List Candidate) (document : Document) (draft : Draft) (plan : Plan) (sound : IsSound d) (planned : IsPlanned o d cs document draft) (fills : Fills draft plan) where
+module _ (d : Device) (o : Origin) (cs : List Candidate) (document : Document) (draft : Draft) (plan : Plan) (sound : IsSound d)
+    (planned : IsPlanned o d cs document draft) (fills : Fills draft plan) where
   set : List ℕ
   set = planned.plan.is_choice.0
 
-  all_answered : (requirements : List Requirement) → ((r : Requirement) → Contains requirements r → IsMet (members cs) set r.name r.range) → AllByRecursion (IsAnswered plan.items) requirements
+  all_answered : (requirements : List Requirement) → ((r : Requirement) → Contains requirements r → IsMet (members cs) set r.name r.range) →
+      AllByRecursion (IsAnswered plan.items) requirements
   unfolding set
   all_answered requirements met =
       let valid = planned.plan.is_choice.1.valid in
-      let items : draft.items ≡ items_of d.set document.roots (chosen cs set) = planned.plan.items ∙ ap (items_of d.set document.roots) planned.plan.is_choice.2 in
+      let items : draft.items ≡ items_of d.set document.roots (chosen cs set) =
+      planned.plan.items ∙ ap (items_of d.set document.roots) planned.plan.is_choice.2 in
       recursion_from_All (IsAnswered plan.items) requirements (all_from_in (IsAnswered plan.items) requirements (λ r has.
       answered cs set (inside cs (wanted_of d.groups document) set valid) (item_of d.set document.roots) (λ c. refl) (λ c. refl) plan.items
       (subst (λ (l : List DraftItem). AllZip FillsItem l plan.items) items fills.items) r (met r has)))
@@ -98,7 +102,8 @@ module _ (d : Device) (o : Origin) (cs : List Candidate) (document : Document) (
       put_holds (λ (g : Group). AllByRecursion (IsAnswered plan.items) g.requirements) (group_after d.groups plan)
       (all_answered plan.requirements (λ r has. own_met (members cs) set d.groups document met r (subst (λ (l : List Requirement). Contains l r) own has)))
       d.groups
-      (λ g among other. all_answered g.requirements (λ r has. other_met (members cs) set d.groups document met g r among (subst (λ (n : List ℕ). bytes_eq n g.arn ≡ false) group other) has))
+      (λ g among other. all_answered g.requirements (λ r has. other_met (members cs) set d.groups document met g r among
+      (subst (λ (n : List ℕ). bytes_eq n g.arn ≡ false) group other) has))
       sound.groups.differ
 
 pub taken_are_met : TakenAreMet

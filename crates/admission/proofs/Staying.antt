@@ -13,7 +13,8 @@ use Rattle.admission.specs.Takes.{LieElsewhere}
 module _ {D J : Type 0} {is_modelled : Bool} {seen : D → Image} {may_leave : D → Image → Type 0} {moment : D → ℕ} {left_since : D → ℕ → Image → Type 0}
     (laws : DiskLaws is_modelled seen may_leave moment left_since)
     {files : List ℕ → Type 0} {entries : Image → List (List ℕ) → Type 0} {holds_none : Image → Type 0} {is_damaged : Image → ℕ → Type 0}
-    {stands : J → Image → List (List ℕ) → Type 0} {end : J → ℕ} (journal : JournalLaws files entries holds_none is_damaged stands end) (apart : LieElsewhere files) where
+    {stands : J → Image → List (List ℕ) → Type 0} {end : J → ℕ} (journal : JournalLaws files entries holds_none is_damaged stands end)
+    (apart : LieElsewhere files) where
   pub hand_stays : (log : J) (d : Device) (old new : D) → Leaves moment left_since old new (After (may_leave old) (Spares (IsBelow artifacts)))
       → OwnsJournal is_modelled may_leave stands end log old d → OwnsJournal is_modelled may_leave stands end log new d
   hand_stays log d old new leaves hand = record {

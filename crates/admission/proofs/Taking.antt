@@ -60,7 +60,8 @@ passes_any d o content b a c e document cs draft h =
 
 module _ (d : Device) (o : Origin) (content : Option Content) (before mid after : ℕ) (document : Document) where
   -- a check failed
-  pub refused : (a : Refusal) (r : Answer) → IsErrAnd r (λ e. e ≡ Refused a) → Proposes d o content before after document (Err a) → TakesIn d o content before after document r
+  pub refused : (a : Refusal) (r : Answer) → IsErrAnd r (λ e. e ≡ Refused a) → Proposes d o content before after document (Err a) →
+      TakesIn d o content before after document r
   refused a r h p = subst (TakesIn d o content before after document) (sym (err_of r (Refused a) h)) (p.0, p.1, p.2)
 
   -- a file was not taken in
@@ -121,7 +122,8 @@ regular_items [] (j ∷ js) z regular = absurd z
 regular_items (i ∷ is) [] z regular = absurd z
 regular_items (i ∷ is) (j ∷ js) z regular =
     let P = λ (x : Item). IsRegular x.config in
-    All-cons P j js (subst IsRegular (sym z.0.config) (All-head P (bare i) (map bare is) regular)) (regular_items is js z.1 (All-tail P (bare i) (map bare is) regular))
+    All-cons P j js (subst IsRegular (sym z.0.config) (All-head P (bare i) (map bare is) regular))
+    (regular_items is js z.1 (All-tail P (bare i) (map bare is) regular))
 
 some_origin : (x : Option Origin) → IsSome x → (o : Origin) × (x ≡ Some o)
 some_origin None h = absurd (false≢true h)
@@ -159,7 +161,8 @@ module _ (one : IsOneRecipe) (reads_sound : ReadsSound) (allowed : FilledIsAllow
 
   may_take : MayTakeFilled d (draft_view draft)
   may_take plan fills = record {
-    allowed = allowed made.of d made.candidates document (draft_view draft) plan made.has made.rising made.may made.planned (as_planned (draft_view draft) plan fills);
+    allowed = allowed made.of d made.candidates document (draft_view draft) plan made.has made.rising made.may made.planned
+        (as_planned (draft_view draft) plan fills);
     regular = regular_items (draft_view draft).items plan.items fills.items made.planned.regular;
   }
 
@@ -168,7 +171,8 @@ module _ (one : IsOneRecipe) (reads_sound : ReadsSound) (allowed : FilledIsAllow
     (content : Option Content) (before after : ℕ) where
   pub stages_by : (r : Result code_draft.Draft Refusal) → ((o : Origin) → d.origin ≡ Some o → Proposes d o content before after document r)
       → IfOk r (λ draft. MayStage d.set (draft_view draft).items)
-  stages_by (Ok draft) proposed = may_stage_draft one reads_sound allowed gathered d document sound regular origin idle roots content before after draft proposed
+  stages_by (Ok draft) proposed = may_stage_draft one reads_sound allowed gathered d document sound regular origin
+      idle roots content before after draft proposed
   stages_by (Err a) proposed = tt
 
   pub takes_by : (r : Result code_draft.Draft Refusal) → ((o : Origin) → d.origin ≡ Some o → Proposes d o content before after document r)

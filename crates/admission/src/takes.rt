@@ -44,7 +44,8 @@ fn draft_for<L: Library>(
     requires sound { IsSound (device_view device.now) }
     requires regular { IsRegularDevice (device_view device.now) }
     requires roots { AreSound document.now.roots }
-    ensures proposes { (o : Origin) → device.now.origin ≡ Some o → Proposes (device_view device.now) o (L.content library.old) (L.faults library.old) (L.faults library.new) document.now result }
+    ensures proposes { (o : Origin) → device.now.origin ≡ Some o → Proposes (device_view device.now) o (L.content library.old) (L.faults library.old)
+        (L.faults library.new) document.now result }
     ensures stages { IfOk result (λ draft. MayStage (device_view device.now).set (draft_view draft).items) }
     ensures takes { IfOk result (λ draft. MayTakeFilled (device_view device.now) (draft_view draft)) }
     ensures kept { L.content library.new ≡ L.content library.old }
@@ -73,7 +74,8 @@ pub fn take_in<D: Disk, J: Journal + Drop, L: Library>(
     // The journal does not lie among the files of artifacts.
     requires apart { LieElsewhere J.files }
     requires roots { AreSound document.now.roots }
-    ensures takes { (o : Origin) → (idle_device idle.now).origin ≡ Some o → TakesIn (idle_device idle.now) o (L.content library.old) (L.faults library.old) (L.faults library.new) document.now result }
+    ensures takes { (o : Origin) → (idle_device idle.now).origin ≡ Some o → TakesIn (idle_device idle.now) o (L.content library.old) (L.faults library.old)
+        (L.faults library.new) document.now result }
     // The plan may be accepted.
     ensures lawful { IfOk result (λ plan. Allowed (idle_device idle.now) (stored.Accepted (plan_view plan))) }
     ensures regular { IfOk result (λ plan. IsRegularRecord (stored.Accepted (plan_view plan))) }
@@ -84,8 +86,10 @@ pub fn take_in<D: Disk, J: Journal + Drop, L: Library>(
     // Where a check fails no file is touched.
     ensures untouched { IsRefused result → disk.new ≡ disk.old }
     // The device has its files at each moment, where it had them before, and the plan then has its own.
-    ensures safe { AllHoldDevice (D.may_leave disk.old) (idle_device idle.now) → Leaves D.moment D.left_since disk.old disk.new (λ c. HoldsDevice c (idle_device idle.now)) }
-    ensures files { IfOk result (λ plan. AllHoldDevice (D.may_leave disk.old) (idle_device idle.now) → AllHoldItems (D.may_leave disk.new) (map item_view plan.items)) }
+    ensures safe { AllHoldDevice (D.may_leave disk.old) (idle_device idle.now) → Leaves D.moment D.left_since disk.old disk.new
+        (λ c. HoldsDevice c (idle_device idle.now)) }
+    ensures files { IfOk result (λ plan. AllHoldDevice (D.may_leave disk.old) (idle_device idle.now) →
+        AllHoldItems (D.may_leave disk.new) (map item_view plan.items)) }
     ensures kept { L.content library.new ≡ L.content library.old }
     ensures disk_cause { HasDiskFailed result → Rose (D.faults disk.old) (D.faults disk.new) }
     ensures disk_quiet { ¬ (HasDiskFailed result) → D.faults disk.new ≡ D.faults disk.old }

@@ -27,22 +27,30 @@ all_split : (above below : Table (List ℕ × List ℕ)) → AllHold (above ++ b
 all_split [] below h = (tt, h)
 all_split (line ∷ lines) below h = let both = all_split lines below h.1 in ((h.0, both.0), both.1)
 
-first_split : (above below : Table (List ℕ × List ℕ)) (found : List ℕ × List ℕ) → IsFirst (above ++ below) found → IsFirst above found ⊎ (AllHold above × IsFirst below found)
+first_split : (above below : Table (List ℕ × List ℕ)) (found : List ℕ × List ℕ) → IsFirst (above ++ below) found → IsFirst above found ⊎
+    (AllHold above × IsFirst below found)
 first_split [] below found first = inr (tt, first)
 first_split (line ∷ lines) below found (inl here) = inl (inl here)
-first_split (line ∷ lines) below found (inr later) = elim (first_split lines below found later.1) [ inl here ↦ inl (inr (later.0, here)) | inr both ↦ inr ((later.0, both.0), both.1) ]
+first_split (line ∷ lines) below found (inr later) = elim (first_split lines below found later.1) [
+  | inl here ↦ inl (inr (later.0, here))
+  | inr both ↦ inr
+      ((later.0, both.0), both.1)
+]
 
 -- ---- one file
 
-pub held_next : (image : Image) (i : Item) (h : Held) (rest : List Held) (r : Option (List ℕ × List ℕ)) → HoldsFile image i.name i.version h → Audits (each (held_line image i) rest) r → Audits (each (held_line image i) (h ∷ rest)) r
+pub held_next : (image : Image) (i : Item) (h : Held) (rest : List Held) (r : Option (List ℕ × List ℕ)) → HoldsFile image i.name i.version h →
+    Audits (each (held_line image i) rest) r → Audits (each (held_line image i) (h ∷ rest)) r
 held_next image i h rest r holds said = audits_after (held_line image i h) (each (held_line image i) rest) r (holds, tt) said
 
 -- ---- items
 
-pub item_next : (image : Image) (i : Item) (rest : List Item) (r : Option (List ℕ × List ℕ)) → Audits (item_line image i) None → Audits (items_lines image rest) r → Audits (items_lines image (i ∷ rest)) r
+pub item_next : (image : Image) (i : Item) (rest : List Item) (r : Option (List ℕ × List ℕ)) → Audits (item_line image i) None →
+    Audits (items_lines image rest) r → Audits (items_lines image (i ∷ rest)) r
 item_next image i rest r holds said = audits_after (item_line image i) (items_lines image rest) r holds said
 
-pub item_here : (image : Image) (i : Item) (rest : List Item) (found : List ℕ × List ℕ) → Audits (item_line image i) (Some found) → Audits (items_lines image (i ∷ rest)) (Some found)
+pub item_here : (image : Image) (i : Item) (rest : List Item) (found : List ℕ × List ℕ) → Audits (item_line image i) (Some found) →
+    Audits (items_lines image (i ∷ rest)) (Some found)
 item_here image i rest found first = audits_before (item_line image i) (items_lines image rest) found first
 
 -- of two lists of items, one behind the other
@@ -53,16 +61,19 @@ first_left image (x ∷ xs) ys found first = elim (first_split (item_line image 
   | inr later ↦ first_after (item_line image x) (items_lines image (xs ++ ys)) found later.0 (first_left image xs ys found later.1)
 ]
 
-pub set_found : (image : Image) (d : Device) (found : List ℕ × List ℕ) → Audits (items_lines image d.set) (Some found) → Audits (items_lines image (items_of d)) (Some found)
+pub set_found : (image : Image) (d : Device) (found : List ℕ × List ℕ) → Audits (items_lines image d.set) (Some found) →
+    Audits (items_lines image (items_of d)) (Some found)
 set_found image d found first = first_left image d.set (pending_items d.pending) found first
 
-both_audited : (image : Image) (xs ys : List Item) (r : Option (List ℕ × List ℕ)) → AllHold (items_lines image xs) → Audits (items_lines image ys) r → Audits (items_lines image (xs ++ ys)) r
+both_audited : (image : Image) (xs ys : List Item) (r : Option (List ℕ × List ℕ)) → AllHold (items_lines image xs) → Audits (items_lines image ys) r →
+    Audits (items_lines image (xs ++ ys)) r
 both_audited image [] ys r holds said = said
 both_audited image (x ∷ xs) ys r holds said =
     let both = all_split (item_line image x) (items_lines image xs) holds in
     audits_after (item_line image x) (items_lines image (xs ++ ys)) r both.0 (both_audited image xs ys r both.1 said)
 
-pub pending_found : (image : Image) (d : Device) (r : Option (List ℕ × List ℕ)) → Audits (items_lines image d.set) None → Audits (items_lines image (pending_items d.pending)) r → Audits (items_lines image (items_of d)) r
+pub pending_found : (image : Image) (d : Device) (r : Option (List ℕ × List ℕ)) → Audits (items_lines image d.set) None →
+    Audits (items_lines image (pending_items d.pending)) r → Audits (items_lines image (items_of d)) r
 pending_found image d r holds said = both_audited image d.set (pending_items d.pending) r holds said
 
 -- ---- none is named exactly where each is held
@@ -77,7 +88,8 @@ lines_files image i (h ∷ helds) holds = (holds.0, lines_files image i helds ho
 
 items_held : (image : Image) (items : List Item) → HoldsItems image items → AllHold (items_lines image items)
 items_held image [] holds = tt
-items_held image (i ∷ items) holds = all_both (item_line image i) (items_lines image items) (files_lines image i i.artifacts holds.0) (items_held image items holds.1)
+items_held image (i ∷ items) holds = all_both (item_line image i) (items_lines image items) (files_lines image i i.artifacts holds.0)
+    (items_held image items holds.1)
 
 held_items : (image : Image) (items : List Item) → AllHold (items_lines image items) → HoldsItems image items
 held_items image [] holds = tt
@@ -107,26 +119,34 @@ device_held image d holds =
     record { set = both.0; pending = pending_held image d.pending both.1 }
 
 held_device : (image : Image) (d : Device) → HoldsDevice image d → AllHold (items_lines image (items_of d))
-held_device image d holds = items_held image (items_of d) (items_joined image d.set (pending_items d.pending) holds.set (held_pending image d.pending holds.pending))
+held_device image d holds = items_held image (items_of d) (items_joined image d.set (pending_items d.pending) holds.set
+    (held_pending image d.pending holds.pending))
 
-whole_of : (image : Image) (d : Device) (found : Option (List ℕ × List ℕ)) → Audits (items_lines image (items_of d)) found → (found ≡ None) ↔ HoldsDevice image d
+whole_of : (image : Image) (d : Device) (found : Option (List ℕ × List ℕ)) → Audits (items_lines image (items_of d)) found →
+    (found ≡ None) ↔ HoldsDevice image d
 whole_of image d None said = ((λ same. device_held image d said), (λ holds. refl))
-whole_of image d (Some one) said = ((λ same. absurd (cc same)), (λ holds. absurd (first_excludes (items_lines image (items_of d)) one (held_device image d holds) said)))
+whole_of image d (Some one) said = (
+  (λ same. absurd (cc same)),
+  (λ holds. absurd (first_excludes (items_lines image (items_of d)) one (held_device image d holds) said)),
+)
 
-pub whole : {E : Type 0} (image : Image) (d : Device) (r : Result (Option (List ℕ × List ℕ)) E) → IfOk r (Audits (items_lines image (items_of d))) → IfOk r (λ found. (found ≡ None) ↔ HoldsDevice image d)
+pub whole : {E : Type 0} (image : Image) (d : Device) (r : Result (Option (List ℕ × List ℕ)) E) → IfOk r (Audits (items_lines image (items_of d))) →
+    IfOk r (λ found. (found ≡ None) ↔ HoldsDevice image d)
 whole image d (Ok found) said = whole_of image d found said
 whole image d (Err e) said = tt
 
 -- ---- by the answers of calls
 
-pub read_more : (m file old new : List ℕ) (at n stop step : ℕ) → m ≡ take at file → (n ≡ min (length old) (length (drop at file))) × (new ≡ take n (drop at file) ++ drop n old) → stop ≡ length file → step ≡ min n (stop - at)
+pub read_more : (m file old new : List ℕ) (at n stop step : ℕ) → m ≡ take at file → (n ≡ min (length old) (length (drop at file))) ×
+    (new ≡ take n (drop at file) ++ drop n old) → stop ≡ length file → step ≡ min n (stop - at)
     → m ++ take n new ≡ take (at + step) file
 read_more m file old new at n stop step is told stops steps =
     let within : n ≤ length (drop at file) = omega (arith, told.0) in
     let left : length (drop at file) ≡ length file - at = length-drop at file in
     let same : n ≡ step = omega (arith, within, left, stops, steps) in
     let piece : length (take n (drop at file)) ≡ n = length-take-le n (drop at file) within in
-    let front : take n new ≡ take n (drop at file) = ap (take n) told.1 ∙ take-append-le n (take n (drop at file)) (drop n old) (omega (arith, piece)) ∙ take_all n (take n (drop at file)) (omega (arith, piece)) in
+    let front : take n new ≡ take n (drop at file) = ap (take n) told.1 ∙ take-append-le n (take n (drop at file)) (drop n old) (omega (arith, piece)) ∙
+    take_all n (take n (drop at file)) (omega (arith, piece)) in
     ap (λ t. t ++ take n new) is ∙ ap (λ t. take at file ++ t) front ∙ sym (take-add at n file) ∙ ap (λ k. take (at + k) file) same
 
 pub hashed_file : (image : Image) (file place digest kept : List ℕ) → file ≡ place → digest ≡ sha256 (image file) → digest ≡ kept → sha256 (image place) ≡ kept
@@ -135,7 +155,8 @@ hashed_file image file place digest kept is hashed same = ap (λ (f : List ℕ).
 pub said_of : (lines : Table (List ℕ × List ℕ)) (o p : Option (List ℕ × List ℕ)) → o ≡ p → Audits lines o → Audits lines p
 said_of lines o p is said = subst (λ (x : Option (List ℕ × List ℕ)). Audits lines x) is said
 
-pub pending_said : {E : Type 0} (image : Image) (d : Device) (r : Result (Option (List ℕ × List ℕ)) E) → Audits (items_lines image d.set) None → IfOk r (Audits (items_lines image (pending_items d.pending)))
+pub pending_said : {E : Type 0} (image : Image) (d : Device) (r : Result (Option (List ℕ × List ℕ)) E) → Audits (items_lines image d.set) None →
+    IfOk r (Audits (items_lines image (pending_items d.pending)))
     → IfOk r (Audits (items_lines image (items_of d)))
 pending_said image d (Ok found) holds said = pending_found image d found holds said
 pending_said image d (Err e) holds said = tt

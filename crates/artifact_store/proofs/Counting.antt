@@ -26,7 +26,8 @@ err_is r f g h is = err_same f g (sym (err_of r f h) ∙ is)
 -- ---- the counts
 
 -- neither fault, and neither count rose
-pub counts_still : {A : Type 0} (d e l m : ℕ) (r : Result A StageFault) → (r ≡ Err fault.Disk → ⊥) → (r ≡ Err fault.Library → ⊥) → e ≡ d → m ≡ l → Counts d e l m r
+pub counts_still : {A : Type 0} (d e l m : ℕ) (r : Result A StageFault) → (r ≡ Err fault.Disk → ⊥) → (r ≡ Err fault.Library → ⊥) → e ≡ d → m ≡ l →
+    Counts d e l m r
 counts_still d e l m r no_disk no_library disk library = record {
   disk_cause = λ is. absurd (no_disk is);
   disk_quiet = λ _. disk;
@@ -40,8 +41,10 @@ pub counts_good : {A : Type 0} (d e l m : ℕ) (value : A) → e ≡ d → m ≡
 counts_good d e l m value disk library = counts_still d e l m (Ok value) (λ is. cc is) (λ is. cc is) disk library
 
 -- any fault but those two
-pub counts_own : {A : Type 0} (d e l m : ℕ) (r : Result A StageFault) (f : StageFault) → (f ≡ fault.Disk → ⊥) → (f ≡ fault.Library → ⊥) → IsErrAnd r (λ g. g ≡ f) → e ≡ d → m ≡ l → Counts d e l m r
-counts_own d e l m r f no_disk no_library h disk library = counts_still d e l m r (λ is. no_disk (err_is r f fault.Disk h is)) (λ is. no_library (err_is r f fault.Library h is)) disk library
+pub counts_own : {A : Type 0} (d e l m : ℕ) (r : Result A StageFault) (f : StageFault) → (f ≡ fault.Disk → ⊥) → (f ≡ fault.Library → ⊥) →
+    IsErrAnd r (λ g. g ≡ f) → e ≡ d → m ≡ l → Counts d e l m r
+counts_own d e l m r f no_disk no_library h disk library = counts_still d e l m r (λ is. no_disk (err_is r f fault.Disk h is))
+    (λ is. no_library (err_is r f fault.Library h is)) disk library
 
 pub counts_memory : {A : Type 0} (d e l m : ℕ) (r : Result A StageFault) → IsErrAnd r (λ g. g ≡ fault.NoMemory) → e ≡ d → m ≡ l → Counts d e l m r
 counts_memory d e l m r h disk library = counts_own d e l m r fault.NoMemory (λ is. cc is) (λ is. cc is) h disk library
@@ -53,7 +56,8 @@ pub counts_long : {A : Type 0} (d e l m : ℕ) (file : List ℕ) (n : ℕ) → e
 counts_long d e l m file n disk library = counts_own d e l m (Err (fault.TooLarge file n)) (fault.TooLarge file n) (λ is. cc is) (λ is. cc is) refl disk library
 
 -- the disk's fault
-pub counts_disk : {A B E : Type 0} (d e l m : ℕ) (r : Result A StageFault) (g : E) → IsErrAnd r (λ f. f ≡ fault.Disk) → HasCause {T = B} d e (Err g) → m ≡ l → Counts d e l m r
+pub counts_disk : {A B E : Type 0} (d e l m : ℕ) (r : Result A StageFault) (g : E) → IsErrAnd r (λ f. f ≡ fault.Disk) → HasCause {T = B} d e (Err g) → m ≡ l →
+    Counts d e l m r
 counts_disk d e l m r g h cause library = record {
   disk_cause = λ _. cause.failed;
   disk_quiet = λ other. absurd (other (err_of r fault.Disk h));
@@ -65,7 +69,8 @@ counts_disk d e l m r g h cause library = record {
 
 -- the library's fault
 pub counts_library : {A B : Type 0} (d e l m : ℕ) (r : Result A StageFault) (g : LibraryFault) → IsErrAnd r (λ f. f ≡ fault_of g)
-    → (◌≡◌ {A = Result B LibraryFault} (Err g) (Err library.Failed) → Rose l m) → ((◌≡◌ {A = Result B LibraryFault} (Err g) (Err library.Failed) → ⊥) → m ≡ l) → l ≤ m → e ≡ d → Counts d e l m r
+    → (◌≡◌ {A = Result B LibraryFault} (Err g) (Err library.Failed) → Rose l m) → ((◌≡◌ {A = Result B LibraryFault} (Err g) (Err library.Failed) → ⊥) → m ≡ l)
+    → l ≤ m → e ≡ d → Counts d e l m r
 counts_library d e l m r library.Failed h cause quiet later disk = record {
   disk_cause = λ is. absurd (let both : fault.Library ≡ fault.Disk = err_is r fault.Library fault.Disk h is in cc both);
   disk_quiet = λ _. disk;
@@ -77,7 +82,8 @@ counts_library d e l m r library.Failed h cause quiet later disk = record {
 counts_library d e l m r library.NoMemory h cause quiet later disk = counts_memory d e l m r h disk (quiet (λ is. cc is))
 
 -- a fault that is handed on
-pub counts_handed : {A B : Type 0} (d e l m : ℕ) (r : Result A StageFault) (f : StageFault) → IsErrAnd r (λ g. g ≡ f) → Counts {A = B} d e l m (Err f) → Counts d e l m r
+pub counts_handed : {A B : Type 0} (d e l m : ℕ) (r : Result A StageFault) (f : StageFault) → IsErrAnd r (λ g. g ≡ f) → Counts {A = B} d e l m (Err f) →
+    Counts d e l m r
 counts_handed d e l m r f h counts = record {
   disk_cause = λ is. counts.disk_cause (ap Err (err_is r f fault.Disk h is));
   disk_quiet = λ other. counts.disk_quiet (λ is. other (err_of r f h ∙ ap Err (err_same f fault.Disk is)));
@@ -103,22 +109,27 @@ pub outside_of : (g : LibraryFault) → IsOutside (fault_of g)
 outside_of library.Failed = inr (inl refl)
 outside_of library.NoMemory = inr (inr refl)
 
-pub stages_err : {A : Type 0} (lines : Table StageFault) (Is : A → Type 0) (r : Result A StageFault) (f : StageFault) → IsErrAnd r (λ g. g ≡ f) → IsOutside f ⊎ IsFirst lines f → StagesBy lines Is r
+pub stages_err : {A : Type 0} (lines : Table StageFault) (Is : A → Type 0) (r : Result A StageFault) (f : StageFault) → IsErrAnd r (λ g. g ≡ f) →
+    IsOutside f ⊎ IsFirst lines f → StagesBy lines Is r
 stages_err lines Is (Ok value) f h said = absurd h
 stages_err lines Is (Err e) f h said = subst (λ (g : StageFault). IsOutside g ⊎ IsFirst lines g) (sym h) said
 
-pub stages_memory : {A : Type 0} (lines : Table StageFault) (Is : A → Type 0) (r : Result A StageFault) → IsErrAnd r (λ g. g ≡ fault.NoMemory) → StagesBy lines Is r
+pub stages_memory : {A : Type 0} (lines : Table StageFault) (Is : A → Type 0) (r : Result A StageFault) → IsErrAnd r (λ g. g ≡ fault.NoMemory) →
+    StagesBy lines Is r
 stages_memory lines Is r h = stages_err lines Is r fault.NoMemory h (inl (inr (inr refl)))
 
 pub stages_disk : {A : Type 0} (lines : Table StageFault) (Is : A → Type 0) (r : Result A StageFault) → IsErrAnd r (λ g. g ≡ fault.Disk) → StagesBy lines Is r
 stages_disk lines Is r h = stages_err lines Is r fault.Disk h (inl (inl refl))
 
 -- a fault of lines among others
-pub said_along : (lines more : Table StageFault) (f : StageFault) → (IsFirst lines f → IsFirst more f) → IsOutside f ⊎ IsFirst lines f → IsOutside f ⊎ IsFirst more f
+pub said_along : (lines more : Table StageFault) (f : StageFault) → (IsFirst lines f → IsFirst more f) → IsOutside f ⊎ IsFirst lines f → IsOutside f ⊎
+    IsFirst more f
 said_along lines more f along (inl outside) = inl outside
 said_along lines more f along (inr first) = inr (along first)
 
 -- a fault of the lines of the next value
-pub passes_said : {A B : Type 0} (lines : A → Table StageFault) (Is : A → B → Type 0) (all : List A) (x : A) (rest : List A) (done : List B) (f : StageFault) → Passes lines Is all (x ∷ rest) done
+pub passes_said : {A B : Type 0} (lines : A → Table StageFault) (Is : A → B → Type 0) (all : List A) (x : A) (rest : List A) (done : List B) (f : StageFault)
+    → Passes lines Is all (x ∷ rest) done
     → IsOutside f ⊎ IsFirst (lines x) f → IsOutside f ⊎ IsFirst (each lines all) f
-passes_said lines Is all x rest done f passes said = said_along (lines x) (each lines all) f (λ first. passes.faults f (first_before (lines x) (each lines rest) f first)) said
+passes_said lines Is all x rest done f passes said = said_along (lines x) (each lines all) f
+    (λ first. passes.faults f (first_before (lines x) (each lines rest) f first)) said

@@ -27,17 +27,21 @@ or_also a false true = refl
 or_also true false false = refl
 or_also false false false = refl
 
-any_next : {X : Type 0} (P : X → Bool) (xs : List X) (i : ℕ) (x : X) → i < length xs → x ≡ get_or xs i x → list_any P (take (i + 1) xs) ≡ (list_any P (take i xs) || (P x || false))
+any_next : {X : Type 0} (P : X → Bool) (xs : List X) (i : ℕ) (x : X) → i < length xs → x ≡ get_or xs i x →
+    list_any P (take (i + 1) xs) ≡ (list_any P (take i xs) || (P x || false))
 any_next P xs i x below is = ap (list_any P) (take_more xs i x below ∙ ap (λ y. take i xs ++ y ∷ []) (sym is)) ∙ list_any-append P (take i xs) (x ∷ [])
 
 -- one key more
-pub need_next : {X : Type 0} (P : X → Bool) (xs : List X) (i : ℕ) (x : X) (was mid now at : Bool) → i < length xs → x ≡ get_or xs i x → at ≡ P x → now ≡ cond at true mid → mid ≡ (was || list_any P (take i xs))
+pub need_next : {X : Type 0} (P : X → Bool) (xs : List X) (i : ℕ) (x : X) (was mid now at : Bool) → i < length xs → x ≡ get_or xs i x → at ≡ P x →
+    now ≡ cond at true mid → mid ≡ (was || list_any P (take i xs))
     → now ≡ (was || list_any P (take (i + 1) xs))
 need_next P xs i x was mid now at below is same updated so =
-    updated ∙ ap (λ m. cond at true m) so ∙ ap (λ a. cond a true (was || list_any P (take i xs))) same ∙ or_one (P x) was (list_any P (take i xs)) ∙ ap (λ b. was || b) (sym (any_next P xs i x below is))
+    updated ∙ ap (λ m. cond at true m) so ∙ ap (λ a. cond a true (was || list_any P (take i xs))) same ∙ or_one (P x) was (list_any P (take i xs)) ∙ ap
+    (λ b. was || b) (sym (any_next P xs i x below is))
 
 -- the keys of one value more
-pub need_also : {X : Type 0} (P : X → Bool) (xs : List X) (i : ℕ) (x : X) (was mid now : Bool) → i < length xs → x ≡ get_or xs i x → now ≡ (mid || P x) → mid ≡ (was || list_any P (take i xs))
+pub need_also : {X : Type 0} (P : X → Bool) (xs : List X) (i : ℕ) (x : X) (was mid now : Bool) → i < length xs → x ≡ get_or xs i x → now ≡ (mid || P x) →
+    mid ≡ (was || list_any P (take i xs))
     → now ≡ (was || list_any P (take (i + 1) xs))
 need_also P xs i x was mid now below is updated so =
     updated ∙ ap (λ m. m || P x) so ∙ or_also (P x) was (list_any P (take i xs)) ∙ ap (λ b. was || b) (sym (any_next P xs i x below is))
@@ -52,12 +56,14 @@ or_none false = refl
 
 -- ---- the test is true of the needed files, and of no others
 
-files_named : (i : Item) (helds : List Held) (file : List ℕ) → list_any (λ h. bytes_eq (path i.name i.version h.file) file) helds ≡ true → (h : Held) × Contains helds h × (file ≡ path i.name i.version h.file)
+files_named : (i : Item) (helds : List Held) (file : List ℕ) → list_any (λ h. bytes_eq (path i.name i.version h.file) file) helds ≡ true → (h : Held) ×
+    Contains helds h × (file ≡ path i.name i.version h.file)
 files_named i [] file h = absurd (false≢true h)
-files_named i (g ∷ helds) file h = elim (or_cases (bytes_eq (path i.name i.version g.file) file) (list_any (λ (k : Held). bytes_eq (path i.name i.version k.file) file) helds) h) [
-  | inl e ↦ (g, in_here g helds, sym ((bytes_decides (path i.name i.version g.file) file).0 e))
-  | inr r ↦ let k = files_named i helds file r in (k.0, in_there g helds k.0 k.1, k.2)
-]
+files_named i (g ∷ helds) file h = elim (or_cases (bytes_eq (path i.name i.version g.file) file)
+    (list_any (λ (k : Held). bytes_eq (path i.name i.version k.file) file) helds) h) [
+      | inl e ↦ (g, in_here g helds, sym ((bytes_decides (path i.name i.version g.file) file).0 e))
+      | inr r ↦ let k = files_named i helds file r in (k.0, in_there g helds k.0 k.1, k.2)
+    ]
 
 pub among_found : (items : List Item) (file : List ℕ) → is_file_among items file ≡ true → IsFileAmong items file
 among_found [] file h = absurd (false≢true h)
@@ -76,7 +82,11 @@ or_right false c e = e
 
 not_any : {X : Type 0} (P : X → Bool) (xs : List X) (x : X) → list_any P xs ≡ false → Contains xs x → P x ≡ false
 not_any P [] x none has = absurd (in_nil x has)
-not_any P (y ∷ xs) x none has = elim (in_cons y xs x has) [ inl e ↦ subst (λ z. P z ≡ false) e (or_left (P y) (list_any P xs) none) | inr more ↦ not_any P xs x (or_right (P y) (list_any P xs) none) more ]
+not_any P (y ∷ xs) x none has = elim (in_cons y xs x has) [
+  | inl e ↦ subst (λ z. P z ≡ false) e (or_left (P y) (list_any P xs) none)
+  | inr more ↦ not_any P xs
+      x (or_right (P y) (list_any P xs) none) more
+]
 
 pub not_among : (items : List Item) (file : List ℕ) → is_file_among items file ≡ false → IsFileAmong items file → ⊥
 not_among items file none among =
@@ -91,5 +101,6 @@ not_among items file none among =
 pub placed : {A : Type 0} (xs all : List A) (i : ℕ) (x : A) → xs ≡ all → i < length xs → x ≡ get_or xs i x → (i < length all) × (x ≡ get_or all i x)
 placed xs all i x same below is = subst (λ ys. (i < length ys) × (x ≡ get_or ys i x)) same (below, is)
 
-pub any_whole : {A : Type 0} (P : A → Bool) (xs all : List A) (i : ℕ) (was now : Bool) → xs ≡ all → length xs ≤ i → now ≡ (was || list_any P (take i all)) → now ≡ (was || list_any P all)
+pub any_whole : {A : Type 0} (P : A → Bool) (xs all : List A) (i : ℕ) (was now : Bool) → xs ≡ all → length xs ≤ i → now ≡ (was || list_any P (take i all)) →
+    now ≡ (was || list_any P all)
 any_whole P xs all i was now same past so = so ∙ ap (λ ys. was || list_any P ys) (subst (λ ys. take i ys ≡ ys) same (take_all i xs past))

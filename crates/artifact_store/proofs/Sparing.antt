@@ -63,7 +63,8 @@ paths_differ n v f m w g name version other_name other_version e =
     (names.0, versions.0, versions.1)
 
 -- no file that is staged is one of a kept item
-pub staging_spares : (kept : List Item) (items : List DraftItem) (file : List ℕ) → AllByRecursion IsNamed kept → AllByRecursion IsNamedDraft items → IsFileAmong kept file → IsStagedAmong kept items file → ⊥
+pub staging_spares : (kept : List Item) (items : List DraftItem) (file : List ℕ) → AllByRecursion IsNamed kept → AllByRecursion IsNamedDraft items →
+    IsFileAmong kept file → IsStagedAmong kept items file → ⊥
 staging_spares kept items file named drafted among staged =
     let mine = each_of IsNamed kept among.0 named among.1 in
     let theirs = each_of IsNamedDraft items staged.0 drafted staged.1 in
@@ -73,19 +74,25 @@ staging_spares kept items file named drafted among staged =
 -- ---- what an image holds
 
 -- of one item's files
-pub holds_files : (name version : List ℕ) (helds : List Held) (old new : Image) → ((h : Held) → Contains helds h → new (path name version h.file) ≡ old (path name version h.file))
+pub holds_files : (name version : List ℕ) (helds : List Held) (old new : Image) →
+    ((h : Held) → Contains helds h → new (path name version h.file) ≡ old (path name version h.file))
     → HoldsFiles old name version helds → HoldsFiles new name version helds
 holds_files name version [] old new same holds = tt
-holds_files name version (h ∷ helds) old new same holds = (ap sha256 (same h (in_here h helds)) ∙ holds.0, holds_files name version helds old new (λ g has. same g (in_there h helds g has)) holds.1)
+holds_files name version (h ∷ helds) old new same holds = (
+  ap sha256 (same h (in_here h helds)) ∙ holds.0,
+  holds_files name version helds old new (λ g has. same g (in_there h helds g has)) holds.1,
+)
 
-pub holds_items : (items : List Item) (old new : Image) → ((file : List ℕ) → IsFileAmong items file → new file ≡ old file) → HoldsItems old items → HoldsItems new items
+pub holds_items : (items : List Item) (old new : Image) → ((file : List ℕ) → IsFileAmong items file → new file ≡ old file) → HoldsItems old items →
+    HoldsItems new items
 holds_items [] old new same holds = tt
 holds_items (i ∷ items) old new same holds = (
   holds_files i.name i.version i.artifacts old new (λ h has. same _ (i, in_here i items, (h, has, refl))) holds.0,
   holds_items items old new (λ file among. same file (among.0, in_there i items among.0 among.1, among.2)) holds.1,
 )
 
-pub spared_stay : (items : List Item) (files : List ℕ → Type 0) (old new : Image) → ((file : List ℕ) → IsFileAmong items file → files file → ⊥) → Spares files old new → HoldsItems old items → HoldsItems new items
+pub spared_stay : (items : List Item) (files : List ℕ → Type 0) (old new : Image) → ((file : List ℕ) → IsFileAmong items file → files file → ⊥) →
+    Spares files old new → HoldsItems old items → HoldsItems new items
 spared_stay items files old new apart spares holds = holds_items items old new (λ file among. spares file (apart file among)) holds
 
 pub staging_keeps : (kept : List Item) (draft : Draft) (old new : Image) → AllByRecursion IsNamed kept → AllByRecursion IsNamedDraft draft.items
@@ -124,7 +131,8 @@ holds_the_set d image none holds = record { set = holds; pending = no_pending d.
 module _ {D : Type 0} {is_modelled : Bool} {seen : D → Image} {may_leave : D → Image → Type 0} {moment : D → ℕ} {left_since : D → ℕ → Image → Type 0}
     (laws : DiskLaws is_modelled seen may_leave moment left_since) where
   pub staged_safe : (kept : List Item) (draft : Draft) (d : Device) (old new : D) → AllByRecursion IsNamed kept → AllByRecursion IsNamedDraft draft.items
-      → Leaves moment left_since old new (After (may_leave old) (Spares (IsStaged kept draft))) → d.set ≡ kept → d.pending ≡ None → AllHoldDevice (may_leave old) d
+      → Leaves moment left_since old new (After (may_leave old) (Spares (IsStaged kept draft))) → d.set ≡ kept → d.pending ≡ None →
+      AllHoldDevice (may_leave old) d
       → Leaves moment left_since old new (λ c. HoldsDevice c d)
   staged_safe kept draft d old new named drafted leaves is none holds =
       weaker laws old new _ _
@@ -134,7 +142,8 @@ module _ {D : Type 0} {is_modelled : Bool} {seen : D → Image} {may_leave : D �
       holds_the_set d c none (subst (λ (items : List Item). HoldsItems c items) (sym is) after))
       leaves
 
-  pub swept_safe : (d : Device) (old new : D) → Leaves moment left_since old new (After (may_leave old) (Spares (IsStray (items_of d)))) → AllHoldDevice (may_leave old) d
+  pub swept_safe : (d : Device) (old new : D) → Leaves moment left_since old new (After (may_leave old) (Spares (IsStray (items_of d)))) →
+      AllHoldDevice (may_leave old) d
       → Leaves moment left_since old new (λ c. HoldsDevice c d)
   swept_safe d old new leaves holds = weaker laws old new _ _ (λ c was. sweeping_keeps d was.0 c was.2 (holds was.0 was.1)) leaves
 

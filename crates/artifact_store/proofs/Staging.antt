@@ -82,7 +82,8 @@ Apart left right ones bs = AllByRecursion (λ a. IsNone right (left a) bs) ones
 pub apart_none : {A B : Type 0} (left : A → List ℕ) (right : B → List ℕ) (bs : List B) → Apart left right [] bs
 apart_none left right bs = tt
 
-tails_apart : {A B : Type 0} (left : A → List ℕ) (right : B → List ℕ) (ones : List A) (b : B) (bs : List B) → Apart left right ones (b ∷ bs) → Apart left right ones bs
+tails_apart : {A B : Type 0} (left : A → List ℕ) (right : B → List ℕ) (ones : List A) (b : B) (bs : List B) → Apart left right ones (b ∷ bs) →
+    Apart left right ones bs
 tails_apart left right [] b bs apart = tt
 tails_apart left right (a ∷ ones) b bs apart = (apart.0.1, tails_apart left right ones b bs apart.1)
 
@@ -94,9 +95,11 @@ push_each P (x ∷ ones) a each last = (each.0, push_each P ones a each.1 last)
 pub apart_more : {A B : Type 0} (left : A → List ℕ) (right : B → List ℕ) (ones : List A) (a : A) (b : B) (bs : List B)
     → Apart left right ones (b ∷ bs) → left a ≡ right b → Differ (map right (b ∷ bs)) → Apart left right (ones ++ a ∷ []) bs
 apart_more left right ones a b bs apart same differ =
-    push_each (λ x. IsNone right (left x) bs) ones a (tails_apart left right ones b bs apart) (subst (λ (x : List ℕ). IsNone right x bs) (sym same) (none_of right (right b) bs differ.0))
+    push_each (λ x. IsNone right (left x) bs) ones a (tails_apart left right ones b bs apart)
+    (subst (λ (x : List ℕ). IsNone right x bs) (sym same) (none_of right (right b) bs differ.0))
 
-pub heads_apart : {A B : Type 0} (left : A → List ℕ) (right : B → List ℕ) (ones : List A) (b : B) (bs : List B) → Apart left right ones (b ∷ bs) → AllByRecursion (λ a. left a ≢ right b) ones
+pub heads_apart : {A B : Type 0} (left : A → List ℕ) (right : B → List ℕ) (ones : List A) (b : B) (bs : List B) → Apart left right ones (b ∷ bs) →
+    AllByRecursion (λ a. left a ≢ right b) ones
 heads_apart left right [] b bs apart = tt
 heads_apart left right (a ∷ ones) b bs apart = (apart.0.0, heads_apart left right ones b bs apart.1)
 
@@ -110,7 +113,8 @@ file_of name version f g e =
     let versioned = append_cancel_left version _ _ slashed in
     append_cancel_left (47 ∷ []) _ _ versioned
 
-others_hold : (name version file : List ℕ) (helds : List Held) (old new : Image) → AllByRecursion (λ h. h.file ≢ file) helds → Spares (IsFile (path name version file)) old new
+others_hold : (name version file : List ℕ) (helds : List Held) (old new : Image) → AllByRecursion (λ h. h.file ≢ file) helds →
+    Spares (IsFile (path name version file)) old new
     → HoldsFiles old name version helds → HoldsFiles new name version helds
 others_hold name version file [] old new differ spares holds = tt
 others_hold name version file (h ∷ helds) old new differ spares holds = (
@@ -123,36 +127,42 @@ pub files_more : (name version : List ℕ) (a : Artifact) (ones : List Artifact)
     → Apart (λ (g : Held). g.file) artifact_file helds (a ∷ ones) → h.file ≡ a.file → sha256 (new (path name version a.file)) ≡ h.digest
     → Spares (IsFile (path name version a.file)) old new → HoldsFiles old name version helds → HoldsFiles new name version (helds ++ h ∷ [])
 files_more name version a ones helds h old new apart same digest spares holds =
-    push_each (HoldsFile new name version) helds h (others_hold name version a.file helds old new (heads_apart (λ (g : Held). g.file) artifact_file helds a ones apart) spares holds)
+    push_each (HoldsFile new name version) helds h (others_hold name version a.file helds old new
+    (heads_apart (λ (g : Held). g.file) artifact_file helds a ones apart) spares holds)
     (ap (λ f. sha256 (new (path name version f))) same ∙ digest)
 
 -- ---- items
 
 -- what an image holds of items with other names stays, whatever becomes of an item's files
-pub items_stay : (kept : List Item) (i : DraftItem) (items : List Item) (old new : Image) → AllByRecursion IsNamed items → IsNamedDraft i → AllByRecursion (λ o. o.name ≢ i.name) items
+pub items_stay : (kept : List Item) (i : DraftItem) (items : List Item) (old new : Image) → AllByRecursion IsNamed items → IsNamedDraft i →
+    AllByRecursion (λ o. o.name ≢ i.name) items
     → Spares (IsStagedOf kept i) old new → HoldsItems old items → HoldsItems new items
 items_stay kept i [] old new named drafted differ spares holds = tt
 items_stay kept i (o ∷ items) old new named drafted differ spares holds = (
   holds_files o.name o.version o.artifacts old new
-      (λ h has. spares _ (λ staged. differ.0 (paths_differ o.name o.version h.file i.name i.version staged.1.0.file named.0.0 named.0.1 drafted.0 drafted.1 staged.1.2).0)) holds.0,
+      (λ h has. spares _ (λ staged. differ.0 (paths_differ o.name o.version h.file i.name i.version staged.1.0.file named.0.0 named.0.1 drafted.0 drafted.1
+      staged.1.2).0)) holds.0,
   items_stay kept i items old new named.1 drafted differ.1 spares holds.1,
 )
 
 -- what an image holds of the kept items stays
-pub kept_stay : (kept : List Item) (i : DraftItem) (old new : Image) → AllByRecursion IsNamed kept → IsNamedDraft i → Spares (IsStagedOf kept i) old new → HoldsItems old kept → HoldsItems new kept
+pub kept_stay : (kept : List Item) (i : DraftItem) (old new : Image) → AllByRecursion IsNamed kept → IsNamedDraft i → Spares (IsStagedOf kept i) old new →
+    HoldsItems old kept → HoldsItems new kept
 kept_stay kept i old new named drafted spares holds =
     holds_items kept old new (λ file among. spares file (λ staged. staging_spares kept (i ∷ []) file named (drafted, tt) among (i, in_here i [], staged))) holds
 
 -- ---- an item that is kept
 
-kept_file : (image : Image) (name version : List ℕ) (helds : List Held) (h g : Held) → HoldsFiles image name version helds → Contains helds g → g.file ≡ h.file → g.digest ≡ h.digest → HoldsFile image name version h
+kept_file : (image : Image) (name version : List ℕ) (helds : List Held) (h g : Held) → HoldsFiles image name version helds → Contains helds g →
+    g.file ≡ h.file → g.digest ≡ h.digest → HoldsFile image name version h
 kept_file image name version helds h g holds has file digest =
     ap (λ f. sha256 (image (path name version f))) (sym file) ∙ each_of (HoldsFile image name version) helds g holds has ∙ digest
 
 some_same : (a b : List ℕ) → Some a ≡ Some b → a ≡ b
 some_same a b e = cc e
 
-kept_files : (image : Image) (name version : List ℕ) (kept : List Held) (ones : List Artifact) (helds : List Held) → HoldsFiles image name version kept → AllByRecursion (HasKeptFile kept) ones
+kept_files : (image : Image) (name version : List ℕ) (kept : List Held) (ones : List Artifact) (helds : List Held) → HoldsFiles image name version kept →
+    AllByRecursion (HasKeptFile kept) ones
     → AllZip IsAsGiven ones helds → HoldsFiles image name version helds
 kept_files image name version kept [] [] holds has given = tt
 kept_files image name version kept [] (h ∷ helds) holds has given = absurd given
@@ -163,9 +173,11 @@ kept_files image name version kept (a ∷ ones) (h ∷ helds) holds has given = 
 )
 
 -- the files of a kept item have the digests that its draft gives
-pub kept_item : (kept : List Item) (i : DraftItem) (k : Item) (helds : List Held) (image : Image) → HoldsItems image kept → KeepsFiles kept i → Contains kept k → k.name ≡ i.name → k.version ≡ i.version
+pub kept_item : (kept : List Item) (i : DraftItem) (k : Item) (helds : List Held) (image : Image) → HoldsItems image kept → KeepsFiles kept i →
+    Contains kept k → k.name ≡ i.name → k.version ≡ i.version
     → AllZip IsAsGiven i.artifacts helds → HoldsFiles image i.name i.version helds
 kept_item kept i k helds image holds keeps has name version given =
     let mine : HoldsItem image k = each_of (HoldsItem image) kept k holds has in
-    let files : HoldsFiles image i.name i.version k.artifacts = subst (λ (n : List ℕ). HoldsFiles image n i.version k.artifacts) name (subst (λ (v : List ℕ). HoldsFiles image k.name v k.artifacts) version mine) in
+    let files : HoldsFiles image i.name i.version k.artifacts = subst (λ (n : List ℕ). HoldsFiles image n i.version k.artifacts) name
+    (subst (λ (v : List ℕ). HoldsFiles image k.name v k.artifacts) version mine) in
     kept_files image i.name i.version k.artifacts i.artifacts helds files (keeps k has name version) given

@@ -115,7 +115,8 @@ fills_given l i (a ∷ ones) (h ∷ helds) given = ((λ none. absurd (some_none 
 none_hold : (l : Content) (kept : List Item) (i : DraftItem) → is_kept kept i ≡ true → AllHold (item_lines l kept i)
 none_hold l kept i h = rw h tt
 
-pub kept_stages : {A : Type 0} (l : Content) (kept : List Item) (i : DraftItem) (Is : A → Type 0) (value : A) → is_kept kept i ≡ true → Is value → StagesBy (item_lines l kept i) Is (Ok value)
+pub kept_stages : {A : Type 0} (l : Content) (kept : List Item) (i : DraftItem) (Is : A → Type 0) (value : A) → is_kept kept i ≡ true → Is value →
+    StagesBy (item_lines l kept i) Is (Ok value)
 kept_stages l kept i Is value h is = (none_hold l kept i h, is)
 
 -- ---- moments
@@ -127,17 +128,20 @@ module _ {D : Type 0} {is_modelled : Bool} {seen : D → Image} {may_leave : D �
   start_spares files d = weaker laws d d _ _ (none_spares (may_leave d) files) (at_start laws d)
 
   -- a call that changes some of the files
-  pub wider_spares : (fewer files : List ℕ → Type 0) (old new : D) → ((name : List ℕ) → fewer name → files name) → Leaves moment left_since old new (After (may_leave old) (Spares fewer))
+  pub wider_spares : (fewer files : List ℕ → Type 0) (old new : D) → ((name : List ℕ) → fewer name → files name) →
+      Leaves moment left_since old new (After (may_leave old) (Spares fewer))
       → Leaves moment left_since old new (After (may_leave old) (Spares files))
   wider_spares fewer files old new wider leaves = weaker laws old new _ _ (spares_more (may_leave old) fewer files wider) leaves
 
-  pub more_spares : (fewer files : List ℕ → Type 0) (old mid new : D) → ((name : List ℕ) → fewer name → files name) → Leaves moment left_since old mid (After (may_leave old) (Spares files))
+  pub more_spares : (fewer files : List ℕ → Type 0) (old mid new : D) → ((name : List ℕ) → fewer name → files name) →
+      Leaves moment left_since old mid (After (may_leave old) (Spares files))
       → Leaves moment left_since mid new (After (may_leave mid) (Spares fewer)) → Leaves moment left_since old new (After (may_leave old) (Spares files))
   more_spares fewer files old mid new wider first second = then_spares laws files old mid new first (wider_spares fewer files mid new wider second)
 
   -- a file more is held
   pub held_more : (name version : List ℕ) (a : Artifact) (ones : List Artifact) (helds : List Held) (h : Held) (mid new : D)
-      → Leaves moment left_since mid new (After (may_leave mid) (Spares (IsFile (path name version a.file)))) → Apart (λ (g : Held). g.file) artifact_file helds (a ∷ ones) → h.file ≡ a.file
+      → Leaves moment left_since mid new (After (may_leave mid) (Spares (IsFile (path name version a.file)))) →
+      Apart (λ (g : Held). g.file) artifact_file helds (a ∷ ones) → h.file ≡ a.file
       → ((c : Image) → may_leave new c → sha256 (c (path name version a.file)) ≡ h.digest) → ((c : Image) → may_leave mid c → HoldsFiles c name version helds)
       → (c : Image) → may_leave new c → HoldsFiles c name version (helds ++ h ∷ [])
   held_more name version a ones helds h mid new leaves apart same digest holds c left =
@@ -145,21 +149,24 @@ module _ {D : Type 0} {is_modelled : Bool} {seen : D → Image} {may_leave : D �
       files_more name version a ones helds h was.0 c apart same (digest c left) was.2 (holds was.0 was.1)
 
   -- the kept items stay
-  pub kept_more : (kept : List Item) (i : DraftItem) (mid new : D) → AllByRecursion IsNamed kept → IsNamedDraft i → Leaves moment left_since mid new (After (may_leave mid) (Spares (IsStagedOf kept i)))
+  pub kept_more : (kept : List Item) (i : DraftItem) (mid new : D) → AllByRecursion IsNamed kept → IsNamedDraft i →
+      Leaves moment left_since mid new (After (may_leave mid) (Spares (IsStagedOf kept i)))
       → AllHoldItems (may_leave mid) kept → AllHoldItems (may_leave new) kept
   kept_more kept i mid new named drafted leaves holds c left =
       let was = now laws mid new _ leaves c left in
       kept_stay kept i was.0 c named drafted was.2 (holds was.0 was.1)
 
   -- and so do those that are taken in, and one more is
-  pub items_more : (kept : List Item) (i : DraftItem) (items : List Item) (made : Item) (mid new : D) → AllByRecursion IsNamed items → IsNamedDraft i → AllByRecursion (λ o. o.name ≢ i.name) items
+  pub items_more : (kept : List Item) (i : DraftItem) (items : List Item) (made : Item) (mid new : D) → AllByRecursion IsNamed items → IsNamedDraft i →
+      AllByRecursion (λ o. o.name ≢ i.name) items
       → Leaves moment left_since mid new (After (may_leave mid) (Spares (IsStagedOf kept i))) → ((c : Image) → may_leave new c → HoldsItem c made)
       → AllHoldItems (may_leave mid) items → AllHoldItems (may_leave new) (items ++ made ∷ [])
   items_more kept i items made mid new named drafted differ leaves one holds c left =
       let was = now laws mid new _ leaves c left in
       push_each (HoldsItem c) items made (items_stay kept i items was.0 c named drafted differ was.2 (holds was.0 was.1)) (one c left)
 
-pub others_more : (fewer files : List ℕ → Type 0) (old mid new : Image) → ((name : List ℕ) → fewer name → files name) → Spares files old mid → Spares fewer mid new → Spares files old new
+pub others_more : (fewer files : List ℕ → Type 0) (old mid new : Image) → ((name : List ℕ) → fewer name → files name) → Spares files old mid →
+    Spares fewer mid new → Spares files old new
 others_more fewer files old mid new wider first second name spared = second name (λ is. spared (wider name is)) ∙ first name spared
 
 -- ---- a file that is held
@@ -167,11 +174,13 @@ others_more fewer files old mid new wider first second name spared = second name
 pub held_file : (a : Artifact) (h : Held) (digest : List ℕ) → (h.file ≡ a.file) × (h.digest ≡ digest) → IfSome a.digest (λ d. digest ≡ d) → IsHeldFor a h
 held_file a h digest held given = record { file = held.0; digest = subst (λ (x : List ℕ). IfSome a.digest (λ d. x ≡ d)) (sym held.1) given }
 
-pub fills_file : (l : Content) (i : DraftItem) (a : Artifact) (h : Held) (digest : List ℕ) → h.digest ≡ digest → IsDigestOf (l.artifact i.name i.version a.file) digest → FillsFile l i a h
+pub fills_file : (l : Content) (i : DraftItem) (a : Artifact) (h : Held) (digest : List ℕ) → h.digest ≡ digest →
+    IsDigestOf (l.artifact i.name i.version a.file) digest → FillsFile l i a h
 fills_file l i a h digest same is none = subst (λ (x : List ℕ). IsDigestOf (l.artifact i.name i.version a.file) x) (sym same) is
 
 -- the kept files of an item that the set has
-pub kept_helds : (kept : List Item) (i : DraftItem) (helds : List Held) (image : Image) → HoldsItems image kept → KeepsFiles kept i → IsKeptBy kept i → AllZip IsAsGiven i.artifacts helds
+pub kept_helds : (kept : List Item) (i : DraftItem) (helds : List Held) (image : Image) → HoldsItems image kept → KeepsFiles kept i → IsKeptBy kept i →
+    AllZip IsAsGiven i.artifacts helds
     → HoldsFiles image i.name i.version helds
 kept_helds kept i helds image holds keeps by given = kept_item kept i by.one helds image holds keeps by.there by.name by.version given
 

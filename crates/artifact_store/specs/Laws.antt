@@ -32,7 +32,8 @@ HoldsTheSet = (d : Device) (image : Image) → d.pending ≡ None → HoldsItems
 
 -- every file that is staged or swept lies in the folder of the artifacts
 abbrev pub StaysBelow : Type 0
-StaysBelow = (kept : List Item) (draft : Draft) (items : List Item) (file : List ℕ) → (IsStaged kept draft file → IsBelow artifacts file) × (IsStray items file → IsBelow artifacts file)
+StaysBelow = (kept : List Item) (draft : Draft) (items : List Item) (file : List ℕ) → (IsStaged kept draft file → IsBelow artifacts file) ×
+    (IsStray items file → IsBelow artifacts file)
 
 -- in which no journal lies
 abbrev pub JournalsLieElsewhere : Type 0

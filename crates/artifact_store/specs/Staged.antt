@@ -1,5 +1,6 @@
 -- What staging a draft answers and leaves.
-use Rattle.std.specs.Prelude.{◌≡◌, ◌⊎◌, ℕ, ◌≤◌, ◌&&◌, nat_eq, Bool, true, false, List, [], ◌++◌, length, map, Option, Some, None, Result, MatchResult, IsErrOf, IfSome}
+use Rattle.std.specs.Prelude.{◌≡◌, ◌⊎◌, ℕ, ◌≤◌, ◌&&◌, nat_eq, Bool, true, false, List, [], ◌++◌, length, map, Option, Some, None, Result, MatchResult}
+use Rattle.std.specs.Prelude.{IsErrOf, IfSome}
 use Rattle.std.specs.List.{AllByRecursion, Contains, IsDistinct, list_any}
 use Rattle.std.specs.Option.{IsSome}
 use Rattle.std.specs.Str.{bytes_eq}

@@ -97,7 +97,8 @@ pub(crate) fn stage_file<D: Disk, L: Library>(
     artifact: &Artifact,
 ) -> Result<[u8; 32], StageFault>
     // A crash at any moment of the call changes that file alone.
-    ensures moments { Leaves D.moment D.left_since disk.old disk.new (After (D.may_leave disk.old) (Spares (IsFile (path item.now.name item.now.version artifact.now.file)))) }
+    ensures moments { Leaves D.moment D.left_since disk.old disk.new
+        (After (D.may_leave disk.old) (Spares (IsFile (path item.now.name item.now.version artifact.now.file)))) }
     ensures others { IsTrue D.is_modelled → Spares (IsFile (path item.now.name item.now.version artifact.now.file)) (D.seen disk.old) (D.seen disk.new) }
     // Then a crash leaves bytes of that digest.
     ensures held { IfOk result (λ digest. (c : Image) → D.may_leave disk.new c → sha256 (c (path item.now.name item.now.version artifact.now.file)) ≡ digest) }

@@ -11,7 +11,8 @@ ghost use Rattle.device.specs.Plans.{IsHeldFor, Rise};
 ghost use Rattle.artifact_store.specs.Filled.{FillsFile, FillsFiles, FillsItem, Fills, Filled};
 ghost use Rattle.artifact_store.specs.Holding.{HoldsFiles, HoldsItem, HoldsDevice, AllHoldItems, AllHoldDevice};
 ghost use Rattle.artifact_store.specs.Paths.{IsNamed, IsNamedDraft};
-ghost use Rattle.artifact_store.specs.Staged.{Counts, StagesBy, IsFileOfDraft, IsStaged, IsStagedOf, IsStagedAmong, KeepsFiles, HasItsFiles, IsGiven, draft_name, artifact_lines, item_lines, draft_lines, is_kept};
+ghost use Rattle.artifact_store.specs.Staged.{Counts, StagesBy, IsFileOfDraft, IsStaged, IsStagedOf, IsStagedAmong, KeepsFiles, HasItsFiles, IsGiven};
+ghost use Rattle.artifact_store.specs.Staged.{draft_name, artifact_lines, item_lines, draft_lines, is_kept};
 
 use crate::copies::stage_file;
 use crate::fault::StageFault;
@@ -92,9 +93,11 @@ fn item_files<D: Disk, L: Library>(
 ) -> Result<List<Held>, StageFault>
     requires keeps { KeepsFiles (map item_view kept.now) (draft_item_view item.now) }
     requires differ { HasItsFiles (draft_item_view item.now) }
-    ensures moments { Leaves D.moment D.left_since disk.old disk.new (After (D.may_leave disk.old) (Spares (IsStagedOf (map item_view kept.now) (draft_item_view item.now)))) }
+    ensures moments { Leaves D.moment D.left_since disk.old disk.new
+        (After (D.may_leave disk.old) (Spares (IsStagedOf (map item_view kept.now) (draft_item_view item.now)))) }
     ensures others { IsTrue D.is_modelled → Spares (IsStagedOf (map item_view kept.now) (draft_item_view item.now)) (D.seen disk.old) (D.seen disk.new) }
-    ensures held { IfOk result (λ helds. AllHoldItems (D.may_leave disk.old) (map item_view kept.now) → (c : Image) → D.may_leave disk.new c → HoldsFiles c item.now.name item.now.version helds) }
+    ensures held { IfOk result (λ helds. AllHoldItems (D.may_leave disk.old) (map item_view kept.now) → (c : Image) → D.may_leave disk.new c →
+        HoldsFiles c item.now.name item.now.version helds) }
     ensures given { IfOk result (λ helds. AllZip IsHeldFor item.now.artifacts helds) }
     ensures staged { (l : Content) → L.content library.old ≡ Some l →
         StagesBy (item_lines l (map item_view kept.now) (draft_item_view item.now))
@@ -119,9 +122,11 @@ fn stage_item<D: Disk, L: Library>(
 ) -> Result<Item, StageFault>
     requires keeps { KeepsFiles (map item_view kept.now) (draft_item_view item) }
     requires differ { HasItsFiles (draft_item_view item) }
-    ensures moments { Leaves D.moment D.left_since disk.old disk.new (After (D.may_leave disk.old) (Spares (IsStagedOf (map item_view kept.now) (draft_item_view item)))) }
+    ensures moments { Leaves D.moment D.left_since disk.old disk.new
+        (After (D.may_leave disk.old) (Spares (IsStagedOf (map item_view kept.now) (draft_item_view item)))) }
     ensures others { IsTrue D.is_modelled → Spares (IsStagedOf (map item_view kept.now) (draft_item_view item)) (D.seen disk.old) (D.seen disk.new) }
-    ensures held { IfOk result (λ made. AllHoldItems (D.may_leave disk.old) (map item_view kept.now) → (c : Image) → D.may_leave disk.new c → HoldsItem c (item_view made)) }
+    ensures held { IfOk result (λ made. AllHoldItems (D.may_leave disk.old) (map item_view kept.now) → (c : Image) → D.may_leave disk.new c →
+        HoldsItem c (item_view made)) }
     ensures fills { IfOk result (λ made. FillsItem (draft_item_view item) (item_view made)) }
     ensures staged { (l : Content) → L.content library.old ≡ Some l →
         StagesBy (item_lines l (map item_view kept.now) (draft_item_view item)) (λ made. FillsFiles l (draft_item_view item) (item_view made)) result }
@@ -165,13 +170,15 @@ pub fn stage<D: Disk, L: Library>(
     requires differ { AllByRecursion HasItsFiles (map draft_item_view draft.items) }
     requires keeps { AllByRecursion (KeepsFiles (map item_view kept.now)) (map draft_item_view draft.items) }
     // A crash at any moment of the call changes staged files alone.
-    ensures moments { Leaves D.moment D.left_since disk.old disk.new (After (D.may_leave disk.old) (Spares (IsStaged (map item_view kept.now) (draft_view draft)))) }
+    ensures moments { Leaves D.moment D.left_since disk.old disk.new
+        (After (D.may_leave disk.old) (Spares (IsStaged (map item_view kept.now) (draft_view draft)))) }
     ensures others { IsTrue D.is_modelled → Spares (IsStaged (map item_view kept.now) (draft_view draft)) (D.seen disk.old) (D.seen disk.new) }
     // So a device that has these items and nothing pending has its files at each moment, where it had them before.
     ensures safe { (d : stored.Device) → d.set ≡ map item_view kept.now → d.pending ≡ None → AllHoldDevice (D.may_leave disk.old) d
         → Leaves D.moment D.left_since disk.old disk.new (λ c. HoldsDevice c d) }
     // Where a crash before left each kept file with its digest, a crash then leaves each file of the plan with its own.
-    ensures held { IfOk result (λ plan. AllHoldItems (D.may_leave disk.old) (map item_view kept.now) → AllHoldItems (D.may_leave disk.new) (map item_view plan.items)) }
+    ensures held { IfOk result (λ plan. AllHoldItems (D.may_leave disk.old) (map item_view kept.now) →
+        AllHoldItems (D.may_leave disk.new) (map item_view plan.items)) }
     ensures fills { IfOk result (λ plan. Fills (draft_view draft) (plan_view plan)) }
     ensures staged { (l : Content) → L.content library.old ≡ Some l →
         StagesBy (draft_lines l (map item_view kept.now) (draft_view draft)) (λ plan. Filled l (draft_view draft) (plan_view plan)) result }
@@ -212,9 +219,11 @@ fn stage_items<D: Disk, L: Library>(
     requires rise { Rise (map draft_name (map draft_item_view drafts)) }
     requires differ { AllByRecursion HasItsFiles (map draft_item_view drafts) }
     requires keeps { AllByRecursion (KeepsFiles (map item_view kept.now)) (map draft_item_view drafts) }
-    ensures moments { Leaves D.moment D.left_since disk.old disk.new (After (D.may_leave disk.old) (Spares (IsStagedAmong (map item_view kept.now) (map draft_item_view drafts)))) }
+    ensures moments { Leaves D.moment D.left_since disk.old disk.new
+        (After (D.may_leave disk.old) (Spares (IsStagedAmong (map item_view kept.now) (map draft_item_view drafts)))) }
     ensures others { IsTrue D.is_modelled → Spares (IsStagedAmong (map item_view kept.now) (map draft_item_view drafts)) (D.seen disk.old) (D.seen disk.new) }
-    ensures held { IfOk result (λ items. AllHoldItems (D.may_leave disk.old) (map item_view kept.now) → AllHoldItems (D.may_leave disk.new) (map item_view items)) }
+    ensures held { IfOk result (λ items. AllHoldItems (D.may_leave disk.old) (map item_view kept.now) →
+        AllHoldItems (D.may_leave disk.new) (map item_view items)) }
     ensures fills { IfOk result (λ items. AllZip FillsItem (map draft_item_view drafts) (map item_view items)) }
     ensures staged { (l : Content) → L.content library.old ≡ Some l →
         StagesBy (each (item_lines l (map item_view kept.now)) (map draft_item_view drafts))

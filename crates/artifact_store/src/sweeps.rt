@@ -24,7 +24,8 @@ use std::collections::BTreeSet;
 
 /// Adds the files of an item.
 fn need_item(alloc: Global, needed: &mut BTreeSet<FileName>, item: &Item) -> Result<(), NoMemory>
-    ensures { OnOk result ((file : List ℕ) → contains (slice_cmp nat_cmp) needed.new file ≡ (contains (slice_cmp nat_cmp) needed.old file || is_file_of (item_view item.now) file)) }
+    ensures { OnOk result ((file : List ℕ) → contains (slice_cmp nat_cmp) needed.new file ≡ (contains (slice_cmp nat_cmp) needed.old file ||
+        is_file_of (item_view item.now) file)) }
 {
     for held in item.artifacts.as_slice() {
         let file = file_name(alloc, &item.name, &item.version, &held.file)?;
@@ -39,7 +40,8 @@ fn need_items(
     needed: &mut BTreeSet<FileName>,
     items: &[Item],
 ) -> Result<(), NoMemory>
-    ensures { OnOk result ((file : List ℕ) → contains (slice_cmp nat_cmp) needed.new file ≡ (contains (slice_cmp nat_cmp) needed.old file || is_file_among (map item_view items.now) file)) }
+    ensures { OnOk result ((file : List ℕ) → contains (slice_cmp nat_cmp) needed.new file ≡ (contains (slice_cmp nat_cmp) needed.old file ||
+        is_file_among (map item_view items.now) file)) }
 {
     for item in items {
         need_item(alloc, needed, item)?;
@@ -65,8 +67,10 @@ pub(crate) fn sweep_file<D: Disk>(
     needed: &BTreeSet<FileName>,
     file: &FileName,
 ) -> Result<(), DiskFault>
-    ensures moments { Leaves D.moment D.left_since disk.old disk.new (After (D.may_leave disk.old) (Spares (IsUnneeded (contains (slice_cmp nat_cmp) needed.now file.now) file.now))) }
-    ensures others { IsTrue D.is_modelled → Spares (IsUnneeded (contains (slice_cmp nat_cmp) needed.now file.now) file.now) (D.seen disk.old) (D.seen disk.new) }
+    ensures moments { Leaves D.moment D.left_since disk.old disk.new
+        (After (D.may_leave disk.old) (Spares (IsUnneeded (contains (slice_cmp nat_cmp) needed.now file.now) file.now))) }
+    ensures others { IsTrue D.is_modelled → Spares (IsUnneeded (contains (slice_cmp nat_cmp) needed.now file.now) file.now) (D.seen disk.old)
+        (D.seen disk.new) }
     ensures gone { IsTrue D.is_modelled → OnOk result (contains (slice_cmp nat_cmp) needed.now file.now ≡ false → D.seen disk.new file.now ≡ []) }
     ensures cause { HasCause (D.faults disk.old) (D.faults disk.new) result }
     ensures quiet { OnOk result (D.faults disk.new ≡ D.faults disk.old) }
@@ -86,7 +90,8 @@ pub fn sweep<D: Disk>(alloc: Global, disk: &mut D, device: &Device) -> Result<()
     ensures moments { Leaves D.moment D.left_since disk.old disk.new (After (D.may_leave disk.old) (Spares (IsStray (items_of (device_view device.now))))) }
     ensures others { IsTrue D.is_modelled → Spares (IsStray (items_of (device_view device.now))) (D.seen disk.old) (D.seen disk.new) }
     // So the device has its files at each moment, where it had them before.
-    ensures safe { AllHoldDevice (D.may_leave disk.old) (device_view device.now) → Leaves D.moment D.left_since disk.old disk.new (λ c. HoldsDevice c (device_view device.now)) }
+    ensures safe { AllHoldDevice (D.may_leave disk.old) (device_view device.now) → Leaves D.moment D.left_since disk.old disk.new
+        (λ c. HoldsDevice c (device_view device.now)) }
     ensures swept { IsTrue D.is_modelled → OnOk result (IsSwept (items_of (device_view device.now)) (D.seen disk.new)) }
     ensures cause { IsErrOf result SweepFault.Disk → Rose (D.faults disk.old) (D.faults disk.new) }
     ensures quiet { ¬ (IsErrOf result SweepFault.Disk) → D.faults disk.new ≡ D.faults disk.old }

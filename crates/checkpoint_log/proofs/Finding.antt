@@ -1,5 +1,6 @@
 -- What is found of two slots.
-use Rattle.std.proofs.Common.{◌≡◌, ◌⊎◌, inl, inr, ℕ, ◌+◌, ◌<◌, Bool, true, false, IsTrue, Ok, Err, None, List, [], ◌∷◌, ◌++◌, map, get_or, refl, sym, ◌∙◌, ap, subst, arith, append_assoc}
+use Rattle.std.proofs.Common.{◌≡◌, ◌⊎◌, inl, inr, ℕ, ◌+◌, ◌<◌, Bool, true, false, IsTrue, Ok, Err, None, List, [], ◌∷◌, ◌++◌, map, get_or, refl, sym, ◌∙◌, ap}
+use Rattle.std.proofs.Common.{subst, arith, append_assoc}
 use Rattle.std.proofs.lemmas.Bool.{cases_eq}
 use Rattle.disk_model.specs.Disk.{Image, Settled, Leaves, DiskLaws}
 use Rattle.disk_model.specs.Moments.{now, tells_of}
@@ -19,10 +20,12 @@ use Rattle.checkpoint_log.specs.declared.slots.Slots.{Slots}
 pub begins_first : (file : List ℕ) (n end : ℕ) (payloads : List (List ℕ)) → ClosedAt file end payloads → Begins file n → FirstSays payloads n
 begins_first file n end payloads closed begins = by_entries closed.entries closed.good closed.payloads_are closed.file_is
   where
-    by_entries : (es : List (ℕ × List ℕ)) → AllGood es → map (λ (e : ℕ × List ℕ). e.1) es ≡ payloads → file ≡ joined es ++ 0 ∷ closed.tail → FirstSays payloads n
+    by_entries : (es : List (ℕ × List ℕ)) → AllGood es → map (λ (e : ℕ × List ℕ). e.1) es ≡ payloads → file ≡ joined es ++ 0 ∷ closed.tail →
+        FirstSays payloads n
     by_entries [] good are is = absurd (begins.good.is_open (ap (λ (l : List ℕ). get_or l 0 0) (sym begins.file_is ∙ is)))
     by_entries (e ∷ es) good are is =
-        let one = entry_same begins.first e begins.more (joined es ++ 0 ∷ closed.tail) begins.good good.0 (sym begins.file_is ∙ is ∙ append_assoc (entry e) (joined es) (0 ∷ closed.tail)) in
+        let one = entry_same begins.first e begins.more (joined es ++ 0 ∷ closed.tail) begins.good good.0
+        (sym begins.file_is ∙ is ∙ append_assoc (entry e) (joined es) (0 ∷ closed.tail)) in
         record { first = e.1; others = map (λ (x : ℕ × List ℕ). x.1) es; is = sym are; says = subst (λ (l : List ℕ). Says l n) one.0 begins.says }
 
 pub number_fault : (image : Image) (f : FindFault) → IsNumber image (Err f) → FindsBy slots_none slots_damaged slots_stands image (Err f)
@@ -30,12 +33,14 @@ number_fault image Disk h = tt
 number_fault image NotInitialised h = h
 number_fault image (Damaged at) h = h
 
-pub end_fault : (image : Image) (n : ℕ) (f : FindFault) → IsNumber image (Ok n) → FindsBy (none_in (slot n)) (damaged_in (slot n)) (stands_in (slot n)) image (Err f) → FindsBy slots_none slots_damaged slots_stands image (Err f)
+pub end_fault : (image : Image) (n : ℕ) (f : FindFault) → IsNumber image (Ok n) → FindsBy (none_in (slot n)) (damaged_in (slot n)) (stands_in (slot n)) image
+    (Err f) → FindsBy slots_none slots_damaged slots_stands image (Err f)
 end_fault image n Disk h end = tt
 end_fault image n NotInitialised h end = absurd (begins_some _ n h.0 end)
 end_fault image n (Damaged at) h end = inr (n, h.0, h.1, end.0, end.1)
 
-pub found_stands : (image : Image) (log : Slots) (payloads : List (List ℕ)) → IsNumber image (Ok log.number) → ¬ (IsTrue log.begun) → ClosedAt (image (slot log.number)) log.live.end payloads → SlotsStand log image payloads
+pub found_stands : (image : Image) (log : Slots) (payloads : List (List ℕ)) → IsNumber image (Ok log.number) → ¬ (IsTrue log.begun) →
+    ClosedAt (image (slot log.number)) log.live.end payloads → SlotsStand log image payloads
 found_stands image log payloads h rests closed = record {
   closed = closed;
   says = inl (begins_first _ log.number log.live.end payloads closed h.0);
@@ -45,22 +50,28 @@ found_stands image log payloads h rests closed = record {
 
 module _ {D : Type 0} {is_modelled : Bool} {seen : D → Image} {may_leave : D → Image → Type 0} {moment : D → ℕ} {left_since : D → ℕ → Image → Type 0}
     (laws : DiskLaws is_modelled seen may_leave moment left_since) where
-  pub settled_on : (file : List ℕ) (old new : D) → Leaves moment left_since old new (may_leave old) → seen new ≡ seen old → Settled (may_leave old) file (seen old file) → Settled (may_leave new) file (seen new file)
+  pub settled_on : (file : List ℕ) (old new : D) → Leaves moment left_since old new (may_leave old) → seen new ≡ seen old →
+      Settled (may_leave old) file (seen old file) → Settled (may_leave new) file (seen new file)
   settled_on file old new leaves same settled c left = settled c (now laws old new _ leaves c left) ∙ sym (ap (λ (i : Image). i file) same)
 
-  pub all_settled : (old new : D) → Leaves moment left_since old new (may_leave old) → seen new ≡ seen old → AreSettled seen may_leave slots_files old → AreSettled seen may_leave slots_files new
+  pub all_settled : (old new : D) → Leaves moment left_since old new (may_leave old) → seen new ≡ seen old → AreSettled seen may_leave slots_files old →
+      AreSettled seen may_leave slots_files new
   all_settled old new leaves same settled file is = settled_on file old new leaves same (settled file is)
 
   -- both files, one after the other
-  pub both_settled : (mid new : D) → Settled (may_leave mid) journal (seen mid journal) → Leaves moment left_since mid new (may_leave mid) → seen new ≡ seen mid → Settled (may_leave new) second (seen new second)
+  pub both_settled : (mid new : D) → Settled (may_leave mid) journal (seen mid journal) → Leaves moment left_since mid new (may_leave mid) →
+      seen new ≡ seen mid → Settled (may_leave new) second (seen new second)
       → AreSettled seen may_leave slots_files new
-  both_settled mid new first leaves same other file (inl is) = subst (λ (f : List ℕ). Settled (may_leave new) f (seen new f)) (sym is) (settled_on journal mid new leaves same first)
+  both_settled mid new first leaves same other file (inl is) = subst (λ (f : List ℕ). Settled (may_leave new) f (seen new f)) (sym is)
+      (settled_on journal mid new leaves same first)
   both_settled mid new first leaves same other file (inr is) = subst (λ (f : List ℕ). Settled (may_leave new) f (seen new f)) (sym is) other
 
 -- what is found stands on each image
 pub found_open : {D : Type 0} (is_modelled : Bool) {seen : D → Image} {may_leave : D → Image → Type 0} {moment : D → ℕ} {left_since : D → ℕ → Image → Type 0}
-    → DiskLaws is_modelled seen may_leave moment left_since → (log : Slots) (disk : D) → (IsTrue is_modelled → (payloads : List (List ℕ)) × SlotsStand log (seen disk) payloads) → AreSettled seen may_leave slots_files disk
-    → ((image : Image) (payloads : List (List ℕ)) → ((name : List ℕ) → slots_files name → image name ≡ seen disk name) → SlotsStand log (seen disk) payloads → SlotsStand log image payloads)
+    → DiskLaws is_modelled seen may_leave moment left_since → (log : Slots) (disk : D) →
+    (IsTrue is_modelled → (payloads : List (List ℕ)) × SlotsStand log (seen disk) payloads) → AreSettled seen may_leave slots_files disk
+    → ((image : Image) (payloads : List (List ℕ)) → ((name : List ℕ) → slots_files name → image name ≡ seen disk name) → SlotsStand log (seen disk) payloads →
+    SlotsStand log image payloads)
     → (payloads : List (List ℕ)) × IsBehind may_leave slots_stands log disk payloads
 found_open true laws log disk stands settled on =
     let there = stands refl in
@@ -83,12 +94,14 @@ slot_other n is = elim (beside n) [
   | inr e ↦ e.1
 ]
 
-pub first_number : (image : Image) (n : ℕ) → Begins (image journal) n → slot n ≡ journal → HoldsNone (image second) ⊎ ((m : ℕ) × (m < n) × (slot m ≡ second) × Begins (image second) m) → IsNumber image (Ok n)
+pub first_number : (image : Image) (n : ℕ) → Begins (image journal) n → slot n ≡ journal → HoldsNone (image second) ⊎
+    ((m : ℕ) × (m < n) × (slot m ≡ second) × Begins (image second) m) → IsNumber image (Ok n)
 first_number image n begins is older =
     let other = slot_first n is in
     (subst (λ (name : List ℕ). Begins (image name) n) (sym is) begins, subst (λ (name : List ℕ). IsOlder name (image name) n) (sym other) older)
 
-pub other_number : (image : Image) (n : ℕ) → Begins (image second) n → slot n ≡ second → HoldsNone (image journal) ⊎ ((m : ℕ) × (m < n) × (slot m ≡ journal) × Begins (image journal) m) → IsNumber image (Ok n)
+pub other_number : (image : Image) (n : ℕ) → Begins (image second) n → slot n ≡ second → HoldsNone (image journal) ⊎
+    ((m : ℕ) × (m < n) × (slot m ≡ journal) × Begins (image journal) m) → IsNumber image (Ok n)
 other_number image n begins is older =
     let other = slot_other n is in
     (subst (λ (name : List ℕ). Begins (image name) n) (sym is) begins, subst (λ (name : List ℕ). IsOlder name (image name) n) (sym other) older)

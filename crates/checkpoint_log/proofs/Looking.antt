@@ -1,5 +1,6 @@
 -- What the first bytes of a slot say.
-use Rattle.std.proofs.Common.{◌≡◌, ◌≢◌, ◌⊎◌, inl, inr, ℕ, zero, suc, ◌+◌, ◌-◌, ◌<◌, ◌≤◌, ◌%◌, min, List, [], ◌∷◌, ◌++◌, length, get_or, take, drop, refl, sym, ◌∙◌, ap, subst, arith, append_assoc, length-append, length-drop}
+use Rattle.std.proofs.Common.{◌≡◌, ◌≢◌, ◌⊎◌, inl, inr, ℕ, zero, suc, ◌+◌, ◌-◌, ◌<◌, ◌≤◌, ◌%◌, min, List, [], ◌∷◌, ◌++◌, length, get_or, take, drop, refl, sym}
+use Rattle.std.proofs.Common.{◌∙◌, ap, subst, arith, append_assoc, length-append, length-drop}
 use Rattle.std.proofs.lemmas.Bool.{cases_eq, cases_lt}
 use Rattle.std.proofs.lemmas.List.{take_at, drop_at, length-take-le, get_or-take, get_or-drop, get_or-replicate, get_or_past, get_or-append_right}
 use Rattle.std.proofs.Math.ListN.{get_or-append}
@@ -24,7 +25,8 @@ onward file more i within is = drop-cons file i 0 within ∙ ap (λ (l : List �
 -- the gate and the length
 pub first_five : (file : List ℕ) → 5 ≤ length file → file ≡ byte file 0 ∷ byte file 1 ∷ byte file 2 ∷ byte file 3 ∷ byte file 4 ∷ drop 5 file
 first_five file long =
-    onward file _ 0 (omega arith) (onward file _ 1 (omega arith) (onward file _ 2 (omega arith) (onward file _ 3 (omega arith) (onward file _ 4 (omega arith) refl))))
+    onward file _ 0 (omega arith) (onward file _ 1 (omega arith)
+    (onward file _ 2 (omega arith) (onward file _ 3 (omega arith) (onward file _ 4 (omega arith) refl))))
 
 -- eight bytes behind the first one of the payload
 abbrev eight : List ℕ → List ℕ
@@ -48,12 +50,14 @@ fourteen i = elim (cases_lt i 14) [
 ]
 
 -- what was read at the front of a file
-pub head_is : (file into zeros : List ℕ) (n : ℕ) → n ≡ min 14 (length file) → into ≡ take n file ++ drop n zeros → ((i : ℕ) → byte zeros i ≡ 0) → IsHead into file
+pub head_is : (file into zeros : List ℕ) (n : ℕ) → n ≡ min 14 (length file) → into ≡ take n file ++ drop n zeros → ((i : ℕ) → byte zeros i ≡ 0) →
+    IsHead into file
 head_is file into zeros n n_is is zero_is i within =
     let read : byte into i ≡ byte (take n file ++ drop n zeros) i = ap (λ (l : List ℕ). byte l i) is in
     let size : length (take n file) ≡ n = length-take-le n file (omega arith) in
     elim (cases_lt i (length file)) [
-      | inl here ↦ read ∙ get_or-append (take n file) (drop n zeros) 0 i (omega (arith, size, n_is, here, within)) ∙ get_or-take n file i 0 (omega (arith, n_is, here, within))
+      | inl here ↦ read ∙ get_or-append (take n file) (drop n zeros) 0 i (omega (arith, size, n_is, here, within)) ∙ get_or-take n file i 0
+          (omega (arith, n_is, here, within))
       | inr past ↦
           read ∙ get_or-append_right (take n file) (drop n zeros) n i 0 size (omega (arith, n_is, past, within))
           ∙ get_or-drop n zeros (i - n) 0 ∙ zero_is (n + (i - n)) ∙ sym (get_or_past file i 0 past)
@@ -95,13 +99,19 @@ first_byte file tail b is = sym (get_or-drop 5 file 0 0) ∙ ap (λ (l : List �
 says_of : (file : List ℕ) (m : ℕ) (begins : Begins file m) → Says begins.first.1 m
     → ((byte file 5 ≡ 17) × (m ≡ 0)) ⊎ ((byte file 5 ≡ 25) × (9 ≤ length begins.first.1) × (1 ≤ m) × (from_be_bytes w64 (eight file) ≡ m))
 says_of file m begins (inl store) =
-    inl (first_byte file (store.0.rest ++ begins.more) 17 (body_of file begins.first begins.more begins.file_is ∙ ap (λ (l : List ℕ). l ++ begins.more) store.0.is), store.1)
+    inl (
+      first_byte file (store.0.rest ++ begins.more) 17 (body_of file begins.first begins.more begins.file_is ∙ ap (λ (l : List ℕ). l ++ begins.more)
+          store.0.is),
+      store.1,
+    )
 says_of file m begins (inr turn) =
     let k = to_be_bytes w64 m in
-    let body : drop 5 file ≡ 25 ∷ (k ++ turn.rest) ++ begins.more = body_of file begins.first begins.more begins.file_is ∙ ap (λ (l : List ℕ). l ++ begins.more) turn.is in
+    let body : drop 5 file ≡ 25 ∷ (k ++ turn.rest) ++ begins.more = body_of file begins.first begins.more begins.file_is ∙ ap
+    (λ (l : List ℕ). l ++ begins.more) turn.is in
     let size : length begins.first.1 ≡ 9 + length turn.rest = ap length turn.is ∙ omega (arith, length-append k turn.rest) in
     let long : 14 ≤ length file = omega (arith, size, entry_long file begins.first begins.more begins.file_is) in
-    let same : eight file ++ drop 14 file ≡ k ++ (turn.rest ++ begins.more) = ap (λ (l : List ℕ). drop 1 l) (sym (next_nine file long) ∙ body) ∙ append_assoc k turn.rest begins.more in
+    let same : eight file ++ drop 14 file ≡ k ++ (turn.rest ++ begins.more) = ap (λ (l : List ℕ). drop 1 l) (sym (next_nine file long) ∙ body) ∙ append_assoc
+    k turn.rest begins.more in
     let heads : eight file ≡ k = ap (λ (l : List ℕ). take 8 l) same ∙ take_at k (turn.rest ++ begins.more) 8 refl in
     inr (first_byte file _ 25 body, omega (arith, size), turn.some, ap (from_be_bytes w64) heads ∙ from_be_bytes-to_be_bytes_8 m (omega (arith, turn.small)))
 
@@ -121,13 +131,16 @@ parity_of m odd lt same = elim (cases_eq (m % 2) 0) [
 ]
 
 -- a slot whose first entry is cut begins with no number
-pub cut_begins : (into file : List ℕ) (len m : ℕ) → IsHead into file → len ≡ from_be_bytes w32 (four into) → (1 ≤ len → len ≤ most_payload → 5 + len ≤ length file → ⊥) → Begins file m → ⊥
+pub cut_begins : (into file : List ℕ) (len m : ℕ) → IsHead into file → len ≡ from_be_bytes w32 (four into) →
+    (1 ≤ len → len ≤ most_payload → 5 + len ≤ length file → ⊥) → Begins file m → ⊥
 cut_begins into file len m head len_is wrong begins =
     let size : len ≡ length begins.first.1 = len_is ∙ ap (from_be_bytes w32) (four_same into file head) ∙ len_of file m begins in
-    wrong (omega (arith, size, begins.good.some)) (omega (arith, size, begins.good.fits)) (omega (arith, size, entry_long file begins.first begins.more begins.file_is))
+    wrong (omega (arith, size, begins.good.some)) (omega (arith, size, begins.good.fits))
+    (omega (arith, size, entry_long file begins.first begins.more begins.file_is))
 
 -- nor does one whose payload has none of the two beginnings
-pub none_begins : (into file : List ℕ) (odd len number m : ℕ) → odd < 2 → IsHead into file → len ≡ from_be_bytes w32 (four into) → number ≡ from_be_bytes w64 (eight into)
+pub none_begins : (into file : List ℕ) (odd len number m : ℕ) → odd < 2 → IsHead into file → len ≡ from_be_bytes w32 (four into) →
+    number ≡ from_be_bytes w64 (eight into)
     → (odd ≡ 0 → byte into 5 ≡ 17 → ⊥) → (9 ≤ len → byte into 5 ≡ 25 → 1 ≤ number → number % 2 ≡ odd → ⊥) → slot m ≡ slot odd → Begins file m → ⊥
 none_begins into file odd len number m lt head len_is number_is no_store no_turn same begins =
     let size : len ≡ length begins.first.1 = len_is ∙ ap (from_be_bytes w32) (four_same into file head) ∙ len_of file m begins in
@@ -148,12 +161,15 @@ record IsWhole (file : List ℕ) (len : ℕ) : Type 0 where
   is : file ≡ entry e ++ more
   size : len ≡ length e.1
 
-whole : (into file : List ℕ) (len : ℕ) → IsHead into file → ((i : ℕ) → byte into i < 256) → byte into 0 ≢ 0 → len ≡ from_be_bytes w32 (four into) → 1 ≤ len → len ≤ most_payload → 5 + len ≤ length file → IsWhole file len
+whole : (into file : List ℕ) (len : ℕ) → IsHead into file → ((i : ℕ) → byte into i < 256) → byte into 0 ≢ 0 → len ≡ from_be_bytes w32 (four into) → 1 ≤ len →
+    len ≤ most_payload → 5 + len ≤ length file → IsWhole file len
 whole into file len head small is_open len_is some fits within =
     let small_at : (i : ℕ) → i < 14 → byte file i < 256 = λ i lt. subst (λ (n : ℕ). n < 256) (head i lt) (small i) in
-    let found = whole_entry file (byte file 0) (byte file 1) (byte file 2) (byte file 3) (byte file 4) len (drop 5 file) (first_five file (omega (arith, some, within)))
+    let found = whole_entry file (byte file 0) (byte file 1) (byte file 2) (byte file 3) (byte file 4) len (drop 5 file)
+    (first_five file (omega (arith, some, within)))
     (small_at 1 (omega arith)) (small_at 2 (omega arith)) (small_at 3 (omega arith)) (small_at 4 (omega arith))
-    (λ shut. is_open (head 0 (omega arith) ∙ shut)) (len_is ∙ ap (from_be_bytes w32) (four_same into file head)) some fits (omega (arith, within, length-drop 5 file)) in
+    (λ shut. is_open (head 0 (omega arith) ∙ shut)) (len_is ∙ ap (from_be_bytes w32) (four_same into file head)) some fits
+    (omega (arith, within, length-drop 5 file)) in
     record { e = found.0; more = found.1; good = found.2; is = found.3; size = found.4 }
 
 not_nothing : (payload more tail : List ℕ) (b : ℕ) → 1 ≤ length payload → payload ++ more ≡ b ∷ tail → (rest : List ℕ) × (payload ≡ b ∷ rest)
@@ -161,16 +177,19 @@ not_nothing [] more tail b some is = absurd (omega (arith, some))
 not_nothing (x ∷ rest) more tail b some is = (rest, ap (λ (n : ℕ). n ∷ rest) (ap (λ (l : List ℕ). byte l 0) is))
 
 -- it begins a store
-pub begins_store : (into file : List ℕ) (len : ℕ) → IsHead into file → ((i : ℕ) → byte into i < 256) → byte into 0 ≢ 0 → len ≡ from_be_bytes w32 (four into) → 1 ≤ len → len ≤ most_payload → 5 + len ≤ length file
+pub begins_store : (into file : List ℕ) (len : ℕ) → IsHead into file → ((i : ℕ) → byte into i < 256) → byte into 0 ≢ 0 → len ≡ from_be_bytes w32 (four into) →
+    1 ≤ len → len ≤ most_payload → 5 + len ≤ length file
     → byte into 5 ≡ 17 → Begins file 0
 begins_store into file len head small is_open len_is some fits within fifth =
     let w = whole into file len head small is_open len_is some fits within in
-    let at : drop 5 file ≡ 17 ∷ drop 6 file = drop-cons file 5 0 (omega (arith, some, within)) ∙ ap (λ (n : ℕ). n ∷ drop 6 file) (sym (head 5 (omega arith)) ∙ fifth) in
+    let at : drop 5 file ≡ 17 ∷ drop 6 file = drop-cons file 5 0 (omega (arith, some, within)) ∙ ap (λ (n : ℕ). n ∷ drop 6 file)
+    (sym (head 5 (omega arith)) ∙ fifth) in
     let first = not_nothing w.e.1 w.more (drop 6 file) 17 w.good.some (sym (body_of file w.e w.more w.is) ∙ at) in
     record { first = w.e; more = w.more; good = w.good; file_is = w.is; says = inl (record { rest = first.0; is = first.1 }, refl) }
 
 -- it begins a turn
-pub begins_turn : (into file : List ℕ) (len number : ℕ) → IsHead into file → ((i : ℕ) → byte into i < 256) → byte into 0 ≢ 0 → len ≡ from_be_bytes w32 (four into) → 9 ≤ len → len ≤ most_payload → 5 + len ≤ length file
+pub begins_turn : (into file : List ℕ) (len number : ℕ) → IsHead into file → ((i : ℕ) → byte into i < 256) → byte into 0 ≢ 0 →
+    len ≡ from_be_bytes w32 (four into) → 9 ≤ len → len ≤ most_payload → 5 + len ≤ length file
     → byte into 5 ≡ 25 → number ≡ from_be_bytes w64 (eight into) → 1 ≤ number → number < 18446744073709551616 → Begins file number
 begins_turn into file len number head small is_open len_is nine fits within fifth number_is some below =
     let w = whole into file len head small is_open len_is (omega (arith, nine)) fits within in
@@ -178,7 +197,8 @@ begins_turn into file len number head small is_open len_is nine fits within fift
     let heads : k ≡ eight file = be_bytes_8 (eight into) number refl (eight_small into small) number_is ∙ eight_same into file head in
     let rest = take (length w.e.1 - 9) (drop 14 file) in
     let at : w.e.1 ++ w.more ≡ 25 ∷ eight file ++ drop 14 file =
-    sym (body_of file w.e w.more w.is) ∙ next_nine file (omega (arith, nine, within)) ∙ ap (λ (n : ℕ). n ∷ eight file ++ drop 14 file) (sym (head 5 (omega arith)) ∙ fifth) in
+    sym (body_of file w.e w.more w.is) ∙ next_nine file (omega (arith, nine, within)) ∙ ap (λ (n : ℕ). n ∷ eight file ++ drop 14 file)
+    (sym (head 5 (omega arith)) ∙ fifth) in
     let nine_more : length w.e.1 ≡ 9 + (length w.e.1 - 9) = omega (arith, nine, w.size) in
     let is : w.e.1 ≡ 25 ∷ eight file ++ rest =
     sym (take_at w.e.1 w.more (length w.e.1) refl) ∙ ap (λ (l : List ℕ). take (length w.e.1) l) at

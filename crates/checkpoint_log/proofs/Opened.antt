@@ -1,5 +1,6 @@
 -- What is put behind a closed front gate, and what is there once it opens.
-use Rattle.std.proofs.Common.{◌≡◌, ◌≢◌, ◌⊎◌, inl, inr, ℕ, zero, suc, ◌+◌, ◌≤◌, min, List, [], ◌∷◌, ◌++◌, length, map, get_or, take, drop, refl, sym, ◌∙◌, ap, subst, arith, append_assoc, length-append}
+use Rattle.std.proofs.Common.{◌≡◌, ◌≢◌, ◌⊎◌, inl, inr, ℕ, zero, suc, ◌+◌, ◌≤◌, min, List, [], ◌∷◌, ◌++◌, length, map, get_or, take, drop, refl, sym, ◌∙◌, ap}
+use Rattle.std.proofs.Common.{subst, arith, append_assoc, length-append}
 use Rattle.std.proofs.lemmas.Bool.{cases_eq}
 use Rattle.std.proofs.lemmas.List.{append-nil, map_push}
 use Rattle.std.specs.Int.{w32, to_be_bytes}
@@ -16,13 +17,15 @@ next_is : (k n : ℕ) → suc k + n ≡ suc (k + n)
 next_is k n = omega arith
 
 -- a write behind the first byte
-pub opened_on : (front bytes old new : List ℕ) (at : ℕ) → length front ≡ at → 1 ≤ at → IsOpened front old → Holds at bytes old new → IsOpened (front ++ bytes) new
+pub opened_on : (front bytes old new : List ℕ) (at : ℕ) → length front ≡ at → 1 ≤ at → IsOpened front old → Holds at bytes old new →
+    IsOpened (front ++ bytes) new
 opened_on front bytes old new zero size some was holds = absurd (omega (arith, some))
 opened_on front bytes old new (suc k) size some was holds =
     let new_is : new ≡ 0 ∷ (take k was.behind ++ bytes ++ drop (k + length bytes) was.behind) =
     holds ∙ ap (λ (l : List ℕ). take (suc k) l ++ bytes ++ drop (suc k + length bytes) l) was.file_is
     ∙ ap (λ (n : ℕ). 0 ∷ (take k was.behind ++ bytes ++ drop n (0 ∷ was.behind))) (next_is k (length bytes)) in
-    let next = begins_on front bytes (1 ∷ was.behind) (1 ∷ (take k was.behind ++ bytes ++ drop (k + length bytes) was.behind)) (suc k) size (was.rest, was.opened)
+    let next = begins_on front bytes (1 ∷ was.behind) (1 ∷ (take k was.behind ++ bytes ++ drop (k + length bytes) was.behind)) (suc k) size
+    (was.rest, was.opened)
     (ap (λ (n : ℕ). 1 ∷ (take k was.behind ++ bytes ++ drop n (1 ∷ was.behind))) (sym (next_is k (length bytes)))) in
     record { behind = take k was.behind ++ bytes ++ drop (k + length bytes) was.behind; rest = next.0; file_is = new_is; opened = next.1 }
 
@@ -34,20 +37,23 @@ pub put_long : (tail file : List ℕ) (end : ℕ) (payloads : List (List ℕ)) �
 put_long tail file end payloads put = omega (arith, opened_long _ file put.there, length-append (joined put.entries) tail, put.end_is)
 
 -- the gate behind them
-pub gate_on : (old new : List ℕ) (gate end : ℕ) (payloads : List (List ℕ)) → 1 ≤ end → IsPutWith [] old end payloads → Holds end (gate ∷ []) old new → IsPutWith (gate ∷ []) new end payloads
+pub gate_on : (old new : List ℕ) (gate end : ℕ) (payloads : List (List ℕ)) → 1 ≤ end → IsPutWith [] old end payloads → Holds end (gate ∷ []) old new →
+    IsPutWith (gate ∷ []) new end payloads
 gate_on old new gate end payloads some put holds = record {
   entries = put.entries;
   good = put.good;
   payloads_are = put.payloads_are;
   end_is = put.end_is;
-  there = opened_on (joined put.entries) (gate ∷ []) old new end (sym put.end_is) some (subst (λ (l : List ℕ). IsOpened l old) (append-nil (joined put.entries)) put.there) holds;
+  there = opened_on (joined put.entries) (gate ∷ []) old new end (sym put.end_is) some
+      (subst (λ (l : List ℕ). IsOpened l old) (append-nil (joined put.entries)) put.there) holds;
 }
 
 -- the front gate counts as open
 pub gate_first : (file : List ℕ) (end : ℕ) (payloads : List (List ℕ)) → end ≡ 0 → IsPutWith [] file end payloads → IsPutWith (1 ∷ []) file end payloads
 gate_first file end payloads zero_is put = by_entries put.entries put.good put.payloads_are put.end_is put.there
   where
-    by_entries : (es : List (ℕ × List ℕ)) → AllGood es → map (λ (e : ℕ × List ℕ). e.1) es ≡ payloads → end ≡ length (joined es) → IsOpened (joined es ++ []) file → IsPutWith (1 ∷ []) file end payloads
+    by_entries : (es : List (ℕ × List ℕ)) → AllGood es → map (λ (e : ℕ × List ℕ). e.1) es ≡ payloads → end ≡ length (joined es) →
+        IsOpened (joined es ++ []) file → IsPutWith (1 ∷ []) file end payloads
     by_entries [] good are is there = record {
       entries = [];
       good = good;
@@ -66,7 +72,8 @@ entry_on a b c end payloads payload some fits put head body =
     let front = joined put.entries in
     let e : ℕ × List ℕ = (1, payload) in
     let one = opened_on (front ++ 1 ∷ []) h a b (end + 1) (omega (arith, length-append front (1 ∷ []), put.end_is)) (omega arith) put.there head in
-    let two = opened_on (front ++ (1 ∷ []) ++ h) payload b c (end + 5) (omega (arith, length-append (front ++ 1 ∷ []) h, length-append front (1 ∷ []), put.end_is)) (omega arith) one body in
+    let two = opened_on (front ++ (1 ∷ []) ++ h) payload b c (end + 5)
+    (omega (arith, length-append (front ++ 1 ∷ []) h, length-append front (1 ∷ []), put.end_is)) (omega arith) one body in
     let whole : joined (put.entries ++ e ∷ []) ≡ front ++ entry e = joined_push put.entries e in
     let same : front ++ (1 ∷ []) ++ h ++ payload ≡ joined (put.entries ++ e ∷ []) ++ [] =
     append_assoc (front ++ 1 ∷ []) h payload ∙ append_assoc front (1 ∷ []) (h ++ payload) ∙ sym whole ∙ sym (append-nil (joined (put.entries ++ e ∷ []))) in
@@ -95,19 +102,30 @@ chains [] [] s t good other size is = refl
 chains [] (f ∷ fs) s t good other size is = absurd (omega (arith, size, length-append (entry f) (joined fs), length-entry f))
 chains (e ∷ es) [] s t good other size is = absurd (omega (arith, size, length-append (entry e) (joined es), length-entry e))
 chains (e ∷ es) (f ∷ fs) s t good other size is =
-    let one = entry_same e f (joined es ++ s) (joined fs ++ t) good.0 other.0 (sym (append_assoc (entry e) (joined es) s) ∙ is ∙ append_assoc (entry f) (joined fs) t) in
-    let sizes : length (joined es) ≡ length (joined fs) = omega (arith, size, length-append (entry e) (joined es), length-entry e, length-append (entry f) (joined fs), length-entry f, ap length one.0) in
+    let one = entry_same e f (joined es ++ s) (joined fs ++ t) good.0 other.0 (sym (append_assoc (entry e) (joined es) s) ∙ is ∙ append_assoc (entry f)
+    (joined fs) t) in
+    let sizes : length (joined es) ≡ length (joined fs) = omega (
+      arith,
+      size,
+      length-append (entry e) (joined es),
+      length-entry e,
+      length-append (entry f) (joined fs),
+      length-entry f,
+      ap length one.0,
+    ) in
     (λ i. one.0 i ∷ chains es fs s t good.1 other.1 sizes one.1 i)
 
 pub put_one : (file : List ℕ) (end : ℕ) (p q : List (List ℕ)) → IsPutWith [] file end p → IsPutWith [] file end q → p ≡ q
 put_one file end p q a b =
     let same : a.there.behind ≡ b.there.behind = ap (λ (l : List ℕ). drop 1 l) (sym a.there.file_is ∙ b.there.file_is) in
     let bytes : joined a.entries ++ a.there.rest ≡ joined b.entries ++ b.there.rest =
-    ap (λ (l : List ℕ). l ++ a.there.rest) (sym (append-nil (joined a.entries))) ∙ sym a.there.opened ∙ ap (λ (l : List ℕ). 1 ∷ l) same ∙ b.there.opened ∙ ap (λ (l : List ℕ). l ++ b.there.rest) (append-nil (joined b.entries)) in
+    ap (λ (l : List ℕ). l ++ a.there.rest) (sym (append-nil (joined a.entries))) ∙ sym a.there.opened ∙ ap (λ (l : List ℕ). 1 ∷ l) same ∙ b.there.opened ∙ ap
+    (λ (l : List ℕ). l ++ b.there.rest) (append-nil (joined b.entries)) in
     sym a.payloads_are ∙ chains a.entries b.entries a.there.rest b.there.rest a.good b.good (sym a.end_is ∙ b.end_is) bytes ∙ b.payloads_are
 
 -- where something was put, its end is behind the front
-pub put_some : (file : List ℕ) (end : ℕ) (first : List ℕ) (others payloads : List (List ℕ)) → payloads ≡ first ∷ others → IsPutWith [] file end payloads → 1 ≤ end
+pub put_some : (file : List ℕ) (end : ℕ) (first : List ℕ) (others payloads : List (List ℕ)) → payloads ≡ first ∷ others → IsPutWith [] file end payloads →
+    1 ≤ end
 put_some file end first others payloads is put = by_entries put.entries put.payloads_are put.end_is
   where
     by_entries : (es : List (ℕ × List ℕ)) → map (λ (e : ℕ × List ℕ). e.1) es ≡ payloads → end ≡ length (joined es) → 1 ≤ end
@@ -119,7 +137,8 @@ pub front_gate : (c : List ℕ) (gate end : ℕ) (first : List ℕ) (others payl
     → (put : IsPutWith (0 ∷ []) file end payloads) → c ≡ gate ∷ put.there.behind → ClosedAt c end payloads
 front_gate c gate end first others payloads file is_open is put c_is = by_entries put.entries put.good put.payloads_are put.end_is put.there.opened
   where
-    by_entries : (es : List (ℕ × List ℕ)) → AllGood es → map (λ (e : ℕ × List ℕ). e.1) es ≡ payloads → end ≡ length (joined es) → 1 ∷ put.there.behind ≡ joined es ++ (0 ∷ []) ++ put.there.rest → ClosedAt c end payloads
+    by_entries : (es : List (ℕ × List ℕ)) → AllGood es → map (λ (e : ℕ × List ℕ). e.1) es ≡ payloads → end ≡ length (joined es) → 1 ∷
+        put.there.behind ≡ joined es ++ (0 ∷ []) ++ put.there.rest → ClosedAt c end payloads
     by_entries [] good are end_is opened = absurd (omega (arith, ap length (are ∙ is)))
     by_entries (e ∷ es) good are end_is opened =
         let f : ℕ × List ℕ = (gate, e.1) in
@@ -179,14 +198,16 @@ shut_older name a b n (inr older) (inr torn) =
     ]
 
 -- what a read of one byte says where it is not 0
-pub not_shut : (file into rest : List ℕ) (n : ℕ) → n ≡ min 1 (length (drop 0 file)) → into ≡ take n (drop 0 file) ++ rest → (n ≡ 1 → get_or into 0 0 ≡ 0 → ⊥) → (get_or file 0 0 ≢ 0) ⊎ (length file ≡ 0)
+pub not_shut : (file into rest : List ℕ) (n : ℕ) → n ≡ min 1 (length (drop 0 file)) → into ≡ take n (drop 0 file) ++ rest →
+    (n ≡ 1 → get_or into 0 0 ≡ 0 → ⊥) → (get_or file 0 0 ≢ 0) ⊎ (length file ≡ 0)
 not_shut [] into rest n n_is is other = inr refl
 not_shut (a ∷ tail) into rest n n_is is other =
     let one : n ≡ 1 = omega arith in
     let whole : into ≡ a ∷ rest = is ∙ ap (λ (k : ℕ). take k (a ∷ tail) ++ rest) one in
     inl (λ z. other one (ap (λ (l : List ℕ). get_or l 0 0) whole ∙ z))
 
-pub head_long : (a b h : List ℕ) (end : ℕ) (payloads : List (List ℕ)) → length h ≡ 4 → IsPutWith (1 ∷ []) a end payloads → Holds (end + 1) h a b → end + 5 ≤ length b
+pub head_long : (a b h : List ℕ) (end : ℕ) (payloads : List (List ℕ)) → length h ≡ 4 → IsPutWith (1 ∷ []) a end payloads → Holds (end + 1) h a b →
+    end + 5 ≤ length b
 head_long a b h end payloads four put head =
     let front = joined put.entries in
     let one = opened_on (front ++ 1 ∷ []) h a b (end + 1) (omega (arith, length-append front (1 ∷ []), put.end_is)) (omega arith) put.there head in

@@ -1,5 +1,6 @@
 -- Laws of two slots as a journal.
-use Rattle.std.proofs.Common.{◌≡◌, ◌≢◌, ◌⊎◌, inl, inr, ℕ, ◌+◌, ◌%◌, List, [], ◌∷◌, ◌++◌, length, map, get_or, take, drop, refl, sym, ◌∙◌, ap, subst, arith, append_assoc, length-append}
+use Rattle.std.proofs.Common.{◌≡◌, ◌≢◌, ◌⊎◌, inl, inr, ℕ, ◌+◌, ◌%◌, List, [], ◌∷◌, ◌++◌, length, map, get_or, take, drop, refl, sym, ◌∙◌, ap, subst, arith}
+use Rattle.std.proofs.Common.{append_assoc, length-append}
 use Rattle.std.proofs.lemmas.Bool.{cases_eq}
 use Rattle.std.proofs.lemmas.List.{take_at}
 use Rattle.std.proofs.lemmas.Nat.{from_be_bytes-to_be_bytes_8}
@@ -146,7 +147,11 @@ slots_hold log image payloads h = elim h.says [
   | inl says ↦ inr (log.number, log.live.end, record { closed = h.closed; says = says; older = h.older })
   | inr empty ↦ inl (
     none_by image log.number
-        (none_of (image (slot log.number)) (inr (log.live.end, subst (λ (l : List (List ℕ)). ClosedAt (image (slot log.number)) log.live.end l) empty.0 h.closed)))
+        (none_of (image (slot log.number)) (inr (
+          log.live.end,
+          subst (λ (l : List (List ℕ)). ClosedAt (image (slot log.number)) log.live.end l) empty.0
+              h.closed,
+        )))
         (older_none _ _ log.number empty.1 h.older),
     empty.0,
   )
@@ -155,7 +160,8 @@ slots_hold log image payloads h = elim h.says [
 pub slots_end : (log : Slots) (image : Image) (payloads : List (List ℕ)) → slots_stands log image payloads → log.live.end ≡ place_behind payloads
 slots_end log image payloads h = h.closed.end_is ∙ place_joined h.closed.entries ∙ ap place_behind h.closed.payloads_are
 
-pub slots_depend : (log : Slots) (a b : Image) (payloads : List (List ℕ)) → ((name : List ℕ) → slots_files name → b name ≡ a name) → slots_stands log a payloads → slots_stands log b payloads
+pub slots_depend : (log : Slots) (a b : Image) (payloads : List (List ℕ)) → ((name : List ℕ) → slots_files name → b name ≡ a name) →
+    slots_stands log a payloads → slots_stands log b payloads
 slots_depend log a b payloads same h =
     let live : b (slot log.number) ≡ a (slot log.number) = same _ (of_slots log.number) in
     let other : b (slot (log.number + 1)) ≡ a (slot (log.number + 1)) = same _ (of_slots (log.number + 1)) in
@@ -182,12 +188,14 @@ bad_older name file n bad (inr older) = bad.none older.0 older.2 older.3
 pub slots_not_damaged : (image : Image) (at : ℕ) (payloads : List (List ℕ)) → slots_damaged image at → slots_entries image payloads → ⊥
 slots_not_damaged image at payloads (inl bad) (inl none) = bad_none image bad.1.0 none.0 bad.1.1
 slots_not_damaged image at payloads (inl bad) (inr live) = elim (same_or_beside live.0 bad.1.0) [
-  | inl same ↦ bad.1.1.none live.0 (sym same) (subst (λ (name : List ℕ). Begins (image name) live.0) (sym same) (live_begins image live.0 live.1 payloads live.2))
+  | inl same ↦ bad.1.1.none live.0 (sym same) (subst (λ (name : List ℕ). Begins (image name) live.0) (sym same)
+      (live_begins image live.0 live.1 payloads live.2))
   | inr apart ↦ bad_older _ _ live.0 (subst (λ (name : List ℕ). IsBadSlot name (image name)) apart.0 bad.1.1) live.2.older
 ]
 slots_not_damaged image at payloads (inr torn) (inl none) = live_none image torn.0 none.0 torn.1
 slots_not_damaged image at payloads (inr torn) (inr live) = elim (same_or_beside torn.0 live.0) [
-  | inl same ↦ damaged_holds_none (image (slot torn.0)) at payloads torn.3 torn.4 (inr (live.1, subst (λ (name : List ℕ). ClosedAt (image name) live.1 payloads) same live.2.closed))
+  | inl same ↦ damaged_holds_none (image (slot torn.0)) at payloads torn.3 torn.4
+      (inr (live.1, subst (λ (name : List ℕ). ClosedAt (image name) live.1 payloads) same live.2.closed))
   | inr apart ↦ both_live image torn.0 live.0 apart.0 apart.1 torn.1 (live_begins image live.0 live.1 payloads live.2) torn.2 live.2.older
 ]
 

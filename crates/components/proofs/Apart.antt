@@ -1,5 +1,6 @@
 -- Numbers of children that stand once, and deadlines that are near.
-use Rattle.std.proofs.Common.{◌≡◌, ◌<◌, ◌≤◌, ◌+◌, ◌==◌, ℕ, suc, zero, List, [], ◌∷◌, ◌++◌, length, Bool, true, false, Option, Some, None, refl, sym, ap, ◌∙◌, arith, subst, filter, ◌⊎◌, inl, inr, append_assoc}
+use Rattle.std.proofs.Common.{◌≡◌, ◌<◌, ◌≤◌, ◌+◌, ◌==◌, ℕ, suc, zero, List, [], ◌∷◌, ◌++◌, length, Bool, true, false, Option, Some, None, refl, sym, ap, ◌∙◌}
+use Rattle.std.proofs.Common.{arith, subst, filter, ◌⊎◌, inl, inr, append_assoc}
 use Rattle.std.specs.Prelude.{◌||◌, not, if◌then◌else◌, IfSome}
 use Rattle.std.specs.List.{list_any, AllByRecursion}
 use Rattle.std.proofs.lemmas.Bool.{eqb-true, eq-eqb}
@@ -55,7 +56,9 @@ pub near_deadline : (m : ℕ) (limit : Option ℕ) → IsShort limit → IfSome 
 near_deadline m None s = tt
 near_deadline m (Some l) s = omega (arith, s)
 
-pub near_started : (m : ℕ) (f : ComponentState → ComponentState) (c : ComponentState → Child) (P : ComponentState → Type 0) → ((p : ComponentState) → (f p).children ≡ c p ∷ p.children) → ((p : ComponentState) → P p → IsNear m (c p)) → (k : ℕ) (ps : List ComponentState) → At k P ps → AreNear m ps → AreNear m (changed_at k f ps)
+pub near_started : (m : ℕ) (f : ComponentState → ComponentState) (c : ComponentState → Child) (P : ComponentState → Type 0) →
+    ((p : ComponentState) → (f p).children ≡ c p ∷ p.children) → ((p : ComponentState) → P p → IsNear m (c p)) → (k : ℕ) (ps : List ComponentState) →
+    At k P ps → AreNear m ps → AreNear m (changed_at k f ps)
 near_started m f c P e g k [] h a = absurd h
 near_started m f c P e g zero (p ∷ ps) h a = (subst (λ (cs : List Child). AllByRecursion (IsNear m) cs) (sym (e p)) (g p h, a.0), a.1)
 near_started m f c P e g (suc k) (p ∷ ps) h a = (a.0, near_started m f c P e g k ps h a.1)
@@ -73,11 +76,13 @@ or_false a b e f = rw e f
 
 among_append : (n : ℕ) (xs ys : List ℕ) → among n xs ≡ false → among n ys ≡ false → among n (xs ++ ys) ≡ false
 among_append n [] ys e f = f
-among_append n (x ∷ xs) ys e f = or_false (x == n) (among n (xs ++ ys)) (or_false_left (x == n) (among n xs) e) (among_append n xs ys (or_false_right (x == n) (among n xs) e) f)
+among_append n (x ∷ xs) ys e f = or_false (x == n) (among n (xs ++ ys)) (or_false_left (x == n) (among n xs) e)
+    (among_append n xs ys (or_false_right (x == n) (among n xs) e) f)
 
 among_first : (n : ℕ) (xs ys : List ℕ) → among n (xs ++ ys) ≡ false → among n xs ≡ false
 among_first n [] ys e = refl
-among_first n (x ∷ xs) ys e = or_false (x == n) (among n xs) (or_false_left (x == n) (among n (xs ++ ys)) e) (among_first n xs ys (or_false_right (x == n) (among n (xs ++ ys)) e))
+among_first n (x ∷ xs) ys e = or_false (x == n) (among n xs) (or_false_left (x == n) (among n (xs ++ ys)) e)
+    (among_first n xs ys (or_false_right (x == n) (among n (xs ++ ys)) e))
 
 among_last : (n : ℕ) (xs ys : List ℕ) → among n (xs ++ ys) ≡ false → among n ys ≡ false
 among_last n [] ys e = e
@@ -100,15 +105,20 @@ apart_insert n (x ∷ xs) ys a e =
     let r = or_false_right (x == n) (among n (xs ++ ys)) e in
     (among_append x xs (n ∷ ys) (among_first x xs ys a.0) (or_false (n == x) (among x ys) (no_flip x n l) (among_last x xs ys a.0)), apart_insert n xs ys a.1 r)
 
-pub apart_started : (n : ℕ) (f : ComponentState → ComponentState) → ((p : ComponentState) → child_numbers (f p).children ≡ n ∷ child_numbers p.children) → (k : ℕ) (ps : List ComponentState) (pre : List ℕ) → k < length ps
+pub apart_started : (n : ℕ) (f : ComponentState → ComponentState) → ((p : ComponentState) → child_numbers (f p).children ≡ n ∷ child_numbers p.children) →
+    (k : ℕ) (ps : List ComponentState) (pre : List ℕ) → k < length ps
     → AreApart (pre ++ living_numbers ps) → among n (pre ++ living_numbers ps) ≡ false → AreApart (pre ++ living_numbers (changed_at k f ps))
 apart_started n f e k [] pre l a h = absurd (omega (arith, l))
 apart_started n f e zero (p ∷ ps) pre l a h =
     subst (λ (ns : List ℕ). AreApart (pre ++ (ns ++ living_numbers ps))) (sym (e p)) (apart_insert n pre (child_numbers p.children ++ living_numbers ps) a h)
 apart_started n f e (suc k) (p ∷ ps) pre l a h =
-    let q : (pre ++ child_numbers p.children) ++ living_numbers ps ≡ pre ++ (child_numbers p.children ++ living_numbers ps) = append_assoc pre (child_numbers p.children) (living_numbers ps) in
-    let r : (pre ++ child_numbers p.children) ++ living_numbers (changed_at k f ps) ≡ pre ++ (child_numbers p.children ++ living_numbers (changed_at k f ps)) = append_assoc pre (child_numbers p.children) (living_numbers (changed_at k f ps)) in
-    subst AreApart r (apart_started n f e k ps (pre ++ child_numbers p.children) (omega (arith, l)) (subst AreApart (sym q) a) (subst (λ (ns : List ℕ). among n ns ≡ false) (sym q) h))
+    let q : (pre ++ child_numbers p.children) ++ living_numbers ps ≡ pre ++ (child_numbers p.children ++ living_numbers ps) =
+    append_assoc pre (child_numbers p.children) (living_numbers ps) in
+    let r : (pre ++ child_numbers p.children) ++ living_numbers (changed_at k f ps) ≡ pre
+    ++ (child_numbers p.children ++ living_numbers (changed_at k f ps)) = append_assoc pre (child_numbers p.children) (living_numbers (changed_at k f ps))
+    in
+    subst AreApart r (apart_started n f e k ps (pre ++ child_numbers p.children) (omega (arith, l)) (subst AreApart (sym q) a)
+    (subst (λ (ns : List ℕ). among n ns ≡ false) (sym q) h))
 
 -- ---- a child less
 
@@ -132,7 +142,8 @@ thin_prefix : (ps xs ys : List ℕ) → Thinner xs ys → Thinner (ps ++ xs) (ps
 thin_prefix [] xs ys t = t
 thin_prefix (p ∷ ps) xs ys t = thin_cons p (ps ++ xs) (ps ++ ys) (thin_prefix ps xs ys t)
 
-thin_at : (b : Bool) (c : Child) (ds cs : List Child) (zs : List ℕ) → Thinner (child_numbers ds ++ zs) (child_numbers cs ++ zs) → Thinner (child_numbers (if b then c ∷ ds else ds) ++ zs) (child_numbers (c ∷ cs) ++ zs)
+thin_at : (b : Bool) (c : Child) (ds cs : List Child) (zs : List ℕ) → Thinner (child_numbers ds ++ zs) (child_numbers cs ++ zs) →
+    Thinner (child_numbers (if b then c ∷ ds else ds) ++ zs) (child_numbers (c ∷ cs) ++ zs)
 thin_at true c ds cs zs t = thin_cons c.number (child_numbers ds ++ zs) (child_numbers cs ++ zs) t
 thin_at false c ds cs zs t = thin_skip c.number (child_numbers ds ++ zs) (child_numbers cs ++ zs) t
 
@@ -143,7 +154,8 @@ thin_filter p (c ∷ cs) zs = thin_at (p c) c (filter p cs) cs zs (thin_filter p
 thin_removed : (n k : ℕ) (ps : List ComponentState) → Thinner (living_numbers (changed_at k (without_child n) ps)) (living_numbers ps)
 thin_removed n k [] = λ pre a. a
 thin_removed n zero (p ∷ ps) = thin_filter (λ (c : Child). not (c.number == n)) p.children (living_numbers ps)
-thin_removed n (suc k) (p ∷ ps) = thin_prefix (child_numbers p.children) (living_numbers (changed_at k (without_child n) ps)) (living_numbers ps) (thin_removed n k ps)
+thin_removed n (suc k) (p ∷ ps) = thin_prefix (child_numbers p.children) (living_numbers (changed_at k (without_child n) ps)) (living_numbers ps)
+    (thin_removed n k ps)
 
 pub apart_removed : (n k : ℕ) (ps : List ComponentState) → AreApart (living_numbers ps) → AreApart (living_numbers (changed_at k (without_child n) ps))
 apart_removed n k ps a = thin_removed n k ps [] a
@@ -171,7 +183,8 @@ pub no_child : (n : ℕ) (cs : List Child) → child_of n cs ≡ None → among 
 no_child n [] e = refl
 no_child n (c ∷ cs) e = no_child_at (c.number == n) (among n (child_numbers cs)) c (child_of n cs) e (no_child n cs)
 
-not_owned_at : (k n : ℕ) (p : ComponentState) (ps : List ComponentState) (o : Option Child) → child_of n p.children ≡ o → ◌≡◌ {A = Option (ℕ × Step)} (elim o [ None ↦ owner_from (k + 1) n ps | Some c ↦ Some (k, c.of) ]) None
+not_owned_at : (k n : ℕ) (p : ComponentState) (ps : List ComponentState) (o : Option Child) → child_of n p.children ≡ o →
+    ◌≡◌ {A = Option (ℕ × Step)} (elim o [ None ↦ owner_from (k + 1) n ps | Some c ↦ Some (k, c.of) ]) None
     → (owner_from (k + 1) n ps ≡ None → among n (living_numbers ps) ≡ false) → among n (child_numbers p.children ++ living_numbers ps) ≡ false
 not_owned_at k n p ps None h e f = among_append n (child_numbers p.children) (living_numbers ps) (no_child n p.children h) (f e)
 not_owned_at k n p ps (Some c) h e f = absurd (cc)

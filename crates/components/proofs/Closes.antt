@@ -30,7 +30,8 @@ flagged_more n [] [] w e = e
 flagged_more n [] (h ∷ hs) w e = absurd w
 flagged_more n (f ∷ fs) [] w e = absurd w
 flagged_more n (f ∷ fs) (h ∷ hs) w e = elim (or_true (f.1 && (bytes_eq (component_name f.0) n)) (is_flagged n fs) e) [
-  | inl a ↦ (let b = and_true f.1 (bytes_eq (component_name f.0) n) a in or_left (h.1 && (bytes_eq (component_name h.0) n)) (is_flagged n hs) (rw (w.1 b.0) (let c = ap (λ (p : ComponentState). bytes_eq (component_name p) n) w.0 in sym c ∙ b.1)))
+  | inl a ↦ (let b = and_true f.1 (bytes_eq (component_name f.0) n) a in or_left (h.1 && (bytes_eq (component_name h.0) n)) (is_flagged n hs)
+      (rw (w.1 b.0) (let c = ap (λ (p : ComponentState). bytes_eq (component_name p) n) w.0 in sym c ∙ b.1)))
   | inr a ↦ or_right (h.1 && (bytes_eq (component_name h.0) n)) (is_flagged n hs) (flagged_more n fs hs w.2 a)
 ]
 
@@ -49,7 +50,8 @@ grown_within all bs (f ∷ fs) (h ∷ hs) w v = (
   v.0,
   (λ e. elim (or_true f.1 (needs_flagged f.0.fitted.hard all) e) [
     | inl a ↦ or_left h.1 (needs_flagged h.0.fitted.hard bs) (v.1 a)
-    | inr a ↦ or_right h.1 (needs_flagged h.0.fitted.hard bs) (needs_more h.0.fitted.hard all bs w (subst (λ (p : ComponentState). needs_flagged p.fitted.hard all ≡ true) v.0 a))
+    | inr a ↦ or_right h.1 (needs_flagged h.0.fitted.hard bs)
+        (needs_more h.0.fitted.hard all bs w (subst (λ (p : ComponentState). needs_flagged p.fitted.hard all ≡ true) v.0 a))
   ]),
   grown_within all bs fs hs w v.2,
 )
@@ -82,7 +84,11 @@ count (f ∷ fs) = (if f.1 then 1 else 0) + count fs
 
 count_few : (fs : Flagged) → count fs ≤ length fs
 count_few [] = omega arith
-count_few (f ∷ fs) = let i = count_few fs in elim f.1 as (λ b. (if b then 1 else 0) + count fs ≤ suc (length fs)) [ true ↦ omega (arith, i) | false ↦ omega (arith, i) ]
+count_few (f ∷ fs) = let i = count_few fs in elim f.1 as (λ b. (if b then 1 else 0) + count fs ≤ suc (length fs)) [
+  | true ↦ omega (arith, i)
+  | false ↦ omega
+      (arith, i)
+]
 
 length_grown : (all fs : Flagged) → length (grown all fs) ≡ length fs
 length_grown all [] = refl
@@ -93,7 +99,8 @@ length_reaching zero fs = refl
 length_reaching (suc n) fs = length_reaching n (grown fs fs) ∙ length_grown fs fs
 
 -- a round adds a flag, or changes nothing
-one_step : (p : ComponentState) (a x : Bool) (fs gs : Flagged) → (gs ≡ fs) ⊎ (count fs < count gs) → ((p, a || x) ∷ gs ≡ (p, a) ∷ fs) ⊎ (count ((p, a) ∷ fs) < count ((p, a || x) ∷ gs))
+one_step : (p : ComponentState) (a x : Bool) (fs gs : Flagged) → (gs ≡ fs) ⊎ (count fs < count gs) → ((p, a || x) ∷ gs ≡ (p, a) ∷ fs) ⊎
+    (count ((p, a) ∷ fs) < count ((p, a || x) ∷ gs))
 one_step p true x fs gs (inl e) = inl (ap (λ (hs : Flagged). (p, true) ∷ hs) e)
 one_step p true x fs gs (inr l) = inr (omega (arith, l))
 one_step p false false fs gs (inl e) = inl (ap (λ (hs : Flagged). (p, false) ∷ hs) e)
@@ -123,6 +130,7 @@ closes fs = elim (closed_or (length fs) fs) [
   | inr m ↦ elim (step (reaching (length fs) fs) (reaching (length fs) fs)) [
     | inl c ↦ c
     | inr l ↦ (let a = count_few (grown (reaching (length fs) fs) (reaching (length fs) fs)) in
-        let b = length_grown (reaching (length fs) fs) (reaching (length fs) fs) in let d = length_reaching (length fs) fs in absurd (omega (arith, l, m, a, b, d)))
+        let b = length_grown (reaching (length fs) fs) (reaching (length fs) fs) in let d = length_reaching (length fs) fs in
+        absurd (omega (arith, l, m, a, b, d)))
   ]
 ]

@@ -4,7 +4,8 @@ use Rattle.std.proofs.Math.ListN.{set}
 use Rattle.components.specs.Components.{ComponentState, At, changed_at}
 
 -- what a loop over all has done so far
-pub more_done : (u : ComponentState → ComponentState) (xs ys : List ComponentState) (k : ℕ) (d t : ComponentState) → k < length xs → t ≡ u (get_or xs k d) → take k xs ≡ map u (take k ys) → drop k xs ≡ drop k ys
+pub more_done : (u : ComponentState → ComponentState) (xs ys : List ComponentState) (k : ℕ) (d t : ComponentState) → k < length xs → t ≡ u (get_or xs k d) →
+    take k xs ≡ map u (take k ys) → drop k xs ≡ drop k ys
     → (take (k + 1) (set xs k t) ≡ map u (take (k + 1) ys)) × (drop (k + 1) (set xs k t) ≡ drop (k + 1) ys)
 more_done u [] ys k d t l h a b = absurd (omega arith)
 more_done u (x ∷ xs) [] zero d t l h a b = absurd (cc)
@@ -15,10 +16,14 @@ more_done u (x ∷ xs) (y ∷ ys) (suc k) d t l h a b =
     let c : take k xs ≡ map u (take k ys) = cc in
     let e : x ≡ u y = cc in
     let i = more_done u xs ys k d t (omega arith) h c b in
-    rw add-one (let j = rw add-one at i.0 in ap (λ (p : ComponentState). p ∷ take (suc k) (set xs k t)) e ∙ ap (λ (ps : List ComponentState). u y ∷ ps) j, rw add-one at i.1)
+    rw add-one (
+      let j = rw add-one at i.0 in ap (λ (p : ComponentState). p ∷ take (suc k) (set xs k t)) e ∙ ap (λ (ps : List ComponentState). u y ∷ ps) j,
+      rw add-one at i.1,
+    )
 
 -- one was changed
-pub set_changed : (f : ComponentState → ComponentState) (xs : List ComponentState) (k : ℕ) (d t : ComponentState) → k < length xs → t ≡ f (get_or xs k d) → set xs k t ≡ changed_at k f xs
+pub set_changed : (f : ComponentState → ComponentState) (xs : List ComponentState) (k : ℕ) (d t : ComponentState) → k < length xs → t ≡ f (get_or xs k d) →
+    set xs k t ≡ changed_at k f xs
 set_changed f [] k d t l h = absurd (omega arith)
 set_changed f (x ∷ xs) zero d t l h = ap (λ (p : ComponentState). p ∷ xs) h
 set_changed f (x ∷ xs) (suc k) d t l h = ap (λ (ps : List ComponentState). x ∷ ps) (set_changed f xs k d t (omega arith) h)

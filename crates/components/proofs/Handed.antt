@@ -7,13 +7,15 @@ use Rattle.components.specs.Components.{Components, ComponentState, changed_at}
 use Rattle.components.specs.Lives.{lived_at}
 use Rattle.components.specs.Events.{with_child, launched, handed_at, answered_at, started, refused, skipped}
 
-changed-twice : (k : ℕ) (f g : ComponentState → ComponentState) (ps : List ComponentState) → ((p : ComponentState) → f (g p) ≡ f p) → changed_at k f (changed_at k g ps) ≡ changed_at k f ps
+changed-twice : (k : ℕ) (f g : ComponentState → ComponentState) (ps : List ComponentState) → ((p : ComponentState) → f (g p) ≡ f p) →
+    changed_at k f (changed_at k g ps) ≡ changed_at k f ps
 changed-twice k f g [] e = refl
 changed-twice zero f g (p ∷ ps) e = ap (λ (q : ComponentState). q ∷ ps) (e p)
 changed-twice (suc k) f g (p ∷ ps) e = ap (λ (qs : List ComponentState). p ∷ qs) (changed-twice k f g ps e)
 
 answered-twice : (k : ℕ) (w : Components) → answered_at k (handed_at k w) ≡ answered_at k w
-answered-twice k w = ap (λ (ps : List ComponentState). record w { parts = ps }) (changed-twice k (λ p. record p { handed = false }) (λ p. record p { handed = true }) w.parts (λ p. refl))
+answered-twice k w = ap (λ (ps : List ComponentState). record w { parts = ps })
+    (changed-twice k (λ p. record p { handed = false }) (λ p. record p { handed = true }) w.parts (λ p. refl))
 
 pub started-handed : (k : ℕ) (s : Step) (n : ℕ) (w : Components) → started k s n (handed_at k w) ≡ started k s n w
 started-handed k s n w =

@@ -37,12 +37,14 @@ lived_by b e p (Some r) t =
 pub lived_children : (b : Bool) (e : LifeEvent) (p : ComponentState) → (lived b e p).children ≡ p.children
 lived_children b e p = lived_by b e p (table p.life e) refl
 
-pub kids_changed : (f : ComponentState → ComponentState) → ((p : ComponentState) → (f p).children ≡ p.children) → (k : ℕ) (ps : List ComponentState) → kids (changed_at k f ps) ≡ kids ps
+pub kids_changed : (f : ComponentState → ComponentState) → ((p : ComponentState) → (f p).children ≡ p.children) → (k : ℕ) (ps : List ComponentState) →
+    kids (changed_at k f ps) ≡ kids ps
 kids_changed f e k [] = refl
 kids_changed f e zero (p ∷ ps) = ap (λ (cs : List Child). cs ∷ kids ps) (e p)
 kids_changed f e (suc k) (p ∷ ps) = ap (λ (cs : List (List Child)). p.children ∷ cs) (kids_changed f e k ps)
 
-pub kids_mapped : (f : ComponentState → ComponentState) → ((p : ComponentState) → (f p).children ≡ p.children) → (ps : List ComponentState) → kids (map f ps) ≡ kids ps
+pub kids_mapped : (f : ComponentState → ComponentState) → ((p : ComponentState) → (f p).children ≡ p.children) → (ps : List ComponentState) →
+    kids (map f ps) ≡ kids ps
 kids_mapped f e [] = refl
 kids_mapped f e (p ∷ ps) = ap (λ (cs : List Child). cs ∷ kids (map f ps)) (e p) ∙ ap (λ (cs : List (List Child)). p.children ∷ cs) (kids_mapped f e ps)
 
@@ -81,7 +83,8 @@ kids_lived_at k e w =
     let qs : List ComponentState = changed_at k (lived w.steady e) w.parts in
     let c : kids qs ≡ kids w.parts = kids_changed (lived w.steady e) (lived_children w.steady e) k w.parts in
     let fs : Flagged = flagged_at k qs in
-    if_kids (drops_at k w e) (restarted may_restart fs) qs (kids w.parts) (marked_firsts may_restart (reaching (length fs) fs) ∙ reaching_firsts (length fs) fs ∙ flagged_at_firsts k qs ∙ c) c
+    if_kids (drops_at k w e) (restarted may_restart fs) qs (kids w.parts)
+    (marked_firsts may_restart (reaching (length fs) fs) ∙ reaching_firsts (length fs) fs ∙ flagged_at_firsts k qs ∙ c) c
 
 pub kids_restarted : (may t : ComponentState → Bool) (ps : List ComponentState) → kids (restarted may (flagged t ps)) ≡ kids ps
 kids_restarted may t ps =

@@ -39,7 +39,8 @@ table_again c e sound = grind (arith, sound)
 
 -- ---- the parts, one after another
 
-forget_at : (b : Bool) (d : Life) (p : ComponentState) → (if b then record (after_row d p) { life = record d { failures = 0 } } else after_row d p) ≡ record p { life = if b then record d { failures = 0 } else d }
+forget_at : (b : Bool) (d : Life) (p : ComponentState) → (if b then record (after_row d p) { life = record d { failures = 0 } } else after_row d p)
+    ≡ record p { life = if b then record d { failures = 0 } else d }
 forget_at true d p = refl
 forget_at false d p = refl
 
@@ -74,14 +75,19 @@ settled_part b e a d p =
 
 pub lived_row : (steady : Bool) (e : LifeEvent) (p : ComponentState) (a : LifeAct) (d : Life) → table p.life e ≡ Some (a, d)
     → lived steady e p
-    ≡ (let q = settled_part (steady && succeeds_from p.life.state p.life.busy d.state) e a d p in if is_again (completed_from e p.life.state p.life.stop d.state) then replaced q else q)
+    ≡ (let q = settled_part (steady && succeeds_from p.life.state p.life.busy d.state) e a d p in if is_again
+    (completed_from e p.life.state p.life.stop d.state) then replaced q else q)
 lived_row steady e p a d t =
     let b : Bool = steady && succeeds_from p.life.state p.life.busy d.state in
     let l : Life = if b then record d { failures = 0 } else d in
     let p1 : ComponentState = record p { life = l } in
     let p2 : ComponentState = record p1 { owed = owed_after a (is_spared p1) p1.owed } in
     let p3 : ComponentState = record p2 { stop = stop_after e p2.stop } in
-    ap (λ (o : Option (LifeAct × Life)). elim o [ None ↦ p | Some r ↦ with_new_item e p.life (with_stop_given e (with_failure_owed r.0 (with_failures_forgotten steady p.life (after_row r.1 p)))) ]) t
+    ap (λ (o : Option (LifeAct × Life)). elim o [
+      | None ↦ p
+      | Some r ↦ with_new_item e p.life
+          (with_stop_given e (with_failure_owed r.0 (with_failures_forgotten steady p.life (after_row r.1 p))))
+    ]) t
     ∙ ap (λ (q : ComponentState). with_new_item e p.life (with_stop_given e (with_failure_owed a q))) (forget_at b d p)
     ∙ ap (λ (q : ComponentState). with_new_item e p.life (with_stop_given e q)) (owing a p1)
     ∙ ap (λ (q : ComponentState). with_new_item e p.life q) (giving e p2)
@@ -89,24 +95,39 @@ lived_row steady e p a d t =
 
 pub lived_none : (steady : Bool) (e : LifeEvent) (p : ComponentState) → table p.life e ≡ None → lived steady e p ≡ p
 lived_none steady e p t =
-    ap (λ (o : Option (LifeAct × Life)). elim o [ None ↦ p | Some r ↦ with_new_item e p.life (with_stop_given e (with_failure_owed r.0 (with_failures_forgotten steady p.life (after_row r.1 p)))) ]) t
+    ap (λ (o : Option (LifeAct × Life)). elim o [
+      | None ↦ p
+      | Some r ↦ with_new_item e p.life
+          (with_stop_given e (with_failure_owed r.0 (with_failures_forgotten steady p.life (after_row r.1 p))))
+    ]) t
 
-replaced_by : (q : ComponentState) (o : Option (Fitted × ℕ)) (f : Fitted) (l : Life) → q.life ≡ begun q.life.steps 0 → MatchOption o ((f ≡ q.fitted) × (l ≡ q.life)) (λ n. (f ≡ n.0) × (l ≡ begun (steps_of n.0) n.1))
+replaced_by : (q : ComponentState) (o : Option (Fitted × ℕ)) (f : Fitted) (l : Life) → q.life ≡ begun q.life.steps 0 →
+    MatchOption o ((f ≡ q.fitted) × (l ≡ q.life)) (λ n. (f ≡ n.0) × (l ≡ begun (steps_of n.0) n.1))
     → record q { fitted = f; life = l; next = None } ≡ replaced (record q { next = o })
 replaced_by q None f l s m = rw (m.0, m.1) refl
-replaced_by q (Some n) f l s m = rw (m.0, m.1) (ap (λ (x : Life). record q { fitted = n.0; life = record x { steps = steps_of n.0; failures = n.1 }; next = None }) (sym s))
+replaced_by q (Some n) f l s m = rw (m.0, m.1) (ap (λ (x : Life). record q {
+  fitted = n.0;
+  life = record x { steps = steps_of n.0; failures = n.1 };
+  next =
+      None;
+}) (sym s))
 
-pub replaced_is : (q : ComponentState) (f : Fitted) (l : Life) (nx : Option (Fitted × ℕ)) → q.life ≡ begun q.life.steps 0 → MatchOption q.next ((f ≡ q.fitted) × (l ≡ q.life)) (λ n. (f ≡ n.0) × (l ≡ begun (steps_of n.0) n.1)) → nx ≡ None
+pub replaced_is : (q : ComponentState) (f : Fitted) (l : Life) (nx : Option (Fitted × ℕ)) → q.life ≡ begun q.life.steps 0 →
+    MatchOption q.next ((f ≡ q.fitted) × (l ≡ q.life)) (λ n. (f ≡ n.0) × (l ≡ begun (steps_of n.0) n.1)) → nx ≡ None
     → record q { fitted = f; life = l; next = nx } ≡ replaced q
 replaced_is q f l nx s m e = ap (λ (o : Option (Fitted × ℕ)). record q { fitted = f; life = l; next = o }) e ∙ replaced_by q q.next f l s m
 
 -- ---- what is held of it before is what it is
 
-pub succeeds_same : (was was2 now now2 : State) (busy busy2 : Option Step) → was ≡ was2 → busy ≡ busy2 → now ≡ now2 → succeeds_from was busy now ≡ succeeds_from was2 busy2 now2
-succeeds_same was was2 now now2 busy busy2 e f g = ap (λ (s : State). succeeds_from s busy now) e ∙ ap (λ (o : Option Step). succeeds_from was2 o now) f ∙ ap (λ (s : State). succeeds_from was2 busy2 s) g
+pub succeeds_same : (was was2 now now2 : State) (busy busy2 : Option Step) → was ≡ was2 → busy ≡ busy2 → now ≡ now2 →
+    succeeds_from was busy now ≡ succeeds_from was2 busy2 now2
+succeeds_same was was2 now now2 busy busy2 e f g = ap (λ (s : State). succeeds_from s busy now) e ∙ ap (λ (o : Option Step). succeeds_from was2 o now) f ∙ ap
+    (λ (s : State). succeeds_from was2 busy2 s) g
 
-pub completed_same : (e : LifeEvent) (was was2 now now2 : State) (way way2 : Option After) → was ≡ was2 → way ≡ way2 → now ≡ now2 → completed_from e was way now ≡ completed_from e was2 way2 now2
-completed_same e was was2 now now2 way way2 h f g = ap (λ (s : State). completed_from e s way now) h ∙ ap (λ (o : Option After). completed_from e was2 o now) f ∙ ap (λ (s : State). completed_from e was2 way2 s) g
+pub completed_same : (e : LifeEvent) (was was2 now now2 : State) (way way2 : Option After) → was ≡ was2 → way ≡ way2 → now ≡ now2 →
+    completed_from e was way now ≡ completed_from e was2 way2 now2
+completed_same e was was2 now now2 way way2 h f g = ap (λ (s : State). completed_from e s way now) h ∙ ap (λ (o : Option After). completed_from e was2 o now)
+    f ∙ ap (λ (s : State). completed_from e was2 way2 s) g
 
 -- ---- the whole
 
@@ -121,18 +142,23 @@ forget_steps : (b : Bool) (d : Life) → (if b then record d { failures = 0 } el
 forget_steps true d = refl
 forget_steps false d = refl
 
-forget_begun : (b : Bool) (d : Life) → d ≡ begun d.steps 0 → (if b then record d { failures = 0 } else d) ≡ begun (if b then record d { failures = 0 } else d).steps 0
+forget_begun : (b : Bool) (d : Life) → d ≡ begun d.steps 0 → (if b then record d { failures = 0 } else d) ≡ begun
+    (if b then record d { failures = 0 } else d).steps 0
 forget_begun true d e = ap (λ (x : Life). record x { failures = 0 }) e
 forget_begun false d e = e
 
-module _ (steady : Bool) (e : LifeEvent) (p : ComponentState) (a : LifeAct) (d l : Life) (again : Bool) (sound : IsSound p.life) (row : table p.life e ≡ Some (a, d))
-    (forgets : l ≡ (if steady && succeeds_from p.life.state p.life.busy d.state then record d { failures = 0 } else d)) (again_is : again ≡ is_again (completed_from e p.life.state p.life.stop d.state)) where
+module _ (steady : Bool) (e : LifeEvent) (p : ComponentState) (a : LifeAct) (d l : Life) (again : Bool) (sound : IsSound p.life)
+    (row : table p.life e ≡ Some (a, d))
+    (forgets : l ≡ (if steady && succeeds_from p.life.state p.life.busy d.state then record d { failures = 0 } else d))
+    (again_is : again ≡ is_again (completed_from e p.life.state p.life.stop d.state)) where
   pub fresh : again ≡ true → l ≡ begun l.steps 0
   fresh h =
-      let g : d ≡ begun d.steps 0 = row_of (λ r. is_again (completed e p.life r.1) ≡ true → r.1 ≡ begun r.1.steps 0) (table p.life e) (a, d) row (table_again p.life e sound) (sym again_is ∙ h) in
+      let g : d ≡ begun d.steps 0 = row_of (λ r. is_again (completed e p.life r.1) ≡ true → r.1 ≡ begun r.1.steps 0) (table p.life e) (a, d) row
+      (table_again p.life e sound) (sym again_is ∙ h) in
       subst (λ (x : Life). x ≡ begun x.steps 0) (sym forgets) (forget_begun (steady && succeeds_from p.life.state p.life.busy d.state) d g)
 
-  module _ (owed2 : Option (Step × Exit)) (stop2 : Option After) (f2 : Fitted) (c2 : Life) (n2 : Option (Fitted × ℕ)) (kept : IsKeptPart p) (owes : owed2 ≡ owed_after a (is_spared_by p.stop l) p.owed)
+  module _ (owed2 : Option (Step × Exit)) (stop2 : Option After) (f2 : Fitted) (c2 : Life) (n2 : Option (Fitted × ℕ)) (kept : IsKeptPart p)
+      (owes : owed2 ≡ owed_after a (is_spared_by p.stop l) p.owed)
       (stops : stop2 ≡ stop_after e p.stop) (takes : Takes again p.fitted f2 l c2 p.next n2) where
     abbrev mid : ComponentState
     mid = record p { life = l; owed = owed2; stop = stop2 }
@@ -163,7 +189,8 @@ module _ (steady : Bool) (e : LifeEvent) (p : ComponentState) (a : LifeAct) (d l
     own_l : is_own l ≡ true
     own_l = ap is_own forgets ∙ forget_own (steady && succeeds_from p.life.state p.life.busy d.state) d ∙ own_row.0 kept.own
 
-    taken_kept : (o : Option (Fitted × ℕ)) → MatchOption o ((f2 ≡ p.fitted) × (c2 ≡ l)) (λ x. (f2 ≡ x.0) × (c2 ≡ begun (steps_of x.0) x.1)) → (c2.steps ≡ steps_of f2) × (is_own c2 ≡ true)
+    taken_kept : (o : Option (Fitted × ℕ)) → MatchOption o ((f2 ≡ p.fitted) × (c2 ≡ l)) (λ x. (f2 ≡ x.0) × (c2 ≡ begun (steps_of x.0) x.1)) →
+        (c2.steps ≡ steps_of f2) × (is_own c2 ≡ true)
     taken_kept None t = rw (t.0, t.1) (steps_l, own_l)
     taken_kept (Some n) t = rw (t.0, t.1) (refl, refl)
 

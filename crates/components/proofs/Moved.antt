@@ -29,11 +29,29 @@ use Rattle.components.proofs.Whole.{lived_follows}
 
 -- ---- one component
 
-replaced_owed : (q : ComponentState) (o : Option (Fitted × ℕ)) → (let r : ComponentState = elim o [ None ↦ q | Some n ↦ record q { fitted = n.0; life = record q.life { steps = steps_of n.0; failures = n.1 }; next = None } ] in r.owed ≡ q.owed)
+replaced_owed : (q : ComponentState) (o : Option (Fitted × ℕ)) →
+    (let r : ComponentState = elim o [
+      | None ↦ q
+      | Some n ↦ record q {
+        fitted = n.0;
+        life = record q.life { steps = steps_of n.0; failures = n.1 };
+        next =
+            None;
+      }
+    ] in r.owed ≡ q.owed)
 replaced_owed q None = refl
 replaced_owed q (Some n) = refl
 
-replaced_stop : (q : ComponentState) (o : Option (Fitted × ℕ)) → (let r : ComponentState = elim o [ None ↦ q | Some n ↦ record q { fitted = n.0; life = record q.life { steps = steps_of n.0; failures = n.1 }; next = None } ] in r.stop ≡ q.stop)
+replaced_stop : (q : ComponentState) (o : Option (Fitted × ℕ)) →
+    (let r : ComponentState = elim o [
+      | None ↦ q
+      | Some n ↦ record q {
+        fitted = n.0;
+        life = record q.life { steps = steps_of n.0; failures = n.1 };
+        next =
+            None;
+      }
+    ] in r.stop ≡ q.stop)
 replaced_stop q None = refl
 replaced_stop q (Some n) = refl
 
@@ -84,13 +102,15 @@ row_of P None h = absurd h
 row_of P (Some r) h = (r, refl, h)
 
 -- without a stop
-plainly : (b : Bool) (e : LifeEvent) (p : ComponentState) → stop_after e p.stop ≡ p.stop → IsSomeAnd (table p.life e) (λ r. (is_failure r.0 ≡ false) × (life_work r.1 < life_work p.life) × (is_up p.life.state ≡ false)) → IsQuietly b e p
+plainly : (b : Bool) (e : LifeEvent) (p : ComponentState) → stop_after e p.stop ≡ p.stop →
+    IsSomeAnd (table p.life e) (λ r. (is_failure r.0 ≡ false) × (life_work r.1 < life_work p.life) × (is_up p.life.state ≡ false)) → IsQuietly b e p
 plainly b e p s h =
     let x = row_of (λ r. (is_failure r.0 ≡ false) × (life_work r.1 < life_work p.life) × (is_up p.life.state ≡ false)) (table p.life e) h in
     let r : LifeAct × Life = x.0 in
     let q = lived_stop b e p r.0 r.1 x.1 ∙ s in
     let l = lived_work b e p r.0 r.1 x.1 in
-    let m : ◌≡◌ {A = ℕ} (if is_some (lived b e p).stop then 4 else 0) (if is_some p.stop then 4 else 0) = ap (λ (o : Option After). if is_some o then 4 else 0) q in
+    let m : ◌≡◌ {A = ℕ} (if is_some (lived b e p).stop then 4 else 0) (if is_some p.stop then 4 else 0) =
+    ap (λ (o : Option After). if is_some o then 4 else 0) q in
     let y = x.2 in
     record {
       owed = lived_owed b e p r.0 r.1 x.1 y.0;
@@ -115,23 +135,31 @@ with_stop b a p s h =
     record {
       owed = lived_owed b (event.Stop a) p r.0 r.1 x.1 y.0;
       less = (let z = y.1 in omega (arith, l, m, n, z));
-      stays = and_right (is_up p.life.state) (not (is_up (lived b (event.Stop a) p).life.state) && not (is_to_stop p)) (and_right (not (is_up (lived b (event.Stop a) p).life.state)) (not (is_to_stop p)) (not_of (is_to_stop p) t));
+      stays = and_right (is_up p.life.state) (not (is_up (lived b (event.Stop a) p).life.state) && not (is_to_stop p))
+          (and_right (not (is_up (lived b (event.Stop a) p).life.state)) (not (is_to_stop p)) (not_of (is_to_stop p) t));
     }
 
 pub stop_awaited : (w : Components) (p : ComponentState) (a : After) → p.stop ≡ Some a → may_stop w p ≡ true → is_awaited (event.Stop a) p.life ≡ true
 stop_awaited w p a e m =
     let x : ((is_awaited (event.Stop a) p.life && not (has_orphan p || is_unstarted p)) && not (is_held (component_name p) w.parts)) ≡ true
-    = subst (λ (o : Option After). (elim o [ None ↦ false | Some b ↦ (is_awaited (event.Stop b) p.life && not (has_orphan p || is_unstarted p)) && not (is_held (component_name p) w.parts) ]) ≡ true) e m in
-    (and_parts (is_awaited (event.Stop a) p.life) (not (has_orphan p || is_unstarted p)) (and_parts (is_awaited (event.Stop a) p.life && not (has_orphan p || is_unstarted p)) (not (is_held (component_name p) w.parts)) x).0).0
+    = subst (λ (o : Option After). (elim o [
+      | None ↦ false
+      | Some b ↦ (is_awaited (event.Stop b) p.life && not (has_orphan p || is_unstarted p)) &&
+          not (is_held (component_name p) w.parts)
+    ]) ≡ true) e m in
+    (and_parts (is_awaited (event.Stop a) p.life) (not (has_orphan p || is_unstarted p))
+    (and_parts (is_awaited (event.Stop a) p.life && not (has_orphan p || is_unstarted p)) (not (is_held (component_name p) w.parts)) x).0).0
 
 -- in its turn
 pub quiet_at : (w : Components) (k : ℕ) (e : LifeEvent) → MayMove w k e → At k (IsQuietly w.steady e) w.parts
 quiet_at w k event.MayBegin h = at_more (λ p. may_begin w p ≡ true) (IsQuietly w.steady event.MayBegin) w.parts k (λ p m.
-    let x = and_parts (is_awaited event.MayBegin p.life && not (is_to_stop p)) (list_all (is_met stands_up w.parts) p.fitted.hard && list_all (is_met serves_softly w.parts) p.fitted.soft) m in
+    let x = and_parts (is_awaited event.MayBegin p.life && not (is_to_stop p)) (list_all (is_met stands_up w.parts) p.fitted.hard &&
+    list_all (is_met serves_softly w.parts) p.fitted.soft) m in
     plainly w.steady event.MayBegin p refl (begin_row p.life (and_parts (is_awaited event.MayBegin p.life) (not (is_to_stop p)) x.0).0)) h
 quiet_at w k event.Retry h = at_more (λ p. may_retry p ≡ true) (IsQuietly w.steady event.Retry) w.parts k (λ p m.
     plainly w.steady event.Retry p refl (retry_row p.life (and_parts (is_awaited event.Retry p.life) (not (is_to_stop p)) m).0)) h
-quiet_at w k (event.Stop a) h = at_more (λ p. (may_stop w p ≡ true) × (p.stop ≡ Some a) × (spares (event.Stop a) p ≡ true)) (IsQuietly w.steady (event.Stop a)) w.parts k (λ p m.
+quiet_at w k (event.Stop a) h = at_more (λ p. (may_stop w p ≡ true) × (p.stop ≡ Some a) × (spares (event.Stop a) p ≡ true))
+    (IsQuietly w.steady (event.Stop a)) w.parts k (λ p m.
     with_stop w.steady a p m.1 (stop_awaited w p a m.1 m.0)) h
 quiet_at w k event.Launched h = absurd h
 quiet_at w k event.Skipped h = absurd h
@@ -147,7 +175,8 @@ move_no_launch w k (event.Ended s x) h = absurd h
 
 -- ---- all components
 
-owes_changed : (b : Bool) (e : LifeEvent) (k : ℕ) (ps : List ComponentState) → At k (IsQuietly b e) ps → list_any owes (changed_at k (lived b e) ps) ≡ list_any owes ps
+owes_changed : (b : Bool) (e : LifeEvent) (k : ℕ) (ps : List ComponentState) → At k (IsQuietly b e) ps → list_any owes (changed_at k (lived b e) ps)
+    ≡ list_any owes ps
 owes_changed b e k [] h = refl
 owes_changed b e zero (p ∷ ps) h = ap (λ (o : Option (Step × Exit)). is_some o || list_any owes ps) h.owed
 owes_changed b e (suc k) (p ∷ ps) h = ap (λ (x : Bool). owes p || x) (owes_changed b e k ps h)
@@ -165,10 +194,12 @@ pub move_owes : (w : Components) (k : ℕ) (e : LifeEvent) → MayMove w k e →
 move_owes w k e m h =
     let q = quiet_at w k e m in
     let ps : List ComponentState = changed_at k (lived w.steady e) w.parts in
-    subst (λ (b : Bool). list_any owes (if b then restarted may_restart (flagged_at k ps) else ps) ≡ false) (sym (no_drop w.steady e (slice_get w.parts k) q)) (owes_changed w.steady e k w.parts q ∙ h)
+    subst (λ (b : Bool). list_any owes (if b then restarted may_restart (flagged_at k ps) else ps) ≡ false) (sym (no_drop w.steady e (slice_get w.parts k) q))
+    (owes_changed w.steady e k w.parts q ∙ h)
 
 pub move_works : (w : Components) (k : ℕ) (e : LifeEvent) → MayMove w k e → work (lived_at k e w).parts < work w.parts
 move_works w k e m =
     let q = quiet_at w k e m in
     let ps : List ComponentState = changed_at k (lived w.steady e) w.parts in
-    subst (λ (b : Bool). work (if b then restarted may_restart (flagged_at k ps) else ps) < work w.parts) (sym (no_drop w.steady e (slice_get w.parts k) q)) (work_changed w.steady e k w.parts q)
+    subst (λ (b : Bool). work (if b then restarted may_restart (flagged_at k ps) else ps) < work w.parts) (sym (no_drop w.steady e (slice_get w.parts k) q))
+    (work_changed w.steady e k w.parts q)

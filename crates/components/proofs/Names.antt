@@ -91,7 +91,8 @@ stays_lived_by b e p (Some r) t h =
 pub stays_lived : (b : Bool) (e : LifeEvent) (p : ComponentState) → IsNamed p → Stays p (lived b e p)
 stays_lived b e p h = stays_lived_by b e p (table p.life e) refl h
 
-pub stay_changed : (f : ComponentState → ComponentState) → ((p : ComponentState) → IsNamed p → Stays p (f p)) → (k : ℕ) (ps : List ComponentState) → AllByRecursion IsNamed ps → AllStay ps (changed_at k f ps)
+pub stay_changed : (f : ComponentState → ComponentState) → ((p : ComponentState) → IsNamed p → Stays p (f p)) → (k : ℕ) (ps : List ComponentState) →
+    AllByRecursion IsNamed ps → AllStay ps (changed_at k f ps)
 stay_changed f s k [] h = (refl, tt)
 stay_changed f s zero (p ∷ ps) h = let t = s p h.0 in (ap (λ (n : List ℕ). n ∷ names ps) t.0, (t.1, h.1))
 stay_changed f s (suc k) (p ∷ ps) h = let t = stay_changed f s k ps h.1 in (ap (λ (ns : List (List ℕ)). component_name p ∷ ns) t.0, (h.0, t.1))
@@ -100,10 +101,12 @@ stay_changed f s (suc k) (p ∷ ps) h = let t = stay_changed f s k ps h.1 in (ap
 pub names_stay : (ps qs : List ComponentState) → AllStay ps qs → HaveNames ps → HaveNames qs
 names_stay ps qs s h = record { apart = subst AreNamesApart (sym s.0) h.apart; named = s.1 }
 
-pub names_changed : (f : ComponentState → ComponentState) → ((p : ComponentState) → IsNamed p → Stays p (f p)) → (k : ℕ) (ps qs : List ComponentState) → qs ≡ changed_at k f ps → HaveNames ps → HaveNames qs
+pub names_changed : (f : ComponentState → ComponentState) → ((p : ComponentState) → IsNamed p → Stays p (f p)) → (k : ℕ) (ps qs : List ComponentState) →
+    qs ≡ changed_at k f ps → HaveNames ps → HaveNames qs
 names_changed f s k ps qs e h = subst HaveNames (sym e) (names_stay ps (changed_at k f ps) (stay_changed f s k ps h.named) h)
 
-pub stay_mapped : (f : ComponentState → ComponentState) → ((p : ComponentState) → IsNamed p → Stays p (f p)) → (ps : List ComponentState) → AllByRecursion IsNamed ps → AllStay ps (map f ps)
+pub stay_mapped : (f : ComponentState → ComponentState) → ((p : ComponentState) → IsNamed p → Stays p (f p)) → (ps : List ComponentState) →
+    AllByRecursion IsNamed ps → AllStay ps (map f ps)
 stay_mapped f s [] h = (refl, tt)
 stay_mapped f s (p ∷ ps) h =
     let t = s p h.0 in
@@ -139,7 +142,8 @@ stay_marked may (f ∷ fs) h =
     let u = stay_marked may fs h.1 in
     (ap (λ (n : List ℕ). n ∷ names (marked may fs)) t.0 ∙ ap (λ (ns : List (List ℕ)). component_name f.0 ∷ ns) u.0, (t.1, u.1))
 
-stay_restarted : (may : ComponentState → Bool) (fs : Flagged) (ps : List ComponentState) → parts_of fs ≡ ps → AllByRecursion IsNamed ps → AllStay ps (restarted may fs)
+stay_restarted : (may : ComponentState → Bool) (fs : Flagged) (ps : List ComponentState) → parts_of fs ≡ ps → AllByRecursion IsNamed ps →
+    AllStay ps (restarted may fs)
 stay_restarted may fs ps e h =
     let rs : Flagged = reaching (length fs) fs in
     let q : parts_of rs ≡ ps = reaching_parts (length fs) fs ∙ e in

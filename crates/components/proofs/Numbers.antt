@@ -1,5 +1,6 @@
 -- Numbers that stand once, in rising order.
-use Rattle.std.proofs.Common.{◌≡◌, ◌<◌, ◌≤◌, ◌+◌, ◌==◌, ◌++◌, ℕ, suc, zero, List, [], ◌∷◌, length, get_or, drop, add-one, Bool, true, false, Option, Some, None, refl, sym, ap, ◌∙◌, arith, subst, filter, inl, inr, MatchOption}
+use Rattle.std.proofs.Common.{◌≡◌, ◌<◌, ◌≤◌, ◌+◌, ◌==◌, ◌++◌, ℕ, suc, zero, List, [], ◌∷◌, length, get_or, drop, add-one, Bool, true, false, Option, Some}
+use Rattle.std.proofs.Common.{None, refl, sym, ap, ◌∙◌, arith, subst, filter, inl, inr, MatchOption}
 use Rattle.std.specs.Prelude.{◌||◌, nat_lt, min, if◌then◌else◌, IsSome}
 use Rattle.std.specs.List.{AllByRecursion}
 use Rattle.std.proofs.lemmas.Bool.{cases_eq, cases_lt, eq-eqb, eqb-true, ne_eqb, lt-ltb, le-ltb, ltb-true, ltb-false}
@@ -33,18 +34,28 @@ none_lower : (last : Option ℕ) (n : ℕ) (ns : List ℕ) → NoneAbove last ns
 none_lower last n [] h = tt
 none_lower last n (x ∷ xs) h = ((λ e. let f = h.0 in absurd (cc)), none_lower last n xs h.1)
 
-lower : (last : Option ℕ) (n m : ℕ) (ns : List ℕ) → n ≤ m → AllByRecursion (λ x. is_above last x ≡ true → m ≤ x) ns → AllByRecursion (λ x. is_above last x ≡ true → n ≤ x) ns
+lower : (last : Option ℕ) (n m : ℕ) (ns : List ℕ) → n ≤ m → AllByRecursion (λ x. is_above last x ≡ true → m ≤ x) ns →
+    AllByRecursion (λ x. is_above last x ≡ true → n ≤ x) ns
 lower last n m [] l h = tt
 lower last n m (x ∷ xs) l h = ((λ e. let f = h.0 e in omega (arith, l, f)), lower last n m xs l h.1)
 
-least_step : (last : Option ℕ) (n : ℕ) (ns : List ℕ) (b : Bool) → is_above last n ≡ b → (r : Option ℕ) → MatchOption r (NoneAbove last ns) (IsLeastAbove last ns)
+least_step : (last : Option ℕ) (n : ℕ) (ns : List ℕ) (b : Bool) → is_above last n ≡ b → (r : Option ℕ) →
+    MatchOption r (NoneAbove last ns) (IsLeastAbove last ns)
     → MatchOption (earlier (if b then Some n else None) r) (NoneAbove last (n ∷ ns)) (IsLeastAbove last (n ∷ ns))
 least_step last n ns false e None i = (e, i)
 least_step last n ns false e (Some m) i = (i.0, or_last (n == m) (among m ns) i.1, ((λ h. absurd (cc)), i.2))
 least_step last n ns true e None i = (e, or_first (n == n) (among n ns) (eq-eqb n n refl), ((λ h. omega arith), none_lower last n ns i))
 least_step last n ns true e (Some m) i = elim (cases_lt n m) [
-  | inl l ↦ subst (IsLeastAbove last (n ∷ ns)) (let q : n ≡ min n m = omega (arith, l) in q) (e, or_first (n == n) (among n ns) (eq-eqb n n refl), ((λ h. omega arith), lower last n m ns (omega (arith, l)) i.2))
-  | inr l ↦ subst (IsLeastAbove last (n ∷ ns)) (let q : m ≡ min n m = omega (arith, l) in q) (i.0, or_last (n == m) (among m ns) i.1, ((λ h. omega (arith, l)), i.2))
+  | inl l ↦ subst (IsLeastAbove last (n ∷ ns)) (let q : n ≡ min n m = omega (arith, l) in q) (
+    e,
+    or_first (n == n) (among n ns) (eq-eqb n n refl),
+    ((λ h. omega arith), lower last n m ns (omega (arith, l)) i.2),
+  )
+  | inr l ↦ subst (IsLeastAbove last (n ∷ ns)) (let q : m ≡ min n m = omega (arith, l) in q) (
+    i.0,
+    or_last (n == m) (among m ns) i.1,
+    ((λ h. omega (arith, l)), i.2),
+  )
 ]
 
 least_is : (last : Option ℕ) (ns : List ℕ) → MatchOption (least_above last ns) (NoneAbove last ns) (IsLeastAbove last ns)
@@ -61,12 +72,14 @@ first_below m (x ∷ xs) h =
     let i = first_below m xs h.1 in
     rw g (omega (arith, i))
 
-others_below : (n m : ℕ) (ns : List ℕ) → n < m → AllByRecursion (λ x. nat_lt n x ≡ true → m ≤ x) ns → AllByRecursion (λ x. (x == n) ≡ false) ns → below m ns ≡ below n ns
+others_below : (n m : ℕ) (ns : List ℕ) → n < m → AllByRecursion (λ x. nat_lt n x ≡ true → m ≤ x) ns → AllByRecursion (λ x. (x == n) ≡ false) ns →
+    below m ns ≡ below n ns
 others_below n m [] l h o = refl
 others_below n m (x ∷ xs) l h o =
     let i = others_below n m xs l h.1 o.1 in
     elim (cases_lt n x) [
-      | inl k ↦ (let a : nat_lt x m ≡ false = le-ltb x m (h.0 (lt-ltb n x k)) in let b : nat_lt x n ≡ false = le-ltb x n (omega (arith, k)) in rw (a, b) (omega (arith, i)))
+      | inl k ↦ (let a : nat_lt x m ≡ false = le-ltb x m (h.0 (lt-ltb n x k)) in let b : nat_lt x n ≡ false = le-ltb x n (omega (arith, k)) in
+          rw (a, b) (omega (arith, i)))
       | inr k ↦ (let ne : (x ≡ n → ⊥) = λ q. (let t = eq-eqb x n q in let u = o.0 in absurd (cc)) in
           let s : x < n = omega (arith, k, ne) in
           let a : nat_lt x m ≡ true = lt-ltb x m (omega (arith, s, l)) in let b : nat_lt x n ≡ true = lt-ltb x n s in rw (a, b) (omega (arith, i)))
@@ -75,12 +88,14 @@ others_below n m (x ∷ xs) l h o =
 not_among : (n : ℕ) (ns : List ℕ) → among n ns ≡ false → AllByRecursion (λ x. (x == n) ≡ false) ns
 not_among n [] e = tt
 not_among n (x ∷ xs) e = not_among_at (x == n) (among n xs) e (not_among n xs) where
-  not_among_at : (a b : Bool) → (a || b) ≡ false → (b ≡ false → AllByRecursion (λ x. (x == n) ≡ false) xs) → (a ≡ false) × AllByRecursion (λ x. (x == n) ≡ false) xs
+  not_among_at : (a b : Bool) → (a || b) ≡ false → (b ≡ false → AllByRecursion (λ x. (x == n) ≡ false) xs) → (a ≡ false) ×
+      AllByRecursion (λ x. (x == n) ≡ false) xs
   not_among_at true b f k = absurd (cc)
   not_among_at false b f k = (refl, k f)
 
 -- one more comes before the next number
-next_below : (n m : ℕ) (ns : List ℕ) → n < m → AreApart ns → among n ns ≡ true → AllByRecursion (λ x. nat_lt n x ≡ true → m ≤ x) ns → below m ns ≡ below n ns + 1
+next_below : (n m : ℕ) (ns : List ℕ) → n < m → AreApart ns → among n ns ≡ true → AllByRecursion (λ x. nat_lt n x ≡ true → m ≤ x) ns →
+    below m ns ≡ below n ns + 1
 next_below n m [] l a e h = absurd (cc)
 next_below n m (x ∷ xs) l a e h = elim (cases_eq x n) [
   | inl q ↦ (let o : among n xs ≡ false = subst (λ y. among y xs ≡ false) q a.0 in
@@ -91,7 +106,8 @@ next_below n m (x ∷ xs) l a e h = elim (cases_eq x n) [
       let g : among n xs ≡ true = subst (λ (b : Bool). (b || among n xs) ≡ true) f e in
       let i = next_below n m xs l a.1 g h.1 in
       elim (cases_lt n x) [
-        | inl k ↦ (let s : nat_lt x m ≡ false = le-ltb x m (h.0 (lt-ltb n x k)) in let t : nat_lt x n ≡ false = le-ltb x n (omega (arith, k)) in rw (s, t) (omega (arith, i)))
+        | inl k ↦ (let s : nat_lt x m ≡ false = le-ltb x m (h.0 (lt-ltb n x k)) in let t : nat_lt x n ≡ false = le-ltb x n (omega (arith, k)) in
+            rw (s, t) (omega (arith, i)))
         | inr k ↦ (let y : x < n = omega (arith, k, ne) in
             let s : nat_lt x m ≡ true = lt-ltb x m (omega (arith, y, l)) in let t : nat_lt x n ≡ true = lt-ltb x n y in rw (s, t) (omega (arith, i)))
       ])
@@ -133,7 +149,8 @@ first_by ns (Some m) h = (h.1, first_below m ns h.2)
 pub first_number : (ns : List ℕ) → IsNumberAt ns 0 (least_above None ns)
 first_number ns = first_by ns (least_above None ns) (least_is None ns)
 
-next_by : (ns : List ℕ) (at n : ℕ) (r : Option ℕ) → AreApart ns → IsNumberAt ns at (Some n) → MatchOption r (NoneAbove (Some n) ns) (IsLeastAbove (Some n) ns) → IsNumberAt ns (at + 1) r
+next_by : (ns : List ℕ) (at n : ℕ) (r : Option ℕ) → AreApart ns → IsNumberAt ns at (Some n) → MatchOption r (NoneAbove (Some n) ns) (IsLeastAbove (Some n) ns)
+    → IsNumberAt ns (at + 1) r
 next_by ns at n None a i h = let e = all_below n ns a i.0 h in let f = i.1 in omega (arith, e, f)
 next_by ns at n (Some m) a i h = (h.1, next_below n m ns (ltb-true n m h.0) a i.0 h.2 ∙ ap (λ (k : ℕ). k + 1) i.1)
 
@@ -151,14 +168,16 @@ least_append last (x ∷ xs) ys =
     ap (λ (o : Option ℕ). earlier (number_above last x) o) (least_append last xs ys)
     ∙ sym (earlier_assoc (number_above last x) (least_above last xs) (least_above last ys))
 
-pub number_next : (last : Option ℕ) (ps : List ComponentState) (k : ℕ) (d : ComponentState) (o r : Option ℕ) (cs : List Child) → k < length ps → d ≡ get_or ps k d → cs ≡ d.children → r ≡ earlier o (least_above last (child_numbers cs))
+pub number_next : (last : Option ℕ) (ps : List ComponentState) (k : ℕ) (d : ComponentState) (o r : Option ℕ) (cs : List Child) → k < length ps →
+    d ≡ get_or ps k d → cs ≡ d.children → r ≡ earlier o (least_above last (child_numbers cs))
     → earlier o (least_above last (living_numbers (drop k ps))) ≡ earlier r (least_above last (living_numbers (drop (k + 1) ps)))
 number_next last [] k d o r cs l e f g = absurd (omega (arith, l))
 number_next last (p ∷ ps) zero d o r cs l e f g =
     let q : cs ≡ p.children = f ∙ ap (λ (x : ComponentState). x.children) e in
     ap (λ (x : Option ℕ). earlier o x) (least_append last (child_numbers p.children) (living_numbers ps))
     ∙ sym (earlier_assoc o (least_above last (child_numbers p.children)) (least_above last (living_numbers ps)))
-    ∙ ap (λ (x : Option ℕ). earlier x (least_above last (living_numbers ps))) (sym (g ∙ ap (λ (ds : List Child). earlier o (least_above last (child_numbers ds))) q))
+    ∙ ap (λ (x : Option ℕ). earlier x (least_above last (living_numbers ps)))
+    (sym (g ∙ ap (λ (ds : List Child). earlier o (least_above last (child_numbers ds))) q))
 number_next last (p ∷ ps) (suc k) d o r cs l e f g = rw (add-one (suc k)) (rw (add-one k) at (number_next last ps k d o r cs (omega (arith, l)) e f g))
 
 -- ---- a number that stands there has an owner
@@ -173,7 +192,8 @@ left_among n (x ∷ xs) ys e f = left_at (x == n) (among n xs) (among n (xs ++ y
   left_at true b d g h k = absurd (cc)
   left_at false b d g h k = k g h
 
-owned_at : (k n : ℕ) (p : ComponentState) (ps : List ComponentState) (o : Option Child) → child_of n p.children ≡ o → among n (child_numbers p.children ++ living_numbers ps) ≡ true
+owned_at : (k n : ℕ) (p : ComponentState) (ps : List ComponentState) (o : Option Child) → child_of n p.children ≡ o →
+    among n (child_numbers p.children ++ living_numbers ps) ≡ true
     → (among n (living_numbers ps) ≡ true → IsSome (owner_from (k + 1) n ps)) → IsSome (owner_at k n ps o)
 owned_at k n p ps (Some c) h e f = refl
 owned_at k n p ps None h e f = f (left_among n (child_numbers p.children) (living_numbers ps) (no_child n p.children h) e)
@@ -185,7 +205,8 @@ owned k n (p ∷ ps) e = owned_at k n p ps (child_of n p.children) refl e (owned
 below_filter : (n : ℕ) (ns : List ℕ) → length (filter (λ m. nat_lt m n) ns) ≡ below n ns
 below_filter n [] = refl
 below_filter n (x ∷ xs) = below_at (nat_lt x n) (below_filter n xs) where
-  below_at : (b : Bool) → length (filter (λ m. nat_lt m n) xs) ≡ below n xs → length (if b then x ∷ filter (λ m. nat_lt m n) xs else filter (λ m. nat_lt m n) xs) ≡ (if b then 1 else 0) + below n xs
+  below_at : (b : Bool) → length (filter (λ m. nat_lt m n) xs) ≡ below n xs →
+      length (if b then x ∷ filter (λ m. nat_lt m n) xs else filter (λ m. nat_lt m n) xs) ≡ (if b then 1 else 0) + below n xs
   below_at true e = omega (arith, e)
   below_at false e = omega (arith, e)
 
@@ -198,7 +219,8 @@ living_is w at (Some n) h = (owned 0 n w.parts h.0, below_filter n (living_numbe
 pub has_number : (n : ℕ) (cs : List Child) (c : Child) → child_of n cs ≡ Some c → among n (child_numbers cs) ≡ true
 has_number n [] c e = absurd (cc)
 has_number n (d ∷ ds) c e = has_at (d.number == n) e (has_number n ds c) where
-  has_at : (b : Bool) → (if b then Some d else child_of n ds) ≡ Some c → (child_of n ds ≡ Some c → among n (child_numbers ds) ≡ true) → (b || among n (child_numbers ds)) ≡ true
+  has_at : (b : Bool) → (if b then Some d else child_of n ds) ≡ Some c → (child_of n ds ≡ Some c → among n (child_numbers ds) ≡ true) →
+      (b || among n (child_numbers ds)) ≡ true
   has_at true q i = refl
   has_at false q i = i q
 
@@ -213,7 +235,8 @@ among_back : (n : ℕ) (xs ys : List ℕ) → among n ys ≡ true → among n (x
 among_back n [] ys e = e
 among_back n (x ∷ xs) ys e = or_last (x == n) (among n (xs ++ ys)) (among_back n xs ys e)
 
-owner_stands_at : (k n : ℕ) (p : ComponentState) (ps : List ComponentState) (o : Option Child) → child_of n p.children ≡ o → IsSome (owner_at k n ps o) → (IsSome (owner_from (k + 1) n ps) → among n (living_numbers ps) ≡ true)
+owner_stands_at : (k n : ℕ) (p : ComponentState) (ps : List ComponentState) (o : Option Child) → child_of n p.children ≡ o → IsSome (owner_at k n ps o) →
+    (IsSome (owner_from (k + 1) n ps) → among n (living_numbers ps) ≡ true)
     → among n (child_numbers p.children ++ living_numbers ps) ≡ true
 owner_stands_at k n p ps None q e i = among_back n (child_numbers p.children) (living_numbers ps) (i e)
 owner_stands_at k n p ps (Some c) q e i = among_front n (child_numbers p.children) (living_numbers ps) (has_number n p.children c q)
@@ -231,9 +254,16 @@ one_of P n (x ∷ xs) a e = one_at (x == n) refl e (one_of P n xs a.1) where
   one_at true q h i = subst P (eqb-true x n q) a.0
   one_at false q h i = i h
 
-living_by : (w : Components) (last r : Option ℕ) → MatchOption r (NoneAbove last (living_numbers w.parts)) (IsLeastAbove last (living_numbers w.parts)) → IsNextLiving w last r
+living_by : (w : Components) (last r : Option ℕ) → MatchOption r (NoneAbove last (living_numbers w.parts)) (IsLeastAbove last (living_numbers w.parts)) →
+    IsNextLiving w last r
 living_by w last None h = λ n o. one_of (λ x. is_above last x ≡ false) n (living_numbers w.parts) h (owner_stands 0 n w.parts o)
-living_by w last (Some m) h = (owned 0 m w.parts h.1, h.0, (λ n o above. one_of (λ x. is_above last x ≡ true → m ≤ x) n (living_numbers w.parts) h.2 (owner_stands 0 n w.parts o) above))
+living_by w last (Some m) h = (
+  owned 0 m w.parts h.1,
+  h.0,
+  (λ n o above. one_of (λ x. is_above last x ≡ true → m ≤ x) n (living_numbers w.parts) h.2
+      (owner_stands 0 n w.parts o) above),
+)
 
 pub next_living : (w : Components) (last r : Option ℕ) → r ≡ least_above last (living_numbers w.parts) → IsNextLiving w last r
-next_living w last r is = subst (IsNextLiving w last) (sym is) (living_by w last (least_above last (living_numbers w.parts)) (least_is last (living_numbers w.parts)))
+next_living w last r is = subst (IsNextLiving w last) (sym is)
+    (living_by w last (least_above last (living_numbers w.parts)) (least_is last (living_numbers w.parts)))

@@ -1,5 +1,6 @@
 -- What was made ready for one platform stays so, and keeps the steps of its items.
-use Rattle.std.proofs.Common.{◌≡◌, ◌≢◌, ℕ, suc, zero, List, [], ◌∷◌, length, Bool, true, false, Option, Some, None, refl, sym, ap, ◌∙◌, subst, map, filter, inl, inr, slice_get}
+use Rattle.std.proofs.Common.{◌≡◌, ◌≢◌, ℕ, suc, zero, List, [], ◌∷◌, length, Bool, true, false, Option, Some, None, refl, sym, ap, ◌∙◌, subst, map, filter}
+use Rattle.std.proofs.Common.{inl, inr, slice_get}
 use Rattle.std.specs.Prelude.{◌&&◌, not, cond, if◌then◌else◌, IfSome, is_some, option_map}
 use Rattle.std.specs.List.{AllByRecursion, Contains}
 use Rattle.std.specs.Str.{bytes_eq}
@@ -25,7 +26,9 @@ use Rattle.lifecycle.specs.declared.kinds.StepSet.{StepSet}
 use Rattle.records.specs.Stored.{Item}
 use Rattle.records.specs.declared.record.Origin.{Origin}
 use Rattle.components.specs.Acts.{NextAct, HandsOut, Quietly, Move}
-use Rattle.components.specs.Changes.{Coming, all_stopped, changed_to, coming_again, coming_for, counted, fate, forgetting, fresh_part, is_replaced, is_replacing, leaving, meeting, replacing, replanned, standing, staying, steadied, with_items, with_newcomers, with_texts}
+use Rattle.components.specs.Changes.{Coming, all_stopped, changed_to, coming_again, coming_for, counted, fate, forgetting, fresh_part, is_replaced}
+use Rattle.components.specs.Changes.{is_replacing, leaving, meeting, replacing, replanned, standing, staying, steadied, with_items, with_newcomers}
+use Rattle.components.specs.Changes.{with_texts}
 use Rattle.components.specs.Events.{answered_at, gone_by, is_orphan_at, kill_event_at, launched, noticed, told_at, with_child}
 use Rattle.components.specs.Fitted.{Fitted, is_same_config, is_same_item, prepared_of, steps_of}
 use Rattle.components.specs.Lives.{drops_at, lived, lived_at, replaced}
@@ -34,7 +37,8 @@ use Rattle.components.specs.Marks.{Flagged, flagged, flagged_at, grown, marked, 
 use Rattle.components.specs.Platforms.{AllFor, AllRunFor, IsFor, RunsFor, steps_in}
 use Rattle.components.specs.Readied.{KeepSteps}
 use Rattle.components.specs.Rows.{completed_from, succeeds_from}
-use Rattle.components.specs.Components.{ComponentState, Components, changed_at, child_gone, is_again, is_gone, owner, component_name, stops_for_good, under_way, without_child}
+use Rattle.components.specs.Components.{ComponentState, Components, changed_at, child_gone, is_again, is_gone, owner, component_name, stops_for_good}
+use Rattle.components.specs.Components.{under_way, without_child}
 use Rattle.components.specs.declared.kinds.Act.{Act}
 use Rattle.components.specs.declared.kinds.Act.TheVariants as acts
 use Rattle.components.specs.declared.kinds.Event.{Event}
@@ -51,7 +55,8 @@ has_prepared scope None m h = ap (λ (o : Option Prepared). is_some o) h
 has_prepared scope (Some d) m h = ap (λ (o : Option Prepared). is_some o) h.1
 
 same_set : (a b c d e f g h i j : Bool) → a ≡ f → b ≡ g → c ≡ h → d ≡ i → e ≡ j
-    → (let x : StepSet = record { install = a; run = b; startup = c; shutdown = d; recover = e } in x) ≡ (let y : StepSet = record { install = f; run = g; startup = h; shutdown = i; recover = j } in y)
+    → (let x : StepSet = record { install = a; run = b; startup = c; shutdown = d; recover = e } in x)
+    ≡ (let y : StepSet = record { install = f; run = g; startup = h; shutdown = i; recover = j } in y)
 same_set a b c d e f g h i j p q r s t =
     ap (λ (x : Bool). let z : StepSet = record { install = x; run = b; startup = c; shutdown = d; recover = e } in z) p
     ∙ ap (λ (x : Bool). let z : StepSet = record { install = f; run = x; startup = c; shutdown = d; recover = e } in z) q
@@ -73,11 +78,13 @@ other s h = λ e. let f : true ≡ false = sym h ∙ ap no_bootstrap e in absurd
 fitted_for : (origin : Origin) (items : List Item) (at : ℕ) (f : Fitted) → IsFittedAt origin items at f → IsFor origin.platform f
 fitted_for origin items at f h =
     let r : Recipe = h.is_scope.recipe in
-    let has : (s : Step) → no_bootstrap s ≡ true → is_some (prepared_of f s) ≡ is_some (step_of r s) = λ s e. has_prepared h.scope (step_of r s) (prepared_of f s) (h.steps s (other s e)) in
+    let has : (s : Step) → no_bootstrap s ≡ true → is_some (prepared_of f s) ≡ is_some (step_of r s) =
+    λ s e. has_prepared h.scope (step_of r s) (prepared_of f s) (h.steps s (other s e)) in
     record {
       recipe = r;
       reads = subst (λ (i : Item). Reads i.recipe origin.platform r) (sym h.item) h.is_scope.reads;
-      steps = same_set (is_some f.install) (is_some f.run) (is_some f.startup) (is_some f.shutdown) (is_some f.recover) (is_some r.install) (is_some r.run) (is_some r.startup) (is_some r.shutdown) (is_some r.recover)
+      steps = same_set (is_some f.install) (is_some f.run) (is_some f.startup) (is_some f.shutdown) (is_some f.recover) (is_some r.install) (is_some r.run)
+          (is_some r.startup) (is_some r.shutdown) (is_some r.recover)
           (has step.Install refl) (has step.Run refl) (has step.Startup refl) (has step.Shutdown refl) (has step.Recover refl);
     }
 
@@ -93,7 +100,8 @@ ready_for origin items fs h = all_from (IsFor origin.platform) fs (λ at f e. fi
 same_steps : (r s : Recipe) → AreAlike r s → steps_in r ≡ steps_in s
 same_steps r s a =
     let has : (t : Step) → is_some (step_of r t) ≡ is_some (step_of s t) = λ t. ap (λ (o : Option StepDef). is_some o) (a.steps t) in
-    same_set (is_some r.install) (is_some r.run) (is_some r.startup) (is_some r.shutdown) (is_some r.recover) (is_some s.install) (is_some s.run) (is_some s.startup) (is_some s.shutdown) (is_some s.recover)
+    same_set (is_some r.install) (is_some r.run) (is_some r.startup) (is_some r.shutdown) (is_some r.recover) (is_some s.install) (is_some s.run)
+    (is_some s.startup) (is_some s.shutdown) (is_some s.recover)
     (has step.Install) (has step.Run) (has step.Startup) (has step.Shutdown) (has step.Recover)
 
 same_recipe : (a b : Item) → is_same_item a b ≡ true → a.recipe ≡ b.recipe
@@ -104,16 +112,20 @@ same_recipe a b e =
     let recipe : Bool = bytes_eq a.recipe b.recipe in
     same_name a.recipe b.recipe (and_parts config recipe (and_parts version (config && recipe) (and_parts name (version && (config && recipe)) e).1).1).1
 
-steps_for : (one : IsOneRecipe) (platform : Platform) (f g : Fitted) → IsFor platform f → IsFor platform g → is_same_item f.item g.item ≡ true → steps_of f ≡ steps_of g
+steps_for : (one : IsOneRecipe) (platform : Platform) (f g : Fitted) → IsFor platform f → IsFor platform g → is_same_item f.item g.item ≡ true →
+    steps_of f ≡ steps_of g
 steps_for one platform f g h i e =
-    h.steps ∙ same_steps h.recipe i.recipe (one g.item.recipe platform h.recipe i.recipe (subst (λ (bs : List ℕ). Reads bs platform h.recipe) (same_recipe f.item g.item e) h.reads) i.reads) ∙ sym i.steps
+    h.steps ∙ same_steps h.recipe i.recipe (one g.item.recipe platform h.recipe i.recipe
+    (subst (λ (bs : List ℕ). Reads bs platform h.recipe) (same_recipe f.item g.item e) h.reads) i.reads) ∙ sym i.steps
 
 all_has : {A : Type 0} (P : A → Type 0) (xs : List A) (x : A) → AllByRecursion P xs → Contains xs x → P x
 all_has P [] x h i = absurd (in_nil x i)
 all_has P (y ∷ ys) x h i = elim (in_cons y ys x i) [ inl e ↦ subst P e h.0 | inr j ↦ all_has P ys x h.1 j ]
 
-pub keep_for : (one : IsOneRecipe) (platform : Platform) (fs : List Fitted) (ps : List ComponentState) → AllFor platform fs → AllRunFor platform ps → KeepSteps fs ps
-keep_for one platform fs ps h i = λ f p inf inp e. steps_for one platform f p.fitted (all_has (IsFor platform) fs f h inf) (all_has (RunsFor platform) ps p i inp).0 e
+pub keep_for : (one : IsOneRecipe) (platform : Platform) (fs : List Fitted) (ps : List ComponentState) → AllFor platform fs → AllRunFor platform ps →
+    KeepSteps fs ps
+keep_for one platform fs ps h i = λ f p inf inp e. steps_for one platform f p.fitted (all_has (IsFor platform) fs f h inf)
+    (all_has (RunsFor platform) ps p i inp).0 e
 
 -- ---- whatever befalls the components
 
@@ -129,7 +141,8 @@ module _ (platform : Platform) where
   run_replaced q None h g = h
   run_replaced q (Some n) h g = (g, tt)
 
-  run_lived_by : (b : Bool) (e : LifeEvent) (p : ComponentState) (o : Option (LifeAct × Life)) → table p.life e ≡ o → RunsFor platform p → RunsFor platform (lived b e p)
+  run_lived_by : (b : Bool) (e : LifeEvent) (p : ComponentState) (o : Option (LifeAct × Life)) → table p.life e ≡ o → RunsFor platform p →
+      RunsFor platform (lived b e p)
   run_lived_by b e p None t h = subst (RunsFor platform) (sym (lived_none b e p t)) h
   run_lived_by b e p (Some r) t h =
       let q : ComponentState = settled_part (b && succeeds_from p.life.state p.life.busy r.1.state) e r.0 r.1 p in
@@ -139,12 +152,14 @@ module _ (platform : Platform) where
   run_lived : (b : Bool) (e : LifeEvent) (p : ComponentState) → RunsFor platform p → RunsFor platform (lived b e p)
   run_lived b e p h = run_lived_by b e p (table p.life e) refl h
 
-  run_changed : (f : ComponentState → ComponentState) → ((p : ComponentState) → RunsFor platform p → RunsFor platform (f p)) → (k : ℕ) (ps : List ComponentState) → AllRunFor platform ps → AllRunFor platform (changed_at k f ps)
+  run_changed : (f : ComponentState → ComponentState) → ((p : ComponentState) → RunsFor platform p → RunsFor platform (f p)) →
+      (k : ℕ) (ps : List ComponentState) → AllRunFor platform ps → AllRunFor platform (changed_at k f ps)
   run_changed f g k [] a = tt
   run_changed f g zero (p ∷ ps) a = (g p a.0, a.1)
   run_changed f g (suc k) (p ∷ ps) a = (a.0, run_changed f g k ps a.1)
 
-  run_mapped : (f : ComponentState → ComponentState) → ((p : ComponentState) → RunsFor platform p → RunsFor platform (f p)) → (ps : List ComponentState) → AllRunFor platform ps → AllRunFor platform (map f ps)
+  run_mapped : (f : ComponentState → ComponentState) → ((p : ComponentState) → RunsFor platform p → RunsFor platform (f p)) → (ps : List ComponentState) →
+      AllRunFor platform ps → AllRunFor platform (map f ps)
   run_mapped f g [] a = tt
   run_mapped f g (p ∷ ps) a = (g p a.0, run_mapped f g ps a.1)
 
@@ -198,11 +213,13 @@ module _ (platform : Platform) where
       let g = run_gone k n w a in
       world_if (is_orphan_at k s w) (child_gone k n w) (lived_at k e (child_gone k n w)) g (run_lived_at k e (child_gone k n w) g)
 
-  run_ended : (o : Option (ℕ × Step)) (n : ℕ) (x : Exit) (w : Components) → AllRunFor platform w.parts → (let v : Components = elim o [ None ↦ w | Some y ↦ gone_by (Some (event.Ended y.1 x)) y.0 y.1 n w ] in AllRunFor platform v.parts)
+  run_ended : (o : Option (ℕ × Step)) (n : ℕ) (x : Exit) (w : Components) → AllRunFor platform w.parts →
+      (let v : Components = elim o [ None ↦ w | Some y ↦ gone_by (Some (event.Ended y.1 x)) y.0 y.1 n w ] in AllRunFor platform v.parts)
   run_ended None n x w a = a
   run_ended (Some y) n x w a = run_gone_by (Some (event.Ended y.1 x)) y.0 y.1 n w a
 
-  run_killed : (o : Option (ℕ × Step)) (n : ℕ) (w : Components) → AllRunFor platform w.parts → (let v : Components = elim o [ None ↦ w | Some y ↦ gone_by (kill_event_at y.0 y.1 n w) y.0 y.1 n w ] in AllRunFor platform v.parts)
+  run_killed : (o : Option (ℕ × Step)) (n : ℕ) (w : Components) → AllRunFor platform w.parts →
+      (let v : Components = elim o [ None ↦ w | Some y ↦ gone_by (kill_event_at y.0 y.1 n w) y.0 y.1 n w ] in AllRunFor platform v.parts)
   run_killed None n w a = a
   run_killed (Some y) n w a = run_gone_by (kill_event_at y.0 y.1 n w) y.0 y.1 n w a
 
@@ -219,7 +236,8 @@ module _ (platform : Platform) where
 
   pub run_noticed : (e : Event) (w : Components) → AllRunFor platform w.parts → AllRunFor platform (noticed e w).parts
   run_noticed (Started k s n) w a =
-      run_launched s k (record w { parts = changed_at k (λ p. with_child n s w.moment (record p { handed = false })) w.parts }) (run_changed (λ p. with_child n s w.moment (record p { handed = false })) (λ p h. h) k w.parts a)
+      run_launched s k (record w { parts = changed_at k (λ p. with_child n s w.moment (record p { handed = false })) w.parts })
+      (run_changed (λ p. with_child n s w.moment (record p { handed = false })) (λ p h. h) k w.parts a)
   run_noticed (Refused k s) w a = run_lived_at k (event.Ended s exits.NotStarted) (answered_at k w) (run_handed false k w.parts a)
   run_noticed (Skipped k s) w a = run_lived_at k event.Skipped (answered_at k w) (run_handed false k w.parts a)
   run_noticed (Ended n x) w a = run_ended (owner n w.parts) n x w a
@@ -244,7 +262,8 @@ module _ (platform : Platform) where
 
   -- ---- all at once
 
-  run_leaving_at : (b d : Bool) (p : ComponentState) → RunsFor platform p → RunsFor platform (if b then p else (if d then record p { stop = None; next = None } else record p { stop = Some after.Gone; next = None }))
+  run_leaving_at : (b d : Bool) (p : ComponentState) → RunsFor platform p →
+      RunsFor platform (if b then p else (if d then record p { stop = None; next = None } else record p { stop = Some after.Gone; next = None }))
   run_leaving_at true d p h = h
   run_leaving_at false true p h = (h.0, tt)
   run_leaving_at false false p h = (h.0, tt)
@@ -255,7 +274,8 @@ module _ (platform : Platform) where
   pub run_stopped : (w : Components) → AllRunFor platform w.parts → AllRunFor platform (all_stopped w).parts
   run_stopped w a = run_mapped leaving run_leaving w.parts a
 
-  forgotten_next : (o : Option (Fitted × ℕ)) → IfSome o (λ n. IsFor platform n.0) → IfSome {T = Fitted × ℕ} (option_map (λ (n : Fitted × ℕ). (n.0, 0)) o) (λ n. IsFor platform n.0)
+  forgotten_next : (o : Option (Fitted × ℕ)) → IfSome o (λ n. IsFor platform n.0) → IfSome {T = Fitted × ℕ} (option_map (λ (n : Fitted × ℕ). (n.0, 0)) o)
+      (λ n. IsFor platform n.0)
   forgotten_next None h = tt
   forgotten_next (Some n) h = h
 
@@ -271,7 +291,8 @@ module _ (platform : Platform) where
   counted_for k counts [] a = tt
   counted_for k counts (f ∷ fs) a = (a.0, counted_for (suc k) counts fs a.1)
 
-  coming_at : (b : Bool) (n : Coming) (o : Option Coming) → IsFor platform n.0 → IfSome o (λ m. IsFor platform m.0) → IfSome {T = Coming} (cond b (Some n) o) (λ m. IsFor platform m.0)
+  coming_at : (b : Bool) (n : Coming) (o : Option Coming) → IsFor platform n.0 → IfSome o (λ m. IsFor platform m.0) →
+      IfSome {T = Coming} (cond b (Some n) o) (λ m. IsFor platform m.0)
   coming_at true n o h i = h
   coming_at false n o h i = i
 
@@ -284,7 +305,8 @@ module _ (platform : Platform) where
   run_texts false f p h i = i
 
   run_replacing : (b : Bool) (n : Coming) (p : ComponentState) → IsFor platform n.0 → RunsFor platform p
-      → RunsFor platform (if b then record p { life = record p.life { stop = Some after.Again }; stop = None; next = Some n } else record p { stop = Some after.Again; next = Some n })
+      → RunsFor platform (if b then record p { life = record p.life { stop = Some after.Again }; stop = None; next = Some n } else record p
+      { stop = Some after.Again; next = Some n })
   run_replacing true n p h i = (i.0, h)
   run_replacing false n p h i = (i.0, h)
 
@@ -295,7 +317,8 @@ module _ (platform : Platform) where
       run_if p.life.gone (coming_again n p) (if is_replaced n.0 p then replacing n q else staying n q) (h, tt)
       (run_if (is_replaced n.0 p) (replacing n q) (staying n q) (run_replacing (stops_for_good q.life) n q h t) t)
 
-  run_fate_by : (p : ComponentState) (o : Option Coming) → IfSome o (λ n. IsFor platform n.0) → RunsFor platform p → RunsFor platform (elim o [ None ↦ leaving p | Some n ↦ meeting n p ])
+  run_fate_by : (p : ComponentState) (o : Option Coming) → IfSome o (λ n. IsFor platform n.0) → RunsFor platform p →
+      RunsFor platform (elim o [ None ↦ leaving p | Some n ↦ meeting n p ])
   run_fate_by p None h i = run_leaving p i
   run_fate_by p (Some n) h i = run_meeting n p h i
 
@@ -313,9 +336,11 @@ module _ (platform : Platform) where
 
   run_items : (ns : List Coming) (ps : List ComponentState) → ComesFor ns → AllRunFor platform ps → AllRunFor platform (with_items ns ps)
   run_items ns ps h a =
-      let met : AllRunFor platform (map (fate ns) ps) = run_mapped (fate ns) (λ p i. run_fate_by p (coming_for (component_name p) ns) (coming_for_it (component_name p) ns h) i) ps a in
+      let met : AllRunFor platform (map (fate ns) ps) = run_mapped (fate ns)
+      (λ p i. run_fate_by p (coming_for (component_name p) ns) (coming_for_it (component_name p) ns h) i) ps a in
       run_with (filter (λ (n : Coming). not (is_held_by ps n)) ns) (replanned (map (fate ns) ps)) (run_newcomers ns ps h)
       (run_restarted may_replan (flagged is_replacing (map (fate ns) ps)) (run_flagged is_replacing (map (fate ns) ps) met))
 
-  pub run_change : (fs : List Fitted) (counts : List ℕ) (steady : Bool) (w : Components) → AllFor platform fs → AllRunFor platform w.parts → AllRunFor platform (changed_to fs counts steady w).parts
+  pub run_change : (fs : List Fitted) (counts : List ℕ) (steady : Bool) (w : Components) → AllFor platform fs → AllRunFor platform w.parts →
+      AllRunFor platform (changed_to fs counts steady w).parts
   run_change fs counts steady w h a = run_items (counted 0 counts fs) (standing w.parts) (counted_for 0 counts fs h) (all_standing (RunsFor platform) w.parts a)

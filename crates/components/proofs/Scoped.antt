@@ -26,19 +26,23 @@ place_below origin items at h = subst (λ n. at < n) (length-map items item_view
 pub item_there : (items : List code.Item) (at : ℕ) (x : code.Item) → at < length items → x ≡ get_or items at x → slice_get items at ≡ Some x
 item_there items at x below is = slice_get-get_or items at x below ∙ ap Some (sym is)
 
-same_item : (items : List code.Item) (at : ℕ) (x : code.Item) (i : Item) → slice_get items at ≡ Some x → slice_get (map item_view items) at ≡ Some i → i ≡ item_view x
+same_item : (items : List code.Item) (at : ℕ) (x : code.Item) (i : Item) → slice_get items at ≡ Some x → slice_get (map item_view items) at ≡ Some i →
+    i ≡ item_view x
 same_item items at x i there seen =
     let other : slice_get (map item_view items) at ≡ Some (item_view x) = slice_get-map item_view items at ∙ ap (option_map item_view) there in
     sym (get_or_from_slice_get (map item_view items) at i i seen) ∙ get_or_from_slice_get (map item_view items) at (item_view x) i other
 
-pub recipe_there : (origin : Origin) (items : List code.Item) (at : ℕ) (x : code.Item) → slice_get items at ≡ Some x → HasScope origin (map item_view items) at → HasSomeRecipe origin.platform x.recipe
+pub recipe_there : (origin : Origin) (items : List code.Item) (at : ℕ) (x : code.Item) → slice_get items at ≡ Some x → HasScope origin
+    (map item_view items) at → HasSomeRecipe origin.platform x.recipe
 recipe_there origin items at x there h =
     (h.recipe, subst (λ (i : Item). Reads i.recipe origin.platform h.recipe) (same_item items at x h.item there h.there) h.reads)
 
-module _ (one : IsOneRecipe) (origin : Origin) (items : List code.Item) (at : ℕ) (x : code.Item) (there : slice_get items at ≡ Some x) (recipe : Recipe) (reads : Reads x.recipe origin.platform recipe)
+module _ (one : IsOneRecipe) (origin : Origin) (items : List code.Item) (at : ℕ) (x : code.Item) (there : slice_get items at ≡ Some x) (recipe : Recipe)
+    (reads : Reads x.recipe origin.platform recipe)
     (scope : Scope) (s : IsScopeOf origin (map item_view items) at scope) where
   alike : AreAlike s.recipe recipe
-  alike = one x.recipe origin.platform s.recipe recipe (subst (λ (i : Item). Reads i.recipe origin.platform s.recipe) (same_item items at x s.item there s.there) s.reads) reads
+  alike = one x.recipe origin.platform s.recipe recipe (subst (λ (i : Item). Reads i.recipe origin.platform s.recipe)
+      (same_item items at x s.item there s.there) s.reads) reads
 
   of_scope : (step : Step) (made : Option Prepared) → IsPrepared scope (step_of recipe step) made → IsPrepared scope (step_of s.recipe step) made
   of_scope step made p = subst (λ (d : Option StepDef). IsPrepared scope d made) (sym (alike.steps step)) p
@@ -46,7 +50,8 @@ module _ (one : IsOneRecipe) (origin : Origin) (items : List code.Item) (at : �
   pub step_made : (step : Step) (made : Option Prepared) → IsPrepared scope (step_of recipe step) made → IsStepAt origin (map item_view items) at step made
   step_made step made p = record { scope = scope; is_scope = s; prepared = of_scope step made p }
 
-  each_step : (f : Fitted) → IsFittedBy scope recipe (item_view x) f → (step : Step) → step ≢ Bootstrap → IsPrepared scope (step_of s.recipe step) (prepared_of f step)
+  each_step : (f : Fitted) → IsFittedBy scope recipe (item_view x) f → (step : Step) → step ≢ Bootstrap →
+      IsPrepared scope (step_of s.recipe step) (prepared_of f step)
   each_step f by Install ne = of_scope Install f.install by.first_are.install_is
   each_step f by Run ne = of_scope Run f.run by.first_are.run_is
   each_step f by Startup ne = of_scope Startup f.startup by.first_are.startup_is

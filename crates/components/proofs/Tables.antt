@@ -46,11 +46,14 @@ kills_row c e = grind arith
 
 -- ---- moves that leave nothing outside
 
-pub begin_row : (c : Life) → is_awaited event.MayBegin c ≡ true → IsSomeAnd (table c event.MayBegin) (λ r. (is_failure r.0 ≡ false) × (life_work r.1 < life_work c) × (is_up c.state ≡ false))
+pub begin_row : (c : Life) → is_awaited event.MayBegin c ≡ true →
+    IsSomeAnd (table c event.MayBegin) (λ r. (is_failure r.0 ≡ false) × (life_work r.1 < life_work c) × (is_up c.state ≡ false))
 begin_row c h = grind (arith, h)
 
-pub retry_row : (c : Life) → is_awaited event.Retry c ≡ true → IsSomeAnd (table c event.Retry) (λ r. (is_failure r.0 ≡ false) × (life_work r.1 < life_work c) × (is_up c.state ≡ false))
+pub retry_row : (c : Life) → is_awaited event.Retry c ≡ true →
+    IsSomeAnd (table c event.Retry) (λ r. (is_failure r.0 ≡ false) × (life_work r.1 < life_work c) × (is_up c.state ≡ false))
 retry_row c h = grind (arith, h)
 
-pub stop_row : (c : Life) (a : After) → is_awaited (event.Stop a) c ≡ true → IsSomeAnd (table c (event.Stop a)) (λ r. (is_failure r.0 ≡ false) × (life_work r.1 < 4))
+pub stop_row : (c : Life) (a : After) → is_awaited (event.Stop a) c ≡ true →
+    IsSomeAnd (table c (event.Stop a)) (λ r. (is_failure r.0 ≡ false) × (life_work r.1 < 4))
 stop_row c a h = grind (arith, h)

@@ -1,5 +1,6 @@
 -- The run child of a component lives on, whatever befalls the component.
-use Rattle.std.proofs.Common.{◌≡◌, ◌==◌, ℕ, suc, zero, List, [], ◌∷◌, ◌++◌, length, Bool, true, false, Option, Some, None, refl, sym, ap, ◌∙◌, subst, map, filter, ◌⊎◌, inl, inr}
+use Rattle.std.proofs.Common.{◌≡◌, ◌==◌, ℕ, suc, zero, List, [], ◌∷◌, ◌++◌, length, Bool, true, false, Option, Some, None, refl, sym, ap, ◌∙◌, subst, map}
+use Rattle.std.proofs.Common.{filter, ◌⊎◌, inl, inr}
 use Rattle.std.specs.Prelude.{◌&&◌, ◌||◌, not, if◌then◌else◌, IfSome, IsSomeAnd, slice_get}
 use Rattle.std.specs.List.{list_any, AllByRecursion}
 use Rattle.std.proofs.lemmas.Bool.{or_parts, or_left, or_right, or_cases, eqb-true}
@@ -54,7 +55,8 @@ lived_follows b e p a d t =
     subst (Follows d p) (sym (lived_row b e p a d t))
     (if_follows (is_again (completed_from e p.life.state p.life.stop d.state)) d p (replaced q) q (replaced_follows d p q q.next f) f)
 
-lived_as : (b : Bool) (e : LifeEvent) (p : ComponentState) (o : Option (LifeAct × Life)) → table p.life e ≡ o → Follows (elim o [ None ↦ p.life | Some r ↦ r.1 ]) p (lived b e p)
+lived_as : (b : Bool) (e : LifeEvent) (p : ComponentState) (o : Option (LifeAct × Life)) → table p.life e ≡ o →
+    Follows (elim o [ None ↦ p.life | Some r ↦ r.1 ]) p (lived b e p)
 lived_as b e p None t = subst (Follows p.life p) (sym (lived_none b e p t)) (record { state = refl; busy = refl; runs = refl; gone = refl; children = refl })
 lived_as b e p (Some r) t = lived_follows b e p r.0 r.1 t
 
@@ -64,7 +66,8 @@ after_may c None h i = h
 after_may c (Some r) h i = i
 
 -- it is whole after an event, where its run child lives on
-pub lived_whole : (b : Bool) (e : LifeEvent) (p : ComponentState) → may_run p.life.state p.life.runs ≡ true → keeps_run (after e p.life) p.children ≡ true → IsWhole (lived b e p)
+pub lived_whole : (b : Bool) (e : LifeEvent) (p : ComponentState) → may_run p.life.state p.life.runs ≡ true → keeps_run (after e p.life) p.children ≡ true →
+    IsWhole (lived b e p)
 lived_whole b e p may run =
     let f = lived_as b e p (table p.life e) refl in
     let m = after_may p.life (table p.life e) may (may_row p.life e may) in
@@ -87,18 +90,21 @@ pub keeps_gives : (c : Life) (cs : List Child) → keeps_run c cs ≡ true → c
 keeps_gives c cs e q = keeps_to c.runs c.gone (has_run_child cs) e q
 
 -- an event that is no launch leaves the run child where it was
-after_keeps : (c : Life) (cs ds : List Child) (o : Option (LifeAct × Life)) → IfSome o (λ r. (r.1.runs ≡ true → c.runs ≡ true) × (c.gone ≡ false)) → keeps_run c cs ≡ true → (has_run_child cs ≡ true → has_run_child ds ≡ true)
+after_keeps : (c : Life) (cs ds : List Child) (o : Option (LifeAct × Life)) → IfSome o (λ r. (r.1.runs ≡ true → c.runs ≡ true) × (c.gone ≡ false)) →
+    keeps_run c cs ≡ true → (has_run_child cs ≡ true → has_run_child ds ≡ true)
     → keeps_run (elim o [ None ↦ c | Some r ↦ r.1 ]) ds ≡ true
 after_keeps c cs ds None i h f = keeps_from c ds (λ q. elim (keeps_gives c cs h q) [ inl g ↦ inl g | inr x ↦ inr (f x) ])
 after_keeps c cs ds (Some r) i h f = keeps_from r.1 ds (λ q. elim (keeps_gives c cs h (i.0 q)) [ inl g ↦ absurd (let n = i.1 in cc) | inr x ↦ inr (f x) ])
 
-pub other_keeps : (e : LifeEvent) (c : Life) (cs ds : List Child) → is_launch e ≡ false → keeps_run c cs ≡ true → (has_run_child cs ≡ true → has_run_child ds ≡ true) → keeps_run (after e c) ds ≡ true
+pub other_keeps : (e : LifeEvent) (c : Life) (cs ds : List Child) → is_launch e ≡ false → keeps_run c cs ≡ true →
+    (has_run_child cs ≡ true → has_run_child ds ≡ true) → keeps_run (after e c) ds ≡ true
 other_keeps e c cs ds l h f = after_keeps c cs ds (table c e) (runs_row c e l) h f
 
 pub launch_keeps : (c : Life) (cs : List Child) → has_run_child cs ≡ true → keeps_run c cs ≡ true
 launch_keeps c cs h = keeps_from c cs (λ q. inr h)
 
-run_end_at : (c : Life) (x : Exit) (cs : List Child) (o : Option (LifeAct × Life)) → table c (event.Ended step.Run x) ≡ o → may_run c.state c.runs ≡ true → IfSome o (λ r. r.1.runs ≡ false)
+run_end_at : (c : Life) (x : Exit) (cs : List Child) (o : Option (LifeAct × Life)) → table c (event.Ended step.Run x) ≡ o → may_run c.state c.runs ≡ true →
+    IfSome o (λ r. r.1.runs ≡ false)
     → keeps_run (elim o [ None ↦ c | Some r ↦ r.1 ]) cs ≡ true
 run_end_at c x cs None t m i = keeps_from c cs (λ q. inl (run_ends_none c x m t q))
 run_end_at c x cs (Some r) t m i = keeps_from r.1 cs (λ q. absurd (cc))
@@ -117,7 +123,8 @@ none_removed n (c ∷ cs) e =
 
 other_removed_at : (b : Bool) (n : ℕ) (c : Child) (cs : List Child) → (c.number == n) ≡ b → AreApart (child_numbers (c ∷ cs))
     → IsSomeAnd (if b then Some c else child_of n cs) (λ d. is_same_step step.Run d.of ≡ false) → has_run_child (c ∷ cs) ≡ true
-    → (AreApart (child_numbers cs) → IsSomeAnd (child_of n cs) (λ d. is_same_step step.Run d.of ≡ false) → has_run_child cs ≡ true → has_run_child (filter (λ (d : Child). not (d.number == n)) cs) ≡ true)
+    → (AreApart (child_numbers cs) → IsSomeAnd (child_of n cs) (λ d. is_same_step step.Run d.of ≡ false) → has_run_child cs ≡ true →
+    has_run_child (filter (λ (d : Child). not (d.number == n)) cs) ≡ true)
     → has_run_child (if not b then c ∷ filter (λ (d : Child). not (d.number == n)) cs else filter (λ (d : Child). not (d.number == n)) cs) ≡ true
 other_removed_at true n c cs e a h r f =
     let q : c.number ≡ n = eqb-true c.number n e in
@@ -128,7 +135,8 @@ other_removed_at false n c cs e a h r f = elim (or_cases (is_same_step step.Run 
   | inr y ↦ or_right (is_same_step step.Run c.of) (has_run_child (filter (λ (d : Child). not (d.number == n)) cs)) (f a.1 h y)
 ]
 
-pub other_removed : (n : ℕ) (cs : List Child) → AreApart (child_numbers cs) → IsSomeAnd (child_of n cs) (λ d. is_same_step step.Run d.of ≡ false) → has_run_child cs ≡ true
+pub other_removed : (n : ℕ) (cs : List Child) → AreApart (child_numbers cs) → IsSomeAnd (child_of n cs) (λ d. is_same_step step.Run d.of ≡ false) →
+    has_run_child cs ≡ true
     → has_run_child (filter (λ (c : Child). not (c.number == n)) cs) ≡ true
 other_removed n [] a h r = absurd h
 other_removed n (c ∷ cs) a h r = other_removed_at (c.number == n) n c cs refl a h r (other_removed n cs)
@@ -146,9 +154,11 @@ apart_first [] ys a = tt
 apart_first (x ∷ xs) ys a = (among_first x xs ys a.0, apart_first xs ys a.1)
 
 -- the children of one component are apart
-pub apart_at : (k : ℕ) (ps : List ComponentState) (p : ComponentState) → AreApart (living_numbers ps) → slice_get ps k ≡ Some p → AreApart (child_numbers p.children)
+pub apart_at : (k : ℕ) (ps : List ComponentState) (p : ComponentState) → AreApart (living_numbers ps) → slice_get ps k ≡ Some p →
+    AreApart (child_numbers p.children)
 apart_at k [] p a e = absurd (cc)
-apart_at zero (q ∷ ps) p a e = let r : q ≡ p = cc in subst (λ (x : ComponentState). AreApart (child_numbers x.children)) r (apart_first (child_numbers q.children) (living_numbers ps) a)
+apart_at zero (q ∷ ps) p a e = let r : q ≡ p = cc in subst (λ (x : ComponentState). AreApart (child_numbers x.children)) r
+    (apart_first (child_numbers q.children) (living_numbers ps) a)
 apart_at (suc k) (q ∷ ps) p a e = apart_at k ps p (apart_last (child_numbers q.children) (living_numbers ps) a) e
 
 -- ---- all components
@@ -159,12 +169,14 @@ each_at P zero (q ∷ ps) p a e = let r : q ≡ p = cc in subst P r a.0
 each_at P (suc k) (q ∷ ps) p a e = each_at P k ps p a.1 e
 
 -- one changes and is whole
-pub changed_whole : (f : ComponentState → ComponentState) (k : ℕ) (ps : List ComponentState) → AreWhole ps → ((p : ComponentState) → slice_get ps k ≡ Some p → IsWhole p → IsWhole (f p)) → AreWhole (changed_at k f ps)
+pub changed_whole : (f : ComponentState → ComponentState) (k : ℕ) (ps : List ComponentState) → AreWhole ps →
+    ((p : ComponentState) → slice_get ps k ≡ Some p → IsWhole p → IsWhole (f p)) → AreWhole (changed_at k f ps)
 changed_whole f k [] a g = tt
 changed_whole f zero (p ∷ ps) a g = (g p refl a.0, a.1)
 changed_whole f (suc k) (p ∷ ps) a g = (a.0, changed_whole f k ps a.1 g)
 
-pub mapped_whole : (f : ComponentState → ComponentState) → ((p : ComponentState) → IsWhole p → IsWhole (f p)) → (ps : List ComponentState) → AreWhole ps → AreWhole (map f ps)
+pub mapped_whole : (f : ComponentState → ComponentState) → ((p : ComponentState) → IsWhole p → IsWhole (f p)) → (ps : List ComponentState) → AreWhole ps →
+    AreWhole (map f ps)
 mapped_whole f g [] a = tt
 mapped_whole f g (p ∷ ps) a = (g p a.0, mapped_whole f g ps a.1)
 
@@ -229,8 +241,10 @@ pub lived_at_whole : (k : ℕ) (e : LifeEvent) (f : ComponentState → Component
     → AreWhole (lived_at k e (record w { parts = changed_at k f w.parts })).parts
 lived_at_whole k e f w a g =
     let v : Components = record w { parts = changed_at k f w.parts } in
-    let x : AreWhole (changed_at k (lived w.steady e) (changed_at k f w.parts)) = subst AreWhole (sym (twice k (lived w.steady e) f w.parts)) (changed_whole (λ p. lived w.steady e (f p)) k w.parts a g) in
-    if_whole (drops_at k v e) (restarted may_restart (flagged_at k (changed_at k (lived w.steady e) (changed_at k f w.parts)))) (changed_at k (lived w.steady e) (changed_at k f w.parts)) (marked_whole k (changed_at k (lived w.steady e) (changed_at k f w.parts)) x) x
+    let x : AreWhole (changed_at k (lived w.steady e) (changed_at k f w.parts)) = subst AreWhole (sym (twice k (lived w.steady e) f w.parts))
+    (changed_whole (λ p. lived w.steady e (f p)) k w.parts a g) in
+    if_whole (drops_at k v e) (restarted may_restart (flagged_at k (changed_at k (lived w.steady e) (changed_at k f w.parts))))
+    (changed_at k (lived w.steady e) (changed_at k f w.parts)) (marked_whole k (changed_at k (lived w.steady e) (changed_at k f w.parts)) x) x
 
 pub same_changed : (k : ℕ) (ps : List ComponentState) → changed_at k (λ p. p) ps ≡ ps
 same_changed k [] = refl

@@ -15,7 +15,10 @@ use Rattle.components.specs.declared.kinds.Event.TheVariants.{Started, Refused, 
 
 -- a child of the step lives from this moment on
 abbrev pub with_child : ℕ → Step → ℕ → ComponentState → ComponentState
-with_child n s moment p = record p { children = record { number = n; of = s; deadline = deadline_after (limit_of (prepared_of p.fitted s)) moment } ∷ p.children }
+with_child n s moment p = record p {
+  children = record { number = n; of = s; deadline = deadline_after (limit_of (prepared_of p.fitted s)) moment } ∷
+      p.children;
+}
 
 -- a run is launched where its child lives
 abbrev pub launched : Step → ℕ → Components → Components

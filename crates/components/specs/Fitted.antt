@@ -33,7 +33,14 @@ prepared_of f Recover = f.recover
 prepared_of f Bootstrap = None
 
 abbrev pub steps_of : Fitted → StepSet
-steps_of f = record { install = is_some f.install; run = is_some f.run; startup = is_some f.startup; shutdown = is_some f.shutdown; recover = is_some f.recover }
+steps_of f = record {
+  install = is_some f.install;
+  run = is_some f.run;
+  startup = is_some f.startup;
+  shutdown = is_some f.shutdown;
+  recover =
+      is_some f.recover;
+}
 
 abbrev pub limit_of : Option Prepared → Option ℕ
 limit_of None = None

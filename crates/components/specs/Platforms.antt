@@ -10,7 +10,14 @@ use Rattle.components.specs.Components.{ComponentState}
 
 -- the steps that a recipe has
 abbrev pub steps_in : Recipe → StepSet
-steps_in r = record { install = is_some r.install; run = is_some r.run; startup = is_some r.startup; shutdown = is_some r.shutdown; recover = is_some r.recover }
+steps_in r = record {
+  install = is_some r.install;
+  run = is_some r.run;
+  startup = is_some r.startup;
+  shutdown = is_some r.shutdown;
+  recover =
+      is_some r.recover;
+}
 
 -- it has the steps that its recipe has for the platform
 pub record IsFor (platform : Platform) (f : Fitted) : Type 0 where

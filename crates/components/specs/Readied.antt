@@ -17,7 +17,8 @@ pub record Readied : Type 0 where
 
 -- An item that a component has already has the steps that it had: one recipe says one thing on one platform.
 abbrev pub KeepSteps : List Fitted → List ComponentState → Type 0
-KeepSteps coming parts = (f : Fitted) (p : ComponentState) → Contains coming f → Contains parts p → is_same_item f.item p.fitted.item ≡ true → steps_of f ≡ steps_of p.fitted
+KeepSteps coming parts = (f : Fitted) (p : ComponentState) → Contains coming f → Contains parts p → is_same_item f.item p.fitted.item ≡ true →
+    steps_of f ≡ steps_of p.fitted
 
 -- the item of a component and its failures
 abbrev pub coming_of : ComponentState → Coming

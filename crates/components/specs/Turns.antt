@@ -45,7 +45,11 @@ is_to_start p = is_unstarted p && not p.handed
 
 -- Its stop may be given: a row is there, no child of an earlier stop and no start is open, and nobody needs it that is to be stopped first.
 abbrev pub may_stop : Components → ComponentState → Bool
-may_stop w p = elim p.stop [ None ↦ false | Some a ↦ (is_awaited (event.Stop a) p.life && not (has_orphan p || is_unstarted p)) && not (is_held (component_name p) w.parts) ]
+may_stop w p = elim p.stop [
+  | None ↦ false
+  | Some a ↦ (is_awaited (event.Stop a) p.life && not (has_orphan p || is_unstarted p)) &&
+      not (is_held (component_name p) w.parts)
+]
 
 abbrev pub may_act : Components → ComponentState → Bool
 may_act w p = (may_begin w p || may_retry p) || (is_late w.moment p || (may_stop w p || (has_orphan p || is_to_start p)))

@@ -43,13 +43,16 @@ pub fn marks_are_least()
 /// Where all items were made ready for one platform, each has the steps that it had before, so they may come at a change; and
 /// whatever befalls the components leaves it so.
 pub fn one_platform()
-    ensures same { (platform : Platform) (fs : ListOf Fitted) (parts : ListOf ComponentState) → AllFor platform fs → AllRunFor platform parts → KeepSteps fs parts }
+    ensures same { (platform : Platform) (fs : ListOf Fitted) (parts : ListOf ComponentState) → AllFor platform fs → AllRunFor platform parts →
+        KeepSteps fs parts }
     ensures ready { (origin : Origin) (items : ListOf Item) (fs : ListOf Fitted) → AreFitted origin items fs → AllFor origin.platform fs }
     ensures event { (platform : Platform) (e : Event) (w : Components) → AllRunFor platform w.parts → AllRunFor platform (noticed e w).parts }
-    ensures next_act { (platform : Platform) (w : Components) (act : Option Act) (v : Components) → NextAct w act v → AllRunFor platform w.parts → AllRunFor platform v.parts }
+    ensures next_act { (platform : Platform) (w : Components) (act : Option Act) (v : Components) → NextAct w act v → AllRunFor platform w.parts →
+        AllRunFor platform v.parts }
     ensures stop_all { (platform : Platform) (w : Components) → AllRunFor platform w.parts → AllRunFor platform (all_stopped w).parts }
     ensures steady { (platform : Platform) (w : Components) → AllRunFor platform w.parts → AllRunFor platform (steadied w).parts }
-    ensures change { (platform : Platform) (fs : ListOf Fitted) (counts : ListOf ℕ) (steady : Bool) (w : Components) → AllFor platform fs → AllRunFor platform w.parts → AllRunFor platform (changed_to fs counts steady w).parts }
+    ensures change { (platform : Platform) (fs : ListOf Fitted) (counts : ListOf ℕ) (steady : Bool) (w : Components) → AllFor platform fs →
+        AllRunFor platform w.parts → AllRunFor platform (changed_to fs counts steady w).parts }
 {
     recipe_laws();
 }

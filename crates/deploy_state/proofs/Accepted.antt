@@ -1,5 +1,6 @@
 -- A plan is in hand once its entry was added.
-use Rattle.std.proofs.Common.{◌≡◌, ℕ, ◌+◌, ◌*◌, ◌≤◌, ◌==◌, Bool, true, false, IsTrue, List, [], ◌∷◌, ◌++◌, length, Option, Some, None, is_some, refl, sym, ap, subst, arith, MatchOption}
+use Rattle.std.proofs.Common.{◌≡◌, ℕ, ◌+◌, ◌*◌, ◌≤◌, ◌==◌, Bool, true, false, IsTrue, List, [], ◌∷◌, ◌++◌, length, Option, Some, None, is_some, refl, sym, ap}
+use Rattle.std.proofs.Common.{subst, arith, MatchOption}
 use Rattle.std.specs.Prelude.{if◌then◌else◌}
 use Rattle.std.specs.List.{AllByRecursion}
 use Rattle.std.specs.Map.{lookup}
@@ -36,18 +37,21 @@ use Rattle.deploy_state.proofs.Sparing.{regular_stays, sound_stays}
 
 -- ---- the length of its payload
 
-first_some : {A : Type 0} (b : Bool) (x : A) (f : A → List ℕ) (rest : List ℕ) → 1 ≤ length (if is_some (only_if b x) then 18 ∷ option_map_or f (only_if b x) [] else 29 ∷ rest)
+first_some : {A : Type 0} (b : Bool) (x : A) (f : A → List ℕ) (rest : List ℕ) →
+    1 ≤ length (if is_some (only_if b x) then 18 ∷ option_map_or f (only_if b x) [] else 29 ∷ rest)
 first_some true x f rest = omega arith
 first_some false x f rest = omega arith
 
 pub plan_some : (p : List ℕ) (plan : Plan) → Spelled p (stored.Accepted plan) → 1 ≤ length p
 plan_some p plan spelled =
     let same = ap length spelled.same in
-    let some : 1 ≤ length (record_spelled (stored.Accepted plan)) = first_some (plan.revision == 0) (plan.id, (plan.group, wanted_of plan)) (layout.label & layout.label & layout.wanted).spell
+    let some : 1 ≤ length (record_spelled (stored.Accepted plan)) = first_some (plan.revision == 0) (plan.id, (plan.group, wanted_of plan))
+    (layout.label & layout.label & layout.wanted).spell
     ((layout.label & layout.label & layout.revision & layout.wanted).spell (plan.id, (plan.group, (plan.revision, wanted_of plan)))) in
     omega (arith, same, some)
 
-short_for : (d : Device) (p : List ℕ) (plan : Plan) (o : Option Origin) → IsSomeAnd o (MayAccept d plan) → Spelled p (stored.Accepted plan) → length p ≤ 33554432
+short_for : (d : Device) (p : List ℕ) (plan : Plan) (o : Option Origin) → IsSomeAnd o (MayAccept d plan) → Spelled p (stored.Accepted plan) →
+    length p ≤ 33554432
 short_for d p plan None allowed spelled = absurd allowed
 short_for d p plan (Some o) allowed spelled = short o.platform plan p allowed.2 spelled
 
@@ -66,10 +70,22 @@ item_asks platform i has config regular =
     let within = reads.1.within in
     let text = config.short in
     let files = few_files i.recipe platform has.0 reads in
-    let same = as_long IsHeldFor has.0.artifacts i.artifacts has.1.files in
-    (tt, (tt, (omega (arith, within), (record { regular = regular; short = omega (arith, text) }, (omega (arith, files, same), all_of layout.held.Asks i.artifacts (λ h. (tt, tt)))))))
+    let same = as_long IsHeldFor has.0.artifacts i.artifacts has.1.files in (
+      tt,
+      (
+        tt,
+        (
+          omega (arith, within),
+          (
+            record { regular = regular; short = omega (arith, text) },
+            (omega (arith, files, same), all_of layout.held.Asks i.artifacts (λ h. (tt, tt))),
+          ),
+        ),
+      ),
+    )
 
-items_ask : (platform : Platform) (items : List Item) → AllByRecursion (HasRecipe platform) items → AllByRecursion HasConfig items → AllByRecursion (λ i. IsRegular i.config) items → AllByRecursion layout.item.Asks items
+items_ask : (platform : Platform) (items : List Item) → AllByRecursion (HasRecipe platform) items → AllByRecursion HasConfig items →
+    AllByRecursion (λ i. IsRegular i.config) items → AllByRecursion layout.item.Asks items
 items_ask platform [] has configs regular = tt
 items_ask platform (i ∷ items) has configs regular = (item_asks platform i has.0 configs.0 regular.0, items_ask platform items has.1 configs.1 regular.1)
 
@@ -84,7 +100,11 @@ writable_for d plan (Some o) allowed regular =
       (
         (omega (arith, wanted), all_of layout.requirement.Asks plan.requirements (λ r. (tt, tt))),
         (
-          (omega (arith, many), items_ask o.platform plan.items is.items.recipes is.items.configs (recursion_from_All (λ (i : Item). IsRegular i.config) plan.items regular)),
+          (
+            omega (arith, many),
+            items_ask o.platform plan.items is.items.recipes is.items.configs
+                (recursion_from_All (λ (i : Item). IsRegular i.config) plan.items regular),
+          ),
           (omega (arith, boots), all_of layout.name.Asks plan.boots (λ n. tt)),
         ),
       ),
@@ -109,26 +129,33 @@ plan_boots d plan allowed = boots_for d plan d.origin allowed
 
 -- ---- what it means
 
-left_few : (d : Device) (p : List ℕ) (plan : Plan) → IsSound d → d.pending ≡ None → Allowed d (stored.Accepted plan) → Spelled p (stored.Accepted plan) → left_of (accepted plan) ≤ 1283
+left_few : (d : Device) (p : List ℕ) (plan : Plan) → IsSound d → d.pending ≡ None → Allowed d (stored.Accepted plan) → Spelled p (stored.Accepted plan) →
+    left_of (accepted plan) ≤ 1283
 left_few d p plan sound none allowed spelled =
     subst (λ (o : Option Pending). MatchOption o (left_of (accepted plan) ≤ 1283) (λ q. 0 + 256 * left_of (accepted plan) ≤ 0 + 256 * left_of q)) none
     (takes_room 0 0 d (applied d (stored.Accepted plan)) p sound (takes_of d p (stored.Accepted plan) spelled allowed) (omega arith))
 
-pub behind_it : (ps : List (List ℕ)) (p : List ℕ) (plan : Plan) → Spelled p (stored.Accepted plan) → IsBehindAccepted (ps ++ p ∷ []) (place_behind (ps ++ p ∷ []))
+pub behind_it : (ps : List (List ℕ)) (p : List ℕ) (plan : Plan) → Spelled p (stored.Accepted plan) →
+    IsBehindAccepted (ps ++ p ∷ []) (place_behind (ps ++ p ∷ []))
 behind_it ps p plan spelled = record { before = ps; payload = p; after = []; split = refl; plan = plan; spelled = spelled; last = tt; place = refl }
 
-pub with_plan : (ps : List (List ℕ)) (p : List ℕ) (d : Device) (plan : Plan) → Means ps d → Spelled p (stored.Accepted plan) → Allowed d (stored.Accepted plan) → place_behind (ps ++ p ∷ []) + room_of_plan ≤ most_file
+pub with_plan : (ps : List (List ℕ)) (p : List ℕ) (d : Device) (plan : Plan) → Means ps d → Spelled p (stored.Accepted plan) →
+    Allowed d (stored.Accepted plan) → place_behind (ps ++ p ∷ []) + room_of_plan ≤ most_file
     → Means (ps ++ p ∷ []) (applied d (stored.Accepted plan)) × Room (ps ++ p ∷ []) (applied d (stored.Accepted plan))
-with_plan ps p d plan means spelled allowed room =
-    (means_more ps p d (applied d (stored.Accepted plan)) means (takes_of d p (stored.Accepted plan) spelled allowed), (place_behind (ps ++ p ∷ []), behind_it ps p plan spelled, room))
+with_plan ps p d plan means spelled allowed room = (
+  means_more ps p d (applied d (stored.Accepted plan)) means (takes_of d p (stored.Accepted plan) spelled allowed),
+  (place_behind (ps ++ p ∷ []), behind_it ps p plan spelled, room),
+)
 
 pub spare_taken : (s : Spare) (d : Device) (plan : Plan) → IsSpareFor s d plan → IsSpareOf s (applied d (stored.Accepted plan))
 spare_taken s d plan h = record { closed = h.closed; groups = h.groups; backs = h.backs }
 
 module _ {J D : Type 0} (is_modelled : Bool) (may_leave : D → Image → Type 0) (stands : J → Image → List (List ℕ) → Type 0) (end : J → ℕ) where
   pub plan_in_hand : (log next : J) (old new : D) (d e : Device) (plan : Plan) (p : List ℕ) (h : OwnsJournal is_modelled may_leave stands end log old d)
-      → d.pending ≡ None → Allowed d (stored.Accepted plan) → IsRegularRecord (stored.Accepted plan) → Spelled p (stored.Accepted plan) → e ≡ applied d (stored.Accepted plan)
-      → IsBehind may_leave stands next new (h.payloads ++ p ∷ []) → (IsTrue is_modelled → place_behind (h.payloads ++ p ∷ []) + room_of_plan ≤ most_file) → end next + 2097152 ≤ most_file
+      → d.pending ≡ None → Allowed d (stored.Accepted plan) → IsRegularRecord (stored.Accepted plan) → Spelled p (stored.Accepted plan) →
+      e ≡ applied d (stored.Accepted plan)
+      → IsBehind may_leave stands next new (h.payloads ++ p ∷ []) → (IsTrue is_modelled → place_behind (h.payloads ++ p ∷ []) + room_of_plan ≤ most_file) →
+      end next + 2097152 ≤ most_file
       → OwnsJournal is_modelled may_leave stands end next new e
   plan_in_hand log next old new d e plan p h none allowed regular spelled is behind room far =
       let few = left_few d p plan h.sound none allowed spelled in

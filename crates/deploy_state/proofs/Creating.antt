@@ -37,8 +37,10 @@ origin_short o fits short =
     let architecture = fits.1.1.1.1.0.short in
     let last = length-append (layout.label.spell o.platform.os) (layout.label.spell o.platform.architecture) in
     let third = length-append (layout.version.spell o.nucleus) (layout.label.spell o.platform.os ++ layout.label.spell o.platform.architecture) in
-    let second = length-append (layout.label.spell o.thing) (layout.version.spell o.nucleus ++ (layout.label.spell o.platform.os ++ layout.label.spell o.platform.architecture)) in
-    let first = length-append (layout.text.spell o.root) (layout.label.spell o.thing ++ (layout.version.spell o.nucleus ++ (layout.label.spell o.platform.os ++ layout.label.spell o.platform.architecture))) in
+    let second = length-append (layout.label.spell o.thing) (layout.version.spell o.nucleus
+    ++ (layout.label.spell o.platform.os ++ layout.label.spell o.platform.architecture)) in
+    let first = length-append (layout.text.spell o.root) (layout.label.spell o.thing
+    ++ (layout.version.spell o.nucleus ++ (layout.label.spell o.platform.os ++ layout.label.spell o.platform.architecture))) in
     omega (arith, a, b, c, d, e, thing, nucleus, os, architecture, last, third, second, first, short)
 
 pub first_short : (p : List ℕ) (o : Origin) → Spelled p (stored.Genesis o) → length o.root ≤ 1024 → (1 ≤ length p) × (length p ≤ 33554432)
@@ -47,14 +49,18 @@ first_short p o spelled short =
     let most = origin_short o spelled.fits short in
     (omega (arith, same), omega (arith, same, most))
 
-pub one_first : (p : List ℕ) (a b : Origin) → Spelled p (stored.Genesis a) → Spelled p (stored.Genesis b) → Allowed no_device (stored.Genesis a) → Allowed no_device (stored.Genesis b)
+pub one_first : (p : List ℕ) (a b : Origin) → Spelled p (stored.Genesis a) → Spelled p (stored.Genesis b) → Allowed no_device (stored.Genesis a) →
+    Allowed no_device (stored.Genesis b)
 one_first p a b first second allowed = subst (λ (r : Record). Allowed no_device r) (one_record p (stored.Genesis a) (stored.Genesis b) first second) allowed
 
-pub first_means : (p : List ℕ) (o : Origin) → Spelled p (stored.Genesis o) → Allowed no_device (stored.Genesis o) → Means (p ∷ []) (applied no_device (stored.Genesis o))
-first_means p o spelled allowed = means_more [] p no_device (applied no_device (stored.Genesis o)) (inl refl) (takes_of no_device p (stored.Genesis o) spelled allowed)
+pub first_means : (p : List ℕ) (o : Origin) → Spelled p (stored.Genesis o) → Allowed no_device (stored.Genesis o) →
+    Means (p ∷ []) (applied no_device (stored.Genesis o))
+first_means p o spelled allowed = means_more [] p no_device (applied no_device (stored.Genesis o)) (inl refl)
+    (takes_of no_device p (stored.Genesis o) spelled allowed)
 
 module _ {J D : Type 0} (is_modelled : Bool) (may_leave : D → Image → Type 0) (stands : J → Image → List (List ℕ) → Type 0) (end : J → ℕ) where
-  pub begun_in_hand : (log : J) (disk : D) (p : List ℕ) (o : Origin) → Spelled p (stored.Genesis o) → Allowed no_device (stored.Genesis o) → IsBehind may_leave stands log disk (p ∷ [])
+  pub begun_in_hand : (log : J) (disk : D) (p : List ℕ) (o : Origin) → Spelled p (stored.Genesis o) → Allowed no_device (stored.Genesis o) →
+      IsBehind may_leave stands log disk (p ∷ [])
       → OwnsJournal is_modelled may_leave stands end log disk (applied no_device (stored.Genesis o))
   begun_in_hand log disk p o spelled allowed behind = record {
     payloads = p ∷ [];

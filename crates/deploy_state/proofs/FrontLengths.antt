@@ -1,5 +1,6 @@
 -- The records of a front are short.
-use Rattle.std.proofs.Common.{◌≡◌, ℕ, zero, suc, ◌+◌, ◌*◌, ◌≤◌, ◌==◌, Bool, true, false, List, [], ◌∷◌, ◌++◌, length, map, Option, Some, None, is_some, refl, ap, subst, arith, length-append}
+use Rattle.std.proofs.Common.{◌≡◌, ℕ, zero, suc, ◌+◌, ◌*◌, ◌≤◌, ◌==◌, Bool, true, false, List, [], ◌∷◌, ◌++◌, length, map, Option, Some, None, is_some, refl}
+use Rattle.std.proofs.Common.{ap, subst, arith, length-append}
 use Rattle.std.specs.Prelude.{if◌then◌else◌, slice_get}
 use Rattle.std.specs.Option.{IfSome, IsSomeAnd, option_map_or}
 use Rattle.std.specs.Int.{w32, to_be_bytes}
@@ -37,7 +38,8 @@ flat_short f n (x ∷ xs) h =
     let both = length-append (f x) (flat_map f xs) in
     omega (arith, rest, first, both)
 
-list_short : {A : Type 0} (f : A → List ℕ) (n m : ℕ) (xs : List A) → AllByRecursion (λ x. length (f x) ≤ n) xs → length xs ≤ m → length (to_be_bytes w32 (length xs) ++ flat_map f xs) ≤ 4 + n * m
+list_short : {A : Type 0} (f : A → List ℕ) (n m : ℕ) (xs : List A) → AllByRecursion (λ x. length (f x) ≤ n) xs → length xs ≤ m →
+    length (to_be_bytes w32 (length xs) ++ flat_map f xs) ≤ 4 + n * m
 list_short f n m xs h few =
     let flat = flat_short f n xs h in
     let most = mul-le-mul_left n few in
@@ -73,10 +75,14 @@ item_short platform item fits has config =
     (both_short (layout.tree.spell item.config) _ 65540 18692 (text_short (compact_text item.config) 65536 config.short)
     (list_short layout.held.spell 292 64 item.artifacts (held_short item.artifacts fits.1.1.1.1.1) (omega (arith, files, same))))))
 
-requirements_short : (requirements : List Requirement) → AllByRecursion layout.requirement.Fits requirements → AllByRecursion (λ r. length (layout.requirement.spell r) ≤ 4232) requirements
+requirements_short : (requirements : List Requirement) → AllByRecursion layout.requirement.Fits requirements →
+    AllByRecursion (λ r. length (layout.requirement.spell r) ≤ 4232) requirements
 requirements_short [] f = tt
-requirements_short (r ∷ requirements) f =
-    (both_short (layout.name.spell r.name) (layout.range.spell r.range) 132 4100 (text_short r.name 128 f.0.0.0.short) (text_short r.range 4096 f.0.1.0.readable.short), requirements_short requirements f.1)
+requirements_short (r ∷ requirements) f = (
+  both_short (layout.name.spell r.name) (layout.range.spell r.range) 132 4100 (text_short r.name 128 f.0.0.0.short)
+      (text_short r.range 4096 f.0.1.0.readable.short),
+  requirements_short requirements f.1,
+)
 
 -- ---- the records of a front
 
@@ -102,16 +108,22 @@ abbrev revised_group : Group → List ℕ × (ℕ × List Requirement)
 revised_group g = (g.arn, (g.revision, g.requirements))
 
 grouped_by : (g : Group) (b : Bool) → AreRequirements g.requirements
-    → layout.choose (is_some (only_if b (plain_group g))) (IsSomeAnd (only_if b (plain_group g)) (layout.label & list_of layout.requirement).Fits) ((layout.label & layout.revision & list_of layout.requirement).Fits (revised_group g))
-    → (1 ≤ length (if is_some (only_if b (plain_group g)) then 26 ∷ option_map_or (layout.label & list_of layout.requirement).spell (only_if b (plain_group g)) [] else 30 ∷ (layout.label & layout.revision & list_of layout.requirement).spell (revised_group g)))
-    × (length (if is_some (only_if b (plain_group g)) then 26 ∷ option_map_or (layout.label & list_of layout.requirement).spell (only_if b (plain_group g)) [] else 30 ∷ (layout.label & layout.revision & list_of layout.requirement).spell (revised_group g)) ≤ 33554432)
+    → layout.choose (is_some (only_if b (plain_group g))) (IsSomeAnd (only_if b (plain_group g)) (layout.label & list_of layout.requirement).Fits)
+    ((layout.label & layout.revision & list_of layout.requirement).Fits (revised_group g))
+    → (1 ≤ length (if is_some (only_if b (plain_group g)) then 26 ∷ option_map_or (layout.label & list_of layout.requirement).spell
+    (only_if b (plain_group g)) [] else 30 ∷ (layout.label & layout.revision & list_of layout.requirement).spell (revised_group g)))
+    × (length (if is_some (only_if b (plain_group g)) then 26 ∷ option_map_or (layout.label & list_of layout.requirement).spell (only_if b (plain_group g)) []
+    else 30 ∷ (layout.label & layout.revision & list_of layout.requirement).spell (revised_group g)) ≤ 33554432)
 grouped_by g true are fits =
-    let most = both_short (layout.label.spell g.arn) ((list_of layout.requirement).spell g.requirements) 260 541700 (text_short g.arn 256 fits.0.0.short) (list_short layout.requirement.spell 4232 128 g.requirements (requirements_short g.requirements fits.1.1) are.few) in
+    let most = both_short (layout.label.spell g.arn) ((list_of layout.requirement).spell g.requirements) 260 541700 (text_short g.arn 256 fits.0.0.short)
+    (list_short layout.requirement.spell 4232 128 g.requirements (requirements_short g.requirements fits.1.1) are.few) in
     (omega arith, omega (arith, most))
 grouped_by g false are fits =
     let number : length (layout.revision.spell g.revision) ≡ 8 = refl in
-    let most = both_short (layout.label.spell g.arn) (layout.revision.spell g.revision ++ (list_of layout.requirement).spell g.requirements) 260 541708 (text_short g.arn 256 fits.0.0.short)
-    (both_short (layout.revision.spell g.revision) ((list_of layout.requirement).spell g.requirements) 8 541700 (omega (arith, number)) (list_short layout.requirement.spell 4232 128 g.requirements (requirements_short g.requirements fits.1.1.1) are.few)) in
+    let most = both_short (layout.label.spell g.arn) (layout.revision.spell g.revision ++ (list_of layout.requirement).spell g.requirements) 260 541708
+    (text_short g.arn 256 fits.0.0.short)
+    (both_short (layout.revision.spell g.revision) ((list_of layout.requirement).spell g.requirements) 8 541700 (omega (arith, number))
+    (list_short layout.requirement.spell 4232 128 g.requirements (requirements_short g.requirements fits.1.1.1) are.few)) in
     (omega arith, omega (arith, most))
 
 grouped_short : (g : Group) → AreRequirements g.requirements → IsShort (Grouped g)
@@ -171,7 +183,8 @@ at_place [] k r all is = absurd cc
 at_place (x ∷ rs) zero r all is = let same : x ≡ r = cc in subst IsShort same all.0
 at_place (x ∷ rs) (suc k) r all is = at_place rs k r all.1 is
 
-pub front_short : (number : ℕ) (d : Device) (at : ℕ) (bytes : List ℕ) → HasFront d → SpellsAt (Front number d) at bytes → (1 ≤ length bytes) × (length bytes ≤ 33554432)
+pub front_short : (number : ℕ) (d : Device) (at : ℕ) (bytes : List ℕ) → HasFront d → SpellsAt (Front number d) at bytes → (1 ≤ length bytes) ×
+    (length bytes ≤ 33554432)
 front_short number d at bytes has spells = at_place (Front number d) at spells.record_at (all_by number d d.origin refl has) spells.there bytes spells.spelled
 
 few_items : (o : Option Origin) (is : List Item) → AreItemsFor o is → length is ≤ 128

@@ -1,5 +1,6 @@
 -- What payloads mean once a record joins them.
-use Rattle.std.proofs.Common.{◌≡◌, inl, inr, ℕ, ◌+◌, ◌*◌, ◌≤◌, Bool, IsTrue, List, [], ◌∷◌, ◌++◌, length, Option, Some, None, Err, refl, sym, ap, subst, ◌∙◌, append_assoc, arith, MatchOption}
+use Rattle.std.proofs.Common.{◌≡◌, inl, inr, ℕ, ◌+◌, ◌*◌, ◌≤◌, Bool, IsTrue, List, [], ◌∷◌, ◌++◌, length, Option, Some, None, Err, refl, sym, ap, subst, ◌∙◌}
+use Rattle.std.proofs.Common.{append_assoc, arith, MatchOption}
 use Rattle.std.specs.List.{AllByRecursion, AllZip}
 use Rattle.std.specs.Option.{IfSome, IsSome, IsSomeAnd, option_map_or}
 use Rattle.std.specs.Result.{IsErrOf}
@@ -82,10 +83,12 @@ spells_none : (set : List Item) (q : Pending) (m : Mark) (r : Record) (p : List 
 spells_none set q m r p mark spelled plan s = no_plan set q m r plan mark (one_record p r (stored.Accepted plan) spelled s)
 
 -- the room stays as it was: the place behind the plan's entry is the same
-pub room_more : (payloads : List (List ℕ)) (p : List ℕ) (d : Device) (m : Mark) (r : Record) → Spelled p r → IsMark d m r → Room payloads d → Room (payloads ++ p ∷ []) (applied d r)
+pub room_more : (payloads : List (List ℕ)) (p : List ℕ) (d : Device) (m : Mark) (r : Record) → Spelled p r → IsMark d m r → Room payloads d →
+    Room (payloads ++ p ∷ []) (applied d r)
 room_more payloads p d m r spelled mark room = by (applied d r).pending d.pending mark room
   where
-    by : (new old : Option Pending) → IsSomeAnd old (λ q. IsMarkOf d.set q m r) → IfSome old (λ q. (at : ℕ) × IsBehindAccepted payloads at × (at + room_of_plan ≤ most_file))
+    by : (new old : Option Pending) → IsSomeAnd old (λ q. IsMarkOf d.set q m r) →
+        IfSome old (λ q. (at : ℕ) × IsBehindAccepted payloads at × (at + room_of_plan ≤ most_file))
         → IfSome new (λ q. (at : ℕ) × IsBehindAccepted (payloads ++ p ∷ []) at × (at + room_of_plan ≤ most_file))
     by None old mark room = tt
     by (Some x) None mark room = absurd mark
@@ -103,18 +106,23 @@ some_pending (Some q) set m r h = refl
 -- an entry fits, and the room is there behind it
 pub fits : (end : ℕ) (d : Device) (m : Mark) (r : Record) → HasRoom end d → IsSound d → IsMark d m r → Allowed d r → end + 256 ≤ most_file
 fits end d m r room sound mark allowed =
-    by d.pending (some_pending d.pending d.set m r mark) room (records_run_out d (applied d r) r sound (some_pending d.pending d.set m r mark) (record { allowed = allowed; leaves = refl }))
+    by d.pending (some_pending d.pending d.set m r mark) room (records_run_out d (applied d r) r sound (some_pending d.pending d.set m r mark)
+    (record { allowed = allowed; leaves = refl }))
   where
-    by : (o : Option Pending) → IsSome o → IfSome o (λ q. end + 256 * left_of q ≤ most_file) → still_to_come (applied d r) + 1 ≤ option_map_or left_of o 0 → end + 256 ≤ most_file
+    by : (o : Option Pending) → IsSome o → IfSome o (λ q. end + 256 * left_of q ≤ most_file) → still_to_come (applied d r) + 1 ≤ option_map_or left_of o 0 →
+        end + 256 ≤ most_file
     by None some room less = absurd cc
     by (Some q) some room less = omega (arith, room, less)
 
-pub room_next : (end next : ℕ) (d : Device) (p : List ℕ) (m : Mark) (r : Record) → HasRoom end d → IsSound d → IsMark d m r → Allowed d r → Spelled p r → next ≡ end + 5 + length p → HasRoom next (applied d r)
+pub room_next : (end next : ℕ) (d : Device) (p : List ℕ) (m : Mark) (r : Record) → HasRoom end d → IsSound d → IsMark d m r → Allowed d r → Spelled p r →
+    next ≡ end + 5 + length p → HasRoom next (applied d r)
 room_next end next d p m r room sound mark allowed spelled is =
-    by d.pending (applied d r).pending (some_pending d.pending d.set m r mark) room (takes_room end next d (applied d r) p sound (takes_of d p r spelled allowed) (omega (arith, is)))
+    by d.pending (applied d r).pending (some_pending d.pending d.set m r mark) room
+    (takes_room end next d (applied d r) p sound (takes_of d p r spelled allowed) (omega (arith, is)))
   where
     by : (o e : Option Pending) → IsSome o → IfSome o (λ q. end + 256 * left_of q ≤ most_file)
-        → MatchOption o (IfSome e (λ q. left_of q ≤ 1283)) (λ p. IfSome e (λ q. next + 256 * left_of q ≤ end + 256 * left_of p)) → IfSome e (λ q. next + 256 * left_of q ≤ most_file)
+        → MatchOption o (IfSome e (λ q. left_of q ≤ 1283)) (λ p. IfSome e (λ q. next + 256 * left_of q ≤ end + 256 * left_of p)) →
+        IfSome e (λ q. next + 256 * left_of q ≤ most_file)
     by None e some room h = absurd cc
     by (Some q) None some room h = tt
     by (Some q) (Some x) some room h = omega (arith, room, h)
@@ -135,7 +143,8 @@ origin_stays d _ some = some
 module _ {D : Type 0} {is_modelled : Bool} {seen : D → Image} {may_leave : D → Image → Type 0} {moment : D → ℕ} {left_since : D → ℕ → Image → Type 0}
     (laws : DiskLaws is_modelled seen may_leave moment left_since) (files : List ℕ → Type 0) (entries : Image → List (List ℕ) → Type 0) where
   -- of an entry that is added or not, as of the devices before and with it
-  pub of_entry : (old new : D) (payloads : List (List ℕ)) (p : List ℕ) (d e : Device) → (IsTrue is_modelled → Means payloads d × Room payloads d) → (IsTrue is_modelled → Means (payloads ++ p ∷ []) e × Room (payloads ++ p ∷ []) e)
+  pub of_entry : (old new : D) (payloads : List (List ℕ)) (p : List ℕ) (d e : Device) → (IsTrue is_modelled → Means payloads d × Room payloads d) →
+      (IsTrue is_modelled → Means (payloads ++ p ∷ []) e × Room (payloads ++ p ∷ []) e)
       → Leaves moment left_since old new (After (may_leave old) (Within files (BeforeOrAfter entries payloads p)))
       → Leaves moment left_since old new (LeavesEither may_leave files entries old d e)
   of_entry old new payloads p d e before with leaves = record {
@@ -148,7 +157,8 @@ module _ {D : Type 0} {is_modelled : Bool} {seen : D → Image} {may_leave : D �
         (was.0, was.1, record { here = either c (before told) (with told) was.2.here; others = was.2.others });
   }
     where
-      either : (c : Image) → Means payloads d × Room payloads d → Means (payloads ++ p ∷ []) e × Room (payloads ++ p ∷ []) e → BeforeOrAfter entries payloads p c → StandsForEither entries d e c
+      either : (c : Image) → Means payloads d × Room payloads d → Means (payloads ++ p ∷ []) e × Room (payloads ++ p ∷ []) e →
+          BeforeOrAfter entries payloads p c → StandsForEither entries d e c
       either c b w (inl x) = inl (record { payloads = payloads; live = x; means = b.0; room = b.1 })
       either c b w (inr x) = inr (record { payloads = payloads ++ p ∷ []; live = x; means = w.0; room = w.1 })
 
@@ -167,7 +177,8 @@ module _ {D : Type 0} {is_modelled : Bool} {seen : D → Image} {may_leave : D �
   }
 
   -- of payloads or those that were put, both of which mean a device
-  pub of_put : (old new : D) (payloads more : List (List ℕ)) (d : Device) → (IsTrue is_modelled → Means payloads d × Room payloads d) → (IsTrue is_modelled → Means more d × Room more d)
+  pub of_put : (old new : D) (payloads more : List (List ℕ)) (d : Device) → (IsTrue is_modelled → Means payloads d × Room payloads d) →
+      (IsTrue is_modelled → Means more d × Room more d)
       → Leaves moment left_since old new (After (may_leave old) (Within files (BeforeOrPut entries payloads more)))
       → Leaves moment left_since old new (After (may_leave old) (Within files (λ c. StandsFor entries c d)))
   of_put old new payloads more d before behind leaves = record {
@@ -198,6 +209,7 @@ pub has_entry : (ps : List (List ℕ)) (d : Device) → IsSome d.origin → Mean
 has_entry ps d some means is = none_means d some (subst (λ (l : List (List ℕ)). Means l d) is means)
 
 -- an append that is not full fails by the disk
-pub append_rose : (before now : ℕ) (fault : AppendFault) → (IsErrOf {T = Unit {0}} (Err fault) faults.Disk → Rose before now) → ((end : ℕ) → IsErrOf {T = Unit {0}} (Err fault) (faults.Full end) → ⊥) → Rose before now
+pub append_rose : (before now : ℕ) (fault : AppendFault) → (IsErrOf {T = Unit {0}} (Err fault) faults.Disk → Rose before now) →
+    ((end : ℕ) → IsErrOf {T = Unit {0}} (Err fault) (faults.Full end) → ⊥) → Rose before now
 append_rose before now faults.Disk cause full = cause refl
 append_rose before now (faults.Full end) cause full = absurd (full end refl)

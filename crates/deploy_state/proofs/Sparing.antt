@@ -32,7 +32,8 @@ by_mark : (s : Spare) (d : Device) (q : Pending) (m : Mark) (r : Record) → (Is
 by_mark s d q marks.BootBegun r kept mark h = as_record s d (stored.BootBegun mark.0) r mark.2 (on s begun d (λ q. refl) h)
 by_mark s d q (marks.BootEnded e) r kept mark h = as_record s d (stored.BootEnded mark.0 e) r mark.2 (on s (boot_ended e) d (ended_plan e) h)
 by_mark s d q marks.Activating r kept mark h = as_record s d stored.Activating r mark (on s activated d (λ q. refl) h)
-by_mark s d q (marks.StepFailed k t e) r kept mark h = as_record s d (stored.StepFailed mark.0 t e) r mark.2 (on s (count_failure d.set mark.0) d (counted_plan d.set mark.0) h)
+by_mark s d q (marks.StepFailed k t e) r kept mark h = as_record s d (stored.StepFailed mark.0 t e) r mark.2
+    (on s (count_failure d.set mark.0) d (counted_plan d.set mark.0) h)
 by_mark s d q marks.Failing r kept mark h = as_record s d (stored.Failing mark.0) r mark.2 (on s rolled d (λ q. refl) h)
 by_mark s d q marks.FailingBack r kept mark h = as_record s d (stored.FailingBack mark.0) r mark.2 (on s (turned_back d.origin d.set) d (λ q. refl) h)
 by_mark s d q (marks.Closed o) r kept mark h = absurd (kept tt)

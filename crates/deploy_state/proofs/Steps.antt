@@ -14,7 +14,9 @@ use Rattle.records.specs.Stored as stored
 use Rattle.records.specs.Stored.{Item, Record}
 use Rattle.records.specs.declared.record.Origin.{Origin}
 use Rattle.device.specs.Devices.{Device, Pending}
-use Rattle.device.specs.Lawful.{Allowed, HasBacks, MayActivate, MayClose, activated, applied, backs, begun, boot_ended, broken, close_pending, count_failure, counted, failing_name, failing_place, goes_on, has_gone_back, is_backing, moved_on, next_boot, on_pending, one_ended, reach_of, rolled, turned_back}
+use Rattle.device.specs.Lawful.{Allowed, HasBacks, MayActivate, MayClose, activated, applied, backs, begun, boot_ended, broken, close_pending, count_failure}
+use Rattle.device.specs.Lawful.{counted, failing_name, failing_place, goes_on, has_gone_back, is_backing, moved_on, next_boot, on_pending, one_ended}
+use Rattle.device.specs.Lawful.{reach_of, rolled, turned_back}
 use Rattle.device.specs.Marks.{IsMark, IsMarkOf}
 use Rattle.device.specs.Sound.{IsInStage, IsSound, IsUnderWay}
 use Rattle.device.specs.Standing.{StandsFor}
@@ -28,8 +30,10 @@ use Rattle.deploy_state.specs.States.{IsIn}
 
 -- ---- images of now
 
-pub in_hand_stands : {J D : Type 0} {is_modelled : Bool} {seen : D → Image} {may_leave : D → Image → Type 0} {moment : D → ℕ} {left_since : D → ℕ → Image → Type 0}
-    {files : List ℕ → Type 0} {entries : Image → List (List ℕ) → Type 0} {holds_none : Image → Type 0} {is_damaged : Image → ℕ → Type 0} {stands : J → Image → List (List ℕ) → Type 0} {end : J → ℕ}
+pub in_hand_stands : {J D : Type 0} {is_modelled : Bool} {seen : D → Image} {may_leave : D → Image → Type 0} {moment : D → ℕ} {left_since : D → ℕ → Image →
+    Type 0}
+    {files : List ℕ → Type 0} {entries : Image → List (List ℕ) → Type 0} {holds_none : Image → Type 0} {is_damaged : Image → ℕ → Type 0} {stands : J → Image →
+    List (List ℕ) → Type 0} {end : J → ℕ}
     → DiskLaws is_modelled seen may_leave moment left_since → JournalLaws files entries holds_none is_damaged stands end
     → (log : J) (disk : D) (d : Device) → OwnsJournal is_modelled may_leave stands end log disk d → (c : Image) → may_leave disk c → StandsFor entries c d
 in_hand_stands disk_laws laws log disk d h c left =
@@ -59,10 +63,12 @@ closed_idle d o r mark = by d.pending mark
     by None h = absurd h
     by (Some q) h = refl
 
-pub mark_failed : (d : Device) (n : List ℕ) (k : ℕ) (s : Step) (e : Exit) → IsSomeAnd d.pending (λ q. failing_place d.set q n ≡ Some k) → IsMark d (marks.StepFailed k s e) (stored.StepFailed n s e)
+pub mark_failed : (d : Device) (n : List ℕ) (k : ℕ) (s : Step) (e : Exit) → IsSomeAnd d.pending (λ q. failing_place d.set q n ≡ Some k) →
+    IsMark d (marks.StepFailed k s e) (stored.StepFailed n s e)
 mark_failed d n k s e placed = by d.pending placed
   where
-    by : (o : Option Pending) → IsSomeAnd o (λ q. failing_place d.set q n ≡ Some k) → IsSomeAnd o (λ q. IsMarkOf d.set q (marks.StepFailed k s e) (stored.StepFailed n s e))
+    by : (o : Option Pending) → IsSomeAnd o (λ q. failing_place d.set q n ≡ Some k) →
+        IsSomeAnd o (λ q. IsMarkOf d.set q (marks.StepFailed k s e) (stored.StepFailed n s e))
     by None h = absurd h
     by (Some q) h = (n, h, refl)
 
@@ -76,7 +82,8 @@ none_of : (o : Option ℕ) → is_some o ≡ false → o ≡ None
 none_of None is = refl
 none_of (Some k) is = absurd cc
 
-closes_by : (q : Pending) (b : Bool) → is_some (broken q) ≡ b → q.stage ≡ stages.Rolling → MayClose q (if b then outcomes.UnableToRollback else outcomes.RollbackComplete)
+closes_by : (q : Pending) (b : Bool) → is_some (broken q) ≡ b → q.stage ≡ stages.Rolling →
+    MayClose q (if b then outcomes.UnableToRollback else outcomes.RollbackComplete)
 closes_by q true is stage = inl (stage, is)
 closes_by q false is stage = (stage, none_of (broken q) is)
 
@@ -105,7 +112,8 @@ may_begin d can not_begun = by d.pending can not_begun
 pub some_begun : (d : Device) → CanBegin d → (r : Record) × IsMark d marks.BootBegun r
 some_begun d can = by d.pending can
   where
-    by : (o : Option Pending) → IsSomeAnd o (λ q. (q.boot_failed ≡ false) × IsSome (next_boot q)) → (r : Record) × IsSomeAnd o (λ q. IsMarkOf d.set q marks.BootBegun r)
+    by : (o : Option Pending) → IsSomeAnd o (λ q. (q.boot_failed ≡ false) × IsSome (next_boot q)) → (r : Record) ×
+        IsSomeAnd o (λ q. IsMarkOf d.set q marks.BootBegun r)
     by None can = absurd can
     by (Some q) can = let n = what_is (next_boot q) can.1 in (stored.BootBegun n.0, (n.0, n.1, refl))
 
@@ -163,25 +171,30 @@ in_ended d e r is mark = by d.pending mark
 either_stage : (e : Exit) (q : Pending) → q.stage ≡ stages.Backing → ((boot_ended e q).stage ≡ stages.Rolling → ⊥) → (boot_ended e q).stage ≡ stages.Backing
 either_stage e q is never = by (goes_on e) never
   where
-    moved : (b : Bool) → ((if b then rolled (one_ended q) else one_ended q).stage ≡ stages.Rolling → ⊥) → (if b then rolled (one_ended q) else one_ended q).stage ≡ stages.Backing
+    moved : (b : Bool) → ((if b then rolled (one_ended q) else one_ended q).stage ≡ stages.Rolling → ⊥) →
+        (if b then rolled (one_ended q) else one_ended q).stage ≡ stages.Backing
     moved true never = absurd (never refl)
     moved false never = is
 
-    by : (b : Bool) → ((if b then moved_on q else record q { boot_failed = true }).stage ≡ stages.Rolling → ⊥) → (if b then moved_on q else record q { boot_failed = true }).stage ≡ stages.Backing
+    by : (b : Bool) → ((if b then moved_on q else record q { boot_failed = true }).stage ≡ stages.Rolling → ⊥) →
+        (if b then moved_on q else record q { boot_failed = true }).stage ≡ stages.Backing
     by true never = moved (has_gone_back (one_ended q)) never
     by false never = is
 
 -- behind the end of a back: Backing, where it is not Rolling
-pub in_back : (d : Device) (e : Exit) (r : Record) → IsIn stages.Backing d → IsMark d (marks.BootEnded e) r → (IsIn stages.Rolling (applied d r) → ⊥) → IsIn stages.Backing (applied d r)
+pub in_back : (d : Device) (e : Exit) (r : Record) → IsIn stages.Backing d → IsMark d (marks.BootEnded e) r → (IsIn stages.Rolling (applied d r) → ⊥) →
+    IsIn stages.Backing (applied d r)
 in_back d e r is mark never = by d.pending mark
   where
-    on : (o : Option Pending) → IsSomeAnd o (λ q. q.stage ≡ stages.Backing) → (IsSomeAnd (option_map (boot_ended e) o) (λ q. q.stage ≡ stages.Rolling) → ⊥) → IsSomeAnd (option_map (boot_ended e) o) (λ q. q.stage ≡ stages.Backing)
+    on : (o : Option Pending) → IsSomeAnd o (λ q. q.stage ≡ stages.Backing) → (IsSomeAnd (option_map (boot_ended e) o) (λ q. q.stage ≡ stages.Rolling) → ⊥) →
+        IsSomeAnd (option_map (boot_ended e) o) (λ q. q.stage ≡ stages.Backing)
     on None h never = absurd h
     on (Some q) h never = either_stage e q h never
 
     by : (o : Option Pending) → IsSomeAnd o (λ q. IsMarkOf d.set q (marks.BootEnded e) r) → IsIn stages.Backing (applied d r)
     by None h = absurd h
-    by (Some q) h = as_taken d stages.Backing r (stored.BootEnded h.0 e) h.2 (on d.pending is (subst (λ (x : Record). IsIn stages.Rolling (applied d x) → ⊥) h.2 never))
+    by (Some q) h = as_taken d stages.Backing r (stored.BootEnded h.0 e) h.2
+        (on d.pending is (subst (λ (x : Record). IsIn stages.Rolling (applied d x) → ⊥) h.2 never))
 
 pub in_activated : (d : Device) → Allowed d stored.Activating → IsIn stages.Activating (applied d stored.Activating)
 in_activated d allowed = by MayActivate d.pending allowed
@@ -202,7 +215,8 @@ in_counted d s n t e is = in_on (count_failure d.set n) s s d (λ q is. counted_
 pub breaks_off : (d : Device) → CanBreakOff d → IsSomeAnd d.pending (λ q. is_some (failing_name q) ≡ true)
 breaks_off d can = by d.pending can
   where
-    by : (o : Option Pending) → IsSomeAnd o (λ q. IsSome (failing_name q) × (q.plan.policy ≡ policies.Rollback)) → IsSomeAnd o (λ q. is_some (failing_name q) ≡ true)
+    by : (o : Option Pending) → IsSomeAnd o (λ q. IsSome (failing_name q) × (q.plan.policy ≡ policies.Rollback)) →
+        IsSomeAnd o (λ q. is_some (failing_name q) ≡ true)
     by None can = absurd can
     by (Some q) can = can.0
 
@@ -222,7 +236,8 @@ some_back (b ∷ l) n some = refl
 pub back_mark : (d : Device) (b : Bool) (r : Record) → b ≡ true → TellsBacks d b → IsBreak d r → IsMark d marks.FailingBack r
 back_mark d b r yes_back is_modelled is = by d.pending is_modelled is
   where
-    by : (o : Option Pending) → IfSome o (λ q. IsTrue b ↔ (backs_now d q ≡ [] → ⊥)) → IsSomeAnd o (λ q. (n : List ℕ) × (failing_name q ≡ Some n) × (r ≡ break_by (backs_now d q) n))
+    by : (o : Option Pending) → IfSome o (λ q. IsTrue b ↔ (backs_now d q ≡ [] → ⊥)) →
+        IsSomeAnd o (λ q. (n : List ℕ) × (failing_name q ≡ Some n) × (r ≡ break_by (backs_now d q) n))
         → IsSomeAnd o (λ q. IsMarkOf d.set q marks.FailingBack r)
     by None is_modelled is = absurd is
     by (Some q) is_modelled is = (is.0, is.1, is.2 ∙ some_back (backs_now d q) is.0 (is_modelled.0 yes_back))
@@ -231,7 +246,8 @@ back_mark d b r yes_back is_modelled is = by d.pending is_modelled is
 pub roll_mark : (d : Device) (b : Bool) (r : Record) → b ≡ false → TellsBacks d b → IsBreak d r → IsMark d marks.Failing r
 roll_mark d b r no_back is_modelled is = by d.pending is_modelled is
   where
-    by : (o : Option Pending) → IfSome o (λ q. IsTrue b ↔ (backs_now d q ≡ [] → ⊥)) → IsSomeAnd o (λ q. (n : List ℕ) × (failing_name q ≡ Some n) × (r ≡ break_by (backs_now d q) n))
+    by : (o : Option Pending) → IfSome o (λ q. IsTrue b ↔ (backs_now d q ≡ [] → ⊥)) →
+        IsSomeAnd o (λ q. (n : List ℕ) × (failing_name q ≡ Some n) × (r ≡ break_by (backs_now d q) n))
         → IsSomeAnd o (λ q. IsMarkOf d.set q marks.Failing r)
     by None is_modelled is = absurd is
     by (Some q) is_modelled is =
@@ -241,14 +257,17 @@ roll_mark d b r no_back is_modelled is = by d.pending is_modelled is
 pub some_break : (d : Device) → CanBreakOff d → (r : Record) × IsBreak d r
 some_break d can = by d.pending can
   where
-    by : (o : Option Pending) → IsSomeAnd o (λ q. IsSome (failing_name q) × (q.plan.policy ≡ policies.Rollback)) → (r : Record) × IsSomeAnd o (λ q. (n : List ℕ) × (failing_name q ≡ Some n) × (r ≡ break_by (backs_now d q) n))
+    by : (o : Option Pending) → IsSomeAnd o (λ q. IsSome (failing_name q) × (q.plan.policy ≡ policies.Rollback)) → (r : Record) ×
+        IsSomeAnd o (λ q. (n : List ℕ) × (failing_name q ≡ Some n) × (r ≡ break_by (backs_now d q) n))
     by None can = absurd can
     by (Some q) can = let n = what_is (failing_name q) can.0 in (break_by (backs_now d q) n.0, (n.0, n.1, refl))
 
-pub may_go_back : (d : Device) (b : Bool) → b ≡ true → IfSome d.pending (λ q. IsTrue b ↔ IsSomeAnd d.origin (HasBacks d.set q)) → CanBreakOff d → MayMark d marks.FailingBack
+pub may_go_back : (d : Device) (b : Bool) → b ≡ true → IfSome d.pending (λ q. IsTrue b ↔ IsSomeAnd d.origin (HasBacks d.set q)) → CanBreakOff d →
+    MayMark d marks.FailingBack
 may_go_back d b yes_back is_modelled can = by d.pending is_modelled can
   where
-    by : (o : Option Pending) → IfSome o (λ q. IsTrue b ↔ IsSomeAnd d.origin (HasBacks d.set q)) → IsSomeAnd o (λ q. IsSome (failing_name q) × (q.plan.policy ≡ policies.Rollback))
+    by : (o : Option Pending) → IfSome o (λ q. IsTrue b ↔ IsSomeAnd d.origin (HasBacks d.set q)) →
+        IsSomeAnd o (λ q. IsSome (failing_name q) × (q.plan.policy ≡ policies.Rollback))
         → (r : Record) × IsSomeAnd o (λ q. IsMarkOf d.set q marks.FailingBack r) × Allowed (record d { pending = o }) r
     by None is_modelled can = absurd can
     by (Some q) is_modelled can =
@@ -268,7 +287,8 @@ may_roll_back d can = by d.pending can
 pub in_turned : (d : Device) (r : Record) → IsMark d marks.FailingBack r → IsIn stages.Backing (applied d r)
 in_turned d r mark = by d.pending mark
   where
-    on : (o : Option Pending) (n : List ℕ) → IsSomeAnd o (λ q. IsMarkOf d.set q marks.FailingBack r) → IsSomeAnd (option_map (turned_back d.origin d.set) o) (λ q. q.stage ≡ stages.Backing)
+    on : (o : Option Pending) (n : List ℕ) → IsSomeAnd o (λ q. IsMarkOf d.set q marks.FailingBack r) → IsSomeAnd (option_map (turned_back d.origin d.set) o)
+        (λ q. q.stage ≡ stages.Backing)
     on None n h = absurd h
     on (Some q) n h = refl
 
@@ -279,7 +299,8 @@ in_turned d r mark = by d.pending mark
 pub in_rolled : (d : Device) (r : Record) → IsMark d marks.Failing r → IsIn stages.Rolling (applied d r)
 in_rolled d r mark = by d.pending mark
   where
-    on : (o : Option Pending) (n : List ℕ) → IsSomeAnd o (λ q. IsMarkOf d.set q marks.Failing r) → IsSomeAnd (option_map rolled o) (λ q. q.stage ≡ stages.Rolling)
+    on : (o : Option Pending) (n : List ℕ) → IsSomeAnd o (λ q. IsMarkOf d.set q marks.Failing r) →
+        IsSomeAnd (option_map rolled o) (λ q. q.stage ≡ stages.Rolling)
     on None n h = absurd h
     on (Some q) n h = refl
 

@@ -1,5 +1,6 @@
 -- The payloads of a front, one after another.
-use Rattle.std.proofs.Common.{◌≡◌, inr, ℕ, zero, suc, ◌+◌, ◌*◌, ◌≤◌, Bool, List, [], ◌∷◌, ◌++◌, length, map, take, Option, Some, None, refl, sym, ap, subst, ◌∙◌, arith, append-nil, IsTrue}
+use Rattle.std.proofs.Common.{◌≡◌, inr, ℕ, zero, suc, ◌+◌, ◌*◌, ◌≤◌, Bool, List, [], ◌∷◌, ◌++◌, length, map, take, Option, Some, None, refl, sym, ap, subst}
+use Rattle.std.proofs.Common.{◌∙◌, arith, append-nil, IsTrue}
 use Rattle.std.specs.Prelude.{slice_get}
 use Rattle.std.specs.List.{AllZip}
 use Rattle.std.specs.Option.{IfSome, IsSome}
@@ -38,7 +39,8 @@ map_at f [] k x is = absurd cc
 map_at f (y ∷ ys) zero x is = let same : y ≡ x = cc in ap (λ z. Some (f z)) same
 map_at f (y ∷ ys) (suc k) x is = map_at f ys k x is
 
-pub next_payload : (number : ℕ) (d : Device) (at : ℕ) (p : List ℕ) → SpellsAt (Front number d) at p → take (at + 1) (front_payloads number d) ≡ take at (front_payloads number d) ++ p ∷ []
+pub next_payload : (number : ℕ) (d : Device) (at : ℕ) (p : List ℕ) → SpellsAt (Front number d) at p → take (at + 1) (front_payloads number d)
+    ≡ take at (front_payloads number d) ++ p ∷ []
 next_payload number d at p s =
     take_more (front_payloads number d) at p (map_at record_spelled (Front number d) at s.record_at s.there ∙ ap (λ (x : List ℕ). Some x) (sym s.spelled.same))
 
@@ -87,7 +89,8 @@ next_spelled number d at p s spelled =
     (subst (λ (rs : List Record). AllZip Spelled (take at (front_payloads number d) ++ p ∷ []) rs) (sym (take_more (Front number d) at s.record_at s.there))
     (zip_more (take at (front_payloads number d)) (take at (Front number d)) p s.record_at spelled s.spelled))
 
-pub all_spelled : (number : ℕ) (d : Device) (k : ℕ) → length (Front number d) ≤ k → AreSpelled number d k → AllZip Spelled (front_payloads number d) (Front number d)
+pub all_spelled : (number : ℕ) (d : Device) (k : ℕ) → length (Front number d) ≤ k → AreSpelled number d k →
+    AllZip Spelled (front_payloads number d) (Front number d)
 all_spelled number d k le spelled =
     subst (λ (ps : List (List ℕ)). AllZip Spelled ps (Front number d)) (all_payloads number d k le)
     (subst (λ (rs : List Record). AllZip Spelled (take k (front_payloads number d)) rs) (take_all (Front number d) k le) spelled)
@@ -119,14 +122,16 @@ means_anew number d has spelled = inr (record {
 
 -- where nothing is pending nothing is to come
 pub idle_room : (payloads : List (List ℕ)) (d : Device) → d.pending ≡ None → Room payloads d
-idle_room payloads d none = subst (λ (o : Option Pending). IfSome o (λ q. (at : ℕ) × IsBehindAccepted payloads at × (at + room_of_plan ≤ most_file))) (sym none) tt
+idle_room payloads d none = subst (λ (o : Option Pending). IfSome o (λ q. (at : ℕ) × IsBehindAccepted payloads at × (at + room_of_plan ≤ most_file)))
+    (sym none) tt
 
 pub idle_fits : (end : ℕ) (d : Device) → d.pending ≡ None → HasRoom end d
 idle_fits end d none = subst (λ (o : Option Pending). IfSome o (λ q. end + 256 * left_of q ≤ most_file)) (sym none) tt
 
 module _ {J D : Type 0} (is_modelled : Bool) (may_leave : D → Image → Type 0) (stands : J → Image → List (List ℕ) → Type 0) (end : J → ℕ) where
   -- the journal stands behind payloads that mean the device
-  pub idle_hand : (log : J) (disk : D) (d : Device) (payloads : List (List ℕ)) → IsBehind may_leave stands log disk payloads → (IsTrue is_modelled → Means payloads d) → HasFront d → IsRegularDevice d
+  pub idle_hand : (log : J) (disk : D) (d : Device) (payloads : List (List ℕ)) → IsBehind may_leave stands log disk payloads →
+      (IsTrue is_modelled → Means payloads d) → HasFront d → IsRegularDevice d
       → OwnsJournal is_modelled may_leave stands end log disk d
   idle_hand log disk d payloads behind means has regular = record {
     payloads = payloads;

@@ -20,7 +20,8 @@ module _ {D : Type 0} {is_modelled : Bool} {seen : D → Image} {may_leave : D �
       let before = now laws old mid _ first was.0 was.1 in
       (before.0, before.1, record { here = from_second c was.2.here; others = λ name other. was.2.others name other ∙ before.2.others name other }))
 
-  pub again_within : (old mid new : D) (P : Image → Type 0) → Leaves moment left_since old mid (After (may_leave old) (Within files P)) → Leaves moment left_since mid new (After (may_leave mid) (Within files P))
+  pub again_within : (old mid new : D) (P : Image → Type 0) → Leaves moment left_since old mid (After (may_leave old) (Within files P)) →
+      Leaves moment left_since mid new (After (may_leave mid) (Within files P))
       → Leaves moment left_since old new (After (may_leave old) (Within files P))
   again_within old mid new P first second = then_within old mid new P P P first second (λ c h. h) (λ c h. h)
 

@@ -14,7 +14,8 @@ use Rattle.device.specs.declared.mark.Mark.{Mark}
 
 -- On each image that a crash may leave now the journal stands behind payloads that stand for the device, and there is
 -- room for the records up to the close. What does not speak of images holds where the disk tells nothing, too.
-pub record OwnsJournal {J D : Type 0} (is_modelled : Bool) (may_leave : D → Image → Type 0) (stands : J → Image → List (List ℕ) → Type 0) (end : J → ℕ) (log : J) (disk : D) (d : Device) : Type 0 where
+pub record OwnsJournal {J D : Type 0} (is_modelled : Bool) (may_leave : D → Image → Type 0) (stands : J → Image → List (List ℕ) → Type 0) (end : J → ℕ)
+    (log : J) (disk : D) (d : Device) : Type 0 where
   pub payloads : List (List ℕ)
   pub behind : IsBehind may_leave stands log disk payloads
   pub means : IsTrue is_modelled → Means payloads d × Room payloads d

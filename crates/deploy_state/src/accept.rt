@@ -135,7 +135,8 @@ impl<J: Journal + Drop> Idle<J> {
         requires room { next_front J.number (idle_log self) (idle_device self) + 6 + length kit.payload + 2097152 ≤ most_file }
         ensures moments { Leaves D.moment D.left_since disk.old disk.new
             (LeavesEither D.may_leave J.files J.entries disk.old (idle_device self) (applied (idle_device self) (stored.Accepted (plan_view kit.plan)))) }
-        ensures unmade { IsHandedBack result → Leaves D.moment D.left_since disk.old disk.new (LeavesSame D.may_leave J.files J.entries disk.old (idle_device self)) }
+        ensures unmade { IsHandedBack result → Leaves D.moment D.left_since disk.old disk.new
+            (LeavesSame D.may_leave J.files J.entries disk.old (idle_device self)) }
         ensures taken { IfOk result (λ r. booting_device r.0 ≡ applied (idle_device self) (stored.Accepted (plan_view kit.plan))) }
         ensures held { IfOk result (λ r. OwnsBooting D.is_modelled D.may_leave J.stands J.end r.0 disk.new) }
         ensures receipt { IfOk result (λ r. receipt_id r.1 ≡ kit.id) }
@@ -177,7 +178,8 @@ impl<J: Journal + Drop> Idle<J> {
         requires room { site.start + 6 + length kit.payload + 2097152 ≤ most_file }
         ensures moments { Leaves D.moment D.left_since disk.old disk.new
             (LeavesEither D.may_leave J.files J.entries disk.old (idle_device self) (applied (idle_device self) (stored.Accepted (plan_view kit.plan)))) }
-        ensures unmade { IsHandedBack result → Leaves D.moment D.left_since disk.old disk.new (LeavesSame D.may_leave J.files J.entries disk.old (idle_device self)) }
+        ensures unmade { IsHandedBack result → Leaves D.moment D.left_since disk.old disk.new
+            (LeavesSame D.may_leave J.files J.entries disk.old (idle_device self)) }
         ensures taken { IfOk result (λ r. booting_device r.0 ≡ applied (idle_device self) (stored.Accepted (plan_view kit.plan))) }
         ensures held { IfOk result (λ r. OwnsBooting D.is_modelled D.may_leave J.stands J.end r.0 disk.new) }
         ensures receipt { IfOk result (λ r. receipt_id r.1 ≡ kit.id) }
@@ -220,7 +222,8 @@ impl<J: Journal + Drop> Idle<J> {
         ensures moments { Leaves D.moment D.left_since disk.old disk.new
             (LeavesEither D.may_leave J.files J.entries disk.old (idle_device self) (applied (idle_device self) (stored.Accepted (plan_view plan)))) }
         // Where the plan is handed back a crash at any moment leaves the device without it.
-        ensures unmade { IsHandedBack result → Leaves D.moment D.left_since disk.old disk.new (LeavesSame D.may_leave J.files J.entries disk.old (idle_device self)) }
+        ensures unmade { IsHandedBack result → Leaves D.moment D.left_since disk.old disk.new
+            (LeavesSame D.may_leave J.files J.entries disk.old (idle_device self)) }
         ensures taken { IfOk result (λ r. booting_device r.0 ≡ applied (idle_device self) (stored.Accepted (plan_view plan))) }
         ensures held { IfOk result (λ r. OwnsBooting D.is_modelled D.may_leave J.stands J.end r.0 disk.new) }
         ensures receipt { IfOk result (λ r. receipt_id r.1 ≡ plan.id) }
@@ -228,13 +231,16 @@ impl<J: Journal + Drop> Idle<J> {
         // Full, with nothing written, exactly where the plan does not fit with what may follow it, want of memory aside.
         ensures full { (at : ℕ) → IsFullAt result at → (at ≡ start_of J.end J.number J.turns (idle_log self) (idle_device self) (plan_bytes (plan_view plan)))
             × IsTooFar at (plan_bytes (plan_view plan)) × (disk.new ≡ disk.old) }
-        ensures fills { IsTooFar (start_of J.end J.number J.turns (idle_log self) (idle_device self) (plan_bytes (plan_view plan))) (plan_bytes (plan_view plan))
+        ensures fills { IsTooFar (start_of J.end J.number J.turns (idle_log self) (idle_device self) (plan_bytes (plan_view plan)))
+            (plan_bytes (plan_view plan))
             → IsFullOrShort result (start_of J.end J.number J.turns (idle_log self) (idle_device self) (plan_bytes (plan_view plan))) }
         // The plan's entry stands at this place.
-        ensures end { IfOk result (λ r. J.end (booting_log r.0) ≡ start_of J.end J.number J.turns (idle_log self) (idle_device self) (plan_bytes (plan_view plan)) + 5 + plan_bytes (plan_view plan)) }
+        ensures end { IfOk result (λ r. J.end (booting_log r.0) ≡ start_of J.end J.number J.turns (idle_log self) (idle_device self)
+            (plan_bytes (plan_view plan)) + 5 + plan_bytes (plan_view plan)) }
         // A journal that turns does not grow for ever.
         ensures bound { IsTrue (can_turn (J.turns (idle_log self)) (J.number (idle_log self))) → IfOk result (λ r. J.end (booting_log r.0)
-            ≤ max (2 * next_front J.number (idle_log self) (idle_device self) + 1048576) (next_front J.number (idle_log self) (idle_device self) + 6 + plan_bytes (plan_view plan))) }
+            ≤ max (2 * next_front J.number (idle_log self) (idle_device self) + 1048576)
+            (next_front J.number (idle_log self) (idle_device self) + 6 + plan_bytes (plan_view plan))) }
         ensures others { IsTrue D.is_modelled → (name : List ℕ) → ¬ (J.files name) → D.seen disk.new name ≡ D.seen disk.old name }
         ensures cause { HasStopped result → Rose (D.faults disk.old) (D.faults disk.new) }
         ensures quiet { ¬ (HasStopped result) → D.faults disk.new ≡ D.faults disk.old }

@@ -43,7 +43,8 @@ impl<J: Journal + Drop> Activating<J> {
     ) -> Result<Activating<J>, Stopped<J>>
         requires held { OwnsActivating D.is_modelled D.may_leave J.stands J.end self disk.old }
         requires may { Allowed (activating_device self) (stored.StepFailed name.now step exit) }
-        ensures moments { Leaves D.moment D.left_since disk.old disk.new (LeavesEither D.may_leave J.files J.entries disk.old (activating_device self) (applied (activating_device self) (stored.StepFailed name.now step exit))) }
+        ensures moments { Leaves D.moment D.left_since disk.old disk.new (LeavesEither D.may_leave J.files J.entries disk.old (activating_device self)
+            (applied (activating_device self) (stored.StepFailed name.now step exit))) }
         ensures taken { IfOk result (λ s. activating_device s ≡ applied (activating_device self) (stored.StepFailed name.now step exit)) }
         ensures held { IfOk result (λ s. OwnsActivating D.is_modelled D.may_leave J.stands J.end s disk.new) }
         ensures others { IsTrue D.is_modelled → (name : List ℕ) → ¬ (J.files name) → D.seen disk.new name ≡ D.seen disk.old name }
@@ -61,7 +62,8 @@ impl<J: Journal + Drop> Activating<J> {
         requires held { OwnsActivating D.is_modelled D.may_leave J.stands J.end self disk.old }
         requires may { CanBreakOff (activating_device self) }
         ensures moments { (r : Record) → IsBreak (activating_device self) r →
-            Leaves D.moment D.left_since disk.old disk.new (LeavesEither D.may_leave J.files J.entries disk.old (activating_device self) (applied (activating_device self) r)) }
+            Leaves D.moment D.left_since disk.old disk.new (LeavesEither D.may_leave J.files J.entries disk.old (activating_device self)
+            (applied (activating_device self) r)) }
         ensures taken { (r : Record) → IsBreak (activating_device self) r → IfOk result (λ s. broken_device s ≡ applied (activating_device self) r) }
         ensures held { IfOk result (λ s. InBrokeOff D.is_modelled D.may_leave J.stands J.end s disk.new) }
         ensures others { IsTrue D.is_modelled → (name : List ℕ) → ¬ (J.files name) → D.seen disk.new name ≡ D.seen disk.old name }
@@ -75,7 +77,8 @@ impl<J: Journal + Drop> Activating<J> {
     pub fn keep<D: Disk>(self, disk: &mut D) -> Result<Idle<J>, Stopped<J>>
         requires held { OwnsActivating D.is_modelled D.may_leave J.stands J.end self disk.old }
         requires may { Allowed (activating_device self) (stored.Closed outcomes.RollbackNotRequested) }
-        ensures moments { Leaves D.moment D.left_since disk.old disk.new (LeavesEither D.may_leave J.files J.entries disk.old (activating_device self) (applied (activating_device self) (stored.Closed outcomes.RollbackNotRequested))) }
+        ensures moments { Leaves D.moment D.left_since disk.old disk.new (LeavesEither D.may_leave J.files J.entries disk.old (activating_device self)
+            (applied (activating_device self) (stored.Closed outcomes.RollbackNotRequested))) }
         ensures taken { IfOk result (λ s. idle_device s ≡ applied (activating_device self) (stored.Closed outcomes.RollbackNotRequested)) }
         ensures held { IfOk result (λ s. OwnsIdle D.is_modelled D.may_leave J.stands J.end s disk.new) }
         ensures others { IsTrue D.is_modelled → (name : List ℕ) → ¬ (J.files name) → D.seen disk.new name ≡ D.seen disk.old name }
@@ -89,7 +92,8 @@ impl<J: Journal + Drop> Activating<J> {
     pub fn complete<D: Disk>(self, disk: &mut D) -> Result<Idle<J>, Stopped<J>>
         requires held { OwnsActivating D.is_modelled D.may_leave J.stands J.end self disk.old }
         requires may { Allowed (activating_device self) (stored.Closed outcomes.Successful) }
-        ensures moments { Leaves D.moment D.left_since disk.old disk.new (LeavesEither D.may_leave J.files J.entries disk.old (activating_device self) (applied (activating_device self) (stored.Closed outcomes.Successful))) }
+        ensures moments { Leaves D.moment D.left_since disk.old disk.new (LeavesEither D.may_leave J.files J.entries disk.old (activating_device self)
+            (applied (activating_device self) (stored.Closed outcomes.Successful))) }
         ensures taken { IfOk result (λ s. idle_device s ≡ applied (activating_device self) (stored.Closed outcomes.Successful)) }
         ensures held { IfOk result (λ s. OwnsIdle D.is_modelled D.may_leave J.stands J.end s disk.new) }
         ensures others { IsTrue D.is_modelled → (name : List ℕ) → ¬ (J.files name) → D.seen disk.new name ≡ D.seen disk.old name }

@@ -47,7 +47,8 @@ impl<J: Journal + Drop> Backing<J> {
         requires held { OwnsBacking D.is_modelled D.may_leave J.stands J.end self disk.old }
         requires may { CanBegin (backing_device self) }
         ensures moments { (r : Record) → IsMark (backing_device self) marks.BootBegun r →
-            Leaves D.moment D.left_since disk.old disk.new (LeavesEither D.may_leave J.files J.entries disk.old (backing_device self) (applied (backing_device self) r)) }
+            Leaves D.moment D.left_since disk.old disk.new (LeavesEither D.may_leave J.files J.entries disk.old (backing_device self)
+            (applied (backing_device self) r)) }
         ensures taken { (r : Record) → IsMark (backing_device self) marks.BootBegun r → IfOk result (λ s. backing_device s ≡ applied (backing_device self) r) }
         ensures held { IfOk result (λ s. OwnsBacking D.is_modelled D.may_leave J.stands J.end s disk.new) }
         ensures silent { IsBegun (backing_device self) → (disk.new ≡ disk.old) × IsOkAnd result (λ s. s ≡ self) }
@@ -66,8 +67,10 @@ impl<J: Journal + Drop> Backing<J> {
         requires held { OwnsBacking D.is_modelled D.may_leave J.stands J.end self disk.old }
         requires may { MayMark (backing_device self) (marks.BootEnded exit) }
         ensures moments { (r : Record) → IsMark (backing_device self) (marks.BootEnded exit) r →
-            Leaves D.moment D.left_since disk.old disk.new (LeavesEither D.may_leave J.files J.entries disk.old (backing_device self) (applied (backing_device self) r)) }
-        ensures taken { (r : Record) → IsMark (backing_device self) (marks.BootEnded exit) r → IfOk result (λ s. backed_device s ≡ applied (backing_device self) r) }
+            Leaves D.moment D.left_since disk.old disk.new (LeavesEither D.may_leave J.files J.entries disk.old (backing_device self)
+            (applied (backing_device self) r)) }
+        ensures taken { (r : Record) → IsMark (backing_device self) (marks.BootEnded exit) r →
+            IfOk result (λ s. backed_device s ≡ applied (backing_device self) r) }
         ensures held { IfOk result (λ s. OwnsBacked D.is_modelled D.may_leave J.stands J.end s disk.new) }
         ensures others { IsTrue D.is_modelled → (name : List ℕ) → ¬ (J.files name) → D.seen disk.new name ≡ D.seen disk.old name }
         ensures cause { HasCause (D.faults disk.old) (D.faults disk.new) result }
@@ -89,7 +92,8 @@ impl<J: Journal + Drop> Backing<J> {
     pub fn close<D: Disk>(self, disk: &mut D) -> Result<Idle<J>, Stopped<J>>
         requires held { OwnsBacking D.is_modelled D.may_leave J.stands J.end self disk.old }
         requires may { Allowed (backing_device self) (stored.Closed outcomes.UnableToRollback) }
-        ensures moments { Leaves D.moment D.left_since disk.old disk.new (LeavesEither D.may_leave J.files J.entries disk.old (backing_device self) (applied (backing_device self) (stored.Closed outcomes.UnableToRollback))) }
+        ensures moments { Leaves D.moment D.left_since disk.old disk.new (LeavesEither D.may_leave J.files J.entries disk.old (backing_device self)
+            (applied (backing_device self) (stored.Closed outcomes.UnableToRollback))) }
         ensures taken { IfOk result (λ s. idle_device s ≡ applied (backing_device self) (stored.Closed outcomes.UnableToRollback)) }
         ensures held { IfOk result (λ s. OwnsIdle D.is_modelled D.may_leave J.stands J.end s disk.new) }
         ensures others { IsTrue D.is_modelled → (name : List ℕ) → ¬ (J.files name) → D.seen disk.new name ≡ D.seen disk.old name }

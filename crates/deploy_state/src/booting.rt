@@ -47,7 +47,8 @@ impl<J: Journal + Drop> Booting<J> {
         requires held { OwnsBooting D.is_modelled D.may_leave J.stands J.end self disk.old }
         requires may { CanBegin (booting_device self) }
         ensures moments { (r : Record) → IsMark (booting_device self) marks.BootBegun r →
-            Leaves D.moment D.left_since disk.old disk.new (LeavesEither D.may_leave J.files J.entries disk.old (booting_device self) (applied (booting_device self) r)) }
+            Leaves D.moment D.left_since disk.old disk.new (LeavesEither D.may_leave J.files J.entries disk.old (booting_device self)
+            (applied (booting_device self) r)) }
         ensures taken { (r : Record) → IsMark (booting_device self) marks.BootBegun r → IfOk result (λ s. booting_device s ≡ applied (booting_device self) r) }
         ensures held { IfOk result (λ s. OwnsBooting D.is_modelled D.may_leave J.stands J.end s disk.new) }
         ensures silent { IsBegun (booting_device self) → (disk.new ≡ disk.old) × IsOkAnd result (λ s. s ≡ self) }
@@ -66,8 +67,10 @@ impl<J: Journal + Drop> Booting<J> {
         requires held { OwnsBooting D.is_modelled D.may_leave J.stands J.end self disk.old }
         requires may { MayMark (booting_device self) (marks.BootEnded exit) }
         ensures moments { (r : Record) → IsMark (booting_device self) (marks.BootEnded exit) r →
-            Leaves D.moment D.left_since disk.old disk.new (LeavesEither D.may_leave J.files J.entries disk.old (booting_device self) (applied (booting_device self) r)) }
-        ensures taken { (r : Record) → IsMark (booting_device self) (marks.BootEnded exit) r → IfOk result (λ s. booting_device s ≡ applied (booting_device self) r) }
+            Leaves D.moment D.left_since disk.old disk.new (LeavesEither D.may_leave J.files J.entries disk.old (booting_device self)
+            (applied (booting_device self) r)) }
+        ensures taken { (r : Record) → IsMark (booting_device self) (marks.BootEnded exit) r →
+            IfOk result (λ s. booting_device s ≡ applied (booting_device self) r) }
         ensures held { IfOk result (λ s. OwnsBooting D.is_modelled D.may_leave J.stands J.end s disk.new) }
         ensures others { IsTrue D.is_modelled → (name : List ℕ) → ¬ (J.files name) → D.seen disk.new name ≡ D.seen disk.old name }
         ensures cause { HasCause (D.faults disk.old) (D.faults disk.new) result }
@@ -83,7 +86,8 @@ impl<J: Journal + Drop> Booting<J> {
     pub fn activate<D: Disk>(self, disk: &mut D) -> Result<Activating<J>, Stopped<J>>
         requires held { OwnsBooting D.is_modelled D.may_leave J.stands J.end self disk.old }
         requires may { Allowed (booting_device self) stored.Activating }
-        ensures moments { Leaves D.moment D.left_since disk.old disk.new (LeavesEither D.may_leave J.files J.entries disk.old (booting_device self) (applied (booting_device self) stored.Activating)) }
+        ensures moments { Leaves D.moment D.left_since disk.old disk.new (LeavesEither D.may_leave J.files J.entries disk.old (booting_device self)
+            (applied (booting_device self) stored.Activating)) }
         ensures taken { IfOk result (λ s. activating_device s ≡ applied (booting_device self) stored.Activating) }
         ensures held { IfOk result (λ s. OwnsActivating D.is_modelled D.may_leave J.stands J.end s disk.new) }
         ensures others { IsTrue D.is_modelled → (name : List ℕ) → ¬ (J.files name) → D.seen disk.new name ≡ D.seen disk.old name }
@@ -101,7 +105,8 @@ impl<J: Journal + Drop> Booting<J> {
         requires held { OwnsBooting D.is_modelled D.may_leave J.stands J.end self disk.old }
         requires may { CanBreakOff (booting_device self) }
         ensures moments { (r : Record) → IsBreak (booting_device self) r →
-            Leaves D.moment D.left_since disk.old disk.new (LeavesEither D.may_leave J.files J.entries disk.old (booting_device self) (applied (booting_device self) r)) }
+            Leaves D.moment D.left_since disk.old disk.new (LeavesEither D.may_leave J.files J.entries disk.old (booting_device self)
+            (applied (booting_device self) r)) }
         ensures taken { (r : Record) → IsBreak (booting_device self) r → IfOk result (λ s. broken_device s ≡ applied (booting_device self) r) }
         ensures held { IfOk result (λ s. InBrokeOff D.is_modelled D.may_leave J.stands J.end s disk.new) }
         ensures others { IsTrue D.is_modelled → (name : List ℕ) → ¬ (J.files name) → D.seen disk.new name ≡ D.seen disk.old name }
@@ -115,7 +120,8 @@ impl<J: Journal + Drop> Booting<J> {
     pub fn keep<D: Disk>(self, disk: &mut D) -> Result<Idle<J>, Stopped<J>>
         requires held { OwnsBooting D.is_modelled D.may_leave J.stands J.end self disk.old }
         requires may { Allowed (booting_device self) (stored.Closed outcomes.RollbackNotRequested) }
-        ensures moments { Leaves D.moment D.left_since disk.old disk.new (LeavesEither D.may_leave J.files J.entries disk.old (booting_device self) (applied (booting_device self) (stored.Closed outcomes.RollbackNotRequested))) }
+        ensures moments { Leaves D.moment D.left_since disk.old disk.new (LeavesEither D.may_leave J.files J.entries disk.old (booting_device self)
+            (applied (booting_device self) (stored.Closed outcomes.RollbackNotRequested))) }
         ensures taken { IfOk result (λ s. idle_device s ≡ applied (booting_device self) (stored.Closed outcomes.RollbackNotRequested)) }
         ensures held { IfOk result (λ s. OwnsIdle D.is_modelled D.may_leave J.stands J.end s disk.new) }
         ensures others { IsTrue D.is_modelled → (name : List ℕ) → ¬ (J.files name) → D.seen disk.new name ≡ D.seen disk.old name }

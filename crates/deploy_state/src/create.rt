@@ -67,7 +67,8 @@ impl<J: Journal + Drop> Idle<J> {
         ensures held { IfOk result (λ s. OwnsIdle D.is_modelled D.may_leave J.stands J.end s disk.new) }
         // An image that holds no entry stands for the device before its first record.
         ensures moments { ¬ (IsErrOf result CreateFault.NoMemory) →
-            Leaves D.moment D.left_since disk.old disk.new (LeavesEither D.may_leave J.files J.entries disk.old no_device (applied no_device (stored.Genesis origin))) }
+            Leaves D.moment D.left_since disk.old disk.new (LeavesEither D.may_leave J.files J.entries disk.old no_device
+            (applied no_device (stored.Genesis origin))) }
         ensures others { IsTrue D.is_modelled → (name : List ℕ) → ¬ (J.files name) → D.seen disk.new name ≡ D.seen disk.old name }
         // Without memory nothing was written.
         ensures memory { IsErrOf result CreateFault.NoMemory → disk.new ≡ disk.old }

@@ -84,7 +84,8 @@ impl<J: Journal + Drop> Hand<J> {
     ) -> Result<Hand<J>, Stopped<J>>
         requires held { IsHeld D.is_modelled D.may_leave J.stands J.end self disk.old }
         requires may { Allowed (device_of self) (stored.StepFailed name.now step exit) }
-        ensures moments { Leaves D.moment D.left_since disk.old disk.new (LeavesEither D.may_leave J.files J.entries disk.old (device_of self) (applied (device_of self) (stored.StepFailed name.now step exit))) }
+        ensures moments { Leaves D.moment D.left_since disk.old disk.new
+            (LeavesEither D.may_leave J.files J.entries disk.old (device_of self) (applied (device_of self) (stored.StepFailed name.now step exit))) }
         ensures taken { IfOk result (λ s. device_of s ≡ applied (device_of self) (stored.StepFailed name.now step exit)) }
         ensures held { IfOk result (λ s. IsHeld D.is_modelled D.may_leave J.stands J.end s disk.new) }
         ensures others { IsTrue D.is_modelled → (name : List ℕ) → ¬ (J.files name) → D.seen disk.new name ≡ D.seen disk.old name }

@@ -24,7 +24,8 @@ impl<J: Journal + Drop> Hand<J> {
         requires spare { IsSpareOf self.old.spare (device_of self.old) }
         requires may { MayMark (device_of self.old) mark }
         ensures moments { (r : Record) → IsMark (device_of self.old) mark r →
-            Leaves D.moment D.left_since disk.old disk.new (LeavesEither D.may_leave J.files J.entries disk.old (device_of self.old) (applied (device_of self.old) r)) }
+            Leaves D.moment D.left_since disk.old disk.new (LeavesEither D.may_leave J.files J.entries disk.old (device_of self.old)
+            (applied (device_of self.old) r)) }
         ensures taken { (r : Record) → IsMark (device_of self.old) mark r → OnOk result (device_of self.new ≡ applied (device_of self.old) r) }
         ensures hand { OnOk result (OwnsJournal D.is_modelled D.may_leave J.stands J.end self.new.log disk.new (device_of self.new)) }
         ensures spare { OnOk result (¬ (IsClosing mark) → IsSpareOf self.new.spare (device_of self.new)) }

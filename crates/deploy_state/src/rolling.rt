@@ -41,7 +41,8 @@ impl<J: Journal + Drop> Rolling<J> {
     ) -> Result<Rolling<J>, Stopped<J>>
         requires held { OwnsRolling D.is_modelled D.may_leave J.stands J.end self disk.old }
         requires may { Allowed (rolling_device self) (stored.StepFailed name.now step exit) }
-        ensures moments { Leaves D.moment D.left_since disk.old disk.new (LeavesEither D.may_leave J.files J.entries disk.old (rolling_device self) (applied (rolling_device self) (stored.StepFailed name.now step exit))) }
+        ensures moments { Leaves D.moment D.left_since disk.old disk.new (LeavesEither D.may_leave J.files J.entries disk.old (rolling_device self)
+            (applied (rolling_device self) (stored.StepFailed name.now step exit))) }
         ensures taken { IfOk result (λ s. rolling_device s ≡ applied (rolling_device self) (stored.StepFailed name.now step exit)) }
         ensures held { IfOk result (λ s. OwnsRolling D.is_modelled D.may_leave J.stands J.end s disk.new) }
         ensures others { IsTrue D.is_modelled → (name : List ℕ) → ¬ (J.files name) → D.seen disk.new name ≡ D.seen disk.old name }
@@ -57,7 +58,8 @@ impl<J: Journal + Drop> Rolling<J> {
     /// The deployment closes: rolled back, or not able to where an item has three failures.
     pub fn close<D: Disk>(self, disk: &mut D) -> Result<Idle<J>, Stopped<J>>
         requires held { OwnsRolling D.is_modelled D.may_leave J.stands J.end self disk.old }
-        ensures moments { Leaves D.moment D.left_since disk.old disk.new (LeavesEither D.may_leave J.files J.entries disk.old (rolling_device self) (applied (rolling_device self) (stored.Closed (rolled_outcome (rolling_device self))))) }
+        ensures moments { Leaves D.moment D.left_since disk.old disk.new (LeavesEither D.may_leave J.files J.entries disk.old (rolling_device self)
+            (applied (rolling_device self) (stored.Closed (rolled_outcome (rolling_device self))))) }
         ensures taken { IfOk result (λ s. idle_device s ≡ applied (rolling_device self) (stored.Closed (rolled_outcome (rolling_device self)))) }
         ensures held { IfOk result (λ s. OwnsIdle D.is_modelled D.may_leave J.stands J.end s disk.new) }
         ensures others { IsTrue D.is_modelled → (name : List ℕ) → ¬ (J.files name) → D.seen disk.new name ≡ D.seen disk.old name }

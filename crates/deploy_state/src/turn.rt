@@ -72,7 +72,8 @@ fn put_next<J: Journal, D: Disk>(
     ensures put_end { OnOk result (J.put_end log.new ≡ place_behind (take (at + 1) (front_payloads number (device_view device.now)))) }
     ensures moments { (payloads : List (List ℕ)) → IsBehind D.may_leave J.stands log.old disk.old payloads →
         Leaves D.moment D.left_since disk.old disk.new (After (D.may_leave disk.old) (Within J.files (λ c. J.entries c payloads))) }
-    ensures stays { ¬ (IsErrOf result TurnFault.Disk) → (payloads : List (List ℕ)) → IsBehind D.may_leave J.stands log.old disk.old payloads → IsBehind D.may_leave J.stands log.new disk.new payloads }
+    ensures stays { ¬ (IsErrOf result TurnFault.Disk) → (payloads : List (List ℕ)) → IsBehind D.may_leave J.stands log.old disk.old payloads →
+        IsBehind D.may_leave J.stands log.new disk.new payloads }
     ensures same { (J.end log.new ≡ J.end log.old) × (J.number log.new ≡ J.number log.old) × (J.turns log.new ≡ J.turns log.old) }
     ensures others { IsTrue D.is_modelled → (name : List ℕ) → ¬ (J.files name) → D.seen disk.new name ≡ D.seen disk.old name }
     ensures cause { IsErrOf result TurnFault.Disk → Rose (D.faults disk.old) (D.faults disk.new) }
@@ -108,7 +109,8 @@ fn put_front<J: Journal, D: Disk>(
     ensures put_end { OnOk result (J.put_end log.new ≡ front_bytes number (device_view device.now)) }
     ensures moments { (payloads : List (List ℕ)) → IsBehind D.may_leave J.stands log.old disk.old payloads →
         Leaves D.moment D.left_since disk.old disk.new (After (D.may_leave disk.old) (Within J.files (λ c. J.entries c payloads))) }
-    ensures stays { ¬ (IsErrOf result TurnFault.Disk) → (payloads : List (List ℕ)) → IsBehind D.may_leave J.stands log.old disk.old payloads → IsBehind D.may_leave J.stands log.new disk.new payloads }
+    ensures stays { ¬ (IsErrOf result TurnFault.Disk) → (payloads : List (List ℕ)) → IsBehind D.may_leave J.stands log.old disk.old payloads →
+        IsBehind D.may_leave J.stands log.new disk.new payloads }
     ensures same { (J.end log.new ≡ J.end log.old) × (J.number log.new ≡ J.number log.old) × (J.turns log.new ≡ J.turns log.old) }
     ensures others { IsTrue D.is_modelled → (name : List ℕ) → ¬ (J.files name) → D.seen disk.new name ≡ D.seen disk.old name }
     ensures cause { IsErrOf result TurnFault.Disk → Rose (D.faults disk.old) (D.faults disk.new) }
@@ -137,7 +139,8 @@ pub(crate) fn turn<J: Journal, D: Disk>(
     ensures hand { ¬ (IsErrOf result TurnFault.Disk) → OwnsJournal D.is_modelled D.may_leave J.stands J.end log.new disk.new (device_view device.now) }
     ensures end { OnOk result (J.end log.new ≡ front_bytes (J.number log.old + 1) (device_view device.now)) }
     ensures number { OnOk result (J.number log.new ≡ J.number log.old + 1) }
-    ensures moments { Leaves D.moment D.left_since disk.old disk.new (After (D.may_leave disk.old) (Within J.files (λ c. StandsFor J.entries c (device_view device.now)))) }
+    ensures moments { Leaves D.moment D.left_since disk.old disk.new
+        (After (D.may_leave disk.old) (Within J.files (λ c. StandsFor J.entries c (device_view device.now)))) }
     ensures others { IsTrue D.is_modelled → (name : List ℕ) → ¬ (J.files name) → D.seen disk.new name ≡ D.seen disk.old name }
     ensures cause { IsErrOf result TurnFault.Disk → Rose (D.faults disk.old) (D.faults disk.new) }
     ensures quiet { ¬ (IsErrOf result TurnFault.Disk) → D.faults disk.new ≡ D.faults disk.old }

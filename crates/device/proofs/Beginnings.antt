@@ -34,7 +34,8 @@ no_turn_plays [] d turn plays = turn
 no_turn_plays (p ∷ ps) d turn plays = no_turn_taken no_device plays.0 p turn plays.1
 
 -- where records play up to a payload that is no turn, no turn stands first
-pub no_turn_before : (before : List (List ℕ)) (bad : List ℕ) (behind : List (List ℕ)) (d : Device) → IsNoTurnBehind before bad → BeginsWithTurn (before ++ bad ∷ behind) → Plays no_device before d → ⊥
+pub no_turn_before : (before : List (List ℕ)) (bad : List ℕ) (behind : List (List ℕ)) (d : Device) → IsNoTurnBehind before bad →
+    BeginsWithTurn (before ++ bad ∷ behind) → Plays no_device before d → ⊥
 no_turn_before [] bad behind d none turn plays = none turn
 no_turn_before (p ∷ before) bad behind d none turn plays = no_turn_taken no_device plays.0 p turn plays.1
 
@@ -64,7 +65,8 @@ front_long records d front =
     let c = length-map d.closed ended in
     omega (arith, whole, first, second, g, i, c)
 
-first_turn : (ps : List (List ℕ)) (r : Record) (rs records : List Record) (n : ℕ) (o : Origin) (g i c : ℕ) → records ≡ r ∷ rs → r ≡ Turned n o g i c → AllZip Spelled ps records → BeginsWithTurn ps
+first_turn : (ps : List (List ℕ)) (r : Record) (rs records : List Record) (n : ℕ) (o : Origin) (g i c : ℕ) → records ≡ r ∷ rs → r ≡ Turned n o g i c →
+    AllZip Spelled ps records → BeginsWithTurn ps
 first_turn [] r rs records n o g i c is first zip = absurd (subst (AllZip Spelled []) is zip)
 first_turn (p ∷ ps) r rs records n o g i c is first zip =
     let spelled = (subst (AllZip Spelled (p ∷ ps)) is zip).0 in
@@ -73,10 +75,12 @@ first_turn (p ∷ ps) r rs records n o g i c is first zip =
 pub front_turns : (ps : List (List ℕ)) (records : List Record) (d : Device) → AllZip Spelled ps records → IsFrontOf records d → BeginsWithTurn ps
 front_turns ps records d zip front =
     let h = heads records d front in
-    first_turn ps (Turned h.number h.origin (length d.groups) (length d.set) (length d.closed)) (stock_of d) records h.number h.origin (length d.groups) (length d.set) (length d.closed) h.is refl zip
+    first_turn ps (Turned h.number h.origin (length d.groups) (length d.set) (length d.closed)) (stock_of d) records h.number h.origin
+    (length d.groups) (length d.set) (length d.closed) h.is refl zip
 
 pub anew_turns : (ps : List (List ℕ)) (d : Device) → MeansAnew ps d → BeginsWithTurn ps
-anew_turns ps d anew = subst BeginsWithTurn (sym anew.split) (turn_stays anew.front anew.after (front_turns anew.front anew.records anew.begun anew.spelled anew.is))
+anew_turns ps d anew = subst BeginsWithTurn (sym anew.split)
+    (turn_stays anew.front anew.after (front_turns anew.front anew.records anew.begun anew.spelled anew.is))
 
 -- ---- payloads begin with one front
 
@@ -84,14 +88,18 @@ anew_turns ps d anew = subst BeginsWithTurn (sym anew.split) (turn_stays anew.fr
 same_first : (p : List ℕ) (r s : Record) → Spelled p r → Spelled p s → r ≡ s
 same_first p r s x y = one_record p r s x y
 
-as_long : (front other after more : List (List ℕ)) (records others : List Record) (d e : Device) → front ++ after ≡ other ++ more → AllZip Spelled front records → AllZip Spelled other others
+as_long : (front other after more : List (List ℕ)) (records others : List Record) (d e : Device) → front ++ after ≡ other ++ more →
+    AllZip Spelled front records → AllZip Spelled other others
     → IsFrontOf records d → IsFrontOf others e → length front ≡ length other
 as_long front other after more records others d e is x y a b =
-    by front other records others is x y (heads records d a) (heads others e b) (AllZip-long Spelled front records x) (AllZip-long Spelled other others y) (front_long records d a) (front_long others e b)
+    by front other records others is x y (heads records d a) (heads others e b) (AllZip-long Spelled front records x) (AllZip-long Spelled other others y)
+    (front_long records d a) (front_long others e b)
   where
-    by : (front other : List (List ℕ)) (records others : List Record) → front ++ after ≡ other ++ more → AllZip Spelled front records → AllZip Spelled other others → Heads records d → Heads others e
+    by : (front other : List (List ℕ)) (records others : List Record) → front ++ after ≡ other ++ more → AllZip Spelled front records →
+        AllZip Spelled other others → Heads records d → Heads others e
         → length records ≡ length front → length others ≡ length other
-        → length records ≡ 1 + length d.groups + length d.set + length d.closed → length others ≡ 1 + length e.groups + length e.set + length e.closed → length front ≡ length other
+        → length records ≡ 1 + length d.groups + length d.set + length d.closed → length others ≡ 1 + length e.groups + length e.set + length e.closed →
+        length front ≡ length other
     by [] other [] others is x y h k rl ol rc oc = absurd (omega (arith, rc))
     by [] other (r ∷ rs) others is x y h k rl ol rc oc = absurd x
     by (p ∷ ps) other [] others is x y h k rl ol rc oc = absurd x
@@ -103,7 +111,8 @@ as_long front other after more records others d e is x y a b =
         let same = same_first q r s (subst (λ (z : List ℕ). Spelled z r) head x.0) y.0 in
         let first = h.is in
         let second = k.is in
-        let turn : Turned h.number h.origin (length d.groups) (length d.set) (length d.closed) ≡ Turned k.number k.origin (length e.groups) (length e.set) (length e.closed) = cc in
+        let turn : Turned h.number h.origin (length d.groups) (length d.set) (length d.closed) ≡ Turned k.number k.origin
+        (length e.groups) (length e.set) (length e.closed) = cc in
         let g : length d.groups ≡ length e.groups = cc in
         let i : length d.set ≡ length e.set = cc in
         let c : length d.closed ≡ length e.closed = cc in

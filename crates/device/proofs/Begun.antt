@@ -55,7 +55,8 @@ pub has_first : (payloads : List (List ℕ)) (end : ℕ) → end ≡ place_behin
 has_first [] end is some = absurd (some is)
 has_first (p ∷ ps) end is some = record { first = p; others = ps; is = refl }
 
-pub first_at : {J Image : Type 0} (stands : J → Image → List (List ℕ) → Type 0) (log : J) (image : Image) (payloads : List (List ℕ)) (a : Ahead payloads) → stands log image payloads → IsEntryAt stands log image 0 a.first
+pub first_at : {J Image : Type 0} (stands : J → Image → List (List ℕ) → Type 0) (log : J) (image : Image) (payloads : List (List ℕ)) (a : Ahead payloads) →
+    stands log image payloads → IsEntryAt stands log image 0 a.first
 first_at stands log image payloads a on = record { before = []; after = a.others; on = subst (stands log image) a.is on; at_is = refl }
 
 -- ---- a front
@@ -64,18 +65,45 @@ no_turn_behind : (done : List (List ℕ)) (p : List ℕ) → BeginsWithTurn done
 no_turn_behind [] p turn = absurd turn
 no_turn_behind (q ∷ done) p turn = tt
 
-pub begins_anew : (payloads : List (List ℕ)) (a : Ahead payloads) → IsTurn a.first → (result : Result (code.Device × ℕ) ReplayFault) → TookFront payloads result → BegunAt payloads result
+pub begins_anew : (payloads : List (List ℕ)) (a : Ahead payloads) → IsTurn a.first → (result : Result (code.Device × ℕ) ReplayFault) →
+    TookFront payloads result → BegunAt payloads result
 begins_anew payloads a turn (Ok r) took = record {
   front = took.front;
   after = took.after;
   split = took.split;
   place = took.place;
-  means = inr (record { front = took.front; after = []; split = sym (append-nil took.front); records = took.records; spelled = took.spelled; begun = device_view r.0; is = took.is; plays = refl });
+  means = inr (record {
+    front = took.front;
+    after = [];
+    split = sym (append-nil took.front);
+    records = took.records;
+    spelled = took.spelled;
+    begun =
+        device_view r.0;
+    is = took.is;
+    plays = refl;
+  });
   no_turn = λ p ps first. no_turn_behind took.front p (front_turns took.front took.records (device_view r.0) took.spelled took.is);
 }
 begins_anew payloads a turn (Err fault.Disk) took = tt
-begins_anew payloads a turn (Err (fault.Damaged at)) took = record { first = a.first; others = a.others; split = a.is; turn = turn; none = took.1; place = took.0 }
+begins_anew payloads a turn (Err (fault.Damaged at)) took = record {
+  first = a.first;
+  others = a.others;
+  split = a.is;
+  turn = turn;
+  none = took.1;
+  place =
+      took.0;
+}
 begins_anew payloads a turn (Err fault.NoMemory) took = tt
 
 pub first_lacks : (payloads : List (List ℕ)) (a : Ahead payloads) (r : Record) → IsTurn a.first → Spelled a.first r → (Begins r → ⊥) → LacksFrontAt payloads 0
-first_lacks payloads a r turn spelled bad = record { first = a.first; others = a.others; split = a.is; turn = turn; none = stops_first payloads a.others a.first r a.is spelled bad; place = refl }
+first_lacks payloads a r turn spelled bad = record {
+  first = a.first;
+  others = a.others;
+  split = a.is;
+  turn = turn;
+  none =
+      stops_first payloads a.others a.first r a.is spelled bad;
+  place = refl;
+}

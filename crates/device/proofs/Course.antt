@@ -6,7 +6,8 @@ use Rattle.nuc_base.specs.declared.kinds.Outcome.{Outcome}
 use Rattle.records.specs.Stored.{Item, Plan, Record, BootBegun, BootEnded, Activating, StepFailed, Failing, FailingBack, Closed}
 use Rattle.device.specs.After.{course, closing, course_after, After}
 use Rattle.device.specs.Devices.{Device, Pending}
-use Rattle.device.specs.Lawful.{applied, on_pending, close_pending, boot_ended, moved_on, has_gone_back, one_ended, goes_on, count_failure, failing_place, begun, activated, rolled, turned_back, counted, Run}
+use Rattle.device.specs.Lawful.{applied, on_pending, close_pending, boot_ended, moved_on, has_gone_back, one_ended, goes_on, count_failure, failing_place}
+use Rattle.device.specs.Lawful.{begun, activated, rolled, turned_back, counted, Run}
 
 moved_plan : (q : Pending) → (moved_on q).plan ≡ q.plan
 moved_plan q = by (has_gone_back (one_ended q))

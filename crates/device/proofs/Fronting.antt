@@ -1,5 +1,6 @@
 -- A device is rebuilt from the records of its front, and from no others.
-use Rattle.std.proofs.Common.{◌≡◌, ◌⊎◌, inl, inr, ℕ, zero, suc, ◌+◌, ◌-◌, ◌<◌, ◌≤◌, Bool, true, false, List, [], ◌∷◌, ◌++◌, length, map, Option, Some, None, refl, sym, ap, subst, ◌∙◌, append_assoc, arith}
+use Rattle.std.proofs.Common.{◌≡◌, ◌⊎◌, inl, inr, ℕ, zero, suc, ◌+◌, ◌-◌, ◌<◌, ◌≤◌, Bool, true, false, List, [], ◌∷◌, ◌++◌, length, map, Option, Some, None}
+use Rattle.std.proofs.Common.{refl, sym, ap, subst, ◌∙◌, append_assoc, arith}
 use Rattle.std.specs.Prelude.{◌||◌}
 use Rattle.std.specs.Option.{IsSome, IfSome}
 use Rattle.std.specs.List.{AllByRecursion, IsDistinct}
@@ -31,7 +32,8 @@ pub joins_new : (gs : List Group) (g : Group) → has_group g.arn gs ≡ false �
 joins_new [] g none = refl
 joins_new (h ∷ gs) g none = by (bytes_eq g.arn h.arn) refl none (joins_new gs g)
   where
-    by : (b : Bool) → bytes_eq g.arn h.arn ≡ b → (b || has_group g.arn gs) ≡ false → (has_group g.arn gs ≡ false → put_group gs g ≡ gs ++ g ∷ []) → put_group (h ∷ gs) g ≡ h ∷ (gs ++ g ∷ [])
+    by : (b : Bool) → bytes_eq g.arn h.arn ≡ b → (b || has_group g.arn gs) ≡ false → (has_group g.arn gs ≡ false → put_group gs g ≡ gs ++ g ∷ []) →
+        put_group (h ∷ gs) g ≡ h ∷ (gs ++ g ∷ [])
     by true is none rest = absurd (false≢true (sym none))
     by false is none rest = rw is (ap (λ (l : List Group). h ∷ l) (rest none))
 
@@ -39,17 +41,20 @@ others : (arn : List ℕ) (gs : List Group) → has_group arn gs ≡ false → A
 others arn [] none = tt
 others arn (g ∷ gs) none = by (bytes_eq arn g.arn) refl none (others arn gs)
   where
-    by : (b : Bool) → bytes_eq arn g.arn ≡ b → (b || has_group arn gs) ≡ false → (has_group arn gs ≡ false → AllByRecursion (λ y. bytes_eq y arn ≡ false) (arns gs))
+    by : (b : Bool) → bytes_eq arn g.arn ≡ b → (b || has_group arn gs) ≡ false →
+        (has_group arn gs ≡ false → AllByRecursion (λ y. bytes_eq y arn ≡ false) (arns gs))
         → (bytes_eq g.arn arn ≡ false) × AllByRecursion (λ y. bytes_eq y arn ≡ false) (arns gs)
     by true is none rest = absurd (false≢true (sym none))
     by false is none rest = (not_same arn g.arn is, rest none)
 
-groups_more : (gs : List Group) (g : Group) → length gs < most_groups → has_group g.arn gs ≡ false → AreRequirements g.requirements → AreGroups gs → AreGroups (gs ++ g ∷ [])
+groups_more : (gs : List Group) (g : Group) → length gs < most_groups → has_group g.arn gs ≡ false → AreRequirements g.requirements → AreGroups gs →
+    AreGroups (gs ++ g ∷ [])
 groups_more gs g lt new asks are =
     let more = length-append gs (g ∷ []) in
     record {
       few = omega (arith, more, lt);
-      differ = subst (IsDistinct bytes_eq) (sym (map-append (λ (x : Group). x.arn) gs (g ∷ []))) (distinct_more (arns gs) g.arn (others g.arn gs new) are.differ);
+      differ = subst (IsDistinct bytes_eq) (sym (map-append (λ (x : Group). x.arn) gs (g ∷ [])))
+          (distinct_more (arns gs) g.arn (others g.arn gs new) are.differ);
       requirements = all_more (λ (x : Group). AreRequirements x.requirements) gs g are.requirements asks;
     }
 
@@ -62,15 +67,20 @@ all_behind P [] x ys h = h.0
 all_behind P (y ∷ xs) x ys h = all_behind P xs x ys h.1
 
 -- a group behind others that differ
-new_group : (all gs : List Group) (g : Group) (more : List Group) → all ≡ gs ++ g ∷ more → AreGroups all → (has_group g.arn gs ≡ false) × AreRequirements g.requirements
+new_group : (all gs : List Group) (g : Group) (more : List Group) → all ≡ gs ++ g ∷ more → AreGroups all → (has_group g.arn gs ≡ false) ×
+    AreRequirements g.requirements
 new_group all gs g more is are = (
-  not_there g.arn gs (none_before (arns gs) g.arn (arns more) (subst (IsDistinct bytes_eq) (ap arns is ∙ map-append (λ (x : Group). x.arn) gs (g ∷ more)) are.differ)),
-  all_behind (λ (x : Group). AreRequirements x.requirements) gs g more (subst (AllByRecursion (λ (x : Group). AreRequirements x.requirements)) is are.requirements),
+  not_there g.arn gs (none_before (arns gs) g.arn (arns more) (subst (IsDistinct bytes_eq) (ap arns is ∙ map-append (λ (x : Group). x.arn) gs (g ∷ more))
+      are.differ)),
+  all_behind (λ (x : Group). AreRequirements x.requirements) gs g more
+      (subst (AllByRecursion (λ (x : Group). AreRequirements x.requirements)) is are.requirements),
 )
 
-new_closed : (all es : List (List ℕ × Outcome)) (e : List ℕ × Outcome) (more : List (List ℕ × Outcome)) → all ≡ es ++ e ∷ more → AreClosed all → lookup (bytes_eq e.0) es ≡ None
+new_closed : (all es : List (List ℕ × Outcome)) (e : List ℕ × Outcome) (more : List (List ℕ × Outcome)) → all ≡ es ++ e ∷ more → AreClosed all →
+    lookup (bytes_eq e.0) es ≡ None
 new_closed all es e more is are =
-    fresh e.0 es (none_before (ids es) e.0 (ids more) (subst (IsDistinct bytes_eq) (ap ids is ∙ map-append (λ (x : List ℕ × Outcome). x.0) es (e ∷ more)) are.differ))
+    fresh e.0 es (none_before (ids es) e.0 (ids more) (subst (IsDistinct bytes_eq) (ap ids is ∙ map-append (λ (x : List ℕ × Outcome). x.0) es (e ∷ more))
+    are.differ))
 
 -- ---- what holds all along
 
@@ -111,7 +121,8 @@ next_orderly (Kept i) b regular are comes =
       few_groups = are.few_groups;
       few_items = omega (arith, lt, few, more);
       few_closed = are.few_closed;
-      regular = All-append (λ (x : Item). IsRegular x.config) b.set (i ∷ []) are.regular (All-from_recursion (λ (x : Item). IsRegular x.config) (i ∷ []) (regular, tt));
+      regular = All-append (λ (x : Item). IsRegular x.config) b.set (i ∷ []) are.regular
+          (All-from_recursion (λ (x : Item). IsRegular x.config) (i ∷ []) (regular, tt));
     }
 next_orderly (Ended id o) b regular are comes =
     let lt = comes.2 in
@@ -142,7 +153,8 @@ begins_built (Turned n o groups items closed) b begins is =
 begins_built _ b begins is = absurd begins
 
 -- the records with one more are these, where counts and stock are
-told_more : (records : List Record) (r turned : Record) (stock more : List Record) → records ≡ turned ∷ stock → stock ++ r ∷ [] ≡ more → records ++ r ∷ [] ≡ turned ∷ more
+told_more : (records : List Record) (r turned : Record) (stock more : List Record) → records ≡ turned ∷ stock → stock ++ r ∷ [] ≡ more →
+    records ++ r ∷ [] ≡ turned ∷ more
 told_more records r turned stock more is same = ap (λ (l : List Record). l ++ r ∷ []) is ∙ ap (λ (l : List Record). turned ∷ l) same
 
 nothing_later : (set : List Item) (closed : List (List ℕ × Outcome)) → set ≡ [] → closed ≡ [] → map Kept set ++ map ended closed ≡ []
@@ -161,7 +173,8 @@ next_built records b (Grouped g) built comes =
           (Turned built.number b.origin (length b.groups + b.groups_to_come) (length b.set + b.items_to_come) (length b.closed + b.closed_to_come))
           (stock_of (device_of b)) (stock_of (device_of (with_next b (Grouped g)))) built.told
           (at_end Grouped b.groups g (map Kept b.set ++ map ended b.closed) (nothing_later b.set b.closed no_items no_closed))
-          ∙ ap (λ (n : ℕ). Turned built.number b.origin n (length b.set + b.items_to_come) (length b.closed + b.closed_to_come) ∷ stock_of (device_of (with_next b (Grouped g)))) count;
+          ∙ ap (λ (n : ℕ). Turned built.number b.origin n (length b.set + b.items_to_come) (length b.closed + b.closed_to_come) ∷
+          stock_of (device_of (with_next b (Grouped g)))) count;
       items_later = λ (later : 0 < b.groups_to_come - 1). no_items;
       closed_later = λ (later : 0 < (b.groups_to_come - 1) + b.items_to_come). no_closed;
     }
@@ -178,7 +191,8 @@ next_built records b (Kept i) built comes =
           (stock_of (device_of b)) (stock_of (device_of (with_next b (Kept i)))) built.told
           (append_assoc (map Grouped b.groups) (map Kept b.set ++ map ended b.closed) (Kept i ∷ [])
           ∙ ap (λ (l : List Record). map Grouped b.groups ++ l) (at_end Kept b.set i (map ended b.closed) (ap (map ended) no_closed)))
-          ∙ ap (λ (n : ℕ). Turned built.number b.origin (length b.groups + b.groups_to_come) n (length b.closed + b.closed_to_come) ∷ stock_of (device_of (with_next b (Kept i)))) count;
+          ∙ ap (λ (n : ℕ). Turned built.number b.origin (length b.groups + b.groups_to_come) n (length b.closed + b.closed_to_come) ∷
+          stock_of (device_of (with_next b (Kept i)))) count;
       items_later = λ (later : 0 < b.groups_to_come). absurd (omega (arith, later, none));
       closed_later = λ (later : 0 < b.groups_to_come + (b.items_to_come - 1)). no_closed;
     }
@@ -195,14 +209,17 @@ next_built records b (Ended id o) built comes =
           (stock_of (device_of b)) (stock_of (device_of (with_next b (Ended id o)))) built.told
           (append_assoc (map Grouped b.groups) (map Kept b.set ++ map ended b.closed) (Ended id o ∷ [])
           ∙ ap (λ (l : List Record). map Grouped b.groups ++ l)
-          (append_assoc (map Kept b.set) (map ended b.closed) (Ended id o ∷ []) ∙ ap (λ (l : List Record). map Kept b.set ++ l) (sym (map-append ended b.closed ((id, o) ∷ [])))))
-          ∙ ap (λ (n : ℕ). Turned built.number b.origin (length b.groups + b.groups_to_come) (length b.set + b.items_to_come) n ∷ stock_of (device_of (with_next b (Ended id o)))) count;
+          (append_assoc (map Kept b.set) (map ended b.closed) (Ended id o ∷ []) ∙ ap (λ (l : List Record). map Kept b.set ++ l)
+          (sym (map-append ended b.closed ((id, o) ∷ [])))))
+          ∙ ap (λ (n : ℕ). Turned built.number b.origin (length b.groups + b.groups_to_come) (length b.set + b.items_to_come) n ∷
+          stock_of (device_of (with_next b (Ended id o)))) count;
       items_later = λ (later : 0 < b.groups_to_come). absurd (omega (arith, later, none));
       closed_later = λ (later : 0 < b.groups_to_come + b.items_to_come). absurd (omega (arith, later, none, nothing));
     }
 next_built records b _ built comes = absurd comes
 
-pub built_more : (records : List Record) (r : Record) (old new : Building) → IsBuilt records old → Comes old r → new ≡ with_next old r → IsBuilt (records ++ r ∷ []) new
+pub built_more : (records : List Record) (r : Record) (old new : Building) → IsBuilt records old → Comes old r → new ≡ with_next old r →
+    IsBuilt (records ++ r ∷ []) new
 built_more records r old new built comes is = subst (IsBuilt (records ++ r ∷ [])) (sym is) (next_built records old r built comes)
 
 -- ---- a front that begins with the records that were told
@@ -222,7 +239,8 @@ agrees records rest b d built front = by d.origin refl front.has.origin front.is
     by : (o : Option Origin) → d.origin ≡ o → IsSome o → records ++ rest ≡ front_by front.number d o → Agrees b d rest
     by None is some same = absurd cc
     by (Some o) is some same =
-        let whole : Turned built.number b.origin (length b.groups + b.groups_to_come) (length b.set + b.items_to_come) (length b.closed + b.closed_to_come) ∷ (stock_of (device_of b) ++ rest)
+        let whole : Turned built.number b.origin (length b.groups + b.groups_to_come) (length b.set + b.items_to_come) (length b.closed + b.closed_to_come) ∷
+        (stock_of (device_of b) ++ rest)
         ≡ Turned front.number o (length d.groups) (length d.set) (length d.closed) ∷ stock_of d = sym (ap (λ (l : List Record). l ++ rest) built.told) ∙ same in
         let origin : o ≡ b.origin = cc in
         let stock : stock_of d ≡ stock_of (device_of b) ++ rest = cc in
@@ -245,21 +263,30 @@ module _ (b : Building) (d : Device) (rest : List Record) (a : Agrees b d rest) 
   next_group : 0 < b.groups_to_come → b.set ≡ [] → b.closed ≡ [] → Beyond Grouped b.groups d.groups (map Kept d.set ++ map ended d.closed) rest
   next_group lt no_items no_closed =
       let count = a.groups in
-      let next = beyond Grouped one_group b.groups d.groups (map Kept d.set ++ map ended d.closed) (map Kept b.set ++ (map ended b.closed ++ rest)) (omega (arith, count, lt)) a.stock in
-      let behind : map Kept b.set ++ (map ended b.closed ++ rest) ≡ rest = ap (λ (s : List Item). map Kept s ++ (map ended b.closed ++ rest)) no_items ∙ ap (λ (c : List (List ℕ × Outcome)). map ended c ++ rest) no_closed in
+      let next = beyond Grouped one_group b.groups d.groups (map Kept d.set ++ map ended d.closed) (map Kept b.set ++ (map ended b.closed ++ rest))
+      (omega (arith, count, lt)) a.stock in
+      let behind : map Kept b.set ++ (map ended b.closed ++ rest) ≡ rest = ap (λ (s : List Item). map Kept s ++ (map ended b.closed ++ rest)) no_items ∙ ap
+      (λ (c : List (List ℕ × Outcome)). map ended c ++ rest) no_closed in
       record { element = next.element; more = next.more; split = next.split; rest = sym behind ∙ next.rest }
 
   -- the groups came
   groups_came : b.groups_to_come ≡ 0 → (d.groups ≡ b.groups) × (map Kept d.set ++ map ended d.closed ≡ map Kept b.set ++ (map ended b.closed ++ rest))
   groups_came none =
       let count = a.groups in
-      alike Grouped one_group b.groups d.groups (map Kept d.set ++ map ended d.closed) (map Kept b.set ++ (map ended b.closed ++ rest)) (omega (arith, count, none)) a.stock
+      alike Grouped one_group b.groups d.groups (map Kept d.set ++ map ended d.closed) (map Kept b.set ++ (map ended b.closed ++ rest))
+      (omega (arith, count, none)) a.stock
 
   next_item : b.groups_to_come ≡ 0 → 0 < b.items_to_come → b.closed ≡ [] → Beyond Kept b.set d.set (map ended d.closed) rest
   next_item none lt no_closed =
       let count = a.items in
       let next = beyond Kept one_item b.set d.set (map ended d.closed) (map ended b.closed ++ rest) (omega (arith, count, lt)) (groups_came none).1 in
-      record { element = next.element; more = next.more; split = next.split; rest = sym (ap (λ (c : List (List ℕ × Outcome)). map ended c ++ rest) no_closed) ∙ next.rest }
+      record {
+        element = next.element;
+        more = next.more;
+        split = next.split;
+        rest = sym (ap (λ (c : List (List ℕ × Outcome)). map ended c ++ rest) no_closed)
+            ∙ next.rest;
+      }
 
   items_came : b.groups_to_come ≡ 0 → b.items_to_come ≡ 0 → (d.set ≡ b.set) × (map ended d.closed ++ [] ≡ map ended b.closed ++ rest)
   items_came none nothing =
@@ -348,7 +375,8 @@ is_whole records b d built front =
       no_groups = none;
       no_items = nothing;
       no_closed = no_more;
-      items = subst (AreItems b.origin.platform) (items_came b d [] a none nothing).0 (subst (λ (o : Option Origin). AreItemsFor o d.set) a.origin a.has.sound.set);
+      items = subst (AreItems b.origin.platform) (items_came b d [] a none nothing).0 (subst (λ (o : Option Origin). AreItemsFor o d.set) a.origin
+          a.has.sound.set);
     }
   where
     whole : IsFrontOf (records ++ []) d
@@ -411,7 +439,14 @@ one_front records d e x y = by d.origin refl x.has.origin x.is
         let g : length d.groups + 0 ≡ length d.groups = omega arith in
         let i : length d.set + 0 ≡ length d.set = omega arith in
         let c : length d.closed + 0 ≡ length d.closed = omega arith in
-        let b : Building = record { origin = o; groups = d.groups; set = d.set; closed = d.closed; groups_to_come = 0; items_to_come = 0; closed_to_come = 0 } in
-        let built : IsBuilt records b = record { number = x.number; told = cc; items_later = λ lt. absurd (omega (arith, lt)); closed_later = λ lt. absurd (omega (arith, lt)) } in
+        let b : Building = record { origin = o; groups = d.groups; set = d.set; closed = d.closed; groups_to_come = 0; items_to_come = 0; closed_to_come = 0 }
+        in
+        let built : IsBuilt records b = record {
+          number = x.number;
+          told = cc;
+          items_later = λ lt. absurd (omega (arith, lt));
+          closed_later =
+              λ lt. absurd (omega (arith, lt));
+        } in
         let all = is_all records [] b e built (subst (λ (l : List Record). IsFrontOf l e) (sym (append-nil records)) y) refl refl refl in
         same_fields d.origin (Some o) d.groups d.groups d.set d.set d.closed d.closed d.pending None is refl refl refl x.has.idle ∙ sym all.1

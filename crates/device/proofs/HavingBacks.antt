@@ -23,7 +23,8 @@ is_readable platform (i ∷ items) n h = by (bytes_eq n i.name) (is_readable pla
     by true rest = (h.0.0, h.0.1.reads)
     by false rest = rest
 
-are_readable : (platform : Platform) (items : List Item) (names : List (List ℕ)) → AllByRecursion (HasRecipe platform) items → AllByRecursion (IsReadable platform items) names
+are_readable : (platform : Platform) (items : List Item) (names : List (List ℕ)) → AllByRecursion (HasRecipe platform) items →
+    AllByRecursion (IsReadable platform items) names
 are_readable platform items [] h = tt
 are_readable platform items (n ∷ names) h = (is_readable platform items n h, are_readable platform items names h)
 
@@ -31,7 +32,8 @@ abbrev Some-backs : Option Origin → List Item → Pending → Type 0
 Some-backs origin set q = backs origin set q.plan (reach_of q) ≡ [] → ⊥
 
 -- with an origin, the chosen are the backs, and all boots are readable
-pub told_by : (origin : Option Origin) (set : List Item) (q : Pending) (flags : List Bool) (b : Bool) → AreItemsFor origin set → IsPlanFor origin q.plan → IfSome origin (FlagBacks set q.plan.boots flags)
+pub told_by : (origin : Option Origin) (set : List Item) (q : Pending) (flags : List Bool) (b : Bool) → AreItemsFor origin set → IsPlanFor origin q.plan →
+    IfSome origin (FlagBacks set q.plan.boots flags)
     → IsTrue b ↔ (chosen flags (take (reach_of q) q.plan.boots) ≡ [] → ⊥)
     → (IsTrue b ↔ Some-backs origin set q) × (IsTrue b ↔ IsSomeAnd origin (HasBacks set q))
 told_by None set q flags b items plan spared told = absurd plan

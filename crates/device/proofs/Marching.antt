@@ -1,5 +1,6 @@
 -- A walk over the journal's entries.
-use Rattle.std.proofs.Common.{◌≡◌, ◌≢◌, ℕ, ◌+◌, ◌≤◌, ◌<◌, Bool, true, false, List, [], ◌∷◌, ◌++◌, length, Option, Some, None, refl, sym, ap, subst, ◌∙◌, append_assoc, arith, is_some, inl, inr, Err}
+use Rattle.std.proofs.Common.{◌≡◌, ◌≢◌, ℕ, ◌+◌, ◌≤◌, ◌<◌, Bool, true, false, List, [], ◌∷◌, ◌++◌, length, Option, Some, None, refl, sym, ap, subst, ◌∙◌}
+use Rattle.std.proofs.Common.{append_assoc, arith, is_some, inl, inr, Err}
 use Rattle.std.specs.Prelude.{if◌then◌else◌, option_map, ◌&&◌, nat_lt}
 use Rattle.std.proofs.lemmas.Bool.{ltb-true, ltb-false}
 use Rattle.std.specs.Option.{IfSome, IsSome, IsSomeAnd}
@@ -18,7 +19,8 @@ use Rattle.device.specs.declared.fault.ReplayFault.TheVariants as fault
 use Rattle.device.specs.Devices.{Device, Pending, no_device, device_view, pending_view}
 use Rattle.records.specs.declared.record.Origin.{Origin}
 use Rattle.device.specs.Lawful.{Allowed, applied, MayAccept, MayBegin, MayEnd, MayActivate, MayFail, MayBreak, MayGoBack, MayClose}
-use Rattle.device.specs.Standing.{Takes, Plays, Means, IsNoTurnBehind, SpellsNoPlan, IsBehindAccepted, IsBadAt, LacksRoomAt, IsDamagedAt, Room, Replayed, TookEntry, BeginsAt, BegunAt}
+use Rattle.device.specs.Standing.{Takes, Plays, Means, IsNoTurnBehind, SpellsNoPlan, IsBehindAccepted, IsBadAt, LacksRoomAt, IsDamagedAt, Room, Replayed}
+use Rattle.device.specs.Standing.{TookEntry, BeginsAt, BegunAt}
 use Rattle.device.specs.Limits.{room_of_plan}
 
 -- the walk is at this place, d is the device there, and behind its pending plan's entry is this place
@@ -37,7 +39,8 @@ idle_behind done behind None is = tt
 idle_behind done behind (Some q) is = absurd cc
 
 -- at the beginning, where no plan is pending
-pub starts : (payloads : List (List ℕ)) (end at behind : ℕ) (d : Device) → end ≡ place_behind payloads → d.pending ≡ None → BeginsAt payloads d at → Reached payloads end at behind d
+pub starts : (payloads : List (List ℕ)) (end at behind : ℕ) (d : Device) → end ≡ place_behind payloads → d.pending ≡ None → BeginsAt payloads d at →
+    Reached payloads end at behind d
 starts payloads end at behind d is idle begins = record {
   done = begins.front;
   rest = begins.after;
@@ -67,9 +70,16 @@ next payloads end at behind d r lt = by r.rest r.split
     by (p ∷ ps) split = record { first = p; others = ps; split = split }
 
 -- it is an entry of any journal that stands behind these payloads
-pub entry_at : {J Image : Type 0} (stands : J → Image → List (List ℕ) → Type 0) (log : J) (image : Image) (payloads : List (List ℕ)) (end at behind : ℕ) (d : Device) (r : Reached payloads end at behind d) (n : Next payloads r.done)
+pub entry_at : {J Image : Type 0} (stands : J → Image → List (List ℕ) → Type 0) (log : J) (image : Image) (payloads : List (List ℕ)) (end at behind : ℕ)
+    (d : Device) (r : Reached payloads end at behind d) (n : Next payloads r.done)
     → stands log image payloads → IsEntryAt stands log image at n.first
-entry_at stands log image payloads end at behind d r n on = record { before = r.done; after = n.others; on = subst (stands log image) n.split on; at_is = r.at_is }
+entry_at stands log image payloads end at behind d r n on = record {
+  before = r.done;
+  after = n.others;
+  on = subst (stands log image) n.split on;
+  at_is =
+      r.at_is;
+}
 
 plays_more : (ps : List (List ℕ)) (p : List ℕ) (d c e : Device) → Plays d ps c → Takes c p e → Plays d (ps ++ p ∷ []) e
 plays_more [] p d c e h t = (e, subst (λ x. Takes x p e) h t, refl)
@@ -114,7 +124,8 @@ still_behind done p behind none b = record {
   place = b.place;
 }
 
-now_behind : (done : List (List ℕ)) (p : List ℕ) (to : ℕ) (plan : Plan) → Spelled p (Accepted plan) → to ≡ place_behind (done ++ p ∷ []) → IsBehindAccepted (done ++ p ∷ []) to
+now_behind : (done : List (List ℕ)) (p : List ℕ) (to : ℕ) (plan : Plan) → Spelled p (Accepted plan) → to ≡ place_behind (done ++ p ∷ []) →
+    IsBehindAccepted (done ++ p ∷ []) to
 now_behind done p to plan spelled is = record { before = done; payload = p; after = []; split = refl; plan = plan; spelled = spelled; last = tt; place = is }
 
 if_some : {A P : Type 0} (o : Option A) → P → IfSome o (λ _. P)
@@ -133,9 +144,11 @@ nothing P None is h = h
 nothing P (Some x) is h = absurd cc
 
 -- a record that is taken with nothing pending, and leaves a plan pending, is its Accepted
-first_behind : (done : List (List ℕ)) (p : List ℕ) (to : ℕ) (d : Device) (r : Record) → d.pending ≡ None → Spelled p r → Allowed d r → to ≡ place_behind (done ++ p ∷ [])
+first_behind : (done : List (List ℕ)) (p : List ℕ) (to : ℕ) (d : Device) (r : Record) → d.pending ≡ None → Spelled p r → Allowed d r →
+    to ≡ place_behind (done ++ p ∷ [])
     → IfSome (applied d r).pending (λ q. IsBehindAccepted (done ++ p ∷ []) to)
-first_behind done p to d (Genesis o) none spelled allowed is = subst (λ (x : Option Pending). IfSome x (λ q. IsBehindAccepted (done ++ p ∷ []) to)) (sym none) tt
+first_behind done p to d (Genesis o) none spelled allowed is = subst (λ (x : Option Pending). IfSome x (λ q. IsBehindAccepted (done ++ p ∷ []) to))
+    (sym none) tt
 first_behind done p to d (Accepted plan) none spelled allowed is = now_behind done p to plan spelled is
 first_behind done p to d (BootBegun n) none spelled allowed is = absurd (nothing (MayBegin n) d.pending none allowed)
 first_behind done p to d (BootEnded n e) none spelled allowed is = absurd (nothing (MayEnd n) d.pending none allowed)
@@ -151,19 +164,24 @@ may_accept_alone d p None h = absurd h
 may_accept_alone d p (Some o) h = h.0.0
 
 -- a record that is taken with a plan pending is no Accepted
-later_behind : (done : List (List ℕ)) (p : List ℕ) (behind : ℕ) (d : Device) (r : Record) → d.pending ≢ None → Spelled p r → Allowed d r → IsBehindAccepted done behind
+later_behind : (done : List (List ℕ)) (p : List ℕ) (behind : ℕ) (d : Device) (r : Record) → d.pending ≢ None → Spelled p r → Allowed d r →
+    IsBehindAccepted done behind
     → IsBehindAccepted (done ++ p ∷ []) behind
 later_behind done p behind d (Accepted plan) some spelled allowed is = absurd (some (may_accept_alone d plan d.origin allowed))
 later_behind done p behind d r some spelled allowed is = still_behind done p behind (spells_none p r spelled refl) is
 
-behind_goes_on : (done : List (List ℕ)) (p : List ℕ) (behind to : ℕ) (d c : Device) → Takes d p c → to ≡ place_behind (done ++ p ∷ []) → IfSome d.pending (λ q. IsBehindAccepted done behind)
+behind_goes_on : (done : List (List ℕ)) (p : List ℕ) (behind to : ℕ) (d c : Device) → Takes d p c → to ≡ place_behind (done ++ p ∷ []) →
+    IfSome d.pending (λ q. IsBehindAccepted done behind)
     → IfSome c.pending (λ q. IsBehindAccepted (done ++ p ∷ []) (if is_some d.pending then behind else to))
 behind_goes_on done p behind to d c t is h =
-    subst (λ (x : Device). IfSome x.pending (λ q. IsBehindAccepted (done ++ p ∷ []) (if is_some d.pending then behind else to))) (sym t.lawful.leaves) (by d.pending refl h)
+    subst (λ (x : Device). IfSome x.pending (λ q. IsBehindAccepted (done ++ p ∷ []) (if is_some d.pending then behind else to))) (sym t.lawful.leaves)
+    (by d.pending refl h)
   where
-    by : (o : Option Pending) → d.pending ≡ o → IfSome o (λ q. IsBehindAccepted done behind) → IfSome (applied d t.entry).pending (λ q. IsBehindAccepted (done ++ p ∷ []) (if is_some o then behind else to))
+    by : (o : Option Pending) → d.pending ≡ o → IfSome o (λ q. IsBehindAccepted done behind) →
+        IfSome (applied d t.entry).pending (λ q. IsBehindAccepted (done ++ p ∷ []) (if is_some o then behind else to))
     by None none h = first_behind done p to d t.entry none t.spelled t.lawful.allowed is
-    by (Some q) some h = if_some (applied d t.entry).pending (later_behind done p behind d t.entry (λ none. let both : None ≡ Some q = sym none ∙ some in none-some q both) t.spelled t.lawful.allowed h)
+    by (Some q) some h = if_some (applied d t.entry).pending
+        (later_behind done p behind d t.entry (λ none. let both : None ≡ Some q = sym none ∙ some in none-some q both) t.spelled t.lawful.allowed h)
 
 -- ---- the walk
 
@@ -213,15 +231,18 @@ ended payloads end at behind d r le = by r.rest r.split
         }
     by (p ∷ ps) split = let same = ap place_behind split in absurd (omega (arith, le, r.at_is, r.end_is, same, place_on r.done (p ∷ ps)))
 
-is_all : (payloads : List (List ℕ)) (end at behind : ℕ) (d : Device) → Reached payloads end at behind d → end ≤ at → (IsSome d.pending → behind + room_of_plan ≤ most_file)
+is_all : (payloads : List (List ℕ)) (end at behind : ℕ) (d : Device) → Reached payloads end at behind d → end ≤ at →
+    (IsSome d.pending → behind + room_of_plan ≤ most_file)
     → Means payloads d × Room payloads d
 is_all payloads end at behind d r le room = let e = ended payloads end at behind d r le in (e.means, by d.pending e.behind_is room)
   where
-    by : (o : Option Pending) → IfSome o (λ q. IsBehindAccepted payloads behind) → (IsSome o → behind + room_of_plan ≤ most_file) → IfSome o (λ q. (at : ℕ) × IsBehindAccepted payloads at × (at + room_of_plan ≤ most_file))
+    by : (o : Option Pending) → IfSome o (λ q. IsBehindAccepted payloads behind) → (IsSome o → behind + room_of_plan ≤ most_file) →
+        IfSome o (λ q. (at : ℕ) × IsBehindAccepted payloads at × (at + room_of_plan ≤ most_file))
     by None is room = tt
     by (Some q) is room = (behind, is, room refl)
 
-lacks_room : (payloads : List (List ℕ)) (end at behind : ℕ) (d : Device) → Reached payloads end at behind d → end ≤ at → IsSome d.pending → most_file < behind + room_of_plan → LacksRoomAt payloads behind
+lacks_room : (payloads : List (List ℕ)) (end at behind : ℕ) (d : Device) → Reached payloads end at behind d → end ≤ at → IsSome d.pending →
+    most_file < behind + room_of_plan → LacksRoomAt payloads behind
 lacks_room payloads end at behind d r le some lacks =
     let e = ended payloads end at behind d r le in
     record { reached = d; means = e.means; pending = some; behind = by d.pending some e.behind_is; lacks = lacks }
@@ -236,17 +257,22 @@ shown : (o : Option code_pending.Pending) → is_some (option_map pending_view o
 shown None = refl
 shown (Some q) = refl
 
-pub first_on : (payloads : List (List ℕ)) (end at behind to : ℕ) (device : code.Device) (c : Device) (r : Reached payloads end at behind (device_view device)) (n : Next payloads r.done)
+pub first_on : (payloads : List (List ℕ)) (end at behind to : ℕ) (device : code.Device) (c : Device) (r : Reached payloads end at behind (device_view device))
+    (n : Next payloads r.done)
     → to ≡ at + 5 + length n.first → Takes (device_view device) n.first c → is_some device.pending ≡ false → Reached payloads end to to c
 first_on payloads end at behind to device c r n to_is t none =
-    subst (λ (b : Bool). Reached payloads end to (if b then behind else to) c) (shown device.pending ∙ none) (goes_on payloads end at behind to (device_view device) c r n to_is t)
+    subst (λ (b : Bool). Reached payloads end to (if b then behind else to) c) (shown device.pending ∙ none)
+    (goes_on payloads end at behind to (device_view device) c r n to_is t)
 
-pub later_on : (payloads : List (List ℕ)) (end at behind to : ℕ) (device : code.Device) (c : Device) (r : Reached payloads end at behind (device_view device)) (n : Next payloads r.done)
+pub later_on : (payloads : List (List ℕ)) (end at behind to : ℕ) (device : code.Device) (c : Device) (r : Reached payloads end at behind (device_view device))
+    (n : Next payloads r.done)
     → to ≡ at + 5 + length n.first → Takes (device_view device) n.first c → is_some device.pending ≡ true → Reached payloads end to behind c
 later_on payloads end at behind to device c r n to_is t some =
-    subst (λ (b : Bool). Reached payloads end to (if b then behind else to) c) (shown device.pending ∙ some) (goes_on payloads end at behind to (device_view device) c r n to_is t)
+    subst (λ (b : Bool). Reached payloads end to (if b then behind else to) c) (shown device.pending ∙ some)
+    (goes_on payloads end at behind to (device_view device) c r n to_is t)
 
-pub fault_told : (payloads : List (List ℕ)) (end at behind : ℕ) (d e : Device) (r : Reached payloads end at behind d) (n : Next payloads r.done) (f : ReplayFault)
+pub fault_told : (payloads : List (List ℕ)) (end at behind : ℕ) (d e : Device) (r : Reached payloads end at behind d) (n : Next payloads r.done)
+    (f : ReplayFault)
     → TookEntry d at n.first e (Err f) → Replayed payloads (Err f)
 fault_told payloads end at behind d e r n fault.Disk took = tt
 fault_told payloads end at behind d e r n (fault.Damaged place) took = inl (subst (IsBadAt payloads) (sym took.0) (is_bad payloads end at behind d r n took.1))
@@ -281,4 +307,5 @@ pub has_room : (payloads : List (List ℕ)) (end at behind : ℕ) (device : code
     → (is_some device.pending && nat_lt most_file (behind + room_of_plan)) ≡ false → Means payloads (device_view device) × Room payloads (device_view device)
 has_room payloads end at behind device r le room =
     is_all payloads end at behind (device_view device) r le
-    (λ some. ltb-false most_file (behind + room_of_plan) (first_true (is_some device.pending) (nat_lt most_file (behind + room_of_plan)) room (sym (shown device.pending) ∙ some)))
+    (λ some. ltb-false most_file (behind + room_of_plan) (first_true (is_some device.pending) (nat_lt most_file (behind + room_of_plan)) room
+    (sym (shown device.pending) ∙ some)))

@@ -33,14 +33,16 @@ can_mark d q (marks.Closed o) r mark allowed = tt
 
 -- ---- the backs that the spare has
 
-pub spared_backs : (origin : Option Origin) (set : List Item) (q : Pending) (n : List ℕ) (flags : List Bool) → IfSome origin (FlagBacks set q.plan.boots flags) → MayGoBack origin set n q
+pub spared_backs : (origin : Option Origin) (set : List Item) (q : Pending) (n : List ℕ) (flags : List Bool) → IfSome origin
+    (FlagBacks set q.plan.boots flags) → MayGoBack origin set n q
     → chosen flags (take (reach_of q) q.plan.boots) ≡ backs origin set q.plan (reach_of q)
 spared_backs None set q n flags spared may = absurd may.1
 spared_backs (Some o) set q n flags spared may = chosen_told (goes_back o.platform set) flags q.plan.boots (reach_of q) (spared may.1.0)
 
 -- ---- the step
 
-pub marked_is : (d : Device) (q : Pending) (m : Mark) (r : Record) (flags : List Bool) → (IsClosing m → ⊥) → IfSome d.origin (FlagBacks d.set q.plan.boots flags) → IsMarkOf d.set q m r → Allowed (record d { pending = Some q }) r
+pub marked_is : (d : Device) (q : Pending) (m : Mark) (r : Record) (flags : List Bool) → (IsClosing m → ⊥) → IfSome d.origin
+    (FlagBacks d.set q.plan.boots flags) → IsMarkOf d.set q m r → Allowed (record d { pending = Some q }) r
     → ◌≡◌ {A = Device} (record d { pending = Some (marked (chosen flags (take (reach_of q) q.plan.boots)) m q) }) (applied (record d { pending = Some q }) r)
 marked_is d q marks.BootBegun r flags other spared mark allowed = ap (applied (record d { pending = Some q })) (sym mark.2)
 marked_is d q (marks.BootEnded e) r flags other spared mark allowed = ap (applied (record d { pending = Some q })) (sym mark.2)
@@ -50,7 +52,8 @@ marked_is d q (marks.StepFailed k s e) r flags other spared mark allowed =
 marked_is d q marks.Failing r flags other spared mark allowed = ap (applied (record d { pending = Some q })) (sym mark.2)
 marked_is d q marks.FailingBack r flags other spared mark allowed =
     let may = subst (λ (r : Record). Allowed (record d { pending = Some q }) r) mark.2 allowed in
-    ap (λ (bs : List (List ℕ)). record d { pending = Some (turned_to bs q) }) (spared_backs d.origin d.set q mark.0 flags spared may) ∙ ap (applied (record d { pending = Some q })) (sym mark.2)
+    ap (λ (bs : List (List ℕ)). record d { pending = Some (turned_to bs q) }) (spared_backs d.origin d.set q mark.0 flags spared may) ∙ ap
+    (applied (record d { pending = Some q })) (sym mark.2)
 marked_is d q (marks.Closed o) r flags other spared mark allowed = absurd (other tt)
 
 -- ---- a mark stands for one record
@@ -77,12 +80,14 @@ closes_not _ other closing = closing
 
 -- ---- the step in a device
 
-pub mark_step : (d : Device) (q new : Pending) (m : Mark) (r : Record) (flags : List Bool) → d.pending ≡ Some q → (IsClosing m → ⊥) → (a : Record) × IsMark d m a × Allowed d a → IfSome d.origin (FlagBacks d.set q.plan.boots flags)
+pub mark_step : (d : Device) (q new : Pending) (m : Mark) (r : Record) (flags : List Bool) → d.pending ≡ Some q → (IsClosing m → ⊥) → (a : Record) ×
+    IsMark d m a × Allowed d a → IfSome d.origin (FlagBacks d.set q.plan.boots flags)
     → new ≡ marked (chosen flags (take (reach_of q) q.plan.boots)) m q → IsMark d m r → ◌≡◌ {A = Device} (record d { pending = Some new }) (applied d r)
 mark_step d q new m r flags is other lawful spared new_is mark =
     let here : IsMarkOf d.set q m r = subst (λ (o : Option Pending). IsSomeAnd o (λ q. IsMarkOf d.set q m r)) is mark in
     let there : IsMarkOf d.set q m lawful.0 = subst (λ (o : Option Pending). IsSomeAnd o (λ q. IsMarkOf d.set q m lawful.0)) is lawful.1 in
-    let allowed : Allowed (record d { pending = Some q }) r = subst (λ (o : Option Pending). Allowed (record d { pending = o }) r) is (subst (Allowed d) (one_mark d.set q m lawful.0 r there here) lawful.2) in
+    let allowed : Allowed (record d { pending = Some q }) r = subst (λ (o : Option Pending). Allowed (record d { pending = o }) r) is
+    (subst (Allowed d) (one_mark d.set q m lawful.0 r there here) lawful.2) in
     ap (λ (p : Pending). record d { pending = Some p }) new_is
     ∙ marked_is d q m r flags other spared here allowed
     ∙ ap (λ (o : Option Pending). applied (record d { pending = o }) r) (sym is)

@@ -9,7 +9,8 @@ use Rattle.device.specs.Devices.{Device, Pending, Group}
 use Rattle.device.specs.Grouped.{with_group}
 use Rattle.device.specs.Plans.{IsSupplied}
 use Rattle.std.specs.List.{AllByRecursion}
-use Rattle.device.specs.Lawful.{Allowed, MayAccept, applied, Lawful, Run, on_pending, close_pending, takes_plan, boot_ended, count_failure, begun, activated, rolled, turned_back}
+use Rattle.device.specs.Lawful.{Allowed, MayAccept, applied, Lawful, Run, on_pending, close_pending, takes_plan, boot_ended, count_failure, begun, activated}
+use Rattle.device.specs.Lawful.{rolled, turned_back}
 use Rattle.device.specs.Met.{Met, GroupsAreMet, ItemsAreMet, IsPlanMet, BringsMet, BringMet}
 use Rattle.device.proofs.Course.{ended_plan, counted_plan}
 

@@ -26,7 +26,8 @@ abbrev Next : Device → Pending → Type 0
 Next d q = (r : Record) × Allowed (pends d (Some q)) r
 
 -- an item with three failures has a name
-three_named : (items : List Item) (failures : List ℕ) (k : ℕ) → AreCounts items failures → position (nat_eq 3) failures ≡ Some k → (n : List ℕ) × (slice_get (map (λ i. i.name) items) k ≡ Some n)
+three_named : (items : List Item) (failures : List ℕ) (k : ℕ) → AreCounts items failures → position (nat_eq 3) failures ≡ Some k → (n : List ℕ) ×
+    (slice_get (map (λ i. i.name) items) k ≡ Some n)
 three_named items failures k are is =
     let found = position-Some (nat_eq 3) failures k 0 is in
     let three : 3 ≡ get_or failures k 0 = eqb-true 3 (get_or failures k 0) found.1 in

@@ -19,7 +19,8 @@ use Rattle.device.specs.Limits.{room_of_plan}
 use Rattle.device.proofs.Beginnings.{BeginsWithTurn, anew_turns, no_turn_plays, no_turn_before, turn_stays, same_beginning}
 
 -- a journal without an entry stands for the device before its first record
-pub none_stands_for : {J : Type 0} {files : List ℕ → Type 0} {entries : Image → List (List ℕ) → Type 0} {holds_none : Image → Type 0} {is_damaged : Image → ℕ → Type 0} {stands : J → Image → List (List ℕ) → Type 0} {end : J → ℕ}
+pub none_stands_for : {J : Type 0} {files : List ℕ → Type 0} {entries : Image → List (List ℕ) → Type 0} {holds_none : Image → Type 0} {is_damaged : Image →
+    ℕ → Type 0} {stands : J → Image → List (List ℕ) → Type 0} {end : J → ℕ}
     → JournalLaws files entries holds_none is_damaged stands end → (image : Image) → holds_none image → StandsFor entries image no_device
 none_stands_for laws image none = record { payloads = []; live = laws.none_held image none; means = inl refl; room = tt }
 
@@ -40,11 +41,14 @@ same_meaning ps a b (inl x) (inr y) = absurd (no_turn_plays ps a (anew_turns ps 
 same_meaning ps a b (inr x) (inl y) = absurd (no_turn_plays ps b (anew_turns ps a x) y)
 same_meaning ps a b (inr x) (inr y) =
     let same = same_beginning ps x.front x.after y.front y.after x.records y.records x.begun y.begun x.split y.split x.spelled y.spelled x.is y.is in
-    same_plays x.begun x.after a b x.plays (subst (λ (l : List (List ℕ)). Plays x.begun l b) (sym same.1) (subst (λ (d : Device). Plays d y.after b) (sym same.0) y.plays))
+    same_plays x.begun x.after a b x.plays (subst (λ (l : List (List ℕ)). Plays x.begun l b) (sym same.1)
+    (subst (λ (d : Device). Plays d y.after b) (sym same.0) y.plays))
 
 -- an image of any journal stands for one device
-pub same_device_for : {J : Type 0} {files : List ℕ → Type 0} {entries : Image → List (List ℕ) → Type 0} {holds_none : Image → Type 0} {is_damaged : Image → ℕ → Type 0} {stands : J → Image → List (List ℕ) → Type 0} {end : J → ℕ}
-    → JournalLaws files entries holds_none is_damaged stands end → (image : Image) (d e : Device) → StandsFor entries image d → StandsFor entries image e → d ≡ e
+pub same_device_for : {J : Type 0} {files : List ℕ → Type 0} {entries : Image → List (List ℕ) → Type 0} {holds_none : Image → Type 0} {is_damaged : Image →
+    ℕ → Type 0} {stands : J → Image → List (List ℕ) → Type 0} {end : J → ℕ}
+    → JournalLaws files entries holds_none is_damaged stands end → (image : Image) (d e : Device) → StandsFor entries image d → StandsFor entries image e →
+    d ≡ e
 same_device_for laws image d e x y =
     let same = laws.one image x.payloads y.payloads x.live y.live in
     same_meaning y.payloads d e (subst (λ (ps : List (List ℕ)). Means ps d) same x.means) y.means
@@ -69,7 +73,8 @@ bad_means ps at d bad (inl plays) = by bad.means
         let parts = splits no_device bad.before bad.bad bad.behind d (subst (λ (l : List (List ℕ)). Plays no_device l d) bad.split plays) in
         bad.refused parts.2.0
         (subst (λ (c : Device). Takes c bad.bad parts.2.0) (same_plays no_device bad.before parts.0 bad.reached parts.1 before) parts.2.1)
-    by (inr anew) = no_turn_plays ps d (subst BeginsWithTurn (sym bad.split) (turn_stays bad.before (bad.bad ∷ bad.behind) (anew_turns bad.before bad.reached anew))) plays
+    by (inr anew) = no_turn_plays ps d (subst BeginsWithTurn (sym bad.split)
+        (turn_stays bad.before (bad.bad ∷ bad.behind) (anew_turns bad.before bad.reached anew))) plays
 bad_means ps at d bad (inr anew) = by bad.means
   where
     turns : BeginsWithTurn (bad.before ++ bad.bad ∷ bad.behind)
@@ -78,8 +83,10 @@ bad_means ps at d bad (inr anew) = by bad.means
     by : Means bad.before bad.reached → ⊥
     by (inl before) = no_turn_before bad.before bad.bad bad.behind bad.reached bad.no_turn turns before
     by (inr begun) =
-        let whole : ps ≡ begun.front ++ (begun.after ++ bad.bad ∷ bad.behind) = bad.split ∙ ap (λ (l : List (List ℕ)). l ++ bad.bad ∷ bad.behind) begun.split ∙ append_assoc begun.front begun.after (bad.bad ∷ bad.behind) in
-        let same = same_beginning ps begun.front (begun.after ++ bad.bad ∷ bad.behind) anew.front anew.after begun.records anew.records begun.begun anew.begun whole anew.split begun.spelled anew.spelled begun.is anew.is in
+        let whole : ps ≡ begun.front ++ (begun.after ++ bad.bad ∷ bad.behind) = bad.split ∙ ap (λ (l : List (List ℕ)). l ++ bad.bad ∷ bad.behind) begun.split
+        ∙ append_assoc begun.front begun.after (bad.bad ∷ bad.behind) in
+        let same = same_beginning ps begun.front (begun.after ++ bad.bad ∷ bad.behind) anew.front anew.after begun.records anew.records begun.begun anew.begun
+        whole anew.split begun.spelled anew.spelled begun.is anew.is in
         let plays = subst (λ (l : List (List ℕ)). Plays begun.begun l d) (sym same.1) (subst (λ (x : Device). Plays x anew.after d) (sym same.0) anew.plays) in
         let parts = splits begun.begun begun.after bad.bad bad.behind d plays in
         bad.refused parts.2.0
@@ -137,8 +144,10 @@ damaged_means ps at d (inr (inl lacks)) means room = lacks_means ps at d lacks m
 damaged_means ps at d (inr (inr lacks)) means room = lacks_front ps at d lacks means
 
 -- a damaged image stands for no device
-pub damage : {J : Type 0} {files : List ℕ → Type 0} {entries : Image → List (List ℕ) → Type 0} {holds_none : Image → Type 0} {is_damaged : Image → ℕ → Type 0} {stands : J → Image → List (List ℕ) → Type 0} {end : J → ℕ}
-    → JournalLaws files entries holds_none is_damaged stands end → (image : Image) (at : ℕ) → IsDamagedIn entries is_damaged image at → IsDamage entries is_damaged image at
+pub damage : {J : Type 0} {files : List ℕ → Type 0} {entries : Image → List (List ℕ) → Type 0} {holds_none : Image → Type 0} {is_damaged : Image → ℕ → Type 0}
+    {stands : J → Image → List (List ℕ) → Type 0} {end : J → ℕ}
+    → JournalLaws files entries holds_none is_damaged stands end → (image : Image) (at : ℕ) → IsDamagedIn entries is_damaged image at →
+    IsDamage entries is_damaged image at
 damage {entries = entries} {is_damaged = is_damaged} laws image at place = record { place = place; none = none place }
   where
     none : IsDamagedIn entries is_damaged image at → StandsForNone entries image

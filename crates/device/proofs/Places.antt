@@ -27,7 +27,8 @@ there xs i x lt is = slice_get-get_or xs i x lt ∙ ap (λ y. Some y) (sym is)
 pub past : {A : Type 0} (xs : List A) (i : ℕ) → length xs ≤ i → slice_get xs i ≡ None
 past xs i le = elim (slice_get_cases xs i).1 [ inl h ↦ absurd (omega (arith, h.1)) | inr h ↦ h.1 ]
 
-pub name_at : (items : List code.Item) (k : ℕ) (x : code.Item) → slice_get items k ≡ Some x → slice_get (map (λ i. i.name) (map item_view items)) k ≡ Some x.name
+pub name_at : (items : List code.Item) (k : ℕ) (x : code.Item) → slice_get items k ≡ Some x → slice_get (map (λ i. i.name) (map item_view items)) k
+    ≡ Some x.name
 name_at items k x is =
     slice_get-map (λ i. i.name) (map item_view items) k ∙ ap (option_map (λ i. i.name)) (slice_get-map item_view items k ∙ ap (option_map item_view) is)
 

@@ -1,5 +1,6 @@
 -- The needs of recipes, by places and by names.
-use Rattle.std.proofs.Common.{◌≡◌, ℕ, zero, suc, ◌<◌, ◌≤◌, ◌+◌, List, [], ◌∷◌, ◌++◌, length, drop, get_or, refl, sym, ap, subst, ◌∙◌, arith, inl, inr, append_assoc}
+use Rattle.std.proofs.Common.{◌≡◌, ℕ, zero, suc, ◌<◌, ◌≤◌, ◌+◌, List, [], ◌∷◌, ◌++◌, length, drop, get_or, refl, sym, ap, subst, ◌∙◌, arith, inl, inr}
+use Rattle.std.proofs.Common.{append_assoc}
 use Rattle.std.specs.List.{All, AllByRecursion, AllZip, Contains, HoldsAt}
 use Rattle.std.proofs.lemmas.List.{append-nil, drop_all, get_or-map}
 use Rattle.std.proofs.lemmas.List.Elements.{All-nil, All-cons, All-append, Contains-append_left, Contains-append_right, Contains-append_cases}
@@ -55,18 +56,27 @@ pub record Source (items : List code.Item) (from : ℕ) (rs : List Recipe) (e : 
   pub named : HoldsAt (λ (recipe : Recipe). Contains recipe.dependencies dependency) rs at
   pub is : IsNeedOf items (from + at) dependency e
 
-pub source : (items : List code.Item) (from : ℕ) (rs : List Recipe) (needs : List Need) (e : Need) → AreNeeds items from rs needs → Contains needs e → Source items from rs e
+pub source : (items : List code.Item) (from : ℕ) (rs : List Recipe) (needs : List Need) (e : Need) → AreNeeds items from rs needs → Contains needs e →
+    Source items from rs e
 source items from [] needs e n h = absurd (in_nil e (subst (λ l. Contains l e) n h))
 source items from (r ∷ rs) needs e n h = elim (Contains-append_cases n.0 n.1 e (subst (λ l. Contains l e) n.2 h)) [
   | inl here ↦ (let d = dependency_of items from r.dependencies n.0 e n.3 here in
       record { at = 0; below = omega arith; dependency = d.0; named = λ x. d.1; is = subst (λ k. IsNeedOf items k d.0 e) (omega arith) d.2 })
   | inr there ↦ (let s = source items (from + 1) rs n.1 e n.4 there in
       let below = s.below in
-      record { at = suc s.at; below = omega (arith, below); dependency = s.dependency; named = s.named; is = subst (λ k. IsNeedOf items k s.dependency e) (omega arith) s.is })
+      record {
+        at = suc s.at;
+        below = omega (arith, below);
+        dependency = s.dependency;
+        named = s.named;
+        is = subst (λ k. IsNeedOf items k s.dependency e)
+            (omega arith) s.is;
+      })
 ]
 
 -- each dependency of a recipe has its need
-pub target : (items : List code.Item) (from : ℕ) (rs : List Recipe) (needs : List Need) (at : ℕ) (d : Dependency) → AreNeeds items from rs needs → at < length rs
+pub target : (items : List code.Item) (from : ℕ) (rs : List Recipe) (needs : List Need) (at : ℕ) (d : Dependency) → AreNeeds items from rs needs →
+    at < length rs
     → HoldsAt (λ (recipe : Recipe). Contains recipe.dependencies d) rs at → (e : Need) × Contains needs e × IsNeedOf items (from + at) d e
 target items from [] needs at d n h c = absurd (omega (arith, h))
 target items from (r ∷ rs) needs zero d n h c =
@@ -77,7 +87,8 @@ target items from (r ∷ rs) needs (suc at) d n h c =
     (t.0, subst (λ l. Contains l t.0) (sym n.2) (Contains-append_right n.0 n.1 t.0 t.1), subst (λ k. IsNeedOf items k d t.0) (omega arith) t.2)
 
 -- the places of needs are those of items
-row_nodes : (items : List code.Item) (from count : ℕ) (ds : List Dependency) (row : List Need) → from < length items → length items ≡ count → AllZip (IsNeedOf items from) ds row
+row_nodes : (items : List code.Item) (from count : ℕ) (ds : List Dependency) (row : List Need) → from < length items → length items ≡ count →
+    AllZip (IsNeedOf items from) ds row
     → All (λ (e : Need). (e.from < count) × (e.to < count)) row
 row_nodes items from count [] [] h same z = All-nil (λ (e : Need). (e.from < count) × (e.to < count))
 row_nodes items from count [] (n ∷ row) h same z = absurd z
@@ -85,11 +96,14 @@ row_nodes items from count (d ∷ ds) [] h same z = absurd z
 row_nodes items from count (d ∷ ds) (n ∷ row) h same z =
     let is = z.0.from in
     let to = z.0.to.below in
-    All-cons (λ (e : Need). (e.from < count) × (e.to < count)) n row (omega (arith, is, h, same), omega (arith, to, same)) (row_nodes items from count ds row h same z.1)
+    All-cons (λ (e : Need). (e.from < count) × (e.to < count)) n row (omega (arith, is, h, same), omega (arith, to, same))
+    (row_nodes items from count ds row h same z.1)
 
-pub nodes : (items : List code.Item) (from count : ℕ) (rs : List Recipe) (needs : List Need) → from + length rs ≤ length items → length items ≡ count → AreNeeds items from rs needs
+pub nodes : (items : List code.Item) (from count : ℕ) (rs : List Recipe) (needs : List Need) → from + length rs ≤ length items → length items ≡ count →
+    AreNeeds items from rs needs
     → All (λ (e : Need). (e.from < count) × (e.to < count)) needs
-nodes items from count [] needs h same n = subst (λ l. All (λ (e : Need). (e.from < count) × (e.to < count)) l) (sym n) (All-nil (λ (e : Need). (e.from < count) × (e.to < count)))
+nodes items from count [] needs h same n = subst (λ l. All (λ (e : Need). (e.from < count) × (e.to < count)) l) (sym n)
+    (All-nil (λ (e : Need). (e.from < count) × (e.to < count)))
 nodes items from count (r ∷ rs) needs h same n =
     subst (λ l. All (λ (e : Need). (e.from < count) × (e.to < count)) l) (sym n.2)
     (All-append (λ (e : Need). (e.from < count) × (e.to < count)) n.0 n.1 (row_nodes items from count r.dependencies n.0 (omega (arith, h)) same n.3)
@@ -107,7 +121,8 @@ pub adding_start : (items : List code.Item) (from : ℕ) (all : List Dependency)
 adding_start items from all needs = record { row = []; grows = sym (append-nil needs); goes = goes_start (IsMetIn items) (IsNeedOf items from) all }
 
 pub adding_more : (items : List code.Item) (from : ℕ) (all xs : List Dependency) (i : ℕ) (x : Dependency) (old needs new : List Need) (need : Need)
-    → i < length xs → x ≡ get_or xs i x → Adding items from all (drop i xs) old needs → new ≡ needs ++ need ∷ [] → IsNeedOf items from x need → Adding items from all (drop (i + 1) xs) old new
+    → i < length xs → x ≡ get_or xs i x → Adding items from all (drop i xs) old needs → new ≡ needs ++ need ∷ [] → IsNeedOf items from x need →
+    Adding items from all (drop (i + 1) xs) old new
 adding_more items from all xs i x old needs new need below is a e h = record {
   row = a.row ++ need ∷ [];
   grows = e ∙ ap (λ l. l ++ need ∷ []) a.grows ∙ append_assoc old a.row (need ∷ []);
@@ -118,8 +133,14 @@ pub adding_bad : (items : List code.Item) (from : ℕ) (all xs : List Dependency
     → i < length xs → x ≡ get_or xs i x → Adding items from all (drop i xs) old needs → (IsMetIn items x → ⊥) → AllByRecursion (IsMetIn items) all → ⊥
 adding_bad items from all xs i x old needs below is a bad h = goes_bad (IsMetIn items) (IsNeedOf items from) all xs i x a.row below is a.goes bad h
 
-pub adding_end : (items : List code.Item) (from : ℕ) (all xs : List Dependency) (i : ℕ) (old needs : List Need) → length xs ≤ i → Adding items from all (drop i xs) old needs → AddsNeeds items from all old needs
-adding_end items from all xs i old needs past a = record { row = a.row; grows = a.grows; each = goes_end (IsMetIn items) (IsNeedOf items from) all xs i a.row past a.goes }
+pub adding_end : (items : List code.Item) (from : ℕ) (all xs : List Dependency) (i : ℕ) (old needs : List Need) → length xs ≤ i →
+    Adding items from all (drop i xs) old needs → AddsNeeds items from all old needs
+adding_end items from all xs i old needs past a = record {
+  row = a.row;
+  grows = a.grows;
+  each = goes_end (IsMetIn items) (IsNeedOf items from) all xs i a.row
+      past a.goes;
+}
 
 -- ---- the loop over the recipes
 
@@ -142,7 +163,8 @@ rows_more items all from r rest old new rows added = record {
 
 pub rows_next : (items : List code.Item) (all xs : List Recipe) (i : ℕ) (r : Recipe) (old new : List Need) → i < length xs → r ≡ get_or xs i r
     → Rows items all i (drop i xs) old → AddsNeeds items i r.dependencies old new → Rows items all (i + 1) (drop (i + 1) xs) new
-rows_next items all xs i r old new below is rows added = rows_more items all i r (drop (i + 1) xs) old new (subst (λ rs. Rows items all i rs old) (next xs i r below is) rows) added
+rows_next items all xs i r old new below is rows added = rows_more items all i r (drop (i + 1) xs) old new
+    (subst (λ rs. Rows items all i rs old) (next xs i r below is) rows) added
 
 pub rows_bad : (items : List code.Item) (all xs : List Recipe) (i : ℕ) (r : Recipe) (needs : List Need) → i < length xs → r ≡ get_or xs i r
     → Rows items all i (drop i xs) needs → (AreMet items r → ⊥) → AllByRecursion (AreMet items) all → ⊥
@@ -150,7 +172,8 @@ rows_bad items all xs i r needs below is rows bad h =
     let m : Rows items all i (r ∷ drop (i + 1) xs) needs = subst (λ rs. Rows items all i rs needs) (next xs i r below is) rows in
     bad (m.forth h).0
 
-pub rows_end : (items : List code.Item) (all xs : List Recipe) (i : ℕ) (needs : List Need) → length xs ≤ i → Rows items all i (drop i xs) needs → AreNeeds items 0 all needs
+pub rows_end : (items : List code.Item) (all xs : List Recipe) (i : ℕ) (needs : List Need) → length xs ≤ i → Rows items all i (drop i xs) needs →
+    AreNeeds items 0 all needs
 rows_end items all xs i needs past left =
     let rows : Rows items all i [] needs = subst (λ rs. Rows items all i rs needs) (drop_all i xs past) left in
     subst (AreNeeds items 0 all) (append-nil needs) (rows.values [] refl)

@@ -1,5 +1,6 @@
 -- The record of a plan is short.
-use Rattle.std.proofs.Common.{◌≡◌, ℕ, ◌+◌, ◌*◌, ◌≤◌, ◌==◌, Bool, true, false, List, [], ◌∷◌, ◌++◌, length, Option, Some, None, is_some, refl, ap, arith, length-append}
+use Rattle.std.proofs.Common.{◌≡◌, ℕ, ◌+◌, ◌*◌, ◌≤◌, ◌==◌, Bool, true, false, List, [], ◌∷◌, ◌++◌, length, Option, Some, None, is_some, refl, ap, arith}
+use Rattle.std.proofs.Common.{length-append}
 use Rattle.std.specs.Prelude.{if◌then◌else◌}
 use Rattle.std.specs.Option.{IsSomeAnd, option_map_or}
 use Rattle.std.specs.Int.{w32, to_be_bytes}
@@ -47,13 +48,16 @@ few_in (Some v) xs h a = let same = as_long IsArtifact (values v) xs a in let fe
 
 few_at : (m : Option Data) (xs : List Artifact) → AllHold (on m chosen_lines) → AreArtifacts (inner Artifacts m) xs → length xs ≤ 64
 few_at None xs h a = rw a (omega arith)
-few_at (Some v) xs h a = few_in (present (get (spelled Artifacts) v)) xs (hold_last (optional (spelled Lifecycle) v lifecycle_lines) (optional (spelled Artifacts) v artifacts_lines) h) a
+few_at (Some v) xs h a = few_in (present (get (spelled Artifacts) v)) xs
+    (hold_last (optional (spelled Lifecycle) v lifecycle_lines) (optional (spelled Artifacts) v artifacts_lines) h) a
 
 pub few_files : (bytes : List ℕ) (platform : Platform) (recipe : Recipe) → Reads bytes platform recipe → length recipe.artifacts ≤ 64
 few_files bytes platform recipe r =
     let d = r.0 in
-    let parts = hold_last ((head_lines d ++ optional (spelled ComponentConfiguration) d config_lines) ++ optional (spelled ComponentDependencies) d dependencies_lines) (part_lines platform d) r.2 in
-    few_at (manifest_of platform d) recipe.artifacts (hold_last (optional (spelled Manifests) d (manifests_lines platform)) (on (manifest_of platform d) chosen_lines) parts) r.3.artifacts
+    let parts = hold_last ((head_lines d ++ optional (spelled ComponentConfiguration) d config_lines) ++ optional (spelled ComponentDependencies) d
+    dependencies_lines) (part_lines platform d) r.2 in
+    few_at (manifest_of platform d) recipe.artifacts (hold_last (optional (spelled Manifests) d (manifests_lines platform))
+    (on (manifest_of platform d) chosen_lines) parts) r.3.artifacts
 
 -- ---- lengths of spellings
 
@@ -68,7 +72,8 @@ flat_short f n (x ∷ xs) h =
     let both = length-append (f x) (flat_map f xs) in
     omega (arith, rest, first, both)
 
-list_short : {A : Type 0} (f : A → List ℕ) (n m : ℕ) (xs : List A) → AllByRecursion (λ x. length (f x) ≤ n) xs → length xs ≤ m → length (to_be_bytes w32 (length xs) ++ flat_map f xs) ≤ 4 + n * m
+list_short : {A : Type 0} (f : A → List ℕ) (n m : ℕ) (xs : List A) → AllByRecursion (λ x. length (f x) ≤ n) xs → length xs ≤ m →
+    length (to_be_bytes w32 (length xs) ++ flat_map f xs) ≤ 4 + n * m
 list_short f n m xs h few =
     let flat = flat_short f n xs h in
     let most = mul-le-mul_left n few in
@@ -104,15 +109,20 @@ item_short platform item fits has config =
     (both_short (layout.tree.spell item.config) _ 65540 18692 (text_short (compact_text item.config) 65536 config.short)
     (list_short layout.held.spell 292 64 item.artifacts (held_short item.artifacts fits.1.1.1.1.1) (omega (arith, files, same))))))
 
-items_short : (platform : Platform) (items : List Item) → AllByRecursion layout.item.Fits items → AllByRecursion (HasRecipe platform) items → AllByRecursion HasConfig items
+items_short : (platform : Platform) (items : List Item) → AllByRecursion layout.item.Fits items → AllByRecursion (HasRecipe platform) items →
+    AllByRecursion HasConfig items
     → AllByRecursion (λ i. length (layout.item.spell i) ≤ 150036) items
 items_short platform [] fits has configs = tt
 items_short platform (i ∷ items) fits has configs = (item_short platform i fits.0 has.0 configs.0, items_short platform items fits.1 has.1 configs.1)
 
-requirements_short : (requirements : List Requirement) → AllByRecursion layout.requirement.Fits requirements → AllByRecursion (λ r. length (layout.requirement.spell r) ≤ 4232) requirements
+requirements_short : (requirements : List Requirement) → AllByRecursion layout.requirement.Fits requirements →
+    AllByRecursion (λ r. length (layout.requirement.spell r) ≤ 4232) requirements
 requirements_short [] f = tt
-requirements_short (r ∷ requirements) f =
-    (both_short (layout.name.spell r.name) (layout.range.spell r.range) 132 4100 (text_short r.name 128 f.0.0.0.short) (text_short r.range 4096 f.0.1.0.readable.short), requirements_short requirements f.1)
+requirements_short (r ∷ requirements) f = (
+  both_short (layout.name.spell r.name) (layout.range.spell r.range) 132 4100 (text_short r.name 128 f.0.0.0.short)
+      (text_short r.range 4096 f.0.1.0.readable.short),
+  requirements_short requirements f.1,
+)
 
 boots_short : (boots : List (List ℕ)) → AllByRecursion layout.name.Fits boots → AllByRecursion (λ n. length (layout.name.spell n) ≤ 132) boots
 boots_short [] f = tt
@@ -164,18 +174,23 @@ eight n = refl
 -- the two spellings, by whether the revision is 0
 by_revision : (platform : Platform) (plan : Plan) (b : Bool) → IsPlan platform plan
     → layout.choose (is_some (only_if b (plain_plan plan))) (IsSomeAnd (only_if b (plain_plan plan)) plain.Fits) (revised.Fits (revised_plan plan))
-    → length (if is_some (only_if b (plain_plan plan)) then 18 ∷ option_map_or plain.spell (only_if b (plain_plan plan)) [] else 29 ∷ revised.spell (revised_plan plan)) ≤ 1 + (260 + (260 + (8 + wanted_most)))
+    → length (if is_some (only_if b (plain_plan plan)) then 18 ∷ option_map_or plain.spell (only_if b (plain_plan plan)) [] else 29 ∷
+    revised.spell (revised_plan plan)) ≤ 1 + (260 + (260 + (8 + wanted_most)))
 by_revision platform plan true is fits =
     let rest =
     both_short (layout.label.spell plan.id) (layout.label.spell plan.group ++ wanted.spell (wanted_of plan)) 260 _ (text_short plan.id 256 fits.0.0.short)
-    (both_short (layout.label.spell plan.group) (wanted.spell (wanted_of plan)) 260 wanted_most (text_short plan.group 256 fits.1.0.0.short) (wanted_short platform plan is fits.1.1)) in
+    (both_short (layout.label.spell plan.group) (wanted.spell (wanted_of plan)) 260 wanted_most (text_short plan.group 256 fits.1.0.0.short)
+    (wanted_short platform plan is fits.1.1)) in
     omega (arith, rest)
 by_revision platform plan false is fits =
     let number = eight plan.revision in
     let rest =
-    both_short (layout.label.spell plan.id) (layout.label.spell plan.group ++ (layout.revision.spell plan.revision ++ wanted.spell (wanted_of plan))) 260 _ (text_short plan.id 256 fits.0.0.short)
-    (both_short (layout.label.spell plan.group) (layout.revision.spell plan.revision ++ wanted.spell (wanted_of plan)) 260 _ (text_short plan.group 256 fits.1.0.0.short)
-    (both_short (layout.revision.spell plan.revision) (wanted.spell (wanted_of plan)) 8 wanted_most (omega (arith, number)) (wanted_short platform plan is fits.1.1.1))) in
+    both_short (layout.label.spell plan.id) (layout.label.spell plan.group ++ (layout.revision.spell plan.revision ++ wanted.spell (wanted_of plan))) 260 _
+    (text_short plan.id 256 fits.0.0.short)
+    (both_short (layout.label.spell plan.group) (layout.revision.spell plan.revision ++ wanted.spell (wanted_of plan)) 260 _
+    (text_short plan.group 256 fits.1.0.0.short)
+    (both_short (layout.revision.spell plan.revision) (wanted.spell (wanted_of plan)) 8 wanted_most (omega (arith, number))
+    (wanted_short platform plan is fits.1.1.1))) in
     omega (arith, rest)
 
 pub short : (platform : Platform) (plan : Plan) (bytes : List ℕ) → IsPlan platform plan → Spelled bytes (Accepted plan) → length bytes ≤ 33554432

@@ -1,5 +1,6 @@
 -- What loops over a plan's lists keep.
-use Rattle.std.proofs.Common.{◌≡◌, ℕ, ◌<◌, ◌≤◌, ◌+◌, Bool, true, false, ◌||◌, List, [], ◌∷◌, ◌++◌, length, drop, get_or, IsTrue, ◌↔◌, refl, sym, ap, subst, ◌∙◌, append_assoc}
+use Rattle.std.proofs.Common.{◌≡◌, ℕ, ◌<◌, ◌≤◌, ◌+◌, Bool, true, false, ◌||◌, List, [], ◌∷◌, ◌++◌, length, drop, get_or, IsTrue, ◌↔◌, refl, sym, ap, subst}
+use Rattle.std.proofs.Common.{◌∙◌, append_assoc}
 use Rattle.std.specs.List.{AllByRecursion, AllZip, IsDistinct, list_any}
 use Rattle.std.proofs.lemmas.List.{drop_more, drop_all, append-nil}
 use Rattle.std.proofs.lemmas.Bool.{false≢true}
@@ -26,12 +27,14 @@ pub record Left {A : Type 0} (P : A → Type 0) (all rest : List A) : Type 0 whe
 pub left_start : {A : Type 0} (P : A → Type 0) (all : List A) → Left P all all
 left_start P all = record { back = λ h. h; forth = λ h. h }
 
-pub left_more : {A : Type 0} (P : A → Type 0) (all xs : List A) (i : ℕ) (x : A) → i < length xs → x ≡ get_or xs i x → Left P all (drop i xs) → P x → Left P all (drop (i + 1) xs)
+pub left_more : {A : Type 0} (P : A → Type 0) (all xs : List A) (i : ℕ) (x : A) → i < length xs → x ≡ get_or xs i x → Left P all (drop i xs) → P x →
+    Left P all (drop (i + 1) xs)
 left_more P all xs i x below is l h =
     let m : Left P all (x ∷ drop (i + 1) xs) = subst (Left P all) (next xs i x below is) l in
     record { back = λ r. m.back (h, r); forth = λ r. (m.forth r).1 }
 
-pub left_bad : {A : Type 0} (P : A → Type 0) (all xs : List A) (i : ℕ) (x : A) → i < length xs → x ≡ get_or xs i x → Left P all (drop i xs) → (P x → ⊥) → AllByRecursion P all → ⊥
+pub left_bad : {A : Type 0} (P : A → Type 0) (all xs : List A) (i : ℕ) (x : A) → i < length xs → x ≡ get_or xs i x → Left P all (drop i xs) → (P x → ⊥) →
+    AllByRecursion P all → ⊥
 left_bad P all xs i x below is l bad h =
     let m : Left P all (x ∷ drop (i + 1) xs) = subst (Left P all) (next xs i x below is) l in
     bad (m.forth h).0
@@ -66,7 +69,8 @@ goes_bad P R all xs i x done below is g bad h =
     let m : Goes P R all (x ∷ drop (i + 1) xs) done = subst (λ r. Goes P R all r done) (next xs i x below is) g in
     bad (m.forth h).0
 
-pub goes_end : {A B : Type 0} (P : A → Type 0) (R : A → B → Type 0) (all xs : List A) (i : ℕ) (done : List B) → length xs ≤ i → Goes P R all (drop i xs) done → AllZip R all done
+pub goes_end : {A B : Type 0} (P : A → Type 0) (R : A → B → Type 0) (all xs : List A) (i : ℕ) (done : List B) → length xs ≤ i →
+    Goes P R all (drop i xs) done → AllZip R all done
 goes_end P R all xs i done past g =
     let m : Goes P R all [] done = subst (λ r. Goes P R all r done) (drop_all i xs past) g in
     subst (AllZip R all) (append-nil done) (m.values [] tt)
@@ -92,7 +96,8 @@ module _ {A B : Type 0} (R : A → B → Type 0) (all : List A) (also : List B) 
       let m = opened below under is at b in
       record { back = λ r. m.back (h, r); forth = λ r. (m.forth r).1 }
 
-  pub beside_bad : i < length xs → i < length ys → x ≡ get_or xs i x → y ≡ get_or ys i y → Beside R all also (drop i xs) (drop i ys) → (R x y → ⊥) → AllZip R all also → ⊥
+  pub beside_bad : i < length xs → i < length ys → x ≡ get_or xs i x → y ≡ get_or ys i y → Beside R all also (drop i xs) (drop i ys) → (R x y → ⊥) →
+      AllZip R all also → ⊥
   beside_bad below under is at b bad h =
       let m = opened below under is at b in
       bad (m.forth h).0
@@ -100,7 +105,8 @@ module _ {A B : Type 0} (R : A → B → Type 0) (all : List A) (also : List B) 
 pub beside_end : {A B : Type 0} (R : A → B → Type 0) (all : List A) (also : List B) (xs : List A) (ys : List B) (i : ℕ) → length xs ≤ i → length ys ≤ i
     → Beside R all also (drop i xs) (drop i ys) → AllZip R all also
 beside_end R all also xs ys i past out b =
-    let m : Beside R all also [] [] = subst (λ r. Beside R all also [] r) (drop_all i ys out) (subst (λ r. Beside R all also r (drop i ys)) (drop_all i xs past) b) in
+    let m : Beside R all also [] [] = subst (λ r. Beside R all also [] r) (drop_all i ys out)
+    (subst (λ r. Beside R all also r (drop i ys)) (drop_all i xs past) b) in
     m.back tt
 
 -- ---- names that differ

@@ -1,5 +1,6 @@
 -- Items by their names and places.
-use Rattle.std.proofs.Common.{◌≡◌, ℕ, zero, suc, ◌<◌, ◌≤◌, ◌+◌, Bool, true, false, IsTrue, ◌↔◌, List, [], ◌∷◌, length, map, get_or, Option, MatchOption, Result, Ok, Err, refl, sym, ap, subst, ◌∙◌, arith, inl, inr, nat_cmp}
+use Rattle.std.proofs.Common.{◌≡◌, ℕ, zero, suc, ◌<◌, ◌≤◌, ◌+◌, Bool, true, false, IsTrue, ◌↔◌, List, [], ◌∷◌, length, map, get_or, Option, MatchOption}
+use Rattle.std.proofs.Common.{Result, Ok, Err, refl, sym, ap, subst, ◌∙◌, arith, inl, inr, nat_cmp}
 use Rattle.std.specs.List.{AllZip, Contains, IsAllAdjacentAnswer}
 use Rattle.std.specs.List.Sorted.{IsNonDecreasingBy, IsPartitionPoint, IsSearchInRange, IsBinarySearchResult}
 use Rattle.std.specs.Result.{result_ok}
@@ -53,7 +54,8 @@ index_most Less = omega arith
 index_most Equal = omega arith
 index_most Greater = omega arith
 
-index_at : (a b n : List ℕ) (o : Ordering) → slice_cmp nat_cmp b n ≡ o → slice_cmp nat_cmp a b ≡ Less → ordering_index (slice_cmp nat_cmp a n) ≤ ordering_index o
+index_at : (a b n : List ℕ) (o : Ordering) → slice_cmp nat_cmp b n ≡ o → slice_cmp nat_cmp a b ≡ Less → ordering_index (slice_cmp nat_cmp a n)
+    ≤ ordering_index o
 index_at a b n Less e h =
     let order : IsTotalOrder (slice_cmp nat_cmp) = nat_list_cmp_total in
     rw (order.trans a b n h e) (omega arith)
@@ -67,7 +69,8 @@ name_at : (items : List code.Item) (k : ℕ) (d : code.Item) → k < length item
 name_at items k d below = get_or-map (λ (item : code.Item). item.name) items k d d.name below
 
 -- the items lie in the order in which a search for the name looks at them
-pub searched : (items : List code.Item) (n : List ℕ) → Rise (names_of items) → IsNonDecreasingBy (λ (item : code.Item). ordering_index (slice_cmp nat_cmp item.name n)) items
+pub searched : (items : List code.Item) (n : List ℕ) → Rise (names_of items) →
+    IsNonDecreasingBy (λ (item : code.Item). ordering_index (slice_cmp nat_cmp item.name n)) items
 searched items n rise = IsNonDecreasingBy-from_all_adjacent (λ (item : code.Item). ordering_index (slice_cmp nat_cmp item.name n)) items
     (λ k d h.
     let long = length-map items (λ (item : code.Item). item.name) in
@@ -75,7 +78,8 @@ searched items n rise = IsNonDecreasingBy-from_all_adjacent (λ (item : code.Ite
     let first = name_at items k d (omega (arith, h)) in
     let second = name_at items (k + 1) d h in
     let l : slice_cmp nat_cmp (get_or items k d).name (get_or items (k + 1) d).name ≡ Less =
-    subst (λ x. slice_cmp nat_cmp x (get_or items (k + 1) d).name ≡ Less) first (subst (λ x. slice_cmp nat_cmp (get_or (names_of items) k d.name) x ≡ Less) second less) in
+    subst (λ x. slice_cmp nat_cmp x (get_or items (k + 1) d).name ≡ Less) first
+    (subst (λ x. slice_cmp nat_cmp (get_or (names_of items) k d.name) x ≡ Less) second less) in
     index_at (get_or items k d).name (get_or items (k + 1) d).name n (slice_cmp nat_cmp (get_or items (k + 1) d).name n) refl l)
 
 -- ---- elements by their places
@@ -132,7 +136,8 @@ less_from Equal h = absurd (false≢true (sym h))
 less_from Greater h = absurd (false≢true (sym h))
 
 -- what a look at neighbours answers is whether the names rise
-pub rise_answer : {X : Type 0} (name : X → List ℕ) (xs : List X) (r : Bool) → IsAllAdjacentAnswer (λ x y b. b ≡ is_lt (slice_cmp nat_cmp (name x) (name y))) xs r → IsTrue r ↔ Rise (map name xs)
+pub rise_answer : {X : Type 0} (name : X → List ℕ) (xs : List X) (r : Bool) → IsAllAdjacentAnswer (λ x y b. b ≡ is_lt (slice_cmp nat_cmp (name x) (name y)))
+    xs r → IsTrue r ↔ Rise (map name xs)
 rise_answer name xs true h = yes (Rise (map name xs)) (sorted_from_all_adjacent nat_list_cmp_total (map name xs) []
     (λ k below.
     let n = length-map xs name in
@@ -141,7 +146,8 @@ rise_answer name xs true h = yes (Rise (map name xs)) (sorted_from_all_adjacent 
     let less = less_from (slice_cmp nat_cmp (name (get_or xs k d)) (name (get_or xs (k + 1) d))) (h k d under) in
     let first = get_or-map name xs k d [] (omega (arith, under)) in
     let second = get_or-map name xs (k + 1) d [] under in
-    subst (λ n. slice_cmp nat_cmp n (get_or (map name xs) (k + 1) []) ≡ Less) (sym first) (subst (λ n. slice_cmp nat_cmp (name (get_or xs k d)) n ≡ Less) (sym second) less)))
+    subst (λ n. slice_cmp nat_cmp n (get_or (map name xs) (k + 1) []) ≡ Less) (sym first)
+    (subst (λ n. slice_cmp nat_cmp (name (get_or xs k d)) n ≡ Less) (sym second) less)))
 rise_answer name xs false h = no (Rise (map name xs)) (λ rise.
     let k = h.0 in
     let under = h.1 in
@@ -151,7 +157,8 @@ rise_answer name xs false h = no (Rise (map name xs)) (λ rise.
     let first = get_or-map name xs k d [] (omega (arith, under)) in
     let second = get_or-map name xs (k + 1) d [] under in
     let l : slice_cmp nat_cmp (name (get_or xs k d)) (name (get_or xs (k + 1) d)) ≡ Less =
-    subst (λ n. slice_cmp nat_cmp n (name (get_or xs (k + 1) d)) ≡ Less) first (subst (λ n. slice_cmp nat_cmp (get_or (map name xs) k []) n ≡ Less) second less) in
+    subst (λ n. slice_cmp nat_cmp n (name (get_or xs (k + 1) d)) ≡ Less) first
+    (subst (λ n. slice_cmp nat_cmp (get_or (map name xs) k []) n ≡ Less) second less) in
     false≢true (h.2 d ∙ ap is_lt l))
 
 -- ---- items by their names
@@ -167,7 +174,8 @@ apart_below items n i j rise s t lt =
     let less = Less-from_sorted (slice_cmp nat_cmp) (names_of items) i j d.name rise lt (let below = t.below in omega (arith, long, below)) in
     let first = name_at items i d s.below ∙ s.named d in
     let second = name_at items j d t.below ∙ t.named d in
-    let l : slice_cmp nat_cmp n n ≡ Less = subst (λ x. slice_cmp nat_cmp x n ≡ Less) first (subst (λ x. slice_cmp nat_cmp (get_or (names_of items) i d.name) x ≡ Less) second less) in
+    let l : slice_cmp nat_cmp n n ≡ Less = subst (λ x. slice_cmp nat_cmp x n ≡ Less) first
+    (subst (λ x. slice_cmp nat_cmp (get_or (names_of items) i d.name) x ≡ Less) second less) in
     not_below n l
 
 -- one name stands at one place
@@ -192,10 +200,12 @@ absent items n i h at s =
     ]
 
 -- what the search answers
-pub place_answer : (items : List code.Item) (n : List ℕ) (r : Result ℕ ℕ) (o : Option ℕ) → Rise (names_of items) → o ≡ result_ok r → IsSearchInRange r (length items)
+pub place_answer : (items : List code.Item) (n : List ℕ) (r : Result ℕ ℕ) (o : Option ℕ) → Rise (names_of items) → o ≡ result_ok r →
+    IsSearchInRange r (length items)
     → IsBinarySearchResult (λ (item : code.Item). slice_cmp nat_cmp item.name n) items r → MatchOption o ((at : ℕ) → StandsAt items n at → ⊥) (StandsAt items n)
 place_answer items n (Ok i) o rise is bound h =
-    subst (λ (x : Option ℕ). MatchOption x ((at : ℕ) → StandsAt items n at → ⊥) (StandsAt items n)) (sym is) (record { below = bound; named = λ d. tied (get_or items i d).name n (h d) })
+    subst (λ (x : Option ℕ). MatchOption x ((at : ℕ) → StandsAt items n at → ⊥) (StandsAt items n)) (sym is)
+    (record { below = bound; named = λ d. tied (get_or items i d).name n (h d) })
 place_answer items n (Err i) o rise is bound h =
     subst (λ (x : Option ℕ). MatchOption x ((at : ℕ) → StandsAt items n at → ⊥) (StandsAt items n)) (sym is) (absent items n i (h (searched items n rise)))
 
@@ -213,7 +223,8 @@ met_place items d m = stands items m.item d.name (seen items m.item m.is_one) m.
 pub unmet : (items : List code.Item) (d : Dependency) → ((at : ℕ) → StandsAt items d.name at → ⊥) → IsMetIn items d → ⊥
 unmet items d none m = none (seen items m.item m.is_one).at (met_place items d m)
 
-pub meets_there : (items : List code.Item) (d : Dependency) (at : ℕ) (x : code.Item) → StandsAt items d.name at → Meets (get_or items at x).version d.range → IsMetAt items d at
+pub meets_there : (items : List code.Item) (d : Dependency) (at : ℕ) (x : code.Item) → StandsAt items d.name at → Meets (get_or items at x).version d.range →
+    IsMetAt items d at
 meets_there items d at x s v =
     let e = element items at s.below in
     record {

@@ -1,5 +1,6 @@
 -- A plan by its parts in memory.
-use Rattle.std.proofs.Common.{◌≡◌, ℕ, ◌<◌, Bool, IsTrue, ◌↔◌, List, [], ◌∷◌, length, map, get_or, IsSome, Result, Ok, Err, IfOk, refl, sym, ap, subst, ◌∙◌, arith, inl, inr}
+use Rattle.std.proofs.Common.{◌≡◌, ℕ, ◌<◌, Bool, IsTrue, ◌↔◌, List, [], ◌∷◌, length, map, get_or, IsSome, Result, Ok, Err, IfOk, refl, sym, ap, subst, ◌∙◌}
+use Rattle.std.proofs.Common.{arith, inl, inr}
 use Rattle.std.specs.List.{All, AllByRecursion, AllZip, Contains}
 use Rattle.std.specs.Prelude.{Option, is_some}
 use Rattle.std.proofs.lemmas.List.{length-map}
@@ -14,8 +15,10 @@ use Rattle.recipe_reader.specs.declared.recipe.Recipe.{Recipe}
 use Rattle.records.specs.Stored.{Item, item_view, plan_view}
 use Rattle.records.specs.declared.record.Item as code
 use Rattle.records.specs.declared.record.Plan as code_plan
-use Rattle.device.specs.Plans.{AreRegularItems, Rise, item_name, HasRecipe, HasConfig, IsHeldFor, IsRecipeOf, IsSupplied, NeedsByName, IsBoot, AreRequirements, AreItems, AreBoots, IsPlan}
-use Rattle.device.specs.PlanNeeds.{names_of, IsRegularAt, HasConfigAt, HasRecipeAt, IsRecipeAt, AreListed, AreBootsIn, AreItemsWith, StandsAt, IsMetIn, AreMet, NeedsIn, FitsTogether, IsBootIn}
+use Rattle.device.specs.Plans.{AreRegularItems, Rise, item_name, HasRecipe, HasConfig, IsHeldFor, IsRecipeOf, IsSupplied, NeedsByName, IsBoot}
+use Rattle.device.specs.Plans.{AreRequirements, AreItems, AreBoots, IsPlan}
+use Rattle.device.specs.PlanNeeds.{names_of, IsRegularAt, HasConfigAt, HasRecipeAt, IsRecipeAt, AreListed, AreBootsIn, AreItemsWith, StandsAt, IsMetIn}
+use Rattle.device.specs.PlanNeeds.{AreMet, NeedsIn, FitsTogether, IsBootIn}
 use Rattle.device.proofs.PlanPlaces.{one_place, element, Pair, pair_at, Seen, seen, shown, stands, long}
 
 -- ---- all of a list
@@ -45,7 +48,8 @@ pub names_seen : (items : List code.Item) → map item_name (map item_view items
 names_seen [] = refl
 names_seen (i ∷ items) = ap (λ ns. i.name ∷ ns) (names_seen items)
 
-has_recipes : (platform : Platform) (items : List code.Item) (recipes : List Recipe) → AllZip (IsRecipeAt platform) items recipes → AllByRecursion (HasRecipeAt platform) items
+has_recipes : (platform : Platform) (items : List code.Item) (recipes : List Recipe) → AllZip (IsRecipeAt platform) items recipes →
+    AllByRecursion (HasRecipeAt platform) items
 has_recipes platform [] recipes z = tt
 has_recipes platform (i ∷ items) [] z = absurd z
 has_recipes platform (i ∷ items) (r ∷ recipes) z = ((r, z.0), has_recipes platform items recipes z.1)
@@ -98,7 +102,8 @@ module _ (one : IsOneRecipe) (platform : Platform) (items : List code.Item) (rec
         at = s.at;
         stands = stands items n.item a s n.from;
         dependency = n.dependency;
-        named = λ d. subst (λ (r : Recipe). Contains r.dependencies n.dependency) (sym ((pair n.item s).other_is d)) (subst (λ ds. Contains ds n.dependency) like.dependencies n.names.named);
+        named = λ d. subst (λ (r : Recipe). Contains r.dependencies n.dependency) (sym ((pair n.item s).other_is d))
+            (subst (λ ds. Contains ds n.dependency) like.dependencies n.names.named);
         to = n.to;
       }
 
@@ -110,7 +115,12 @@ module _ (one : IsOneRecipe) (platform : Platform) (items : List code.Item) (rec
         is_one = p.is_one;
         from = p.name a n.stands;
         dependency = n.dependency;
-        names = record { recipe = p.recipe; reads = p.reads; named = subst (λ (r : Recipe). Contains r.dependencies n.dependency) (p.is p.recipe) (n.named p.recipe) };
+        names = record {
+          recipe = p.recipe;
+          reads = p.reads;
+          named = subst (λ (r : Recipe). Contains r.dependencies n.dependency) (p.is p.recipe)
+              (n.named p.recipe);
+        };
         to = n.to;
       }
 
@@ -166,7 +176,8 @@ module _ (one : IsOneRecipe) (platform : Platform) (items : List code.Item) (rec
       record {
         at = s.at;
         stands = stands items b.item n s b.named;
-        step = λ d. subst (λ (r : Recipe). IsSome r.bootstrap) (sym ((pair b.item s).other_is d)) (some_too b.recipe.bootstrap (pair b.item s).other.bootstrap (ap is_some (like.steps Bootstrap)) b.step);
+        step = λ d. subst (λ (r : Recipe). IsSome r.bootstrap) (sym ((pair b.item s).other_is d))
+            (some_too b.recipe.bootstrap (pair b.item s).other.bootstrap (ap is_some (like.steps Bootstrap)) b.step);
       }
 
   -- ---- the whole
@@ -194,7 +205,8 @@ module _ (one : IsOneRecipe) (platform : Platform) (items : List code.Item) (rec
   }
 
 -- a recipe that is like the item's is the item's, and where it is not there is none
-alike_is : (platform : Platform) (item : Item) (r s : Recipe) → Reads item.recipe platform r → AreAlike s r → IsRecipeOf platform item s → IsRecipeOf platform item r
+alike_is : (platform : Platform) (item : Item) (r s : Recipe) → Reads item.recipe platform r → AreAlike s r → IsRecipeOf platform item s →
+    IsRecipeOf platform item r
 alike_is platform item r s reads like is = record {
   reads = reads;
   name = sym like.name ∙ is.name;
@@ -202,13 +214,18 @@ alike_is platform item r s reads like is = record {
   files = subst (λ files. AllZip IsHeldFor files item.artifacts) like.artifacts is.files;
 }
 
-pub not_recipe : IsOneRecipe → (platform : Platform) (item : Item) (r : Recipe) → Reads item.recipe platform r → (IsRecipeOf platform item r → ⊥) → HasRecipe platform item → ⊥
+pub not_recipe : IsOneRecipe → (platform : Platform) (item : Item) (r : Recipe) → Reads item.recipe platform r → (IsRecipeOf platform item r → ⊥) →
+    HasRecipe platform item → ⊥
 not_recipe one platform item r reads bad h = bad (alike_is platform item r h.0 reads (one item.recipe platform h.0 r h.1.reads reads) h.1)
 
 -- ---- what is asked of items first
 
 pub items_listed : (platform : Platform) (items : List code.Item) → AreItems platform (map item_view items) → AreListed items
-items_listed platform items are = record { few = let few = are.few in let n = length-map items item_view in omega (arith, few, n); rise = subst Rise (names_seen items) are.rise }
+items_listed platform items are = record {
+  few = let few = are.few in let n = length-map items item_view in omega (arith, few, n);
+  rise =
+      subst Rise (names_seen items) are.rise;
+}
 
 -- ---- an answer that speaks of another fact
 
@@ -218,7 +235,8 @@ answers (Err e) P Q f g h = tt
 
 -- ---- the boot of a name
 
-pub boot_answer : (items : List code.Item) (recipes : List Recipe) (n : List ℕ) (at : ℕ) (r : Recipe) (b : Bool) → Rise (names_of items) → length recipes ≡ length items → StandsAt items n at
+pub boot_answer : (items : List code.Item) (recipes : List Recipe) (n : List ℕ) (at : ℕ) (r : Recipe) (b : Bool) → Rise (names_of items) →
+    length recipes ≡ length items → StandsAt items n at
     → b ≡ is_some (get_or recipes at r).bootstrap → IsTrue b ↔ IsBootIn items recipes n
 boot_answer items recipes n at r b rise same s e =
     let below = s.below in
@@ -231,16 +249,19 @@ boot_answer items recipes n at r b rise same s e =
 
 -- ---- a plan
 
-boots_along : (items : List code.Item) (rs recipes : List Recipe) (bs boots : List (List ℕ)) → rs ≡ recipes → bs ≡ boots → AreBootsIn items rs bs → AreBootsIn items recipes boots
+boots_along : (items : List code.Item) (rs recipes : List Recipe) (bs boots : List (List ℕ)) → rs ≡ recipes → bs ≡ boots → AreBootsIn items rs bs →
+    AreBootsIn items recipes boots
 boots_along items rs recipes bs boots r b are = subst (λ (x : List Recipe). AreBootsIn items x boots) r (subst (AreBootsIn items rs) b are)
 
-pub plan_answer : IsOneRecipe → (platform : Platform) (plan : code_plan.Plan) (items : List code.Item) (recipes rs : List Recipe) (bs : List (List ℕ)) (b : Bool) → plan.items ≡ items → rs ≡ recipes → bs ≡ plan.boots
+pub plan_answer : IsOneRecipe → (platform : Platform) (plan : code_plan.Plan) (items : List code.Item) (recipes rs : List Recipe) (bs : List (List ℕ))
+    (b : Bool) → plan.items ≡ items → rs ≡ recipes → bs ≡ plan.boots
     → AreRequirements plan.requirements → AreItemsWith platform items recipes → IsTrue b ↔ AreBootsIn items rs bs → IsTrue b ↔ IsPlan platform (plan_view plan)
 plan_answer one platform plan items recipes rs bs b same r boots requirements w told = (
   λ yes. record {
     requirements = requirements;
     items = subst (λ (is : List code.Item). AreItems platform (map item_view is)) (sym same) w.are_items;
-    boots = subst (λ (is : List code.Item). AreBoots platform (map item_view is) plan.boots) (sym same) (boots_whole one platform items recipes w.each plan.boots (boots_along items rs recipes bs plan.boots r boots (told.0 yes)));
+    boots = subst (λ (is : List code.Item). AreBoots platform (map item_view is) plan.boots) (sym same)
+        (boots_whole one platform items recipes w.each plan.boots (boots_along items rs recipes bs plan.boots r boots (told.0 yes)));
   },
   λ is. told.1
       (boots_along items recipes rs plan.boots bs (sym r) (sym boots)

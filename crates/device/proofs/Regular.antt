@@ -62,7 +62,8 @@ step d (FailingBack n) r regular = staged (turned_back d.origin d.set) d (λ q. 
 step d (Closed o) r regular = closed d o d.pending refl regular
 step d _ r regular = regular
 
-pub after : (old new : Device) (r : Record) (result : Result (Unit {0}) ApplyFault) → IsRegularRecord r → Does (Allowed old r) (applied old r) old new result → IsRegularDevice old → IsRegularDevice new
+pub after : (old new : Device) (r : Record) (result : Result (Unit {0}) ApplyFault) → IsRegularRecord r → Does (Allowed old r) (applied old r) old new result
+    → IsRegularDevice old → IsRegularDevice new
 after old new r (Ok x) writable does regular = subst IsRegularDevice (sym does.1) (step old r writable regular)
 after old new r (Err fault.NotLawful) writable does regular = subst IsRegularDevice (sym does.1) regular
 after old new r (Err fault.NoMemory) writable does regular = subst IsRegularDevice (sym does) regular

@@ -1,5 +1,6 @@
 -- Each record takes one of those that are left.
-use Rattle.std.proofs.Common.{◌≡◌, ℕ, zero, suc, ◌+◌, ◌-◌, ◌*◌, ◌<◌, ◌≤◌, Bool, true, false, cond, List, [], ◌∷◌, ◌++◌, length, take, get_or, Option, Some, None, refl, sym, ap, subst, arith, is_some, MatchOption, length-append}
+use Rattle.std.proofs.Common.{◌≡◌, ℕ, zero, suc, ◌+◌, ◌-◌, ◌*◌, ◌<◌, ◌≤◌, Bool, true, false, cond, List, [], ◌∷◌, ◌++◌, length, take, get_or, Option, Some}
+use Rattle.std.proofs.Common.{None, refl, sym, ap, subst, arith, is_some, MatchOption, length-append}
 use Rattle.std.specs.Prelude.{slice_set, slice_get, filter, not, if◌then◌else◌, option_map, ◌&&◌, nat_lt}
 use Rattle.std.proofs.lemmas.Bool.{ltb-false}
 use Rattle.gate_log.specs.Entries.{most_file}
@@ -18,7 +19,9 @@ use Rattle.device.specs.declared.device.Device as code
 use Rattle.device.specs.declared.staged.Pending as code_pending
 use Rattle.device.specs.Devices.{Device, Pending, Stage, device_view, pending_view}
 use Rattle.device.specs.Limits.{room_of_plan}
-use Rattle.device.specs.Lawful.{Allowed, applied, Lawful, MayAccept, MayBegin, MayEnd, MayActivate, MayCount, MayGoBack, begun, boot_ended, moved_on, one_ended, goes_on, activated, counted, count_failure, rolled, turned_back, failing_name, failing_place, place, backs_of, reach_of, goes_back}
+use Rattle.device.specs.Lawful.{Allowed, applied, Lawful, MayAccept, MayBegin, MayEnd, MayActivate, MayCount, MayGoBack, begun, boot_ended, moved_on}
+use Rattle.device.specs.Lawful.{one_ended, goes_on, activated, counted, count_failure, rolled, turned_back, failing_name, failing_place, place, backs_of}
+use Rattle.device.specs.Lawful.{reach_of, goes_back}
 use Rattle.device.specs.Rooms.{failures_left, boots_left, way_back, left_of, still_to_come, HasRoom, TakesRoom}
 use Rattle.device.specs.Sound.{IsPlanFor, IsInStage, IsUnderWay, IsSound}
 use Rattle.device.specs.Standing.{Takes}
@@ -74,7 +77,8 @@ falls_moved stages.Backing q n may = by (is_some (slice_get q.backs (q.ended + 1
     before : left_of (at stages.Backing q) ≡ 2 * (length q.backs - q.ended) + 0 + 384
     before = rw (may.0, may.2) refl
 
-    by : (some : Bool) → left_of (if not some then rolled (one_ended (at stages.Backing q)) else one_ended (at stages.Backing q)) + 1 ≤ left_of (at stages.Backing q)
+    by : (some : Bool) → left_of (if not some then rolled (one_ended (at stages.Backing q)) else one_ended (at stages.Backing q)) + 1 ≤ left_of
+        (at stages.Backing q)
     by true =
         let after : left_of (one_ended (at stages.Backing q)) ≡ 2 * (length q.backs - (q.ended + 1)) + 1 + 384 = rw may.0 refl in
         omega (arith, before, after, lt)
@@ -110,13 +114,15 @@ falls_active origin set q may is =
     let after : left_of (activated q) ≡ 384 + way_back q = refl in
     omega (arith, before, after)
 
-fewer : (failures : List ℕ) (k : ℕ) → IsSomeAnd (slice_get failures k) (λ c. c < 3) → failures_left (slice_set failures k (get_or failures k 0 + 1)) + 1 ≤ failures_left failures
+fewer : (failures : List ℕ) (k : ℕ) → IsSomeAnd (slice_get failures k) (λ c. c < 3) → failures_left (slice_set failures k (get_or failures k 0 + 1)) + 1
+    ≤ failures_left failures
 fewer failures k may =
     let h = count_below failures k may in
     let sums = sum_by-set (λ c. 3 - c) failures k (get_or failures k 0 + 1) 0 h.0 in
     omega (arith, sums, h.1)
 
-falls_counted : (set : List Item) (s : Stage) (q : Pending) (n : List ℕ) → MayCount (at s q) (failing_place set (at s q) n) → left_of (count_failure set n (at s q)) + 1 ≤ left_of (at s q)
+falls_counted : (set : List Item) (s : Stage) (q : Pending) (n : List ℕ) → MayCount (at s q) (failing_place set (at s q) n) →
+    left_of (count_failure set n (at s q)) + 1 ≤ left_of (at s q)
 falls_counted set stages.Booting q n may = absurd may
 falls_counted set stages.Activating q n may = by (place n q.plan.items) may
   where
@@ -134,7 +140,8 @@ falls_counted set stages.Rolling q n may = by (place n set) may
 falls_back : (s : Stage) (q : Pending) (n : List ℕ) → failing_name (at s q) ≡ Some n → way_back q ≤ left_of (at s q)
 falls_back stages.Booting q n h = by q.boot_failed h
   where
-    by : (b : Bool) → (if b then slice_get q.plan.boots q.ended else None) ≡ Some n → way_back q ≤ (if b then way_back q else boots_left q.plan.boots q + 384 + way_back q)
+    by : (b : Bool) → (if b then slice_get q.plan.boots q.ended else None) ≡ Some n →
+        way_back q ≤ (if b then way_back q else boots_left q.plan.boots q + 384 + way_back q)
     by true is = omega arith
     by false is = absurd cc
 falls_back stages.Activating q n h = omega arith
@@ -147,7 +154,8 @@ falls_rolled q n may =
     let after : left_of (rolled q) ≡ 385 = refl in
     omega (arith, before, after)
 
-falls_turned : (origin : Option Origin) (set : List Item) (q : Pending) (n : List ℕ) → MayGoBack origin set n q → left_of (turned_back origin set q) + 1 ≤ left_of q
+falls_turned : (origin : Option Origin) (set : List Item) (q : Pending) (n : List ℕ) → MayGoBack origin set n q → left_of (turned_back origin set q) + 1
+    ≤ left_of q
 falls_turned None set q n may = absurd may.1
 falls_turned (Some o) set q n may =
     let before = falls_back q.stage q n may.0.1 in
@@ -195,7 +203,8 @@ falls d q (FailingBack n) way may = falls_turned d.origin d.set q n may
 falls d q (Closed o) way may = let some = some_left q.stage q in omega (arith, some)
 falls d q _ way may = absurd may
 
-run_out : (d : Device) (o : Option Pending) (r : Record) → IsSome o → IfSome o (IsUnderWay d) → Allowed (pends d o) r → still_to_come (applied (pends d o) r) + 1 ≤ still_to_come (pends d o)
+run_out : (d : Device) (o : Option Pending) (r : Record) → IsSome o → IfSome o (IsUnderWay d) → Allowed (pends d o) r →
+    still_to_come (applied (pends d o) r) + 1 ≤ still_to_come (pends d o)
 run_out d None r some way may = absurd cc
 run_out d (Some q) r some way may = falls d q r way may
 
@@ -206,7 +215,8 @@ records_run_out d e r sound some lawful =
 -- ---- the bytes of a record
 
 name_short : (n : List ℕ) → layout.name.Fits n → length (layout.name.spell n) ≤ 132
-name_short n fits = let both = length-append (to_be_bytes w32 (length n)) n in let head : length (to_be_bytes w32 (length n)) ≡ 4 = refl in let short = fits.0.short in omega (arith, both, head, short)
+name_short n fits = let both = length-append (to_be_bytes w32 (length n)) n in let head : length (to_be_bytes w32 (length n)) ≡ 4 = refl in let short =
+    fits.0.short in omega (arith, both, head, short)
 
 exit_short : (e : Exit) → length (layout.exit.spell e) ≤ 5
 exit_short (exits.Code z) = omega arith
@@ -218,7 +228,8 @@ exit_short exits.Lost = omega arith
 -- a record behind an Accepted is short
 small : (d : Device) (q : Pending) (p : List ℕ) (r : Record) → Spelled p r → IsUnderWay d q → Allowed (pends d (Some q)) r → length p ≤ 251
 small d q p (Genesis o) s way may = absurd (no_plan d.origin q.plan may.0 way.0.plan_is)
-small d q p (Accepted plan) s way may = absurd (let none = alone (pends d (Some q)) plan d.origin may in let no : ◌≡◌ {A = Option Pending} (Some q) None = none in cc)
+small d q p (Accepted plan) s way may = absurd (let none = alone (pends d (Some q)) plan d.origin may in let no : ◌≡◌ {A = Option Pending} (Some q) None =
+    none in cc)
 small d q p (BootBegun n) s way may = let same = ap length s.same in let short = name_short n s.fits in omega (arith, same, short)
 small d q p (BootEnded n e) s way may =
     let same = ap length s.same in
@@ -238,7 +249,8 @@ small d q p (FailingBack n) s way may = let same = ap length s.same in let short
 small d q p (Closed o) s way may = let same = ap length s.same in omega (arith, same)
 small d q p _ s way may = absurd may
 
-left_behind : (at next left : ℕ) (o : Option Pending) → next ≤ at + 256 → option_map_or left_of o 0 + 1 ≤ left → IfSome o (λ q. next + 256 * left_of q ≤ at + 256 * left)
+left_behind : (at next left : ℕ) (o : Option Pending) → next ≤ at + 256 → option_map_or left_of o 0 + 1 ≤ left →
+    IfSome o (λ q. next + 256 * left_of q ≤ at + 256 * left)
 left_behind at next left None near less = tt
 left_behind at next left (Some q) near less = omega (arith, near, less)
 
@@ -246,7 +258,8 @@ first_left : (d : Device) (r : Record) → Allowed (pends d None) r → IfSome (
 first_left d (Accepted p) may = let few = few_boots (pends d None) p may in omega (arith, few)
 first_left d _ may = tt
 
-takes : (at next : ℕ) (d : Device) (o : Option Pending) (p : List ℕ) (r : Record) → IfSome o (IsUnderWay d) → Spelled p r → Allowed (pends d o) r → next ≤ at + 5 + length p → TakesRoom at next (pends d o) (applied (pends d o) r)
+takes : (at next : ℕ) (d : Device) (o : Option Pending) (p : List ℕ) (r : Record) → IfSome o (IsUnderWay d) → Spelled p r → Allowed (pends d o) r →
+    next ≤ at + 5 + length p → TakesRoom at next (pends d o) (applied (pends d o) r)
 takes at next d None p r way spelled may near = first_left d r may
 takes at next d (Some q) p r way spelled may near =
     let short = small d q p r spelled way may in
@@ -266,30 +279,37 @@ each_within : (at next : ℕ) (o : Option Pending) → IfSome o (λ q. left_of q
 each_within at next None h = tt
 each_within at next (Some q) h = omega (arith, h)
 
-pub first_ahead : (at next : ℕ) (device : code.Device) (e : Device) → is_some device.pending ≡ false → TakesRoom at next (device_view device) e → IsAhead next next e
+pub first_ahead : (at next : ℕ) (device : code.Device) (e : Device) → is_some device.pending ≡ false → TakesRoom at next (device_view device) e →
+    IsAhead next next e
 first_ahead at next device e none room = by device.pending none room
   where
     by : (o : Option code_pending.Pending) → is_some o ≡ false
-        → MatchOption (option_map pending_view o) (IfSome e.pending (λ q. left_of q ≤ 1283)) (λ p. IfSome e.pending (λ q. next + 256 * left_of q ≤ at + 256 * left_of p)) → IsAhead next next e
+        → MatchOption (option_map pending_view o) (IfSome e.pending (λ q. left_of q ≤ 1283))
+        (λ p. IfSome e.pending (λ q. next + 256 * left_of q ≤ at + 256 * left_of p)) → IsAhead next next e
     by None none room = each_within at next e.pending room
     by (Some p) none room = absurd cc
 
-each_later : (at next behind left : ℕ) (o : Option Pending) → at + 256 * left ≤ behind + 256 * 1283 → IfSome o (λ q. next + 256 * left_of q ≤ at + 256 * left) → IfSome o (λ q. next + 256 * left_of q ≤ behind + 256 * 1283)
+each_later : (at next behind left : ℕ) (o : Option Pending) → at + 256 * left ≤ behind + 256 * 1283 → IfSome o (λ q. next + 256 * left_of q ≤ at + 256 * left)
+    → IfSome o (λ q. next + 256 * left_of q ≤ behind + 256 * 1283)
 each_later at next behind left None ahead h = tt
 each_later at next behind left (Some q) ahead h = omega (arith, h, ahead)
 
-pub later_ahead : (at next behind : ℕ) (device : code.Device) (e : Device) → is_some device.pending ≡ true → IsAhead at behind (device_view device) → TakesRoom at next (device_view device) e → IsAhead next behind e
+pub later_ahead : (at next behind : ℕ) (device : code.Device) (e : Device) → is_some device.pending ≡ true → IsAhead at behind (device_view device) →
+    TakesRoom at next (device_view device) e → IsAhead next behind e
 later_ahead at next behind device e some ahead room = by device.pending some ahead room
   where
     by : (o : Option code_pending.Pending) → is_some o ≡ true → IfSome (option_map pending_view o) (λ q. at + 256 * left_of q ≤ behind + 256 * 1283)
-        → MatchOption (option_map pending_view o) (IfSome e.pending (λ q. left_of q ≤ 1283)) (λ p. IfSome e.pending (λ q. next + 256 * left_of q ≤ at + 256 * left_of p)) → IsAhead next behind e
+        → MatchOption (option_map pending_view o) (IfSome e.pending (λ q. left_of q ≤ 1283))
+        (λ p. IfSome e.pending (λ q. next + 256 * left_of q ≤ at + 256 * left_of p)) → IsAhead next behind e
     by None some ahead room = absurd cc
     by (Some p) some ahead room = each_later at next behind (left_of (pending_view p)) e.pending ahead room
 
-pub ends_ahead : (end at behind : ℕ) (device : code.Device) → end ≤ at → (is_some device.pending && nat_lt most_file (behind + room_of_plan)) ≡ false → IsAhead at behind (device_view device) → HasRoom end (device_view device)
+pub ends_ahead : (end at behind : ℕ) (device : code.Device) → end ≤ at → (is_some device.pending && nat_lt most_file (behind + room_of_plan)) ≡ false →
+    IsAhead at behind (device_view device) → HasRoom end (device_view device)
 ends_ahead end at behind device past room ahead = by device.pending room ahead
   where
-    by : (o : Option code_pending.Pending) → (is_some o && nat_lt most_file (behind + room_of_plan)) ≡ false → IfSome (option_map pending_view o) (λ q. at + 256 * left_of q ≤ behind + 256 * 1283)
+    by : (o : Option code_pending.Pending) → (is_some o && nat_lt most_file (behind + room_of_plan)) ≡ false →
+        IfSome (option_map pending_view o) (λ q. at + 256 * left_of q ≤ behind + 256 * 1283)
         → IfSome (option_map pending_view o) (λ q. end + 256 * left_of q ≤ most_file)
     by None room ahead = tt
     by (Some p) room ahead = let le = ltb-false most_file (behind + room_of_plan) room in omega (arith, le, ahead, past)

@@ -1,5 +1,6 @@
 -- A pending deployment stays in step with its stage.
-use Rattle.std.proofs.Common.{◌≡◌, ◌⊎◌, inl, inr, ℕ, zero, suc, ◌+◌, ◌<◌, ◌≤◌, Bool, true, false, List, [], ◌∷◌, length, get_or, Option, Some, None, refl, sym, ap, subst, ◌∙◌, arith, is_some}
+use Rattle.std.proofs.Common.{◌≡◌, ◌⊎◌, inl, inr, ℕ, zero, suc, ◌+◌, ◌<◌, ◌≤◌, Bool, true, false, List, [], ◌∷◌, length, get_or, Option, Some, None, refl}
+use Rattle.std.proofs.Common.{sym, ap, subst, ◌∙◌, arith, is_some}
 use Rattle.std.specs.Prelude.{slice_set, slice_get, replicate, if◌then◌else◌, not}
 use Rattle.std.specs.Option.{IsSomeAnd}
 use Rattle.std.specs.Str.{bytes_eq}
@@ -11,7 +12,9 @@ use Rattle.records.specs.declared.record.Origin.{Origin}
 use Rattle.records.specs.Stored.{Item}
 use Rattle.device.specs.declared.staged.Stage.TheVariants as stages
 use Rattle.device.specs.Devices.{Pending, Stage}
-use Rattle.device.specs.Lawful.{MayBegin, MayEnd, MayActivate, MayCount, MayGoBack, begun, boot_ended, moved_on, one_ended, goes_on, activated, counted, count_failure, rolled, turned_back, next_boot, failing_name, failing_place, place, place_from, reach_of, backs_of, no_failures}
+use Rattle.device.specs.Lawful.{MayBegin, MayEnd, MayActivate, MayCount, MayGoBack, begun, boot_ended, moved_on, one_ended, goes_on, activated, counted}
+use Rattle.device.specs.Lawful.{count_failure, rolled, turned_back, next_boot, failing_name, failing_place, place, place_from, reach_of, backs_of}
+use Rattle.device.specs.Lawful.{no_failures}
 use Rattle.device.specs.Sound.{AreCounts, IsBooting, IsInStage}
 
 -- ---- elements at places
@@ -67,11 +70,13 @@ counts_set items failures k v below few are = record {
   past = λ j far. past j far (set_at failures k v j);
 }
   where
-    each : (j : ℕ) → (get_or (slice_set failures k v) j 0 ≡ get_or failures j 0) ⊎ ((j ≡ k) × (get_or (slice_set failures k v) j 0 ≡ v)) → get_or (slice_set failures k v) j 0 ≤ 3
+    each : (j : ℕ) → (get_or (slice_set failures k v) j 0 ≡ get_or failures j 0) ⊎ ((j ≡ k) × (get_or (slice_set failures k v) j 0 ≡ v)) →
+        get_or (slice_set failures k v) j 0 ≤ 3
     each j (inl e) = subst (λ (n : ℕ). n ≤ 3) (sym e) (are.each j)
     each j (inr h) = subst (λ (n : ℕ). n ≤ 3) (sym h.1) few
 
-    past : (j : ℕ) → length items ≤ j → (get_or (slice_set failures k v) j 0 ≡ get_or failures j 0) ⊎ ((j ≡ k) × (get_or (slice_set failures k v) j 0 ≡ v)) → get_or (slice_set failures k v) j 0 ≡ 0
+    past : (j : ℕ) → length items ≤ j → (get_or (slice_set failures k v) j 0 ≡ get_or failures j 0) ⊎ ((j ≡ k) × (get_or (slice_set failures k v) j 0 ≡ v)) →
+        get_or (slice_set failures k v) j 0 ≡ 0
     past j far (inl e) = e ∙ are.past j far
     past j far (inr h) = let is = h.0 in absurd (omega (arith, is, far, below))
 
@@ -85,7 +90,8 @@ placed_from : (j : ℕ) (n : List ℕ) (items : List Item) (k : ℕ) → place_f
 placed_from j n [] k h = absurd cc
 placed_from j n (i ∷ items) k h = by (bytes_eq n i.name) h (λ more. placed_from (j + 1) n items k more)
   where
-    by : (b : Bool) → (if b then Some j else place_from (j + 1) n items) ≡ Some k → (place_from (j + 1) n items ≡ Some k → k < j + 1 + length items) → k < j + length (i ∷ items)
+    by : (b : Bool) → (if b then Some j else place_from (j + 1) n items) ≡ Some k → (place_from (j + 1) n items ≡ Some k → k < j + 1 + length items) →
+        k < j + length (i ∷ items)
     by true is more = let same : j ≡ k = cc in omega (arith, same)
     by false is more = let rest = more is in omega (arith, rest)
 
@@ -99,7 +105,13 @@ at s q = record q { stage = s }
 
 module _ (origin : Option Origin) (set : List Item) where
   pub begun_in : (s : Stage) (q : Pending) (n : List ℕ) → MayBegin n (at s q) → IsInStage origin set (at s q) → IsInStage origin set (begun (at s q))
-  begun_in stages.Booting q n may is = record { ended = is.ended; begun = λ _. is_there (slice_get q.plan.boots q.ended) n may.1; failed = λ _. refl; failures = is.failures }
+  begun_in stages.Booting q n may is = record {
+    ended = is.ended;
+    begun = λ _. is_there (slice_get q.plan.boots q.ended) n may.1;
+    failed =
+        λ _. refl;
+    failures = is.failures;
+  }
   begun_in stages.Activating q n may is = absurd (none_at q.ended n may.1)
   begun_in stages.Backing q n may is = record { left = is.left; failed = λ _. refl; reach = is.reach; backs_are = is.backs_are; failures = is.failures }
   begun_in stages.Rolling q n may is = absurd (none_at q.ended n may.1)
@@ -107,16 +119,31 @@ module _ (origin : Option Origin) (set : List Item) where
   moved_in : (s : Stage) (q : Pending) (n : List ℕ) → MayEnd n (at s q) → IsInStage origin set (at s q) → IsInStage origin set (moved_on (at s q))
   moved_in stages.Booting q n may is =
       let below = slice_get_within q.plan.boots q.ended n may.1 in
-      record { ended = omega (arith, below); begun = λ e. absurd (false≢true e); failed = λ f. absurd (both_ways q.boot_failed f may.0); failures = is.failures }
+      record {
+        ended = omega (arith, below);
+        begun = λ e. absurd (false≢true e);
+        failed = λ f. absurd (both_ways q.boot_failed f may.0);
+        failures =
+            is.failures;
+      }
   moved_in stages.Activating q n may is = absurd (none_at q.ended n may.1)
   moved_in stages.Backing q n may is = by (is_some (slice_get q.backs (q.ended + 1))) refl
     where
-      by : (b : Bool) → is_some (slice_get q.backs (q.ended + 1)) ≡ b → IsInStage origin set (if not b then rolled (one_ended (at stages.Backing q)) else one_ended (at stages.Backing q))
-      by true some = record { left = some; failed = λ f. absurd (both_ways q.boot_failed f may.0); reach = is.reach; backs_are = is.backs_are; failures = is.failures }
+      by : (b : Bool) → is_some (slice_get q.backs (q.ended + 1)) ≡ b → IsInStage origin
+          set (if not b then rolled (one_ended (at stages.Backing q)) else one_ended (at stages.Backing q))
+      by true some = record {
+        left = some;
+        failed = λ f. absurd (both_ways q.boot_failed f may.0);
+        reach = is.reach;
+        backs_are = is.backs_are;
+        failures =
+            is.failures;
+      }
       by false none = counts_none set
   moved_in stages.Rolling q n may is = absurd (none_at q.ended n may.1)
 
-  failed_in : (s : Stage) (q : Pending) (n : List ℕ) → MayEnd n (at s q) → IsInStage origin set (at s q) → IsInStage origin set (record (at s q) { boot_failed = true })
+  failed_in : (s : Stage) (q : Pending) (n : List ℕ) → MayEnd n (at s q) → IsInStage origin set (at s q) → IsInStage origin
+      set (record (at s q) { boot_failed = true })
   failed_in stages.Booting q n may is = record { ended = is.ended; begun = is.begun; failed = λ _. may.2; failures = is.failures }
   failed_in stages.Activating q n may is = absurd (none_at q.ended n may.1)
   failed_in stages.Backing q n may is = record { left = is.left; failed = λ _. may.2; reach = is.reach; backs_are = is.backs_are; failures = is.failures }
@@ -145,17 +172,25 @@ module _ (origin : Option Origin) (set : List Item) where
         failures = counts_none q.plan.items;
       }
     where
-      by : (b : Bool) → q.begun ≡ b → (q.begun ≡ true → is_some (slice_get q.plan.boots q.ended) ≡ true) → slice_get q.plan.boots q.ended ≡ None → q.begun ≡ false
+      by : (b : Bool) → q.begun ≡ b → (q.begun ≡ true → is_some (slice_get q.plan.boots q.ended) ≡ true) → slice_get q.plan.boots q.ended ≡ None →
+          q.begun ≡ false
       by false is some none = is
       by true is some none = absurd (both_ways (is_some (slice_get q.plan.boots q.ended)) (some is) (ap is_some none))
 
-  pub counted_in : (s : Stage) (q : Pending) (n : List ℕ) → MayCount (at s q) (failing_place set (at s q) n) → IsInStage origin set (at s q) → IsInStage origin set (count_failure set n (at s q))
+  pub counted_in : (s : Stage) (q : Pending) (n : List ℕ) → MayCount (at s q) (failing_place set (at s q) n) → IsInStage origin set (at s q) →
+      IsInStage origin set (count_failure set n (at s q))
   counted_in stages.Booting q n may is = absurd may
   counted_in stages.Activating q n may is = by (place n q.plan.items) refl may
     where
       by : (o : Option ℕ) → place n q.plan.items ≡ o → MayCount (at stages.Activating q) o → IsInStage origin set (counted o (at stages.Activating q))
       by None at may = absurd may
-      by (Some k) at may = record { ended = is.ended; begun = is.begun; failed = is.failed; failures = counts_more q.plan.items q.failures k (placed n q.plan.items k at) may is.failures }
+      by (Some k) at may = record {
+        ended = is.ended;
+        begun = is.begun;
+        failed = is.failed;
+        failures =
+            counts_more q.plan.items q.failures k (placed n q.plan.items k at) may is.failures;
+      }
   counted_in stages.Backing q n may is = absurd may
   counted_in stages.Rolling q n may is = by (place n set) refl may
     where
@@ -176,7 +211,8 @@ module _ (origin : Option Origin) (set : List Item) where
   reach_within stages.Backing q n h = absurd cc
   reach_within stages.Rolling q n h = absurd cc
 
-pub turned_in : (origin : Option Origin) (set : List Item) (q : Pending) (n : List ℕ) → MayGoBack origin set n q → IsInStage origin set (turned_back origin set q)
+pub turned_in : (origin : Option Origin) (set : List Item) (q : Pending) (n : List ℕ) → MayGoBack origin set n q → IsInStage origin
+    set (turned_back origin set q)
 turned_in None set q n may = absurd may.1
 turned_in (Some o) set q n may = record {
   left = first_there (backs_of o.platform set q.plan (reach_of q)) may.1.1;

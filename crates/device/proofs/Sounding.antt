@@ -17,7 +17,8 @@ use Rattle.device.specs.Devices.{Device, Pending, no_device}
 use Rattle.device.specs.Does.{DoesRecord}
 use Rattle.device.specs.Grouped.{revision_of, with_group}
 use Rattle.device.specs.Plans.{AreItems, NeedsByName}
-use Rattle.device.specs.Lawful.{Allowed, applied, Lawful, Run, MayAccept, MayBegin, MayEnd, MayActivate, MayFail, MayBreak, MayGoBack, on_pending, close_pending, takes_plan, boot_ended, count_failure, begun, activated, rolled, turned_back}
+use Rattle.device.specs.Lawful.{Allowed, applied, Lawful, Run, MayAccept, MayBegin, MayEnd, MayActivate, MayFail, MayBreak, MayGoBack, on_pending}
+use Rattle.device.specs.Lawful.{close_pending, takes_plan, boot_ended, count_failure, begun, activated, rolled, turned_back}
 use Rattle.device.specs.Sound.{IsPlanFor, IsAccepted, IsInStage, IsUnderWay, AreGroups, AreClosed, AreItemsFor, IsSound}
 use Rattle.device.proofs.Course.{ended_plan, counted_plan}
 use Rattle.device.proofs.SoundStages.{begun_in, ended_in, active_in, counted_in, rolled_in, turned_in}
@@ -70,7 +71,16 @@ accept d p may sound = record {
   groups = sound.groups;
   set = sound.set;
   closed = sound.closed;
-  pending = (accepts d p d.origin may, record { ended = omega arith; begun = λ e. absurd (false≢true e); failed = λ e. absurd (false≢true e); failures = refl });
+  pending = (
+    accepts d p d.origin may,
+    record {
+      ended = omega arith;
+      begun = λ e. absurd (false≢true e);
+      failed = λ e. absurd (false≢true e);
+      failures =
+          refl;
+    },
+  );
 }
 
 -- the change keeps it in step
@@ -84,7 +94,14 @@ staged f d None same keeps h = tt
 staged f d (Some q) same keeps h = (subst (IsAccepted d.origin d.groups d.closed) (sym (same q)) h.0, keeps h.1)
 
 stays : (f : Pending → Pending) (d : Device) → ((q : Pending) → (f q).plan ≡ q.plan) → IsSomeAnd d.pending (Keeps d f) → IsSound d → IsSound (on_pending f d)
-stays f d same keeps sound = record { root = sound.root; groups = sound.groups; set = sound.set; closed = sound.closed; pending = staged f d d.pending same keeps sound.pending }
+stays f d same keeps sound = record {
+  root = sound.root;
+  groups = sound.groups;
+  set = sound.set;
+  closed = sound.closed;
+  pending =
+      staged f d d.pending same keeps sound.pending;
+}
 
 each_of : {A : Type 0} (o : Option A) (P Q : A → Type 0) → ((x : A) → P x → Q x) → IsSomeAnd o P → IsSomeAnd o Q
 each_of None P Q f h = h
@@ -111,18 +128,29 @@ closed d o (Some q) is sound = by (takes_plan o)
       closed = d.closed ++ (q.plan.id, o) ∷ [];
       pending = None;
     })
-    by true = record { root = sound.root; groups = requirements d.origin way.0.plan_is; set = plan_items d.origin q.plan way.0.plan_is; closed = more; pending = tt }
+    by true = record {
+      root = sound.root;
+      groups = requirements d.origin way.0.plan_is;
+      set = plan_items d.origin q.plan way.0.plan_is;
+      closed =
+          more;
+      pending = tt;
+    }
     by false = record { root = sound.root; groups = sound.groups; set = sound.set; closed = more; pending = tt }
 
 step : (d : Device) (r : Record) → Allowed d r → IsSound d → IsSound (applied d r)
 step d (Genesis o) may sound = genesis d o may sound
 step d (Accepted p) may sound = accept d p may sound
-step d (BootBegun n) may sound = stays begun d (λ q. refl) (each_of d.pending (MayBegin n) (Keeps d begun) (λ q m. begun_in d.origin d.set q.stage q n m) may) sound
-step d (BootEnded n e) may sound = stays (boot_ended e) d (ended_plan e) (each_of d.pending (MayEnd n) (Keeps d (boot_ended e)) (λ q m. ended_in d.origin d.set e q n m) may) sound
+step d (BootBegun n) may sound = stays begun d (λ q. refl) (each_of d.pending (MayBegin n) (Keeps d begun) (λ q m. begun_in d.origin d.set q.stage q n m) may)
+    sound
+step d (BootEnded n e) may sound = stays (boot_ended e) d (ended_plan e)
+    (each_of d.pending (MayEnd n) (Keeps d (boot_ended e)) (λ q m. ended_in d.origin d.set e q n m) may) sound
 step d Activating may sound = stays activated d (λ q. refl) (each_of d.pending MayActivate (Keeps d activated) (λ q m. active_in d.origin d.set q m) may) sound
-step d (StepFailed n s e) may sound = stays (count_failure d.set n) d (counted_plan d.set n) (each_of d.pending (MayFail d.set n s e) (Keeps d (count_failure d.set n)) (λ q m. counted_in d.origin d.set q.stage q n m.0) may) sound
+step d (StepFailed n s e) may sound = stays (count_failure d.set n) d (counted_plan d.set n)
+    (each_of d.pending (MayFail d.set n s e) (Keeps d (count_failure d.set n)) (λ q m. counted_in d.origin d.set q.stage q n m.0) may) sound
 step d (Failing n) may sound = stays rolled d (λ q. refl) (each_of d.pending (MayBreak n) (Keeps d rolled) (λ q m is. rolled_in d.origin d.set q) may) sound
-step d (FailingBack n) may sound = stays (turned_back d.origin d.set) d (λ q. refl) (each_of d.pending (MayGoBack d.origin d.set n) (Keeps d (turned_back d.origin d.set)) (λ q m is. turned_in d.origin d.set q n m) may) sound
+step d (FailingBack n) may sound = stays (turned_back d.origin d.set) d (λ q. refl)
+    (each_of d.pending (MayGoBack d.origin d.set n) (Keeps d (turned_back d.origin d.set)) (λ q m is. turned_in d.origin d.set q n m) may) sound
 step d (Closed o) may sound = closed d o d.pending refl sound
 step d _ may sound = absurd may
 
@@ -138,7 +166,14 @@ after r old new (Err fault.NoMemory) does sound = subst IsSound (sym does) sound
 
 pub none_sound : IsSound no_device
 unfolding IsDistinct
-none_sound = record { root = tt; groups = record { few = omega arith; differ = tt; requirements = tt }; set = refl; closed = record { few = omega arith; differ = tt }; pending = tt }
+none_sound = record {
+  root = tt;
+  groups = record { few = omega arith; differ = tt; requirements = tt };
+  set = refl;
+  closed =
+      record { few = omega arith; differ = tt };
+  pending = tt;
+}
 
 pub run_sound : (records : List Record) (d e : Device) → IsSound d → Run d records e → IsSound e
 run_sound [] d e sound run = subst IsSound (sym run) sound
@@ -146,7 +181,8 @@ run_sound (r ∷ records) d e sound run = run_sound records run.0 e (stays_sound
 
 -- ---- revisions
 
-closing_rises : (d : Device) (o : Outcome) (p : Option Pending) (arn : List ℕ) → IfSome p (IsUnderWay d) → revision_of arn d.groups ≤ revision_of arn (close_pending o d p).groups
+closing_rises : (d : Device) (o : Outcome) (p : Option Pending) (arn : List ℕ) → IfSome p (IsUnderWay d) → revision_of arn d.groups ≤ revision_of arn
+    (close_pending o d p).groups
 closing_rises d o None arn h = omega arith
 closing_rises d o (Some q) arn h = by (takes_plan o)
   where

@@ -44,7 +44,8 @@ pub moved_to : {E : Type 0} (result : Result code.Record E) (all some : List Rec
 moved_to (Ok r) all some at place same is = same ∙ is
 moved_to (Err e) all some at place same is = tt
 
-pub spelled_at : {E : Type 0} (result : Result (List ℕ) E) (records : List Record) (at : ℕ) (r : Record) → slice_get records at ≡ Some r → IfOk result (λ bytes. Spelled bytes r) → IfOk result (SpellsAt records at)
+pub spelled_at : {E : Type 0} (result : Result (List ℕ) E) (records : List Record) (at : ℕ) (r : Record) → slice_get records at ≡ Some r →
+    IfOk result (λ bytes. Spelled bytes r) → IfOk result (SpellsAt records at)
 spelled_at (Ok bytes) records at r there spelled = record { record_at = r; there = there; spelled = spelled }
 spelled_at (Err e) records at r there spelled = tt
 
@@ -72,17 +73,32 @@ item_writable platform i has config regular =
     let short = reads.1.within in
     let text = config.short in
     let files = few_files i.recipe platform has.0 reads in
-    let same = as_long IsHeldFor has.0.artifacts i.artifacts has.1.files in
-    (tt, (tt, (omega (arith, short), (record { regular = regular; short = omega (arith, text) }, (omega (arith, files, same), all_of layout.held.Asks i.artifacts (λ h. (tt, tt)))))))
+    let same = as_long IsHeldFor has.0.artifacts i.artifacts has.1.files in (
+      tt,
+      (
+        tt,
+        (
+          omega (arith, short),
+          (
+            record { regular = regular; short = omega (arith, text) },
+            (omega (arith, files, same), all_of layout.held.Asks i.artifacts (λ h. (tt, tt))),
+          ),
+        ),
+      ),
+    )
 
 groups_writable : (groups : List Group) → AllByRecursion (λ g. AreRequirements g.requirements) groups → AllByRecursion IsWritable (map Grouped groups)
 groups_writable [] h = tt
 groups_writable (g ∷ groups) h = (group_writable g h.0, groups_writable groups h.1)
 
-items_writable : (platform : Platform) (items : List Item) → AllByRecursion (HasRecipe platform) items → AllByRecursion HasConfig items → AllByRecursion (λ i. IsRegular i.config) items
+items_writable : (platform : Platform) (items : List Item) → AllByRecursion (HasRecipe platform) items → AllByRecursion HasConfig items →
+    AllByRecursion (λ i. IsRegular i.config) items
     → AllByRecursion IsWritable (map Kept items)
 items_writable platform [] has configs regular = tt
-items_writable platform (i ∷ items) has configs regular = (item_writable platform i has.0 configs.0 regular.0, items_writable platform items has.1 configs.1 regular.1)
+items_writable platform (i ∷ items) has configs regular = (
+  item_writable platform i has.0 configs.0 regular.0,
+  items_writable platform items has.1 configs.1 regular.1,
+)
 
 closed_writable : (closed : List (List ℕ × Outcome)) → AllByRecursion IsWritable (map ended closed)
 closed_writable [] = tt
@@ -97,7 +113,8 @@ all_writable number d has regular = by d.origin has.origin has.sound.root has.so
       (omega (arith, root), (tt, (tt, (tt, tt)))),
       all_front IsWritable (map Grouped d.groups) (map Kept d.set ++ map ended d.closed) (groups_writable d.groups has.sound.groups.requirements)
           (all_front IsWritable (map Kept d.set) (map ended d.closed)
-          (items_writable o.platform d.set items.recipes items.configs (recursion_from_All (λ (i : Item). IsRegular i.config) d.set regular.set)) (closed_writable d.closed)),
+          (items_writable o.platform d.set items.recipes items.configs (recursion_from_All (λ (i : Item). IsRegular i.config) d.set regular.set))
+          (closed_writable d.closed)),
     )
 
 pub writable_at : (number at : ℕ) (d : Device) (r : Record) → HasFront d → IsRegularDevice d → slice_get (Front number d) at ≡ Some r → IsWritable r

@@ -1,5 +1,6 @@
 -- A walk over the entries of a front, at the beginning of a journal.
-use Rattle.std.proofs.Common.{◌≡◌, ◌⊎◌, inl, inr, ℕ, ◌+◌, ◌<◌, ◌≤◌, List, [], ◌∷◌, ◌++◌, length, map, Option, Some, None, refl, sym, ap, subst, ◌∙◌, append_assoc, arith, Result, Ok, Err}
+use Rattle.std.proofs.Common.{◌≡◌, ◌⊎◌, inl, inr, ℕ, ◌+◌, ◌<◌, ◌≤◌, List, [], ◌∷◌, ◌++◌, length, map, Option, Some, None, refl, sym, ap, subst, ◌∙◌}
+use Rattle.std.proofs.Common.{append_assoc, arith, Result, Ok, Err}
 use Rattle.std.specs.List.{AllZip}
 use Rattle.std.proofs.lemmas.List.{append-nil, length-append, length-map}
 use Rattle.gate_log.specs.Place.{place_behind, IsEntryAt}
@@ -26,7 +27,8 @@ zip_more [] (s ∷ rs) p r zip spelled = absurd zip
 zip_more (q ∷ ps) [] p r zip spelled = absurd zip
 zip_more (q ∷ ps) (s ∷ rs) p r zip spelled = (zip.0, zip_more ps rs p r zip.1 spelled)
 
-pub walks_on : (payloads others : List (List ℕ)) (at to : ℕ) (p : List ℕ) (r : Record) (old new : Building) (w : Walked payloads at old) → w.rest ≡ p ∷ others → to ≡ at + 5 + length p → Spelled p r
+pub walks_on : (payloads others : List (List ℕ)) (at to : ℕ) (p : List ℕ) (r : Record) (old new : Building) (w : Walked payloads at old) → w.rest ≡ p ∷
+    others → to ≡ at + 5 + length p → Spelled p r
     → Comes old r → new ≡ with_next old r → Walked payloads to new
 walks_on payloads others at to p r old new w next to_is spelled may is = record {
   done = w.done ++ p ∷ [];
@@ -98,20 +100,30 @@ nothing_more whole more b d built of =
     let all = built_long (whole ++ more) b built in
     let both = length-append whole more in
     let turn : Turned h.number h.origin (length d.groups) (length d.set) (length d.closed) ∷ (stock_of d ++ more)
-    ≡ Turned built.number b.origin (length b.groups + b.groups_to_come) (length b.set + b.items_to_come) (length b.closed + b.closed_to_come) ∷ stock_of (device_of b)
+    ≡ Turned built.number b.origin (length b.groups + b.groups_to_come) (length b.set + b.items_to_come) (length b.closed + b.closed_to_come) ∷
+    stock_of (device_of b)
     = sym (ap (λ (l : List Record). l ++ more) h.is) ∙ built.told in
     let g : length d.groups ≡ length b.groups + b.groups_to_come = cc in
     let i : length d.set ≡ length b.set + b.items_to_come = cc in
     let c : length d.closed ≡ length b.closed + b.closed_to_come = cc in
     omega (arith, long, all, both, g, i, c)
 
-goes_on : (payloads front after : List (List ℕ)) (whole : List Record) (at : ℕ) (b : Building) (d : Device) (w : Walked payloads at b) → payloads ≡ front ++ after → AllZip Spelled front whole → IsFrontOf whole d
+goes_on : (payloads front after : List (List ℕ)) (whole : List Record) (at : ℕ) (b : Building) (d : Device) (w : Walked payloads at b) →
+    payloads ≡ front ++ after → AllZip Spelled front whole → IsFrontOf whole d
     → GoesOn payloads w.rest w.records whole
 goes_on payloads front after whole at b d w split zip of = elim (cut w.done w.rest front after (sym w.split ∙ split)) [
   | inl h ↦ (
       let p = parts w.done h.between whole (subst (λ (l : List (List ℕ)). AllZip Spelled l whole) h.long_is zip) in
       let same = same_spelled w.done p.first w.records p.zip w.spelled in
-      record { behind = p.second; between = h.between; more = after; is = p.is ∙ ap (λ (l : List Record). l ++ p.second) same; zip = p.rest; rest_is = h.behind_is })
+      record {
+        behind = p.second;
+        between = h.between;
+        more = after;
+        is = p.is ∙ ap (λ (l : List Record). l ++ p.second) same;
+        zip = p.rest;
+        rest_is =
+            h.behind_is;
+      })
   | inr h ↦ (
       let p = parts front h.between w.records (subst (λ (l : List (List ℕ)). AllZip Spelled l w.records) h.long_is w.spelled) in
       let same = same_spelled front p.first whole p.zip zip in
@@ -130,25 +142,29 @@ stops_at_end payloads at b w none bad front after whole split zip d of =
     let g = goes_on payloads front after whole at b d w split zip of in
     bad (by g.between g.behind (sym none ∙ g.rest_is) g.zip g.is)
   where
-    by : (between : List (List ℕ)) (behind : List Record) → [] ≡ between ++ (goes_on payloads front after whole at b d w split zip of).more → AllZip Spelled between behind → whole ≡ w.records ++ behind → IsWhole b
+    by : (between : List (List ℕ)) (behind : List Record) → [] ≡ between ++ (goes_on payloads front after whole at b d w split zip of).more →
+        AllZip Spelled between behind → whole ≡ w.records ++ behind → IsWhole b
     by [] [] is zipped same = whole_then w.records whole b d w.built same of
     by [] (r ∷ rs) is zipped same = absurd zipped
     by (p ∷ ps) behind is zipped same = absurd cc
 
-pub stops_whole : (payloads : List (List ℕ)) (at : ℕ) (b : Building) (w : Walked payloads at b) → b.groups_to_come ≡ 0 → b.items_to_come ≡ 0 → b.closed_to_come ≡ 0 → (IsWhole b → ⊥) → BeginsNoFront payloads
+pub stops_whole : (payloads : List (List ℕ)) (at : ℕ) (b : Building) (w : Walked payloads at b) → b.groups_to_come ≡ 0 → b.items_to_come ≡ 0 →
+    b.closed_to_come ≡ 0 → (IsWhole b → ⊥) → BeginsNoFront payloads
 stops_whole payloads at b w none nothing no_more bad front after whole split zip d of =
     let g = goes_on payloads front after whole at b d w split zip of in
     let all = is_all w.records g.behind b d w.built (subst (λ (l : List Record). IsFrontOf l d) g.is of) none nothing no_more in
     bad (whole_then w.records whole b d w.built (g.is ∙ ap (λ (l : List Record). w.records ++ l) (sym all.0)) of)
 
 -- the next payload spells no record that comes
-pub stops_before : (payloads others : List (List ℕ)) (at : ℕ) (p : List ℕ) (b : Building) (w : Walked payloads at b) → w.rest ≡ p ∷ others → 0 < b.groups_to_come + b.items_to_come + b.closed_to_come
+pub stops_before : (payloads others : List (List ℕ)) (at : ℕ) (p : List ℕ) (b : Building) (w : Walked payloads at b) → w.rest ≡ p ∷ others →
+    0 < b.groups_to_come + b.items_to_come + b.closed_to_come
     → ((r : Record) → Spelled p r → Comes b r → ⊥) → BeginsNoFront payloads
 stops_before payloads others at p b w next some bad front after whole split zip d of =
     let g = goes_on payloads front after whole at b d w split zip of in
     by g.between g.behind g.more (sym next ∙ g.rest_is) g.zip g.is
   where
-    by : (between : List (List ℕ)) (behind : List Record) (more : List (List ℕ)) → p ∷ others ≡ between ++ more → AllZip Spelled between behind → whole ≡ w.records ++ behind → ⊥
+    by : (between : List (List ℕ)) (behind : List Record) (more : List (List ℕ)) → p ∷ others ≡ between ++ more → AllZip Spelled between behind →
+        whole ≡ w.records ++ behind → ⊥
     by [] [] more is zipped same =
         let all = whole_then w.records whole b d w.built same of in
         let none = all.no_groups in
@@ -163,7 +179,8 @@ stops_before payloads others at p b w next some bad front after whole split zip 
 
 -- ---- the beginning
 
-pub walks_first : (payloads others : List (List ℕ)) (to : ℕ) (p : List ℕ) (r : Record) (b : Building) → payloads ≡ p ∷ others → to ≡ 0 + 5 + length p → Spelled p r → Begins r → BeginsAs r b → Walked payloads to b
+pub walks_first : (payloads others : List (List ℕ)) (to : ℕ) (p : List ℕ) (r : Record) (b : Building) → payloads ≡ p ∷ others → to ≡ 0 + 5 + length p →
+    Spelled p r → Begins r → BeginsAs r b → Walked payloads to b
 walks_first payloads others to p r b is to_is spelled begins begun = record {
   done = p ∷ [];
   rest = others;
@@ -185,7 +202,8 @@ stops_first payloads others p r is spelled bad (q ∷ qs) after (s ∷ ss) split
 
 -- ---- as the code walks
 
-pub came_payload : (r : Record) (p : List ℕ) (old new : Building) (result : Result (Unit {0}) RestoreFault) → Spelled p r → Came r old new result → CamePayload old p new result
+pub came_payload : (r : Record) (p : List ℕ) (old new : Building) (result : Result (Unit {0}) RestoreFault) → Spelled p r → Came r old new result →
+    CamePayload old p new result
 came_payload r p old new (Ok x) spelled came = (r, spelled, came.0, came.1)
 came_payload r p old new (Err restore.NotSound) spelled bad = λ s other may. bad (subst (Comes old) (one_record p s r other spelled) may)
 came_payload r p old new (Err restore.NoMemory) spelled came = tt
@@ -218,18 +236,21 @@ at_end payloads end at b w end_is le = by w.rest w.split
         absurd (omega (arith, le, place, end_is, same, on))
 
 -- it is an entry of any journal that stands behind these payloads
-pub walks_at : {J Image : Type 0} (stands : J → Image → List (List ℕ) → Type 0) (log : J) (image : Image) (payloads : List (List ℕ)) (at : ℕ) (b : Building) (w : Walked payloads at b) (a : Ahead w.rest)
+pub walks_at : {J Image : Type 0} (stands : J → Image → List (List ℕ) → Type 0) (log : J) (image : Image) (payloads : List (List ℕ)) (at : ℕ) (b : Building)
+    (w : Walked payloads at b) (a : Ahead w.rest)
     → stands log image payloads → IsEntryAt stands log image at a.first
 walks_at stands log image payloads at b w a on =
     record { before = w.done; after = a.others; on = subst (stands log image) (w.split ∙ ap (λ (l : List (List ℕ)). w.done ++ l) a.is) on; at_is = w.at_is }
 
-pub entry_fault : (payloads : List (List ℕ)) (at : ℕ) (b c : Building) (w : Walked payloads at b) (a : Ahead w.rest) (f : ReplayFault) → 0 < b.groups_to_come + b.items_to_come + b.closed_to_come
+pub entry_fault : (payloads : List (List ℕ)) (at : ℕ) (b c : Building) (w : Walked payloads at b) (a : Ahead w.rest) (f : ReplayFault) →
+    0 < b.groups_to_come + b.items_to_come + b.closed_to_come
     → CameEntry b at a.first c (Err f) → TookFront payloads (Err f)
 entry_fault payloads at b c w a fault.Disk some came = tt
 entry_fault payloads at b c w a (fault.Damaged place) some came = (came.0, stops_before payloads a.others at a.first b w a.is some came.1)
 entry_fault payloads at b c w a fault.NoMemory some came = tt
 
-pub front_taken : (payloads : List (List ℕ)) (at : ℕ) (b : Building) (device : code.Device) → Walked payloads at b → IsOrderly b → Finished b (Ok device) → FrontBefore payloads (device_view device) at
+pub front_taken : (payloads : List (List ℕ)) (at : ℕ) (b : Building) (device : code.Device) → Walked payloads at b → IsOrderly b → Finished b (Ok device) →
+    FrontBefore payloads (device_view device) at
 front_taken payloads at b device w are whole = record {
   front = w.done;
   after = w.rest;
@@ -251,8 +272,10 @@ pub stops : (payloads : List (List ℕ)) (end at : ℕ) (b : Building) → Walke
     → (0 < b.groups_to_come + b.items_to_come + b.closed_to_come → ⊥) ⊎ (end ≤ at) → (IsWhole b → ⊥) → BeginsNoFront payloads
 stops payloads end at b w end_is (inl none) bad =
     let all = b.groups_to_come + b.items_to_come + b.closed_to_come in
-    stops_whole payloads at b w (no_more b.groups_to_come all (omega arith) none) (no_more b.items_to_come all (omega arith) none) (no_more b.closed_to_come all (omega arith) none) bad
+    stops_whole payloads at b w (no_more b.groups_to_come all (omega arith) none) (no_more b.items_to_come all (omega arith) none)
+    (no_more b.closed_to_come all (omega arith) none) bad
 stops payloads end at b w end_is (inr le) bad = stops_at_end payloads at b w (at_end payloads end at b w end_is le) bad
 
-pub walked_on : (payloads : List (List ℕ)) (at to : ℕ) (b c : Building) (w : Walked payloads at b) (a : Ahead w.rest) → CameEntry b at a.first c (Ok to) → Walked payloads to c
+pub walked_on : (payloads : List (List ℕ)) (at to : ℕ) (b c : Building) (w : Walked payloads at b) (a : Ahead w.rest) → CameEntry b at a.first c (Ok to) →
+    Walked payloads to c
 walked_on payloads at to b c w a came = walks_on payloads a.others at to a.first came.0.0 b c w a.is came.1 came.0.1 came.0.2 came.0.3

@@ -79,7 +79,8 @@ pub record AddsNeeds (items : List code.Item) (from : ℕ) (dependencies : List 
 abbrev pub AreNeeds : List code.Item → ℕ → List Recipe → List Need → Type 0
 AreNeeds items from [] needs = needs ≡ []
 AreNeeds items from (recipe ∷ recipes) needs =
-    (row : List Need) × (rest : List Need) × (needs ≡ row ++ rest) × AllZip (IsNeedOf items from) recipe.dependencies row × AreNeeds items (from + 1) recipes rest
+    (row : List Need) × (rest : List Need) × (needs ≡ row ++ rest) × AllZip (IsNeedOf items from) recipe.dependencies row ×
+    AreNeeds items (from + 1) recipes rest
 
 -- the place of an item of the first name has a recipe that names a dependency of the second
 pub record NeedsIn (items : List code.Item) (recipes : List Recipe) (a b : List ℕ) : Type 0 where

@@ -27,7 +27,16 @@ pub record Building : Type 0 where
   pub closed_to_come : ℕ
 
 abbrev pub building_view : code.Rebuilding → Building
-building_view b = record { origin = b.origin; groups = b.groups.list; set = map item_view b.set; closed = b.closed; groups_to_come = b.groups_to_come; items_to_come = b.items_to_come; closed_to_come = b.closed_to_come }
+building_view b = record {
+  origin = b.origin;
+  groups = b.groups.list;
+  set = map item_view b.set;
+  closed = b.closed;
+  groups_to_come =
+      b.groups_to_come;
+  items_to_come = b.items_to_come;
+  closed_to_come = b.closed_to_come;
+}
 
 -- the device of what came
 abbrev pub device_of : Building → Device
@@ -42,7 +51,16 @@ Begins _ = ⊥
 
 -- nothing of its stock came yet
 abbrev pub BeginsAs : Record → Building → Type 0
-BeginsAs (Turned n o groups items closed) b = b ≡ record { origin = o; groups = []; set = []; closed = []; groups_to_come = groups; items_to_come = items; closed_to_come = closed }
+BeginsAs (Turned n o groups items closed) b = b ≡ record {
+  origin = o;
+  groups = [];
+  set = [];
+  closed = [];
+  groups_to_come = groups;
+  items_to_come =
+      items;
+  closed_to_come = closed;
+}
 BeginsAs _ b = ⊥
 
 -- ---- one record more
@@ -84,7 +102,8 @@ pub record IsOrderly (b : Building) : Type 0 where
 -- these records were told so far
 pub record IsBuilt (records : List Record) (b : Building) : Type 0 where
   pub number : ℕ
-  pub told : records ≡ Turned number b.origin (length b.groups + b.groups_to_come) (length b.set + b.items_to_come) (length b.closed + b.closed_to_come) ∷ stock_of (device_of b)
+  pub told : records ≡ Turned number b.origin (length b.groups + b.groups_to_come) (length b.set + b.items_to_come) (length b.closed + b.closed_to_come) ∷
+      stock_of (device_of b)
   pub items_later : 0 < b.groups_to_come → b.set ≡ []
   pub closed_later : 0 < b.groups_to_come + b.items_to_come → b.closed ≡ []
 

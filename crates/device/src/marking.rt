@@ -39,7 +39,8 @@ fn count(pending: &mut Pending, at: u32)
 
 fn mark_pending(pending: &mut Pending, mark: Mark, flags: &[bool; 128])
     requires { CanMark mark (pending_view pending.old) }
-    ensures { pending_view pending.new ≡ marked (chosen flags.now (take (reach_of (pending_view pending.old)) pending.old.plan.boots)) mark (pending_view pending.old) }
+    ensures { pending_view pending.new ≡ marked (chosen flags.now (take (reach_of (pending_view pending.old)) pending.old.plan.boots)) mark
+        (pending_view pending.old) }
 {
     match mark {
         Mark::BootBegun => pending.begun = true,
@@ -105,8 +106,10 @@ impl Device {
         requires sound { IsSound (device_view self.now) }
         requires spare { IsSpareOf spare.now (device_view self.now) }
         requires fails { IsSomeAnd (device_view self.now).pending (λ q. is_some (failing_name q) ≡ true) }
-        ensures told { IfSome (device_view self.now).pending (λ q. IsTrue result ↔ (backs (device_view self.now).origin (device_view self.now).set q.plan (reach_of q) ≢ [])) }
-        ensures lawful { IfSome (device_view self.now).pending (λ q. IsTrue result ↔ IsSomeAnd (device_view self.now).origin (HasBacks (device_view self.now).set q)) }
+        ensures told { IfSome (device_view self.now).pending
+            (λ q. IsTrue result ↔ (backs (device_view self.now).origin (device_view self.now).set q.plan (reach_of q) ≢ [])) }
+        ensures lawful { IfSome (device_view self.now).pending (λ q. IsTrue result ↔ IsSomeAnd (device_view self.now).origin
+            (HasBacks (device_view self.now).set q)) }
     {
         match &self.pending {
             Some(pending) => has_flag(pending, &spare.back_flags),

@@ -153,7 +153,8 @@ fn write_step_failed(
     into: &mut [u8; 1024],
 ) -> usize
     requires { (n : List ℕ) × (failing_place (map item_view set.now) (pending_view pending.now) n ≡ Some at) }
-    ensures spelled { (n : List ℕ) → failing_place (map item_view set.now) (pending_view pending.now) n ≡ Some at → Spelled (take result into.new) (stored.StepFailed n step exit) }
+    ensures spelled { (n : List ℕ) → failing_place (map item_view set.now) (pending_view pending.now) n ≡ Some at →
+        Spelled (take result into.new) (stored.StepFailed n step exit) }
     ensures small { (1 ≤ result) × (result ≤ 160) }
 {
     match pending.stage {

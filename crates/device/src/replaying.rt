@@ -129,7 +129,8 @@ fn take_front<J: Journal, D: Disk>(
 ) -> Result<(Device, u64), ReplayFault>
     requires stands { IsTrue D.is_modelled → (payloads : List (List ℕ)) × J.stands log.now (D.seen disk.old) payloads }
     requires orderly { IsOrderly (building_view building) }
-    requires walked { IsTrue D.is_modelled → (payloads : List (List ℕ)) → J.stands log.now (D.seen disk.old) payloads → Walked payloads at (building_view building) }
+    requires walked { IsTrue D.is_modelled → (payloads : List (List ℕ)) → J.stands log.now (D.seen disk.old) payloads →
+        Walked payloads at (building_view building) }
     ensures told { IsTrue D.is_modelled → (payloads : List (List ℕ)) → J.stands log.now (D.seen disk.old) payloads → TookFront payloads result }
     ensures regular { IfOk result (λ r. IsRegularDevice (device_view r.0)) }
     ensures sound { IfOk result (λ r. IsSound (device_view r.0)) }

@@ -1,8 +1,11 @@
 // The steps of a pending deployment.
-ghost use Rattle.std.specs.Prelude.{◌≡◌, ◌≢◌, ◌↔◌, ◌≤◌, ◌<◌, length, IsTrue, map, is_some, option_map, true, position, nat_eq, slice_get, take, None, Some, [], List, ℕ};
+ghost use Rattle.std.specs.Prelude.{◌≡◌, ◌≢◌, ◌↔◌, ◌≤◌, ◌<◌, length, IsTrue, map, is_some, option_map, true, position, nat_eq, slice_get, take, None, Some};
+ghost use Rattle.std.specs.Prelude.{[], List, ℕ};
 ghost use Rattle.device.specs.Devices.{pending_view, chosen};
 ghost use Rattle.device.specs.Does.{Does};
-ghost use Rattle.device.specs.Lawful.{MayBegin, MayEnd, MayActivate, MayFail, MayBreak, MayGoBack, MayClose, begun, boot_ended, one_ended, has_gone_back, moved_on, activated, count_failure, rolled, turned_to, turned_back, next_boot, failing_name, broken_name, reach_of, broken, goes_on, takes_plan, MayCount, counted, running, failing_place};
+ghost use Rattle.device.specs.Lawful.{MayBegin, MayEnd, MayActivate, MayFail, MayBreak, MayGoBack, MayClose, begun, boot_ended, one_ended, has_gone_back};
+ghost use Rattle.device.specs.Lawful.{moved_on, activated, count_failure, rolled, turned_to, turned_back, next_boot, failing_name, broken_name, reach_of};
+ghost use Rattle.device.specs.Lawful.{broken, goes_on, takes_plan, MayCount, counted, running, failing_place};
 ghost use Rattle.records.specs.Stored.{item_view};
 
 use crate::backs::tell_backs;
@@ -67,7 +70,8 @@ fn is_name(found: Option<&Name>, name: &Name) -> bool
 }
 
 pub(crate) fn begin(pending: &mut Pending, name: &Name) -> Result<(), ApplyFault>
-    ensures { Does (MayBegin name.now (pending_view pending.old)) (begun (pending_view pending.old)) (pending_view pending.old) (pending_view pending.new) result }
+    ensures { Does (MayBegin name.now (pending_view pending.old)) (begun (pending_view pending.old)) (pending_view pending.old) (pending_view pending.new)
+        result }
 {
     if !pending.boot_failed && is_name(next_of(pending), name) && !pending.begun {
         pending.begun = true;
@@ -113,7 +117,8 @@ pub(crate) fn move_on(pending: &mut Pending)
 }
 
 pub(crate) fn end(pending: &mut Pending, name: &Name, exit: Exit) -> Result<(), ApplyFault>
-    ensures { Does (MayEnd name.now (pending_view pending.old)) (boot_ended exit (pending_view pending.old)) (pending_view pending.old) (pending_view pending.new) result }
+    ensures { Does (MayEnd name.now (pending_view pending.old)) (boot_ended exit (pending_view pending.old)) (pending_view pending.old)
+        (pending_view pending.new) result }
 {
     if !pending.boot_failed && is_name(next_of(pending), name) && pending.begun {
         if goes_on(exit) {
@@ -128,7 +133,8 @@ pub(crate) fn end(pending: &mut Pending, name: &Name, exit: Exit) -> Result<(), 
 }
 
 pub(crate) fn activate(pending: &mut Pending) -> Result<(), ApplyFault>
-    ensures { Does (MayActivate (pending_view pending.old)) (activated (pending_view pending.old)) (pending_view pending.old) (pending_view pending.new) result }
+    ensures { Does (MayActivate (pending_view pending.old)) (activated (pending_view pending.old)) (pending_view pending.old) (pending_view pending.new)
+        result }
 {
     if pending.stage == Stage::Booting && !pending.boot_failed && next_of(pending).is_none() {
         pending.stage = Stage::Activating;
@@ -147,7 +153,8 @@ pub fn broken_of(failures: &[u8; 128]) -> Option<usize>
 }
 
 fn count(pending: &mut Pending, at: Option<usize>) -> Result<(), ApplyFault>
-    ensures { Does (MayCount (pending_view pending.old) at) (counted at (pending_view pending.old)) (pending_view pending.old) (pending_view pending.new) result }
+    ensures { Does (MayCount (pending_view pending.old) at) (counted at (pending_view pending.old)) (pending_view pending.old) (pending_view pending.new)
+        result }
 {
     let Some(at) = at else {
         return Err(ApplyFault::NotLawful);
@@ -178,7 +185,8 @@ pub(crate) fn fail(
     step: Step,
     exit: Exit,
 ) -> Result<(), ApplyFault>
-    ensures { Does (MayFail (map item_view set.now) name.now step exit (pending_view pending.old)) (count_failure (map item_view set.now) name.now (pending_view pending.old)) (pending_view pending.old) (pending_view pending.new) result }
+    ensures { Does (MayFail (map item_view set.now) name.now step exit (pending_view pending.old))
+        (count_failure (map item_view set.now) name.now (pending_view pending.old)) (pending_view pending.old) (pending_view pending.new) result }
 {
     if !matches!(step, Step::Install | Step::Run | Step::Startup) || exit == Exit::Code(0) {
         return Err(ApplyFault::NotLawful);
@@ -218,7 +226,8 @@ fn may_break(pending: &Pending, name: &Name) -> bool
 }
 
 pub(crate) fn break_off(pending: &mut Pending, name: &Name) -> Result<(), ApplyFault>
-    ensures { Does (MayBreak name.now (pending_view pending.old)) (rolled (pending_view pending.old)) (pending_view pending.old) (pending_view pending.new) result }
+    ensures { Does (MayBreak name.now (pending_view pending.old)) (rolled (pending_view pending.old)) (pending_view pending.old) (pending_view pending.new)
+        result }
 {
     if may_break(pending, name) {
         roll(pending);
@@ -243,7 +252,8 @@ fn reach_of(pending: &Pending) -> u32
 /// The way back begins with the bootstrap steps that have a flag.
 pub(crate) fn turn_back(pending: &mut Pending, flags: &[bool; 128])
     requires { is_some (failing_name (pending_view pending.old)) ≡ true }
-    ensures { pending_view pending.new ≡ turned_to (chosen flags.now (take (reach_of (pending_view pending.old)) pending.old.plan.boots)) (pending_view pending.old) }
+    ensures { pending_view pending.new ≡ turned_to (chosen flags.now (take (reach_of (pending_view pending.old)) pending.old.plan.boots))
+        (pending_view pending.old) }
 {
     pending.reach = reach_of(pending);
     pending.back_flags = *flags;
@@ -271,7 +281,8 @@ pub(crate) fn go_back(
     pending: &mut Pending,
     name: &Name,
 ) -> Result<(), ApplyFault>
-    ensures { Does (MayGoBack origin.now (map item_view set.now) name.now (pending_view pending.old)) (turned_back origin.now (map item_view set.now) (pending_view pending.old)) (pending_view pending.old) (pending_view pending.new) result }
+    ensures { Does (MayGoBack origin.now (map item_view set.now) name.now (pending_view pending.old))
+        (turned_back origin.now (map item_view set.now) (pending_view pending.old)) (pending_view pending.old) (pending_view pending.new) result }
 {
     let Some(origin) = origin else {
         return Err(ApplyFault::NotLawful);

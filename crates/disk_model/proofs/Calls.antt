@@ -42,7 +42,8 @@ as_err (Err e) (Ok u) same p gives = tt
 as_err (Err e) (Err f) same p gives = gives p
 
 -- the images after one call more
-left-push : (calls new : List Call) (call : Call) (start c : Image) → new ≡ calls ++ call ∷ [] → left_after new start c ↔ images_step call (seen_after calls start) (left_after calls start) c
+left-push : (calls new : List Call) (call : Call) (start c : Image) → new ≡ calls ++ call ∷ [] →
+    left_after new start c ↔ images_step call (seen_after calls start) (left_after calls start) c
 left-push calls new call start c is = (
   λ left. images-push calls call start _ c (subst (λ (l : List Call). left_after l start c) is left),
   λ left. subst (λ (l : List Call). left_after l start c) (sym is) (push-images calls call start _ c left),
@@ -90,7 +91,8 @@ module _ (old new : MemoryDisk) (start : image_of new.start ≡ image_of old.sta
         );
       }
 
-  pub was_cut : (file : List ℕ) (len : ℕ) (reads_as : List ℕ → List ℕ → Type 0) → ((l : List ℕ) → reads_as l (take len l)) → new.calls.items ≡ old.calls.items ++ CutTo file len ∷ []
+  pub was_cut : (file : List ℕ) (len : ℕ) (reads_as : List ℕ → List ℕ → Type 0) → ((l : List ℕ) → reads_as l (take len l)) →
+      new.calls.items ≡ old.calls.items ++ CutTo file len ∷ []
       → Changed file reads_as (Cut len) old new
   was_cut file len reads_as holds is = record {
     reads = put_step file (take len (seen_by old file)) (seen_by old) (seen_by new) reads_as (seen_now (CutTo file len) is) (holds (seen_by old file));
@@ -121,6 +123,7 @@ module _ (old new : MemoryDisk) (start : image_of new.start ≡ image_of old.sta
       record { later = leaves.later; each = λ c left. before c (leaves.each c left); joins = leaves.joins; keeps = leaves.keeps }
 
 -- after a sync every image has in the file what it reads as
-pub settled : (file : List ℕ) (old new : List Call) (start : Image) → new ≡ old ++ Synced file ∷ [] → Settled (left_after new start) file (seen_after new start file)
+pub settled : (file : List ℕ) (old new : List Call) (start : Image) → new ≡ old ++ Synced file ∷ [] →
+    Settled (left_after new start) file (seen_after new start file)
 settled file old new start is c left =
     ((left-push old new (Synced file) start c is).0 left).1 ∙ ap (λ (i : Image). i file) (sym (seen-pushed old new (Synced file) start is))

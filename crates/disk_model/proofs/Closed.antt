@@ -1,5 +1,6 @@
 -- The steps of the crash model and its one sentence say the same.
-use Rattle.std.proofs.Common.{◌≡◌, ◌≢◌, ◌⊎◌, ◌↔◌, inl, inr, ⊎_elim, ℕ, zero, suc, ◌+◌, ◌-◌, ◌<◌, ◌≤◌, min, max, Bool, true, false, if◌then◌else◌, List, [], ◌∷◌, ◌++◌, length, get_or, take, drop, refl, sym, ◌∙◌, ap, subst, arith, length-append, length-drop, length-take}
+use Rattle.std.proofs.Common.{◌≡◌, ◌≢◌, ◌⊎◌, ◌↔◌, inl, inr, ⊎_elim, ℕ, zero, suc, ◌+◌, ◌-◌, ◌<◌, ◌≤◌, min, max, Bool, true, false, if◌then◌else◌, List, []}
+use Rattle.std.proofs.Common.{◌∷◌, ◌++◌, length, get_or, take, drop, refl, sym, ◌∙◌, ap, subst, arith, length-append, length-drop, length-take}
 use Rattle.std.specs.Str.{bytes_eq}
 use Rattle.std.proofs.lemmas.Bool.{cases_lt}
 use Rattle.std.proofs.lemmas.List.{ext_get_or, get_or-take, get_or-drop}
@@ -32,13 +33,15 @@ pick_at i at n (inl low) t out within = out
 pick_at i at n (inr up) (inl low) out within = within
 pick_at i at n (inr up) (inr past) out within = out
 
-pick_out : (i at n : ℕ) (s : (i < at) ⊎ (at ≤ i)) (t : (i < at + n) ⊎ (at + n ≤ i)) (out within : ℕ) → (i < at) ⊎ (at + n ≤ i) → pick_at i at n s t out within ≡ out
+pick_out : (i at n : ℕ) (s : (i < at) ⊎ (at ≤ i)) (t : (i < at + n) ⊎ (at + n ≤ i)) (out within : ℕ) → (i < at) ⊎ (at + n ≤ i) → pick_at i at n s t out within
+    ≡ out
 pick_out i at n (inl low) t out within o = refl
 pick_out i at n (inr up) (inl low) out within (inl lt) = absurd (omega arith)
 pick_out i at n (inr up) (inl low) out within (inr ge) = absurd (omega arith)
 pick_out i at n (inr up) (inr past) out within o = refl
 
-pick_either : (i at n : ℕ) (s : (i < at) ⊎ (at ≤ i)) (t : (i < at + n) ⊎ (at + n ≤ i)) (out within want : ℕ) → (((at ≤ i) × (i < at + n) → ⊥) → out ≡ want) → within ≡ want → pick_at i at n s t out within ≡ want
+pick_either : (i at n : ℕ) (s : (i < at) ⊎ (at ≤ i)) (t : (i < at + n) ⊎ (at + n ≤ i)) (out within want : ℕ) → (((at ≤ i) × (i < at + n) → ⊥) → out ≡ want) →
+    within ≡ want → pick_at i at n s t out within ≡ want
 pick_either i at n (inl low) t out within want o w = o (λ r. omega (arith, r.0))
 pick_either i at n (inr up) (inl low) out within want o w = w
 pick_either i at n (inr up) (inr past) out within want o w = o (λ r. omega (arith, r.1))
@@ -51,7 +54,8 @@ module _ (u : Unsynced) (seen : ℕ) (low : u.least ≤ seen) (high : seen ≤ u
     no_longer = omega (arith, may.no_longer, torn.no_longer, is, high);
     stays = λ i lt firm. elim (cases_lt i at) [
       | inl before ↦
-          let same : get_or c i 0 ≡ get_or b i 0 = sym (get_or-take at c i 0 before) ∙ ap (λ (l : List ℕ). get_or l i 0) torn.before ∙ get_or-take at b i 0 before in
+          let same : get_or c i 0 ≡ get_or b i 0 = sym (get_or-take at c i 0 before) ∙ ap (λ (l : List ℕ). get_or l i 0) torn.before ∙ get_or-take at b i 0
+          before in
           let there : i < length b = omega (arith, ap length torn.before, length-take at c, length-take at b) in
           same ∙ may.stays i there (λ loose. firm (⊎_elim (λ past. inl past) (λ w. inr (inr w)) loose))
       | inr from ↦ elim (cases_lt i (at + n)) [
@@ -68,7 +72,8 @@ module _ (u : Unsynced) (seen : ℕ) (low : u.least ≤ seen) (high : seen ≤ u
   }
 
   -- and each such is one
-  pub write_complete : (len at n : ℕ) → at ≤ seen → len ≡ max seen (at + n) → (c : List ℕ) → MayHold (rewritten len at n u) c → (b : List ℕ) × MayHold u b × Torn at n b c
+  pub write_complete : (len at n : ℕ) → at ≤ seen → len ≡ max seen (at + n) → (c : List ℕ) → MayHold (rewritten len at n u) c → (b : List ℕ) × MayHold u b ×
+      Torn at n b c
   write_complete len at n within is c may = (table value size, held, torn)
     where
       size : ℕ
@@ -93,13 +98,16 @@ module _ (u : Unsynced) (seen : ℕ) (low : u.least ≤ seen) (high : seen ≤ u
 
       torn : Torn at n (table value size) c
       torn = record {
-        before = ext_get_or 0 (take at c) (take at (table value size)) (omega (arith, length-take at c, length-take at (table value size), length-table value size, high))
+        before = ext_get_or 0 (take at c) (take at (table value size))
+            (omega (arith, length-take at c, length-take at (table value size), length-table value size, high))
             (λ i lt.
             let front : i < at = omega (arith, length-take at c) in
             get_or-take at c i 0 front ∙ before_at i (omega (arith, length-take at c, high)) (inl front) ∙ sym (get_or-take at (table value size) i 0 front));
-        after = ext_get_or 0 (drop (at + n) c) (drop (at + n) (table value size)) (omega (arith, length-drop (at + n) c, length-drop (at + n) (table value size), length-table value size, high, may.no_longer, is))
+        after = ext_get_or 0 (drop (at + n) c) (drop (at + n) (table value size))
+            (omega (arith, length-drop (at + n) c, length-drop (at + n) (table value size), length-table value size, high, may.no_longer, is))
             (λ i lt.
-            get_or-drop (at + n) c i 0 ∙ before_at (at + n + i) (omega (arith, length-drop (at + n) c, high, may.no_longer, is)) (inr (omega arith)) ∙ sym (get_or-drop (at + n) (table value size) i 0));
+            get_or-drop (at + n) c i 0 ∙ before_at (at + n + i) (omega (arith, length-drop (at + n) c, high, may.no_longer, is)) (inr (omega arith)) ∙ sym
+            (get_or-drop (at + n) (table value size) i 0));
         no_shorter = omega (arith, length-table value size);
         no_longer = omega (arith, length-table value size, may.no_longer, is, high);
       }
@@ -143,14 +151,20 @@ module _ (u : Unsynced) (seen : ℕ) (low : u.least ≤ seen) (high : seen ≤ u
       }
 
 pub stable_sound : (s c : List ℕ) → c ≡ s → MayHold (stable s) c
-stable_sound s c is = record { no_shorter = omega (arith, ap length is); no_longer = omega (arith, ap length is); stays = λ i lt firm. ap (λ (l : List ℕ). get_or l i 0) is }
+stable_sound s c is = record {
+  no_shorter = omega (arith, ap length is);
+  no_longer = omega (arith, ap length is);
+  stays =
+      λ i lt firm. ap (λ (l : List ℕ). get_or l i 0) is;
+}
 
 pub stable_complete : (s c : List ℕ) → MayHold (stable s) c → c ≡ s
 stable_complete s c may = ext_get_or 0 c s (omega (arith, may.no_shorter, may.no_longer))
     (λ i lt. may.stays i lt (λ loose. ⊎_elim (λ past. omega (arith, may.no_longer)) (λ none. none) loose))
 
 -- cases on a name
-pub at_name : (P : Unsynced → Type 0) (file : List ℕ) (u : Unsynced) (of : List ℕ → Unsynced) (name : List ℕ) → (name ≡ file → P u) → (name ≢ file → P (of name)) → P (if bytes_eq name file then u else of name)
+pub at_name : (P : Unsynced → Type 0) (file : List ℕ) (u : Unsynced) (of : List ℕ → Unsynced) (name : List ℕ) → (name ≡ file → P u) →
+    (name ≢ file → P (of name)) → P (if bytes_eq name file then u else of name)
 at_name P file u of name here there = by_test (bytes_eq name file) refl
   where
     by_test : (b : Bool) → bytes_eq name file ≡ b → P (if bytes_eq name file then u else of name)
@@ -161,7 +175,8 @@ at_name P file u of name here there = by_test (bytes_eq name file) refl
 pub name_here : (P : Unsynced → Type 0) (file : List ℕ) (u : Unsynced) (of : List ℕ → Unsynced) → P (if bytes_eq file file then u else of file) → P u
 name_here P file u of p = subst (λ (b : Bool). P (if b then u else of file)) ((bytes_eq-Decides file file).1 refl) p
 
-pub name_there : (P : Unsynced → Type 0) (file : List ℕ) (u : Unsynced) (of : List ℕ → Unsynced) (name : List ℕ) → name ≢ file → P (if bytes_eq name file then u else of name) → P (of name)
+pub name_there : (P : Unsynced → Type 0) (file : List ℕ) (u : Unsynced) (of : List ℕ → Unsynced) (name : List ℕ) → name ≢ file →
+    P (if bytes_eq name file then u else of name) → P (of name)
 name_there P file u of name ne p = by_test (bytes_eq name file) refl
   where
     by_test : (b : Bool) → bytes_eq name file ≡ b → P (of name)
@@ -170,7 +185,13 @@ name_there P file u of name ne p = by_test (bytes_eq name file) refl
 
 pub length-over : (at : ℕ) (bytes old : List ℕ) → length (overwritten at bytes old) ≡ max (length old) (min at (length old) + length bytes)
 length-over at bytes old =
-    omega (arith, length-append (take at old ++ bytes) (drop (at + length bytes) old), length-append (take at old) bytes, length-take at old, length-drop (at + length bytes) old)
+    omega (
+      arith,
+      length-append (take at old ++ bytes) (drop (at + length bytes) old),
+      length-append (take at old) bytes,
+      length-take at old,
+      length-drop (at + length bytes) old,
+    )
 
 -- the images are those whose every file may be held
 abbrev pub Says : (Image → Type 0) → (List ℕ → Unsynced) → Type 0
@@ -207,25 +228,29 @@ change_says images of file u change sound complete says c = (
         by_test true is = subst (λ (b : Bool). P (if b then bytes else i name)) (sym is) (same ((bytes_eq-Decides name g).0 is))
         by_test false is = subst (λ (b : Bool). P (if b then bytes else i name)) (sym is) (other (λ eq. absurd (cc (is, (bytes_eq-Decides name g).1 eq))))
 
-sync_says : (file : List ℕ) (seen : Image) (images : Image → Type 0) (of : List ℕ → Unsynced) → images seen → Says images of → Says (λ c. images c × (c file ≡ seen file)) (λ name. if bytes_eq name file then stable (seen file) else of name)
+sync_says : (file : List ℕ) (seen : Image) (images : Image → Type 0) (of : List ℕ → Unsynced) → images seen → Says images of →
+    Says (λ c. images c × (c file ≡ seen file)) (λ name. if bytes_eq name file then stable (seen file) else of name)
 sync_says file seen images of is says c = (
   λ was name. at_name (λ (v : Unsynced). MayHold v (c name)) file (stable (seen file)) of name
       (λ same. subst (λ (n : List ℕ). MayHold (stable (seen file)) (c n)) (sym same) (stable_sound (seen file) (c file) was.1))
       (λ ne. (says c).0 was.0 name),
   λ may.
-      let here : c file ≡ seen file = stable_complete (seen file) (c file) (name_here (λ (v : Unsynced). MayHold v (c file)) file (stable (seen file)) of (may file)) in (
+      let here : c file ≡ seen file = stable_complete (seen file) (c file) (name_here (λ (v : Unsynced). MayHold v (c file)) file (stable (seen file)) of
+      (may file)) in (
         (says c).1 (λ name. by_test name (bytes_eq name file) refl (may name) here),
         here,
       ),
 )
   where
-    by_test : (name : List ℕ) (b : Bool) → bytes_eq name file ≡ b → MayHold (if bytes_eq name file then stable (seen file) else of name) (c name) → c file ≡ seen file → MayHold (of name) (c name)
+    by_test : (name : List ℕ) (b : Bool) → bytes_eq name file ≡ b → MayHold (if bytes_eq name file then stable (seen file) else of name) (c name) →
+        c file ≡ seen file → MayHold (of name) (c name)
     by_test name true same may here =
         let named : name ≡ file = (bytes_eq-Decides name file).0 same in
         subst (λ (n : List ℕ). MayHold (of n) (c n)) (sym named) (subst (λ (l : List ℕ). MayHold (of file) l) (sym here) ((says seen).0 is file))
     by_test name false same may here = subst (λ (b : Bool). MayHold (if b then stable (seen file) else of name) (c name)) same may
 
-says_step : (call : Call) (seen : Image) (images : Image → Type 0) (of : List ℕ → Unsynced) → images seen → Says images of → Says (images_step call seen images) (unsynced_step call seen of)
+says_step : (call : Call) (seen : Image) (images : Image → Type 0) (of : List ℕ → Unsynced) → images seen → Says images of →
+    Says (images_step call seen images) (unsynced_step call seen of)
 says_step (Written file at bytes) seen images of is says =
     let may = (says seen).0 is file in
     let len = length (overwritten at bytes (seen file)) in
@@ -243,10 +268,12 @@ says_step (CutTo file n) seen images of is says =
     says
 says_step (Synced file) seen images of is says = sync_says file seen images of is says
 
-says_after : (calls : List Call) (seen : Image) (images : Image → Type 0) (of : List ℕ → Unsynced) → images seen → Says images of → Says (images_after calls seen images) (unsynced_after calls seen of)
+says_after : (calls : List Call) (seen : Image) (images : Image → Type 0) (of : List ℕ → Unsynced) → images seen → Says images of →
+    Says (images_after calls seen images) (unsynced_after calls seen of)
 says_after [] seen images of is says = says
 says_after (call ∷ calls) seen images of is says =
-    says_after calls (seen_step call seen) (images_step call seen images) (unsynced_step call seen of) (reads_step call seen images is) (says_step call seen images of is says)
+    says_after calls (seen_step call seen) (images_step call seen images) (unsynced_step call seen of) (reads_step call seen images is)
+    (says_step call seen images of is says)
 
 -- what a crash may leave after a record of calls
 pub closed : (calls : List Call) (start : Image) → Says (left_after calls start) (unsynced_after calls start (all_stable start))

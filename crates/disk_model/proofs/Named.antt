@@ -1,5 +1,6 @@
 -- Lists of files, and the image that they are.
-use Rattle.std.proofs.Common.{◌⊎◌, inl, inr, ⊎_elim, ◌≡◌, ◌≢◌, ℕ, zero, suc, ◌<◌, List, [], ◌∷◌, ◌++◌, length, set, get_or, if◌then◌else◌, Bool, true, false, Vec, refl, sym, ◌∙◌, ap, subst, arith}
+use Rattle.std.proofs.Common.{◌⊎◌, inl, inr, ⊎_elim, ◌≡◌, ◌≢◌, ℕ, zero, suc, ◌<◌, List, [], ◌∷◌, ◌++◌, length, set, get_or, if◌then◌else◌, Bool, true, false}
+use Rattle.std.proofs.Common.{Vec, refl, sym, ◌∙◌, ap, subst, arith}
 use Rattle.std.specs.declared.alloc.Global.{Global}
 use Rattle.std.specs.Str.{bytes_eq}
 use Rattle.std.proofs.lemmas.Slice.Eq.{bytes_eq-Decides}
@@ -10,19 +11,22 @@ use Rattle.disk_model.specs.Put.{put}
 use Rattle.disk_model.specs.Places.{NoneBefore, IsFirst, Rewritten}
 use Rattle.disk_model.specs.declared.files.File.{File}
 
-pub none_more : (name : List ℕ) (i : ℕ) (files : List File) (d : File) → NoneBefore name i files → i < length files → (get_or files i d).name ≢ name → NoneBefore name (suc i) files
+pub none_more : (name : List ℕ) (i : ℕ) (files : List File) (d : File) → NoneBefore name i files → i < length files → (get_or files i d).name ≢ name →
+    NoneBefore name (suc i) files
 none_more name zero [] d none lt ne = absurd (omega arith)
 none_more name zero (file ∷ files) d none lt ne = (ne, tt)
 none_more name (suc i) [] d none lt ne = absurd none
 none_more name (suc i) (file ∷ files) d none lt ne = (none.0, none_more name i files d none.1 (omega arith) ne)
 
-pub first_here : (name : List ℕ) (i : ℕ) (files : List File) (d : File) → NoneBefore name i files → i < length files → (get_or files i d).name ≡ name → IsFirst name i files
+pub first_here : (name : List ℕ) (i : ℕ) (files : List File) (d : File) → NoneBefore name i files → i < length files → (get_or files i d).name ≡ name →
+    IsFirst name i files
 first_here name zero [] d none lt is = absurd (omega arith)
 first_here name zero (file ∷ files) d none lt is = is
 first_here name (suc i) [] d none lt is = absurd none
 first_here name (suc i) (file ∷ files) d none lt is = (none.0, first_here name i files d none.1 (omega arith) is)
 
-pub first_push : (name : List ℕ) (i : ℕ) (files : List File) (file : File) → NoneBefore name i files → i ≡ length files → file.name ≡ name → IsFirst name i (files ++ file ∷ [])
+pub first_push : (name : List ℕ) (i : ℕ) (files : List File) (file : File) → NoneBefore name i files → i ≡ length files → file.name ≡ name →
+    IsFirst name i (files ++ file ∷ [])
 first_push name zero [] file none is same = same
 first_push name zero (f ∷ files) file none is same = absurd (omega arith)
 first_push name (suc i) [] file none is same = absurd none
@@ -40,7 +44,8 @@ HasBytes i bytes (file ∷ files) [] = ⊥
 HasBytes zero bytes (file ∷ files) (other ∷ new) = (other.name ≡ file.name) × (other.bytes.items ≡ bytes) × (new ≡ files)
 HasBytes (suc i) bytes (file ∷ files) (other ∷ new) = (other ≡ file) × HasBytes i bytes files new
 
-pub set_rewrites : (files : List File) (i : ℕ) (change : List ℕ → List ℕ) (name : List ℕ) (bytes : Vec ℕ Global) (d : File) → i < length files → name ≡ (get_or files i d).name
+pub set_rewrites : (files : List File) (i : ℕ) (change : List ℕ → List ℕ) (name : List ℕ) (bytes : Vec ℕ Global) (d : File) → i < length files →
+    name ≡ (get_or files i d).name
     → bytes.items ≡ change (get_or files i d).bytes.items → Rewritten i change files (set files i (record { name = name; bytes = bytes }))
 set_rewrites [] i change name bytes d lt is holds = absurd (omega arith)
 set_rewrites (file ∷ files) zero change name bytes d lt is holds = (is, holds, refl)
@@ -48,12 +53,14 @@ set_rewrites (file ∷ files) (suc i) change name bytes d lt is holds = (refl, s
 
 two_tests : (a b : Bool) (x y z : List ℕ) → (a ≡ true → b ≡ true → ⊥) → (if a then y else (if b then x else z)) ≡ (if b then x else (if a then y else z))
 two_tests a b x y z apart = elim a as (λ a. (a ≡ true → b ≡ true → ⊥) → (if a then y else (if b then x else z)) ≡ (if b then x else (if a then y else z))) [
-  | true ↦ λ apart. elim b as (λ b. (true ≡ true → b ≡ true → ⊥) → y ≡ (if b then x else y)) [ true ↦ λ apart. absurd (apart refl refl) | false ↦ λ _. refl ] apart
+  | true ↦ λ apart. elim b as (λ b. (true ≡ true → b ≡ true → ⊥) → y ≡ (if b then x else y)) [ true ↦ λ apart. absurd (apart refl refl) | false ↦ λ _. refl ]
+      apart
   | false ↦ λ _. refl
 ] apart
 
 -- other bytes in the first file of a name
-contents-put : (name : List ℕ) (i : ℕ) (files new : List File) (bytes : List ℕ) → IsFirst name i files → HasBytes i bytes files new → (n : List ℕ) → contents new n ≡ put name bytes (contents files) n
+contents-put : (name : List ℕ) (i : ℕ) (files new : List File) (bytes : List ℕ) → IsFirst name i files → HasBytes i bytes files new → (n : List ℕ) →
+    contents new n ≡ put name bytes (contents files) n
 contents-put name i [] new bytes first has n = absurd has
 contents-put name zero (file ∷ files) [] bytes first has n = absurd has
 contents-put name (suc i) (file ∷ files) [] bytes first has n = absurd has
@@ -75,7 +82,8 @@ contents-put name (suc i) (file ∷ files) (other ∷ new) bytes first has n =
     ∙ two_tests (bytes_eq n file.name) (bytes_eq n name) bytes file.bytes.items (contents files n)
     (λ a b. first.0 (sym ((bytes_eq-Decides n file.name).0 a) ∙ (bytes_eq-Decides n name).0 b))
 
-pub put_same : (file : List ℕ) (bytes other : List ℕ) (s t : Image) → bytes ≡ other → ((n : List ℕ) → s n ≡ t n) → (n : List ℕ) → put file bytes s n ≡ put file other t n
+pub put_same : (file : List ℕ) (bytes other : List ℕ) (s t : Image) → bytes ≡ other → ((n : List ℕ) → s n ≡ t n) → (n : List ℕ) →
+    put file bytes s n ≡ put file other t n
 put_same file bytes other s t same images n =
     ap (λ (l : List ℕ). if bytes_eq n file then l else s n) same ∙ ap (λ (l : List ℕ). if bytes_eq n file then other else l) (images n)
 
@@ -84,9 +92,11 @@ here : (name : List ℕ) (file : File) (files : List File) → file.name ≡ nam
 here name file files is = ap (λ (b : Bool). if b then file.bytes.items else contents files name) ((bytes_eq-Decides name file.name).1 (sym is))
 
 there : (name : List ℕ) (file : File) (files : List File) → file.name ≢ name → contents (file ∷ files) name ≡ contents files name
-there name file files ne = ap (λ (b : Bool). if b then file.bytes.items else contents files name) (false_from_ne_true _ (λ same. ne (sym ((bytes_eq-Decides name file.name).0 same))))
+there name file files ne = ap (λ (b : Bool). if b then file.bytes.items else contents files name)
+    (false_from_ne_true _ (λ same. ne (sym ((bytes_eq-Decides name file.name).0 same))))
 
-has_of : (name : List ℕ) (i : ℕ) (change : List ℕ → List ℕ) (files new : List File) → IsFirst name i files → Rewritten i change files new → HasBytes i (change (contents files name)) files new
+has_of : (name : List ℕ) (i : ℕ) (change : List ℕ → List ℕ) (files new : List File) → IsFirst name i files → Rewritten i change files new →
+    HasBytes i (change (contents files name)) files new
 has_of name i change [] new first has = absurd first
 has_of name zero change (file ∷ files) [] first has = absurd has
 has_of name (suc i) change (file ∷ files) [] first has = absurd has
@@ -97,10 +107,12 @@ has_of name (suc i) change (file ∷ files) (other ∷ new) first has =
 -- a change of the first file of a name
 pub contents-change : (name : List ℕ) (i : ℕ) (change : List ℕ → List ℕ) (files new : List File) → IsFirst name i files → Rewritten i change files new
     → (n : List ℕ) → contents new n ≡ put name (change (contents files name)) (contents files) n
-contents-change name i change files new first has n = contents-put name i files new (change (contents files name)) first (has_of name i change files new first has) n
+contents-change name i change files new first has n = contents-put name i files new (change (contents files name)) first
+    (has_of name i change files new first has) n
 
 -- the same after what changed no file
-pub changed_after : (name : List ℕ) (i : ℕ) (change : List ℕ → List ℕ) (old files new : List File) → ((n : List ℕ) → contents files n ≡ contents old n) → IsFirst name i files → Rewritten i change files new
+pub changed_after : (name : List ℕ) (i : ℕ) (change : List ℕ → List ℕ) (old files new : List File) → ((n : List ℕ) → contents files n ≡ contents old n) →
+    IsFirst name i files → Rewritten i change files new
     → (n : List ℕ) → contents new n ≡ put name (change (contents old name)) (contents old) n
 changed_after name i change old files new same first has n =
     contents-change name i change files new first has n ∙ put_same name _ _ (contents files) (contents old) (ap change (same name)) same n
@@ -153,7 +165,8 @@ named_push name [] file (inr none) = absurd none
 named_push name (f ∷ files) file (inl is) = inl (inl is)
 named_push name (f ∷ files) file (inr is) = ⊎_elim (λ in_files. inl (inr in_files)) (λ last. inr last) (named_push name files file is)
 
-named_by : (name : List ℕ) (file : File) (files : List File) → contents (file ∷ files) name ≢ [] → (contents files name ≢ [] → IsNamed name files) → IsNamed name (file ∷ files)
+named_by : (name : List ℕ) (file : File) (files : List File) → contents (file ∷ files) name ≢ [] → (contents files name ≢ [] → IsNamed name files) →
+    IsNamed name (file ∷ files)
 named_by name file files some more = by_test (bytes_eq name file.name) refl
   where
     by_test : (b : Bool) → bytes_eq name file.name ≡ b → IsNamed name (file ∷ files)

@@ -1,5 +1,6 @@
 -- The picks are images that a crash may leave.
-use Rattle.std.proofs.Common.{◌≡◌, inl, inr, ⊎_elim, ℕ, ◌+◌, ◌-◌, ◌<◌, ◌≤◌, min, max, Bool, true, false, if◌then◌else◌, List, [], ◌∷◌, ◌++◌, length, get_or, take, drop, Option, Some, None, replicate, refl, sym, ◌∙◌, ap, subst, arith, length-append, length-take}
+use Rattle.std.proofs.Common.{◌≡◌, inl, inr, ⊎_elim, ℕ, ◌+◌, ◌-◌, ◌<◌, ◌≤◌, min, max, Bool, true, false, if◌then◌else◌, List, [], ◌∷◌, ◌++◌, length, get_or}
+use Rattle.std.proofs.Common.{take, drop, Option, Some, None, replicate, refl, sym, ◌∙◌, ap, subst, arith, length-append, length-take}
 use Rattle.std.specs.Str.{bytes_eq}
 use Rattle.std.proofs.lemmas.Bool.{cases_lt}
 use Rattle.std.proofs.lemmas.List.{get_or-take, get_or-drop, get_or_append_left, get_or-append_right, get_or-replicate, length-replicate, length-take-le}
@@ -38,7 +39,8 @@ over_behind at w old i le from =
     ∙ get_or-drop (at + length w) old (i - (at + length w)) 0 ∙ ap (λ (k : ℕ). get_or old k 0) (omega arith)
 
 -- a range filled
-fill_write : (byte : ℕ) (u : Unsynced) (seen len at n : ℕ) (w image : List ℕ) → seen ≤ u.greatest → at ≤ seen → len ≡ max seen (at + n) → length w ≡ n → ((k : ℕ) → k < n → get_or w k 0 ≡ byte)
+fill_write : (byte : ℕ) (u : Unsynced) (seen len at n : ℕ) (w image : List ℕ) → seen ≤ u.greatest → at ≤ seen → len ≡ max seen (at + n) → length w ≡ n →
+    ((k : ℕ) → k < n → get_or w k 0 ≡ byte)
     → IsFilled byte u image → IsFilled byte (rewritten len at n u) (overwritten at w image)
 fill_write byte u seen len at n w image high within is size all was = record {
   longest = whole ∙ omega (arith, was.longest, is, size);
@@ -46,7 +48,8 @@ fill_write byte u seen len at n w image high within is size all was = record {
     | inl before ↦ over_before at w image i fits before ∙ was.loose i (omega arith) (outside i loose (λ r. omega (arith, r.0)))
     | inr from ↦ elim (cases_lt i (at + n)) [
       | inl inside ↦ over_within at w image i fits from (omega (arith, size)) ∙ all (i - at) (omega arith)
-      | inr behind ↦ over_behind at w image i fits (omega (arith, size)) ∙ was.loose i (omega (arith, lt, whole, size)) (outside i loose (λ r. omega (arith, r.1)))
+      | inr behind ↦ over_behind at w image i fits (omega (arith, size)) ∙ was.loose i (omega (arith, lt, whole, size))
+          (outside i loose (λ r. omega (arith, r.1)))
     ]
   ];
   firm = λ i lt firm. elim (cases_lt i at) [
@@ -72,15 +75,18 @@ fill_write byte u seen len at n w image high within is size all was = record {
 
 -- what is read, and what was held, have lengths between the least and the greatest
 abbrev Wide : Image → (List ℕ → Unsynced) → Type 0
-Wide seen of = (name : List ℕ) → ((of name).least ≤ length (seen name)) × (length (seen name) ≤ (of name).greatest) × ((of name).least ≤ length (of name).held) × (length (of name).held ≤ (of name).greatest)
+Wide seen of = (name : List ℕ) → ((of name).least ≤ length (seen name)) × (length (seen name) ≤ (of name).greatest) ×
+    ((of name).least ≤ length (of name).held) × (length (of name).held ≤ (of name).greatest)
 
 wide_step : (call : Call) (seen : Image) (of : List ℕ → Unsynced) → Wide seen of → Wide (seen_step call seen) (unsynced_step call seen of)
 wide_step (Written file at bytes) seen of wide name =
     let u = of file in
     let over = overwritten at bytes (seen file) in
     let v = rewritten (length over) (min at (length (seen file))) (length bytes) u in
-    elim (bytes_eq name file) as (λ b. ((if b then v else of name).least ≤ length (if b then over else seen name)) × (length (if b then over else seen name) ≤ (if b then v else of name).greatest)
-    × ((if b then v else of name).least ≤ length (if b then v else of name).held) × (length (if b then v else of name).held ≤ (if b then v else of name).greatest)) [
+    elim (bytes_eq name file) as (λ b. ((if b then v else of name).least ≤ length (if b then over else seen name)) ×
+    (length (if b then over else seen name) ≤ (if b then v else of name).greatest)
+    × ((if b then v else of name).least ≤ length (if b then v else of name).held) ×
+    (length (if b then v else of name).held ≤ (if b then v else of name).greatest)) [
       | true ↦ (omega arith, omega arith, omega (arith, (wide file).2), omega (arith, (wide file).3))
       | false ↦ wide name
     ]
@@ -88,8 +94,10 @@ wide_step (CutTo file n) seen of wide name =
     let u = of file in
     let over = take n (seen file) in
     let v = resized (length over) u in
-    elim (bytes_eq name file) as (λ b. ((if b then v else of name).least ≤ length (if b then over else seen name)) × (length (if b then over else seen name) ≤ (if b then v else of name).greatest)
-    × ((if b then v else of name).least ≤ length (if b then v else of name).held) × (length (if b then v else of name).held ≤ (if b then v else of name).greatest)) [
+    elim (bytes_eq name file) as (λ b. ((if b then v else of name).least ≤ length (if b then over else seen name)) ×
+    (length (if b then over else seen name) ≤ (if b then v else of name).greatest)
+    × ((if b then v else of name).least ≤ length (if b then v else of name).held) ×
+    (length (if b then v else of name).held ≤ (if b then v else of name).greatest)) [
       | true ↦ (omega arith, omega arith, omega (arith, (wide file).2), omega (arith, (wide file).3))
       | false ↦ wide name
     ]
@@ -98,13 +106,18 @@ wide_step (Synced file) seen of wide name = by_test (bytes_eq name file) refl
     v : Unsynced
     v = stable (seen file)
 
-    by_test : (b : Bool) → bytes_eq name file ≡ b → ((if bytes_eq name file then v else of name).least ≤ length (seen name)) × (length (seen name) ≤ (if bytes_eq name file then v else of name).greatest)
-        × ((if bytes_eq name file then v else of name).least ≤ length (if bytes_eq name file then v else of name).held) × (length (if bytes_eq name file then v else of name).held ≤ (if bytes_eq name file then v else of name).greatest)
+    by_test : (b : Bool) → bytes_eq name file ≡ b → ((if bytes_eq name file then v else of name).least ≤ length (seen name)) ×
+        (length (seen name) ≤ (if bytes_eq name file then v else of name).greatest)
+        × ((if bytes_eq name file then v else of name).least ≤ length (if bytes_eq name file then v else of name).held) ×
+        (length (if bytes_eq name file then v else of name).held ≤ (if bytes_eq name file then v else of name).greatest)
     by_test b is = subst (λ (t : Bool). ((if t then v else of name).least ≤ length (seen name)) × (length (seen name) ≤ (if t then v else of name).greatest)
-        × ((if t then v else of name).least ≤ length (if t then v else of name).held) × (length (if t then v else of name).held ≤ (if t then v else of name).greatest)) (sym is) (at_test b is)
+        × ((if t then v else of name).least ≤ length (if t then v else of name).held) ×
+        (length (if t then v else of name).held ≤ (if t then v else of name).greatest)) (sym is) (at_test b is)
       where
-        at_test : (b : Bool) → bytes_eq name file ≡ b → ((if b then v else of name).least ≤ length (seen name)) × (length (seen name) ≤ (if b then v else of name).greatest)
-            × ((if b then v else of name).least ≤ length (if b then v else of name).held) × (length (if b then v else of name).held ≤ (if b then v else of name).greatest)
+        at_test : (b : Bool) → bytes_eq name file ≡ b → ((if b then v else of name).least ≤ length (seen name)) ×
+            (length (seen name) ≤ (if b then v else of name).greatest)
+            × ((if b then v else of name).least ≤ length (if b then v else of name).held) ×
+            (length (if b then v else of name).held ≤ (if b then v else of name).greatest)
         at_test true same =
             let size : length (seen name) ≡ length (seen file) = ap (λ (n : List ℕ). length (seen n)) ((bytes_eq-Decides name file).0 same) in
             (omega (arith, size), omega (arith, size), omega arith, omega arith)
@@ -114,14 +127,16 @@ wide_step (Synced file) seen of wide name = by_test (bytes_eq name file) refl
 abbrev IsHeld : Image → (List ℕ → Unsynced) → Type 0
 IsHeld image of = (name : List ℕ) → image name ≡ (of name).held
 
-held_step : (call : Call) (seen image : Image) (of : List ℕ → Unsynced) → IsHeld image of → IsHeld (picked_step None call seen image) (unsynced_step call seen of)
+held_step : (call : Call) (seen image : Image) (of : List ℕ → Unsynced) → IsHeld image of → IsHeld (picked_step None call seen image)
+    (unsynced_step call seen of)
 held_step (Written file at bytes) seen image of held name = by_test (bytes_eq name file) refl
   where
     v : Unsynced
     v = rewritten (length (overwritten at bytes (seen file))) (min at (length (seen file))) (length bytes) (of file)
 
     by_test : (b : Bool) → bytes_eq name file ≡ b → image name ≡ (if bytes_eq name file then v else of name).held
-    by_test true is = held name ∙ ap (λ (n : List ℕ). (of n).held) ((bytes_eq-Decides name file).0 is) ∙ sym (ap (λ (b : Bool). (if b then v else of name).held) is)
+    by_test true is = held name ∙ ap (λ (n : List ℕ). (of n).held) ((bytes_eq-Decides name file).0 is) ∙ sym
+        (ap (λ (b : Bool). (if b then v else of name).held) is)
     by_test false is = held name ∙ sym (ap (λ (b : Bool). (if b then v else of name).held) is)
 held_step (CutTo file n) seen image of held name = by_test (bytes_eq name file) refl
   where
@@ -129,10 +144,15 @@ held_step (CutTo file n) seen image of held name = by_test (bytes_eq name file) 
     v = resized (length (take n (seen file))) (of file)
 
     by_test : (b : Bool) → bytes_eq name file ≡ b → image name ≡ (if bytes_eq name file then v else of name).held
-    by_test true is = held name ∙ ap (λ (m : List ℕ). (of m).held) ((bytes_eq-Decides name file).0 is) ∙ sym (ap (λ (b : Bool). (if b then v else of name).held) is)
+    by_test true is = held name ∙ ap (λ (m : List ℕ). (of m).held) ((bytes_eq-Decides name file).0 is) ∙ sym
+        (ap (λ (b : Bool). (if b then v else of name).held) is)
     by_test false is = held name ∙ sym (ap (λ (b : Bool). (if b then v else of name).held) is)
 held_step (Synced file) seen image of held name =
-    elim (bytes_eq name file) as (λ b. (if b then seen file else image name) ≡ (if b then stable (seen file) else of name).held) [ true ↦ refl | false ↦ held name ]
+    elim (bytes_eq name file) as (λ b. (if b then seen file else image name) ≡ (if b then stable (seen file) else of name).held) [
+      | true ↦ refl
+      | false ↦ held
+          name
+    ]
 
 -- each byte that isn't stable this one
 abbrev AreFilled : ℕ → Image → (List ℕ → Unsynced) → Type 0
@@ -145,14 +165,17 @@ fresh byte s = record {
   firm = λ i lt firm. refl;
 }
 
-fill_step : (byte : ℕ) (call : Call) (seen image : Image) (of : List ℕ → Unsynced) → Wide seen of → AreFilled byte image of → AreFilled byte (picked_step (Some byte) call seen image) (unsynced_step call seen of)
+fill_step : (byte : ℕ) (call : Call) (seen image : Image) (of : List ℕ → Unsynced) → Wide seen of → AreFilled byte image of →
+    AreFilled byte (picked_step (Some byte) call seen image) (unsynced_step call seen of)
 fill_step byte (Written file at bytes) seen image of wide was name =
     let place = min at (length (seen file)) in
     let len = length (overwritten at bytes (seen file)) in
     let n = length bytes in
-    let done = fill_write byte (of file) (length (seen file)) len place n (replicate n byte) (image file) (wide file).1 (omega arith) (length-over at bytes (seen file)) (length-replicate n byte)
+    let done = fill_write byte (of file) (length (seen file)) len place n (replicate n byte) (image file) (wide file).1 (omega arith)
+    (length-over at bytes (seen file)) (length-replicate n byte)
     (λ k lt. get_or-replicate n k byte 0 lt) (was file) in
-    elim (bytes_eq name file) as (λ b. IsFilled byte (if b then rewritten len place n (of file) else of name) (if b then overwritten place (replicate n byte) (image file) else image name)) [ true ↦ done | false ↦ was name ]
+    elim (bytes_eq name file) as (λ b. IsFilled byte (if b then rewritten len place n (of file) else of name)
+    (if b then overwritten place (replicate n byte) (image file) else image name)) [ true ↦ done | false ↦ was name ]
 fill_step byte (CutTo file n) seen image of wide was name = by_test (bytes_eq name file) refl
   where
     v : Unsynced
@@ -166,10 +189,15 @@ fill_step byte (CutTo file n) seen image of wide was name = by_test (bytes_eq na
     }
 
     by_test : (b : Bool) → bytes_eq name file ≡ b → IsFilled byte (if bytes_eq name file then v else of name) (image name)
-    by_test true is = subst (λ (b : Bool). IsFilled byte (if b then v else of name) (image name)) (sym is) (subst (λ (m : List ℕ). IsFilled byte v (image m)) (sym ((bytes_eq-Decides name file).0 is)) resize)
+    by_test true is = subst (λ (b : Bool). IsFilled byte (if b then v else of name) (image name)) (sym is)
+        (subst (λ (m : List ℕ). IsFilled byte v (image m)) (sym ((bytes_eq-Decides name file).0 is)) resize)
     by_test false is = subst (λ (b : Bool). IsFilled byte (if b then v else of name) (image name)) (sym is) (was name)
 fill_step byte (Synced file) seen image of wide was name =
-    elim (bytes_eq name file) as (λ b. IsFilled byte (if b then stable (seen file) else of name) (if b then seen file else image name)) [ true ↦ fresh byte (seen file) | false ↦ was name ]
+    elim (bytes_eq name file) as (λ b. IsFilled byte (if b then stable (seen file) else of name) (if b then seen file else image name)) [
+      | true ↦ fresh byte
+          (seen file)
+      | false ↦ was name
+    ]
 
 wide_start : (start : Image) → Wide start (all_stable start)
 wide_start start name = (omega arith, omega arith, omega arith, omega arith)
@@ -178,24 +206,31 @@ wide_after : (calls : List Call) (seen : Image) (of : List ℕ → Unsynced) →
 wide_after [] seen of wide = wide
 wide_after (call ∷ calls) seen of wide = wide_after calls (seen_step call seen) (unsynced_step call seen of) (wide_step call seen of wide)
 
-held_from : (calls : List Call) (seen image : Image) (of : List ℕ → Unsynced) → IsHeld image of → IsHeld (picked_after None calls seen image) (unsynced_after calls seen of)
+held_from : (calls : List Call) (seen image : Image) (of : List ℕ → Unsynced) → IsHeld image of → IsHeld (picked_after None calls seen image)
+    (unsynced_after calls seen of)
 held_from [] seen image of held = held
-held_from (call ∷ calls) seen image of held = held_from calls (seen_step call seen) (picked_step None call seen image) (unsynced_step call seen of) (held_step call seen image of held)
+held_from (call ∷ calls) seen image of held = held_from calls (seen_step call seen) (picked_step None call seen image) (unsynced_step call seen of)
+    (held_step call seen image of held)
 
-fill_from : (byte : ℕ) (calls : List Call) (seen image : Image) (of : List ℕ → Unsynced) → Wide seen of → AreFilled byte image of → AreFilled byte (picked_after (Some byte) calls seen image) (unsynced_after calls seen of)
+fill_from : (byte : ℕ) (calls : List Call) (seen image : Image) (of : List ℕ → Unsynced) → Wide seen of → AreFilled byte image of →
+    AreFilled byte (picked_after (Some byte) calls seen image) (unsynced_after calls seen of)
 fill_from byte [] seen image of wide was = was
 fill_from byte (call ∷ calls) seen image of wide was =
-    fill_from byte calls (seen_step call seen) (picked_step (Some byte) call seen image) (unsynced_step call seen of) (wide_step call seen of wide) (fill_step byte call seen image of wide was)
+    fill_from byte calls (seen_step call seen) (picked_step (Some byte) call seen image) (unsynced_step call seen of) (wide_step call seen of wide)
+    (fill_step byte call seen image of wide was)
 
 -- the files as they were last made stable
-pub old_is_held : (calls : List Call) (start : Image) (name : List ℕ) → picked_after None calls start start name ≡ (unsynced_after calls start (all_stable start) name).held
+pub old_is_held : (calls : List Call) (start : Image) (name : List ℕ) → picked_after None calls start start name
+    ≡ (unsynced_after calls start (all_stable start) name).held
 old_is_held calls start = held_from calls start start (all_stable start) (λ name. refl)
 
 -- the files filled
-pub fill_is_filled : (byte : ℕ) (calls : List Call) (start : Image) (name : List ℕ) → IsFilled byte (unsynced_after calls start (all_stable start) name) (picked_after (Some byte) calls start start name)
+pub fill_is_filled : (byte : ℕ) (calls : List Call) (start : Image) (name : List ℕ) → IsFilled byte (unsynced_after calls start (all_stable start) name)
+    (picked_after (Some byte) calls start start name)
 fill_is_filled byte calls start = fill_from byte calls start start (all_stable start) (wide_start start) (λ name. fresh byte (start name))
 
-pub old_is_left : (calls : List Call) (start c : Image) → ((name : List ℕ) → c name ≡ (unsynced_after calls start (all_stable start) name).held) → left_after calls start c
+pub old_is_left : (calls : List Call) (start c : Image) → ((name : List ℕ) → c name ≡ (unsynced_after calls start (all_stable start) name).held) →
+    left_after calls start c
 old_is_left calls start c held = (closed calls start c).1 (λ name.
     let wide = wide_after calls start (all_stable start) (wide_start start) name in
     record {
@@ -204,7 +239,8 @@ old_is_left calls start c held = (closed calls start c).1 (λ name.
       stays = λ i lt firm. ap (λ (l : List ℕ). get_or l i 0) (held name);
     })
 
-pub fill_is_left : (byte : ℕ) (calls : List Call) (start c : Image) → ((name : List ℕ) → IsFilled byte (unsynced_after calls start (all_stable start) name) (c name)) → left_after calls start c
+pub fill_is_left : (byte : ℕ) (calls : List Call) (start c : Image) →
+    ((name : List ℕ) → IsFilled byte (unsynced_after calls start (all_stable start) name) (c name)) → left_after calls start c
 fill_is_left byte calls start c filled_as = (closed calls start c).1 (λ name.
     let wide = wide_after calls start (all_stable start) (wide_start start) name in
     record {

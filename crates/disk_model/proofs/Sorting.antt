@@ -22,7 +22,8 @@ pub sorted_listing : (folder : List ℕ) (image : Image) (names ordered : List (
     → IsListing folder image (dedup (pointwise nat_eq) ordered)
 sorted_listing folder image names ordered exact moved up = record {
   exact = λ n. (
-    λ there. (exact n).0 (Contains-permutation ordered names n (IsPermutation-sym names ordered moved) (Contains-from_dedup (pointwise nat_eq) ordered n there)),
+    λ there. (exact n).0 (Contains-permutation ordered names n (IsPermutation-sym names ordered moved)
+        (Contains-from_dedup (pointwise nat_eq) ordered n there)),
     λ listed. Contains-from_any same_names n (dedup (pointwise nat_eq) ordered)
         (list_any-from_Any (pointwise nat_eq n) (dedup (pointwise nat_eq) ordered)
         (Any-dedup nat_list_eq_equiv ordered n (Contains-permutation names ordered n moved ((exact n).1 listed)))),

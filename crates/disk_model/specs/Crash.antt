@@ -53,7 +53,8 @@ rewritten len at n u = record { held = u.held; least = min u.least len; greatest
 
 -- what a call makes of each file, where this is what is read before it
 abbrev pub unsynced_step : Call → Image → (List ℕ → Unsynced) → List ℕ → Unsynced
-unsynced_step (Written file at bytes) seen of name = if bytes_eq name file then rewritten (length (overwritten at bytes (seen file))) (min at (length (seen file))) (length bytes) (of file) else of name
+unsynced_step (Written file at bytes) seen of name = if bytes_eq name file then rewritten (length (overwritten at bytes (seen file)))
+    (min at (length (seen file))) (length bytes) (of file) else of name
 unsynced_step (CutTo file n) seen of name = if bytes_eq name file then resized (length (take n (seen file))) (of file) else of name
 unsynced_step (Synced file) seen of name = if bytes_eq name file then stable (seen file) else of name
 

@@ -94,10 +94,12 @@ module _ {D : Type 0} {is_modelled : Bool} {seen : D → Image} {may_leave : D �
       → ((a b c : List ℕ) → Q a b → R b c → S a c)
       → Leaves moment left_since old new (After (may_leave old) (Step file S))
   then_on file old mid new Q R S first second once twice =
-      then_step file old mid new Q R S (λ _. Unit {0}) (λ _. Unit {0}) first second (λ _ _. tt) (λ _ _. tt) (λ _ a b _ q. once a b q) (λ _ a b c _ q _ r. twice a b c q r)
+      then_step file old mid new Q R S (λ _. Unit {0}) (λ _. Unit {0}) first second (λ _ _. tt) (λ _ _. tt) (λ _ a b _ q. once a b q)
+      (λ _ a b c _ q _ r. twice a b c q r)
 
   -- a call that changes nothing after one that changes a file
-  pub then_same : (old mid new : D) (P : Image → Type 0) → Leaves moment left_since old mid P → Leaves moment left_since mid new (may_leave mid) → Leaves moment left_since old new P
+  pub then_same : (old mid new : D) (P : Image → Type 0) → Leaves moment left_since old mid P → Leaves moment left_since mid new (may_leave mid) →
+      Leaves moment left_since old new P
   then_same old mid new P first second = joined old mid new P (may_leave mid) P first second (λ c p. p) (λ c left. now old mid P first c left)
 
   -- a call that changes nothing before one that changes a file
@@ -121,11 +123,13 @@ module _ {D : Type 0} {is_modelled : Bool} {seen : D → Image} {may_leave : D �
       (before.0, before.1, λ name spared. was.2 name spared ∙ before.2 name spared))
 
 -- a step that allows more
-pub after_more : (images : Image → Type 0) (file : List ℕ) (Q S : List ℕ → List ℕ → Type 0) → ((a b : List ℕ) → Q a b → S a b) → (c : Image) → After images (Step file Q) c → After images (Step file S) c
+pub after_more : (images : Image → Type 0) (file : List ℕ) (Q S : List ℕ → List ℕ → Type 0) → ((a b : List ℕ) → Q a b → S a b) → (c : Image) →
+    After images (Step file Q) c → After images (Step file S) c
 after_more images file Q S more c was = (was.0, was.1, record { here = more _ _ was.2.here; others = was.2.others })
 
 -- a change of one file leaves the others alone
-pub step_spares : (images : Image → Type 0) (file : List ℕ) (change : List ℕ → List ℕ → Type 0) (c : Image) → After images (Step file change) c → After images (Spares (IsFile file)) c
+pub step_spares : (images : Image → Type 0) (file : List ℕ) (change : List ℕ → List ℕ → Type 0) (c : Image) → After images (Step file change) c →
+    After images (Spares (IsFile file)) c
 step_spares images file change c was = (was.0, was.1, λ name ne. was.2.others name ne)
 
 -- and so does no change
@@ -133,5 +137,6 @@ pub none_spares : (images : Image → Type 0) (files : List ℕ → Type 0) (c :
 none_spares images files c left = (c, left, λ name spared. refl)
 
 -- what leaves all but these files alone leaves all but more files alone
-pub spares_more : (images : Image → Type 0) (files more : List ℕ → Type 0) → ((name : List ℕ) → files name → more name) → (c : Image) → After images (Spares files) c → After images (Spares more) c
+pub spares_more : (images : Image → Type 0) (files more : List ℕ → Type 0) → ((name : List ℕ) → files name → more name) → (c : Image) →
+    After images (Spares files) c → After images (Spares more) c
 spares_more images files more wider c was = (was.0, was.1, λ name spared. was.2 name (λ inside. spared (wider name inside)))

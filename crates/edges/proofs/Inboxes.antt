@@ -19,7 +19,8 @@ pub behind_all : (documents : List (List ℕ)) (at : ℕ) → length documents �
 behind_all documents at past = drop_all at documents past ∙ sym (drop_all 1 (drop at documents) (omega (arith, past, length-drop at documents)))
 
 pub waits : (documents given : List (List ℕ)) (at new : ℕ) (closed : Bool) → given ≡ documents → drop new given ≡ drop 1 (drop at given)
-    → ◌≡◌ {A = Option Waiting} (Some (record { documents = drop new documents; closed = closed })) (Some (record { documents = drop 1 (drop at documents); closed = closed }))
+    → ◌≡◌ {A = Option Waiting} (Some (record { documents = drop new documents; closed = closed }))
+    (Some (record { documents = drop 1 (drop at documents); closed = closed }))
 waits documents given at new closed same h =
     let e : drop new documents ≡ drop 1 (drop at documents) = subst (λ (ds : List (List ℕ)). drop new ds ≡ drop 1 (drop at ds)) same h in
     let P : List (List ℕ) → Option Waiting = λ l. Some (record { documents = l; closed = closed }) in

@@ -1,5 +1,6 @@
 -- Known bytes that grow piece by piece.
-use Rattle.std.proofs.Common.{◌≡◌, ◌<◌, ℕ, zero, suc, get_or, ◌-◌, List, [], ◌∷◌, ◌++◌, length, take, drop, refl, sym, ◌∙◌, ap, arith, append_assoc, length-drop, take-append-drop, Some, None, Result, Ok, Err}
+use Rattle.std.proofs.Common.{◌≡◌, ◌<◌, ℕ, zero, suc, get_or, ◌-◌, List, [], ◌∷◌, ◌++◌, length, take, drop, refl, sym, ◌∙◌, ap, arith, append_assoc}
+use Rattle.std.proofs.Common.{length-drop, take-append-drop, Some, None, Result, Ok, Err}
 use Rattle.std.proofs.lemmas.List.{take_all, append-nil}
 use Rattle.std.specs.declared.option.Option.{Option}
 use Rattle.std.specs.Result.{IsErrAnd}
@@ -27,23 +28,31 @@ splits bytes front rest m n is split =
     ∙ sym (append_assoc front (take n rest) (take (m - n) (drop n rest)))
 
 -- whole pieces, and then a front of the next: a front of them all
-pub front_more : (old mid new : Option (List ℕ)) (all before piece after : List ℕ) → all ≡ (before ++ piece) ++ after → Appends old mid before → AppendsPrefix mid new piece → AppendsPrefix old new all
-front_more old mid new all before piece after is sent last =
-    (before ++ last.0, last.1 ++ after, is ∙ ap (λ (l : List ℕ). (before ++ l) ++ after) last.2 ∙ regroup before last.0 last.1 after, appends_more old mid new before last.0 sent last.3)
+pub front_more : (old mid new : Option (List ℕ)) (all before piece after : List ℕ) → all ≡ (before ++ piece) ++ after → Appends old mid before →
+    AppendsPrefix mid new piece → AppendsPrefix old new all
+front_more old mid new all before piece after is sent last = (
+  before ++ last.0,
+  last.1 ++ after,
+  is ∙ ap (λ (l : List ℕ). (before ++ l) ++ after) last.2 ∙ regroup before last.0 last.1 after,
+  appends_more old mid new before last.0 sent last.3,
+)
   where
     regroup : (a b c d : List ℕ) → (a ++ (b ++ c)) ++ d ≡ (a ++ b) ++ (c ++ d)
     regroup a b c d = simp append_assoc
 
 -- a fault that `?` hands on
-pub handed_on : {E : Type 0} (old new : Option (List ℕ)) (bytes : List ℕ) (result : Result (Unit {0}) E) (fault : E) → IsErrAnd result (λ e. e ≡ fault) → AppendsPrefix old new bytes → Writes old new bytes result
+pub handed_on : {E : Type 0} (old new : Option (List ℕ)) (bytes : List ℕ) (result : Result (Unit {0}) E) (fault : E) → IsErrAnd result (λ e. e ≡ fault) →
+    AppendsPrefix old new bytes → Writes old new bytes result
 handed_on old new bytes (Ok u) fault h front = absurd h
 handed_on old new bytes (Err e) fault h front = front
 
 -- the pieces before one, itself, and the pieces after
-pub joined_at : (pieces : List (Bor (List ℕ))) (i : ℕ) (d : Bor (List ℕ)) → i < length pieces → joined pieces ≡ (joined (take i pieces) ++ (get_or pieces i d).now) ++ joined (drop (suc i) pieces)
+pub joined_at : (pieces : List (Bor (List ℕ))) (i : ℕ) (d : Bor (List ℕ)) → i < length pieces →
+    joined pieces ≡ (joined (take i pieces) ++ (get_or pieces i d).now) ++ joined (drop (suc i) pieces)
 joined_at [] i d below = absurd (omega arith)
 joined_at (p ∷ pieces) zero d below = refl
-joined_at (p ∷ pieces) (suc i) d below = ap (λ (l : List ℕ). p.now ++ l) (joined_at pieces i d (omega arith)) ∙ regroup p.now (joined (take i pieces)) (get_or pieces i d).now (joined (drop (suc i) pieces))
+joined_at (p ∷ pieces) (suc i) d below = ap (λ (l : List ℕ). p.now ++ l) (joined_at pieces i d (omega arith)) ∙ regroup p.now (joined (take i pieces))
+    (get_or pieces i d).now (joined (drop (suc i) pieces))
   where
     regroup : (a b c d : List ℕ) → a ++ ((b ++ c) ++ d) ≡ ((a ++ b) ++ c) ++ d
     regroup a b c d = simp append_assoc

@@ -11,9 +11,11 @@ use Rattle.gate_log.specs.declared.log.Log.{Log}
 use Rattle.gate_log.proofs.Walk.{entry_placed}
 
 -- a log that stands in a stable file, as the disk reads, stands in each image
-pub settled_behind : {D : Type 0} {is_modelled : Bool} {seen : D → Image} {may_leave : D → Image → Type 0} {moment : D → ℕ} {left_since : D → ℕ → Image → Type 0}
+pub settled_behind : {D : Type 0} {is_modelled : Bool} {seen : D → Image} {may_leave : D → Image → Type 0} {moment : D → ℕ} {left_since : D → ℕ → Image →
+    Type 0}
     → DiskLaws is_modelled seen may_leave moment left_since → (file : List ℕ) (log : Log) (disk : D) (payloads : List (List ℕ))
-    → Settled (may_leave disk) file (seen disk file) → (IsTrue is_modelled → ClosedAt (seen disk file) log.end payloads) → IsBehind may_leave (stands_in file) log disk payloads
+    → Settled (may_leave disk) file (seen disk file) → (IsTrue is_modelled → ClosedAt (seen disk file) log.end payloads) →
+    IsBehind may_leave (stands_in file) log disk payloads
 settled_behind laws file log disk payloads settled closed = record {
   each = λ c left.
       subst (λ (l : List ℕ). ClosedAt l log.end payloads) (sym (settled c left)) (closed (tells_of laws disk c left));
@@ -32,7 +34,8 @@ record Split (es : List (ℕ × List ℕ)) (before : List (List ℕ)) (payload :
   done_is : map (λ e. e.1) done ≡ before
   here_is : here.1 ≡ payload
 
-split : (es : List (ℕ × List ℕ)) (before : List (List ℕ)) (payload : List ℕ) (after : List (List ℕ)) → map (λ e. e.1) es ≡ before ++ payload ∷ after → Split es before payload
+split : (es : List (ℕ × List ℕ)) (before : List (List ℕ)) (payload : List ℕ) (after : List (List ℕ)) → map (λ e. e.1) es ≡ before ++ payload ∷ after →
+    Split es before payload
 split [] [] payload after h = absurd (omega (arith, ap length h))
 split [] (b ∷ bs) payload after h = absurd (omega (arith, ap length h))
 split (e ∷ es) [] payload after h = record { done = []; here = e; rest = es; is = refl; done_is = refl; here_is = cc }

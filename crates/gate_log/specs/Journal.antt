@@ -15,11 +15,13 @@ abbrev pub AreSettled : {D : Type 0} → (D → Image) → (D → Image → Type
 AreSettled seen may_leave files disk = (file : List ℕ) → files file → Settled (may_leave disk) file (seen disk file)
 
 -- in each image that a crash may leave now, the journal stands behind these payloads' entries
-pub record IsBehind {J D : Type 0} (may_leave : D → Image → Type 0) (stands : J → Image → List (List ℕ) → Type 0) (log : J) (disk : D) (payloads : List (List ℕ)) : Type 0 where
+pub record IsBehind {J D : Type 0} (may_leave : D → Image → Type 0) (stands : J → Image → List (List ℕ) → Type 0) (log : J) (disk : D)
+    (payloads : List (List ℕ)) : Type 0 where
   pub each : (c : Image) → may_leave disk c → stands log c payloads
 
 -- it does so as the disk reads, which is one of these images
-pub reads_behind : {J D : Type 0} {is_modelled : Bool} {seen : D → Image} {may_leave : D → Image → Type 0} {moment : D → ℕ} {left_since : D → ℕ → Image → Type 0}
+pub reads_behind : {J D : Type 0} {is_modelled : Bool} {seen : D → Image} {may_leave : D → Image → Type 0} {moment : D → ℕ} {left_since : D → ℕ → Image →
+    Type 0}
     → DiskLaws is_modelled seen may_leave moment left_since → (stands : J → Image → List (List ℕ) → Type 0) (log : J) (disk : D) (payloads : List (List ℕ))
     → IsBehind may_leave stands log disk payloads → IsTrue is_modelled → stands log (seen disk) payloads
 reads_behind {seen = seen} laws stands log disk payloads behind told = behind.each (seen disk) (laws.reads disk told)
@@ -29,14 +31,16 @@ abbrev pub BeforeOrAfter : {A : Type 0} → (A → List (List ℕ) → Type 0) �
 BeforeOrAfter entries payloads payload there = entries there payloads ⊎ entries there (payloads ++ payload ∷ [])
 
 -- what layers above need to know of a representation
-pub record JournalLaws {J : Type 0} (files : List ℕ → Type 0) (entries : Image → List (List ℕ) → Type 0) (holds_none : Image → Type 0) (is_damaged : Image → ℕ → Type 0)
+pub record JournalLaws {J : Type 0} (files : List ℕ → Type 0) (entries : Image → List (List ℕ) → Type 0) (holds_none : Image → Type 0)
+    (is_damaged : Image → ℕ → Type 0)
     (stands : J → Image → List (List ℕ) → Type 0) (end : J → ℕ) : Type 0 where
   -- what a journal stands behind are the image's live entries
   pub holds : (log : J) (image : Image) (payloads : List (List ℕ)) → stands log image payloads → entries image payloads
   -- and its end is the place behind them
   pub ends : (log : J) (image : Image) (payloads : List (List ℕ)) → stands log image payloads → end log ≡ place_behind payloads
   -- only its own files matter
-  pub depends : (log : J) (a b : Image) (payloads : List (List ℕ)) → ((name : List ℕ) → files name → b name ≡ a name) → stands log a payloads → stands log b payloads
+  pub depends : (log : J) (a b : Image) (payloads : List (List ℕ)) → ((name : List ℕ) → files name → b name ≡ a name) → stands log a payloads →
+      stands log b payloads
   -- an image has one list of live entries
   pub one : (image : Image) (first second : List (List ℕ)) → entries image first → entries image second → first ≡ second
   pub none_held : (image : Image) → holds_none image → entries image []

@@ -1,5 +1,6 @@
 -- Laws on what a file holds as entries, and on logs and disks: what the trait's members and the layers above rest on.
-use Rattle.std.proofs.Common.{◌≡◌, ◌≢◌, inl, inr, ℕ, ◌+◌, ◌<◌, ◌≤◌, List, [], ◌∷◌, ◌++◌, length, map, get_or, take, drop, refl, sym, ◌∙◌, ap, subst, arith, append_assoc, length-append}
+use Rattle.std.proofs.Common.{◌≡◌, ◌≢◌, inl, inr, ℕ, ◌+◌, ◌<◌, ◌≤◌, List, [], ◌∷◌, ◌++◌, length, map, get_or, take, drop, refl, sym, ◌∙◌, ap, subst, arith}
+use Rattle.std.proofs.Common.{append_assoc, length-append}
 use Rattle.std.proofs.lemmas.List.{append-nil, take_at, drop_at}
 use Rattle.std.proofs.lemmas.Nat.{from_be_bytes-to_be_bytes_4}
 use Rattle.std.specs.Int.{w32, to_be_bytes, from_be_bytes}
@@ -22,7 +23,8 @@ entry_same d e r s good other same =
     let rest : h ++ (d.1 ++ r) ≡ k ++ (e.1 ++ s) = ap (λ (l : List ℕ). drop 1 l) whole in
     let heads : h ≡ k = sym (take_at h (d.1 ++ r) 4 refl) ∙ ap (λ (l : List ℕ). take 4 l) rest ∙ take_at k (e.1 ++ s) 4 refl in
     let sizes : length d.1 ≡ length e.1 =
-    sym (from_be_bytes-to_be_bytes_4 (length d.1) (omega (arith, good.fits))) ∙ ap (from_be_bytes w32) heads ∙ from_be_bytes-to_be_bytes_4 (length e.1) (omega (arith, other.fits)) in
+    sym (from_be_bytes-to_be_bytes_4 (length d.1) (omega (arith, good.fits))) ∙ ap (from_be_bytes w32) heads ∙ from_be_bytes-to_be_bytes_4 (length e.1)
+    (omega (arith, other.fits)) in
     let bodies : d.1 ++ r ≡ e.1 ++ s = sym (drop_at h (d.1 ++ r) 4 refl) ∙ ap (λ (l : List ℕ). drop 4 l) rest ∙ drop_at k (e.1 ++ s) 4 refl in (
       sym (take_at d.1 r (length d.1) refl) ∙ ap (λ (l : List ℕ). take (length d.1) l) bodies ∙ take_at e.1 s (length d.1) (sym sizes),
       sym (drop_at d.1 r (length d.1) refl) ∙ ap (λ (l : List ℕ). drop (length d.1) l) bodies ∙ drop_at e.1 s (length d.1) (sym sizes),
@@ -31,12 +33,14 @@ entry_same d e r s good other same =
 front_open : (e : ℕ × List ℕ) (more rest tail : List ℕ) → IsGood e → entry e ++ more ≡ 0 ∷ tail → ⊥
 front_open e more rest tail good is = good.is_open (ap (λ (l : List ℕ). get_or l 0 0) is)
 
-chains_same : (es fs : List (ℕ × List ℕ)) (s t : List ℕ) → AllGood es → AllGood fs → joined es ++ 0 ∷ s ≡ joined fs ++ 0 ∷ t → map (λ (e : ℕ × List ℕ). e.1) es ≡ map (λ (e : ℕ × List ℕ). e.1) fs
+chains_same : (es fs : List (ℕ × List ℕ)) (s t : List ℕ) → AllGood es → AllGood fs → joined es ++ 0 ∷ s ≡ joined fs ++ 0 ∷ t →
+    map (λ (e : ℕ × List ℕ). e.1) es ≡ map (λ (e : ℕ × List ℕ). e.1) fs
 chains_same [] [] s t good other is = refl
 chains_same [] (f ∷ fs) s t good other is = absurd (front_open f (joined fs ++ 0 ∷ t) [] s other.0 (sym (append_assoc (entry f) (joined fs) (0 ∷ t)) ∙ sym is))
 chains_same (e ∷ es) [] s t good other is = absurd (front_open e (joined es ++ 0 ∷ s) [] t good.0 (sym (append_assoc (entry e) (joined es) (0 ∷ s)) ∙ is))
 chains_same (e ∷ es) (f ∷ fs) s t good other is =
-    let one = entry_same e f (joined es ++ 0 ∷ s) (joined fs ++ 0 ∷ t) good.0 other.0 (sym (append_assoc (entry e) (joined es) (0 ∷ s)) ∙ is ∙ append_assoc (entry f) (joined fs) (0 ∷ t)) in
+    let one = entry_same e f (joined es ++ 0 ∷ s) (joined fs ++ 0 ∷ t) good.0 other.0
+    (sym (append_assoc (entry e) (joined es) (0 ∷ s)) ∙ is ∙ append_assoc (entry f) (joined fs) (0 ∷ t)) in
     (λ i. one.0 i ∷ chains_same es fs s t good.1 other.1 one.1 i)
 
 -- a file that is closed has two bytes or is empty of entries
@@ -45,7 +49,13 @@ closed_short file end payloads closed short = by_entries closed.entries closed.p
   where
     by_entries : (es : List (ℕ × List ℕ)) → map (λ (e : ℕ × List ℕ). e.1) es ≡ payloads → file ≡ joined es ++ 0 ∷ closed.tail → payloads ≡ []
     by_entries [] are is = sym are
-    by_entries (e ∷ es) are is = absurd (omega (arith, ap length is, length-append (entry e ++ joined es) (0 ∷ closed.tail), length-append (entry e) (joined es), length-entry e))
+    by_entries (e ∷ es) are is = absurd (omega (
+      arith,
+      ap length is,
+      length-append (entry e ++ joined es) (0 ∷ closed.tail),
+      length-append (entry e) (joined es),
+      length-entry e,
+    ))
 
 -- a file holds one list of entries
 pub entries_same : (file : List ℕ) (p q : List (List ℕ)) → Entries file p → Entries file q → p ≡ q
@@ -64,7 +74,8 @@ bad_chain [] (f ∷ h ∷ fs) rest tail good other bad is =
     bad.no_entry f h.0 ((to_be_bytes w32 (length h.1) ++ h.1 ++ joined fs) ++ 0 ∷ tail) other.0 (is ∙ append_assoc (entry f) (entry h ++ joined fs) (0 ∷ tail))
 bad_chain (e ∷ es) [] rest tail good other bad is = front_open e (joined es ++ rest) [] tail good.0 (sym (append_assoc (entry e) (joined es) rest) ∙ is)
 bad_chain (e ∷ es) (f ∷ fs) rest tail good other bad is =
-    let one = entry_same e f (joined es ++ rest) (joined fs ++ 0 ∷ tail) good.0 other.0 (sym (append_assoc (entry e) (joined es) rest) ∙ is ∙ append_assoc (entry f) (joined fs) (0 ∷ tail)) in
+    let one = entry_same e f (joined es ++ rest) (joined fs ++ 0 ∷ tail) good.0 other.0
+    (sym (append_assoc (entry e) (joined es) rest) ∙ is ∙ append_assoc (entry f) (joined fs) (0 ∷ tail)) in
     bad_chain es fs rest tail good.1 other.1 bad one.1
 
 pub damaged_holds_none : (file : List ℕ) (at : ℕ) (payloads : List (List ℕ)) → 1 < length file → IsDamaged file at → Entries file payloads → ⊥
@@ -95,7 +106,18 @@ none_of file (inr closed) = inr (closed_first file closed.1.tail closed.1.entrie
 pub no_entries : (file : List ℕ) → HoldsNone file → Entries file []
 no_entries file (inl short) = inl (short, refl)
 no_entries [] (inr first) = inl (omega arith, refl)
-no_entries (b ∷ rest) (inr first) = inr (0, record { entries = []; tail = rest; good = tt; payloads_are = refl; file_is = ap (λ (x : ℕ). x ∷ rest) first; end_is = refl })
+no_entries (b ∷ rest) (inr first) = inr (
+  0,
+  record {
+    entries = [];
+    tail = rest;
+    good = tt;
+    payloads_are = refl;
+    file_is =
+        ap (λ (x : ℕ). x ∷ rest) first;
+    end_is = refl;
+  },
+)
 
 -- ---- laws of the log as a journal
 pub place_joined : (es : List (ℕ × List ℕ)) → length (joined es) ≡ place_behind (map (λ e. e.1) es)
@@ -107,7 +129,8 @@ place_joined (e ∷ es) = omega (arith, length-append (entry e) (joined es), len
 log_ends : (log : Log) (image : Image) (payloads : List (List ℕ)) → log_stands log image payloads → log.end ≡ place_behind payloads
 log_ends log image payloads h = h.end_is ∙ place_joined h.entries ∙ ap place_behind h.payloads_are
 
-log_depends : (log : Log) (a b : Image) (payloads : List (List ℕ)) → ((name : List ℕ) → log_files name → b name ≡ a name) → log_stands log a payloads → log_stands log b payloads
+log_depends : (log : Log) (a b : Image) (payloads : List (List ℕ)) → ((name : List ℕ) → log_files name → b name ≡ a name) → log_stands log a payloads →
+    log_stands log b payloads
 log_depends log a b payloads same h = subst (λ (l : List ℕ). ClosedAt l log.end payloads) (sym (same _ refl)) h
 
 pub log_laws : JournalLaws log_files log_entries log_none log_damaged log_stands (λ log. log.end)
@@ -123,13 +146,15 @@ log_laws = record {
 -- ---- any journal on any disk
 
 -- where there is an entry, one stands at the front
-pub first_there : {J : Type 0} (stands : J → Image → List (List ℕ) → Type 0) (log : J) (image : Image) (payloads : List (List ℕ)) → stands log image payloads → payloads ≢ []
+pub first_there : {J : Type 0} (stands : J → Image → List (List ℕ) → Type 0) (log : J) (image : Image) (payloads : List (List ℕ)) →
+    stands log image payloads → payloads ≢ []
     → (payload : List ℕ) × IsEntryAt stands log image 0 payload
 first_there stands log image [] on some = absurd (some refl)
 first_there stands log image (payload ∷ more) on some = (payload, record { before = []; after = more; on = on; at_is = refl })
 
 -- steps that keep the journal's files leave it where it stands
-pub still_behind : {J D : Type 0} {may_leave : D → Image → Type 0} {files : List ℕ → Type 0} {entries : Image → List (List ℕ) → Type 0} {holds_none : Image → Type 0} {is_damaged : Image → ℕ → Type 0}
+pub still_behind : {J D : Type 0} {may_leave : D → Image → Type 0} {files : List ℕ → Type 0} {entries : Image → List (List ℕ) → Type 0} {holds_none : Image →
+    Type 0} {is_damaged : Image → ℕ → Type 0}
     {stands : J → Image → List (List ℕ) → Type 0} {end : J → ℕ}
     → JournalLaws files entries holds_none is_damaged stands end → (log : J) (old new : D) (payloads : List (List ℕ)) (step : Image → Image → Type 0)
     → ((b c : Image) → step b c → (name : List ℕ) → files name → c name ≡ b name)

@@ -159,8 +159,10 @@ pub trait Journal {
     /// Lets the entries that were put take the place of the live ones.
     fn end_turn<D: Disk>(&mut self, disk: &mut D) -> Result<(), DiskFault>
         requires open { (payloads : List (List ℕ)) × IsBehind D.may_leave stands self.old disk.old payloads }
-        requires begun { IsTrue (turns self.old) → (more : List (List ℕ)) × IsPut D.is_modelled D.seen put_there self.old disk.old more × BeginsTurn (number self.old + 1) more }
-        ensures any_moment { (payloads more : List (List ℕ)) → IsBehind D.may_leave stands self.old disk.old payloads → IsPut D.is_modelled D.seen put_there self.old disk.old more →
+        requires begun { IsTrue (turns self.old) → (more : List (List ℕ)) × IsPut D.is_modelled D.seen put_there self.old disk.old more ×
+            BeginsTurn (number self.old + 1) more }
+        ensures any_moment { (payloads more : List (List ℕ)) → IsBehind D.may_leave stands self.old disk.old payloads →
+            IsPut D.is_modelled D.seen put_there self.old disk.old more →
             Leaves D.moment D.left_since disk.old disk.new (After (D.may_leave disk.old) (Within files (BeforeOrPut entries payloads more))) }
         ensures turned { (more : List (List ℕ)) → IsTrue (turns self.old) → IsPut D.is_modelled D.seen put_there self.old disk.old more →
             OnOk result ((number self.new ≡ number self.old + 1) × (end self.new ≡ put_end self.old) × IsBehind D.may_leave stands self.new disk.new more) }

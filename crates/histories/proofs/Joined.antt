@@ -1,7 +1,8 @@
 -- Histories join: the newest happening is the first.
 use Rattle.std.proofs.Common.{◌≡◌, ◌++◌, ◌∷◌, [], List, refl, ap, ◌∙◌, sym, append_assoc}
 use Rattle.std.proofs.lemmas.List.{append-nil}
-use Rattle.histories.specs.TraceEvents.{TraceEvent, Ran, Booted, WaitElapsed, KilledOnAbort, Recorded, Moved, Asked, Heard, InboxAsked, Changed, StopsAll, records_of, entries_of}
+use Rattle.histories.specs.TraceEvents.{TraceEvent, Ran, Booted, WaitElapsed, KilledOnAbort, Recorded, Moved, Asked, Heard, InboxAsked, Changed, StopsAll}
+use Rattle.histories.specs.TraceEvents.{records_of, entries_of}
 use Rattle.histories.specs.States.{SessionState, leaves, state_after}
 use Rattle.histories.specs.Follows.{IsProper}
 

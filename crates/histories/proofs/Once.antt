@@ -6,7 +6,8 @@ use Rattle.records.specs.Stored.{Record, Accepted}
 use Rattle.step_runner.specs.declared.entries.Seen.{Seen}
 use Rattle.step_runner.specs.declared.entries.Seen.TheVariants as seen
 use Rattle.components.specs.declared.kinds.Prepared.{Prepared}
-use Rattle.histories.specs.TraceEvents.{TraceEvent, Ran, Booted, WaitElapsed, KilledOnAbort, Recorded, Moved, Asked, Heard, InboxAsked, Changed, StopsAll, records_of}
+use Rattle.histories.specs.TraceEvents.{TraceEvent, Ran, Booted, WaitElapsed, KilledOnAbort, Recorded, Moved, Asked, Heard, InboxAsked, Changed, StopsAll}
+use Rattle.histories.specs.TraceEvents.{records_of}
 use Rattle.histories.specs.States.{SessionState, booted, cut_off, leaves, state_after, takes_document}
 use Rattle.histories.specs.Follows.{IsProper, MayFollow, MayTakeBy}
 use Rattle.histories.specs.Once.{TakesOnce}
@@ -20,7 +21,8 @@ behind_more : (taken : Bool) (records : List Record) (r : Record) → taken_behi
 behind_more taken [] r = refl
 behind_more taken (x ∷ records) r = behind_more (taken || takes_document x) records r
 
-once_more : (taken : Bool) (records : List Record) (r : Record) → (takes_document r ≡ true → taken_behind taken records ≡ false) → TakesOnce taken records → TakesOnce taken (records ++ r ∷ [])
+once_more : (taken : Bool) (records : List Record) (r : Record) → (takes_document r ≡ true → taken_behind taken records ≡ false) → TakesOnce taken records →
+    TakesOnce taken (records ++ r ∷ [])
 once_more taken [] r first once = (first, tt)
 once_more taken (x ∷ records) r first once = (once.0, once_more (taken || takes_document x) records r first once.1)
 
@@ -66,7 +68,8 @@ serves_on p (InboxAsked a) = refl
 serves_on p (Changed f c b) = refl
 serves_on p StopsAll = refl
 
-taken_on : (b : Bool) (p : SessionState) (e : TraceEvent) (h : List TraceEvent) → p.taken ≡ taken_behind b (records_of h) → (leaves p e).taken ≡ taken_behind b (records_of (e ∷ h))
+taken_on : (b : Bool) (p : SessionState) (e : TraceEvent) (h : List TraceEvent) → p.taken ≡ taken_behind b (records_of h) →
+    (leaves p e).taken ≡ taken_behind b (records_of (e ∷ h))
 taken_on b p (Ran e k s) h is = is
 taken_on b p (Booted e m) h is = (booted_counts e.seen m p).taken ∙ is
 taken_on b p (WaitElapsed e) h is = is
@@ -85,7 +88,8 @@ untaken_for : (p : SessionState) (r : Record) (b : Bool) → takes_document r �
 untaken_for p (Accepted x) b is serves may takes = subst (λ (s : Bool). MayTakeBy s p) serves may.0.2
 untaken_for p _ b is serves may takes = absurd (false≢true (is ∙ takes))
 
-one_more : (b : Bool) (p : SessionState) (e : TraceEvent) (h : List TraceEvent) → p.serves ≡ false → p.taken ≡ taken_behind b (records_of h) → MayFollow p e → TakesOnce b (records_of h) → TakesOnce b (records_of (e ∷ h))
+one_more : (b : Bool) (p : SessionState) (e : TraceEvent) (h : List TraceEvent) → p.serves ≡ false → p.taken ≡ taken_behind b (records_of h) → MayFollow p e →
+    TakesOnce b (records_of h) → TakesOnce b (records_of (e ∷ h))
 one_more b p (Ran e k s) h serves is may once = once
 one_more b p (Booted e m) h serves is may once = once
 one_more b p (WaitElapsed e) h serves is may once = once

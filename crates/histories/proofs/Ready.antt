@@ -22,10 +22,12 @@ same_item : (i j : Item) → Some i ≡ Some j → j ≡ i
 same_item i j e = cc
 
 -- the folder by the scope is the one by the item
-folder : (o : Origin) (i : Item) (scope : Scope) → scope.root ≡ o.root → scope.own.name ≡ i.name → folder_of_work o.root i.name ≡ folder_of_work scope.root scope.own.name
+folder : (o : Origin) (i : Item) (scope : Scope) → scope.root ≡ o.root → scope.own.name ≡ i.name →
+    folder_of_work o.root i.name ≡ folder_of_work scope.root scope.own.name
 folder o i scope root name = rw (root, name) refl
 
-prepared : (o : Origin) (i : Item) (scope : Scope) (text : List ℕ) (limit : Option ℕ) → scope.root ≡ o.root → scope.own.name ≡ i.name → HasNoVariable text → IsPrepared scope (Some (plain_def text limit)) (Some (plain_step o i text limit))
+prepared : (o : Origin) (i : Item) (scope : Scope) (text : List ℕ) (limit : Option ℕ) → scope.root ≡ o.root → scope.own.name ≡ i.name → HasNoVariable text →
+    IsPrepared scope (Some (plain_def text limit)) (Some (plain_step o i text limit))
 prepared o i scope text limit root name plain = (
   plain_step o i text limit,
   refl,
@@ -35,12 +37,14 @@ prepared o i scope text limit root name plain = (
 named : (o : Origin) (i : Item) (scope : Scope) (is : IsScopeOf o (i ∷ []) 0 scope) → scope.own.name ≡ i.name
 named o i scope is = is.own.name ∙ ap (λ (j : Item). j.name) (same_item i is.item is.there)
 
-pub booted : (o : Origin) (i : Item) (text : List ℕ) (scope : Scope) (is : IsScopeOf o (i ∷ []) 0 scope) → HasNoVariable text → is.recipe.bootstrap ≡ Some (plain_def text (Some 120000))
+pub booted : (o : Origin) (i : Item) (text : List ℕ) (scope : Scope) (is : IsScopeOf o (i ∷ []) 0 scope) → HasNoVariable text →
+    is.recipe.bootstrap ≡ Some (plain_def text (Some 120000))
     → IsStepAt o (i ∷ []) 0 step.Bootstrap (Some (plain_step o i text (Some 120000)))
 booted o i text scope is plain e = record {
   scope = scope;
   is_scope = is;
-  prepared = subst (λ (d : Option StepDef). IsPrepared scope d (Some (plain_step o i text (Some 120000)))) (sym e) (prepared o i scope text (Some 120000) is.root (named o i scope is) plain);
+  prepared = subst (λ (d : Option StepDef). IsPrepared scope d (Some (plain_step o i text (Some 120000)))) (sym e)
+      (prepared o i scope text (Some 120000) is.root (named o i scope is) plain);
 }
 
 none : (scope : Scope) (d : Option StepDef) → d ≡ None → IsPrepared scope d None
@@ -50,13 +54,15 @@ steps : (o : Origin) (i : Item) (text : List ℕ) (scope : Scope) (is : IsScopeO
     → (s : Step) → s ≢ step.Bootstrap → IsPrepared scope (step_of is.recipe s) (prepared_of (running_item o i text) s)
 steps o i text scope is only step.Install other = none scope is.recipe.install only.install
 steps o i text scope is only step.Run other =
-    subst (λ (d : Option StepDef). IsPrepared scope d (Some (plain_step o i text None))) (sym only.run) (prepared o i scope text None is.root (named o i scope is) only.plain)
+    subst (λ (d : Option StepDef). IsPrepared scope d (Some (plain_step o i text None))) (sym only.run)
+    (prepared o i scope text None is.root (named o i scope is) only.plain)
 steps o i text scope is only step.Startup other = none scope is.recipe.startup only.startup
 steps o i text scope is only step.Shutdown other = none scope is.recipe.shutdown only.shutdown
 steps o i text scope is only step.Recover other = none scope is.recipe.recover only.recover
 steps o i text scope is only step.Bootstrap other = absurd (other refl)
 
-at_first : (o : Origin) (i : Item) (text : List ℕ) (scope : Scope) (is : IsScopeOf o (i ∷ []) 0 scope) → RunsOnly is.recipe text → IsFittedAt o (i ∷ []) 0 (running_item o i text)
+at_first : (o : Origin) (i : Item) (text : List ℕ) (scope : Scope) (is : IsScopeOf o (i ∷ []) 0 scope) → RunsOnly is.recipe text →
+    IsFittedAt o (i ∷ []) 0 (running_item o i text)
 at_first o i text scope is only = record {
   scope = scope;
   is_scope = is;
@@ -74,5 +80,6 @@ each : (o : Origin) (i : Item) (text : List ℕ) (scope : Scope) (is : IsScopeOf
 each o i text scope is only zero f e = subst (IsFittedAt o (i ∷ []) 0) (same_fitted (running_item o i text) f e) (at_first o i text scope is only)
 each o i text scope is only (suc n) f e = absurd cc
 
-pub fitted : (o : Origin) (i : Item) (text : List ℕ) (scope : Scope) (is : IsScopeOf o (i ∷ []) 0 scope) → RunsOnly is.recipe text → AreFitted o (i ∷ []) (running_item o i text ∷ [])
+pub fitted : (o : Origin) (i : Item) (text : List ℕ) (scope : Scope) (is : IsScopeOf o (i ∷ []) 0 scope) → RunsOnly is.recipe text →
+    AreFitted o (i ∷ []) (running_item o i text ∷ [])
 fitted o i text scope is only = record { many = refl; each = each o i text scope is only }

@@ -43,7 +43,8 @@ pub record IsBare (p : SessionState) : Type 0 where
 
 -- ---- a call that comes back with the device in hand
 
--- Nothing is pending and nothing is open. The components are those of the stage that was closed, or none stands. From here all may be stopped, or the next document is taken.
+-- Nothing is pending and nothing is open. The components are those of the stage that was closed, or none stands. From
+-- here all may be stopped, or the next document is taken.
 pub record IsBack (p : SessionState) : Type 0 where
   pub idle_is : is_idle (duty_of p.device).phase ≡ true
   pub going : is_shutting_down p.generation ≡ false

@@ -24,8 +24,10 @@ use Rattle.components.specs.Acts.{MayMove, MayKill}
 use Rattle.components.specs.Deadlines.{has_passed}
 use Rattle.components.specs.Made.{AreFitted, IsStepAt}
 use Rattle.components.specs.declared.kinds.Prepared.{Prepared}
-use Rattle.histories.specs.Phases.{Phase, Duty, idle, booting, activating, backing, rolling, is_idle, has_boots, duty_of, Generation, previous, draining, current, is_current, is_shutting_down}
-use Rattle.histories.specs.TraceEvents.{TraceEvent, Ran, Booted, WaitElapsed, KilledOnAbort, Recorded, Moved, Asked, Heard, InboxAsked, Changed, StopsAll, is_document}
+use Rattle.histories.specs.Phases.{Phase, Duty, idle, booting, activating, backing, rolling, is_idle, has_boots, duty_of, Generation, previous, draining}
+use Rattle.histories.specs.Phases.{current, is_current, is_shutting_down}
+use Rattle.histories.specs.TraceEvents.{TraceEvent, Ran, Booted, WaitElapsed, KilledOnAbort, Recorded, Moved, Asked, Heard, InboxAsked, Changed, StopsAll}
+use Rattle.histories.specs.TraceEvents.{is_document}
 use Rattle.histories.specs.States.{SessionState, state_after}
 use Rattle.histories.specs.Waits.{MayWait, boot_deadline, has_three, has_ended, may_drive}
 

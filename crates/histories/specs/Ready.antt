@@ -28,4 +28,14 @@ abbrev pub plain_step : Origin → Item → List ℕ → Option ℕ → Prepared
 plain_step o i text limit = record { command = record { script = text; env = []; folder = folder_of_work o.root i.name }; skip = None; limit_ms = limit }
 
 abbrev pub running_item : Origin → Item → List ℕ → Fitted
-running_item o i text = record { item = i; hard = []; soft = []; install = None; run = Some (plain_step o i text None); startup = None; shutdown = None; recover = None }
+running_item o i text = record {
+  item = i;
+  hard = [];
+  soft = [];
+  install = None;
+  run = Some (plain_step o i text None);
+  startup = None;
+  shutdown =
+      None;
+  recover = None;
+}

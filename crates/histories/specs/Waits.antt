@@ -4,7 +4,8 @@ use Rattle.std.specs.List.{list_any}
 use Rattle.components.specs.Components.{Child, is_settled, is_stopped}
 use Rattle.components.specs.Turns.{IsQuiet}
 use Rattle.components.specs.Deadlines.{has_passed, earlier, least_deadline, until}
-use Rattle.histories.specs.Phases.{Phase, Duty, idle, booting, activating, backing, rolling, is_idle, Generation, draining, current, shutting_down, is_shutting_down}
+use Rattle.histories.specs.Phases.{Phase, Duty, idle, booting, activating, backing, rolling, is_idle, Generation, draining, current, shutting_down}
+use Rattle.histories.specs.Phases.{is_shutting_down}
 use Rattle.histories.specs.TraceEvents.{is_document, is_nothing, is_closed}
 use Rattle.histories.specs.States.{SessionState}
 

@@ -12,7 +12,8 @@ ghost use Rattle.histories.specs.TraceEvents.{TraceEvent, records_of, entries_of
 ghost use Rattle.histories.specs.States.{SessionState, state_after};
 ghost use Rattle.histories.specs.Follows.{IsProper};
 ghost use Rattle.histories.specs.Once.{CallsTakeOnce};
-ghost use Rattle.histories.specs.Causes.{StartsTold, BootsTold, SleepsTold, EndsTold, BootEndsTold, RecordsOwed, FailuresRecorded, RecordsEnds, BootsInTurn, TurnsPlain};
+ghost use Rattle.histories.specs.Causes.{StartsTold, BootsTold, SleepsTold, EndsTold, BootEndsTold, RecordsOwed, FailuresRecorded, RecordsEnds, BootsInTurn};
+ghost use Rattle.histories.specs.Causes.{TurnsPlain};
 
 /// A history goes on where another ends.
 pub fn joins()
@@ -26,8 +27,10 @@ pub fn joins()
 /// recipe has one run step, or a bootstrap, without variables.
 pub fn made_ready()
     ensures none { (o : Origin) → AreFitted o [] [] }
-    ensures one { (o : Origin) (i : Item) (text : List ℕ) (scope : Scope) (is : IsScopeOf o (i ∷ []) 0 scope) → RunsOnly is.recipe text → AreFitted o (i ∷ []) (running_item o i text ∷ []) }
-    ensures boot { (o : Origin) (i : Item) (text : List ℕ) (scope : Scope) (is : IsScopeOf o (i ∷ []) 0 scope) → HasNoVariable text → is.recipe.bootstrap ≡ Some (plain_def text (Some 120000)) → IsStepAt o (i ∷ []) 0 step.Bootstrap (Some (plain_step o i text (Some 120000))) }
+    ensures one { (o : Origin) (i : Item) (text : List ℕ) (scope : Scope) (is : IsScopeOf o (i ∷ []) 0 scope) → RunsOnly is.recipe text →
+        AreFitted o (i ∷ []) (running_item o i text ∷ []) }
+    ensures boot { (o : Origin) (i : Item) (text : List ℕ) (scope : Scope) (is : IsScopeOf o (i ∷ []) 0 scope) → HasNoVariable text →
+        is.recipe.bootstrap ≡ Some (plain_def text (Some 120000)) → IsStepAt o (i ∷ []) 0 step.Bootstrap (Some (plain_step o i text (Some 120000))) }
 {}
 
 /// Failures and ends of bootstraps are recorded before the next step starts and before anything waits, each as it came,

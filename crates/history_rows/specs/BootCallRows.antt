@@ -16,7 +16,8 @@ use Rattle.device.specs.declared.staged.Stage.TheVariants as stages
 use Rattle.components.specs.Fitted.{Fitted}
 use Rattle.histories.specs.TraceEvents.{TraceEvent, Booted, Recorded, Moved, Asked, InboxAsked, Changed, StopsAll, document, nothing}
 use Rattle.histories.specs.States.{SessionState, state_after}
-use Rattle.history_rows.specs.Rows.{item, runs, starts_up, script, boot_of, device_of, pending_in, plan_of, call_begins, serve_begins, asked, not_asked, ends, good, bad, a, b, one, two}
+use Rattle.history_rows.specs.Rows.{item, runs, starts_up, script, boot_of, device_of, pending_in, plan_of, call_begins, serve_begins, asked, not_asked, ends}
+use Rattle.history_rows.specs.Rows.{good, bad, a, b, one, two}
 use Rattle.history_rows.specs.Words.{Telling, begins, starts, dies, kills, passes, runs_boot, closes}
 
 abbrev pub item_a : Item
@@ -80,7 +81,8 @@ after_boot_over o = state_after (after_boot_asks o) boot_over
 -- ---- one that was begun before, under DO_NOTHING
 
 abbrev pub resumes_begun : Origin → SessionState
-resumes_begun o = call_begins (device_of o [] (Some (record (pending_in stages.Booting (record boots_a { policy = policies.DoNothing }) no_failures) { begun = true })))
+resumes_begun o = call_begins (device_of o [] (Some (record (pending_in stages.Booting (record boots_a { policy = policies.DoNothing }) no_failures)
+    { begun = true })))
 
 abbrev pub long : Command → List TraceEvent
 long command = boots_with command (asked 0) 0 ∷ Asked 0 ∷ []
@@ -193,7 +195,8 @@ abbrev pub newer_a : Item
 newer_a = item a two
 
 abbrev pub backing : Origin → SessionState
-backing o = call_begins (device_of o (item_a ∷ []) (Some (record (pending_in stages.Backing (plan_of (newer_a ∷ []) (a ∷ [])) no_failures) { reach = 1; backs = a ∷ [] })))
+backing o = call_begins (device_of o (item_a ∷ []) (Some (record (pending_in stages.Backing (plan_of (newer_a ∷ []) (a ∷ [])) no_failures)
+    { reach = 1; backs = a ∷ [] })))
 
 abbrev pub back_begun : Origin → SessionState
 back_begun o = state_after (backing o) (Asked 0 ∷ Recorded (BootBegun a) ∷ [])

@@ -19,7 +19,8 @@ use Rattle.device.specs.Lawful.{no_failures, applied}
 use Rattle.device.specs.declared.staged.Stage.TheVariants as stages
 use Rattle.histories.specs.TraceEvents.{TraceEvent, Ran, Booted, WaitElapsed, Recorded, Moved, Asked, Changed}
 use Rattle.histories.specs.States.{SessionState, state_after}
-use Rattle.history_rows.specs.Rows.{item, runs, starts_up, script, boot_of, boots_up, device_of, pending_in, plan_of, before_change, call_begins, world_of, running_part, asked, not_asked, ends, good, bad, a, b, one, two}
+use Rattle.history_rows.specs.Rows.{item, runs, starts_up, script, boot_of, boots_up, device_of, pending_in, plan_of, before_change, call_begins, world_of}
+use Rattle.history_rows.specs.Rows.{running_part, asked, not_asked, ends, good, bad, a, b, one, two}
 
 abbrev pub item_a : Item
 item_a = item a one
@@ -59,7 +60,8 @@ starts_boot is_modelled n command = Booted (is_modelled (seen.Started n command)
 -- it takes too long
 abbrev pub boots_long : Command → List TraceEvent
 boots_long command =
-    Recorded (BootEnded a exits.TimedOut) ∷ Booted (asked 120000 (seen.Killed 0)) (boot_of command) ∷ Asked 120000 ∷ WaitElapsed (not_asked 0 (seen.Elapsed 120000))
+    Recorded (BootEnded a exits.TimedOut) ∷ Booted (asked 120000 (seen.Killed 0)) (boot_of command) ∷ Asked 120000 ∷
+    WaitElapsed (not_asked 0 (seen.Elapsed 120000))
     ∷ Booted (asked 0 (seen.Started 0 command)) (boot_of command) ∷ Asked 0 ∷ Recorded (BootBegun a) ∷ []
 
 abbrev pub boot_lives : Origin → SessionState
@@ -118,7 +120,8 @@ boot_probed word command =
 
 -- a start that is refused
 abbrev pub boot_refused : Command → List TraceEvent
-boot_refused command = Recorded (BootEnded a exits.NotStarted) ∷ Booted (asked 0 (seen.Refused command)) (boot_of command) ∷ Asked 0 ∷ Recorded (BootBegun a) ∷ []
+boot_refused command = Recorded (BootEnded a exits.NotStarted) ∷ Booted (asked 0 (seen.Refused command)) (boot_of command) ∷ Asked 0 ∷
+    Recorded (BootBegun a) ∷ []
 
 -- ---- the set's bootstraps run again
 
@@ -134,7 +137,11 @@ fails_back command = Recorded (FailingBack a) ∷ boots_by command a (exits.Code
 
 -- the old one's is to run again
 abbrev pub backing_device : Origin → Device
-backing_device o = device_of o (item_a ∷ []) (Some (record (pending_in stages.Backing (plan_of (newer_a ∷ []) (a ∷ [])) no_failures) { reach = 1; backs = a ∷ [] }))
+backing_device o = device_of o (item_a ∷ []) (Some (record (pending_in stages.Backing (plan_of (newer_a ∷ []) (a ∷ [])) no_failures) {
+  reach = 1;
+  backs =
+      a ∷ [];
+}))
 
 abbrev pub backed : Origin → SessionState
 backed o = call_begins (backing_device o)

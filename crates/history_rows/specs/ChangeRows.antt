@@ -22,7 +22,8 @@ use Rattle.components.specs.declared.kinds.Prepared.{Prepared}
 use Rattle.histories.specs.TraceEvents.{TraceEvent, Ran, Moved, Asked, Changed}
 use Rattle.histories.specs.Phases.{draining}
 use Rattle.histories.specs.States.{SessionState, state_after}
-use Rattle.history_rows.specs.Rows.{item, made, bare, runs, device_of, pending_in, plan_of, place_at, before_change, world_of, idle_part, running_part, starting_part, owing_part, starts_up, asked, not_asked, ends, good, bad, a, b, c, one, two}
+use Rattle.history_rows.specs.Rows.{item, made, bare, runs, device_of, pending_in, plan_of, place_at, before_change, world_of, idle_part, running_part}
+use Rattle.history_rows.specs.Rows.{starting_part, owing_part, starts_up, asked, not_asked, ends, good, bad, a, b, c, one, two}
 
 -- ---- texts that change
 
@@ -57,7 +58,8 @@ shutting_part f n m = record (idle_part f state.Stopping 0) {
 -- b needs a and shuts down, and a is to be stopped too
 abbrev pub shutting : Origin → SessionState
 shutting o = record (place_at (device_of o [] (Some (pending_in stages.Booting (plan_of [] []) no_failures)))
-    (world_of (record (running_part (runs (item a one) [] []) 0) { stop = Some after.Gone } ∷ shutting_part (shuts (item b one) (a ∷ [])) 1 2 ∷ []))) { generation = draining }
+    (world_of (record (running_part (runs (item a one) [] []) 0) { stop = Some after.Gone } ∷ shutting_part (shuts (item b one) (a ∷ [])) 1 2 ∷ [])))
+    { generation = draining }
 
 abbrev pub shut_down : Origin → SessionState
 shut_down o = state_after (shutting o) (Asked 5 ∷ Ran (asked 0 (ends good 2 15000)) 1 step.Shutdown ∷ [])
@@ -70,7 +72,8 @@ stops_rest = Ran (not_asked 5 (seen.Killed 0)) 0 step.Run ∷ Ran (asked 5 (seen
 
 -- a fails; b needs it and runs, c needs b and starts
 abbrev pub three : Components
-three = world_of (running_part (runs (item a one) [] []) 0 ∷ running_part (runs (item b one) (a ∷ []) []) 1 ∷ starting_part (starts_up (item c one) (b ∷ [])) 2 120000 ∷ [])
+three = world_of (running_part (runs (item a one) [] []) 0 ∷ running_part (runs (item b one) (a ∷ []) []) 1 ∷
+    starting_part (starts_up (item c one) (b ∷ [])) 2 120000 ∷ [])
 
 abbrev pub one_failed : Components
 one_failed = lived_at 0 (event.Ended step.Run bad) three

@@ -16,7 +16,8 @@ use Rattle.components.specs.Components.{ComponentState}
 use Rattle.device.specs.Devices.{Device}
 use Rattle.histories.specs.TraceEvents.{TraceEvent, Ran, Recorded, Moved, Asked, Changed, StopsAll}
 use Rattle.histories.specs.States.{SessionState, state_after}
-use Rattle.history_rows.specs.Rows.{item, starts_up, recovers, script, device_of, pending_in, plan_of, place_at, call_begins, world_of, idle_part, running_part, starting_part, runs, asked, not_asked, ends, good, bad, a, b, one, two}
+use Rattle.history_rows.specs.Rows.{item, starts_up, recovers, script, device_of, pending_in, plan_of, place_at, call_begins, world_of, idle_part}
+use Rattle.history_rows.specs.Rows.{running_part, starting_part, runs, asked, not_asked, ends, good, bad, a, b, one, two}
 
 abbrev pub old_a : Item
 old_a = item a one
@@ -36,7 +37,8 @@ counts_of n = n ∷ replicate 127 0
 
 -- the new version in this state, with so many recorded failures
 abbrev pub driven : Origin → State → ℕ → SessionState
-driven o s n = place_at (device_of o (old_a ∷ []) (Some (pending_in stages.Activating (plan_of (new_a ∷ []) []) (counts_of n)))) (world_of (idle_part new_up s n ∷ []))
+driven o s n = place_at (device_of o (old_a ∷ []) (Some (pending_in stages.Activating (plan_of (new_a ∷ []) []) (counts_of n))))
+    (world_of (idle_part new_up s n ∷ []))
 
 -- its startup begins, and ends after a while
 abbrev pub one_try : List TraceEvent
@@ -87,7 +89,8 @@ keeps_it = Moved 0 (event.Stop after.Gone) ∷ StopsAll ∷ Recorded (Closed out
 
 -- the old version breaks too
 abbrev pub breaking : Origin → SessionState
-breaking o = place_at (device_of o (old_a ∷ []) (Some (pending_in stages.Rolling (plan_of (new_a ∷ []) []) (counts_of 2)))) (world_of (idle_part old_up state.Installed 2 ∷ []))
+breaking o = place_at (device_of o (old_a ∷ []) (Some (pending_in stages.Rolling (plan_of (new_a ∷ []) []) (counts_of 2))))
+    (world_of (idle_part old_up state.Installed 2 ∷ []))
 
 abbrev pub breaks_too : List TraceEvent
 breaks_too = Recorded (Closed outcomes.UnableToRollback) ∷ Recorded (StepFailed a step.Startup bad) ∷ one_try
@@ -121,4 +124,5 @@ booting_with o = device_of o [] (Some (pending_in stages.Booting (plan_of (new_a
 
 -- its startup lives
 abbrev pub starting : Origin → SessionState
-starting o = place_at (device_of o (old_a ∷ []) (Some (pending_in stages.Activating (plan_of (new_a ∷ []) []) no_failures))) (world_of (starting_part new_up 7 120000 ∷ []))
+starting o = place_at (device_of o (old_a ∷ []) (Some (pending_in stages.Activating (plan_of (new_a ∷ []) []) no_failures)))
+    (world_of (starting_part new_up 7 120000 ∷ []))

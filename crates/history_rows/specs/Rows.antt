@@ -73,7 +73,16 @@ boots_up = boot_of (script (codes "b"))
 -- ---- components
 
 abbrev pub idle_part : Fitted → State → ℕ → ComponentState
-idle_part f s n = record { fitted = f; life = record (begun (steps_of f) n) { state = s }; children = []; handed = false; owed = None; stop = None; next = None }
+idle_part f s n = record {
+  fitted = f;
+  life = record (begun (steps_of f) n) { state = s };
+  children = [];
+  handed = false;
+  owed = None;
+  stop = None;
+  next =
+      None;
+}
 
 abbrev pub running_part : Fitted → ℕ → ComponentState
 running_part f n = record (idle_part f state.Running 0) {

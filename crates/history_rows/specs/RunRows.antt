@@ -15,7 +15,8 @@ use Rattle.device.specs.declared.staged.Stage.TheVariants as stages
 use Rattle.components.specs.Fitted.{Fitted}
 use Rattle.histories.specs.TraceEvents.{TraceEvent, Ran, WaitElapsed, Recorded, Moved, Asked, Changed, StopsAll}
 use Rattle.histories.specs.States.{SessionState, state_after}
-use Rattle.history_rows.specs.Rows.{item, made, bare, idle_part, runs, starts_up, skipping, script, device_of, pending_in, plan_of, place_at, call_begins, world_of, starting_part, asked, not_asked, ends, good, a, one}
+use Rattle.history_rows.specs.Rows.{item, made, bare, idle_part, runs, starts_up, skipping, script, device_of, pending_in, plan_of, place_at, call_begins}
+use Rattle.history_rows.specs.Rows.{world_of, starting_part, asked, not_asked, ends, good, a, one}
 
 -- ---- a component with a run step
 
@@ -64,7 +65,8 @@ abbrev pub skips_it : List TraceEvent
 skips_it = Recorded (Closed outcomes.Successful) ∷ Moved 0 event.MayBegin ∷ Ran (asked 0 (seen.Exists (codes "/opt/x") true)) 0 step.Install ∷ Asked 0 ∷ []
 
 abbrev pub installs_it : List TraceEvent
-installs_it = Ran (not_asked 0 (seen.Started 0 (script (codes "i")))) 0 step.Install ∷ Ran (asked 0 (seen.Exists (codes "/opt/x") false)) 0 step.Install ∷ Asked 0 ∷ []
+installs_it = Ran (not_asked 0 (seen.Started 0 (script (codes "i")))) 0 step.Install ∷ Ran (asked 0 (seen.Exists (codes "/opt/x") false)) 0 step.Install ∷
+    Asked 0 ∷ []
 
 -- ---- the limit of a startup
 
@@ -99,7 +101,8 @@ installing = record (bare hello [] []) { install = Some (made (codes "i") (Some 
 
 -- the component in this state, with so many recorded failures
 abbrev pub refusing : Origin → State → ℕ → SessionState
-refusing o s n = place_at (device_of o [] (Some (pending_in stages.Activating (plan_of (hello ∷ []) []) (n ∷ replicate 127 0)))) (world_of (idle_part installing s n ∷ []))
+refusing o s n = place_at (device_of o [] (Some (pending_in stages.Activating (plan_of (hello ∷ []) []) (n ∷ replicate 127 0))))
+    (world_of (idle_part installing s n ∷ []))
 
 -- its start is refused
 abbrev pub is_refused : List TraceEvent

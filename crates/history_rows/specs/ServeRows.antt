@@ -14,7 +14,8 @@ use Rattle.components.specs.Fitted.{Fitted}
 use Rattle.components.specs.Components.{Components, ComponentState}
 use Rattle.histories.specs.TraceEvents.{TraceEvent, Ran, WaitElapsed, Recorded, Moved, Asked, InboxAsked, Changed, StopsAll, document, nothing, closed}
 use Rattle.histories.specs.States.{SessionState, state_after}
-use Rattle.history_rows.specs.Rows.{item, set_up, runs, starts_up, script, device_of, pending_in, plan_of, place_at, call_begins, serve_begins, world_of, idle_part, starting_part, owing_part, asked, not_asked, a, b, c, one}
+use Rattle.history_rows.specs.Rows.{item, set_up, runs, starts_up, script, device_of, pending_in, plan_of, place_at, call_begins, serve_begins, world_of}
+use Rattle.history_rows.specs.Rows.{idle_part, starting_part, owing_part, asked, not_asked, a, b, c, one}
 
 abbrev pub item_d : Item
 item_d = item a one
@@ -143,7 +144,12 @@ finishing o = state_after (record (place_at (device_of o [] (Some (pending_in st
 
 -- a plan whose bootstrap failed, with no component left
 abbrev pub closed_without : Origin → SessionState
-closed_without o = state_after (record (call_begins (device_of o [] (Some (record (pending_in stages.Booting (plan_of (item_d ∷ []) (a ∷ [])) no_failures) { begun = true; boot_failed = true })))) { serves = true; turns = 2 })
+closed_without o = state_after (record (call_begins (device_of o []
+    (Some (record (pending_in stages.Booting (plan_of (item_d ∷ []) (a ∷ [])) no_failures) { begun = true; boot_failed = true })))) {
+      serves = true;
+      turns =
+          2;
+    })
     (Recorded (Closed outcomes.RollbackNotRequested) ∷ [])
 
 -- ---- two that start

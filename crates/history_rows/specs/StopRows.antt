@@ -10,7 +10,8 @@ use Rattle.device.specs.Lawful.{no_failures}
 use Rattle.components.specs.Fitted.{Fitted}
 use Rattle.histories.specs.TraceEvents.{TraceEvent, Recorded, Moved, Asked, InboxAsked, Changed, StopsAll, document, nothing}
 use Rattle.histories.specs.States.{SessionState, state_after}
-use Rattle.history_rows.specs.Rows.{item, made, bare, runs, starts_up, device_of, plan_of, call_begins, serve_begins, asked, not_asked, good, bad, a, b, one, two}
+use Rattle.history_rows.specs.Rows.{item, made, bare, runs, starts_up, device_of, plan_of, call_begins, serve_begins, asked, not_asked, good, bad, a, b, one}
+use Rattle.history_rows.specs.Rows.{two}
 use Rattle.history_rows.specs.Words.{begins, starts, dies, kills, closes, fails, shuts}
 
 abbrev pub item_a : Item

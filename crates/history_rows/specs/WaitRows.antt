@@ -12,7 +12,8 @@ use Rattle.device.specs.declared.staged.Stage.TheVariants as stages
 use Rattle.components.specs.Fitted.{Fitted}
 use Rattle.histories.specs.TraceEvents.{TraceEvent, Recorded, Moved, Asked, InboxAsked, Changed, StopsAll, document, nothing}
 use Rattle.histories.specs.States.{SessionState, state_after}
-use Rattle.history_rows.specs.Rows.{item, made, bare, runs, starts_up, device_of, pending_in, plan_of, call_begins, serve_begins, asked, not_asked, good, bad, a, b, one}
+use Rattle.history_rows.specs.Rows.{item, made, bare, runs, starts_up, device_of, pending_in, plan_of, call_begins, serve_begins, asked, not_asked, good, bad}
+use Rattle.history_rows.specs.Rows.{a, b, one}
 use Rattle.history_rows.specs.Words.{begins, starts, dies, kills, closes, fails, shuts, counts_of}
 
 abbrev pub item_a : Item

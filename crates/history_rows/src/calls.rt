@@ -15,8 +15,10 @@ use crate::boot_rows::{bootstraps_on_rollback_row, two_bootstraps_row};
 /// On its way back a bootstrap starts, fails, and the deployment closes; and one of two bootstraps of a plan ends and asks
 /// for a restart: both are histories of calls, and no failure is recorded in the second.
 pub fn rows_are_histories()
-    ensures closes { (o : Origin) (r : Recipes) (command : Command) → IsStepAt o (read_as r (item_a ∷ [])) 0 step.Bootstrap (Some (boot_of command)) → IsHistory (with_recipes r (backed o)) (back_failed command) }
-    ensures restarts { (o : Origin) (r : Recipes) (command : Command) → IsStepAt o (read_as r items) 0 step.Bootstrap (Some (boot_of command)) → IsHistory (with_recipes r (first_boot o)) (boots_by command a restart) }
+    ensures closes { (o : Origin) (r : Recipes) (command : Command) → IsStepAt o (read_as r (item_a ∷ [])) 0 step.Bootstrap (Some (boot_of command)) →
+        IsHistory (with_recipes r (backed o)) (back_failed command) }
+    ensures restarts { (o : Origin) (r : Recipes) (command : Command) → IsStepAt o (read_as r items) 0 step.Bootstrap (Some (boot_of command)) →
+        IsHistory (with_recipes r (first_boot o)) (boots_by command a restart) }
     ensures over { (o : Origin) (r : Recipes) (command : Command) → (state_after (with_recipes r (first_boot o)) (boots_by command a restart)).over ≡ true }
     ensures free { (command : Command) → RecordsNoFailure (boots_by command a restart) }
 {

@@ -21,11 +21,14 @@ ghost use Rattle.histories.specs.TraceEvents.{Ran, WaitElapsed, Moved, Changed};
 ghost use Rattle.histories.specs.States.{state_after};
 ghost use Rattle.histories.specs.Follows.{IsProper, MayFollow};
 ghost use Rattle.history_rows.specs.Rows.{Recipes, read_as, with_recipes, asked, bad, script};
-ghost use Rattle.history_rows.specs.ChangeRows.{item_a, other_text, stays, has_other_text, begins_again, shutting, shut_down, stops_rest, one_failed, stops_of, scripts_of, children_of, counts_of, next_counts, counts, going, newer, left_child, replaced_one, needed_one, owing, steady_start, stopping_start, owed_of, both, both_begun_first, both_begun};
+ghost use Rattle.history_rows.specs.ChangeRows.{item_a, other_text, stays, has_other_text, begins_again, shutting, shut_down, stops_rest, one_failed};
+ghost use Rattle.history_rows.specs.ChangeRows.{stops_of, scripts_of, children_of, counts_of, next_counts, counts, going, newer, left_child, replaced_one};
+ghost use Rattle.history_rows.specs.ChangeRows.{needed_one, owing, steady_start, stopping_start, owed_of, both, both_begun_first, both_begun};
 
 /// One that stays runs its steps with the texts as they are now.
 pub fn texts_change()
-    ensures changes { (o : Origin) (r : Recipes) (made : List Fitted) → AreFitted o (read_as r (item_a ∷ [])) made → IsProper (with_recipes r (stays o)) (Changed made no_failures false ∷ []) }
+    ensures changes { (o : Origin) (r : Recipes) (made : List Fitted) → AreFitted o (read_as r (item_a ∷ [])) made →
+        IsProper (with_recipes r (stays o)) (Changed made no_failures false ∷ []) }
     ensures begins { (o : Origin) → IsProper (has_other_text o) (Moved 0 event.MayBegin ∷ []) }
     ensures now { (o : Origin) → MayFollow (begins_again o) (Ran (asked 0 (seen.Started 0 (script (codes "x")))) 0 step.Run) }
     ensures before { (o : Origin) → MayFollow (begins_again o) (Ran (asked 0 (seen.Started 0 (script (codes "r")))) 0 step.Run) → ⊥ }
@@ -53,7 +56,8 @@ pub fn comes_again()
     ensures stop { stops_of (changed_to (other_text ∷ []) no_failures false going).parts ≡ Some after.Again ∷ [] }
     ensures replaced { scripts_of (changed_to (newer ∷ []) no_failures false going).parts ≡ codes "r" ∷ [] }
     ensures gone { children_of (changed_to (other_text ∷ []) no_failures false left_child).parts ≡ 1 ∷ [] }
-    ensures waits { At 0 (λ p. may_begin (changed_to (other_text ∷ []) no_failures false left_child) p ≡ false) (changed_to (other_text ∷ []) no_failures false left_child).parts }
+    ensures waits { At 0 (λ p. may_begin (changed_to (other_text ∷ []) no_failures false left_child) p ≡ false)
+        (changed_to (other_text ∷ []) no_failures false left_child).parts }
 {}
 
 /// A component that did not stand before is not restarted, though it needs a replaced one: it waits until that one is

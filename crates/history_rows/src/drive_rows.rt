@@ -18,7 +18,9 @@ ghost use Rattle.histories.specs.Courses.{IsBare, IsBack, IsEnd, IsStart, IsStop
 ghost use Rattle.histories.specs.Phases.{current};
 ghost use Rattle.nuc_base.specs.declared.status.Status.TheVariants as statuses;
 ghost use Rattle.history_rows.specs.Rows.{Recipes, read_as, with_recipes, call_begins, asked, not_asked, states_of, script, ends, good, bad, a};
-ghost use Rattle.history_rows.specs.DriveRows.{old_a, new_a, old_up, new_up, counts_of, failures_in, closes_it, broken_beside, resumed, booting_with, starting, beside_up, driven, one_try, tried, records_it, recovers_it, failed_once, broken, rolls_back, rolling, comes_back, is_back, stops_it, keeps_it, breaking, breaks_too};
+ghost use Rattle.history_rows.specs.DriveRows.{old_a, new_a, old_up, new_up, counts_of, failures_in, closes_it, broken_beside, resumed, booting_with};
+ghost use Rattle.history_rows.specs.DriveRows.{starting, beside_up, driven, one_try, tried, records_it, recovers_it, failed_once, broken, rolls_back};
+ghost use Rattle.history_rows.specs.DriveRows.{rolling, comes_back, is_back, stops_it, keeps_it, breaking, breaks_too};
 
 /// The new version fails three times, each failure is recorded, and the old one comes back.
 pub fn rollback_row()
@@ -28,7 +30,8 @@ pub fn rollback_row()
     ensures installed { (o : Origin) → states_of (state_after (failed_once o) recovers_it).world.parts ≡ state.Installed ∷ [] }
     ensures third { (o : Origin) → IsProper (tried o 2) records_it }
     ensures breaks { (o : Origin) → states_of (broken o).world.parts ≡ state.Broken ∷ [] }
-    ensures back { (o : Origin) (r : Recipes) (made : List Fitted) → AreFitted o (read_as r (old_a ∷ [])) made → IsProper (with_recipes r (broken o)) (rolls_back made) }
+    ensures back { (o : Origin) (r : Recipes) (made : List Fitted) → AreFitted o (read_as r (old_a ∷ [])) made →
+        IsProper (with_recipes r (broken o)) (rolls_back made) }
     ensures up { (o : Origin) → IsProper (rolling o) comes_back }
     ensures stops { (o : Origin) → IsProper (is_back o) stops_it }
     ensures bare { (o : Origin) → IsBare (state_after (is_back o) stops_it) }
@@ -44,14 +47,16 @@ pub fn do_nothing_row()
     ensures other_begins { (o : Origin) → MayFollow (broken_beside o) (Moved 1 event.MayBegin) }
     ensures starts { (o : Origin) → MayFollow (state_after (broken_beside o) closes_it) (Moved 1 event.MayBegin) → ⊥ }
     ensures waits { (o : Origin) → MayFollow (state_after (broken o) (Asked 0 ∷ closes_it)) (WaitElapsed (asked 0 (seen.Elapsed 1000))) → ⊥ }
-    ensures changes { (o : Origin) (r : Recipes) (made : List Fitted) → MayFollow (with_recipes r (state_after (broken o) closes_it)) (Changed made no_failures true) → ⊥ }
+    ensures changes { (o : Origin) (r : Recipes) (made : List Fitted) → MayFollow (with_recipes r (state_after (broken o) closes_it))
+        (Changed made no_failures true) → ⊥ }
     ensures as_success { (o : Origin) → MayFollow (broken o) (Recorded (Closed outcomes.Successful)) → ⊥ }
     ensures unstopped { (o : Origin) → IsEnd (state_after (broken o) closes_it) statuses.NotRequested false → ⊥ }
 {}
 
 /// A call that begins with recorded failures goes on with them; with three of them nothing more is tried.
 pub fn resumes_with_failures()
-    ensures two { (o : Origin) (r : Recipes) (made : List Fitted) → AreFitted o (read_as r (new_a ∷ [])) made → IsProper (with_recipes r (resumed o 2)) (Changed made (counts_of 2) false ∷ []) }
+    ensures two { (o : Origin) (r : Recipes) (made : List Fitted) → AreFitted o (read_as r (new_a ∷ [])) made →
+        IsProper (with_recipes r (resumed o 2)) (Changed made (counts_of 2) false ∷ []) }
     ensures third { (o : Origin) → failures_in (state_after (resumed o 2) (Changed (new_up ∷ []) (counts_of 2) false ∷ [])) ≡ 2 ∷ [] }
     ensures fewer { (o : Origin) (r : Recipes) (made : List Fitted) → MayFollow (with_recipes r (resumed o 2)) (Changed made no_failures false) → ⊥ }
     ensures fourth { (o : Origin) (r : Recipes) (made : List Fitted) → MayFollow (with_recipes r (resumed o 3)) (Changed made (counts_of 3) false) → ⊥ }
@@ -72,11 +77,13 @@ pub fn late_records()
 
 /// What must not follow where Rolling begins.
 pub fn rolls_early()
-    ensures changes { (o : Origin) (r : Recipes) (made : List Fitted) → MayFollow (with_recipes r (state_after (broken o) (Recorded (Failing a) ∷ []))) (Changed made no_failures false) → ⊥ }
+    ensures changes { (o : Origin) (r : Recipes) (made : List Fitted) → MayFollow (with_recipes r (state_after (broken o) (Recorded (Failing a) ∷ [])))
+        (Changed made no_failures false) → ⊥ }
     ensures waits { (o : Origin) → MayFollow (state_after (broken o) (Asked 0 ∷ Recorded (Failing a) ∷ [])) (WaitElapsed (asked 0 (seen.Elapsed 1000))) → ⊥ }
     ensures closes { (o : Origin) → MayFollow (rolling o) (Recorded (Closed outcomes.RollbackComplete)) → ⊥ }
     ensures stops { (o : Origin) → MayFollow (driven o state.Installed 0) StopsAll → ⊥ }
-    ensures serves_on { (o : Origin) (r : Recipes) (made : List Fitted) → MayFollow (with_recipes r (state_after (is_back o) stops_it)) (Changed made no_failures true) → ⊥ }
+    ensures serves_on { (o : Origin) (r : Recipes) (made : List Fitted) → MayFollow (with_recipes r (state_after (is_back o) stops_it))
+        (Changed made no_failures true) → ⊥ }
     ensures cut { (o : Origin) → MayFollow (state_after (beside_up o) (KilledOnAbort (asked 0 (seen.Killed 7)) ∷ [])) (Moved 1 event.MayBegin) → ⊥ }
     ensures uncut { (o : Origin) → MayFollow (beside_up o) (Moved 1 event.MayBegin) }
     ensures unasked { (o : Origin) → MayFollow (state_after (tried o 0) records_it) (WaitElapsed (not_asked 0 (seen.Elapsed 1000))) → ⊥ }

@@ -14,12 +14,19 @@ ghost use Rattle.histories.specs.Follows.{IsProper, MayFollow};
 ghost use Rattle.histories.specs.Courses.{IsEnd};
 ghost use Rattle.history_rows.specs.Rows.{Recipes, read_as, with_recipes, asked, not_asked, good, bad, a};
 ghost use Rattle.history_rows.specs.Words.{begins, starts, dies, kills, passes, gives_up, fails, counts_of};
-ghost use Rattle.history_rows.specs.RecordRows.{item_a, up_a, run_a, both, both_up, fresh, again_taken, after_again_taken, again, after_again, again_fails, after_again_fails, again_tries, after_again_tries, again_stops, after_again_stops, giving_taken, after_giving_taken, giving, after_giving, giving_fails, after_giving_fails, giving_cuts, after_giving_cuts, resumes, late, after_late, late_starts, after_late_starts, late_fails, after_late_fails, late_stops, after_late_stops, serves_none, later, after_later, later_changes, after_later_changes, later_refused, after_later_refused, later_runs, after_later_runs, later_fails, after_later_fails, later_again, after_later_again};
+ghost use Rattle.history_rows.specs.RecordRows.{item_a, up_a, run_a, both, both_up, fresh, again_taken, after_again_taken, again, after_again, again_fails};
+ghost use Rattle.history_rows.specs.RecordRows.{after_again_fails, again_tries, after_again_tries, again_stops, after_again_stops, giving_taken};
+ghost use Rattle.history_rows.specs.RecordRows.{after_giving_taken, giving, after_giving, giving_fails, after_giving_fails, giving_cuts, after_giving_cuts};
+ghost use Rattle.history_rows.specs.RecordRows.{resumes, late, after_late, late_starts, after_late_starts, late_fails, after_late_fails, late_stops};
+ghost use Rattle.history_rows.specs.RecordRows.{after_late_stops, serves_none, later, after_later, later_changes, after_later_changes, later_refused};
+ghost use Rattle.history_rows.specs.RecordRows.{after_later_refused, later_runs, after_later_runs, later_fails, after_later_fails, later_again};
+ghost use Rattle.history_rows.specs.RecordRows.{after_later_again};
 
 /// A failure is recorded as it came before the next start, and then it is tried again.
 pub fn tries_again_row()
     ensures opens { (o : Origin) → IsProper (fresh o) again_taken }
-    ensures opens_items { (o : Origin) (r : Recipes) (made : List Fitted) → AreFitted o (read_as r (item_a ∷ [])) made → IsProper (with_recipes r (after_again_taken o)) (Changed made no_failures false ∷ []) }
+    ensures opens_items { (o : Origin) (r : Recipes) (made : List Fitted) → AreFitted o (read_as r (item_a ∷ [])) made →
+        IsProper (with_recipes r (after_again_taken o)) (Changed made no_failures false ∷ []) }
     ensures fails { (o : Origin) → IsProper (after_again o) again_fails }
     ensures tries { (o : Origin) → IsProper (after_again_fails o) again_tries }
     ensures stops { (o : Origin) → IsProper (after_again_tries o) again_stops }
@@ -28,7 +35,8 @@ pub fn tries_again_row()
     ensures retries { (o : Origin) → MayFollow (after_again_fails o) (Moved 0 event.Retry) → ⊥ }
     ensures as_other { (o : Origin) → MayFollow (after_again_fails o) (fails a step.Startup (exits.Code (pos 2))) → ⊥ }
     ensures as_step { (o : Origin) → MayFollow (after_again_fails o) (fails a step.Run bad) → ⊥ }
-    ensures before { (o : Origin) → MayFollow (state_after (after_again o) (starts (asked 0) 0 0 step.Startup (codes "s") ∷ Asked 0 ∷ begins 0 ∷ begins 0 ∷ [])) (fails a step.Startup bad) → ⊥ }
+    ensures before { (o : Origin) → MayFollow (state_after (after_again o) (starts (asked 0) 0 0 step.Startup (codes "s") ∷ Asked 0 ∷ begins 0 ∷
+        begins 0 ∷ [])) (fails a step.Startup bad) → ⊥ }
     ensures unrecorded { (o : Origin) → IsEnd (after_again_fails o) statuses.Done false → ⊥ }
 {}
 
@@ -36,7 +44,8 @@ pub fn tries_again_row()
 /// nothing starts and nothing is waited for.
 pub fn gives_up_row()
     ensures opens { (o : Origin) → IsProper (fresh o) giving_taken }
-    ensures opens_items { (o : Origin) (r : Recipes) (made : List Fitted) → AreFitted o (read_as r both) made → IsProper (with_recipes r (after_giving_taken o)) (Changed made no_failures false ∷ []) }
+    ensures opens_items { (o : Origin) (r : Recipes) (made : List Fitted) → AreFitted o (read_as r both) made →
+        IsProper (with_recipes r (after_giving_taken o)) (Changed made no_failures false ∷ []) }
     ensures fails { (o : Origin) → IsProper (after_giving o) giving_fails }
     ensures cuts { (o : Origin) → IsProper (after_giving_fails o) giving_cuts }
     ensures ends { (o : Origin) → IsEnd (after_giving_cuts o) statuses.Disk true }
@@ -51,12 +60,14 @@ pub fn gives_up_row()
 
 /// What is late beside a third failure is killed after the close, as all are, and that is no failure.
 pub fn late_at_close_row()
-    ensures opens { (o : Origin) (r : Recipes) (made : List Fitted) → AreFitted o (read_as r both) made → IsProper (with_recipes r (resumes o)) (Changed made (counts_of 2) false ∷ []) }
+    ensures opens { (o : Origin) (r : Recipes) (made : List Fitted) → AreFitted o (read_as r both) made →
+        IsProper (with_recipes r (resumes o)) (Changed made (counts_of 2) false ∷ []) }
     ensures starts { (o : Origin) → IsProper (after_late o) late_starts }
     ensures fails { (o : Origin) → IsProper (after_late_starts o) late_fails }
     ensures stops { (o : Origin) → IsProper (after_late_fails o) late_stops }
     ensures ends { (o : Origin) → IsEnd (after_late_stops o) statuses.NotRequested false }
-    ensures unrecorded { (o : Origin) → MayFollow (state_after (after_late_starts o) (kills (asked 120000) 0 0 step.Startup ∷ [])) (kills (not_asked 120000) 1 1 step.Startup) → ⊥ }
+    ensures unrecorded { (o : Origin) → MayFollow (state_after (after_late_starts o) (kills (asked 120000) 0 0 step.Startup ∷ []))
+        (kills (not_asked 120000) 1 1 step.Startup) → ⊥ }
     ensures second { (o : Origin) → MayFollow (after_late_starts o) (kills (asked 120000) 1 1 step.Startup) → ⊥ }
     ensures waits { (o : Origin) → MayFollow (after_late_starts o) (passes (asked 120000) 0) → ⊥ }
 {}
@@ -64,7 +75,8 @@ pub fn late_at_close_row()
 /// Failures are forgotten where the deployment closes: a later one is the first. Where nothing is pending none is recorded.
 pub fn forgets_at_close_row()
     ensures opens { (o : Origin) → AreFitted o [] [] → IsProper (serves_none o) later }
-    ensures changes { (o : Origin) (r : Recipes) (made : List Fitted) → AreFitted o (read_as r (item_a ∷ [])) made → IsProper (with_recipes r (after_later o)) (Changed made no_failures false ∷ []) }
+    ensures changes { (o : Origin) (r : Recipes) (made : List Fitted) → AreFitted o (read_as r (item_a ∷ [])) made →
+        IsProper (with_recipes r (after_later o)) (Changed made no_failures false ∷ []) }
     ensures refused { (o : Origin) → IsProper (after_later_changes o) later_refused }
     ensures runs { (o : Origin) → IsProper (after_later_refused o) later_runs }
     ensures fails { (o : Origin) → IsProper (after_later_runs o) later_fails }
@@ -72,5 +84,6 @@ pub fn forgets_at_close_row()
     ensures ends { (o : Origin) → IsEnd (after_later_again o) statuses.TurnsOver false }
     ensures idles { (o : Origin) → MayFollow (after_later_fails o) (InboxAsked nothing) → ⊥ }
     ensures waits { (o : Origin) → MayFollow (after_later_fails o) (passes (asked 7) 1000) → ⊥ }
-    ensures recorded { (o : Origin) → MayFollow (state_after (after_later_runs o) (Heard 0 ∷ Asked 7 ∷ dies (not_asked 0) 0 0 step.Run bad 1000 ∷ InboxAsked nothing ∷ [])) (fails a step.Run bad) → ⊥ }
+    ensures recorded { (o : Origin) → MayFollow (state_after (after_later_runs o) (Heard 0 ∷ Asked 7 ∷ dies (not_asked 0) 0 0 step.Run bad 1000 ∷
+        InboxAsked nothing ∷ [])) (fails a step.Run bad) → ⊥ }
 {}

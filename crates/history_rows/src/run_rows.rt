@@ -16,11 +16,15 @@ ghost use Rattle.histories.specs.States.{state_after};
 ghost use Rattle.histories.specs.Follows.{IsProper, MayFollow};
 ghost use Rattle.histories.specs.Courses.{IsBare};
 ghost use Rattle.history_rows.specs.Rows.{Recipes, read_as, with_recipes, asked, not_asked, states_of, script, ends, good, bad, a};
-ghost use Rattle.history_rows.specs.RunRows.{hello, hello_moves, hello_up, hello_accepted, hello_starts, hello_ends, hello_begun, hello_runs, hello_changed, skip_up, skip_begun, skips_it, installs_it, probed_yes, probed_no, limited, in_time, too_late, timed_out, refusing, is_refused, records_refusal, refused_again, refused_once, recorded_once, refused_twice, recorded_twice, refused_thrice, recorded_thrice, goes_back, activates};
+ghost use Rattle.history_rows.specs.RunRows.{hello, hello_moves, hello_up, hello_accepted, hello_starts, hello_ends, hello_begun, hello_runs, hello_changed};
+ghost use Rattle.history_rows.specs.RunRows.{skip_up, skip_begun, skips_it, installs_it, probed_yes, probed_no, limited, in_time, too_late, timed_out};
+ghost use Rattle.history_rows.specs.RunRows.{refusing, is_refused, records_refusal, refused_again, refused_once, recorded_once, refused_twice};
+ghost use Rattle.history_rows.specs.RunRows.{recorded_twice, refused_thrice, recorded_thrice, goes_back, activates};
 
 /// A component with a run step comes up, and is killed at the end.
 pub fn hello_row()
-    ensures begins { (o : Origin) (r : Recipes) (made : List Fitted) → AreFitted o (read_as r (hello ∷ [])) made → IsProper (with_recipes r (hello_accepted o)) (activates made) }
+    ensures begins { (o : Origin) (r : Recipes) (made : List Fitted) → AreFitted o (read_as r (hello ∷ [])) made →
+        IsProper (with_recipes r (hello_accepted o)) (activates made) }
     ensures moves { (o : Origin) → IsProper (hello_changed o) hello_moves }
     ensures starts { (o : Origin) → IsProper (hello_begun o) hello_starts }
     ensures ends { (o : Origin) → IsProper (hello_runs o) hello_ends }
@@ -45,12 +49,16 @@ pub fn skipif_row()
     ensures skips { (o : Origin) → IsProper (skip_begun o) skips_it }
     ensures installs { (o : Origin) → IsProper (skip_begun o) installs_it }
     ensures states { (o : Origin) → states_of (state_after (skip_begun o) skips_it).world.parts ≡ state.Finished ∷ [] }
-    ensures unprobed { (o : Origin) → MayFollow (state_after (skip_begun o) (Asked 0 ∷ [])) (Ran (asked 0 (seen.Started 0 (script (codes "i")))) 0 step.Install) → ⊥ }
-    ensures after_yes { (o : Origin) → MayFollow (state_after (skip_begun o) probed_yes) (Ran (not_asked 0 (seen.Started 0 (script (codes "i")))) 0 step.Install) → ⊥ }
-    ensures other { (o : Origin) → MayFollow (state_after (skip_begun o) (Asked 0 ∷ [])) (Ran (asked 0 (seen.Exists (codes "/opt/y") true)) 0 step.Install) → ⊥ }
+    ensures unprobed { (o : Origin) → MayFollow (state_after (skip_begun o) (Asked 0 ∷ []))
+        (Ran (asked 0 (seen.Started 0 (script (codes "i")))) 0 step.Install) → ⊥ }
+    ensures after_yes { (o : Origin) → MayFollow (state_after (skip_begun o) probed_yes)
+        (Ran (not_asked 0 (seen.Started 0 (script (codes "i")))) 0 step.Install) → ⊥ }
+    ensures other { (o : Origin) → MayFollow (state_after (skip_begun o) (Asked 0 ∷ [])) (Ran (asked 0 (seen.Exists (codes "/opt/y") true)) 0 step.Install) →
+        ⊥ }
     ensures kind { (o : Origin) → MayFollow (state_after (skip_begun o) (Asked 0 ∷ [])) (Ran (asked 0 (seen.OnPath (codes "/opt/x") true)) 0 step.Install) → ⊥ }
     ensures twice { (o : Origin) → MayFollow (state_after (skip_begun o) probed_no) (Ran (not_asked 0 (seen.Exists (codes "/opt/x") true)) 0 step.Install) → ⊥ }
-    ensures asked_between { (o : Origin) → MayFollow (state_after (skip_begun o) (Asked 0 ∷ probed_no)) (Ran (asked 0 (seen.Started 0 (script (codes "i")))) 0 step.Install) → ⊥ }
+    ensures asked_between { (o : Origin) → MayFollow (state_after (skip_begun o) (Asked 0 ∷ probed_no))
+        (Ran (asked 0 (seen.Started 0 (script (codes "i")))) 0 step.Install) → ⊥ }
     ensures goes_on { (o : Origin) → MayFollow (state_after (skip_begun o) probed_no) (Moved 0 event.MayBegin) → ⊥ }
     ensures closes { (o : Origin) → MayFollow (state_after (skip_begun o) probed_yes) (Recorded (Closed outcomes.Successful)) → ⊥ }
 {}
@@ -63,7 +71,8 @@ pub fn startup_limit_row()
     ensures long { (o : Origin) → MayFollow (limited o) (WaitElapsed (asked 0 (seen.Elapsed 120001))) → ⊥ }
     ensures short { (o : Origin) → MayFollow (limited o) (WaitElapsed (asked 0 (seen.Elapsed 1000))) → ⊥ }
     ensures waits { (o : Origin) → MayFollow (state_after (limited o) (Asked 120000 ∷ [])) (WaitElapsed (asked 120000 (seen.Elapsed 0))) → ⊥ }
-    ensures unasked { (o : Origin) → MayFollow (state_after (limited o) (WaitElapsed (asked 0 (seen.Elapsed 120000)) ∷ [])) (Ran (not_asked 120000 (seen.Killed 0)) 0 step.Startup) → ⊥ }
+    ensures unasked { (o : Origin) → MayFollow (state_after (limited o) (WaitElapsed (asked 0 (seen.Elapsed 120000)) ∷ []))
+        (Ran (not_asked 120000 (seen.Killed 0)) 0 step.Startup) → ⊥ }
     ensures as_success { (o : Origin) → MayFollow (state_after (limited o) timed_out) (Recorded (Closed outcomes.Successful)) → ⊥ }
     ensures as_signal { (o : Origin) → MayFollow (state_after (limited o) timed_out) (Recorded (StepFailed a step.Startup exits.Signal)) → ⊥ }
     ensures retries { (o : Origin) → MayFollow (state_after (limited o) timed_out) (Moved 0 event.Retry) → ⊥ }

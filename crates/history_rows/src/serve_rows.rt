@@ -12,23 +12,31 @@ ghost use Rattle.step_runner.specs.declared.entries.Seen.TheVariants as seen;
 ghost use Rattle.device.specs.Lawful.{no_failures};
 ghost use Rattle.components.specs.Fitted.{Fitted};
 ghost use Rattle.components.specs.Made.{AreFitted};
-ghost use Rattle.histories.specs.TraceEvents.{Answer, Ran, WaitElapsed, Recorded, Moved, Asked, Heard, InboxAsked, Changed, StopsAll, document, nothing, closed, answers_of};
+ghost use Rattle.histories.specs.TraceEvents.{Answer, Ran, WaitElapsed, Recorded, Moved, Asked, Heard, InboxAsked, Changed, StopsAll, document, nothing};
+ghost use Rattle.histories.specs.TraceEvents.{closed, answers_of};
 ghost use Rattle.histories.specs.States.{state_after};
 ghost use Rattle.histories.specs.Follows.{IsProper, MayFollow};
 ghost use Rattle.histories.specs.Courses.{IsEnd};
-ghost use Rattle.history_rows.specs.Rows.{Recipes, read_as, with_recipes, idle_part, running_part, starting_part, call_begins, device_of, plan_of, starts_up, asked, not_asked, states_of, script};
-ghost use Rattle.history_rows.specs.ServeRows.{item_d, item_h, item_s, new_items, serve_three, brings_up, set_opened, first_run, one_up, begin_run, two_up, all_up, takes, serving, changes, changing, stops_two, stopped_two, started_first, starts_second, served, stops_three, serve_over, serve_none, none_opened, turn_passes, turn_more, one_turn, two_turns, finishing, closed_without, fails_serving, fails_driven, needed_starts, other_starts, both_wait, serve_place, beside, softly, hardly};
+ghost use Rattle.history_rows.specs.Rows.{Recipes, read_as, with_recipes, idle_part, running_part, starting_part, call_begins, device_of, plan_of, starts_up};
+ghost use Rattle.history_rows.specs.Rows.{asked, not_asked, states_of, script};
+ghost use Rattle.history_rows.specs.ServeRows.{item_d, item_h, item_s, new_items, serve_three, brings_up, set_opened, first_run, one_up, begin_run, two_up};
+ghost use Rattle.history_rows.specs.ServeRows.{all_up, takes, serving, changes, changing, stops_two, stopped_two, started_first, starts_second, served};
+ghost use Rattle.history_rows.specs.ServeRows.{stops_three, serve_over, serve_none, none_opened, turn_passes, turn_more, one_turn, two_turns, finishing};
+ghost use Rattle.history_rows.specs.ServeRows.{closed_without, fails_serving, fails_driven, needed_starts, other_starts, both_wait, serve_place, beside};
+ghost use Rattle.history_rows.specs.ServeRows.{softly, hardly};
 ghost use Rattle.history_rows.specs.Rows.{runs};
 
 /// The set of three comes up; a document changes one that another needs: both are stopped and come back, and a third that
 /// needs it softly stays. Then the inbox is closed, and all are stopped.
 pub fn serve_config_change_row()
-    ensures opens { (o : Origin) (r : Recipes) (made : List Fitted) → AreFitted o (read_as r (item_d ∷ item_h ∷ item_s ∷ [])) made → IsProper (with_recipes r (serve_three o)) (brings_up made) }
+    ensures opens { (o : Origin) (r : Recipes) (made : List Fitted) → AreFitted o (read_as r (item_d ∷ item_h ∷ item_s ∷ [])) made →
+        IsProper (with_recipes r (serve_three o)) (brings_up made) }
     ensures starts { (o : Origin) → IsProper (set_opened o) first_run }
     ensures starts_second { (o : Origin) → IsProper (one_up o) (begin_run 1 1) }
     ensures starts_third { (o : Origin) → IsProper (two_up o) (begin_run 2 2) }
     ensures takes { (o : Origin) → IsProper (all_up o) takes }
-    ensures changes { (o : Origin) (r : Recipes) (made : List Fitted) → AreFitted o (read_as r new_items) made → IsProper (with_recipes r (serving o)) (changes made) }
+    ensures changes { (o : Origin) (r : Recipes) (made : List Fitted) → AreFitted o (read_as r new_items) made →
+        IsProper (with_recipes r (serving o)) (changes made) }
     ensures stops { (o : Origin) → IsProper (changing o) stops_two }
     ensures states { (o : Origin) → states_of (stopped_two o).world.parts ≡ state.New ∷ state.Installed ∷ state.Running ∷ [] }
     ensures back { (o : Origin) → IsProper (stopped_two o) (begin_run 3 0) }
@@ -57,7 +65,8 @@ pub fn soft_needs()
     ensures broken { (o : Origin) → MayFollow (beside o (softly (idle_part (runs item_d [] []) state.Broken 3))) (Moved 1 event.MayBegin) }
     ensures up { (o : Origin) → MayFollow (beside o (softly (running_part (runs item_d [] []) 0))) (Moved 1 event.MayBegin) }
     ensures starting { (o : Origin) → MayFollow (beside o (softly (starting_part (starts_up item_d []) 0 120000))) (Moved 1 event.MayBegin) → ⊥ }
-    ensures stopping { (o : Origin) → MayFollow (beside o (softly (record (running_part (runs item_d [] []) 0) { stop = Some after.Restart }))) (Moved 1 event.MayBegin) → ⊥ }
+    ensures stopping { (o : Origin) → MayFollow (beside o (softly (record (running_part (runs item_d [] []) 0) { stop = Some after.Restart })))
+        (Moved 1 event.MayBegin) → ⊥ }
     ensures hard { (o : Origin) → MayFollow (beside o (hardly (idle_part (runs item_d [] []) state.Broken 3))) (Moved 1 event.MayBegin) → ⊥ }
 {}
 
@@ -71,17 +80,21 @@ pub fn one_at_a_time()
 /// A call that serves brings up the set before it asks, waits or takes a document, once, and after a close that leaves no
 /// component of the set.
 pub fn serves_nothing()
-    ensures changes { (o : Origin) (r : Recipes) (made : List Fitted) → AreFitted o (read_as r (item_d ∷ [])) made → IsProper (with_recipes r (serve_place o)) (brings_up made) }
+    ensures changes { (o : Origin) (r : Recipes) (made : List Fitted) → AreFitted o (read_as r (item_d ∷ [])) made →
+        IsProper (with_recipes r (serve_place o)) (brings_up made) }
     ensures waits { (o : Origin) → MayFollow (state_after (serve_place o) (Asked 0 ∷ [])) (WaitElapsed (asked 0 (seen.Elapsed 1000))) → ⊥ }
     ensures accepts { (o : Origin) (p : Plan) → MayFollow (serve_place o) (Recorded (Accepted p)) → ⊥ }
     ensures asks { (o : Origin) (x : Answer) → MayFollow (serve_place o) (InboxAsked x) → ⊥ }
     ensures stops { (o : Origin) → MayFollow (serve_place o) StopsAll → ⊥ }
-    ensures finished { (o : Origin) (r : Recipes) (made : List Fitted) → AreFitted o (read_as r (item_d ∷ [])) made → IsProper (with_recipes r (finishing o)) (brings_up made) }
+    ensures finished { (o : Origin) (r : Recipes) (made : List Fitted) → AreFitted o (read_as r (item_d ∷ [])) made →
+        IsProper (with_recipes r (finishing o)) (brings_up made) }
     ensures finished_asks { (o : Origin) (x : Answer) → MayFollow (finishing o) (InboxAsked x) → ⊥ }
     ensures finished_waits { (o : Origin) → MayFollow (finishing o) (WaitElapsed (asked 0 (seen.Elapsed 1000))) → ⊥ }
-    ensures without { (o : Origin) (r : Recipes) (made : List Fitted) → AreFitted o (read_as r (item_d ∷ [])) made → IsProper (with_recipes r (closed_without o)) (brings_up made) }
+    ensures without { (o : Origin) (r : Recipes) (made : List Fitted) → AreFitted o (read_as r (item_d ∷ [])) made →
+        IsProper (with_recipes r (closed_without o)) (brings_up made) }
     ensures without_asks { (o : Origin) (x : Answer) → MayFollow (record (closed_without o) { opened = true }) (InboxAsked x) → ⊥ }
-    ensures without_again { (o : Origin) (r : Recipes) (made : List Fitted) → AreFitted o (read_as r (item_d ∷ [])) made → IsProper (with_recipes r (record (closed_without o) { opened = true })) (brings_up made) }
+    ensures without_again { (o : Origin) (r : Recipes) (made : List Fitted) → AreFitted o (read_as r (item_d ∷ [])) made →
+        IsProper (with_recipes r (record (closed_without o) { opened = true })) (brings_up made) }
 {}
 
 /// With an empty set and an inbox that has nothing each turn has one wait, and after the last turn all is stopped.

@@ -264,7 +264,8 @@ impl<'a, R: Processes + Clock + Files<File = File> + Env + AllocGlobal> ShellRun
         ensures refused { OnErr result (self.new.living.items ≡ self.old.living.items) }
         ensures next { OnErr result (self.new.next ≡ self.old.next) }
         ensures counted { OnOk result (self.new.next ≡ self.old.next + 1) }
-        ensures same { (self.new.clock ≡ self.old.clock) × (self.new.told ≡ self.old.told) × (self.new.asked ≡ self.old.asked) × (self.new.faults ≡ self.old.faults) }
+        ensures same { (self.new.clock ≡ self.old.clock) × (self.new.told ≡ self.old.told) × (self.new.asked ≡ self.old.asked) ×
+            (self.new.faults ≡ self.old.faults) }
     {
         let number = self.next;
         if number == u64::MAX {
@@ -283,7 +284,8 @@ impl<'a, R: Processes + Clock + Files<File = File> + Env + AllocGlobal> ShellRun
     /// Ends a child where it has not ended, with its group where that is asked for, and drops it.
     fn end_child(&mut self, child: u64, with_group: bool)
         ensures left { self.new.living.items ≡ without child self.old.living.items }
-        ensures same { (self.new.next ≡ self.old.next) × (self.new.clock ≡ self.old.clock) × (self.new.told ≡ self.old.told) × (self.new.asked ≡ self.old.asked) × (self.new.faults ≡ self.old.faults) }
+        ensures same { (self.new.next ≡ self.old.next) × (self.new.clock ≡ self.old.clock) × (self.new.told ≡ self.old.told) ×
+            (self.new.asked ≡ self.old.asked) × (self.new.faults ≡ self.old.faults) }
     {
         let place = self.living.iter().position(|number| *number == child);
         if let Some(at) = place {
@@ -302,7 +304,8 @@ impl<'a, R: Processes + Clock + Files<File = File> + Env + AllocGlobal> ShellRun
         ensures own { IfSome result (λ ended. is_own ended.1 ≡ true) }
         ensures none { IfNone result (until ≤ self.new.clock) }
         ensures later { self.old.clock ≤ self.new.clock }
-        ensures same { (self.new.living.items ≡ self.old.living.items) × (self.new.next ≡ self.old.next) × (self.new.told ≡ self.old.told) × (self.new.asked ≡ self.old.asked) × (self.new.faults ≡ self.old.faults) }
+        ensures same { (self.new.living.items ≡ self.old.living.items) × (self.new.next ≡ self.old.next) × (self.new.told ≡ self.old.told) ×
+            (self.new.asked ≡ self.old.asked) × (self.new.faults ≡ self.old.faults) }
     {
         'polling: while self.clock < until {
             let ended = poll_all(self.living.as_slice(), &mut self.children);

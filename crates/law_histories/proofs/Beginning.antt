@@ -1,5 +1,6 @@
 -- Which bootstraps began and ended in a stage, along the records of a call.
-use Rattle.std.proofs.Common.{◌≡◌, inl, inr, ◌∙◌, ℕ, ◌+◌, ◌<◌, Bool, true, false, List, [], ◌∷◌, ◌++◌, get_or, Option, Some, None, refl, sym, ap, subst, arith, append-nil, append_assoc}
+use Rattle.std.proofs.Common.{◌≡◌, inl, inr, ◌∙◌, ℕ, ◌+◌, ◌<◌, Bool, true, false, List, [], ◌∷◌, ◌++◌, get_or, Option, Some, None, refl, sym, ap, subst}
+use Rattle.std.proofs.Common.{arith, append-nil, append_assoc}
 use Rattle.std.specs.Prelude.{if◌then◌else◌, not, option_map, slice_get, take, ⊤}
 use Rattle.std.specs.List.{Contains, IsDistinct}
 use Rattle.std.specs.Option.{IsSomeAnd}
@@ -17,7 +18,8 @@ use Rattle.records.specs.declared.record.Origin.{Origin}
 use Rattle.device.specs.declared.staged.Stage.{Stage}
 use Rattle.device.specs.declared.staged.Stage.TheVariants as stages
 use Rattle.device.specs.Devices.{Device, Pending}
-use Rattle.device.specs.Lawful.{MayActivate, MayBegin, MayClose, MayCount, MayEnd, MayFail, accepted, activated, begun, boot_ended, boots_of, close_pending, count_failure, counted, failing_place, goes_on, has_gone_back, moved_on, next_boot, one_ended, rolled, turned_back}
+use Rattle.device.specs.Lawful.{MayActivate, MayBegin, MayClose, MayCount, MayEnd, MayFail, accepted, activated, begun, boot_ended, boots_of, close_pending}
+use Rattle.device.specs.Lawful.{count_failure, counted, failing_place, goes_on, has_gone_back, moved_on, next_boot, one_ended, rolled, turned_back}
 use Rattle.components.specs.declared.kinds.Prepared.{Prepared}
 use Rattle.device.proofs.SoundStages.{at}
 use Rattle.histories.specs.Phases.{begins_stage, duty_in}
@@ -56,7 +58,8 @@ nothing_left : (d : Device) (records : List Record) (q : Pending) → ((name : L
 nothing_left d records q none = record { begun = λ good b name turn. absurd (none name turn); ended = λ good name turn. absurd (none name turn) }
 
 module _ (d : Device) (records : List Record) where
-  ended_on : (q : Pending) (r : Record) (ended names : List (List ℕ)) → begins_stage r ≡ false → ended_names (r ∷ []) ≡ names → EndedInStage d records q ended → EndedInStage d (records ++ r ∷ []) q (ended ++ names)
+  ended_on : (q : Pending) (r : Record) (ended names : List (List ℕ)) → begins_stage r ≡ false → ended_names (r ∷ []) ≡ names →
+      EndedInStage d records q ended → EndedInStage d (records ++ r ∷ []) q (ended ++ names)
   ended_on q r ended names not is (inl o) = inl (
     o.0,
     o.1 ++ r ∷ [],
@@ -74,7 +77,8 @@ module _ (d : Device) (records : List Record) where
     none_more begins_stage records r o.4 not,
     ap (λ (l : List (List ℕ)). l ++ names) o.5
         ∙ append_assoc (take o.0.ended (boots_of q)) (ended_names records) names
-        ∙ ap (λ (l : List (List ℕ)). take o.0.ended (boots_of q) ++ l) (ap (λ (l : List (List ℕ)). ended_names records ++ l) (sym is) ∙ sym (names_on records r)),
+        ∙ ap (λ (l : List (List ℕ)). take o.0.ended (boots_of q) ++ l)
+        (ap (λ (l : List (List ℕ)). ended_names records ++ l) (sym is) ∙ sym (names_on records r)),
   )
 
   -- where no end is added
@@ -93,13 +97,23 @@ module _ (d : Device) (records : List Record) where
     ended = λ good name turn. ended_still q (BootBegun n) refl refl (known.ended good name turn);
   }
 
-  one_more : (q : Pending) (n : List ℕ) (e : Exit) → MayEnd n q → KnownBoots d records q → (ended : List (List ℕ)) × EndedInStage d (records ++ BootEnded n e ∷ []) q ended × (ended ≡ take (q.ended + 1) (boots_of q))
+  one_more : (q : Pending) (n : List ℕ) (e : Exit) → MayEnd n q → KnownBoots d records q → (ended : List (List ℕ)) ×
+      EndedInStage d (records ++ BootEnded n e ∷ []) q ended × (ended ≡ take (q.ended + 1) (boots_of q))
   one_more q n e may known =
-      let k = known.ended may.0 n may.1 in
-      (k.0 ++ n ∷ [], ended_on q (BootEnded n e) k.0 (n ∷ []) refl refl k.1, ap (λ (l : List (List ℕ)). l ++ n ∷ []) k.2 ∙ sym (take_next (boots_of q) q.ended n may.1))
+      let k = known.ended may.0 n may.1 in (
+        k.0 ++ n ∷ [],
+        ended_on q (BootEnded n e) k.0 (n ∷ []) refl refl k.1,
+        ap (λ (l : List (List ℕ)). l ++ n ∷ []) k.2 ∙ sym
+            (take_next (boots_of q) q.ended n may.1),
+      )
 
-  moved_in : (s : Stage) (q : Pending) (n : List ℕ) (e : Exit) → MayEnd n (at s q) → KnownBoots d records (at s q) → KnownBoots d (records ++ BootEnded n e ∷ []) (moved_on (at s q))
-  moved_in stages.Booting q n e may known = record { begun = λ good b name turn. absurd (false≢true b); ended = λ good name turn. one_more (at stages.Booting q) n e may known }
+  moved_in : (s : Stage) (q : Pending) (n : List ℕ) (e : Exit) → MayEnd n (at s q) → KnownBoots d records (at s q) →
+      KnownBoots d (records ++ BootEnded n e ∷ []) (moved_on (at s q))
+  moved_in stages.Booting q n e may known = record {
+    begun = λ good b name turn. absurd (false≢true b);
+    ended =
+        λ good name turn. one_more (at stages.Booting q) n e may known;
+  }
   moved_in stages.Activating q n e may known = absurd (none_at q.ended n may.1)
   moved_in stages.Backing q n e may known = by (has_gone_back (one_ended (at stages.Backing q)))
     where
@@ -108,7 +122,8 @@ module _ (d : Device) (records : List Record) where
       by false = record { begun = λ good b name turn. absurd (false≢true b); ended = λ good name turn. one_more (at stages.Backing q) n e may known }
   moved_in stages.Rolling q n e may known = absurd (none_at q.ended n may.1)
 
-  boot_ends : (n : List ℕ) (e : Exit) (o : Option Pending) → IsSomeAnd o (MayEnd n) → Known d records o → Known d (records ++ BootEnded n e ∷ []) (option_map (boot_ended e) o)
+  boot_ends : (n : List ℕ) (e : Exit) (o : Option Pending) → IsSomeAnd o (MayEnd n) → Known d records o →
+      Known d (records ++ BootEnded n e ∷ []) (option_map (boot_ended e) o)
   boot_ends n e None may known = absurd may
   boot_ends n e (Some q) may known = by (goes_on e)
     where
@@ -120,7 +135,8 @@ module _ (d : Device) (records : List Record) where
   activates None may = absurd may
   activates (Some q) may = nothing_left d (records ++ Activating ∷ []) (activated q) (λ name turn. none_at q.ended name turn)
 
-  counted_in : (set : List Item) (s : Stage) (q : Pending) (n : List ℕ) (t : Step) (e : Exit) → MayCount (at s q) (failing_place set (at s q) n) → KnownBoots d (records ++ StepFailed n t e ∷ []) (count_failure set n (at s q))
+  counted_in : (set : List Item) (s : Stage) (q : Pending) (n : List ℕ) (t : Step) (e : Exit) → MayCount (at s q) (failing_place set (at s q) n) →
+      KnownBoots d (records ++ StepFailed n t e ∷ []) (count_failure set n (at s q))
   counted_in set stages.Booting q n t e may = absurd may
   counted_in set stages.Activating q n t e may = by (failing_place set (at stages.Activating q) n)
     where
@@ -134,7 +150,8 @@ module _ (d : Device) (records : List Record) where
       by None = nothing_left d (records ++ StepFailed n t e ∷ []) (at stages.Rolling q) (λ name turn. none_at q.ended name turn)
       by (Some j) = nothing_left d (records ++ StepFailed n t e ∷ []) (counted (Some j) (at stages.Rolling q)) (λ name turn. none_at q.ended name turn)
 
-  step_fails : (set : List Item) (n : List ℕ) (s : Step) (e : Exit) (o : Option Pending) → IsSomeAnd o (MayFail set n s e) → Known d (records ++ StepFailed n s e ∷ []) (option_map (count_failure set n) o)
+  step_fails : (set : List Item) (n : List ℕ) (s : Step) (e : Exit) (o : Option Pending) → IsSomeAnd o (MayFail set n s e) →
+      Known d (records ++ StepFailed n s e ∷ []) (option_map (count_failure set n) o)
   step_fails set n s e None may = absurd may
   step_fails set n s e (Some q) may = counted_in set q.stage q n s e may.0
 
@@ -142,7 +159,8 @@ module _ (d : Device) (records : List Record) where
   fails n None = tt
   fails n (Some q) = nothing_left d (records ++ Failing n ∷ []) (rolled q) (λ name turn. none_at q.ended name turn)
 
-  fails_back : (origin : Option Origin) (set : List Item) (n : List ℕ) (o : Option Pending) → Known d (records ++ FailingBack n ∷ []) (option_map (turned_back origin set) o)
+  fails_back : (origin : Option Origin) (set : List Item) (n : List ℕ) (o : Option Pending) →
+      Known d (records ++ FailingBack n ∷ []) (option_map (turned_back origin set) o)
   fails_back origin set n None = tt
   fails_back origin set n (Some q) = record {
     begun = λ good b name turn. absurd (false≢true b);
@@ -179,7 +197,8 @@ known p h proper run = along p (λ records c. Known p.device records c.pending) 
 
 -- ---- the one that starts
 
-not_again : (boots ended : List (List ℕ)) (k : ℕ) (name : List ℕ) → ended ≡ take k boots → slice_get boots k ≡ Some name → IsDistinct bytes_eq boots → Contains ended name → ⊥
+not_again : (boots ended : List (List ℕ)) (k : ℕ) (name : List ℕ) → ended ≡ take k boots → slice_get boots k ≡ Some name → IsDistinct bytes_eq boots →
+    Contains ended name → ⊥
 not_again boots ended k name first turn differ has =
     let c = subst (λ (l : List (List ℕ)). Contains l name) first has in
     let long = length-take k boots in
@@ -189,7 +208,8 @@ not_again boots ended k name first turn differ has =
     let here : get_or boots c.0 name ≡ name = sym (get_or-take k boots c.0 name below) ∙ c.2 in
     let there : get_or boots k name ≡ name = get_or_from_slice_get boots k name name turn in
     let apart = apart_from_distinct bytes_eq boots c.0 k name differ below within in
-    let same : bytes_eq name name ≡ false = subst (λ (x : List ℕ). bytes_eq x name ≡ false) here (subst (λ (x : List ℕ). bytes_eq (get_or boots c.0 name) x ≡ false) there apart) in
+    let same : bytes_eq name name ≡ false = subst (λ (x : List ℕ). bytes_eq x name ≡ false) here
+    (subst (λ (x : List ℕ). bytes_eq (get_or boots c.0 name) x ≡ false) there apart) in
     false≢true (sym same ∙ (bytes_eq-Decides name name).1 refl)
 
 duty_origin : (d : Device) (o : Option Pending) → (duty_by d o).origin ≡ d.origin
@@ -236,13 +256,23 @@ boots_start_once p h before e m n c is stood started =
     let d = (state_after p before).device in
     let may = may_boot p h before e m n c is stood started in
     let t = turn_by d (state_after p before) m d.pending may in
-    let known = subst (λ (o : Option Pending). Known p.device (records_of before) o) t.pending (known p before here.proper.1 (run_less p (Booted e m) before here.run)) in
+    let known = subst (λ (o : Option Pending). Known p.device (records_of before) o) t.pending
+    (known p before here.proper.1 (run_less p (Booted e m) before here.run)) in
     let ended = known.ended t.is.good may.item.name t.is.next in
     record {
       q = t.q;
       pending = t.pending;
       name = may.item.name;
-      is = record { origin = may.origin; of_device = sym (duty_origin d d.pending) ∙ may.of_device; at = may.at; item = may.item; there = may.there; named = refl; prepared = may.prepared };
+      is = record {
+        origin = may.origin;
+        of_device = sym (duty_origin d d.pending) ∙ may.of_device;
+        at = may.at;
+        item = may.item;
+        there = may.there;
+        named =
+            refl;
+        prepared = may.prepared;
+      };
       good = t.is.good;
       begun = t.is.begun;
       recorded = known.begun t.is.good t.is.begun may.item.name t.is.next;

@@ -57,7 +57,8 @@ child_is n q is = by q.boot refl is
 
 -- ---- later
 
-on : (p : SessionState) (e : TraceEvent) (h : List TraceEvent) (x : Exit) → ((later : List TraceEvent) → records_of (e ∷ later) ≡ records_of later) → HasEnded p h x → HasEnded p (e ∷ h) x
+on : (p : SessionState) (e : TraceEvent) (h : List TraceEvent) (x : Exit) → ((later : List TraceEvent) → records_of (e ∷ later) ≡ records_of later) →
+    HasEnded p h x → HasEnded p (e ∷ h) x
 on p e h x quiet d = record {
   entry = d.entry;
   made = d.made;
@@ -67,7 +68,8 @@ on p e h x quiet d = record {
   since = quiet d.stood.later ∙ d.since;
 }
 
-now : (p : SessionState) (h : List TraceEvent) (entry : RunnerEntry) (m : Prepared) (e : Exit) → IsBootEnd (state_after p h) entry.seen e → HasEnded p (Booted entry m ∷ h) e
+now : (p : SessionState) (h : List TraceEvent) (entry : RunnerEntry) (m : Prepared) (e : Exit) → IsBootEnd (state_after p h) entry.seen e →
+    HasEnded p (Booted entry m ∷ h) e
 now p h entry m e is = record { entry = entry; made = m; before = h; stood = record { later = []; split = refl }; is = is; since = refl }
 
 -- ---- a record
@@ -79,17 +81,20 @@ clear_kept p h q r clear not = record {
 }
 
 -- no component fails in a stage of bootstraps
-fails_elsewhere : (d : Device) (n : List ℕ) (s : Step) (e : Exit) (o : Option Pending) → IsSomeAnd o (MayFail d.set n s e) → has_boots (duty_by d o).phase ≡ true → ⊥
+fails_elsewhere : (d : Device) (n : List ℕ) (s : Step) (e : Exit) (o : Option Pending) → IsSomeAnd o (MayFail d.set n s e) →
+    has_boots (duty_by d o).phase ≡ true → ⊥
 fails_elsewhere d n s e None may boots = may
 fails_elsewhere d n s e (Some q) may boots = by q.stage may.0 boots
   where
-    by : (s : Stage) → MayCount (record q { stage = s }) (failing_place d.set (record q { stage = s }) n) → has_boots (duty_in d (record q { stage = s })).phase ≡ true → ⊥
+    by : (s : Stage) → MayCount (record q { stage = s }) (failing_place d.set (record q { stage = s }) n) →
+        has_boots (duty_in d (record q { stage = s })).phase ≡ true → ⊥
     by stages.Booting may boots = may
     by stages.Activating may boots = false≢true boots
     by stages.Backing may boots = may
     by stages.Rolling may boots = false≢true boots
 
-record_kept : (p : SessionState) (h : List TraceEvent) (q : SessionState) (r : Record) → MayKeep q r → Allowed q.device r → Known p h q → Known p (Recorded r ∷ h) (kept r q)
+record_kept : (p : SessionState) (h : List TraceEvent) (q : SessionState) (r : Record) → MayKeep q r → Allowed q.device r → Known p h q →
+    Known p (Recorded r ∷ h) (kept r q)
 record_kept p h q (stored.Accepted x) may allowed known = clear_kept p h q (stored.Accepted x) may.0 refl
 record_kept p h q (stored.BootBegun n) may allowed known = clear_kept p h q (stored.BootBegun n) may.0 refl
 record_kept p h q (stored.BootEnded n e) may allowed known = record { lives = λ c is. no_some c (sym may.0 ∙ is); ended = λ x is. no_some x is }
@@ -110,14 +115,27 @@ module _ (p : SessionState) (h : List TraceEvent) (entry : RunnerEntry) (m : Pre
 
   -- it ends so
   ends : (s : Seen) (e : Exit) → entry.seen ≡ s → IsBootEnd (state_after p h) s e → (x : Exit) → Some e ≡ Some x → HasEnded p (Booted entry m ∷ h) x
-  ends s e seen_is is x same = now p h entry m x (subst (λ (y : Seen). IsBootEnd (state_after p h) y x) (sym seen_is) (subst (λ (y : Exit). IsBootEnd (state_after p h) s y) (some_same e x same) is))
+  ends s e seen_is is x same = now p h entry m x (subst (λ (y : Seen). IsBootEnd (state_after p h) y x) (sym seen_is)
+      (subst (λ (y : Exit). IsBootEnd (state_after p h) s y) (some_same e x same) is))
 
   entry_kept : (s : Seen) → entry.seen ≡ s → MayBooted (duty_of (state_after p h).device) (state_after p h) s m → Known p h (state_after p h) → After s
   entry_kept (seen.Started n c) is may known = record { lives = λ c is. may.0.phase; ended = λ x e. no_some x (sym may.0.no_end ∙ e) }
-  entry_kept (seen.Refused c) is may known = record { lives = λ c e. no_some c (sym may.0.alone ∙ e); ended = λ x e. (ends (seen.Refused c) exits.NotStarted is refl x e, may.0.phase) }
-  entry_kept (seen.Exists text true) is may known = record { lives = λ c e. no_some c (sym may.0.alone ∙ e); ended = λ x e. (ends (seen.Exists text true) (exits.Code (pos 0)) is refl x e, may.0.phase) }
+  entry_kept (seen.Refused c) is may known = record {
+    lives = λ c e. no_some c (sym may.0.alone ∙ e);
+    ended =
+        λ x e. (ends (seen.Refused c) exits.NotStarted is refl x e, may.0.phase);
+  }
+  entry_kept (seen.Exists text true) is may known = record {
+    lives = λ c e. no_some c (sym may.0.alone ∙ e);
+    ended =
+        λ x e. (ends (seen.Exists text true) (exits.Code (pos 0)) is refl x e, may.0.phase);
+  }
   entry_kept (seen.Exists text false) is may known = record { lives = λ c e. no_some c (sym may.0.alone ∙ e); ended = λ x e. no_some x (sym may.0.no_end ∙ e) }
-  entry_kept (seen.OnPath text true) is may known = record { lives = λ c e. no_some c (sym may.0.alone ∙ e); ended = λ x e. (ends (seen.OnPath text true) (exits.Code (pos 0)) is refl x e, may.0.phase) }
+  entry_kept (seen.OnPath text true) is may known = record {
+    lives = λ c e. no_some c (sym may.0.alone ∙ e);
+    ended =
+        λ x e. (ends (seen.OnPath text true) (exits.Code (pos 0)) is refl x e, may.0.phase);
+  }
   entry_kept (seen.OnPath text false) is may known = record { lives = λ c e. no_some c (sym may.0.alone ∙ e); ended = λ x e. no_some x (sym may.0.no_end ∙ e) }
   entry_kept (seen.Killed n) is may known =
       let child = child_is n (state_after p h) may.0 in
@@ -133,25 +151,38 @@ was_there : (n : ℕ) (o : Option Child) (c : Child) → cut_boot n o ≡ Some c
 was_there n None c is = no_some c is
 was_there n (Some b) c is = (b, refl)
 
-cut_kept : (p : SessionState) (h : List TraceEvent) (q : SessionState) (entry : RunnerEntry) (s : Seen) → Known p h q → Known p (KilledOnAbort entry ∷ h) (noted s (cut_off s q))
+cut_kept : (p : SessionState) (h : List TraceEvent) (q : SessionState) (entry : RunnerEntry) (s : Seen) → Known p h q →
+    Known p (KilledOnAbort entry ∷ h) (noted s (cut_off s q))
 cut_kept p h q entry (seen.Killed n) known = record {
   lives = λ c is. let was = was_there n q.boot c is in known.lives was.0 was.1;
   ended = λ e is. (on p (KilledOnAbort entry) h e (λ later. refl) (known.ended e is).0, (known.ended e is).1);
 }
-cut_kept p h q entry s known = record { lives = known.lives; ended = λ e is. (on p (KilledOnAbort entry) h e (λ later. refl) (known.ended e is).0, (known.ended e is).1) }
+cut_kept p h q entry s known = record {
+  lives = known.lives;
+  ended = λ e is. (
+    on p (KilledOnAbort entry) h e (λ later. refl) (known.ended e is).0,
+    (known.ended e is).1,
+  );
+}
 
 -- ---- along a history
 
 begins : (p : SessionState) → IsStart p → Known p [] p
-begins p start = record { lives = λ c is. no_some c (sym (ap (λ (q : SessionState). q.boot) start) ∙ is); ended = λ e is. no_some e (sym (ap (λ (q : SessionState). q.boot_end) start) ∙ is) }
+begins p start = record {
+  lives = λ c is. no_some c (sym (ap (λ (q : SessionState). q.boot) start) ∙ is);
+  ended =
+      λ e is. no_some e (sym (ap (λ (q : SessionState). q.boot_end) start) ∙ is);
+}
 
 known_at : (p : SessionState) (h : List TraceEvent) → IsStart p → IsProper p h → Runs p h → Known p h (state_after p h)
 known_at p [] start proper run = begins p start
 known_at p (Recorded r ∷ h) start proper run =
     let b = run_before p r h run in
     record_kept p h (state_after p h) r proper.0.0 b.1 (known_at p h start proper.1 b.0)
-known_at p (Booted entry m ∷ h) start proper run = entry_kept p h entry m entry.seen refl proper.0.0.0 (known_at p h start proper.1 (run_less p (Booted entry m) h run))
-known_at p (KilledOnAbort entry ∷ h) start proper run = cut_kept p h (state_after p h) entry entry.seen (known_at p h start proper.1 (run_less p (KilledOnAbort entry) h run))
+known_at p (Booted entry m ∷ h) start proper run = entry_kept p h entry m entry.seen refl proper.0.0.0
+    (known_at p h start proper.1 (run_less p (Booted entry m) h run))
+known_at p (KilledOnAbort entry ∷ h) start proper run = cut_kept p h (state_after p h) entry entry.seen
+    (known_at p h start proper.1 (run_less p (KilledOnAbort entry) h run))
 known_at p (e ∷ h) start proper run =
     let known = known_at p h start proper.1 (run_less p e h run) in
     record { lives = known.lives; ended = λ x is. (on p e h x (λ later. refl) (known.ended x is).0, (known.ended x is).1) }
@@ -159,10 +190,12 @@ known_at p (e ∷ h) start proper run =
 -- ---- the record
 
 -- the device is the same where no record was kept since
-same_device : (p : SessionState) (h : List TraceEvent) (e : TraceEvent) (before : List TraceEvent) (s : Stood h e before) → Runs p h → records_of s.later ≡ [] → ((l : List TraceEvent) → records_of (e ∷ l) ≡ records_of l) → (state_after p h).device ≡ (state_after p before).device
+same_device : (p : SessionState) (h : List TraceEvent) (e : TraceEvent) (before : List TraceEvent) (s : Stood h e before) → Runs p h →
+    records_of s.later ≡ [] → ((l : List TraceEvent) → records_of (e ∷ l) ≡ records_of l) → (state_after p h).device ≡ (state_after p before).device
 same_device p h e before s run none quiet =
     let records : records_of h ≡ records_of before
-    = ap records_of s.split ∙ (records-append s.later (e ∷ before) ∙ (ap (λ (l : List Record). records_of (e ∷ before) ++ l) none ∙ (append-nil (records_of (e ∷ before)) ∙ quiet before))) in
+    = ap records_of s.split ∙ (records-append s.later (e ∷ before) ∙
+    (ap (λ (l : List Record). records_of (e ∷ before) ++ l) none ∙ (append-nil (records_of (e ∷ before)) ∙ quiet before))) in
     run_is p before (state_after p h).device (subst (λ (l : List Record). Run p.device l (state_after p h).device) records run)
 
 pub boots_ended : BootsEnded

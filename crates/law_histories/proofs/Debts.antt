@@ -14,13 +14,15 @@ use Rattle.lifecycle.specs.declared.kinds.LifeAct.{LifeAct}
 use Rattle.lifecycle.specs.declared.kinds.LifeAct.TheVariants as act
 use Rattle.lifecycle.specs.declared.kinds.LifeEvent.{LifeEvent}
 use Rattle.lifecycle.specs.declared.kinds.LifeEvent.TheVariants as event
-use Rattle.components.specs.Changes.{Coming, coming_again, coming_for, counted, fate, forgetting, fresh_part, is_replaced, is_replacing, leaving, meeting, newcomers, placed, replanned, standing, staying, with_newcomers, with_texts, changed_to}
+use Rattle.components.specs.Changes.{Coming, coming_again, coming_for, counted, fate, forgetting, fresh_part, is_replaced, is_replacing, leaving, meeting}
+use Rattle.components.specs.Changes.{newcomers, placed, replanned, standing, staying, with_newcomers, with_texts, changed_to}
 use Rattle.components.specs.Fitted.{Fitted, is_before, is_same_item, name_of}
 use Rattle.components.specs.Lives.{lived, lived_at, drops_at, replaced}
 use Rattle.components.specs.Marks.{Flagged, flagged, flagged_at, grown, marked, may_replan, may_restart, reaching, restarted}
 use Rattle.components.specs.Rows.{completed_from, is_spared_by, owed_after, succeeds_from}
 use Rattle.components.specs.Turns.{owes}
-use Rattle.components.specs.Components.{Components, ComponentState, changed_at, is_again, is_gone, is_over, component_name, place_from, stops_for_good, under_way}
+use Rattle.components.specs.Components.{Components, ComponentState, changed_at, is_again, is_gone, is_over, component_name, place_from, stops_for_good}
+use Rattle.components.specs.Components.{under_way}
 use Rattle.components.proofs.Lived.{lived_none, lived_row, settled_part}
 use Rattle.law_histories.proofs.Facts.{no_some, some_same}
 
@@ -66,18 +68,21 @@ pays_of p is = by p.owed is
 
 pub none_owed : (ps : List ComponentState) (k : ℕ) (name : List ℕ) (f : Step × Exit) → list_any owes ps ≡ false → Owes ps k name f → ⊥
 none_owed [] k name f told is = no_some (name, Some f) is
-none_owed (p ∷ ps) zero name f told is = owes_not p f (or_parts (owes p) (list_any owes ps) told).0 (ap (λ (x : Debt). x.1) (some_same (debt p) (name, Some f) is))
+none_owed (p ∷ ps) zero name f told is = owes_not p f (or_parts (owes p) (list_any owes ps) told).0
+    (ap (λ (x : Debt). x.1) (some_same (debt p) (name, Some f) is))
 none_owed (p ∷ ps) (suc k) name f told is = none_owed ps k name f (or_parts (owes p) (list_any owes ps) told).1 is
 
 pub same_debts : (old new : List ComponentState) → debts new ≡ debts old → OwesNoMore old new
 same_debts old new same = λ k name f is. subst (λ (l : List Debt). slice_get l k ≡ Some (name, Some f)) same is
 
-pub changed_same : {X : Type 0} (v : ComponentState → X) (g : ComponentState → ComponentState) → ((p : ComponentState) → v (g p) ≡ v p) → (k : ℕ) (ps : List ComponentState) → map v (changed_at k g ps) ≡ map v ps
+pub changed_same : {X : Type 0} (v : ComponentState → X) (g : ComponentState → ComponentState) → ((p : ComponentState) → v (g p) ≡ v p) →
+    (k : ℕ) (ps : List ComponentState) → map v (changed_at k g ps) ≡ map v ps
 changed_same v g same k [] = refl
 changed_same v g same zero (p ∷ ps) = ap (λ x. x ∷ map v ps) (same p)
 changed_same v g same (suc k) (p ∷ ps) = ap (λ xs. v p ∷ xs) (changed_same v g same k ps)
 
-pub each_same : {X : Type 0} (v : ComponentState → X) (g : ComponentState → ComponentState) → ((p : ComponentState) → v (g p) ≡ v p) → (ps : List ComponentState) → map v (map g ps) ≡ map v ps
+pub each_same : {X : Type 0} (v : ComponentState → X) (g : ComponentState → ComponentState) → ((p : ComponentState) → v (g p) ≡ v p) →
+    (ps : List ComponentState) → map v (map g ps) ≡ map v ps
 each_same v g same [] = refl
 each_same v g same (p ∷ ps) = ap (λ x. x ∷ map v (map g ps)) (same p) ∙ ap (λ xs. v p ∷ xs) (each_same v g same ps)
 
@@ -108,7 +113,8 @@ marked_debts : (may : ComponentState → Bool) (fs : Flagged) → debts (marked 
 marked_debts may [] = refl
 marked_debts may (x ∷ fs) = by (x.1 && may x.0) (marked_debts may fs)
   where
-    by : (b : Bool) → debts (marked may fs) ≡ debts (firsts fs) → debts ((if b then record x.0 { stop = Some after.Restart } else x.0) ∷ marked may fs) ≡ debt x.0 ∷ debts (firsts fs)
+    by : (b : Bool) → debts (marked may fs) ≡ debts (firsts fs) → debts ((if b then record x.0 { stop = Some after.Restart } else x.0) ∷ marked may fs)
+        ≡ debt x.0 ∷ debts (firsts fs)
     by true same = ap (λ (l : List Debt). debt x.0 ∷ l) same
     by false same = ap (λ (l : List Debt). debt x.0 ∷ l) same
 
@@ -163,24 +169,29 @@ lived_debt b e p f none owed = by (table p.life e) refl
         either true q = replaced_owed q
         either false q = refl
 
-changed_debt : (b : Bool) (e : LifeEvent) (k : ℕ) (ps : List ComponentState) (j : ℕ) (name : List ℕ) (f : Step × Exit) → list_any owes ps ≡ false → Owes (changed_at k (lived b e) ps) j name f
+changed_debt : (b : Bool) (e : LifeEvent) (k : ℕ) (ps : List ComponentState) (j : ℕ) (name : List ℕ) (f : Step × Exit) → list_any owes ps ≡ false →
+    Owes (changed_at k (lived b e) ps) j name f
     → (j ≡ k) × (e ≡ event.Ended f.0 f.1)
 changed_debt b e k [] j name f told is = no_some (name, Some f) is
 changed_debt b e zero (p ∷ ps) zero name f told is =
     let owed = ap (λ (x : Debt). x.1) (some_same (debt (lived b e p)) (name, Some f) is) in
     (refl, lived_debt b e p f (pays_of p (or_parts (owes p) (list_any owes ps) told).0) owed)
 changed_debt b e zero (p ∷ ps) (suc j) name f told is = absurd (none_owed ps j name f (or_parts (owes p) (list_any owes ps) told).1 is)
-changed_debt b e (suc k) (p ∷ ps) zero name f told is = absurd (owes_not p f (or_parts (owes p) (list_any owes ps) told).0 (ap (λ (x : Debt). x.1) (some_same (debt p) (name, Some f) is)))
+changed_debt b e (suc k) (p ∷ ps) zero name f told is = absurd
+    (owes_not p f (or_parts (owes p) (list_any owes ps) told).0 (ap (λ (x : Debt). x.1) (some_same (debt p) (name, Some f) is)))
 changed_debt b e (suc k) (p ∷ ps) (suc j) name f told is =
     let d = changed_debt b e k ps j name f (or_parts (owes p) (list_any owes ps) told).1 is in
     (ap suc d.0, d.1)
 
-pub lived_at_debt : (k : ℕ) (e : LifeEvent) (w : Components) (j : ℕ) (name : List ℕ) (f : Step × Exit) → list_any owes w.parts ≡ false → Owes (lived_at k e w).parts j name f → (j ≡ k) × (e ≡ event.Ended f.0 f.1)
+pub lived_at_debt : (k : ℕ) (e : LifeEvent) (w : Components) (j : ℕ) (name : List ℕ) (f : Step × Exit) → list_any owes w.parts ≡ false →
+    Owes (lived_at k e w).parts j name f → (j ≡ k) × (e ≡ event.Ended f.0 f.1)
 lived_at_debt k e w j name f told is =
     changed_debt w.steady e k w.parts j name f told (subst (λ (l : List Debt). slice_get l j ≡ Some (name, Some f)) (by (drops_at k w e)) is)
   where
-    by : (b : Bool) → debts (if b then restarted may_restart (flagged_at k (changed_at k (lived w.steady e) w.parts)) else changed_at k (lived w.steady e) w.parts) ≡ debts (changed_at k (lived w.steady e) w.parts)
-    by true = restarted_debts may_restart (flagged_at k (changed_at k (lived w.steady e) w.parts)) ∙ ap debts (firsts_at k (changed_at k (lived w.steady e) w.parts))
+    by : (b : Bool) → debts (if b then restarted may_restart (flagged_at k (changed_at k (lived w.steady e) w.parts)) else changed_at k (lived w.steady e)
+        w.parts) ≡ debts (changed_at k (lived w.steady e) w.parts)
+    by true = restarted_debts may_restart (flagged_at k (changed_at k (lived w.steady e) w.parts)) ∙ ap debts
+        (firsts_at k (changed_at k (lived w.steady e) w.parts))
     by false = refl
 
 -- ---- one that is told
@@ -223,7 +234,9 @@ texts_owed f p = by (is_same_item f.item p.fitted.item)
 meeting_owed : (n : Coming) (p : ComponentState) → Pays p → Pays (meeting n p)
 meeting_owed n p pays = by p.life.gone (is_replaced n.0 p) (stops_for_good (with_texts n.0 p).life)
   where
-    by : (a b c : Bool) → (if a then coming_again n p else (if b then (if c then record (with_texts n.0 p) { life = record (with_texts n.0 p).life { stop = Some after.Again }; stop = None; next = Some n } else record (with_texts n.0 p) { stop = Some after.Again; next = Some n }) else staying n (with_texts n.0 p))).owed ≡ None
+    by : (a b c : Bool) → (if a then coming_again n p else (if b
+        then (if c then record (with_texts n.0 p) { life = record (with_texts n.0 p).life { stop = Some after.Again }; stop = None; next = Some n }
+        else record (with_texts n.0 p) { stop = Some after.Again; next = Some n }) else staying n (with_texts n.0 p))).owed ≡ None
     by true b c = refl
     by false true true = texts_owed n.0 p ∙ pays
     by false true false = texts_owed n.0 p ∙ pays
@@ -292,7 +305,8 @@ fresh_told : (ns : List Coming) → list_any owes (map fresh_part ns) ≡ false
 fresh_told [] = refl
 fresh_told (n ∷ ns) = fresh_told ns
 
-pub changed_told : (items : List Fitted) (counts : List ℕ) (steady : Bool) (w : Components) → list_any owes w.parts ≡ false → list_any owes (changed_to items counts steady w).parts ≡ false
+pub changed_told : (items : List Fitted) (counts : List ℕ) (steady : Bool) (w : Components) → list_any owes w.parts ≡ false →
+    list_any owes (changed_to items counts steady w).parts ≡ false
 changed_told items counts steady w told =
     let ns = counted 0 counts items in
     newcomers_told (newcomers ns (standing w.parts)) (replanned (map (fate ns) (standing w.parts)))
@@ -325,7 +339,8 @@ place_named k name ps is =
     subst (λ (i : ℕ). Named ps i name) same r.2
 
 -- whoever is named and owes has that debt
-pub owes_named : (ps : List ComponentState) (k : ℕ) (name : List ℕ) (f : Step × Exit) (p : ComponentState) → Named ps k name → slice_get ps k ≡ Some p → p.owed ≡ Some f → Owes ps k name f
+pub owes_named : (ps : List ComponentState) (k : ℕ) (name : List ℕ) (f : Step × Exit) (p : ComponentState) → Named ps k name → slice_get ps k ≡ Some p →
+    p.owed ≡ Some f → Owes ps k name f
 owes_named [] k name f p named there owed = no_some p there
 owes_named (q ∷ ps) zero name f p named there owed =
     let same = some_same q p there in

@@ -31,7 +31,11 @@ module _ {A : Type 0} where
 
   chosen_all : (P : A → Type 0) (test : A → Bool) (xs : List A) → AllByRecursion P xs → AllByRecursion P (filter test xs)
   chosen_all P test [] all = tt
-  chosen_all P test (x ∷ xs) all = elim (test x) as (λ (b : Bool). AllByRecursion P (cond b (x ∷ filter test xs) (filter test xs))) [ true ↦ (all.0, chosen_all P test xs all.1) | false ↦ chosen_all P test xs all.1 ]
+  chosen_all P test (x ∷ xs) all = elim (test x) as (λ (b : Bool). AllByRecursion P (cond b (x ∷ filter test xs) (filter test xs))) [
+    | true
+        ↦ (all.0, chosen_all P test xs all.1)
+    | false ↦ chosen_all P test xs all.1
+  ]
 
   chosen_differ : (same : A → A → Bool) (test : A → Bool) (xs : List A) → IsDistinct same xs → IsDistinct same (filter test xs)
   unfolding IsDistinct
@@ -53,10 +57,12 @@ backs_differ : (o : Option Origin) (set : List Item) (p : Plan) (reach : ℕ) �
 backs_differ None set p reach differ = none_differ
 backs_differ (Some o) set p reach differ = chosen_differ bytes_eq (goes_back o.platform set) (take reach p.boots) (taken_differ bytes_eq reach p.boots differ)
 
-stage_differ : (origin : Option Origin) (set : List Item) (s : Stage) (q : Pending) → IsDistinct bytes_eq q.plan.boots → IsInStage origin set (record q { stage = s }) → IsDistinct bytes_eq (boots_of (record q { stage = s }))
+stage_differ : (origin : Option Origin) (set : List Item) (s : Stage) (q : Pending) → IsDistinct bytes_eq q.plan.boots → IsInStage origin
+    set (record q { stage = s }) → IsDistinct bytes_eq (boots_of (record q { stage = s }))
 stage_differ origin set stages.Booting q differ is = differ
 stage_differ origin set stages.Activating q differ is = none_differ
-stage_differ origin set stages.Backing q differ is = subst (λ (l : List (List ℕ)). IsDistinct bytes_eq l) (sym is.backs_are) (backs_differ origin set q.plan q.reach differ)
+stage_differ origin set stages.Backing q differ is = subst (λ (l : List (List ℕ)). IsDistinct bytes_eq l) (sym is.backs_are)
+    (backs_differ origin set q.plan q.reach differ)
 stage_differ origin set stages.Rolling q differ is = none_differ
 
 under_way : (d : Device) (o : Option Pending) → IfSome o (IsUnderWay d) → IfSome o (λ q. IsDistinct bytes_eq (boots_of q))

@@ -42,7 +42,8 @@ deeper h e x before first s t = record {
   split = s.split ∙ (ap (λ (l : List TraceEvent). s.later ++ e ∷ l) t.split ∙ sym (append_assoc s.later (e ∷ t.later) (x ∷ first)));
 }
 
-owes_one : (ps : List ComponentState) (k : ℕ) (name : List ℕ) (f : Step × Exit) → At k (λ q. (component_name q ≡ name) × (q.owed ≡ Some f)) ps → list_any owes ps ≡ false → ⊥
+owes_one : (ps : List ComponentState) (k : ℕ) (name : List ℕ) (f : Step × Exit) → At k (λ q. (component_name q ≡ name) × (q.owed ≡ Some f)) ps →
+    list_any owes ps ≡ false → ⊥
 owes_one [] k name f is told = is
 owes_one (p ∷ ps) zero name f is told = by (owes p) (ap is_some is.1) told
   where
@@ -67,7 +68,8 @@ module _ (p : SessionState) (h : List TraceEvent) (is : IsHistory p h) (none : N
       (none.steps end.entry end.who s end.before (deeper h (Recorded (StepFailed n s e)) (Ran end.entry end.who s) before end.before stood end.stood))
   not_failed (BootEnded n e) before stood fails =
       let end = (boots_ended p h before n e is stood).1 in
-      not_both (goes_on e) fails (none.boots end.entry end.made e end.before (deeper h (Recorded (BootEnded n e)) (Booted end.entry end.made) before end.before stood end.stood) end.is)
+      not_both (goes_on e) fails (none.boots end.entry end.made e end.before
+      (deeper h (Recorded (BootEnded n e)) (Booted end.entry end.made) before end.before stood end.stood) end.is)
   not_failed r before stood fails = false≢true fails
 
 pub none_recorded : NoneRecorded

@@ -1,5 +1,6 @@
 -- How far a deployment gets of which a call records no failure.
-use Rattle.std.proofs.Common.{◌≡◌, ◌⊎◌, inl, inr, ◌∙◌, ℕ, ◌+◌, ◌<◌, ◌≤◌, Bool, true, false, List, [], ◌∷◌, ◌++◌, length, Option, Some, None, refl, sym, ap, subst, arith, append-nil, append_assoc, is_some}
+use Rattle.std.proofs.Common.{◌≡◌, ◌⊎◌, inl, inr, ◌∙◌, ℕ, ◌+◌, ◌<◌, ◌≤◌, Bool, true, false, List, [], ◌∷◌, ◌++◌, length, Option, Some, None, refl, sym, ap}
+use Rattle.std.proofs.Common.{subst, arith, append-nil, append_assoc, is_some}
 use Rattle.std.specs.Prelude.{◌&&◌, if◌then◌else◌, map, not, option_and_then, option_map, slice_get}
 use Rattle.std.specs.List.{list_any}
 use Rattle.std.specs.Option.{IsSomeAnd}
@@ -13,7 +14,8 @@ use Rattle.records.specs.declared.record.Origin.{Origin}
 use Rattle.device.specs.declared.staged.Stage.{Stage}
 use Rattle.device.specs.declared.staged.Stage.TheVariants as stages
 use Rattle.device.specs.Devices.{Device, Pending}
-use Rattle.device.specs.Lawful.{Allowed, MayAccept, MayActivate, MayBreak, MayClose, MayEnd, MayGoBack, accepted, activated, applied, begun, boot_ended, broken, close_pending, failing_name, goes_on, has_gone_back, is_backing, moved_on, next_boot, one_ended, rolled}
+use Rattle.device.specs.Lawful.{Allowed, MayAccept, MayActivate, MayBreak, MayClose, MayEnd, MayGoBack, accepted, activated, applied, begun, boot_ended}
+use Rattle.device.specs.Lawful.{broken, close_pending, failing_name, goes_on, has_gone_back, is_backing, moved_on, next_boot, one_ended, rolled}
 use Rattle.device.proofs.SoundStages.{at}
 use Rattle.histories.specs.TraceEvents.{TraceEvent, Recorded, records_of}
 use Rattle.histories.specs.States.{SessionState, state_after, ends_boot, restarts}
@@ -71,7 +73,8 @@ closed_more d plan o c r is =
     let m = closed_on c r in
     (is.0 ++ m.0, m.1 ∙ (ap (λ (l : List (List ℕ × Outcome)). l ++ m.0) is.1 ∙ append_assoc (d.closed ++ (plan.id, o) ∷ []) is.0 m.0))
 
-closes_now : (d : Device) (old : Pending) (o : Outcome) (c : Device) (q : Pending) → c.pending ≡ Some q → q.plan ≡ old.plan → c.closed ≡ d.closed → ClosedAs d old.plan o (applied c (Closed o))
+closes_now : (d : Device) (old : Pending) (o : Outcome) (c : Device) (q : Pending) → c.pending ≡ Some q → q.plan ≡ old.plan → c.closed ≡ d.closed →
+    ClosedAs d old.plan o (applied c (Closed o))
 closes_now d old o c q pending plan closed = (
   [],
   ap (λ (x : Option Pending). (close_pending o c x).closed) pending
@@ -151,7 +154,8 @@ module _ (d : Device) (old : Pending) where
   abbrev Comes : List Record → Device → Type 0
   Comes records e = list_any is_failure records ≡ false → ClosedAs d old.plan outcomes.Successful e ⊎ Up d old records e
 
-  up_on : (records : List Record) (c : Device) (r : Record) → IsOwn r → Allowed c r → is_failure r ≡ false → Up d old records c → ClosedAs d old.plan outcomes.Successful (applied c r) ⊎ Up d old (records ++ r ∷ []) (applied c r)
+  up_on : (records : List Record) (c : Device) (r : Record) → IsOwn r → Allowed c r → is_failure r ≡ false → Up d old records c →
+      ClosedAs d old.plan outcomes.Successful (applied c r) ⊎ Up d old (records ++ r ∷ []) (applied c r)
   up_on records c (Accepted p) own allowed good u = absurd (not_accepted c u.new p c.origin u.pending allowed)
   up_on records c (BootBegun n) own allowed good u = inr (record {
     new = begun u.new;
@@ -192,7 +196,8 @@ module _ (d : Device) (old : Pending) where
   up_on records c (FailingBack n) own allowed good u = absurd (up_fails_not u.new u.up n (may_of (MayGoBack c.origin c.set n) c u.new u.pending allowed).0.1)
   up_on records c (Closed o) own allowed good u =
       let is = up_closes u.new o u.up (may_of (λ q. MayClose q o) c u.new u.pending allowed) in
-      inl (subst (λ (x : Outcome). ClosedAs d old.plan outcomes.Successful (applied c (Closed x))) (sym is) (closes_now d old outcomes.Successful c u.new u.pending u.no_less.plan u.closed))
+      inl (subst (λ (x : Outcome). ClosedAs d old.plan outcomes.Successful (applied c (Closed x))) (sym is)
+      (closes_now d old outcomes.Successful c u.new u.pending u.no_less.plan u.closed))
   up_on records c r own allowed good u = absurd own
 
   up_steps : Steps d Comes
@@ -217,7 +222,14 @@ never_over p h is = ap (λ (q : SessionState). q.over) is.start
 pub resumes_go_on : ResumesGoOn
 resumes_go_on p h q is pending up free = elim (along p (Comes p.device q) (up_first p.device q pending up) (up_steps p.device q) h is.proper is.run free) [
   | inl closed ↦ inl closed
-  | inr u ↦ inr (record { new = u.new; pending = u.pending; up = u.up; no_less = u.no_less; restarted = λ over. u.ended (over_ends p h (never_over p h is) is.proper over) })
+  | inr u ↦ inr (record {
+    new = u.new;
+    pending = u.pending;
+    up = u.up;
+    no_less = u.no_less;
+    restarted =
+        λ over. u.ended (over_ends p h (never_over p h is) is.proper over);
+  })
 ]
 
 -- ---- from its acceptance on
@@ -264,16 +276,17 @@ module _ (d : Device) (plan : Plan) where
   taken_first free after is = absurd (not_empty [] (Accepted plan) after is)
 
 pub deploys_go_on : DeploysGoOn
-deploys_go_on p h plan after is first free = elim (along p (Taken p.device plan) (taken_first p.device plan) (taken_steps p.device plan) h is.proper is.run free after first) [
-  | inl closed ↦ inl closed
-  | inr u ↦ inr (record {
-    new = u.new;
-    pending = u.pending;
-    up = u.up;
-    no_less = u.no_less;
-    restarted = λ over. u.ended (ends_behind plan after (subst EndsByEnd first (over_ends p h (never_over p h is) is.proper over)));
-  })
-]
+deploys_go_on p h plan after is first free = elim (along p (Taken p.device plan) (taken_first p.device plan) (taken_steps p.device plan) h is.proper is.run
+    free after first) [
+      | inl closed ↦ inl closed
+      | inr u ↦ inr (record {
+        new = u.new;
+        pending = u.pending;
+        up = u.up;
+        no_less = u.no_less;
+        restarted = λ over. u.ended (ends_behind plan after (subst EndsByEnd first (over_ends p h (never_over p h is) is.proper over)));
+      })
+    ]
 
 -- ---- on the way back
 
@@ -302,7 +315,11 @@ back_stage q (inr a) (inr is) = let no : stages.Rolling ≡ stages.Activating = 
 
 back_closes : (q : Pending) (o : Outcome) → GoesBack q → MayClose q o → o ≡ outcomes.RollbackComplete
 back_closes q outcomes.Successful back may = absurd (back_stage q back (inr may.0))
-back_closes q outcomes.RollbackNotRequested back may = elim may.1 [ inl f ↦ absurd (back_stage q back (inl f.0)) | inr f ↦ absurd (back_stage q back (inr f.0)) ]
+back_closes q outcomes.RollbackNotRequested back may = elim may.1 [
+  | inl f ↦ absurd (back_stage q back (inl f.0))
+  | inr f ↦ absurd
+      (back_stage q back (inr f.0))
+]
 back_closes q outcomes.RollbackComplete back may = refl
 back_closes q outcomes.UnableToRollback (inl b) (inl f) = let no : stages.Backing ≡ stages.Rolling = sym b.0 ∙ f.0 in absurd cc
 back_closes q outcomes.UnableToRollback (inl b) (inr f) = absurd (clash q.boot_failed f.1 b.1)
@@ -324,11 +341,27 @@ moved_back q stage good = by (has_gone_back (one_ended q)) refl
     by : (b : Bool) → has_gone_back (one_ended q) ≡ b → (new : Pending) × MovedBack q new
     by true gone = (
       rolled (one_ended q),
-      record { is = ap (λ (b : Bool). if b then rolled (one_ended q) else one_ended q) gone; plan = refl; backs = refl; ended = refl; back = inr (refl, refl); first = λ is. absurd cc },
+      record {
+        is = ap (λ (b : Bool). if b then rolled (one_ended q) else one_ended q) gone;
+        plan = refl;
+        backs = refl;
+        ended = refl;
+        back =
+            inr (refl, refl);
+        first = λ is. absurd cc;
+      },
     )
     by false not = (
       one_ended q,
-      record { is = ap (λ (b : Bool). if b then rolled (one_ended q) else one_ended q) not; plan = refl; backs = refl; ended = refl; back = inl (stage, good); first = λ is. stage },
+      record {
+        is = ap (λ (b : Bool). if b then rolled (one_ended q) else one_ended q) not;
+        plan = refl;
+        backs = refl;
+        ended = refl;
+        back =
+            inl (stage, good);
+        first = λ is. stage;
+      },
     )
 
 module _ (d : Device) (old : Pending) where
@@ -363,15 +396,22 @@ module _ (d : Device) (old : Pending) where
         no_less = record { plan = m.1.plan ∙ u.no_less.plan; backs = m.1.backs ∙ u.no_less.backs; ended = omega (arith, before, next) };
         first = λ is. u.first (m.1.first is);
         closed = u.closed;
-        ended = λ ends. record { stage = u.first boots.0; more = omega (arith, before, next); most = subst (λ (l : List (List ℕ)). m.0.ended ≤ length l) (sym m.1.backs) room };
+        ended = λ ends. record {
+          stage = u.first boots.0;
+          more = omega (arith, before, next);
+          most = subst (λ (l : List (List ℕ)). m.0.ended ≤ length l)
+              (sym m.1.backs) room;
+        };
       })
   back_on records c Activating own allowed good u = absurd (back_stage u.new u.back (inl (may_of MayActivate c u.new u.pending allowed).0))
   back_on records c (StepFailed n s e) own allowed good u = absurd (false≢true (sym good))
   back_on records c (Failing n) own allowed good u = absurd (back_fails_not u.new u.back n (may_of (MayBreak n) c u.new u.pending allowed).1)
-  back_on records c (FailingBack n) own allowed good u = absurd (back_fails_not u.new u.back n (may_of (MayGoBack c.origin c.set n) c u.new u.pending allowed).0.1)
+  back_on records c (FailingBack n) own allowed good u = absurd
+      (back_fails_not u.new u.back n (may_of (MayGoBack c.origin c.set n) c u.new u.pending allowed).0.1)
   back_on records c (Closed o) own allowed good u =
       let is = back_closes u.new o u.back (may_of (λ q. MayClose q o) c u.new u.pending allowed) in
-      inl (subst (λ (x : Outcome). ClosedAs d old.plan outcomes.RollbackComplete (applied c (Closed x))) (sym is) (closes_now d old outcomes.RollbackComplete c u.new u.pending u.no_less.plan u.closed))
+      inl (subst (λ (x : Outcome). ClosedAs d old.plan outcomes.RollbackComplete (applied c (Closed x))) (sym is)
+      (closes_now d old outcomes.RollbackComplete c u.new u.pending u.no_less.plan u.closed))
   back_on records c r own allowed good u = absurd own
 
   back_steps : Steps d Returns
@@ -391,7 +431,15 @@ module _ (d : Device) (old : Pending) where
   })
 
 pub backs_go_on : BacksGoOn
-backs_go_on p h q is pending back free = elim (along p (Returns p.device q) (back_first p.device q pending back) (back_steps p.device q) h is.proper is.run free) [
-  | inl closed ↦ inl closed
-  | inr u ↦ inr (record { new = u.new; pending = u.pending; back = u.back; no_less = u.no_less; restarted = λ over. u.ended (over_ends p h (never_over p h is) is.proper over) })
-]
+backs_go_on p h q is pending back free = elim (along p (Returns p.device q) (back_first p.device q pending back) (back_steps p.device q) h is.proper is.run
+    free) [
+      | inl closed ↦ inl closed
+      | inr u ↦ inr (record {
+        new = u.new;
+        pending = u.pending;
+        back = u.back;
+        no_less = u.no_less;
+        restarted =
+            λ over. u.ended (over_ends p h (never_over p h is) is.proper over);
+      })
+    ]

@@ -1,5 +1,6 @@
 -- Lists that grow at their end.
-use Rattle.std.proofs.Common.{◌≡◌, ◌⊎◌, inl, inr, ◌∙◌, ℕ, zero, suc, ◌+◌, Bool, true, false, List, [], ◌∷◌, ◌++◌, Some, refl, sym, ap, subst, append_assoc, add-one}
+use Rattle.std.proofs.Common.{◌≡◌, ◌⊎◌, inl, inr, ◌∙◌, ℕ, zero, suc, ◌+◌, Bool, true, false, List, [], ◌∷◌, ◌++◌, Some, refl, sym, ap, subst, append_assoc}
+use Rattle.std.proofs.Common.{add-one}
 use Rattle.std.specs.Prelude.{◌||◌, ◌&&◌, slice_get, take}
 use Rattle.std.specs.List.{list_any, list_all}
 
@@ -24,7 +25,8 @@ module _ {A : Type 0} where
       by false none = (refl, refl)
   none_before p (y ∷ xs) x none = by (p y) none (λ none. none_before p xs x none)
     where
-      by : (b : Bool) → (b || list_any p (xs ++ x ∷ [])) ≡ false → (list_any p (xs ++ x ∷ []) ≡ false → (list_any p xs ≡ false) × (p x ≡ false)) → ((b || list_any p xs) ≡ false) × (p x ≡ false)
+      by : (b : Bool) → (b || list_any p (xs ++ x ∷ [])) ≡ false → (list_any p (xs ++ x ∷ []) ≡ false → (list_any p xs ≡ false) × (p x ≡ false)) →
+          ((b || list_any p xs) ≡ false) × (p x ≡ false)
       by true none on = absurd cc
       by false none on = on none
 

@@ -81,12 +81,14 @@ run_less p e h run = silent_run p e h (silent e refl) run
 pub whole_less : (p : SessionState) (e : TraceEvent) (h : List TraceEvent) → IsHistory p (e ∷ h) → IsHistory p h
 whole_less p e h is = record { start = is.start; proper = is.proper.1; run = run_less p e h is.run }
 
-pub history_from : (p : SessionState) (later : List TraceEvent) (e : TraceEvent) (before : List TraceEvent) → IsHistory p (later ++ e ∷ before) → IsHistory p (e ∷ before)
+pub history_from : (p : SessionState) (later : List TraceEvent) (e : TraceEvent) (before : List TraceEvent) → IsHistory p (later ++ e ∷ before) →
+    IsHistory p (e ∷ before)
 history_from p [] e before is = is
 history_from p (x ∷ later) e before is = history_from p later e before (whole_less p x (later ++ e ∷ before) is)
 
 -- what stands in a history stands at the end of one
-pub history_at : (p : SessionState) (h : List TraceEvent) (e : TraceEvent) (before : List TraceEvent) → IsHistory p h → Stood h e before → IsHistory p (e ∷ before)
+pub history_at : (p : SessionState) (h : List TraceEvent) (e : TraceEvent) (before : List TraceEvent) → IsHistory p h → Stood h e before →
+    IsHistory p (e ∷ before)
 history_at p h e before is s = history_from p s.later e before (subst (λ (l : List TraceEvent). IsHistory p l) s.split is)
 
 -- ---- what holds along a history
@@ -119,7 +121,8 @@ abbrev pub Steps : Device → (List Record → Device → Type 0) → Type 0
 Steps d T = (records : List Record) (c : Device) (r : Record) → Run d records c → IsOwn r → Allowed c r → T records c → T (records ++ r ∷ []) (applied c r)
 
 -- so it holds at the end of a history, where it does at the start
-pub along : (p : SessionState) (T : List Record → Device → Type 0) → T [] p.device → Steps p.device T → (h : List TraceEvent) → IsProper p h → Runs p h → T (records_of h) (state_after p h).device
+pub along : (p : SessionState) (T : List Record → Device → Type 0) → T [] p.device → Steps p.device T → (h : List TraceEvent) → IsProper p h → Runs p h →
+    T (records_of h) (state_after p h).device
 along p T none step [] proper run = none
 along p T none step (Recorded r ∷ h) proper run =
     let b = run_before p r h run in

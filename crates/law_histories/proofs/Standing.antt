@@ -28,7 +28,8 @@ pub record Placed (h : List TraceEvent) (r : Record) (earlier after : List Recor
 abbrev on : (e : TraceEvent) (h : List TraceEvent) (r : Record) (before : List TraceEvent) → Stood h (Recorded r) before → Stood (e ∷ h) (Recorded r) before
 on e h r before s = record { later = e ∷ s.later; split = ap (λ (l : List TraceEvent). e ∷ l) s.split }
 
-placed_last : (h : List TraceEvent) (y r : Record) (earlier after : List Record) → (after ≡ []) × (y ≡ r) × (records_of h ≡ earlier) → Placed (Recorded y ∷ h) r earlier after
+placed_last : (h : List TraceEvent) (y r : Record) (earlier after : List Record) → (after ≡ []) × (y ≡ r) × (records_of h ≡ earlier) →
+    Placed (Recorded y ∷ h) r earlier after
 placed_last h y r earlier after is = record {
   before = h;
   stood = record { later = []; split = ap (λ (x : Record). Recorded x ∷ h) is.1 };
@@ -36,7 +37,8 @@ placed_last h y r earlier after is = record {
   rest = sym is.0;
 }
 
-placed_more : (h : List TraceEvent) (y r : Record) (earlier after c : List Record) → after ≡ c ++ y ∷ [] → Placed h r earlier c → Placed (Recorded y ∷ h) r earlier after
+placed_more : (h : List TraceEvent) (y r : Record) (earlier after c : List Record) → after ≡ c ++ y ∷ [] → Placed h r earlier c →
+    Placed (Recorded y ∷ h) r earlier after
 placed_more h y r earlier after c is p = record {
   before = p.before;
   stood = on (Recorded y) h r p.before p.stood;
@@ -65,7 +67,8 @@ starts_told p h before e k s n c is stood started =
     let may = (history_at p h (Ran e k s) before is stood).proper.0.0.0 in
     (subst (λ (x : Seen). MayRun (duty_of (state_after p before).device) (state_after p before) x k s) started may).0.told
 
-pub may_boot : (p : SessionState) (h before : List TraceEvent) (e : RunnerEntry) (m : Prepared) (n : ℕ) (c : Command) → IsHistory p h → Stood h (Booted e m) before → e.seen ≡ seen.Started n c
+pub may_boot : (p : SessionState) (h before : List TraceEvent) (e : RunnerEntry) (m : Prepared) (n : ℕ) (c : Command) → IsHistory p h →
+    Stood h (Booted e m) before → e.seen ≡ seen.Started n c
     → MayBoot (duty_of (state_after p before).device) (state_after p before) m
 may_boot p h before e m n c is stood started =
     let may = (history_at p h (Booted e m) before is stood).proper.0.0.0 in

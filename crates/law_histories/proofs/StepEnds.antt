@@ -29,7 +29,8 @@ use Rattle.histories.specs.Follows.{IsProper, MayRun, OwesBy}
 use Rattle.law_histories.specs.Ends.{FailuresEnded, HasStepEnd, IsStepEnd, is_step_failure}
 use Rattle.law_histories.proofs.Growing.{none_more}
 use Rattle.law_histories.proofs.Histories.{history_at}
-use Rattle.law_histories.proofs.Debts.{Debt, Named, Owes, OwesNoMore, changed_same, changed_told, debt, debts, each_same, forgetting_debt, leaving_debt, lived_at_debt, none_owed, owed_any, owes_named, place_named, same_debts, told_gone, told_no_more}
+use Rattle.law_histories.proofs.Debts.{Debt, Named, Owes, OwesNoMore, changed_same, changed_told, debt, debts, each_same, forgetting_debt, leaving_debt}
+use Rattle.law_histories.proofs.Debts.{lived_at_debt, none_owed, owed_any, owes_named, place_named, same_debts, told_gone, told_no_more}
 use Rattle.components.specs.Changes.{forgetting, leaving}
 use Rattle.law_histories.proofs.Facts.{no_some, some_same}
 
@@ -52,12 +53,14 @@ abbrev Ends : SessionState → Seen → ℕ → Step → ℕ → List ℕ → St
 Ends q s k t j name f = (j ≡ k) × IsStepEnd q.world s k t f.1 × (t ≡ f.0)
 
 -- one component has the debt that it had
-module _ (w : Components) (g : ComponentState → ComponentState) (same : (p : ComponentState) → debt (g p) ≡ debt p) (told : list_any owes w.parts ≡ false) (k : ℕ) where
+module _ (w : Components) (g : ComponentState → ComponentState) (same : (p : ComponentState) → debt (g p) ≡ debt p) (told : list_any owes w.parts ≡ false)
+    (k : ℕ) where
   told_still : list_any owes (changed_at k g w.parts) ≡ false
   told_still = owed_any (changed_at k g w.parts) w.parts (changed_same debt g same k w.parts) told
 
 -- the child of a component goes, and this befalls it
-gone_debt : (e : Option LifeEvent) (k : ℕ) (t : Step) (n : ℕ) (w : Components) (j : ℕ) (name : List ℕ) (f : Step × Exit) → list_any owes w.parts ≡ false → Owes (gone_by e k t n w).parts j name f
+gone_debt : (e : Option LifeEvent) (k : ℕ) (t : Step) (n : ℕ) (w : Components) (j : ℕ) (name : List ℕ) (f : Step × Exit) → list_any owes w.parts ≡ false →
+    Owes (gone_by e k t n w).parts j name f
     → (j ≡ k) × (e ≡ Some (event.Ended f.0 f.1))
 gone_debt None k t n w j name f told is = absurd (none_owed (child_gone k n w).parts j name f (told_still w (without_child n) (λ p. refl) told k) is)
 gone_debt (Some e) k t n w j name f told is = by (is_orphan_at k t w) is
@@ -69,10 +72,12 @@ gone_debt (Some e) k t n w j name f told is = by (is_orphan_at k t w) is
         (d.0, ap Some d.1)
 
 -- a kill is an end past the limit, or a stop
-late_kill : (k : ℕ) (t : Step) (n : ℕ) (w : Components) (f : Step × Exit) → kill_event_at k t n w ≡ Some (event.Ended f.0 f.1) → At k (λ q. is_late_child w.moment n q ≡ true) w.parts × (t ≡ f.0) × (f.1 ≡ exits.TimedOut)
+late_kill : (k : ℕ) (t : Step) (n : ℕ) (w : Components) (f : Step × Exit) → kill_event_at k t n w ≡ Some (event.Ended f.0 f.1) →
+    At k (λ q. is_late_child w.moment n q ≡ true) w.parts × (t ≡ f.0) × (f.1 ≡ exits.TimedOut)
 late_kill k t n w f is = by (slice_get w.parts k) is
   where
-    by : (o : Option ComponentState) → option_and_then (kill_event w.moment n t) o ≡ Some (event.Ended f.0 f.1) → IsSomeAnd o (λ q. is_late_child w.moment n q ≡ true) × (t ≡ f.0) × (f.1 ≡ exits.TimedOut)
+    by : (o : Option ComponentState) → option_and_then (kill_event w.moment n t) o ≡ Some (event.Ended f.0 f.1) →
+        IsSomeAnd o (λ q. is_late_child w.moment n q ≡ true) × (t ≡ f.0) × (f.1 ≡ exits.TimedOut)
     by None is = no_some (event.Ended f.0 f.1) is
     by (Some p) is = late (is_late_child w.moment n p) refl is
       where
@@ -80,7 +85,8 @@ late_kill k t n w f is = by (slice_get w.parts k) is
         stop None is = no_some (event.Ended f.0 f.1) is
         stop (Some a) is = not_stopped a f.0 f.1 (some_same (event.Stop a) (event.Ended f.0 f.1) is)
 
-        late : (b : Bool) → is_late_child w.moment n p ≡ b → (if b then Some (event.Ended t exits.TimedOut) else option_map (λ a. event.Stop a) p.stop) ≡ Some (event.Ended f.0 f.1)
+        late : (b : Bool) → is_late_child w.moment n p ≡ b → (if b then Some (event.Ended t exits.TimedOut) else option_map (λ a. event.Stop a) p.stop) ≡ Some
+            (event.Ended f.0 f.1)
             → (is_late_child w.moment n p ≡ true) × (t ≡ f.0) × (f.1 ≡ exits.TimedOut)
         late true is_late is =
             let same = ended_same t f.0 exits.TimedOut f.1 (some_same (event.Ended t exits.TimedOut) (event.Ended f.0 f.1) is) in
@@ -94,7 +100,8 @@ killed_by n w o = elim o [ None ↦ w | Some x ↦ gone_by (kill_event_at x.0 x.
 abbrev ended_by : ℕ → Exit → Components → Option (ℕ × Step) → Components
 ended_by n e w o = elim o [ None ↦ w | Some x ↦ gone_by (Some (event.Ended x.1 e)) x.0 x.1 n w ]
 
-ran_debt : (d : Duty) (q : SessionState) (s : Seen) (k : ℕ) (t : Step) (j : ℕ) (name : List ℕ) (f : Step × Exit) → MayRun d q s k t → Owes (ran s k t q.world).parts j name f → Ends q s k t j name f
+ran_debt : (d : Duty) (q : SessionState) (s : Seen) (k : ℕ) (t : Step) (j : ℕ) (name : List ℕ) (f : Step × Exit) → MayRun d q s k t →
+    Owes (ran s k t q.world).parts j name f → Ends q s k t j name f
 ran_debt d q (seen.Started n c) k t j name f may is = by t is
   where
     by : (t : Step) → Owes (ran (seen.Started n c) k t q.world).parts j name f → Ends q (seen.Started n c) k t j name f
@@ -102,10 +109,12 @@ ran_debt d q (seen.Started n c) k t j name f may is = by t is
         let still = told_still q.world (λ p. with_child n step.Run q.world.moment (record p { handed = false })) (λ p. refl) may.0.told k in
         let w : Components = record q.world { parts = changed_at k (λ p. with_child n step.Run q.world.moment (record p { handed = false })) q.world.parts } in
         absurd (not_launched f.0 f.1 (lived_at_debt k event.Launched w j name f still is).1)
-    by u is = absurd (none_owed (changed_at k (λ p. with_child n u q.world.moment (record p { handed = false })) q.world.parts) j name f (told_still q.world (λ p. with_child n u q.world.moment (record p { handed = false })) (λ p. refl) may.0.told k) is)
+    by u is = absurd (none_owed (changed_at k (λ p. with_child n u q.world.moment (record p { handed = false })) q.world.parts) j name f
+        (told_still q.world (λ p. with_child n u q.world.moment (record p { handed = false })) (λ p. refl) may.0.told k) is)
 ran_debt d q (seen.Refused c) k t j name f may is =
     let w = q.world in
-    let v = lived_at_debt k (event.Ended t exits.NotStarted) (answered_at k w) j name f (told_still w (λ p. record p { handed = false }) (λ p. refl) may.0.told k) is in
+    let v = lived_at_debt k (event.Ended t exits.NotStarted) (answered_at k w) j name f
+    (told_still w (λ p. record p { handed = false }) (λ p. refl) may.0.told k) is in
     let same = ended_same t f.0 exits.NotStarted f.1 v.1 in
     (v.0, sym same.1, same.0)
 ran_debt d q (seen.Killed n) k t j name f may is =
@@ -123,9 +132,11 @@ ran_debt d q (seen.Ended n x limit) k t j name f may is =
     let same = ended_same t f.0 x f.1 (some_same (event.Ended t x) (event.Ended f.0 f.1) v.1) in
     (v.0, (may.1, same.1), same.0)
 ran_debt d q (seen.Exists x true) k t j name f may is =
-    absurd (not_skipped f.0 f.1 (lived_at_debt k event.Skipped (answered_at k q.world) j name f (told_still q.world (λ p. record p { handed = false }) (λ p. refl) may.0.told k) is).1)
+    absurd (not_skipped f.0 f.1 (lived_at_debt k event.Skipped (answered_at k q.world) j name f
+    (told_still q.world (λ p. record p { handed = false }) (λ p. refl) may.0.told k) is).1)
 ran_debt d q (seen.OnPath x true) k t j name f may is =
-    absurd (not_skipped f.0 f.1 (lived_at_debt k event.Skipped (answered_at k q.world) j name f (told_still q.world (λ p. record p { handed = false }) (λ p. refl) may.0.told k) is).1)
+    absurd (not_skipped f.0 f.1 (lived_at_debt k event.Skipped (answered_at k q.world) j name f
+    (told_still q.world (λ p. record p { handed = false }) (λ p. refl) may.0.told k) is).1)
 ran_debt d q (seen.Exists x false) k t j name f may is = absurd (none_owed q.world.parts j name f may.0.told is)
 ran_debt d q (seen.OnPath x false) k t j name f may is = absurd (none_owed q.world.parts j name f may.0.told is)
 ran_debt d q (seen.Elapsed limit) k t j name f may is = absurd may
@@ -173,7 +184,8 @@ module _ (p : SessionState) (h : List TraceEvent) where
   nothing : (e : TraceEvent) → list_any owes (state_after p (e ∷ h)).world.parts ≡ false → Known p (e ∷ h)
   nothing e told = λ k name f is. absurd (none_owed (state_after p (e ∷ h)).world.parts k name f told is)
 
-  ran_known : (entry : RunnerEntry) (k : ℕ) (t : Step) → MayRun (duty_of (state_after p h).device) (state_after p h) entry.seen k t → Known p (Ran entry k t ∷ h)
+  ran_known : (entry : RunnerEntry) (k : ℕ) (t : Step) → MayRun (duty_of (state_after p h).device) (state_after p h) entry.seen k t →
+      Known p (Ran entry k t ∷ h)
   ran_known entry k t may = λ i name f is.
       let d = duty_of (state_after p h).device in
       let q = state_after p h in
@@ -185,7 +197,8 @@ module _ (p : SessionState) (h : List TraceEvent) where
           stood = record { later = []; split = ap (λ (u : Step). Ran entry k u ∷ h) v.2 };
           is = subst (λ (u : Step). IsStepEnd q.world entry.seen k u f.1) v.2 v.1;
           fails = at_owed (state_after p (Ran entry k f.0 ∷ h)).world.parts k name f
-              (subst (λ (u : Step). Owes (state_after p (Ran entry k u ∷ h)).world.parts k name f) v.2 (subst (λ (m : ℕ). Owes (state_after p (Ran entry k t ∷ h)).world.parts m name f) v.0 is));
+              (subst (λ (u : Step). Owes (state_after p (Ran entry k u ∷ h)).world.parts k name f) v.2
+              (subst (λ (m : ℕ). Owes (state_after p (Ran entry k t ∷ h)).world.parts m name f) v.0 is));
           since = refl;
         },
         λ j other g owed. (ran_debt d q entry.seen k t j other g may owed).0 ∙ sym v.0,
@@ -213,7 +226,8 @@ abbrev told_by : Components → Option ℕ → Components
 told_by w o = elim o [ None ↦ w | Some k ↦ told_at k w ]
 
 -- a failure that is recorded was the only one
-told_alone : (p : SessionState) (h : List TraceEvent) (n : List ℕ) (s : Step) (e : Exit) → OwesBy (state_after p h).world n s e → Known p h → Known p (Recorded (stored.StepFailed n s e) ∷ h)
+told_alone : (p : SessionState) (h : List TraceEvent) (n : List ℕ) (s : Step) (e : Exit) → OwesBy (state_after p h).world n s e → Known p h →
+    Known p (Recorded (stored.StepFailed n s e) ∷ h)
 told_alone p h n s e owed known = by (place_of n (state_after p h).world.parts) refl owed
   where
     by : (o : Option ℕ) → place_of n (state_after p h).world.parts ≡ o → IsSomeAnd o (λ k. At k (λ q. q.owed ≡ Some (s, e)) (state_after p h).world.parts)
@@ -228,23 +242,30 @@ told_alone p h n s e owed known = by (place_of n (state_after p h).world.parts) 
         absurd (told_gone i parts name f (subst (λ (m : ℕ). Owes (changed_at i (λ q. record q { owed = None }) parts) m name f) same is))
 
 known_at : (p : SessionState) (h : List TraceEvent) → IsStart p → IsProper p h → Known p h
-known_at p [] start proper = λ k name f is. no_some (name, Some f) (subst (λ (l : List ComponentState). slice_get (debts l) k ≡ Some (name, Some f)) (ap (λ (q : SessionState). q.world.parts) start) is)
+known_at p [] start proper = λ k name f is. no_some (name, Some f) (subst (λ (l : List ComponentState). slice_get (debts l) k ≡ Some (name, Some f))
+    (ap (λ (q : SessionState). q.world.parts) start) is)
 known_at p (Ran entry k t ∷ h) start proper = ran_known p h entry k t proper.0.0.0
 known_at p (Booted entry m ∷ h) start proper =
-    less p h (Booted entry m) (λ later none. none) (same_debts (state_after p h).world.parts (state_after p (Booted entry m ∷ h)).world.parts (ap (λ (w : Components). debts w.parts) (booted_world entry.seen m (state_after p h))))
+    less p h (Booted entry m) (λ later none. none) (same_debts (state_after p h).world.parts (state_after p (Booted entry m ∷ h)).world.parts
+    (ap (λ (w : Components). debts w.parts) (booted_world entry.seen m (state_after p h))))
     (known_at p h start proper.1)
 known_at p (KilledOnAbort entry ∷ h) start proper =
-    less p h (KilledOnAbort entry) (λ later none. none) (same_debts (state_after p h).world.parts (state_after p (KilledOnAbort entry ∷ h)).world.parts (cut_debts entry.seen (state_after p h))) (known_at p h start proper.1)
+    less p h (KilledOnAbort entry) (λ later none. none) (same_debts (state_after p h).world.parts (state_after p (KilledOnAbort entry ∷ h)).world.parts
+    (cut_debts entry.seen (state_after p h))) (known_at p h start proper.1)
 known_at p (Recorded (stored.StepFailed n s e) ∷ h) start proper = told_alone p h n s e proper.0.0 (known_at p h start proper.1)
 known_at p (Recorded (stored.Closed o) ∷ h) start proper =
     less p h (Recorded (stored.Closed o)) (λ later none. none_more is_step_failure (records_of later) (stored.Closed o) none refl)
-    (same_debts (state_after p h).world.parts (state_after p (Recorded (stored.Closed o) ∷ h)).world.parts (each_same debt forgetting forgetting_debt (state_after p h).world.parts)) (known_at p h start proper.1)
-known_at p (Recorded r ∷ h) start proper = less p h (Recorded r) (λ later none. none_more is_step_failure (records_of later) r none refl) (λ k name f is. is) (known_at p h start proper.1)
+    (same_debts (state_after p h).world.parts (state_after p (Recorded (stored.Closed o) ∷ h)).world.parts
+    (each_same debt forgetting forgetting_debt (state_after p h).world.parts)) (known_at p h start proper.1)
+known_at p (Recorded r ∷ h) start proper = less p h (Recorded r) (λ later none. none_more is_step_failure (records_of later) r none refl) (λ k name f is. is)
+    (known_at p h start proper.1)
 known_at p (Moved k e ∷ h) start proper = nothing p h (Moved k e) (move_owes (state_after p h).world k e proper.0.0.0 proper.0.0.1.told)
 known_at p (Heard k ∷ h) start proper = less p h (Heard k) (λ later none. none) (told_no_more k (state_after p h).world.parts) (known_at p h start proper.1)
-known_at p (Changed items counts steady ∷ h) start proper = nothing p h (Changed items counts steady) (changed_told items counts steady (state_after p h).world proper.0.0.told)
+known_at p (Changed items counts steady ∷ h) start proper = nothing p h (Changed items counts steady)
+    (changed_told items counts steady (state_after p h).world proper.0.0.told)
 known_at p (StopsAll ∷ h) start proper =
-    less p h StopsAll (λ later none. none) (same_debts (state_after p h).world.parts (state_after p (StopsAll ∷ h)).world.parts (each_same debt leaving leaving_debt (state_after p h).world.parts)) (known_at p h start proper.1)
+    less p h StopsAll (λ later none. none) (same_debts (state_after p h).world.parts (state_after p (StopsAll ∷ h)).world.parts
+    (each_same debt leaving leaving_debt (state_after p h).world.parts)) (known_at p h start proper.1)
 known_at p (e ∷ h) start proper = less p h e (λ later none. none) (λ k name f is. is) (known_at p h start proper.1)
 
 -- ---- the record
@@ -258,6 +279,8 @@ failures_ended p h before name s e is stood =
     found : Known p before → OwesBy (state_after p before).world name s e → HasStepEnd p before name s e
     found known owed = by (place_of name (state_after p before).world.parts) refl owed
       where
-        by : (o : Option ℕ) → place_of name (state_after p before).world.parts ≡ o → IsSomeAnd o (λ k. At k (λ q. q.owed ≡ Some (s, e)) (state_after p before).world.parts) → HasStepEnd p before name s e
+        by : (o : Option ℕ) → place_of name (state_after p before).world.parts ≡ o →
+            IsSomeAnd o (λ k. At k (λ q. q.owed ≡ Some (s, e)) (state_after p before).world.parts) → HasStepEnd p before name s e
         by None place owed = absurd owed
-        by (Some k) place owed = (known k name (s, e) (at_owes (state_after p before).world.parts k name (s, e) (place_named k name (state_after p before).world.parts place) owed)).0
+        by (Some k) place owed = (known k name (s, e) (at_owes (state_after p before).world.parts k name (s, e)
+            (place_named k name (state_after p before).world.parts place) owed)).0

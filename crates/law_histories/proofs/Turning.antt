@@ -1,5 +1,6 @@
 -- Why a deployment is on its way back, along the records of a call.
-use Rattle.std.proofs.Common.{◌≡◌, ◌≢◌, ◌⊎◌, inl, inr, ◌∙◌, ℕ, zero, suc, ◌+◌, ◌<◌, Bool, true, false, List, [], ◌∷◌, ◌++◌, length, get_or, Option, Some, None, refl, sym, ap, subst, arith, get_or-set_same, get_or-set_other, append-nil, append_assoc}
+use Rattle.std.proofs.Common.{◌≡◌, ◌≢◌, ◌⊎◌, inl, inr, ◌∙◌, ℕ, zero, suc, ◌+◌, ◌<◌, Bool, true, false, List, [], ◌∷◌, ◌++◌, length, get_or, Option, Some}
+use Rattle.std.proofs.Common.{None, refl, sym, ap, subst, arith, get_or-set_same, get_or-set_other, append-nil, append_assoc}
 use Rattle.std.specs.Prelude.{◌==◌, if◌then◌else◌, map, not, option_and_then, option_map, replicate, slice_get, slice_set, ⊤}
 use Rattle.std.specs.Option.{IsSomeAnd}
 use Rattle.std.proofs.lemmas.Bool.{false≢true}
@@ -15,13 +16,16 @@ use Rattle.records.specs.declared.record.Origin.{Origin}
 use Rattle.device.specs.declared.staged.Stage.TheVariants as stages
 use Rattle.device.specs.declared.staged.Stage.{Stage}
 use Rattle.device.specs.Devices.{Device, Pending}
-use Rattle.device.specs.Lawful.{Allowed, MayActivate, MayBegin, MayBreak, MayClose, MayCount, MayEnd, MayAccept, MayFail, MayGoBack, Lawful, Run, activated, applied, begun, boot_ended, broken, close_pending, count_failure, counted, failing_name, failing_place, goes_on, has_gone_back, moved_on, next_boot, one_ended, place, rolled, turned_back}
+use Rattle.device.specs.Lawful.{Allowed, MayActivate, MayBegin, MayBreak, MayClose, MayCount, MayEnd, MayAccept, MayFail, MayGoBack, Lawful, Run, activated}
+use Rattle.device.specs.Lawful.{applied, begun, boot_ended, broken, close_pending, count_failure, counted, failing_name, failing_place, goes_on}
+use Rattle.device.specs.Lawful.{has_gone_back, moved_on, next_boot, one_ended, place, rolled, turned_back}
 use Rattle.device.proofs.SoundStages.{at}
 use Rattle.histories.specs.TraceEvents.{TraceEvent, Recorded, records_of}
 use Rattle.histories.specs.States.{SessionState, state_after, takes_document}
 use Rattle.histories.specs.Follows.{IsProper}
 use Rattle.law_histories.specs.Ends.{is_step_failure}
-use Rattle.law_histories.specs.Turned.{WasTaken, IsFailedLast, is_at, fails_at, failures_at, FailedSoOften, HasCause, TurnsBack, is_way_back, IsTurned, IsCaused, ClosesCaused, RunsCloseCaused}
+use Rattle.law_histories.specs.Turned.{WasTaken, IsFailedLast, is_at, fails_at, failures_at, FailedSoOften, HasCause, TurnsBack, is_way_back, IsTurned}
+use Rattle.law_histories.specs.Turned.{IsCaused, ClosesCaused, RunsCloseCaused}
 use Rattle.law_histories.proofs.Growing.{all_more, more, none_more}
 use Rattle.law_histories.proofs.Histories.{Runs, Steps, along, history_at, run_before}
 use Rattle.law_histories.proofs.Facts.{clash, no_some, none_at, some_same}
@@ -48,7 +52,8 @@ zero_at (suc n) (suc k) = zero_at n k
 swapped : (a b c : ℕ) → a + b + c ≡ a + c + b
 swapped a b c = omega arith
 
-failures_more : (items : List Item) (k : ℕ) (xs : List Record) (r : Record) → failures_at items k (xs ++ r ∷ []) ≡ failures_at items k xs + (if fails_at items k r then 1 else 0)
+failures_more : (items : List Item) (k : ℕ) (xs : List Record) (r : Record) →
+    failures_at items k (xs ++ r ∷ []) ≡ failures_at items k xs + (if fails_at items k r then 1 else 0)
 failures_more items k [] r = refl
 failures_more items k (x ∷ xs) r =
     ap (λ (n : ℕ). n + (if fails_at items k x then 1 else 0)) (failures_more items k xs r)
@@ -101,17 +106,26 @@ module _ (d : Device) (records : List Record) where
     same = t.same;
     cause = t.cause;
   })
-  back_more plan r not (inr w) = inr (record { q = w.q; pending = w.pending; same = w.same; back = w.back; since = none_more takes_document records r w.since not })
+  back_more plan r not (inr w) = inr (record {
+    q = w.q;
+    pending = w.pending;
+    same = w.same;
+    back = w.back;
+    since =
+        none_more takes_document records r w.since not;
+  })
 
   -- a bootstrap begins
-  begun_in : (s : Stage) (q : Pending) (n : List ℕ) → MayBegin n (at s q) → KnownIn d records (at s q) s → KnownIn d (records ++ BootBegun n ∷ []) (begun (at s q)) s
+  begun_in : (s : Stage) (q : Pending) (n : List ℕ) → MayBegin n (at s q) → KnownIn d records (at s q) s →
+      KnownIn d (records ++ BootBegun n ∷ []) (begun (at s q)) s
   begun_in stages.Booting q n may known = λ failed name turn. absurd (clash q.boot_failed failed may.0)
   begun_in stages.Activating q n may known = absurd (none_at q.ended n may.1)
   begun_in stages.Backing q n may known = back_more q.plan (BootBegun n) refl known
   begun_in stages.Rolling q n may known = absurd (none_at q.ended n may.1)
 
   -- one ends, and was good
-  moved_in : (s : Stage) (q : Pending) (n : List ℕ) (e : Exit) → MayEnd n (at s q) → WasTaken d records q.plan × KnownIn d records (at s q) s → Known d (records ++ BootEnded n e ∷ []) (Some (moved_on (at s q)))
+  moved_in : (s : Stage) (q : Pending) (n : List ℕ) (e : Exit) → MayEnd n (at s q) → WasTaken d records q.plan × KnownIn d records (at s q) s →
+      Known d (records ++ BootEnded n e ∷ []) (Some (moved_on (at s q)))
   moved_in stages.Booting q n e may known = (taken_more q.plan (BootEnded n e) refl known.0, λ failed name turn. absurd (clash q.boot_failed failed may.0))
   moved_in stages.Activating q n e may known = absurd (none_at q.ended n may.1)
   moved_in stages.Backing q n e may known = by (has_gone_back (one_ended (at stages.Backing q)))
@@ -122,14 +136,16 @@ module _ (d : Device) (records : List Record) where
   moved_in stages.Rolling q n e may known = absurd (none_at q.ended n may.1)
 
   -- or failed
-  failed_in : (s : Stage) (q : Pending) (n : List ℕ) (e : Exit) → goes_on e ≡ false → MayEnd n (at s q) → KnownIn d records (at s q) s → KnownIn d (records ++ BootEnded n e ∷ []) (record (at s q) { boot_failed = true }) s
+  failed_in : (s : Stage) (q : Pending) (n : List ℕ) (e : Exit) → goes_on e ≡ false → MayEnd n (at s q) → KnownIn d records (at s q) s →
+      KnownIn d (records ++ BootEnded n e ∷ []) (record (at s q) { boot_failed = true }) s
   failed_in stages.Booting q n e bad may known = λ failed name turn.
       inl (records, e, ap (λ (x : List ℕ). records ++ BootEnded x e ∷ []) (some_same n name (sym may.1 ∙ turn)), bad)
   failed_in stages.Activating q n e bad may known = absurd (none_at q.ended n may.1)
   failed_in stages.Backing q n e bad may known = back_more q.plan (BootEnded n e) refl known
   failed_in stages.Rolling q n e bad may known = absurd (none_at q.ended n may.1)
 
-  ended_in : (q : Pending) (n : List ℕ) (e : Exit) → MayEnd n q → WasTaken d records q.plan × KnownIn d records q q.stage → Known d (records ++ BootEnded n e ∷ []) (Some (boot_ended e q))
+  ended_in : (q : Pending) (n : List ℕ) (e : Exit) → MayEnd n q → WasTaken d records q.plan × KnownIn d records q q.stage →
+      Known d (records ++ BootEnded n e ∷ []) (Some (boot_ended e q))
   ended_in q n e may known = by (goes_on e) refl
     where
       by : (b : Bool) → goes_on e ≡ b → Known d (records ++ BootEnded n e ∷ []) (Some (if b then moved_on q else record q { boot_failed = true }))
@@ -137,7 +153,8 @@ module _ (d : Device) (records : List Record) where
       by false bad = (taken_more q.plan (BootEnded n e) refl known.0, failed_in q.stage q n e bad may known.1)
 
   -- a component fails
-  often_more : (q : Pending) (n : List ℕ) (s : Step) (e : Exit) (j k : ℕ) → place n q.plan.items ≡ Some j → j < length q.failures → FailedSoOften d records q k (get_or q.failures k 0)
+  often_more : (q : Pending) (n : List ℕ) (s : Step) (e : Exit) (j k : ℕ) → place n q.plan.items ≡ Some j → j < length q.failures →
+      FailedSoOften d records q k (get_or q.failures k 0)
       → FailedSoOften d (records ++ StepFailed n s e ∷ []) (counted (Some j) q) k (get_or (slice_set q.failures j (get_or q.failures j 0 + 1)) k 0)
   often_more q n s e j k placed below often =
       let r = StepFailed n s e in
@@ -145,16 +162,20 @@ module _ (d : Device) (records : List Record) where
       let here : fails_at items k r ≡ (j == k) = ap (is_at k) placed in
       let one = ap (λ (b : Bool). ◌≡◌ {A = ℕ} (if b then 1 else 0) (if j == k then 1 else 0)) here in
       let set = count_set q.failures j k below in
-      by often (subst (λ (b : Bool). get_or (slice_set q.failures j (get_or q.failures j 0 + 1)) k 0 ≡ get_or q.failures k 0 + (if b then 1 else 0)) (sym here) set)
+      by often (subst (λ (b : Bool). get_or (slice_set q.failures j (get_or q.failures j 0 + 1)) k 0 ≡ get_or q.failures k 0 + (if b then 1 else 0))
+      (sym here) set)
     where
-      by : FailedSoOften d records q k (get_or q.failures k 0) → get_or (slice_set q.failures j (get_or q.failures j 0 + 1)) k 0 ≡ get_or q.failures k 0 + (if fails_at q.plan.items k (StepFailed n s e) then 1 else 0)
+      by : FailedSoOften d records q k (get_or q.failures k 0) → get_or (slice_set q.failures j (get_or q.failures j 0 + 1)) k 0
+          ≡ get_or q.failures k 0 + (if fails_at q.plan.items k (StepFailed n s e) then 1 else 0)
           → FailedSoOften d (records ++ StepFailed n s e ∷ []) (counted (Some j) q) k (get_or (slice_set q.failures j (get_or q.failures j 0 + 1)) k 0)
       by (inl o) set = inl (
         o.0,
         o.1 ++ StepFailed n s e ∷ [],
         more o.0 (Activating ∷ o.1) (StepFailed n s e) records o.2,
         all_more is_step_failure o.1 (StepFailed n s e) o.3 refl,
-        grown (failures_at q.plan.items k o.1) (failures_at q.plan.items k (o.1 ++ StepFailed n s e ∷ [])) (if fails_at q.plan.items k (StepFailed n s e) then 1 else 0) (get_or q.failures k 0) (get_or (slice_set q.failures j (get_or q.failures j 0 + 1)) k 0)
+        grown (failures_at q.plan.items k o.1) (failures_at q.plan.items k (o.1 ++ StepFailed n s e ∷ []))
+            (if fails_at q.plan.items k (StepFailed n s e) then 1 else 0) (get_or q.failures k 0)
+            (get_or (slice_set q.failures j (get_or q.failures j 0 + 1)) k 0)
             (failures_more q.plan.items k o.1 (StepFailed n s e)) o.4 set,
       )
       by (inr o) set = inr (
@@ -163,16 +184,19 @@ module _ (d : Device) (records : List Record) where
         o.2,
         o.3,
         all_more is_step_failure records (StepFailed n s e) o.4 refl,
-        grown_from (get_or o.0.failures k 0) (failures_at q.plan.items k records) (failures_at q.plan.items k (records ++ StepFailed n s e ∷ [])) (if fails_at q.plan.items k (StepFailed n s e) then 1 else 0) (get_or q.failures k 0)
+        grown_from (get_or o.0.failures k 0) (failures_at q.plan.items k records) (failures_at q.plan.items k (records ++ StepFailed n s e ∷ []))
+            (if fails_at q.plan.items k (StepFailed n s e) then 1 else 0) (get_or q.failures k 0)
             (get_or (slice_set q.failures j (get_or q.failures j 0 + 1)) k 0) (failures_more q.plan.items k records (StepFailed n s e)) o.5 set,
       )
 
-  counted_in : (set : List Item) (s : Stage) (q : Pending) (n : List ℕ) (t : Step) (e : Exit) → MayCount (at s q) (failing_place set (at s q) n) → WasTaken d records q.plan × KnownIn d records (at s q) s
+  counted_in : (set : List Item) (s : Stage) (q : Pending) (n : List ℕ) (t : Step) (e : Exit) → MayCount (at s q) (failing_place set (at s q) n) →
+      WasTaken d records q.plan × KnownIn d records (at s q) s
       → Known d (records ++ StepFailed n t e ∷ []) (Some (count_failure set n (at s q)))
   counted_in set stages.Booting q n t e may known = absurd may
   counted_in set stages.Activating q n t e may known = by (place n q.plan.items) refl may
     where
-      by : (o : Option ℕ) → place n q.plan.items ≡ o → MayCount (at stages.Activating q) o → Known d (records ++ StepFailed n t e ∷ []) (Some (counted o (at stages.Activating q)))
+      by : (o : Option ℕ) → place n q.plan.items ≡ o → MayCount (at stages.Activating q) o → Known d (records ++ StepFailed n t e ∷ [])
+          (Some (counted o (at stages.Activating q)))
       by None placed may = absurd may
       by (Some j) placed may =
           (taken_more q.plan (StepFailed n t e) refl known.0, λ k. often_more (at stages.Activating q) n t e j k placed (below_of q.failures j may) (known.1 k))
@@ -198,15 +222,24 @@ module _ (d : Device) (records : List Record) where
       by false failed turn = absurd cc
   cause_in stages.Activating q n fails known = by (broken (at stages.Activating q)) refl fails
     where
-      by : (o : Option ℕ) → broken (at stages.Activating q) ≡ o → option_and_then (λ k. slice_get (map (λ i. i.name) q.plan.items) k) o ≡ Some n → HasCause d records (at stages.Activating q) n
+      by : (o : Option ℕ) → broken (at stages.Activating q) ≡ o → option_and_then (λ k. slice_get (map (λ i. i.name) q.plan.items) k) o ≡ Some n →
+          HasCause d records (at stages.Activating q) n
       by None is named = absurd cc
       by (Some k) is named =
           let counts = three (at stages.Activating q) k is in
-          inr (record { stage = refl; at = k; named = named; counted = counts.0; recorded = subst (λ (m : ℕ). FailedSoOften d records (at stages.Activating q) k m) counts.1 (known k) })
+          inr (record {
+            stage = refl;
+            at = k;
+            named = named;
+            counted = counts.0;
+            recorded =
+                subst (λ (m : ℕ). FailedSoOften d records (at stages.Activating q) k m) counts.1 (known k);
+          })
   cause_in stages.Backing q n fails known = absurd cc
   cause_in stages.Rolling q n fails known = absurd cc
 
-  turned_by : (c : Device) (q : Pending) (n : List ℕ) (r : Record) → (r ≡ Failing n) ⊎ (r ≡ FailingBack n) → Run d records c → c.pending ≡ Some q → MayBreak n q → WasTaken d records q.plan × KnownIn d records q q.stage
+  turned_by : (c : Device) (q : Pending) (n : List ℕ) (r : Record) → (r ≡ Failing n) ⊎ (r ≡ FailingBack n) → Run d records c → c.pending ≡ Some q →
+      MayBreak n q → WasTaken d records q.plan × KnownIn d records q q.stage
       → TurnsBack d (records ++ r ∷ []) q.plan
   turned_by c q n r is run pending may known = record {
     name = n;
@@ -231,7 +264,8 @@ module _ (d : Device) (records : List Record) where
   boot_begins n None may known = absurd may
   boot_begins n (Some q) may known = (taken_more q.plan (BootBegun n) refl known.0, begun_in q.stage q n may known.1)
 
-  boot_ends : (n : List ℕ) (e : Exit) (o : Option Pending) → IsSomeAnd o (MayEnd n) → Known d records o → Known d (records ++ BootEnded n e ∷ []) (option_map (boot_ended e) o)
+  boot_ends : (n : List ℕ) (e : Exit) (o : Option Pending) → IsSomeAnd o (MayEnd n) → Known d records o →
+      Known d (records ++ BootEnded n e ∷ []) (option_map (boot_ended e) o)
   boot_ends n e None may known = absurd may
   boot_ends n e (Some q) may known = ended_in q n e may known
 
@@ -239,17 +273,23 @@ module _ (d : Device) (records : List Record) where
   activates None may known = absurd may
   activates (Some q) may known = (taken_more q.plan Activating refl known.0, λ k. inl (records, [], refl, refl, sym (zero_at 128 k)))
 
-  step_fails : (set : List Item) (n : List ℕ) (s : Step) (e : Exit) (o : Option Pending) → IsSomeAnd o (MayFail set n s e) → Known d records o → Known d (records ++ StepFailed n s e ∷ []) (option_map (count_failure set n) o)
+  step_fails : (set : List Item) (n : List ℕ) (s : Step) (e : Exit) (o : Option Pending) → IsSomeAnd o (MayFail set n s e) → Known d records o →
+      Known d (records ++ StepFailed n s e ∷ []) (option_map (count_failure set n) o)
   step_fails set n s e None may known = absurd may
   step_fails set n s e (Some q) may known = counted_in set q.stage q n s e may.0 known
 
-  fails : (c : Device) (n : List ℕ) (o : Option Pending) → c.pending ≡ o → Run d records c → IsSomeAnd o (MayBreak n) → Known d records o → Known d (records ++ Failing n ∷ []) (option_map rolled o)
+  fails : (c : Device) (n : List ℕ) (o : Option Pending) → c.pending ≡ o → Run d records c → IsSomeAnd o (MayBreak n) → Known d records o →
+      Known d (records ++ Failing n ∷ []) (option_map rolled o)
   fails c n None is run may known = absurd may
   fails c n (Some q) is run may known = (taken_more q.plan (Failing n) refl known.0, inl (turned_by c q n (Failing n) (inl refl) run is may known))
 
-  fails_back : (c : Device) (n : List ℕ) (o : Option Pending) → c.pending ≡ o → Run d records c → IsSomeAnd o (MayGoBack c.origin c.set n) → Known d records o → Known d (records ++ FailingBack n ∷ []) (option_map (turned_back c.origin c.set) o)
+  fails_back : (c : Device) (n : List ℕ) (o : Option Pending) → c.pending ≡ o → Run d records c → IsSomeAnd o (MayGoBack c.origin c.set n) →
+      Known d records o → Known d (records ++ FailingBack n ∷ []) (option_map (turned_back c.origin c.set) o)
   fails_back c n None is run may known = absurd may
-  fails_back c n (Some q) is run may known = (taken_more q.plan (FailingBack n) refl known.0, inl (turned_by c q n (FailingBack n) (inr refl) run is may.0 known))
+  fails_back c n (Some q) is run may known = (
+    taken_more q.plan (FailingBack n) refl known.0,
+    inl (turned_by c q n (FailingBack n) (inr refl) run is may.0 known),
+  )
 
   closes : (c : Device) (x : Outcome) (o : Option Pending) → IsSomeAnd o (λ q. MayClose q x) → Known d (records ++ Closed x ∷ []) (close_pending x c o).pending
   closes c x None may = absurd may
@@ -290,7 +330,8 @@ caused d records q outcomes.RollbackComplete may known = subst (λ (s : Stage). 
 caused d records q outcomes.UnableToRollback (inl may) known = subst (λ (s : Stage). KnownIn d records q s) may.0 known
 caused d records q outcomes.UnableToRollback (inr may) known = subst (λ (s : Stage). KnownIn d records q s) may.0 known
 
-closes_by : (d : Device) (records : List Record) (o : Outcome) (x : Option Pending) → IsSomeAnd x (λ q. MayClose q o) → Known d records x → IsSomeAnd x (λ q. IsCaused d records q o)
+closes_by : (d : Device) (records : List Record) (o : Outcome) (x : Option Pending) → IsSomeAnd x (λ q. MayClose q o) → Known d records x →
+    IsSomeAnd x (λ q. IsCaused d records q o)
 closes_by d records o None may known = absurd may
 closes_by d records o (Some q) may known = caused d records q o may known.1
 
@@ -329,14 +370,30 @@ module _ (d : Device) (records : List Record) (c : Device) (k : KnownOf d record
   nothing_known more (Some q) is = no_some q (sym is)
 
   record_known : (r : Record) → Run d records c → Allowed c r → KnownOf d (records ++ r ∷ []) (applied c r)
-  record_known (Genesis o) run allowed = record { known = nothing_known (records ++ Genesis o ∷ []) c.pending (k.placed allowed.0); placed = λ none. k.placed allowed.0 }
-  record_known (Accepted p) run allowed = record { known = steps d records c (Accepted p) run tt allowed k.known; placed = λ none. absurd (origin_there p c.origin allowed none) }
+  record_known (Genesis o) run allowed = record {
+    known = nothing_known (records ++ Genesis o ∷ []) c.pending (k.placed allowed.0);
+    placed =
+        λ none. k.placed allowed.0;
+  }
+  record_known (Accepted p) run allowed = record {
+    known = steps d records c (Accepted p) run tt allowed k.known;
+    placed =
+        λ none. absurd (origin_there p c.origin allowed none);
+  }
   record_known (BootBegun n) run allowed = record { known = steps d records c (BootBegun n) run tt allowed k.known; placed = pending_still begun }
   record_known (BootEnded n e) run allowed = record { known = steps d records c (BootEnded n e) run tt allowed k.known; placed = pending_still (boot_ended e) }
   record_known Activating run allowed = record { known = steps d records c Activating run tt allowed k.known; placed = pending_still activated }
-  record_known (StepFailed n s e) run allowed = record { known = steps d records c (StepFailed n s e) run tt allowed k.known; placed = pending_still (count_failure c.set n) }
+  record_known (StepFailed n s e) run allowed = record {
+    known = steps d records c (StepFailed n s e) run tt allowed k.known;
+    placed =
+        pending_still (count_failure c.set n);
+  }
   record_known (Failing n) run allowed = record { known = steps d records c (Failing n) run tt allowed k.known; placed = pending_still rolled }
-  record_known (FailingBack n) run allowed = record { known = steps d records c (FailingBack n) run tt allowed k.known; placed = pending_still (turned_back c.origin c.set) }
+  record_known (FailingBack n) run allowed = record {
+    known = steps d records c (FailingBack n) run tt allowed k.known;
+    placed =
+        pending_still (turned_back c.origin c.set);
+  }
   record_known (Closed o) run allowed = record {
     known = steps d records c (Closed o) run tt allowed k.known;
     placed = λ none. closed_none o c.pending none (k.placed (sym (closed_origin o c.pending) ∙ none));
@@ -347,11 +404,16 @@ run_more : (d : Device) (records : List Record) (c : Device) (r : Record) (e : D
 run_more d [] c r e run one = (e, subst (λ (x : Device). Lawful x r e) run one, refl)
 run_more d (x ∷ records) c r e run one = (run.0, run.1, run_more run.0 records c r e run.2 one)
 
-closes_in : (d : Device) (done : List Record) (c : Device) (before after : List Record) (o : Outcome) (e : Device) → Run d done c → KnownOf d done c → Run c (before ++ Closed o ∷ after) e
+closes_in : (d : Device) (done : List Record) (c : Device) (before after : List Record) (o : Outcome) (e : Device) → Run d done c → KnownOf d done c →
+    Run c (before ++ Closed o ∷ after) e
     → (b : Device) × Run d (done ++ before) b × IsSomeAnd b.pending (λ q. IsCaused d (done ++ before) q o)
 closes_in d done c [] after o e run k rest =
-    let same = sym (append-nil done) in
-    (c, subst (λ (l : List Record). Run d l c) same run, subst (λ (l : List Record). IsSomeAnd c.pending (λ q. IsCaused d l q o)) same (closes_by d done o c.pending rest.1.allowed k.known))
+    let same = sym (append-nil done) in (
+      c,
+      subst (λ (l : List Record). Run d l c) same run,
+      subst (λ (l : List Record). IsSomeAnd c.pending (λ q. IsCaused d l q o)) same
+          (closes_by d done o c.pending rest.1.allowed k.known),
+    )
 closes_in d done c (r ∷ before) after o e run k rest =
     let next = subst (λ (x : Device). KnownOf d (done ++ r ∷ []) x) (sym rest.1.leaves) (record_known d done c k r run rest.1.allowed) in
     subst (λ (l : List Record). (b : Device) × Run d l b × IsSomeAnd b.pending (λ q. IsCaused d l q o)) (append_assoc done (r ∷ []) before)

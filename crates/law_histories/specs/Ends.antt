@@ -71,8 +71,10 @@ pub record HasBootEnd (p : SessionState) (h : List TraceEvent) (name : List ℕ)
 -- No end, no refused start and no passed limit in the call is a failure: no component owes one behind it, and each bootstrap
 -- ended well.
 pub record NoneFails (p : SessionState) (h : List TraceEvent) : Type 0 where
-  pub steps : (entry : RunnerEntry) (k : ℕ) (s : Step) (before : List TraceEvent) → Stood h (Ran entry k s) before → IsTold (state_after p (Ran entry k s ∷ before))
-  pub boots : (entry : RunnerEntry) (m : Prepared) (e : Exit) (before : List TraceEvent) → Stood h (Booted entry m) before → IsBootEnd (state_after p before) entry.seen e → goes_on e ≡ true
+  pub steps : (entry : RunnerEntry) (k : ℕ) (s : Step) (before : List TraceEvent) → Stood h (Ran entry k s) before →
+      IsTold (state_after p (Ran entry k s ∷ before))
+  pub boots : (entry : RunnerEntry) (m : Prepared) (e : Exit) (before : List TraceEvent) → Stood h (Booted entry m) before →
+      IsBootEnd (state_after p before) entry.seen e → goes_on e ≡ true
 
 abbrev pub is_failure : Record → Bool
 is_failure (StepFailed n s e) = true
@@ -86,7 +88,8 @@ RecordsNoFailure h = list_any is_failure (records_of h) ≡ false
 
 -- Each failure that a call records is one that the component of that name still owed there, and the call has its end.
 abbrev pub FailuresEnded : Type 0
-FailuresEnded = (p : SessionState) (h before : List TraceEvent) (name : List ℕ) (s : Step) (e : Exit) → IsHistory p h → Stood h (Recorded (StepFailed name s e)) before
+FailuresEnded = (p : SessionState) (h before : List TraceEvent) (name : List ℕ) (s : Step) (e : Exit) → IsHistory p h →
+    Stood h (Recorded (StepFailed name s e)) before
     → OwesBy (state_after p before).world name s e × HasStepEnd p before name s e
 
 -- So it is with each end of a bootstrap.

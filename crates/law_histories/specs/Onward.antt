@@ -55,7 +55,8 @@ ResumesGoOn = (p : SessionState) (h : List TraceEvent) (q : Pending) → IsHisto
 
 -- So does one that the call accepts by its first record.
 abbrev pub DeploysGoOn : Type 0
-DeploysGoOn = (p : SessionState) (h : List TraceEvent) (plan : Plan) (after : List Record) → IsHistory p h → records_of h ≡ Accepted plan ∷ after → RecordsNoFailure h
+DeploysGoOn = (p : SessionState) (h : List TraceEvent) (plan : Plan) (after : List Record) → IsHistory p h → records_of h ≡ Accepted plan ∷ after →
+    RecordsNoFailure h
     → ClosedAs p.device plan outcomes.Successful (state_after p h).device ⊎ StillComes p h (accepted plan)
 
 -- ---- on the way back

@@ -25,12 +25,14 @@ use Rattle.law_histories.specs.Stood.{IsHistory, Stood}
 
 -- Where a step of a component starts, every failure of before is recorded.
 abbrev pub AllStartsTold : Type 0
-AllStartsTold = (p : SessionState) (h before : List TraceEvent) (e : RunnerEntry) (k : ℕ) (s : Step) (n : ℕ) (c : Command) → IsHistory p h → Stood h (Ran e k s) before → e.seen ≡ seen.Started n c
+AllStartsTold = (p : SessionState) (h before : List TraceEvent) (e : RunnerEntry) (k : ℕ) (s : Step) (n : ℕ) (c : Command) → IsHistory p h →
+    Stood h (Ran e k s) before → e.seen ≡ seen.Started n c
     → IsTold (state_after p before)
 
 -- Where a bootstrap starts, so is every end of a bootstrap.
 abbrev pub AllBootsTold : Type 0
-AllBootsTold = (p : SessionState) (h before : List TraceEvent) (e : RunnerEntry) (m : Prepared) (n : ℕ) (c : Command) → IsHistory p h → Stood h (Booted e m) before → e.seen ≡ seen.Started n c
+AllBootsTold = (p : SessionState) (h before : List TraceEvent) (e : RunnerEntry) (m : Prepared) (n : ℕ) (c : Command) → IsHistory p h →
+    Stood h (Booted e m) before → e.seen ≡ seen.Started n c
     → IsTold (state_after p before) × ((state_after p before).boot_end ≡ None)
 
 -- ---- no ended bootstrap again
@@ -58,8 +60,10 @@ ended_names (r ∷ records) = ended_names records
 -- These ended in the stage: in this call behind the record that began it; or the call began in it, and they ended before the
 -- call or in it.
 abbrev pub EndedInStage : Device → List Record → Pending → List (List ℕ) → Type 0
-EndedInStage d records q ended = ((earlier : List Record) × (after : List Record) × (r : Record) × (records ≡ earlier ++ r ∷ after) × (begins_stage r ≡ true) × (list_any begins_stage after ≡ false) × (ended ≡ ended_names after))
-    ⊎ ((old : Pending) × (d.pending ≡ Some old) × (old.stage ≡ q.stage) × (boots_of old ≡ boots_of q) × (list_any begins_stage records ≡ false) × (ended ≡ take old.ended (boots_of q) ++ ended_names records))
+EndedInStage d records q ended = ((earlier : List Record) × (after : List Record) × (r : Record) × (records ≡ earlier ++ r ∷ after) ×
+    (begins_stage r ≡ true) × (list_any begins_stage after ≡ false) × (ended ≡ ended_names after))
+    ⊎ ((old : Pending) × (d.pending ≡ Some old) × (old.stage ≡ q.stage) × (boots_of old ≡ boots_of q) × (list_any begins_stage records ≡ false) ×
+    (ended ≡ take old.ended (boots_of q) ++ ended_names records))
 
 -- The bootstrap is the first of the stage that has not ended, it has begun, and its record says so.
 pub record IsFirstLeft (p : SessionState) (h : List TraceEvent) (m : Prepared) : Type 0 where
@@ -78,9 +82,11 @@ pub record IsFirstLeft (p : SessionState) (h : List TraceEvent) (m : Prepared) :
 
 -- No bootstrap starts in a stage in which it ended.
 abbrev pub BootsStartOnce : Type 0
-BootsStartOnce = (p : SessionState) (h before : List TraceEvent) (e : RunnerEntry) (m : Prepared) (n : ℕ) (c : Command) → IsHistory p h → Stood h (Booted e m) before → e.seen ≡ seen.Started n c
+BootsStartOnce = (p : SessionState) (h before : List TraceEvent) (e : RunnerEntry) (m : Prepared) (n : ℕ) (c : Command) → IsHistory p h →
+    Stood h (Booted e m) before → e.seen ≡ seen.Started n c
     → IsFirstLeft p before m
 
 -- In a device that records have left the bootstraps of a stage differ by name.
 abbrev pub BootsDiffer : Type 0
-BootsDiffer = (p : SessionState) (h : List TraceEvent) → IsHistory p h → IsSound p.device → IfSome (state_after p h).device.pending (λ q. IsDistinct bytes_eq (boots_of q))
+BootsDiffer = (p : SessionState) (h : List TraceEvent) → IsHistory p h → IsSound p.device →
+    IfSome (state_after p h).device.pending (λ q. IsDistinct bytes_eq (boots_of q))

@@ -32,7 +32,8 @@ WasTaken d records plan = ((earlier : List Record) × (after : List Record) × (
 
 -- Its end is the record kept last, and a failure; or none was kept yet, and that stood at the start.
 abbrev pub IsFailedLast : Device → List Record → Pending → List ℕ → Type 0
-IsFailedLast d records q name = ((earlier : List Record) × (e : Exit) × (records ≡ earlier ++ BootEnded name e ∷ []) × (goes_on e ≡ false)) ⊎ ((records ≡ []) × (d.pending ≡ Some q))
+IsFailedLast d records q name = ((earlier : List Record) × (e : Exit) × (records ≡ earlier ++ BootEnded name e ∷ []) × (goes_on e ≡ false)) ⊎
+    ((records ≡ []) × (d.pending ≡ Some q))
 
 -- A bootstrap of its plan failed.
 pub record HasFailedBoot (d : Device) (records : List Record) (q : Pending) (name : List ℕ) : Type 0 where
@@ -61,8 +62,10 @@ AreFailures records = list_all is_step_failure records ≡ true
 -- Behind the record that began the stage only failures were recorded, and so many of them at this place; or the call began
 -- in the stage, and with those that the device had counted by then they are so many.
 abbrev pub FailedSoOften : Device → List Record → Pending → ℕ → ℕ → Type 0
-FailedSoOften d records q k n = ((earlier : List Record) × (after : List Record) × (records ≡ earlier ++ Activating ∷ after) × AreFailures after × (failures_at q.plan.items k after ≡ n))
-    ⊎ ((old : Pending) × (d.pending ≡ Some old) × (old.stage ≡ stages.Activating) × (old.plan ≡ q.plan) × AreFailures records × (get_or old.failures k 0 + failures_at q.plan.items k records ≡ n))
+FailedSoOften d records q k n = ((earlier : List Record) × (after : List Record) × (records ≡ earlier ++ Activating ∷ after) × AreFailures after ×
+    (failures_at q.plan.items k after ≡ n))
+    ⊎ ((old : Pending) × (d.pending ≡ Some old) × (old.stage ≡ stages.Activating) × (old.plan ≡ q.plan) × AreFailures records ×
+    (get_or old.failures k 0 + failures_at q.plan.items k records ≡ n))
 
 -- A component of its plan failed three times, and each of these failures is recorded.
 pub record HasBrokenItem (d : Device) (records : List Record) (q : Pending) (name : List ℕ) : Type 0 where
@@ -130,4 +133,5 @@ RunsCloseCaused = (d e : Device) (before after : List Record) (o : Outcome) → 
 
 -- It turns back by the record that names no bootstraps only where none of the set is to run again.
 abbrev pub AllTurnsPlain : Type 0
-AllTurnsPlain = (p : SessionState) (h before : List TraceEvent) (name : List ℕ) → IsHistory p h → Stood h (Recorded (Failing name)) before → HasNoBacks (state_after p before).device
+AllTurnsPlain = (p : SessionState) (h before : List TraceEvent) (name : List ℕ) → IsHistory p h → Stood h (Recorded (Failing name)) before →
+    HasNoBacks (state_after p before).device

@@ -19,12 +19,14 @@ use Rattle.law_supervisor.proofs.Counts.{same_owner, same_living}
 use Rattle.law_supervisor.proofs.Together.{Known, known_of, keep_from, plain_keeps, event_children}
 use Rattle.law_supervisor.specs.Sound.{Differ}
 
-answered_children : (k : ℕ) (w : Components) → map (λ (p : ComponentState). p.children) (answered_at k w).parts ≡ map (λ (p : ComponentState). p.children) w.parts
+answered_children : (k : ℕ) (w : Components) → map (λ (p : ComponentState). p.children) (answered_at k w).parts ≡ map (λ (p : ComponentState). p.children)
+    w.parts
 answered_children k w = changed_same (λ p. p.children) k (λ p. record p { handed = false }) w.parts (λ p q. refl)
 
 pub answered_keeps : (d : Device) (k : ℕ) (w : Components) → Keeps d w → Keeps d (answered_at k w)
 answered_keeps d k w i = keep_from d w (answered_at k w) i
-    (changed_all (Known d) k (λ p. record p { handed = false }) w.parts (known_of d w i) (λ p q x. (sound_these p p.children false x.0 x.0.run, counted_these d p p.children false x.1)))
+    (changed_all (Known d) k (λ p. record p { handed = false }) w.parts (known_of d w i)
+    (λ p q x. (sound_these p p.children false x.0 x.0.run, counted_these d p p.children false x.1)))
     (changed_same component_name k (λ p. record p { handed = false }) w.parts (λ p q. refl))
     (subst Differ (sym (same_living w.parts (answered_at k w).parts (answered_children k w))) i.differ)
     refl
@@ -44,7 +46,8 @@ or_true true = refl
 or_true false = refl
 
 pub refused_keeps : (d : Device) (k : ℕ) (s : Step) (w : Components) → IsTold w → Keeps d w → Keeps d (refused k s w)
-refused_keeps d k s w t i = plain_keeps d k (event.Ended s exits.NotStarted) (answered_at k w) (answered_told k w t) (answered_keeps d k w i) (λ p q x. (tt, fair s p, refl))
+refused_keeps d k s w t i = plain_keeps d k (event.Ended s exits.NotStarted) (answered_at k w) (answered_told k w t) (answered_keeps d k w i)
+    (λ p q x. (tt, fair s p, refl))
   where
     fair : (s : Step) (p : ComponentState) → ends_fairly (event.Ended s exits.NotStarted) p ≡ true
     fair s p = or_true (not (is_same_step s step.Run && is_busy_with step.Run p.life.busy))

@@ -1,5 +1,6 @@
 -- A child that is started.
-use Rattle.std.proofs.Common.{◌≡◌, ◌≤◌, ◌+◌, ◌==◌, ℕ, suc, zero, List, [], ◌∷◌, Option, Some, None, Bool, true, false, refl, sym, ap, ◌∙◌, ◌⊎◌, inl, inr, arith, subst}
+use Rattle.std.proofs.Common.{◌≡◌, ◌≤◌, ◌+◌, ◌==◌, ℕ, suc, zero, List, [], ◌∷◌, Option, Some, None, Bool, true, false, refl, sym, ap, ◌∙◌, ◌⊎◌, inl, inr}
+use Rattle.std.proofs.Common.{arith, subst}
 use Rattle.std.specs.Prelude.{⊤, ◌↔◌, ◌&&◌, ◌||◌, slice_get, if◌then◌else◌}
 use Rattle.std.specs.Option.{IfSome, IsSomeAnd}
 use Rattle.std.specs.List.{AllByRecursion}
@@ -43,12 +44,16 @@ still_few : (a b n : ℕ) (y : Bool) → a ≡ b + (if y then 1 else 0) → b �
 still_few a b n true e l f = let z = f refl in omega (arith, e, z)
 still_few a b n false e l f = omega (arith, e, l)
 
-differ_begun : (n k : ℕ) (s : Step) (t : ℕ) (ps : List ComponentState) → owner n ps ≡ None → Differ (living_numbers ps) → Differ (living_numbers (changed_at k (begun n s t) ps))
-differ_begun n k s t ps o d = elim (slice_get ps k) as (λ (q : Option ComponentState). slice_get ps k ≡ q → Differ (living_numbers (changed_at k (begun n s t) ps))) [
-  | None ↦ λ e. subst (λ (qs : List ComponentState). Differ (living_numbers qs)) (sym (outside k (begun n s t) ps e)) d
-  | Some p ↦ λ e. few_differ (living_numbers (changed_at k (begun n s t) ps)) (λ m. still_few (count m (living_numbers (changed_at k (begun n s t) ps))) (count m (living_numbers ps)) n (n == m)
-      (one_more m n k s t ps p e) (differ_few (living_numbers ps) d m) (λ y. subst (λ (x : ℕ). count x (living_numbers ps) ≡ 0) (eqb-true n m y) (none_owns 0 n ps o)))
-] refl
+differ_begun : (n k : ℕ) (s : Step) (t : ℕ) (ps : List ComponentState) → owner n ps ≡ None → Differ (living_numbers ps) →
+    Differ (living_numbers (changed_at k (begun n s t) ps))
+differ_begun n k s t ps o d = elim (slice_get ps k) as (λ (q : Option ComponentState). slice_get ps k ≡ q →
+    Differ (living_numbers (changed_at k (begun n s t) ps))) [
+      | None ↦ λ e. subst (λ (qs : List ComponentState). Differ (living_numbers qs)) (sym (outside k (begun n s t) ps e)) d
+      | Some p ↦ λ e. few_differ (living_numbers (changed_at k (begun n s t) ps)) (λ m. still_few (count m (living_numbers (changed_at k (begun n s t) ps)))
+          (count m (living_numbers ps)) n (n == m)
+          (one_more m n k s t ps p e) (differ_few (living_numbers ps) d m) (λ y. subst (λ (x : ℕ). count x (living_numbers ps) ≡ 0) (eqb-true n m y)
+          (none_owns 0 n ps o)))
+    ] refl
 
 -- ---- a child that lives, and nothing else
 
@@ -56,10 +61,12 @@ no_run : (a b x : Bool) → (a && b) ≡ false → x ≡ false → (a && (x || b
 no_run true b x e f = rw f e
 no_run false b x e f = refl
 
-lives_keeps : (d : Device) (k : ℕ) (s : Step) (n : ℕ) (w : Components) → is_same_step step.Run s ≡ false → owner n w.parts ≡ None → Keeps d w → Keeps d (record w { parts = changed_at k (begun n s w.moment) w.parts })
+lives_keeps : (d : Device) (k : ℕ) (s : Step) (n : ℕ) (w : Components) → is_same_step step.Run s ≡ false → owner n w.parts ≡ None → Keeps d w →
+    Keeps d (record w { parts = changed_at k (begun n s w.moment) w.parts })
 lives_keeps d k s n w r o i = keep_from d w (record w { parts = changed_at k (begun n s w.moment) w.parts }) i
     (changed_all (Known d) k (begun n s w.moment) w.parts (known_of d w i) (λ p q x. (
-      sound_these p (child n s w.moment p ∷ p.children) false x.0 (no_run (is_busy_with step.Run p.life.busy) (runs_in p.children) (is_same_step step.Run s) x.0.run r),
+      sound_these p (child n s w.moment p ∷ p.children) false x.0 (no_run (is_busy_with step.Run p.life.busy) (runs_in p.children) (is_same_step step.Run s)
+          x.0.run r),
       counted_these d p (child n s w.moment p ∷ p.children) false x.1,
     )))
     (changed_same component_name k (begun n s w.moment) w.parts (λ p q. refl))
@@ -74,14 +81,16 @@ Coming p = IfSome p.next (IsNamed (component_name p))
 run_keeps : (d : Device) (k n : ℕ) (w : Components) → owner n w.parts ≡ None → IsTold w → Keeps d w → Keeps d (started k step.Run n w)
 run_keeps d k n w o t i = keep_from d w (started k step.Run n w) i
     (event_all (Known d) (mark_known d) k event.Launched (begun n step.Run w.moment) w (known_of d w i) (λ p q x. (
-      sound_lived w.steady event.Launched p (child n step.Run w.moment p ∷ p.children) false x.0 tt (rw (launch_lived w.steady p (child n step.Run w.moment p ∷ p.children) false x.0) refl),
+      sound_lived w.steady event.Launched p (child n step.Run w.moment p ∷ p.children) false x.0 tt
+          (rw (launch_lived w.steady p (child n step.Run w.moment p ∷ p.children) false x.0) refl),
       subst (λ (y : Bool). IsCounted d (lived y event.Launched (with_these (child n step.Run w.moment p ∷ p.children) false p))) (sym i.driven)
           (counted_lived d event.Launched p (child n step.Run w.moment p ∷ p.children) false x.0 x.1 (told_each w.parts t k p q) tt refl),
     )))
     (event_same component_name (λ p. refl) k event.Launched (record w { parts = changed_at k (begun n step.Run w.moment) w.parts })
     (λ p q. same_name w.steady event.Launched p (at_places Coming (changed_at k (begun n step.Run w.moment) w.parts) coming k p q))
     ∙ changed_same component_name k (begun n step.Run w.moment) w.parts (λ p q. refl))
-    (subst Differ (sym (same_living (changed_at k (begun n step.Run w.moment) w.parts) (started k step.Run n w).parts (event_children k event.Launched (record w { parts = changed_at k (begun n step.Run w.moment) w.parts }))))
+    (subst Differ (sym (same_living (changed_at k (begun n step.Run w.moment) w.parts) (started k step.Run n w).parts
+    (event_children k event.Launched (record w { parts = changed_at k (begun n step.Run w.moment) w.parts }))))
     (differ_begun n k step.Run w.moment w.parts o i.differ))
     refl
   where
@@ -98,16 +107,19 @@ started_keeps d k step.Bootstrap n w o t i = lives_keeps d k step.Bootstrap n w 
 
 -- ---- who owns it
 
-living_started : (k : ℕ) (s : Step) (n : ℕ) (w : Components) → living_numbers (started k s n w).parts ≡ living_numbers (changed_at k (begun n s w.moment) w.parts)
+living_started : (k : ℕ) (s : Step) (n : ℕ) (w : Components) → living_numbers (started k s n w).parts ≡ living_numbers
+    (changed_at k (begun n s w.moment) w.parts)
 living_started k step.Install n w = refl
-living_started k step.Run n w = same_living (changed_at k (begun n step.Run w.moment) w.parts) (started k step.Run n w).parts (event_children k event.Launched (record w { parts = changed_at k (begun n step.Run w.moment) w.parts }))
+living_started k step.Run n w = same_living (changed_at k (begun n step.Run w.moment) w.parts) (started k step.Run n w).parts
+    (event_children k event.Launched (record w { parts = changed_at k (begun n step.Run w.moment) w.parts }))
 living_started k step.Startup n w = refl
 living_started k step.Shutdown n w = refl
 living_started k step.Recover n w = refl
 living_started k step.Bootstrap n w = refl
 
 at_some : (k : ℕ) (ps : List ComponentState) → At k (λ p. ⊤) ps → (p : ComponentState) × (slice_get ps k ≡ Some p)
-at_some k ps a = elim (slice_get ps k) as (λ (o : Option ComponentState). slice_get ps k ≡ o → IsSomeAnd o (λ p. ⊤) → (p : ComponentState) × (slice_get ps k ≡ Some p))
+at_some k ps a = elim (slice_get ps k) as (λ (o : Option ComponentState). slice_get ps k ≡ o → IsSomeAnd o (λ p. ⊤) → (p : ComponentState) ×
+    (slice_get ps k ≡ Some p))
     [ None ↦ λ e h. absurd h | Some p ↦ λ e h. (p, e) ] refl a
 
 pub started_owns : (k : ℕ) (s : Step) (n m : ℕ) (w : Components) → At k (λ p. ⊤) w.parts → Owns (started k s n w) m ↔ ((m ≡ n) ⊎ Owns w m)

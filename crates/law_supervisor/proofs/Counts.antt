@@ -1,5 +1,6 @@
 -- How often a child's number stands, and who owns it.
-use Rattle.std.proofs.Common.{◌≡◌, ◌≢◌, ◌≤◌, ◌+◌, ◌==◌, ℕ, suc, zero, List, [], ◌∷◌, ◌++◌, map, Option, Some, None, Bool, true, false, refl, sym, ap, ◌∙◌, inl, inr, arith, subst}
+use Rattle.std.proofs.Common.{◌≡◌, ◌≢◌, ◌≤◌, ◌+◌, ◌==◌, ℕ, suc, zero, List, [], ◌∷◌, ◌++◌, map, Option, Some, None, Bool, true, false, refl, sym, ap, ◌∙◌}
+use Rattle.std.proofs.Common.{inl, inr, arith, subst}
 use Rattle.std.specs.Prelude.{slice_get, if◌then◌else◌, IsSome}
 use Rattle.std.specs.List.{AllByRecursion}
 use Rattle.std.proofs.lemmas.Bool.{eqb-true, eq-eqb}
@@ -38,7 +39,8 @@ count_none n (m ∷ ms) e = elim (m == n) as (λ (b : Bool). (m == n) ≡ b → 
 pub differ_few : (ns : List ℕ) → Differ ns → (n : ℕ) → count n ns ≤ 1
 differ_few [] d n = omega arith
 differ_few (m ∷ ms) d n = elim (either (m == n)) [
-  | inl e ↦ (let z = none_count n ms (subst (λ (x : ℕ). AllByRecursion (λ (y : ℕ). y ≢ x) ms) (eqb-true m n e) (recursion_from_All (λ (y : ℕ). y ≢ m) ms d.0)) in rw e (omega (arith, z)))
+  | inl e ↦ (let z = none_count n ms (subst (λ (x : ℕ). AllByRecursion (λ (y : ℕ). y ≢ x) ms) (eqb-true m n e) (recursion_from_All (λ (y : ℕ). y ≢ m) ms d.0))
+      in rw e (omega (arith, z)))
   | inr e ↦ (let i = differ_few ms d.1 n in rw e (omega (arith, i)))
 ]
 
@@ -96,7 +98,8 @@ living_is : (ps : List ComponentState) → living_numbers ps ≡ living_of (map 
 living_is [] = refl
 living_is (p ∷ ps) = ap (λ (ns : List ℕ). child_numbers p.children ++ ns) (living_is ps)
 
-pub same_living : (ps qs : List ComponentState) → map (λ (p : ComponentState). p.children) qs ≡ map (λ (p : ComponentState). p.children) ps → living_numbers qs ≡ living_numbers ps
+pub same_living : (ps qs : List ComponentState) → map (λ (p : ComponentState). p.children) qs ≡ map (λ (p : ComponentState). p.children) ps →
+    living_numbers qs ≡ living_numbers ps
 same_living ps qs e = living_is qs ∙ ap living_of e ∙ sym (living_is ps)
 
 -- ---- owners
@@ -109,17 +112,20 @@ owner_is : (k n : ℕ) (ps : List ComponentState) → owner_from k n ps ≡ owne
 owner_is k n [] = refl
 owner_is k n (p ∷ ps) = ap (λ (o : Option (ℕ × Step)). elim (child_of n p.children) [ None ↦ o | Some c ↦ Some (k, c.of) ]) (owner_is (k + 1) n ps)
 
-pub same_owner : (n : ℕ) (ps qs : List ComponentState) → map (λ (p : ComponentState). p.children) qs ≡ map (λ (p : ComponentState). p.children) ps → owner n qs ≡ owner n ps
+pub same_owner : (n : ℕ) (ps qs : List ComponentState) → map (λ (p : ComponentState). p.children) qs ≡ map (λ (p : ComponentState). p.children) ps →
+    owner n qs ≡ owner n ps
 same_owner n ps qs e = owner_is 0 n qs ∙ ap (owner_of 0 n) e ∙ sym (owner_is 0 n ps)
 
 child_count : (n : ℕ) (cs : List Child) → child_of n cs ≡ None → count n (child_numbers cs) ≡ 0
 child_count n [] e = refl
-child_count n (c ∷ cs) e = elim (c.number == n) as (λ (b : Bool). (if b then Some c else child_of n cs) ≡ None → (if b then 1 else 0) + count n (child_numbers cs) ≡ 0)
+child_count n (c ∷ cs) e = elim (c.number == n) as (λ (b : Bool). (if b then Some c else child_of n cs) ≡ None →
+    (if b then 1 else 0) + count n (child_numbers cs) ≡ 0)
     [ true ↦ λ y. no_some c (sym y) | false ↦ λ y. (let i = child_count n cs y in omega (arith, i)) ] e
 
 pub child_counted : (n : ℕ) (cs : List Child) (c : Child) → child_of n cs ≡ Some c → 1 ≤ count n (child_numbers cs)
 child_counted n [] c e = no_some c e
-child_counted n (d ∷ cs) c e = elim (d.number == n) as (λ (b : Bool). (if b then Some d else child_of n cs) ≡ Some c → 1 ≤ (if b then 1 else 0) + count n (child_numbers cs))
+child_counted n (d ∷ cs) c e = elim (d.number == n) as (λ (b : Bool). (if b then Some d else child_of n cs) ≡ Some c →
+    1 ≤ (if b then 1 else 0) + count n (child_numbers cs))
     [ true ↦ λ y. omega arith | false ↦ λ y. (let i = child_counted n cs c y in omega (arith, i)) ] e
 
 abbrev NoOwner : Option (ℕ × Step) → Type 0
@@ -130,17 +136,20 @@ some_owner x e = absurd (cc)
 
 pub none_owns : (k n : ℕ) (ps : List ComponentState) → owner_from k n ps ≡ None → count n (living_numbers ps) ≡ 0
 none_owns k n [] e = refl
-none_owns k n (p ∷ ps) e = elim (child_of n p.children) as (λ (o : Option Child). child_of n p.children ≡ o → NoOwner (elim o [ None ↦ owner_from (k + 1) n ps | Some c ↦ Some (k, c.of) ]) → count n (child_numbers p.children ++ living_numbers ps) ≡ 0) [
-  | None ↦ λ q y. (let i = none_owns (k + 1) n ps y in let a = child_count n p.children q in let b = count_append n (child_numbers p.children) (living_numbers ps) in omega (arith, i, a, b))
-  | Some c ↦ λ q y. some_owner (k, c.of) y
-] refl e
+none_owns k n (p ∷ ps) e = elim (child_of n p.children) as (λ (o : Option Child). child_of n p.children ≡ o →
+    NoOwner (elim o [ None ↦ owner_from (k + 1) n ps | Some c ↦ Some (k, c.of) ]) → count n (child_numbers p.children ++ living_numbers ps) ≡ 0) [
+      | None ↦ λ q y. (let i = none_owns (k + 1) n ps y in let a = child_count n p.children q in let b =
+          count_append n (child_numbers p.children) (living_numbers ps) in omega (arith, i, a, b))
+      | Some c ↦ λ q y. some_owner (k, c.of) y
+    ] refl e
 
 pub one_owns : (k n : ℕ) (ps : List ComponentState) → IsSome (owner_from k n ps) → 1 ≤ count n (living_numbers ps)
 one_owns k n [] e = clash false e refl
-one_owns k n (p ∷ ps) e = elim (child_of n p.children) as (λ (o : Option Child). child_of n p.children ≡ o → IsSome (elim o [ None ↦ owner_from (k + 1) n ps | Some c ↦ Some (k, c.of) ]) → 1 ≤ count n (child_numbers p.children ++ living_numbers ps)) [
-  | None ↦ λ q y. (let i = one_owns (k + 1) n ps y in let b = count_append n (child_numbers p.children) (living_numbers ps) in omega (arith, i, b))
-  | Some c ↦ λ q y. (let a = child_counted n p.children c q in let b = count_append n (child_numbers p.children) (living_numbers ps) in omega (arith, a, b))
-] refl e
+one_owns k n (p ∷ ps) e = elim (child_of n p.children) as (λ (o : Option Child). child_of n p.children ≡ o →
+    IsSome (elim o [ None ↦ owner_from (k + 1) n ps | Some c ↦ Some (k, c.of) ]) → 1 ≤ count n (child_numbers p.children ++ living_numbers ps)) [
+      | None ↦ λ q y. (let i = one_owns (k + 1) n ps y in let b = count_append n (child_numbers p.children) (living_numbers ps) in omega (arith, i, b))
+      | Some c ↦ λ q y. (let a = child_counted n p.children c q in let b = count_append n (child_numbers p.children) (living_numbers ps) in omega (arith, a, b))
+    ] refl e
 
 pub owns_one : (n : ℕ) (ps : List ComponentState) → 1 ≤ count n (living_numbers ps) → IsSome (owner n ps)
 owns_one n ps c = elim (owner n ps) as (λ (o : Option (ℕ × Step)). owner n ps ≡ o → IsSome o)

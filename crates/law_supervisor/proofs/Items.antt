@@ -17,7 +17,10 @@ module _ (P : Fitted → Option (Fitted × ℕ) → List Child → Type 0) where
   Of p = P p.fitted p.next p.children × ((n : Fitted × ℕ) → p.next ≡ Some n → P n.0 None p.children)
 
   by_forgotten : (b : Bool) (c : Life) (p : ComponentState) → Of p → Of (with_failures_forgotten b c p)
-  by_forgotten b c p h = elim (b && succeeds c p.life) as (λ (y : Bool). Of (if y then record p { life = record p.life { failures = 0 } } else p)) [ true ↦ h | false ↦ h ]
+  by_forgotten b c p h = elim (b && succeeds c p.life) as (λ (y : Bool). Of (if y then record p { life = record p.life { failures = 0 } } else p)) [
+    | true ↦ h
+    | false ↦ h
+  ]
 
   by_owed : (a : LifeAct) (p : ComponentState) → Of p → Of (with_failure_owed a p)
   by_owed act.Nothing p h = h
@@ -35,11 +38,22 @@ module _ (P : Fitted → Option (Fitted × ℕ) → List Child → Type 0) where
   by_given event.Retry p h = h
 
   by_new : (e : LifeEvent) (c : Life) (p : ComponentState) → Of p → P (with_new_item e c p).fitted (with_new_item e c p).next (with_new_item e c p).children
-  by_new e c p h = elim (is_again (completed e c p.life)) as (λ (y : Bool). (let q : ComponentState = (if y then elim p.next [ None ↦ p | Some n ↦ record p { fitted = n.0; life = record p.life { steps = steps_of n.0; failures = n.1 }; next = None } ] else p) in P q.fitted q.next q.children)) [
-    | false ↦ h.0
-    | true ↦ elim p.next as (λ (o : Option (Fitted × ℕ)). p.next ≡ o → (let q : ComponentState = (elim o [ None ↦ p | Some n ↦ record p { fitted = n.0; life = record p.life { steps = steps_of n.0; failures = n.1 }; next = None } ]) in P q.fitted q.next q.children))
-        [ None ↦ λ e. h.0 | Some n ↦ λ e. h.1 n e ] refl
-  ]
+  by_new e c p h = elim (is_again (completed e c p.life)) as (λ (y : Bool). (let q : ComponentState =
+      (if y then elim p.next [ None ↦ p | Some n ↦ record p { fitted = n.0; life = record p.life { steps = steps_of n.0; failures = n.1 }; next = None } ]
+      else p) in P q.fitted q.next q.children)) [
+        | false ↦ h.0
+        | true ↦ elim p.next as (λ (o : Option (Fitted × ℕ)). p.next ≡ o →
+            (let q : ComponentState = (elim o [
+              | None ↦ p
+              | Some n ↦ record p {
+                fitted = n.0;
+                life = record p.life { steps = steps_of n.0; failures = n.1 };
+                next =
+                    None;
+              }
+            ]) in P q.fitted q.next q.children))
+            [ None ↦ λ e. h.0 | Some n ↦ λ e. h.1 n e ] refl
+      ]
 
   pub by_lived : (b : Bool) (e : LifeEvent) (p : ComponentState) → Of p → P (lived b e p).fitted (lived b e p).next (lived b e p).children
   by_lived b e p h = elim (table p.life e) as (λ (o : Option (LifeAct × Life)). (let q : ComponentState = (elim o [
@@ -60,4 +74,8 @@ table_none c e g = rw g refl
 
 -- nothing befalls one that is gone
 pub lived_gone : (b : Bool) (e : LifeEvent) (p : ComponentState) → p.life.gone ≡ true → lived b e p ≡ p
-lived_gone b e p g = ap (λ (o : Option (LifeAct × Life)). elim o [ None ↦ p | Some r ↦ with_new_item e p.life (with_stop_given e (with_failure_owed r.0 (with_failures_forgotten b p.life (after_row r.1 p)))) ]) (table_none p.life e g)
+lived_gone b e p g = ap (λ (o : Option (LifeAct × Life)). elim o [
+  | None ↦ p
+  | Some r ↦ with_new_item e p.life
+      (with_stop_given e (with_failure_owed r.0 (with_failures_forgotten b p.life (after_row r.1 p))))
+]) (table_none p.life e g)

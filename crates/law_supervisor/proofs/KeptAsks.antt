@@ -16,8 +16,12 @@ use Rattle.components.specs.Lives.{lived}
 use Rattle.law_supervisor.specs.Sound.{may_ask}
 use Rattle.law_supervisor.proofs.Made.{mk, MayBefall}
 
-module _ (f : Fitted) (steps : StepSet) (n : ℕ) (busy : Option Step) (runs inst : Bool) (way : Option After) (cs : List Child) (hd : Bool) (o : Option (Step × Exit)) (asked : Option After) (nx : Option (Fitted × ℕ)) where
-  pub asks_at : (s : State) (e : LifeEvent) (b : Bool) → may_ask (under_way (mk f steps n busy runs inst way cs hd o asked nx s).life) asked ≡ true → MayBefall e (mk f steps n busy runs inst way cs hd o asked nx s) → may_ask (under_way (lived b e (mk f steps n busy runs inst way cs hd o asked nx s)).life) (lived b e (mk f steps n busy runs inst way cs hd o asked nx s)).stop ≡ true
+module _ (f : Fitted) (steps : StepSet) (n : ℕ) (busy : Option Step) (runs inst : Bool) (way : Option After) (cs : List Child) (hd : Bool)
+    (o : Option (Step × Exit)) (asked : Option After) (nx : Option (Fitted × ℕ)) where
+  pub asks_at : (s : State) (e : LifeEvent) (b : Bool) → may_ask (under_way (mk f steps n busy runs inst way cs hd o asked nx s).life) asked ≡ true →
+      MayBefall e (mk f steps n busy runs inst way cs hd o asked nx s) →
+      may_ask (under_way (lived b e (mk f steps n busy runs inst way cs hd o asked nx s)).life)
+      (lived b e (mk f steps n busy runs inst way cs hd o asked nx s)).stop ≡ true
   asks_at state.New event.MayBegin b a m = grind (arith, a, m)
   asks_at state.New event.Retry b a m = grind (arith, a, m)
   asks_at state.New event.Launched b a m = grind (arith, a, m)

@@ -18,8 +18,12 @@ use Rattle.std.specs.Prelude.{not, ◌||◌}
 use Rattle.law_supervisor.specs.Sound.{may_ask, is_bare}
 use Rattle.law_supervisor.proofs.Made.{mk, MayBefall}
 
-module _ (f : Fitted) (steps : StepSet) (n : ℕ) (busy : Option Step) (runs inst : Bool) (way : Option After) (cs : List Child) (hd : Bool) (o : Option (Step × Exit)) (asked : Option After) (nx : Option (Fitted × ℕ)) where
-  pub bare_at : (s : State) (e : LifeEvent) (b : Bool) → may_be_busy s busy ≡ true → may_run s runs ≡ true → may_ask (under_way (mk f steps n busy runs inst way cs hd o asked nx s).life) asked ≡ true → MayBefall e (mk f steps n busy runs inst way cs hd o asked nx s) → (not (lived b e (mk f steps n busy runs inst way cs hd o asked nx s)).life.gone || is_bare (lived b e (mk f steps n busy runs inst way cs hd o asked nx s))) ≡ true
+module _ (f : Fitted) (steps : StepSet) (n : ℕ) (busy : Option Step) (runs inst : Bool) (way : Option After) (cs : List Child) (hd : Bool)
+    (o : Option (Step × Exit)) (asked : Option After) (nx : Option (Fitted × ℕ)) where
+  pub bare_at : (s : State) (e : LifeEvent) (b : Bool) → may_be_busy s busy ≡ true → may_run s runs ≡ true →
+      may_ask (under_way (mk f steps n busy runs inst way cs hd o asked nx s).life) asked ≡ true →
+      MayBefall e (mk f steps n busy runs inst way cs hd o asked nx s) → (not (lived b e (mk f steps n busy runs inst way cs hd o asked nx s)).life.gone ||
+      is_bare (lived b e (mk f steps n busy runs inst way cs hd o asked nx s))) ≡ true
   bare_at state.New event.MayBegin b k r a m = grind (arith, k, r, a, m)
   bare_at state.New event.Retry b k r a m = grind (arith, k, r, a, m)
   bare_at state.New event.Launched b k r a m = grind (arith, k, r, a, m)

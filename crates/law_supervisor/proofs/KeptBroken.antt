@@ -16,8 +16,14 @@ use Rattle.components.specs.Lives.{lived}
 use Rattle.law_supervisor.specs.Sound.{may_ask}
 use Rattle.law_supervisor.proofs.Made.{mk, MayBefall}
 
-module _ (f : Fitted) (steps : StepSet) (n : ℕ) (busy : Option Step) (runs inst : Bool) (way : Option After) (cs : List Child) (hd : Bool) (o : Option (Step × Exit)) (asked : Option After) (nx : Option (Fitted × ℕ)) where
-  pub broken_at : (s : State) (e : LifeEvent) → may_ask (under_way (mk f steps n busy runs inst way cs hd o asked nx s).life) asked ≡ true → MayBefall e (mk f steps n busy runs inst way cs hd o asked nx s) → (is_spared (mk f steps n busy runs inst way cs hd o asked nx s) ≡ false → is_broken s ≡ true → n ≡ 3) → is_spared (lived false e (mk f steps n busy runs inst way cs hd o asked nx s)) ≡ false → (lived false e (mk f steps n busy runs inst way cs hd o asked nx s)).life.gone ≡ false → is_broken (lived false e (mk f steps n busy runs inst way cs hd o asked nx s)).life.state ≡ true → (lived false e (mk f steps n busy runs inst way cs hd o asked nx s)).life.failures ≡ 3
+module _ (f : Fitted) (steps : StepSet) (n : ℕ) (busy : Option Step) (runs inst : Bool) (way : Option After) (cs : List Child) (hd : Bool)
+    (o : Option (Step × Exit)) (asked : Option After) (nx : Option (Fitted × ℕ)) where
+  pub broken_at : (s : State) (e : LifeEvent) → may_ask (under_way (mk f steps n busy runs inst way cs hd o asked nx s).life) asked ≡ true →
+      MayBefall e (mk f steps n busy runs inst way cs hd o asked nx s) → (is_spared (mk f steps n busy runs inst way cs hd o asked nx s) ≡ false →
+      is_broken s ≡ true → n ≡ 3) → is_spared (lived false e (mk f steps n busy runs inst way cs hd o asked nx s)) ≡ false →
+      (lived false e (mk f steps n busy runs inst way cs hd o asked nx s)).life.gone ≡ false →
+      is_broken (lived false e (mk f steps n busy runs inst way cs hd o asked nx s)).life.state ≡ true →
+      (lived false e (mk f steps n busy runs inst way cs hd o asked nx s)).life.failures ≡ 3
   broken_at state.New event.MayBegin a m h u v y = grind (arith, a, m, h, u, v, y)
   broken_at state.New event.Retry a m h u v y = grind (arith, a, m, h, u, v, y)
   broken_at state.New event.Launched a m h u v y = grind (arith, a, m, h, u, v, y)

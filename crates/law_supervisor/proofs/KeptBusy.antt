@@ -16,8 +16,11 @@ use Rattle.components.specs.Lives.{lived}
 use Rattle.lifecycle.specs.Life.{may_be_busy}
 use Rattle.law_supervisor.proofs.Made.{mk}
 
-module _ (f : Fitted) (steps : StepSet) (n : ℕ) (busy : Option Step) (runs inst : Bool) (way : Option After) (cs : List Child) (hd : Bool) (o : Option (Step × Exit)) (asked : Option After) (nx : Option (Fitted × ℕ)) where
-  pub busy_at : (s : State) (e : LifeEvent) (b : Bool) → may_be_busy s busy ≡ true → may_be_busy (lived b e (mk f steps n busy runs inst way cs hd o asked nx s)).life.state (lived b e (mk f steps n busy runs inst way cs hd o asked nx s)).life.busy ≡ true
+module _ (f : Fitted) (steps : StepSet) (n : ℕ) (busy : Option Step) (runs inst : Bool) (way : Option After) (cs : List Child) (hd : Bool)
+    (o : Option (Step × Exit)) (asked : Option After) (nx : Option (Fitted × ℕ)) where
+  pub busy_at : (s : State) (e : LifeEvent) (b : Bool) → may_be_busy s busy ≡ true →
+      may_be_busy (lived b e (mk f steps n busy runs inst way cs hd o asked nx s)).life.state
+      (lived b e (mk f steps n busy runs inst way cs hd o asked nx s)).life.busy ≡ true
   busy_at state.New event.MayBegin b k = grind (arith, k)
   busy_at state.New event.Retry b k = grind (arith, k)
   busy_at state.New event.Launched b k = grind (arith, k)

@@ -19,8 +19,20 @@ use Rattle.std.specs.Option.{IfSome}
 use Rattle.law_supervisor.specs.Sound.{may_ask, is_waiting, is_to_begin_again}
 use Rattle.law_supervisor.proofs.Made.{mk, MayBefall, ends_fairly, Agrees, bad}
 
-module _ (f : Fitted) (steps : StepSet) (n : ℕ) (busy : Option Step) (runs inst : Bool) (way : Option After) (cs : List Child) (hd : Bool) (o : Option (Step × Exit)) (asked : Option After) (nx : Option (Fitted × ℕ)) (C : List ℕ → Option ℕ) where
-  pub counts_at : (s : State) (e : LifeEvent) → MayHave s n → may_ask (under_way (mk f steps n busy runs inst way cs hd None asked nx s).life) asked ≡ true → MayBefall e (mk f steps n busy runs inst way cs hd None asked nx s) → (not (is_to_begin_again (mk f steps n busy runs inst way cs hd None asked nx s)) || (is_waiting (mk f steps n busy runs inst way cs hd None asked nx s) || is_gone asked)) ≡ true → ends_fairly e (mk f steps n busy runs inst way cs hd None asked nx s) ≡ true → (is_spared (mk f steps n busy runs inst way cs hd None asked nx s) ≡ false → C (name_of f) ≡ Some n) → IfSome nx (λ (z : Fitted × ℕ). (name_of z.0 ≡ name_of f) × (C (name_of z.0) ≡ Some z.1)) → is_spared (lived false e (mk f steps n busy runs inst way cs hd None asked nx s)) ≡ false → (lived false e (mk f steps n busy runs inst way cs hd None asked nx s)).life.gone ≡ false → Agrees (C (component_name (lived false e (mk f steps n busy runs inst way cs hd None asked nx s)))) (lived false e (mk f steps n busy runs inst way cs hd None asked nx s)).life.failures (lived false e (mk f steps n busy runs inst way cs hd None asked nx s)).owed
+module _ (f : Fitted) (steps : StepSet) (n : ℕ) (busy : Option Step) (runs inst : Bool) (way : Option After) (cs : List Child) (hd : Bool)
+    (o : Option (Step × Exit)) (asked : Option After) (nx : Option (Fitted × ℕ)) (C : List ℕ → Option ℕ) where
+  pub counts_at : (s : State) (e : LifeEvent) → MayHave s n → may_ask (under_way (mk f steps n busy runs inst way cs hd None asked nx s).life) asked ≡ true →
+      MayBefall e (mk f steps n busy runs inst way cs hd None asked nx s) →
+      (not (is_to_begin_again (mk f steps n busy runs inst way cs hd None asked nx s)) ||
+      (is_waiting (mk f steps n busy runs inst way cs hd None asked nx s) || is_gone asked)) ≡ true →
+      ends_fairly e (mk f steps n busy runs inst way cs hd None asked nx s) ≡ true →
+      (is_spared (mk f steps n busy runs inst way cs hd None asked nx s) ≡ false → C (name_of f) ≡ Some n) →
+      IfSome nx (λ (z : Fitted × ℕ). (name_of z.0 ≡ name_of f) × (C (name_of z.0) ≡ Some z.1)) →
+      is_spared (lived false e (mk f steps n busy runs inst way cs hd None asked nx s)) ≡ false →
+      (lived false e (mk f steps n busy runs inst way cs hd None asked nx s)).life.gone ≡ false →
+      Agrees (C (component_name (lived false e (mk f steps n busy runs inst way cs hd None asked nx s))))
+      (lived false e (mk f steps n busy runs inst way cs hd None asked nx s)).life.failures
+      (lived false e (mk f steps n busy runs inst way cs hd None asked nx s)).owed
   counts_at state.New event.MayBegin k a m t g w c u v = grind (arith, k, a, m, t, g, w, c, u, v, bad)
   counts_at state.New event.Retry k a m t g w c u v = grind (arith, k, a, m, t, g, w, c, u, v, bad)
   counts_at state.New event.Launched k a m t g w c u v = grind (arith, k, a, m, t, g, w, c, u, v, bad)

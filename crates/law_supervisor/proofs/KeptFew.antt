@@ -17,8 +17,11 @@ use Rattle.lifecycle.specs.Life.{MayHave}
 use Rattle.std.specs.Option.{IfSome}
 use Rattle.law_supervisor.proofs.Made.{mk}
 
-module _ (f : Fitted) (steps : StepSet) (n : ℕ) (busy : Option Step) (runs inst : Bool) (way : Option After) (cs : List Child) (hd : Bool) (o : Option (Step × Exit)) (asked : Option After) (nx : Option (Fitted × ℕ)) where
-  pub few_at : (s : State) (e : LifeEvent) (b : Bool) → MayHave s n → IfSome nx (λ (z : Fitted × ℕ). (name_of z.0 ≡ name_of f) × (z.1 < 3)) → MayHave (lived b e (mk f steps n busy runs inst way cs hd o asked nx s)).life.state (lived b e (mk f steps n busy runs inst way cs hd o asked nx s)).life.failures
+module _ (f : Fitted) (steps : StepSet) (n : ℕ) (busy : Option Step) (runs inst : Bool) (way : Option After) (cs : List Child) (hd : Bool)
+    (o : Option (Step × Exit)) (asked : Option After) (nx : Option (Fitted × ℕ)) where
+  pub few_at : (s : State) (e : LifeEvent) (b : Bool) → MayHave s n → IfSome nx (λ (z : Fitted × ℕ). (name_of z.0 ≡ name_of f) × (z.1 < 3)) →
+      MayHave (lived b e (mk f steps n busy runs inst way cs hd o asked nx s)).life.state
+      (lived b e (mk f steps n busy runs inst way cs hd o asked nx s)).life.failures
   few_at state.New event.MayBegin b k c = grind (arith, k, c)
   few_at state.New event.Retry b k c = grind (arith, k, c)
   few_at state.New event.Launched b k c = grind (arith, k, c)

@@ -17,8 +17,13 @@ use Rattle.std.specs.Prelude.{not, ◌||◌, is_some}
 use Rattle.law_supervisor.specs.Sound.{may_ask}
 use Rattle.law_supervisor.proofs.Made.{mk, MayBefall}
 
-module _ (f : Fitted) (steps : StepSet) (n : ℕ) (busy : Option Step) (runs inst : Bool) (way : Option After) (cs : List Child) (hd : Bool) (o : Option (Step × Exit)) (asked : Option After) (nx : Option (Fitted × ℕ)) where
-  pub owed_at : (s : State) (e : LifeEvent) → may_ask (under_way (mk f steps n busy runs inst way cs hd None asked nx s).life) asked ≡ true → MayBefall e (mk f steps n busy runs inst way cs hd None asked nx s) → (not (is_spared (lived false e (mk f steps n busy runs inst way cs hd None asked nx s)) || (lived false e (mk f steps n busy runs inst way cs hd None asked nx s)).life.gone) || not (is_some (lived false e (mk f steps n busy runs inst way cs hd None asked nx s)).owed)) ≡ true
+module _ (f : Fitted) (steps : StepSet) (n : ℕ) (busy : Option Step) (runs inst : Bool) (way : Option After) (cs : List Child) (hd : Bool)
+    (o : Option (Step × Exit)) (asked : Option After) (nx : Option (Fitted × ℕ)) where
+  pub owed_at : (s : State) (e : LifeEvent) → may_ask (under_way (mk f steps n busy runs inst way cs hd None asked nx s).life) asked ≡ true →
+      MayBefall e (mk f steps n busy runs inst way cs hd None asked nx s) →
+      (not (is_spared (lived false e (mk f steps n busy runs inst way cs hd None asked nx s)) ||
+      (lived false e (mk f steps n busy runs inst way cs hd None asked nx s)).life.gone) ||
+      not (is_some (lived false e (mk f steps n busy runs inst way cs hd None asked nx s)).owed)) ≡ true
   owed_at state.New event.MayBegin a m = grind (arith, a, m)
   owed_at state.New event.Retry a m = grind (arith, a, m)
   owed_at state.New event.Launched a m = grind (arith, a, m)

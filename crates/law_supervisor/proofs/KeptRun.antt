@@ -18,8 +18,10 @@ use Rattle.std.specs.Prelude.{◌&&◌}
 use Rattle.lifecycle.specs.Awaits.{is_busy_with}
 use Rattle.law_supervisor.proofs.Made.{mk, begins}
 
-module _ (f : Fitted) (steps : StepSet) (n : ℕ) (busy : Option Step) (runs inst : Bool) (way : Option After) (cs : List Child) (hd : Bool) (o : Option (Step × Exit)) (asked : Option After) (nx : Option (Fitted × ℕ)) (z : Bool) where
-  pub run_at : (s : State) (e : LifeEvent) (b : Bool) → may_be_busy s busy ≡ true → may_run s runs ≡ true → (is_busy_with step.Run busy && z) ≡ false → (begins e && z) ≡ false → (is_busy_with step.Run (lived b e (mk f steps n busy runs inst way cs hd o asked nx s)).life.busy && z) ≡ false
+module _ (f : Fitted) (steps : StepSet) (n : ℕ) (busy : Option Step) (runs inst : Bool) (way : Option After) (cs : List Child) (hd : Bool)
+    (o : Option (Step × Exit)) (asked : Option After) (nx : Option (Fitted × ℕ)) (z : Bool) where
+  pub run_at : (s : State) (e : LifeEvent) (b : Bool) → may_be_busy s busy ≡ true → may_run s runs ≡ true → (is_busy_with step.Run busy && z) ≡ false →
+      (begins e && z) ≡ false → (is_busy_with step.Run (lived b e (mk f steps n busy runs inst way cs hd o asked nx s)).life.busy && z) ≡ false
   run_at state.New event.MayBegin b k r h i = grind (arith, k, r, h, i)
   run_at state.New event.Retry b k r h i = grind (arith, k, r, h, i)
   run_at state.New event.Launched b k r h i = grind (arith, k, r, h, i)

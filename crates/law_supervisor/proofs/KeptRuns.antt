@@ -16,8 +16,11 @@ use Rattle.components.specs.Lives.{lived}
 use Rattle.lifecycle.specs.Life.{may_run}
 use Rattle.law_supervisor.proofs.Made.{mk}
 
-module _ (f : Fitted) (steps : StepSet) (n : ℕ) (busy : Option Step) (runs inst : Bool) (way : Option After) (cs : List Child) (hd : Bool) (o : Option (Step × Exit)) (asked : Option After) (nx : Option (Fitted × ℕ)) where
-  pub runs_at : (s : State) (e : LifeEvent) (b : Bool) → may_run s runs ≡ true → may_run (lived b e (mk f steps n busy runs inst way cs hd o asked nx s)).life.state (lived b e (mk f steps n busy runs inst way cs hd o asked nx s)).life.runs ≡ true
+module _ (f : Fitted) (steps : StepSet) (n : ℕ) (busy : Option Step) (runs inst : Bool) (way : Option After) (cs : List Child) (hd : Bool)
+    (o : Option (Step × Exit)) (asked : Option After) (nx : Option (Fitted × ℕ)) where
+  pub runs_at : (s : State) (e : LifeEvent) (b : Bool) → may_run s runs ≡ true →
+      may_run (lived b e (mk f steps n busy runs inst way cs hd o asked nx s)).life.state
+      (lived b e (mk f steps n busy runs inst way cs hd o asked nx s)).life.runs ≡ true
   runs_at state.New event.MayBegin b r = grind (arith, r)
   runs_at state.New event.Retry b r = grind (arith, r)
   runs_at state.New event.Launched b r = grind (arith, r)

@@ -17,8 +17,14 @@ use Rattle.std.specs.Prelude.{not, ◌||◌}
 use Rattle.law_supervisor.specs.Sound.{may_ask, is_waiting, is_to_begin_again}
 use Rattle.law_supervisor.proofs.Made.{mk, MayBefall}
 
-module _ (f : Fitted) (steps : StepSet) (n : ℕ) (busy : Option Step) (runs inst : Bool) (way : Option After) (cs : List Child) (hd : Bool) (o : Option (Step × Exit)) (asked : Option After) (nx : Option (Fitted × ℕ)) where
-  pub takes_at : (s : State) (e : LifeEvent) (b : Bool) → may_ask (under_way (mk f steps n busy runs inst way cs hd o asked nx s).life) asked ≡ true → MayBefall e (mk f steps n busy runs inst way cs hd o asked nx s) → (not (is_to_begin_again (mk f steps n busy runs inst way cs hd o asked nx s)) || (is_waiting (mk f steps n busy runs inst way cs hd o asked nx s) || is_gone asked)) ≡ true → (not (is_to_begin_again (lived b e (mk f steps n busy runs inst way cs hd o asked nx s))) || (is_waiting (lived b e (mk f steps n busy runs inst way cs hd o asked nx s)) || is_gone (lived b e (mk f steps n busy runs inst way cs hd o asked nx s)).stop)) ≡ true
+module _ (f : Fitted) (steps : StepSet) (n : ℕ) (busy : Option Step) (runs inst : Bool) (way : Option After) (cs : List Child) (hd : Bool)
+    (o : Option (Step × Exit)) (asked : Option After) (nx : Option (Fitted × ℕ)) where
+  pub takes_at : (s : State) (e : LifeEvent) (b : Bool) → may_ask (under_way (mk f steps n busy runs inst way cs hd o asked nx s).life) asked ≡ true →
+      MayBefall e (mk f steps n busy runs inst way cs hd o asked nx s) → (not (is_to_begin_again (mk f steps n busy runs inst way cs hd o asked nx s)) ||
+      (is_waiting (mk f steps n busy runs inst way cs hd o asked nx s) || is_gone asked)) ≡ true →
+      (not (is_to_begin_again (lived b e (mk f steps n busy runs inst way cs hd o asked nx s))) ||
+      (is_waiting (lived b e (mk f steps n busy runs inst way cs hd o asked nx s)) ||
+      is_gone (lived b e (mk f steps n busy runs inst way cs hd o asked nx s)).stop)) ≡ true
   takes_at state.New event.MayBegin b a m h = grind (arith, a, m, h)
   takes_at state.New event.Retry b a m h = grind (arith, a, m, h)
   takes_at state.New event.Launched b a m h = grind (arith, a, m, h)

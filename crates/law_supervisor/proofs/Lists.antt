@@ -32,7 +32,8 @@ no_some x e = absurd (cc)
 
 -- ---- by places, and by recursion
 
-pub from_places : (P : ComponentState → Type 0) (ps : List ComponentState) → ((k : ℕ) (p : ComponentState) → slice_get ps k ≡ Some p → P p) → AllByRecursion P ps
+pub from_places : (P : ComponentState → Type 0) (ps : List ComponentState) → ((k : ℕ) (p : ComponentState) → slice_get ps k ≡ Some p → P p) →
+    AllByRecursion P ps
 from_places P [] f = tt
 from_places P (p ∷ ps) f = (f 0 p refl, from_places P ps (λ k q e. f (suc k) q e))
 
@@ -43,12 +44,14 @@ at_places P (q ∷ qs) a (suc k) p e = at_places P qs a.1 k p e
 
 -- ---- one changes
 
-pub changed_all : (P : ComponentState → Type 0) (k : ℕ) (g : ComponentState → ComponentState) (ps : List ComponentState) → AllByRecursion P ps → ((p : ComponentState) → slice_get ps k ≡ Some p → P p → P (g p)) → AllByRecursion P (changed_at k g ps)
+pub changed_all : (P : ComponentState → Type 0) (k : ℕ) (g : ComponentState → ComponentState) (ps : List ComponentState) → AllByRecursion P ps →
+    ((p : ComponentState) → slice_get ps k ≡ Some p → P p → P (g p)) → AllByRecursion P (changed_at k g ps)
 changed_all P k g [] a f = tt
 changed_all P zero g (p ∷ ps) a f = (f p refl a.0, a.1)
 changed_all P (suc k) g (p ∷ ps) a f = (a.0, changed_all P k g ps a.1 f)
 
-pub changed_same : {X : Type 0} (v : ComponentState → X) (k : ℕ) (g : ComponentState → ComponentState) (ps : List ComponentState) → ((p : ComponentState) → slice_get ps k ≡ Some p → v (g p) ≡ v p) → map v (changed_at k g ps) ≡ map v ps
+pub changed_same : {X : Type 0} (v : ComponentState → X) (k : ℕ) (g : ComponentState → ComponentState) (ps : List ComponentState) →
+    ((p : ComponentState) → slice_get ps k ≡ Some p → v (g p) ≡ v p) → map v (changed_at k g ps) ≡ map v ps
 changed_same v k g [] f = refl
 changed_same v zero g (p ∷ ps) f = ap (λ x. x ∷ map v ps) (f p refl)
 changed_same v (suc k) g (p ∷ ps) f = ap (λ xs. v p ∷ xs) (changed_same v k g ps f)

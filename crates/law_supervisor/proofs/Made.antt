@@ -47,7 +47,8 @@ bad x e h = let y : is_good x ≡ true = ap is_good h in clash (is_good x) y e
     clash true e f = absurd (cc)
     clash false e f = absurd (cc)
 
-module _ (f : Fitted) (steps : StepSet) (n : ℕ) (busy : Option Step) (runs inst : Bool) (way : Option After) (cs : List Child) (hd : Bool) (o : Option (Step × Exit)) (asked : Option After) (nx : Option (Fitted × ℕ)) where
+module _ (f : Fitted) (steps : StepSet) (n : ℕ) (busy : Option Step) (runs inst : Bool) (way : Option After) (cs : List Child) (hd : Bool)
+    (o : Option (Step × Exit)) (asked : Option After) (nx : Option (Fitted × ℕ)) where
   -- a component that stands
   abbrev pub mk : State → ComponentState
   mk s = record {

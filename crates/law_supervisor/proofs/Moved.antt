@@ -28,14 +28,19 @@ Befalls e p = MayBefall e p × (ends_fairly e p ≡ true) × ((begins e && runs_
 
 pub moves_befall : (w : Components) (k : ℕ) (e : LifeEvent) → MayMove w k e → (p : ComponentState) → slice_get w.parts k ≡ Some p → IsSoundPart p → Befalls e p
 moves_befall w k event.MayBegin m p q s =
-    let y = and_parts (is_awaited event.MayBegin p.life && not (is_to_stop p)) (list_all (is_met stands_up w.parts) p.fitted.hard && list_all (is_met serves_softly w.parts) p.fitted.soft) (at_of (λ r. may_begin w r ≡ true) k w.parts p q m) in
+    let y = and_parts (is_awaited event.MayBegin p.life && not (is_to_stop p)) (list_all (is_met stands_up w.parts) p.fitted.hard &&
+    list_all (is_met serves_softly w.parts) p.fitted.soft) (at_of (λ r. may_begin w r ≡ true) k w.parts p q m) in
     let z = and_parts (is_awaited event.MayBegin p.life) (not (is_to_stop p)) y.0 in
     let t = not_so (is_to_stop p) z.1 in
     (t, refl, begins_alone p s t z.0)
 moves_befall w k event.Retry m p q s =
     let z = and_parts (is_awaited event.Retry p.life) (not (is_to_stop p)) (at_of (λ r. may_retry r ≡ true) k w.parts p q m) in
     (not_so (is_to_stop p) z.1, refl, refl)
-moves_befall w k (event.Stop a) m p q s = ((at_of (λ r. (may_stop w r ≡ true) × (r.stop ≡ Some a) × (spares (event.Stop a) r ≡ true)) k w.parts p q m).1, refl, refl)
+moves_befall w k (event.Stop a) m p q s = (
+  (at_of (λ r. (may_stop w r ≡ true) × (r.stop ≡ Some a) × (spares (event.Stop a) r ≡ true)) k w.parts p q m).1,
+  refl,
+  refl,
+)
 moves_befall w k event.Launched m p q s = absurd m
 moves_befall w k event.Skipped m p q s = absurd m
 moves_befall w k (event.Ended t x) m p q s = absurd m
@@ -46,4 +51,5 @@ moved_keeps d w v (m ∷ ms) q i = moved_keeps d (lived_at m.who m.what w) v ms 
 
 pub moved_owner : (n : ℕ) (w v : Components) (ms : List Move) → Quietly w ms v → owner n v.parts ≡ owner n w.parts
 moved_owner n w v [] q = subst (λ (u : Components). owner n u.parts ≡ owner n w.parts) (sym q) refl
-moved_owner n w v (m ∷ ms) q = moved_owner n (lived_at m.who m.what w) v ms q.2 ∙ same_owner n w.parts (lived_at m.who m.what w).parts (event_children m.who m.what w)
+moved_owner n w v (m ∷ ms) q = moved_owner n (lived_at m.who m.what w) v ms q.2 ∙ same_owner n w.parts (lived_at m.who m.what w).parts
+    (event_children m.who m.what w)

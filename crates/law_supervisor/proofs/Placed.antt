@@ -12,7 +12,8 @@ use Rattle.components.specs.Components.{Components, ComponentState, Child, compo
 use Rattle.components.specs.Marks.{flagged, may_replan}
 use Rattle.components.specs.Turns.{owes}
 use Rattle.components.specs.Answers.{living_numbers, child_numbers}
-use Rattle.components.specs.Changes.{Coming, counted, coming_for, fresh_part, leaving, is_replaced, with_texts, staying, coming_again, meeting, fate, standing, is_replacing, replanned, newcomers, placed, with_newcomers, changed_to}
+use Rattle.components.specs.Changes.{Coming, counted, coming_for, fresh_part, leaving, is_replaced, with_texts, staying, coming_again, meeting, fate}
+use Rattle.components.specs.Changes.{standing, is_replacing, replanned, newcomers, placed, with_newcomers, changed_to}
 use Rattle.law_supervisor.specs.Sound.{HaveOwnNames}
 use Rattle.law_supervisor.specs.Keeps.{ItemsDiffer, IsTold, Owns}
 use Rattle.law_supervisor.proofs.Lists.{clash, some_same, no_some, from_places, at_places}
@@ -50,7 +51,13 @@ same_meeting n p e = go p.life.gone (is_replaced n.0 p) (stops_for_good (with_te
     t : ((with_texts n.0 p).children ≡ p.children) × ((with_texts n.0 p).owed ≡ p.owed)
     t = texts_children n.0 p
 
-    go : (g y z : Bool) → Same p (if g then coming_again n p else (if y then (let q : ComponentState = with_texts n.0 p in if z then record q { life = record q.life { stop = Some after.Again }; stop = None; next = Some n } else record q { stop = Some after.Again; next = Some n }) else staying n (with_texts n.0 p)))
+    go : (g y z : Bool) → Same p (if g then coming_again n p
+        else (if y then (let q : ComponentState = with_texts n.0 p in if z then record q {
+          life = record q.life { stop = Some after.Again };
+          stop =
+              None;
+          next = Some n;
+        } else record q { stop = Some after.Again; next = Some n }) else staying n (with_texts n.0 p)))
     go true y z = record { name = e; children = refl; owed = λ o. refl }
     go false true true = record { name = texts_named n.0 p e; children = t.0; owed = λ o. t.1 ∙ o }
     go false true false = record { name = texts_named n.0 p e; children = t.0; owed = λ o. t.1 ∙ o }
@@ -58,7 +65,8 @@ same_meeting n p e = go p.life.gone (is_replaced n.0 p) (stops_for_good (with_te
 
 found_name : (own : List ℕ) (ns : List Coming) → IfSome (coming_for own ns) (λ n. name_of n.0 ≡ own)
 found_name own [] = tt
-found_name own (n ∷ ns) = elim (bytes_eq own (name_of n.0)) as (λ (y : Bool). bytes_eq own (name_of n.0) ≡ y → IfSome (if y then Some n else coming_for own ns) (λ m. name_of m.0 ≡ own))
+found_name own (n ∷ ns) = elim (bytes_eq own (name_of n.0)) as (λ (y : Bool). bytes_eq own (name_of n.0) ≡ y →
+    IfSome (if y then Some n else coming_for own ns) (λ m. name_of m.0 ≡ own))
     [ true ↦ λ e. sym ((bytes_eq-Decides own (name_of n.0)).0 e) | false ↦ λ e. found_name own ns ] refl
 
 same_fate : (ns : List Coming) (p : ComponentState) → Same p (fate ns p)
@@ -68,24 +76,28 @@ same_fate ns p = go (coming_for (component_name p) ns) (found_name (component_na
     go None h = same_leaving p
     go (Some n) h = same_meeting n p h
 
-same_fates : {X : Type 0} (v : ComponentState → X) → ((p q : ComponentState) → Same p q → v q ≡ v p) → (ns : List Coming) (ps : List ComponentState) → map v (map (fate ns) ps) ≡ map v ps
+same_fates : {X : Type 0} (v : ComponentState → X) → ((p q : ComponentState) → Same p q → v q ≡ v p) → (ns : List Coming) (ps : List ComponentState) →
+    map v (map (fate ns) ps) ≡ map v ps
 same_fates v m ns [] = refl
 same_fates v m ns (p ∷ ps) = ap (λ x. x ∷ map v (map (fate ns) ps)) (m p (fate ns p) (same_fate ns p)) ∙ ap (λ xs. v p ∷ xs) (same_fates v m ns ps)
 
-same_replanned : {X : Type 0} (v : ComponentState → X) → ((p : ComponentState) → v (record p { stop = Some after.Restart }) ≡ v p) → (ps : List ComponentState) → map v (replanned ps) ≡ map v ps
+same_replanned : {X : Type 0} (v : ComponentState → X) → ((p : ComponentState) → v (record p { stop = Some after.Restart }) ≡ v p) →
+    (ps : List ComponentState) → map v (replanned ps) ≡ map v ps
 same_replanned v m ps = restarted_same v m may_replan (flagged is_replacing ps) ∙ ap (λ (qs : List ComponentState). map v qs) (firsts_flagged is_replacing ps)
 
-same_planned : {X : Type 0} (v : ComponentState → X) → ((p : ComponentState) → v (record p { stop = Some after.Restart }) ≡ v p) → ((p q : ComponentState) → Same p q → v q ≡ v p) → (ns : List Coming) (ps : List ComponentState) → map v (replanned (map (fate ns) ps)) ≡ map v ps
+same_planned : {X : Type 0} (v : ComponentState → X) → ((p : ComponentState) → v (record p { stop = Some after.Restart }) ≡ v p) →
+    ((p q : ComponentState) → Same p q → v q ≡ v p) → (ns : List Coming) (ps : List ComponentState) → map v (replanned (map (fate ns) ps)) ≡ map v ps
 same_planned v m f ns ps = same_replanned v m (map (fate ns) ps) ∙ same_fates v f ns ps
 
 -- ---- children
 
 placed_living : (p : ComponentState) (qs : List ComponentState) → p.children ≡ [] → living_numbers (placed p qs) ≡ living_numbers qs
 placed_living p [] e = ap (λ (cs : List Child). child_numbers cs ++ []) e
-placed_living p (q ∷ qs) e = elim (is_before (component_name p) (component_name q)) as (λ (y : Bool). living_numbers (if y then p ∷ q ∷ qs else q ∷ placed p qs) ≡ living_numbers (q ∷ qs)) [
-  | true ↦ ap (λ (cs : List Child). child_numbers cs ++ living_numbers (q ∷ qs)) e
-  | false ↦ ap (λ (ns : List ℕ). child_numbers q.children ++ ns) (placed_living p qs e)
-]
+placed_living p (q ∷ qs) e = elim (is_before (component_name p) (component_name q))
+    as (λ (y : Bool). living_numbers (if y then p ∷ q ∷ qs else q ∷ placed p qs) ≡ living_numbers (q ∷ qs)) [
+      | true ↦ ap (λ (cs : List Child). child_numbers cs ++ living_numbers (q ∷ qs)) e
+      | false ↦ ap (λ (ns : List ℕ). child_numbers q.children ++ ns) (placed_living p qs e)
+    ]
 
 newcomers_living : (ns ps : List ComponentState) → AllByRecursion (λ p. p.children ≡ []) ns → living_numbers (with_newcomers ns ps) ≡ living_numbers ps
 newcomers_living [] ps a = refl
@@ -99,16 +111,22 @@ standing_living : (ps : List ComponentState) → living_numbers (standing ps) �
 standing_living [] = refl
 standing_living (p ∷ ps) = go p.life.gone p.children refl (standing_living ps)
   where
-    go : (g : Bool) (cs : List Child) → p.children ≡ cs → living_numbers (standing ps) ≡ living_numbers ps → living_numbers (if not (g && elim cs [ [] ↦ true | ◌∷◌ c ds ↦ false ]) then p ∷ standing ps else standing ps) ≡ child_numbers p.children ++ living_numbers ps
+    go : (g : Bool) (cs : List Child) → p.children ≡ cs → living_numbers (standing ps) ≡ living_numbers ps →
+        living_numbers (if not (g && elim cs [ [] ↦ true | ◌∷◌ c ds ↦ false ]) then p ∷ standing ps else standing ps) ≡ child_numbers p.children
+        ++ living_numbers ps
     go false cs e rest = ap (λ (ns : List ℕ). child_numbers p.children ++ ns) rest
     go true [] e rest = rest ∙ ap (λ (ds : List Child). child_numbers ds ++ living_numbers ps) (sym e)
     go true (c ∷ cs) e rest = ap (λ (ns : List ℕ). child_numbers p.children ++ ns) rest
 
-pub changed_living : (items : List Fitted) (counts : List ℕ) (steady : Bool) (w : Components) → living_numbers (changed_to items counts steady w).parts ≡ living_numbers w.parts
+pub changed_living : (items : List Fitted) (counts : List ℕ) (steady : Bool) (w : Components) → living_numbers (changed_to items counts steady w).parts
+    ≡ living_numbers w.parts
 changed_living items counts steady w =
     let ns = counted 0 counts items in
-    newcomers_living (newcomers ns (standing w.parts)) (replanned (map (fate ns) (standing w.parts))) (fresh_all (λ p. p.children ≡ []) (λ n. refl) (filter (λ (n : Coming). not (list_any (λ p. bytes_eq (component_name p) (name_of n.0)) (standing w.parts))) ns))
-    ∙ same_living (standing w.parts) (replanned (map (fate ns) (standing w.parts))) (same_planned (λ p. p.children) (λ p. refl) (λ p q s. s.children) ns (standing w.parts))
+    newcomers_living (newcomers ns (standing w.parts)) (replanned (map (fate ns) (standing w.parts)))
+    (fresh_all (λ p. p.children ≡ []) (λ n. refl) (filter
+    (λ (n : Coming). not (list_any (λ p. bytes_eq (component_name p) (name_of n.0)) (standing w.parts))) ns))
+    ∙ same_living (standing w.parts) (replanned (map (fate ns) (standing w.parts)))
+    (same_planned (λ p. p.children) (λ p. refl) (λ p q s. s.children) ns (standing w.parts))
     ∙ standing_living w.parts
 
 pub changed_owns : (n : ℕ) (items : List Fitted) (counts : List ℕ) (steady : Bool) (w : Components) → Owns (changed_to items counts steady w) n ↔ Owns w n
@@ -131,8 +149,10 @@ fates_owed ns (p ∷ ps) a = ((same_fate ns p).owed a.0, fates_owed ns ps a.1)
 pub changed_told : (items : List Fitted) (counts : List ℕ) (steady : Bool) (w : Components) → IsTold w → IsTold (changed_to items counts steady w)
 changed_told items counts steady w t =
     let ns = counted 0 counts items in
-    owed_any (changed_to items counts steady w).parts (newcomers_all (λ p. p.owed ≡ None) (newcomers ns (standing w.parts)) (replanned (map (fate ns) (standing w.parts)))
-    (fresh_all (λ p. p.owed ≡ None) (λ n. refl) (filter (λ (n : Coming). not (list_any (λ p. bytes_eq (component_name p) (name_of n.0)) (standing w.parts))) ns))
+    owed_any (changed_to items counts steady w).parts (newcomers_all (λ p. p.owed ≡ None) (newcomers ns (standing w.parts))
+    (replanned (map (fate ns) (standing w.parts)))
+    (fresh_all (λ p. p.owed ≡ None) (λ n. refl) (filter (λ (n : Coming). not (list_any (λ p. bytes_eq (component_name p) (name_of n.0)) (standing w.parts)))
+    ns))
     (restarted_all (λ p. p.owed ≡ None) (λ p m e. e) may_replan same_may (flagged is_replacing (map (fate ns) (standing w.parts)))
     (subst (λ (qs : List ComponentState). AllByRecursion (λ p. p.owed ≡ None) qs) (sym (firsts_flagged is_replacing (map (fate ns) (standing w.parts))))
     (fates_owed ns (standing w.parts) (standing_all (λ p. p.owed ≡ None) w.parts (from_places (λ p. p.owed ≡ None) w.parts (told_each w.parts t)))))))
@@ -172,7 +192,8 @@ standing_apart [] a = tt
 standing_apart (p ∷ ps) a = elim (is_over p) as (λ (y : Bool). Apart (if not y then p ∷ standing ps else standing ps))
     [ true ↦ standing_apart ps a.1 | false ↦ (standing_all (Others (component_name p)) ps a.0, standing_apart ps a.1) ]
 
-by_names : (n : List ℕ) (ps qs : List ComponentState) → map component_name qs ≡ map component_name ps → AllByRecursion (Others n) ps → AllByRecursion (Others n) qs
+by_names : (n : List ℕ) (ps qs : List ComponentState) → map component_name qs ≡ map component_name ps → AllByRecursion (Others n) ps →
+    AllByRecursion (Others n) qs
 by_names n ps qs e a = back qs (subst (λ (ms : List (List ℕ)). AllByRecursion (λ m. m ≢ n) ms) (sym e) (forth ps a))
   where
     forth : (rs : List ComponentState) → AllByRecursion (Others n) rs → AllByRecursion (λ m. m ≢ n) (map component_name rs)
@@ -209,38 +230,51 @@ placed_apart p (q ∷ qs) a b = elim (is_before (component_name p) (component_na
   | false ↦ (placed_all (Others (component_name q)) p qs (λ e. a.0 (sym e)) b.0, placed_apart p qs a.1 b.1)
 ]
 
-newcomers_apart : (ns ps : List ComponentState) → Apart ns → AllByRecursion (λ n. AllByRecursion (Others (component_name n)) ps) ns → Apart ps → Apart (with_newcomers ns ps)
+newcomers_apart : (ns ps : List ComponentState) → Apart ns → AllByRecursion (λ n. AllByRecursion (Others (component_name n)) ps) ns → Apart ps →
+    Apart (with_newcomers ns ps)
 newcomers_apart [] ps a f b = b
-newcomers_apart (n ∷ ns) ps a f b = placed_apart n (with_newcomers ns ps) (newcomers_all (Others (component_name n)) ns ps a.0 f.0) (newcomers_apart ns ps a.1 f.1 b)
+newcomers_apart (n ∷ ns) ps a f b = placed_apart n (with_newcomers ns ps) (newcomers_all (Others (component_name n)) ns ps a.0 f.0)
+    (newcomers_apart ns ps a.1 f.1 b)
 
 -- ---- the items
 
 module _ (test : Coming → Bool) (counts : List ℕ) where
-  fresh_others : (n : List ℕ) (j : ℕ) (fs : List Fitted) → AllByRecursion (λ (g : Fitted). name_of g ≢ n) fs → AllByRecursion (Others n) (map fresh_part (filter test (counted j counts fs)))
+  fresh_others : (n : List ℕ) (j : ℕ) (fs : List Fitted) → AllByRecursion (λ (g : Fitted). name_of g ≢ n) fs →
+      AllByRecursion (Others n) (map fresh_part (filter test (counted j counts fs)))
   fresh_others n j [] a = tt
   fresh_others n j (f ∷ fs) a = keep (f, get_or counts j 0) a.0 (fresh_others n (suc j) fs a.1)
     where
-      keep : (c : Coming) → (name_of c.0 ≢ n) → AllByRecursion (Others n) (map fresh_part (filter test (counted (suc j) counts fs))) → AllByRecursion (Others n) (map fresh_part (filter test (c ∷ counted (suc j) counts fs)))
-      keep c h r = elim (test c) as (λ (y : Bool). AllByRecursion (Others n) (map fresh_part (if y then c ∷ filter test (counted (suc j) counts fs) else filter test (counted (suc j) counts fs)))) [ true ↦ (h, r) | false ↦ r ]
+      keep : (c : Coming) → (name_of c.0 ≢ n) → AllByRecursion (Others n) (map fresh_part (filter test (counted (suc j) counts fs))) →
+          AllByRecursion (Others n) (map fresh_part (filter test (c ∷ counted (suc j) counts fs)))
+      keep c h r = elim (test c) as (λ (y : Bool). AllByRecursion (Others n)
+          (map fresh_part (if y then c ∷ filter test (counted (suc j) counts fs) else filter test (counted (suc j) counts fs)))) [ true ↦ (h, r) | false ↦ r ]
 
   fresh_apart : (j : ℕ) (fs : List Fitted) → ItemsDiffer fs → Apart (map fresh_part (filter test (counted j counts fs)))
   fresh_apart j [] d = tt
-  fresh_apart j (f ∷ fs) d = keep (f, get_or counts j 0) (fresh_others (name_of f) (suc j) fs (items_others fs (λ k g e n. let z = d 0 (suc k) f g refl e (sym n) in absurd (omega (arith, z)))))
+  fresh_apart j (f ∷ fs) d = keep (f, get_or counts j 0) (fresh_others (name_of f) (suc j) fs
+      (items_others fs (λ k g e n. let z = d 0 (suc k) f g refl e (sym n) in absurd (omega (arith, z)))))
       (fresh_apart (suc j) fs (λ i k g h a b n. let z = d (suc i) (suc k) g h a b n in let y : i ≡ k = omega (arith, z) in y))
     where
-      items_others : (gs : List Fitted) → ((k : ℕ) (g : Fitted) → slice_get gs k ≡ Some g → name_of g ≢ name_of f) → AllByRecursion (λ (g : Fitted). name_of g ≢ name_of f) gs
+      items_others : (gs : List Fitted) → ((k : ℕ) (g : Fitted) → slice_get gs k ≡ Some g → name_of g ≢ name_of f) →
+          AllByRecursion (λ (g : Fitted). name_of g ≢ name_of f) gs
       items_others [] h = tt
       items_others (g ∷ gs) h = (h 0 g refl, items_others gs (λ k x e. h (suc k) x e))
 
-      keep : (c : Coming) → AllByRecursion (Others (name_of c.0)) (map fresh_part (filter test (counted (suc j) counts fs))) → Apart (map fresh_part (filter test (counted (suc j) counts fs))) → Apart (map fresh_part (filter test (c ∷ counted (suc j) counts fs)))
-      keep c h r = elim (test c) as (λ (y : Bool). Apart (map fresh_part (if y then c ∷ filter test (counted (suc j) counts fs) else filter test (counted (suc j) counts fs)))) [ true ↦ (h, r) | false ↦ r ]
+      keep : (c : Coming) → AllByRecursion (Others (name_of c.0)) (map fresh_part (filter test (counted (suc j) counts fs))) →
+          Apart (map fresh_part (filter test (counted (suc j) counts fs))) → Apart (map fresh_part (filter test (c ∷ counted (suc j) counts fs)))
+      keep c h r = elim (test c) as (λ (y : Bool). Apart (map fresh_part
+          (if y then c ∷ filter test (counted (suc j) counts fs) else filter test (counted (suc j) counts fs)))) [ true ↦ (h, r) | false ↦ r ]
 
 -- who did not stand before has none of the names
 not_met : (ps qs : List ComponentState) → map component_name qs ≡ map component_name ps → (ns : List Coming)
-    → AllByRecursion (λ n. AllByRecursion (Others (component_name n)) qs) (map fresh_part (filter (λ (n : Coming). not (list_any (λ p. bytes_eq (component_name p) (name_of n.0)) ps)) ns))
+    → AllByRecursion (λ n. AllByRecursion (Others (component_name n)) qs)
+    (map fresh_part (filter (λ (n : Coming). not (list_any (λ p. bytes_eq (component_name p) (name_of n.0)) ps)) ns))
 not_met ps qs e [] = tt
-not_met ps qs e (n ∷ ns) = elim (list_any (λ p. bytes_eq (component_name p) (name_of n.0)) ps) as (λ (y : Bool). list_any (λ p. bytes_eq (component_name p) (name_of n.0)) ps ≡ y
-    → AllByRecursion (λ m. AllByRecursion (Others (component_name m)) qs) (map fresh_part (if not y then n ∷ filter (λ (m : Coming). not (list_any (λ p. bytes_eq (component_name p) (name_of m.0)) ps)) ns else filter (λ (m : Coming). not (list_any (λ p. bytes_eq (component_name p) (name_of m.0)) ps)) ns))) [
+not_met ps qs e (n ∷ ns) = elim (list_any (λ p. bytes_eq (component_name p) (name_of n.0)) ps)
+    as (λ (y : Bool). list_any (λ p. bytes_eq (component_name p) (name_of n.0)) ps ≡ y
+    → AllByRecursion (λ m. AllByRecursion (Others (component_name m)) qs)
+    (map fresh_part (if not y then n ∷ filter (λ (m : Coming). not (list_any (λ p. bytes_eq (component_name p) (name_of m.0)) ps)) ns else filter
+    (λ (m : Coming). not (list_any (λ p. bytes_eq (component_name p) (name_of m.0)) ps)) ns))) [
       | true ↦ λ h. not_met ps qs e ns
       | false ↦ λ h. (by_names (name_of n.0) ps qs e (none ps h), not_met ps qs e ns)
     ] refl
@@ -250,7 +284,8 @@ not_met ps qs e (n ∷ ns) = elim (list_any (λ p. bytes_eq (component_name p) (
     none (r ∷ rs) h = let x = or_parts (bytes_eq (component_name r) (name_of n.0)) (list_any (λ p. bytes_eq (component_name p) (name_of n.0)) rs) h in
         ((λ y. clash (bytes_eq (component_name r) (name_of n.0)) ((bytes_eq-Decides (component_name r) (name_of n.0)).1 y) x.0), none rs x.1)
 
-pub changed_names : (items : List Fitted) (counts : List ℕ) (steady : Bool) (w : Components) → ItemsDiffer items → HaveOwnNames w.parts → HaveOwnNames (changed_to items counts steady w).parts
+pub changed_names : (items : List Fitted) (counts : List ℕ) (steady : Bool) (w : Components) → ItemsDiffer items → HaveOwnNames w.parts →
+    HaveOwnNames (changed_to items counts steady w).parts
 changed_names items counts steady w d h =
     let ns = counted 0 counts items in
     let same = same_planned component_name (λ p. refl) (λ p q s. s.name) ns (standing w.parts) in

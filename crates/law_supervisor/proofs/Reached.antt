@@ -48,24 +48,31 @@ same_may p e = e
 abbrev pub Marks : (ComponentState → Type 0) → Type 0
 Marks P = (p : ComponentState) → may_replan p ≡ true → P p → P (record p { stop = Some after.Restart })
 
-marked_all : (P : ComponentState → Type 0) → Marks P → (may : ComponentState → Bool) → ((p : ComponentState) → may p ≡ true → may_replan p ≡ true) → (fs : Flagged) → AllByRecursion P (firsts fs) → AllByRecursion P (marked may fs)
+marked_all : (P : ComponentState → Type 0) → Marks P → (may : ComponentState → Bool) → ((p : ComponentState) → may p ≡ true → may_replan p ≡ true) →
+    (fs : Flagged) → AllByRecursion P (firsts fs) → AllByRecursion P (marked may fs)
 marked_all P m may f [] a = tt
-marked_all P m may f (x ∷ fs) a = elim (x.1 && may x.0) as (λ (y : Bool). (x.1 && may x.0) ≡ y → AllByRecursion P ((if y then record x.0 { stop = Some after.Restart } else x.0) ∷ marked may fs)) [
-  | true ↦ λ e. (m x.0 (f x.0 (and_parts x.1 (may x.0) e).1) a.0, marked_all P m may f fs a.1)
-  | false ↦ λ e. (a.0, marked_all P m may f fs a.1)
-] refl
+marked_all P m may f (x ∷ fs) a = elim (x.1 && may x.0) as (λ (y : Bool). (x.1 && may x.0) ≡ y →
+    AllByRecursion P ((if y then record x.0 { stop = Some after.Restart } else x.0) ∷ marked may fs)) [
+      | true ↦ λ e. (m x.0 (f x.0 (and_parts x.1 (may x.0) e).1) a.0, marked_all P m may f fs a.1)
+      | false ↦ λ e. (a.0, marked_all P m may f fs a.1)
+    ] refl
 
 -- what holds of each, and a mark keeps, holds of each behind the marks
-pub restarted_all : (P : ComponentState → Type 0) → Marks P → (may : ComponentState → Bool) → ((p : ComponentState) → may p ≡ true → may_replan p ≡ true) → (fs : Flagged) → AllByRecursion P (firsts fs) → AllByRecursion P (restarted may fs)
-restarted_all P m may f fs a = marked_all P m may f (reaching (length fs) fs) (subst (λ (ps : List ComponentState). AllByRecursion P ps) (sym (firsts_reaching (length fs) fs)) a)
+pub restarted_all : (P : ComponentState → Type 0) → Marks P → (may : ComponentState → Bool) → ((p : ComponentState) → may p ≡ true → may_replan p ≡ true) →
+    (fs : Flagged) → AllByRecursion P (firsts fs) → AllByRecursion P (restarted may fs)
+restarted_all P m may f fs a = marked_all P m may f (reaching (length fs) fs)
+    (subst (λ (ps : List ComponentState). AllByRecursion P ps) (sym (firsts_reaching (length fs) fs)) a)
 
-marked_same : {X : Type 0} (v : ComponentState → X) → ((p : ComponentState) → v (record p { stop = Some after.Restart }) ≡ v p) → (may : ComponentState → Bool) (fs : Flagged) → map v (marked may fs) ≡ map v (firsts fs)
+marked_same : {X : Type 0} (v : ComponentState → X) → ((p : ComponentState) → v (record p { stop = Some after.Restart }) ≡ v p) →
+    (may : ComponentState → Bool) (fs : Flagged) → map v (marked may fs) ≡ map v (firsts fs)
 marked_same v m may [] = refl
-marked_same v m may (x ∷ fs) = elim (x.1 && may x.0) as (λ (y : Bool). map v ((if y then record x.0 { stop = Some after.Restart } else x.0) ∷ marked may fs) ≡ map v (x.0 ∷ firsts fs)) [
-  | true ↦ ap (λ z. z ∷ map v (marked may fs)) (m x.0) ∙ ap (λ zs. v x.0 ∷ zs) (marked_same v m may fs)
-  | false ↦ ap (λ zs. v x.0 ∷ zs) (marked_same v m may fs)
-]
+marked_same v m may (x ∷ fs) = elim (x.1 && may x.0) as (λ (y : Bool). map v ((if y then record x.0 { stop = Some after.Restart } else x.0) ∷ marked may fs)
+    ≡ map v (x.0 ∷ firsts fs)) [
+      | true ↦ ap (λ z. z ∷ map v (marked may fs)) (m x.0) ∙ ap (λ zs. v x.0 ∷ zs) (marked_same v m may fs)
+      | false ↦ ap (λ zs. v x.0 ∷ zs) (marked_same v m may fs)
+    ]
 
 -- what no mark changes stays as it is
-pub restarted_same : {X : Type 0} (v : ComponentState → X) → ((p : ComponentState) → v (record p { stop = Some after.Restart }) ≡ v p) → (may : ComponentState → Bool) (fs : Flagged) → map v (restarted may fs) ≡ map v (firsts fs)
+pub restarted_same : {X : Type 0} (v : ComponentState → X) → ((p : ComponentState) → v (record p { stop = Some after.Restart }) ≡ v p) →
+    (may : ComponentState → Bool) (fs : Flagged) → map v (restarted may fs) ≡ map v (firsts fs)
 restarted_same v m may fs = marked_same v m may (reaching (length fs) fs) ∙ ap (λ (ps : List ComponentState). map v ps) (firsts_reaching (length fs) fs)

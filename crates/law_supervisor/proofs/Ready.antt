@@ -1,5 +1,6 @@
 -- Items that were made ready have the places of the items that they were made from.
-use Rattle.std.proofs.Common.{◌≡◌, ◌<◌, ◌≤◌, ◌+◌, ◌⊎◌, inl, inr, ℕ, suc, zero, List, [], ◌∷◌, map, length, Option, Some, None, true, refl, sym, ap, ◌∙◌, arith, subst}
+use Rattle.std.proofs.Common.{◌≡◌, ◌<◌, ◌≤◌, ◌+◌, ◌⊎◌, inl, inr, ℕ, suc, zero, List, [], ◌∷◌, map, length, Option, Some, None, true, refl, sym, ap, ◌∙◌}
+use Rattle.std.proofs.Common.{arith, subst}
 use Rattle.std.specs.Prelude.{slice_get, get_or, option_map, option_and_then}
 use Rattle.std.specs.List.{All}
 use Rattle.std.specs.Ordering.{nat_cmp, is_eq}
@@ -29,14 +30,18 @@ not_below n e = clash (bytes_eq n n) ((bytes_eq-Decides n n).1 refl) (sym (is_eq
 named : (items : List Item) (k : ℕ) (i : Item) → slice_get items k ≡ Some i → slice_get (map item_name items) k ≡ Some (item_name i)
 named items k i e = slice_get-map item_name items k ∙ ap (option_map item_name) e
 
-rise_once : (items : List Item) → Rise (map item_name items) → (j k : ℕ) (a b : Item) → slice_get items j ≡ Some a → slice_get items k ≡ Some b → item_name a ≡ item_name b → j < k → ⊥
+rise_once : (items : List Item) → Rise (map item_name items) → (j k : ℕ) (a b : Item) → slice_get items j ≡ Some a → slice_get items k ≡ Some b →
+    item_name a ≡ item_name b → j < k → ⊥
 rise_once items r j k a b x y n l =
-    let m = Less-from_sorted (slice_cmp nat_cmp) (map item_name items) j k [] r l (slice_get_within (map item_name items) k (item_name b) (named items k b y)) in
+    let m = Less-from_sorted (slice_cmp nat_cmp) (map item_name items) j k [] r l (slice_get_within (map item_name items) k (item_name b) (named items k b y))
+    in
     let p = get_or_from_slice_get (map item_name items) j (item_name a) [] (named items j a x) in
     let q = get_or_from_slice_get (map item_name items) k (item_name b) [] (named items k b y) in
-    not_below (item_name b) (subst (λ (c : List ℕ). slice_cmp nat_cmp c (item_name b) ≡ Less) (p ∙ n) (subst (λ (c : List ℕ). slice_cmp nat_cmp (get_or (map item_name items) j []) c ≡ Less) q m))
+    not_below (item_name b) (subst (λ (c : List ℕ). slice_cmp nat_cmp c (item_name b) ≡ Less) (p ∙ n)
+    (subst (λ (c : List ℕ). slice_cmp nat_cmp (get_or (map item_name items) j []) c ≡ Less) q m))
 
-same_place : (items : List Item) → Rise (map item_name items) → (j k : ℕ) (a b : Item) → slice_get items j ≡ Some a → slice_get items k ≡ Some b → item_name a ≡ item_name b → j ≡ k
+same_place : (items : List Item) → Rise (map item_name items) → (j k : ℕ) (a b : Item) → slice_get items j ≡ Some a → slice_get items k ≡ Some b →
+    item_name a ≡ item_name b → j ≡ k
 same_place items r j k a b x y n = elim (three j k) [
   | inl l ↦ absurd (rise_once items r j k a b x y n l)
   | inr o ↦ elim o [ inl e ↦ e | inr l ↦ absurd (rise_once items r k j b a y x (sym n) l) ]
@@ -46,11 +51,19 @@ same_place items r j k a b x y n = elim (three j k) [
     three zero zero = inr (inl refl)
     three zero (suc k) = inl (omega arith)
     three (suc j) zero = inr (inr (omega arith))
-    three (suc j) (suc k) = elim (three j k) [ inl l ↦ inl (omega (arith, l)) | inr o ↦ elim o [ inl e ↦ inr (inl (ap suc e)) | inr l ↦ inr (inr (omega (arith, l))) ] ]
+    three (suc j) (suc k) = elim (three j k) [
+      | inl l ↦ inl (omega (arith, l))
+      | inr o ↦ elim o [
+        | inl e ↦ inr (inl (ap suc e))
+        | inr l ↦ inr
+            (inr (omega (arith, l)))
+      ]
+    ]
 
 -- ---- the place of a name
 
-place_is : (j k : ℕ) (n : List ℕ) (items : List Item) (i : Item) → slice_get items k ≡ Some i → item_name i ≡ n → ((m : ℕ) (a : Item) → slice_get items m ≡ Some a → item_name a ≡ n → m ≡ k) → place_from j n items ≡ Some (j + k)
+place_is : (j k : ℕ) (n : List ℕ) (items : List Item) (i : Item) → slice_get items k ≡ Some i → item_name i ≡ n →
+    ((m : ℕ) (a : Item) → slice_get items m ≡ Some a → item_name a ≡ n → m ≡ k) → place_from j n items ≡ Some (j + k)
 place_is j k n [] i e s u = no_some i e
 place_is j zero n (x ∷ items) i e s u =
     let y : bytes_eq n x.name ≡ true = (bytes_eq-Decides n x.name).1 (sym (ap item_name (some_same x i e) ∙ s)) in
@@ -65,13 +78,15 @@ place_is j (suc k) n (x ∷ items) i e s u =
 
 -- ---- items that were made ready
 
-item_at : (o : Origin) (items : List Item) (fitted : List Fitted) → AreFitted o items fitted → (k : ℕ) (f : Fitted) → slice_get fitted k ≡ Some f → slice_get items k ≡ Some f.item
+item_at : (o : Origin) (items : List Item) (fitted : List Fitted) → AreFitted o items fitted → (k : ℕ) (f : Fitted) → slice_get fitted k ≡ Some f →
+    slice_get items k ≡ Some f.item
 item_at o items fitted a k f e = let x = a.each k f e in x.is_scope.there ∙ ap (λ (i : Item). Some i) (sym x.item)
 
 pub ready_differ : (o : Origin) (items : List Item) (fitted : List Fitted) → Rise (map item_name items) → AreFitted o items fitted → ItemsDiffer fitted
 ready_differ o items fitted r a = λ j k f g x y n. same_place items r j k f.item g.item (item_at o items fitted a j f x) (item_at o items fitted a k g y) n
 
-pub ready_counted : (o : Origin) (d : Device) (q : Pending) (items : List Item) (fitted : List Fitted) → d.pending ≡ Some q → running d.set q ≡ Some items → Rise (map item_name items)
+pub ready_counted : (o : Origin) (d : Device) (q : Pending) (items : List Item) (fitted : List Fitted) → d.pending ≡ Some q → running d.set q ≡ Some items →
+    Rise (map item_name items)
     → AreFitted o items fitted → length items ≤ length q.failures → All (λ (n : ℕ). n < 3) q.failures → AreCounted d fitted q.failures
 ready_counted o d q items fitted p s r a l u = λ k f e.
     let i = item_at o items fitted a k f e in

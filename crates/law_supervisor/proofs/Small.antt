@@ -65,10 +65,22 @@ pub stands_orderly : (m : Prepared) → IsOrderly (stands m)
 stands_orderly m = record { sound = sound; differ = tt; names = names }
   where
     sound : (k : ℕ) (p : ComponentState) → slice_get (stands m).parts k ≡ Some p → IsSoundPart p
-    sound zero p e = subst IsSoundPart (some_same _ p e) (record { few = omega arith; busy = refl; runs = refl; run = refl; bare = refl; asks = refl; waits = refl; takes = refl; coming = tt })
+    sound zero p e = subst IsSoundPart (some_same _ p e) (record {
+      few = omega arith;
+      busy = refl;
+      runs = refl;
+      run = refl;
+      bare = refl;
+      asks = refl;
+      waits =
+          refl;
+      takes = refl;
+      coming = tt;
+    })
     sound (suc k) p e = no_some p e
 
-    names : (j k : ℕ) (p q : ComponentState) → slice_get (stands m).parts j ≡ Some p → slice_get (stands m).parts k ≡ Some q → component_name p ≡ component_name q → j ≡ k
+    names : (j k : ℕ) (p q : ComponentState) → slice_get (stands m).parts j ≡ Some p → slice_get (stands m).parts k ≡ Some q →
+        component_name p ≡ component_name q → j ≡ k
     names zero zero p q a b n = refl
     names zero (suc k) p q a b n = no_some q b
     names (suc j) k p q a b n = no_some p a

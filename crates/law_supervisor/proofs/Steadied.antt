@@ -29,7 +29,8 @@ still_waits : (o : Option (Fitted × ℕ)) → is_some (option_map none_failed o
 still_waits None = refl
 still_waits (Some n) = refl
 
-still_coming : (own : List ℕ) (o : Option (Fitted × ℕ)) → IfSome o (λ (n : Fitted × ℕ). (name_of n.0 ≡ own) × (n.1 < 3)) → IfSome (option_map none_failed o) (λ (n : Fitted × ℕ). (name_of n.0 ≡ own) × (n.1 < 3))
+still_coming : (own : List ℕ) (o : Option (Fitted × ℕ)) → IfSome o (λ (n : Fitted × ℕ). (name_of n.0 ≡ own) × (n.1 < 3)) →
+    IfSome (option_map none_failed o) (λ (n : Fitted × ℕ). (name_of n.0 ≡ own) × (n.1 < 3))
 still_coming own None h = tt
 still_coming own (Some n) h = (h.0, omega arith)
 

@@ -20,17 +20,23 @@ use Rattle.law_supervisor.proofs.Lists.{none_of, some_same, no_some, from_places
 use Rattle.law_supervisor.proofs.Reached.{Marks, firsts_at, restarted_all, restarted_same, may_replan_of}
 use Rattle.law_supervisor.proofs.Items.{same_children}
 use Rattle.law_supervisor.proofs.Made.{MayBefall, begins, ends_fairly}
-use Rattle.law_supervisor.proofs.Alone.{runs_in, sound_these, counted_these, same_name, run_lived, sound_lived, counted_lived, mark_sound, mark_counted, but, run_but}
+use Rattle.law_supervisor.proofs.Alone.{runs_in, sound_these, counted_these, same_name, run_lived, sound_lived, counted_lived, mark_sound, mark_counted, but}
+use Rattle.law_supervisor.proofs.Alone.{run_but}
 use Rattle.law_supervisor.proofs.Counts.{count, differ_few, few_differ, count_changed, count_but, same_living}
 
 -- ---- an event of one, perhaps after that one changed
 
-pub event_all : (P : ComponentState → Type 0) → Marks P → (k : ℕ) (e : LifeEvent) (h : ComponentState → ComponentState) (w : Components) → AllByRecursion P w.parts
-    → ((p : ComponentState) → slice_get w.parts k ≡ Some p → P p → P (lived w.steady e (h p))) → AllByRecursion P (lived_at k e (record w { parts = changed_at k h w.parts })).parts
+pub event_all : (P : ComponentState → Type 0) → Marks P → (k : ℕ) (e : LifeEvent) (h : ComponentState → ComponentState) (w : Components) →
+    AllByRecursion P w.parts
+    → ((p : ComponentState) → slice_get w.parts k ≡ Some p → P p → P (lived w.steady e (h p))) →
+    AllByRecursion P (lived_at k e (record w { parts = changed_at k h w.parts })).parts
 event_all P m k e h w a f =
     let one = changed_all P k (λ p. lived w.steady e (h p)) w.parts a f in
-    let both : AllByRecursion P (changed_at k (lived w.steady e) (changed_at k h w.parts)) = subst (λ (qs : List ComponentState). AllByRecursion P qs) (sym (twice k (lived w.steady e) h w.parts)) one in
-    elim (drops_at k (record w { parts = changed_at k h w.parts }) e) as (λ (x : Bool). AllByRecursion P (if x then restarted may_restart (flagged_at k (changed_at k (lived w.steady e) (changed_at k h w.parts))) else changed_at k (lived w.steady e) (changed_at k h w.parts))) [
+    let both : AllByRecursion P (changed_at k (lived w.steady e) (changed_at k h w.parts)) = subst (λ (qs : List ComponentState). AllByRecursion P qs)
+    (sym (twice k (lived w.steady e) h w.parts)) one in
+    elim (drops_at k (record w { parts = changed_at k h w.parts }) e)
+    as (λ (x : Bool). AllByRecursion P (if x then restarted may_restart (flagged_at k (changed_at k (lived w.steady e) (changed_at k h w.parts)))
+    else changed_at k (lived w.steady e) (changed_at k h w.parts))) [
       | true ↦ restarted_all P m may_restart may_replan_of (flagged_at k (changed_at k (lived w.steady e) (changed_at k h w.parts)))
           (subst (λ (qs : List ComponentState). AllByRecursion P qs) (sym (firsts_at k (changed_at k (lived w.steady e) (changed_at k h w.parts)))) both)
       | false ↦ both
@@ -38,22 +44,28 @@ event_all P m k e h w a f =
 
 pub plain_all : (P : ComponentState → Type 0) → Marks P → (k : ℕ) (e : LifeEvent) (w : Components) → AllByRecursion P w.parts
     → ((p : ComponentState) → slice_get w.parts k ≡ Some p → P p → P (lived w.steady e p)) → AllByRecursion P (lived_at k e w).parts
-plain_all P m k e w a f = subst (λ (qs : List ComponentState). AllByRecursion P (lived_at k e (record w { parts = qs })).parts) (changed_nothing k w.parts) (event_all P m k e (λ p. p) w a f)
+plain_all P m k e w a f = subst (λ (qs : List ComponentState). AllByRecursion P (lived_at k e (record w { parts = qs })).parts) (changed_nothing k w.parts)
+    (event_all P m k e (λ p. p) w a f)
 
 -- what neither the event nor a mark changes
-pub event_same : {X : Type 0} (v : ComponentState → X) → ((p : ComponentState) → v (record p { stop = Some after.Restart }) ≡ v p) → (k : ℕ) (e : LifeEvent) (w : Components)
+pub event_same : {X : Type 0} (v : ComponentState → X) → ((p : ComponentState) → v (record p { stop = Some after.Restart }) ≡ v p) →
+    (k : ℕ) (e : LifeEvent) (w : Components)
     → ((p : ComponentState) → slice_get w.parts k ≡ Some p → v (lived w.steady e p) ≡ v p) → map v (lived_at k e w).parts ≡ map v w.parts
 event_same v m k e w f =
     let one = changed_same v k (lived w.steady e) w.parts f in
-    elim (drops_at k w e) as (λ (x : Bool). map v (if x then restarted may_restart (flagged_at k (changed_at k (lived w.steady e) w.parts)) else changed_at k (lived w.steady e) w.parts) ≡ map v w.parts) [
-      | true ↦ restarted_same v m may_restart (flagged_at k (changed_at k (lived w.steady e) w.parts)) ∙ ap (λ (ps : List ComponentState). map v ps) (firsts_at k (changed_at k (lived w.steady e) w.parts)) ∙ one
+    elim (drops_at k w e) as (λ (x : Bool). map v (if x then restarted may_restart (flagged_at k (changed_at k (lived w.steady e) w.parts)) else changed_at k
+    (lived w.steady e) w.parts) ≡ map v w.parts) [
+      | true ↦ restarted_same v m may_restart (flagged_at k (changed_at k (lived w.steady e) w.parts)) ∙ ap (λ (ps : List ComponentState). map v ps)
+          (firsts_at k (changed_at k (lived w.steady e) w.parts)) ∙ one
       | false ↦ one
     ]
 
-pub event_children : (k : ℕ) (e : LifeEvent) (w : Components) → map (λ (p : ComponentState). p.children) (lived_at k e w).parts ≡ map (λ (p : ComponentState). p.children) w.parts
+pub event_children : (k : ℕ) (e : LifeEvent) (w : Components) → map (λ (p : ComponentState). p.children) (lived_at k e w).parts
+    ≡ map (λ (p : ComponentState). p.children) w.parts
 event_children k e w = event_same (λ p. p.children) (λ p. refl) k e w (λ p q. same_children w.steady e p)
 
-pub event_names : (k : ℕ) (e : LifeEvent) (w : Components) → AllByRecursion IsSoundPart w.parts → map component_name (lived_at k e w).parts ≡ map component_name w.parts
+pub event_names : (k : ℕ) (e : LifeEvent) (w : Components) → AllByRecursion IsSoundPart w.parts → map component_name (lived_at k e w).parts
+    ≡ map component_name w.parts
 event_names k e w a = event_same component_name (λ p. refl) k e w (λ p q. same_name w.steady e p (at_places IsSoundPart w.parts a k p q).coming)
 
 -- ---- names
@@ -62,9 +74,11 @@ named : (n : List ℕ) (o : Option ComponentState) → option_map component_name
 named n None e = no_some n e
 named n (Some p) e = (p, refl, some_same (component_name p) n e)
 
-same_at : (ps qs : List ComponentState) → map component_name qs ≡ map component_name ps → (k : ℕ) (q : ComponentState) → slice_get qs k ≡ Some q → (p : ComponentState) × (slice_get ps k ≡ Some p) × (component_name p ≡ component_name q)
+same_at : (ps qs : List ComponentState) → map component_name qs ≡ map component_name ps → (k : ℕ) (q : ComponentState) → slice_get qs k ≡ Some q →
+    (p : ComponentState) × (slice_get ps k ≡ Some p) × (component_name p ≡ component_name q)
 same_at ps qs e k q s = named (component_name q) (slice_get ps k)
-    (sym (slice_get-map component_name ps k) ∙ ap (λ (ns : List (List ℕ)). slice_get ns k) (sym e) ∙ slice_get-map component_name qs k ∙ ap (option_map component_name) s)
+    (sym (slice_get-map component_name ps k) ∙ ap (λ (ns : List (List ℕ)). slice_get ns k) (sym e) ∙ slice_get-map component_name qs k ∙ ap
+    (option_map component_name) s)
 
 pub same_names : (ps qs : List ComponentState) → map component_name qs ≡ map component_name ps → HaveOwnNames ps → HaveOwnNames qs
 same_names ps qs e h = λ j k p q a b n. let x = same_at ps qs e j p a in let y = same_at ps qs e k q b in h j k x.0 y.0 x.1 y.1 (x.2 ∙ n ∙ sym y.2)
@@ -83,7 +97,8 @@ known_of d w k = from_places (Known d) w.parts (λ j p e. (k.sound j p e, k.coun
 pub sound_of : (w : Components) → AreSound w.parts → AllByRecursion IsSoundPart w.parts
 sound_of w s = from_places IsSoundPart w.parts s
 
-pub keep_from : (d : Device) (w v : Components) → Keeps d w → AllByRecursion (Known d) v.parts → map component_name v.parts ≡ map component_name w.parts → Differ (living_numbers v.parts) → v.steady ≡ w.steady → Keeps d v
+pub keep_from : (d : Device) (w v : Components) → Keeps d w → AllByRecursion (Known d) v.parts → map component_name v.parts ≡ map component_name w.parts →
+    Differ (living_numbers v.parts) → v.steady ≡ w.steady → Keeps d v
 keep_from d w v k a n f s = record {
   counted = λ j p e. (at_places (Known d) v.parts a j p e).1;
   sound = λ j p e. (at_places (Known d) v.parts a j p e).0;
@@ -101,7 +116,8 @@ told_each (q ∷ qs) t (suc k) p e = told_each qs (or_parts (owes q) (list_any o
 
 -- what befalls one that keeps its children
 pub plain_keeps : (d : Device) (k : ℕ) (e : LifeEvent) (w : Components) → IsTold w → Keeps d w
-    → ((p : ComponentState) → slice_get w.parts k ≡ Some p → IsSoundPart p → MayBefall e p × (ends_fairly e p ≡ true) × ((begins e && runs_in p.children) ≡ false)) → Keeps d (lived_at k e w)
+    → ((p : ComponentState) → slice_get w.parts k ≡ Some p → IsSoundPart p → MayBefall e p × (ends_fairly e p ≡ true) ×
+    ((begins e && runs_in p.children) ≡ false)) → Keeps d (lived_at k e w)
 plain_keeps d k e w t i f = keep_from d w (lived_at k e w) i
     (plain_all (Known d) (mark_known d) k e w (known_of d w i) (λ p q x.
     let m = f p q x.0 in (
@@ -118,10 +134,11 @@ differ_gone : (k n : ℕ) (ps : List ComponentState) → Differ (living_numbers 
 differ_gone k n ps d = few_differ (living_numbers (changed_at k (without_child n) ps)) (λ m. fewer m k ps (differ_few (living_numbers ps) d m))
   where
     fewer : (m k : ℕ) (ps : List ComponentState) → count m (living_numbers ps) ≤ 1 → count m (living_numbers (changed_at k (without_child n) ps)) ≤ 1
-    fewer m k ps l = elim (slice_get ps k) as (λ (o : Option ComponentState). slice_get ps k ≡ o → count m (living_numbers (changed_at k (without_child n) ps)) ≤ 1) [
-      | None ↦ λ e. subst (λ (qs : List ComponentState). count m (living_numbers qs) ≤ 1) (sym (outside k ps e)) l
-      | Some p ↦ λ e. (let a = count_changed m k (without_child n) ps p e in let b = count_but m n p.children in omega (arith, a, b, l))
-    ] refl
+    fewer m k ps l = elim (slice_get ps k) as (λ (o : Option ComponentState). slice_get ps k ≡ o →
+        count m (living_numbers (changed_at k (without_child n) ps)) ≤ 1) [
+          | None ↦ λ e. subst (λ (qs : List ComponentState). count m (living_numbers qs) ≤ 1) (sym (outside k ps e)) l
+          | Some p ↦ λ e. (let a = count_changed m k (without_child n) ps p e in let b = count_but m n p.children in omega (arith, a, b, l))
+        ] refl
       where
         outside : (k : ℕ) (ps : List ComponentState) → slice_get ps k ≡ None → changed_at k (without_child n) ps ≡ ps
         outside k [] e = refl
@@ -139,22 +156,29 @@ child_gone_keeps d k n w i = keep_from d w (child_gone k n w) i
     refl
 
 event_gone_keeps : (d : Device) (k n : ℕ) (e : LifeEvent) (w : Components) → IsTold w → Keeps d w → begins e ≡ false
-    → ((p : ComponentState) → slice_get w.parts k ≡ Some p → IsSoundPart p → MayBefall e (without_child n p) × (ends_fairly e (without_child n p) ≡ true)) → Keeps d (lived_at k e (child_gone k n w))
+    → ((p : ComponentState) → slice_get w.parts k ≡ Some p → IsSoundPart p → MayBefall e (without_child n p) × (ends_fairly e (without_child n p) ≡ true)) →
+    Keeps d (lived_at k e (child_gone k n w))
 event_gone_keeps d k n e w t i b f = keep_from d w (lived_at k e (child_gone k n w)) i
     (event_all (Known d) (mark_known d) k e (without_child n) w (known_of d w i) (λ p q x.
     let m = f p q x.0 in (
-      sound_lived w.steady e p (but n p.children) p.handed x.0 m.0 (run_lived w.steady e (without_child n p) (runs_in (but n p.children)) (gone_known d n p x).0 (run_but n p x.0) (rw b refl)),
-      subst (λ (y : Bool). IsCounted d (lived y e (without_child n p))) (sym i.driven) (counted_lived d e p (but n p.children) p.handed x.0 x.1 (told_each w.parts t k p q) m.0 m.1),
+      sound_lived w.steady e p (but n p.children) p.handed x.0 m.0
+          (run_lived w.steady e (without_child n p) (runs_in (but n p.children)) (gone_known d n p x).0 (run_but n p x.0) (rw b refl)),
+      subst (λ (y : Bool). IsCounted d (lived y e (without_child n p))) (sym i.driven)
+          (counted_lived d e p (but n p.children) p.handed x.0 x.1 (told_each w.parts t k p q) m.0 m.1),
     )))
-    (event_names k e (child_gone k n w) (sound_of (child_gone k n w) (child_gone_keeps d k n w i).sound) ∙ changed_same component_name k (without_child n) w.parts (λ p q. refl))
-    (subst Differ (sym (same_living (child_gone k n w).parts (lived_at k e (child_gone k n w)).parts (event_children k e (child_gone k n w)))) (differ_gone k n w.parts i.differ))
+    (event_names k e (child_gone k n w) (sound_of (child_gone k n w) (child_gone_keeps d k n w i).sound) ∙ changed_same component_name k
+    (without_child n) w.parts (λ p q. refl))
+    (subst Differ (sym (same_living (child_gone k n w).parts (lived_at k e (child_gone k n w)).parts (event_children k e (child_gone k n w))))
+    (differ_gone k n w.parts i.differ))
     refl
 
 pub gone_by_keeps : (d : Device) (o : Option LifeEvent) (k : ℕ) (s : Step) (n : ℕ) (w : Components) → IsTold w → Keeps d w
-    → ((e : LifeEvent) → o ≡ Some e → is_orphan_at k s w ≡ false → (begins e ≡ false) × ((p : ComponentState) → slice_get w.parts k ≡ Some p → IsSoundPart p → MayBefall e (without_child n p) × (ends_fairly e (without_child n p) ≡ true)))
+    → ((e : LifeEvent) → o ≡ Some e → is_orphan_at k s w ≡ false → (begins e ≡ false) ×
+    ((p : ComponentState) → slice_get w.parts k ≡ Some p → IsSoundPart p → MayBefall e (without_child n p) × (ends_fairly e (without_child n p) ≡ true)))
     → Keeps d (gone_by o k s n w)
 gone_by_keeps d None k s n w t i f = child_gone_keeps d k n w i
-gone_by_keeps d (Some e) k s n w t i f = elim (is_orphan_at k s w) as (λ (b : Bool). is_orphan_at k s w ≡ b → Keeps d (if b then child_gone k n w else lived_at k e (child_gone k n w))) [
-  | true ↦ λ y. child_gone_keeps d k n w i
-  | false ↦ λ y. (let m = f e refl y in event_gone_keeps d k n e w t i m.0 m.1)
-] refl
+gone_by_keeps d (Some e) k s n w t i f = elim (is_orphan_at k s w) as (λ (b : Bool). is_orphan_at k s w ≡ b →
+    Keeps d (if b then child_gone k n w else lived_at k e (child_gone k n w))) [
+      | true ↦ λ y. child_gone_keeps d k n w i
+      | false ↦ λ y. (let m = f e refl y in event_gone_keeps d k n e w t i m.0 m.1)
+    ] refl

@@ -25,7 +25,17 @@ item_a version = record { name = 97 ∷ []; version = version ∷ []; recipe = [
 
 -- with an install, and nothing else
 abbrev pub fitted_a : ℕ → Prepared → Fitted
-fitted_a version install = record { item = item_a version; hard = []; soft = []; install = Some install; run = None; startup = None; shutdown = None; recover = None }
+fitted_a version install = record {
+  item = item_a version;
+  hard = [];
+  soft = [];
+  install = Some install;
+  run = None;
+  startup = None;
+  shutdown =
+      None;
+  recover = None;
+}
 
 -- a deployment of it is pending, and its items are brought up
 abbrev pub pending_a : Pending
@@ -75,7 +85,16 @@ told install = told_at 0 (failed install)
 -- version 2 stands, and is FINISHED
 abbrev pub stands : Prepared → Components
 stands install = record {
-  parts = record { fitted = fitted_a 50 install; life = record (begun (steps_of (fitted_a 50 install)) 2) { state = state.Finished }; children = []; handed = false; owed = None; stop = None; next = None } ∷ [];
+  parts = record {
+    fitted = fitted_a 50 install;
+    life = record (begun (steps_of (fitted_a 50 install)) 2) { state = state.Finished };
+    children = [];
+    handed =
+        false;
+    owed = None;
+    stop = None;
+    next = None;
+  } ∷ [];
   moment = 0;
   steady = false;
 }

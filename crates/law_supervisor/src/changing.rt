@@ -17,7 +17,8 @@ ghost use Rattle.law_supervisor.specs.Sound.{IsOrderly};
 /// Where each item begins with the device's count of its name, and no failure of before is still to be told, a change to
 /// these items gives what is to be kept. Children that live stay with their components.
 pub fn changes_keep()
-    ensures keeps { (d : Device) (items : List Fitted) (counts : List ℕ) (w : Components) → IfSome d.pending (λ q. length q.failures ≡ 128) → AreCounted d items counts → ItemsDiffer items
+    ensures keeps { (d : Device) (items : List Fitted) (counts : List ℕ) (w : Components) → IfSome d.pending (λ q. length q.failures ≡ 128) →
+        AreCounted d items counts → ItemsDiffer items
         → IsTold w → IsOrderly w → Keeps d (changed_to items counts false w) }
     ensures owners { (n : ℕ) (items : List Fitted) (counts : List ℕ) (steady : Bool) (w : Components) → Owns (changed_to items counts steady w) n ↔ Owns w n }
     ensures told { (items : List Fitted) (counts : List ℕ) (steady : Bool) (w : Components) → IsTold w → IsTold (changed_to items counts steady w) }
@@ -26,7 +27,8 @@ pub fn changes_keep()
 /// Items that were made ready from those that the stage brings up begin with the device's counts, and have names of their
 /// own.
 pub fn ready_items_are_counted()
-    ensures counted { (o : Origin) (d : Device) (q : Pending) (items : List Item) (fitted : List Fitted) → d.pending ≡ Some q → running d.set q ≡ Some items → Rise (map item_name items)
+    ensures counted { (o : Origin) (d : Device) (q : Pending) (items : List Item) (fitted : List Fitted) → d.pending ≡ Some q → running d.set q ≡ Some items →
+        Rise (map item_name items)
         → AreFitted o items fitted → length items ≤ length q.failures → All (λ (n : ℕ). n < 3) q.failures → AreCounted d fitted q.failures }
     ensures differ { (o : Origin) (items : List Item) (fitted : List Fitted) → Rise (map item_name items) → AreFitted o items fitted → ItemsDiffer fitted }
 {}

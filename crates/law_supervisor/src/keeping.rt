@@ -50,7 +50,8 @@ pub fn ends_keep()
 
 /// A failure that is told and recorded is one that the device counts.
 pub fn tellings_keep()
-    ensures keeps { (d : Device) (k : ℕ) (n : List ℕ) (s : Step) (e : Exit) (b : Bool) (w : Components) → Keeps d w → OwesAt w k s e b → At k (λ p. component_name p ≡ n) w.parts
+    ensures keeps { (d : Device) (k : ℕ) (n : List ℕ) (s : Step) (e : Exit) (b : Bool) (w : Components) → Keeps d w → OwesAt w k s e b →
+        At k (λ p. component_name p ≡ n) w.parts
         → Keeps (applied d (StepFailed n s e)) (told_at k w) }
     ensures owners { (n k : ℕ) (w : Components) → owner n (told_at k w).parts ≡ owner n w.parts }
 {}

@@ -22,7 +22,8 @@ twice (suc k) g h (p ∷ ps) = ap (λ (qs : List ComponentState). p ∷ qs) (twi
 pub started_is : (k : ℕ) (s : Step) (n : ℕ) (w : Components) → plainly_started k s n (answered_at k w) ≡ started k s n w
 started_is k s n w = ap (λ (ps : List ComponentState). launched s k (record w { parts = ps })) (twice k (with_child n s w.moment) unhanded w.parts)
 
-pub answered_all : (P : ComponentState → Type 0) → ((p : ComponentState) → P p → P (unhanded p)) → (k : ℕ) (ps : List ComponentState) → AllByRecursion P ps → AllByRecursion P (changed_at k unhanded ps)
+pub answered_all : (P : ComponentState → Type 0) → ((p : ComponentState) → P p → P (unhanded p)) → (k : ℕ) (ps : List ComponentState) → AllByRecursion P ps →
+    AllByRecursion P (changed_at k unhanded ps)
 answered_all P f k [] a = tt
 answered_all P f zero (p ∷ ps) a = (f p a.0, a.1)
 answered_all P f (suc k) (p ∷ ps) a = (a.0, answered_all P f k ps a.1)
@@ -37,7 +38,8 @@ handed_rank k [] = refl
 handed_rank zero (p ∷ ps) = refl
 handed_rank (suc k) (p ∷ ps) = ap (λ (n : ℕ). part_rank p + n) (handed_rank k ps)
 
-pub handed_all : (P : ComponentState → Type 0) → ((p : ComponentState) → P p → P (record p { handed = true })) → (k : ℕ) (ps : List ComponentState) → AllByRecursion P ps → AllByRecursion P (changed_at k (λ p. record p { handed = true }) ps)
+pub handed_all : (P : ComponentState → Type 0) → ((p : ComponentState) → P p → P (record p { handed = true })) → (k : ℕ) (ps : List ComponentState) →
+    AllByRecursion P ps → AllByRecursion P (changed_at k (λ p. record p { handed = true }) ps)
 handed_all P f k [] a = tt
 handed_all P f zero (p ∷ ps) a = (f p a.0, a.1)
 handed_all P f (suc k) (p ∷ ps) a = (a.0, handed_all P f k ps a.1)
@@ -53,7 +55,8 @@ handed_length zero (p ∷ ps) = refl
 handed_length (suc k) (p ∷ ps) = ap suc (handed_length k ps)
 
 -- it is begun still
-pub answered_begun : (k : ℕ) (s : Step) (ps : List ComponentState) → At k (λ p. is_begun s p ≡ true) ps → At k (λ p. is_begun s p ≡ true) (changed_at k unhanded ps)
+pub answered_begun : (k : ℕ) (s : Step) (ps : List ComponentState) → At k (λ p. is_begun s p ≡ true) ps →
+    At k (λ p. is_begun s p ≡ true) (changed_at k unhanded ps)
 answered_begun k s [] a = absurd a
 answered_begun zero s (p ∷ ps) a = a
 answered_begun (suc k) s (p ∷ ps) a = answered_begun k s ps a

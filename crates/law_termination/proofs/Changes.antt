@@ -1,5 +1,6 @@
 -- What is kept of each component is kept by a change to other items.
-use Rattle.std.proofs.Common.{◌≡◌, ◌<◌, ◌≤◌, ◌+◌, ℕ, suc, zero, List, [], ◌∷◌, map, length, Option, Some, None, Bool, true, false, refl, sym, ap, ◌∙◌, inl, inr, arith, subst}
+use Rattle.std.proofs.Common.{◌≡◌, ◌<◌, ◌≤◌, ◌+◌, ℕ, suc, zero, List, [], ◌∷◌, map, length, Option, Some, None, Bool, true, false, refl, sym, ap, ◌∙◌, inl}
+use Rattle.std.proofs.Common.{inr, arith, subst}
 use Rattle.std.specs.Prelude.{◌&&◌, ◌||◌, not, get_or, if◌then◌else◌, filter, IfSome}
 use Rattle.std.specs.List.{AllByRecursion, list_any, list_all}
 use Rattle.std.specs.Str.{bytes_eq}
@@ -15,7 +16,8 @@ use Rattle.components.specs.Fitted.{Fitted, name_of, steps_of, is_before, is_sam
 use Rattle.components.specs.Components.{Components, ComponentState, Child, component_name, is_again, is_gone, is_over, under_way, stops_for_good}
 use Rattle.components.specs.Marks.{Flagged, flagged, reaching, marked, may_replan}
 use Rattle.components.specs.Answers.{standing_count}
-use Rattle.components.specs.Changes.{Coming, counted, coming_for, fresh_part, leaving, is_replaced, with_texts, replacing, staying, coming_again, meeting, fate, standing, is_replacing, replanned, newcomers, placed, with_newcomers, changed_to}
+use Rattle.components.specs.Changes.{Coming, counted, coming_for, fresh_part, leaving, is_replaced, with_texts, replacing, staying, coming_again, meeting}
+use Rattle.components.specs.Changes.{fate, standing, is_replacing, replanned, newcomers, placed, with_newcomers, changed_to}
 use Rattle.law_supervisor.specs.Sound.{may_ask}
 use Rattle.law_termination.specs.Kept.{IsKeptPart, IsRunnable, IsComing, AreKept, HaveSameSteps, is_timed}
 use Rattle.law_termination.proofs.Lists.{either, clash}
@@ -95,10 +97,16 @@ stopping_good c e = elim (either (is_stopping c.state)) [ inl y ↦ y | inr n �
 again_stops : (s : State) → is_stopping s ≡ true → may_stop s (Some after.Again) ≡ true
 again_stops s e = grind (arith, e)
 
-replacing_kept : (n : Coming) (p : ComponentState) → IsKeptPart p → p.life.gone ≡ false → IsRunnable n.0 → n.1 < 3 → name_of n.0 ≡ component_name p → IsKeptPart (replacing n p)
+replacing_kept : (n : Coming) (p : ComponentState) → IsKeptPart p → p.life.gone ≡ false → IsRunnable n.0 → n.1 < 3 → name_of n.0 ≡ component_name p →
+    IsKeptPart (replacing n p)
 replacing_kept n p k g r l e = go (stops_for_good p.life) refl
   where
-    go : (y : Bool) → stops_for_good p.life ≡ y → IsKeptPart (if y then record p { life = record p.life { stop = Some after.Again }; stop = None; next = Some n } else record p { stop = Some after.Again; next = Some n })
+    go : (y : Bool) → stops_for_good p.life ≡ y → IsKeptPart
+        (if y then record p { life = record p.life { stop = Some after.Again }; stop = None; next = Some n } else record p {
+          stop = Some after.Again;
+          next =
+              Some n;
+        })
     go true f = let s = stopping_good p.life f in record {
       sound = record { main = k.sound.main; failures = k.sound.failures; busy = k.sound.busy; runs = k.sound.runs; stop = again_stops p.life.state s };
       steps = k.steps;
@@ -141,17 +149,20 @@ staying_kept n p k l = record {
 meeting_kept : (n : Coming) (p : ComponentState) → IsKeptPart p → Fits p n → name_of n.0 ≡ component_name p → IsKeptPart (meeting n p)
 meeting_kept n p k f e = go p.life.gone refl (is_replaced n.0 p)
   where
-    go : (g : Bool) → p.life.gone ≡ g → (y : Bool) → IsKeptPart (if g then coming_again n p else (if y then replacing n (with_texts n.0 p) else staying n (with_texts n.0 p)))
+    go : (g : Bool) → p.life.gone ≡ g → (y : Bool) → IsKeptPart
+        (if g then coming_again n p else (if y then replacing n (with_texts n.0 p) else staying n (with_texts n.0 p)))
     go true q y = again_kept n p.children f.0 f.1 k.timed
-    go false q true = replacing_kept n (with_texts n.0 p) (texts_kept n p k f e) (ap (λ (c : Life). c.gone) (texts_life n.0 p) ∙ q) f.0 f.1 (e ∙ sym (texts_named n.0 p e))
+    go false q true = replacing_kept n (with_texts n.0 p) (texts_kept n p k f e) (ap (λ (c : Life). c.gone) (texts_life n.0 p) ∙ q) f.0 f.1
+        (e ∙ sym (texts_named n.0 p e))
     go false q false = staying_kept n (with_texts n.0 p) (texts_kept n p k f e) f.1
 
 found : (P : Coming → Type 0) (own : List ℕ) (ns : List Coming) → AllByRecursion P ns → IfSome (coming_for own ns) (λ n. P n × (name_of n.0 ≡ own))
 found P own [] a = tt
-found P own (n ∷ ns) a = elim (bytes_eq own (name_of n.0)) as (λ (y : Bool). bytes_eq own (name_of n.0) ≡ y → IfSome (if y then Some n else coming_for own ns) (λ m. P m × (name_of m.0 ≡ own))) [
-  | true ↦ λ e. (a.0, sym ((bytes_eq-Decides own (name_of n.0)).0 e))
-  | false ↦ λ e. found P own ns a.1
-] refl
+found P own (n ∷ ns) a = elim (bytes_eq own (name_of n.0)) as (λ (y : Bool). bytes_eq own (name_of n.0) ≡ y → IfSome (if y then Some n else coming_for own ns)
+    (λ m. P m × (name_of m.0 ≡ own))) [
+      | true ↦ λ e. (a.0, sym ((bytes_eq-Decides own (name_of n.0)).0 e))
+      | false ↦ λ e. found P own ns a.1
+    ] refl
 
 fate_kept : (ns : List Coming) (p : ComponentState) → IsKeptPart p → AllByRecursion (Fits p) ns → IsKeptPart (fate ns p)
 fate_kept ns p k a = go (coming_for (component_name p) ns) (found (Fits p) (component_name p) ns a)
@@ -175,10 +186,11 @@ firsts_flagged test (p ∷ ps) = ap (λ (qs : List ComponentState). p ∷ qs) (f
 
 marked_kept : (fs : Flagged) → AllByRecursion IsKeptPart (firsts fs) → AllByRecursion IsKeptPart (marked may_replan fs)
 marked_kept [] a = tt
-marked_kept (x ∷ fs) a = elim (x.1 && may_replan x.0) as (λ (y : Bool). (x.1 && may_replan x.0) ≡ y → AllByRecursion IsKeptPart ((if y then record x.0 { stop = Some after.Restart } else x.0) ∷ marked may_replan fs)) [
-  | true ↦ λ e. (mark_keeps x.0 (and_parts x.1 (may_replan x.0) e).1 a.0, marked_kept fs a.1)
-  | false ↦ λ e. (a.0, marked_kept fs a.1)
-] refl
+marked_kept (x ∷ fs) a = elim (x.1 && may_replan x.0) as (λ (y : Bool). (x.1 && may_replan x.0) ≡ y →
+    AllByRecursion IsKeptPart ((if y then record x.0 { stop = Some after.Restart } else x.0) ∷ marked may_replan fs)) [
+      | true ↦ λ e. (mark_keeps x.0 (and_parts x.1 (may_replan x.0) e).1 a.0, marked_kept fs a.1)
+      | false ↦ λ e. (a.0, marked_kept fs a.1)
+    ] refl
 
 length_marked : (fs : Flagged) → length (marked may_replan fs) ≡ length (firsts fs)
 length_marked [] = refl
@@ -186,11 +198,13 @@ length_marked (x ∷ fs) = ap suc (length_marked fs)
 
 replanned_kept : (ps : List ComponentState) → AllByRecursion IsKeptPart ps → AllByRecursion IsKeptPart (replanned ps)
 replanned_kept ps a = marked_kept (reaching (length (flagged is_replacing ps)) (flagged is_replacing ps))
-    (subst (λ (qs : List ComponentState). AllByRecursion IsKeptPart qs) (sym (firsts_reaching (length (flagged is_replacing ps)) (flagged is_replacing ps) ∙ firsts_flagged is_replacing ps)) a)
+    (subst (λ (qs : List ComponentState). AllByRecursion IsKeptPart qs)
+    (sym (firsts_reaching (length (flagged is_replacing ps)) (flagged is_replacing ps) ∙ firsts_flagged is_replacing ps)) a)
 
 length_replanned : (ps : List ComponentState) → length (replanned ps) ≡ length ps
 length_replanned ps = length_marked (reaching (length (flagged is_replacing ps)) (flagged is_replacing ps))
-    ∙ ap (λ (qs : List ComponentState). length qs) (firsts_reaching (length (flagged is_replacing ps)) (flagged is_replacing ps) ∙ firsts_flagged is_replacing ps)
+    ∙ ap (λ (qs : List ComponentState). length qs) (firsts_reaching (length (flagged is_replacing ps)) (flagged is_replacing ps) ∙ firsts_flagged is_replacing
+    ps)
 
 -- ---- those that did not stand before
 
@@ -204,17 +218,20 @@ fresh_kept test (n ∷ ns) a = elim (test n) as (λ (y : Bool). AllByRecursion I
 
 length_fresh : (test : Coming → Bool) (ns : List Coming) → length (map fresh_part (filter test ns)) ≤ length ns
 length_fresh test [] = omega arith
-length_fresh test (n ∷ ns) = let i = length_fresh test ns in elim (test n) as (λ (y : Bool). length (map fresh_part (if y then n ∷ filter test ns else filter test ns)) ≤ suc (length ns))
+length_fresh test (n ∷ ns) = let i = length_fresh test ns in
+    elim (test n) as (λ (y : Bool). length (map fresh_part (if y then n ∷ filter test ns else filter test ns)) ≤ suc (length ns))
     [ true ↦ omega (arith, i) | false ↦ omega (arith, i) ]
 
 placed_kept : (p : ComponentState) (qs : List ComponentState) → IsKeptPart p → AllByRecursion IsKeptPart qs → AllByRecursion IsKeptPart (placed p qs)
 placed_kept p [] a b = (a, tt)
-placed_kept p (q ∷ qs) a b = elim (is_before (component_name p) (component_name q)) as (λ (y : Bool). AllByRecursion IsKeptPart (if y then p ∷ q ∷ qs else q ∷ placed p qs))
+placed_kept p (q ∷ qs) a b = elim (is_before (component_name p) (component_name q))
+    as (λ (y : Bool). AllByRecursion IsKeptPart (if y then p ∷ q ∷ qs else q ∷ placed p qs))
     [ true ↦ (a, b) | false ↦ (b.0, placed_kept p qs a b.1) ]
 
 length_placed : (p : ComponentState) (qs : List ComponentState) → length (placed p qs) ≡ suc (length qs)
 length_placed p [] = refl
-length_placed p (q ∷ qs) = elim (is_before (component_name p) (component_name q)) as (λ (y : Bool). length (if y then p ∷ q ∷ qs else q ∷ placed p qs) ≡ suc (suc (length qs)))
+length_placed p (q ∷ qs) = elim (is_before (component_name p) (component_name q)) as (λ (y : Bool). length (if y then p ∷ q ∷ qs else q ∷ placed p qs)
+    ≡ suc (suc (length qs)))
     [ true ↦ refl | false ↦ ap suc (length_placed p qs) ]
 
 newcomers_kept : (ns ps : List ComponentState) → AllByRecursion IsKeptPart ns → AllByRecursion IsKeptPart ps → AllByRecursion IsKeptPart (with_newcomers ns ps)
@@ -232,7 +249,8 @@ few_at [] a k = omega arith
 few_at (c ∷ counts) a zero = a.0
 few_at (c ∷ counts) a (suc k) = few_at counts a.1 k
 
-counted_come : (j : ℕ) (counts : List ℕ) (fs : List Fitted) → AllByRecursion IsRunnable fs → AllByRecursion (λ (n : ℕ). n < 3) counts → AllByRecursion Comes (counted j counts fs)
+counted_come : (j : ℕ) (counts : List ℕ) (fs : List Fitted) → AllByRecursion IsRunnable fs → AllByRecursion (λ (n : ℕ). n < 3) counts →
+    AllByRecursion Comes (counted j counts fs)
 counted_come j counts [] a b = tt
 counted_come j counts (f ∷ fs) a b = ((a.0, few_at counts b j), counted_come (suc j) counts fs a.1 b)
 
@@ -248,12 +266,14 @@ length_counted j counts (f ∷ fs) = ap suc (length_counted (suc j) counts fs)
 standing_before : (items : List Fitted) (counts : List ℕ) → AllByRecursion IsRunnable items → AllByRecursion (λ (n : ℕ). n < 3) counts
     → (ps : List ComponentState) → AllByRecursion IsKeptPart ps → HaveSameSteps items ps → AllByRecursion (Before (counted 0 counts items)) (standing ps)
 standing_before items counts r f [] a h = tt
-standing_before items counts r f (p ∷ ps) a h = elim (is_over p) as (λ (y : Bool). AllByRecursion (Before (counted 0 counts items)) (if not y then p ∷ standing ps else standing ps)) [
-  | true ↦ standing_before items counts r f ps a.1 h.1
-  | false ↦ ((a.0, counted_fit p 0 counts items r f h.0), standing_before items counts r f ps a.1 h.1)
-]
+standing_before items counts r f (p ∷ ps) a h = elim (is_over p) as (λ (y : Bool). AllByRecursion (Before (counted 0 counts items))
+    (if not y then p ∷ standing ps else standing ps)) [
+      | true ↦ standing_before items counts r f ps a.1 h.1
+      | false ↦ ((a.0, counted_fit p 0 counts items r f h.0), standing_before items counts r f ps a.1 h.1)
+    ]
 
-pub changed_kept : (items : List Fitted) (counts : List ℕ) (steady : Bool) (w : Components) → AreKept w → AllByRecursion IsRunnable items → AllByRecursion (λ (n : ℕ). n < 3) counts
+pub changed_kept : (items : List Fitted) (counts : List ℕ) (steady : Bool) (w : Components) → AreKept w → AllByRecursion IsRunnable items →
+    AllByRecursion (λ (n : ℕ). n < 3) counts
     → HaveSameSteps items w.parts → standing_count w + length items ≤ 256 → AreKept (changed_to items counts steady w)
 changed_kept items counts steady w k r f h l =
     let ns = counted 0 counts items in

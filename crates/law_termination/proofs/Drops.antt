@@ -18,8 +18,11 @@ use Rattle.law_termination.specs.Kept.{MayBefall}
 use Rattle.law_termination.specs.Rank.{core}
 use Rattle.law_termination.proofs.Falls.{mk}
 
-module _ (f : Fitted) (steps : StepSet) (n : ℕ) (busy : Option Step) (runs inst : Bool) (way : Option After) (cs : List Child) (hd : Bool) (o : Option (Step × Exit)) (asked : Option After) (nx : Option (Fitted × ℕ)) where
-  pub drops_at : (s : State) (e : LifeEvent) → IsSound (mk f steps n busy runs inst way cs hd o asked nx s).life → MayBefall e (mk f steps n busy runs inst way cs hd o asked nx s) → drops false e (mk f steps n busy runs inst way cs hd o asked nx s) ≡ true → core (lived false e (mk f steps n busy runs inst way cs hd o asked nx s)) + 49000 ≤ core (mk f steps n busy runs inst way cs hd o asked nx s)
+module _ (f : Fitted) (steps : StepSet) (n : ℕ) (busy : Option Step) (runs inst : Bool) (way : Option After) (cs : List Child) (hd : Bool)
+    (o : Option (Step × Exit)) (asked : Option After) (nx : Option (Fitted × ℕ)) where
+  pub drops_at : (s : State) (e : LifeEvent) → IsSound (mk f steps n busy runs inst way cs hd o asked nx s).life →
+      MayBefall e (mk f steps n busy runs inst way cs hd o asked nx s) → drops false e (mk f steps n busy runs inst way cs hd o asked nx s) ≡ true →
+      core (lived false e (mk f steps n busy runs inst way cs hd o asked nx s)) + 49000 ≤ core (mk f steps n busy runs inst way cs hd o asked nx s)
   drops_at state.New event.MayBegin k m d = grind (arith, k, m, d)
   drops_at state.New event.Retry k m d = grind (arith, k, m, d)
   drops_at state.New event.Launched k m d = grind (arith, k, m, d)

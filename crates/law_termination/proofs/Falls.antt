@@ -19,7 +19,8 @@ use Rattle.law_termination.specs.Kept.{MayBefall}
 use Rattle.law_supervisor.specs.Sound.{may_ask}
 use Rattle.law_termination.specs.Rank.{core, gain}
 
-module _ (f : Fitted) (steps : StepSet) (n : ℕ) (busy : Option Step) (runs inst : Bool) (way : Option After) (cs : List Child) (hd : Bool) (o : Option (Step × Exit)) (asked : Option After) (nx : Option (Fitted × ℕ)) where
+module _ (f : Fitted) (steps : StepSet) (n : ℕ) (busy : Option Step) (runs inst : Bool) (way : Option After) (cs : List Child) (hd : Bool)
+    (o : Option (Step × Exit)) (asked : Option After) (nx : Option (Fitted × ℕ)) where
   -- a component that stands
   abbrev pub mk : State → ComponentState
   mk s = record {
@@ -32,7 +33,8 @@ module _ (f : Fitted) (steps : StepSet) (n : ℕ) (busy : Option Step) (runs ins
     life = record { steps = steps; state = s; failures = n; busy = busy; runs = runs; install_failed = inst; stop = way; gone = false };
   }
 
-  pub falls_at : (s : State) (e : LifeEvent) → IsSound (mk s).life → may_ask (under_way (mk s).life) asked ≡ true → MayBefall e (mk s) → is_some (table (mk s).life e) ≡ true → core (lived false e (mk s)) + gain e (lived false e (mk s)).life.busy ≤ core (mk s)
+  pub falls_at : (s : State) (e : LifeEvent) → IsSound (mk s).life → may_ask (under_way (mk s).life) asked ≡ true → MayBefall e (mk s) →
+      is_some (table (mk s).life e) ≡ true → core (lived false e (mk s)) + gain e (lived false e (mk s)).life.busy ≤ core (mk s)
   falls_at state.New event.MayBegin k a m t = grind (arith, k, a, m, t)
   falls_at state.New event.Retry k a m t = grind (arith, k, a, m, t)
   falls_at state.New event.Launched k a m t = grind (arith, k, a, m, t)

@@ -14,10 +14,12 @@ use Rattle.lifecycle.specs.declared.kinds.State.TheVariants as state
 use Rattle.lifecycle.specs.declared.kinds.After.{After}
 use Rattle.lifecycle.specs.declared.kinds.LifeEvent.TheVariants as event
 use Rattle.components.specs.Fitted.{Fitted}
-use Rattle.components.specs.Components.{Components, ComponentState, Child, component_name, is_to_stop, is_over, has_orphan, is_leaving, is_settled, has_broken, is_stopped, stands_up, is_up, is_broken, is_orphan, is_gone, is_again, under_way}
+use Rattle.components.specs.Components.{Components, ComponentState, Child, component_name, is_to_stop, is_over, has_orphan, is_leaving, is_settled}
+use Rattle.components.specs.Components.{has_broken, is_stopped, stands_up, is_up, is_broken, is_orphan, is_gone, is_again, under_way}
 use Rattle.components.specs.Deadlines.{has_passed, earlier, child_deadline, least_of}
 use Rattle.components.specs.Answers.{has_answered}
-use Rattle.components.specs.Turns.{IsQuiet, may_act, may_begin, may_retry, may_stop, is_late, is_unstarted, is_to_start, is_begun, is_met, is_held, serves_softly}
+use Rattle.components.specs.Turns.{IsQuiet, may_act, may_begin, may_retry, may_stop, is_late, is_unstarted, is_to_start, is_begun, is_met, is_held}
+use Rattle.components.specs.Turns.{serves_softly}
 use Rattle.law_termination.specs.Kept.{IsKept, IsKeptPart, IsOrderedPart, AllBelow, are_there, newest, is_timed}
 use Rattle.law_supervisor.specs.Sound.{is_waiting, is_bare}
 use Rattle.law_termination.specs.Time.{HasTime}
@@ -51,7 +53,8 @@ children_later m (c ∷ cs) e = let x = or_parts (has_passed m c.deadline) (list
 
 least_later : (m : ℕ) (ps : List ComponentState) → ((p : ComponentState) → Has p ps → is_late m p ≡ false) → IfSome (least_of ps) (λ d. m < d)
 least_later m [] h = tt
-least_later m (p ∷ ps) h = earlier_later m (child_deadline p.children) (least_of ps) (children_later m p.children (h p (inl refl))) (least_later m ps (λ q i. h q (inr i)))
+least_later m (p ∷ ps) h = earlier_later m (child_deadline p.children) (least_of ps) (children_later m p.children (h p (inl refl)))
+    (least_later m ps (λ q i. h q (inr i)))
 
 child_some : (c : Child) (cs : List Child) → Has c cs → is_some c.deadline ≡ true → is_some (child_deadline cs) ≡ true
 child_some c [] h e = absurd h
@@ -60,7 +63,8 @@ child_some c (d ∷ ds) (inr h) e = some_right d.deadline (child_deadline ds) (c
 
 least_some : (p : ComponentState) (ps : List ComponentState) → Has p ps → is_some (child_deadline p.children) ≡ true → is_some (least_of ps) ≡ true
 least_some p [] h e = absurd h
-least_some p (q ∷ qs) (inl i) e = some_left (child_deadline q.children) (least_of qs) (sym (ap (λ (x : ComponentState). is_some (child_deadline x.children)) i) ∙ e)
+least_some p (q ∷ qs) (inl i) e = some_left (child_deadline q.children) (least_of qs)
+    (sym (ap (λ (x : ComponentState). is_some (child_deadline x.children)) i) ∙ e)
 least_some p (q ∷ qs) (inr h) e = some_right (child_deadline q.children) (least_of qs) (least_some p qs h e)
 
 some_and : (P : ℕ → Type 0) (o : Option ℕ) → is_some o ≡ true → IfSome o P → IsSomeAnd o P
@@ -150,13 +154,18 @@ shuts_down c sound e = grind (arith, sound.busy, e)
 starts : (c : Life) → IsSound c → c.state ≡ state.Starting → is_some c.busy ≡ true
 starts c sound e = grind (arith, sound.busy, e)
 
-pub bare_of : (p : ComponentState) → IsKeptPart p → p.life.gone ≡ true → (p.stop ≡ None) × (is_stopping p.life.state ≡ false) × (p.life.busy ≡ None) × (p.life.runs ≡ false)
+pub bare_of : (p : ComponentState) → IsKeptPart p → p.life.gone ≡ true → (p.stop ≡ None) × (is_stopping p.life.state ≡ false) × (p.life.busy ≡ None) ×
+    (p.life.runs ≡ false)
 bare_of p k g =
     let x = second_true (not p.life.gone) (is_bare p) k.gone (rw g refl) in
     let y = and_parts (not (is_some p.stop) && not (is_stopping p.life.state)) (not (is_some p.life.busy) && not p.life.runs) x in
     let a = and_parts (not (is_some p.stop)) (not (is_stopping p.life.state)) y.0 in
-    let b = and_parts (not (is_some p.life.busy)) (not p.life.runs) y.1 in
-    (none_of p.stop (not_so (is_some p.stop) a.0), not_so (is_stopping p.life.state) a.1, none_of p.life.busy (not_so (is_some p.life.busy) b.0), not_so p.life.runs b.1)
+    let b = and_parts (not (is_some p.life.busy)) (not p.life.runs) y.1 in (
+      none_of p.stop (not_so (is_some p.stop) a.0),
+      not_so (is_stopping p.life.state) a.1,
+      none_of p.life.busy (not_so (is_some p.life.busy) b.0),
+      not_so p.life.runs b.1,
+    )
 
 module _ (w : Components) (k : IsKept w) (quiet : IsQuiet w) (answered : has_answered w ≡ true) where
   kept : (p : ComponentState) → Has p w.parts → IsKeptPart p
@@ -169,7 +178,8 @@ module _ (w : Components) (k : IsKept w) (quiet : IsQuiet w) (answered : has_ans
   rests p h = still w p (any_has (λ q. q.handed) p w.parts h (not_so (list_any (λ q. q.handed) w.parts) answered)) (any_has (may_act w) p w.parts h quiet.none)
 
   time_of : (p : ComponentState) → Has p w.parts → (c : Child) → Has c p.children → is_some c.deadline ≡ true → HasTime w
-  time_of p h c i e = some_and (λ d. w.moment < d) (least_of w.parts) (least_some p w.parts h (child_some c p.children i e)) (least_later w.moment w.parts (λ q j. (rests q j).late))
+  time_of p h c i e = some_and (λ d. w.moment < d) (least_of w.parts) (least_some p w.parts h (child_some c p.children i e))
+      (least_later w.moment w.parts (λ q j. (rests q j).late))
 
   -- a busy step lives, and has a deadline
   busy_time : (p : ComponentState) → Has p w.parts → (s : Step) → p.life.busy ≡ Some s → HasTime w
@@ -178,8 +188,10 @@ module _ (w : Components) (k : IsKept w) (quiet : IsQuiet w) (answered : has_ans
       elim (either (is_same_step step.Run s)) [
         | inl e ↦ (let q = run_only s e in
             let x : (is_busy_with step.Run (Some step.Run) && list_any (λ (c : Child). is_same_step step.Run c.of) p.children) ≡ false
-            = subst (λ (o : Option Step). (is_busy_with step.Run o && list_any (λ (c : Child). is_same_step step.Run c.of) p.children) ≡ false) (b ∙ ap (λ (t : Step). Some t) q) (kept p h).run in
-            clash (list_any (λ (c : Child). is_same_step step.Run c.of) p.children) (subst (λ (t : Step). list_any (λ (c : Child). is_same_step t c.of) p.children ≡ true) q lives) x)
+            = subst (λ (o : Option Step). (is_busy_with step.Run o && list_any (λ (c : Child). is_same_step step.Run c.of) p.children) ≡ false)
+            (b ∙ ap (λ (t : Step). Some t) q) (kept p h).run in
+            clash (list_any (λ (c : Child). is_same_step step.Run c.of) p.children)
+            (subst (λ (t : Step). list_any (λ (c : Child). is_same_step t c.of) p.children ≡ true) q lives) x)
         | inr e ↦ (let c = passing (λ (c : Child). is_same_step s c.of) p.children lives in
             let t = all_has is_timed c.one p.children c.here (kept p h).timed in
             time_of p h c.one c.here (second_true (is_same_step step.Run c.one.of) (is_some c.one.deadline) t (not_run s c.one.of c.passes e)))
@@ -203,20 +215,36 @@ module _ (w : Components) (k : IsKept w) (quiet : IsQuiet w) (answered : has_ans
   one_stops g = elim (either (is_stopping g.one.life.state)) [
     | inl e ↦ busy_time g.one g.here step.Shutdown (shuts_down g.one.life (kept g.one g.here).sound e)
     | inr e ↦ (let still = rests g.one g.here in
-        let a : is_some g.one.stop ≡ true = (let x : (is_some g.one.stop || (is_stopping g.one.life.state || has_orphan g.one)) ≡ true = g.passes in elim (either (is_some g.one.stop)) [ inl y ↦ y | inr n ↦ clash (is_some g.one.stop || (is_stopping g.one.life.state || has_orphan g.one)) x (rw n (rw e still.kills)) ]) in
+        let a : is_some g.one.stop ≡ true = (let x : (is_some g.one.stop || (is_stopping g.one.life.state || has_orphan g.one)) ≡ true = g.passes in
+        elim (either (is_some g.one.stop)) [
+          | inl y ↦ y
+          | inr n ↦ clash (is_some g.one.stop || (is_stopping g.one.life.state || has_orphan g.one)) x
+              (rw n (rw e still.kills))
+        ]) in
         let s = of_some g.one.stop a in
         let held = not_held (component_name g.one) g.greatest in
         let gone = stands g.one g.here g.passes in
-        let can : (elim (Some s.0) [ None ↦ false | Some a ↦ (is_awaited (event.Stop a) g.one.life && not (has_orphan g.one || is_unstarted g.one)) && not (is_held (component_name g.one) w.parts) ]) ≡ false
-        = subst (λ (o : Option After). (elim o [ None ↦ false | Some a ↦ (is_awaited (event.Stop a) g.one.life && not (has_orphan g.one || is_unstarted g.one)) && not (is_held (component_name g.one) w.parts) ]) ≡ false) s.1 still.stops in
-        clash ((is_awaited (event.Stop s.0) g.one.life && not (has_orphan g.one || is_unstarted g.one)) && not (is_held (component_name g.one) w.parts)) (rw gone (rw e (rw still.kills (rw still.starts (rw held refl))))) can)
+        let can : (elim (Some s.0) [
+          | None ↦ false
+          | Some a ↦ (is_awaited (event.Stop a) g.one.life && not (has_orphan g.one || is_unstarted g.one)) &&
+              not (is_held (component_name g.one) w.parts)
+        ]) ≡ false
+        = subst (λ (o : Option After). (elim o [
+          | None ↦ false
+          | Some a ↦ (is_awaited (event.Stop a) g.one.life &&
+              not (has_orphan g.one || is_unstarted g.one)) && not (is_held (component_name g.one) w.parts)
+        ]) ≡ false) s.1 still.stops in
+        clash ((is_awaited (event.Stop s.0) g.one.life && not (has_orphan g.one || is_unstarted g.one)) && not (is_held (component_name g.one) w.parts))
+        (rw gone (rw e (rw still.kills (rw still.starts (rw held refl))))) can)
   ]
 
   no_children : (p : ComponentState) → Has p w.parts → p.life.gone ≡ true → is_over p ≡ true
   no_children p h g = let x = bare_of p (kept p h) g in
-      elim p.children as (λ (cs : List Child). list_any (λ (c : Child). is_orphan p.life c.of) cs ≡ false → (p.life.gone && elim cs [ [] ↦ true | ◌∷◌ c ds ↦ false ]) ≡ true) [
+      elim p.children as (λ (cs : List Child). list_any (λ (c : Child). is_orphan p.life c.of) cs ≡ false →
+      (p.life.gone && elim cs [ [] ↦ true | ◌∷◌ c ds ↦ false ]) ≡ true) [
         | [] ↦ λ e. rw g refl
-        | ◌∷◌ c ds ↦ λ e. clash (is_orphan p.life c.of) (rw x.2 (rw x.3 (grind arith))) (or_parts (is_orphan p.life c.of) (list_any (λ (c : Child). is_orphan p.life c.of) ds) e).0
+        | ◌∷◌ c ds ↦ λ e. clash (is_orphan p.life c.of) (rw x.2 (rw x.3 (grind arith)))
+            (or_parts (is_orphan p.life c.of) (list_any (λ (c : Child). is_orphan p.life c.of) ds) e).0
       ] (rests p h).kills
 
   pub stop_goes : list_all is_leaving w.parts ≡ true → (is_stopped w ≡ true) ⊎ HasTime w
@@ -246,7 +274,8 @@ module _ (w : Components) (k : IsKept w) (quiet : IsQuiet w) (answered : has_ans
 
     is_newest : (p : ComponentState) → Has p w.parts → newest p ≡ p.fitted
     is_newest p h = let i = idle p h in elim (either (is_some p.next)) [
-      | inl e ↦ clash (is_again p.stop || is_again (under_way p.life)) (second_true (not (is_waiting p)) (is_again p.stop || is_again (under_way p.life)) (kept p h).waits (rw e refl)) (rw i.0 (rw i.1 refl))
+      | inl e ↦ clash (is_again p.stop || is_again (under_way p.life)) (second_true (not (is_waiting p)) (is_again p.stop || is_again (under_way p.life))
+          (kept p h).waits (rw e refl)) (rw i.0 (rw i.1 refl))
       | inr e ↦ rw (none_of p.next e) refl
     ]
 
@@ -287,9 +316,13 @@ module _ (w : Components) (k : IsKept w) (quiet : IsQuiet w) (answered : has_ans
       begins_now : is_awaited event.MayBegin g.one.life ≡ true → {A : Type 0} → A
       begins_now a {A} =
           let o = order g.one g.here in let l = stays g.one g.here stands_one in let e = is_newest g.one g.here in
-          let hard = all_met stands_up (k.s (component_name g.one)) up_below g.one.fitted.hard (subst (λ (f : Fitted). AllBelow k.s (k.s (component_name g.one)) f.hard) e (o.hard l)) (subst (λ (f : Fitted). are_there w.parts f.hard ≡ true) e (o.hard_there l)) in
-          let soft = all_met serves_softly (k.s (component_name g.one)) (λ q h b n. or_left (stands_up q) (is_broken q.life.state && not (is_to_stop q || q.life.gone)) (up_below q h b n)) g.one.fitted.soft
-          (subst (λ (f : Fitted). AllBelow k.s (k.s (component_name g.one)) f.soft) e (o.soft l)) (subst (λ (f : Fitted). are_there w.parts f.soft ≡ true) e (o.soft_there l)) in
+          let hard = all_met stands_up (k.s (component_name g.one)) up_below g.one.fitted.hard
+          (subst (λ (f : Fitted). AllBelow k.s (k.s (component_name g.one)) f.hard) e (o.hard l))
+          (subst (λ (f : Fitted). are_there w.parts f.hard ≡ true) e (o.hard_there l)) in
+          let soft = all_met serves_softly (k.s (component_name g.one))
+          (λ q h b n. or_left (stands_up q) (is_broken q.life.state && not (is_to_stop q || q.life.gone)) (up_below q h b n)) g.one.fitted.soft
+          (subst (λ (f : Fitted). AllBelow k.s (k.s (component_name g.one)) f.soft) e (o.soft l))
+          (subst (λ (f : Fitted). are_there w.parts f.soft ≡ true) e (o.soft_there l)) in
           clash (may_begin w g.one) (rw a (rw (none g.one g.here) (rw hard (rw soft refl)))) (rests g.one g.here).begins
 
       tries_now : g.one.life.state ≡ state.Errored → g.one.life.busy ≡ None → {A : Type 0} → A

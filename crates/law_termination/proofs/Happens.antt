@@ -1,5 +1,6 @@
 -- Whatever happens lowers the number.
-use Rattle.std.proofs.Common.{◌≡◌, ◌<◌, ◌≤◌, ◌+◌, ◌*◌, ◌==◌, ℕ, suc, zero, List, [], ◌∷◌, length, Option, Some, None, Bool, true, false, refl, sym, ap, ◌∙◌, ◌⊎◌, inl, inr, arith, subst, is_some}
+use Rattle.std.proofs.Common.{◌≡◌, ◌<◌, ◌≤◌, ◌+◌, ◌*◌, ◌==◌, ℕ, suc, zero, List, [], ◌∷◌, length, Option, Some, None, Bool, true, false, refl, sym, ap, ◌∙◌}
+use Rattle.std.proofs.Common.{◌⊎◌, inl, inr, arith, subst, is_some}
 use Rattle.std.specs.Prelude.{◌&&◌, ◌||◌, not, if◌then◌else◌, slice_get, IsSomeAnd, filter, option_map, option_and_then}
 use Rattle.std.specs.List.{list_any, list_all, AllByRecursion}
 use Rattle.std.proofs.lemmas.Bool.{or_parts, and_parts}
@@ -13,13 +14,15 @@ use Rattle.lifecycle.specs.Awaits.{is_awaited, is_same_step, is_busy_with}
 use Rattle.lifecycle.specs.declared.kinds.After.{After}
 use Rattle.lifecycle.specs.declared.kinds.LifeEvent.{LifeEvent}
 use Rattle.lifecycle.specs.declared.kinds.LifeEvent.TheVariants as event
-use Rattle.components.specs.Components.{Components, ComponentState, Child, At, changed_at, is_to_stop, is_leaving, has_orphan, is_orphan, child_of, owner, owner_from, without_child, child_gone, component_name}
+use Rattle.components.specs.Components.{Components, ComponentState, Child, At, changed_at, is_to_stop, is_leaving, has_orphan, is_orphan, child_of, owner}
+use Rattle.components.specs.Components.{owner_from, without_child, child_gone, component_name}
 use Rattle.components.specs.Turns.{may_begin, may_retry, may_stop, is_begun, is_unstarted, is_met, serves_softly, is_held}
 use Rattle.components.specs.Components.{stands_up}
 use Rattle.components.specs.Lives.{lived_at}
 use Rattle.components.specs.Acts.{MayMove, MayKill, is_kill_due, is_stop_due, spares, kills, OwesAt}
 use Rattle.law_termination.proofs.Answered.{unhanded, plainly_started, started_is, answered_all, answered_rank, answered_length, answered_begun}
-use Rattle.components.specs.Events.{answered_at, started, refused, skipped, ended, killed, gone_by, is_orphan_at, kill_event, kill_event_at, is_late_child, with_child, told_at}
+use Rattle.components.specs.Events.{answered_at, started, refused, skipped, ended, killed, gone_by, is_orphan_at, kill_event, kill_event_at, is_late_child}
+use Rattle.components.specs.Events.{with_child, told_at}
 use Rattle.law_termination.specs.Kept.{IsKeptPart, MayBefall, IsFalling}
 use Rattle.law_termination.specs.Rank.{part_rank, rank, start_weight}
 use Rattle.law_termination.proofs.Lists.{either, clash}
@@ -49,10 +52,11 @@ fewer t n (c ∷ cs) = let i = fewer t n cs in elim (either (c.number == n)) [ i
 
 one_less : (t : Child → Bool) (n : ℕ) (cs : List Child) → IsSomeAnd (child_of n cs) (λ c. t c ≡ true) → count t (but n cs) + 1 ≤ count t cs
 one_less t n [] h = absurd h
-one_less t n (c ∷ cs) h = elim (c.number == n) as (λ b. IsSomeAnd (if b then Some c else child_of n cs) (λ d. t d ≡ true) → count t (if not b then c ∷ but n cs else but n cs) + 1 ≤ (if t c then 1 else 0) + count t cs) [
-  | true ↦ λ y. (let i = fewer t n cs in rw y (omega (arith, i)))
-  | false ↦ λ y. (let i = one_less t n cs y in omega (arith, i))
-] h
+one_less t n (c ∷ cs) h = elim (c.number == n) as (λ b. IsSomeAnd (if b then Some c else child_of n cs) (λ d. t d ≡ true) →
+    count t (if not b then c ∷ but n cs else but n cs) + 1 ≤ (if t c then 1 else 0) + count t cs) [
+      | true ↦ λ y. (let i = fewer t n cs in rw y (omega (arith, i)))
+      | false ↦ λ y. (let i = one_less t n cs y in omega (arith, i))
+    ] h
 
 count_both : (t : Child → Bool) (cs : List Child) → count t cs + count (λ c. not (t c)) cs ≡ length cs
 count_both t [] = refl
@@ -69,10 +73,11 @@ no_count t (c ∷ cs) e = let x = or_parts (t c) (list_any t cs) e in let i = no
 
 pub shorter : (n : ℕ) (P : Child → Type 0) (cs : List Child) → IsSomeAnd (child_of n cs) P → length (but n cs) + 1 ≤ length cs
 shorter n P [] h = absurd h
-shorter n P (c ∷ cs) h = elim (c.number == n) as (λ b. IsSomeAnd (if b then Some c else child_of n cs) P → length (if not b then c ∷ but n cs else but n cs) + 1 ≤ suc (length cs)) [
-  | true ↦ λ y. (let a = fewer (λ d. true) n cs in let b = count_all cs in let d = count_all (but n cs) in omega (arith, a, b, d))
-  | false ↦ λ y. (let i = shorter n P cs y in omega (arith, i))
-] h
+shorter n P (c ∷ cs) h = elim (c.number == n) as (λ b. IsSomeAnd (if b then Some c else child_of n cs) P →
+    length (if not b then c ∷ but n cs else but n cs) + 1 ≤ suc (length cs)) [
+      | true ↦ λ y. (let a = fewer (λ d. true) n cs in let b = count_all cs in let d = count_all (but n cs) in omega (arith, a, b, d))
+      | false ↦ λ y. (let i = shorter n P cs y in omega (arith, i))
+    ] h
   where
     count_all : (ds : List Child) → count (λ d. true) ds ≡ length ds
     count_all [] = refl
@@ -87,7 +92,8 @@ other_gone : (busy : Option Step) (n : ℕ) (cs : List Child) → IsSomeAnd (chi
 other_gone None n cs h = let i = shorter n (λ c. is_busy_with c.of None ≡ false) cs h in omega (arith, i)
 other_gone (Some s) n cs h =
     let t = λ (c : Child). is_same_step s c.of in
-    let o = one_less (λ (c : Child). not (is_same_step s c.of)) n cs (some_map (child_of n cs) (λ c. is_same_step c.of s ≡ false) (λ c. not (is_same_step s c.of) ≡ true) (λ c e. rw (other_step c.of s e) refl) h) in
+    let o = one_less (λ (c : Child). not (is_same_step s c.of)) n cs
+    (some_map (child_of n cs) (λ c. is_same_step c.of s ≡ false) (λ c. not (is_same_step s c.of) ≡ true) (λ c e. rw (other_step c.of s e) refl) h) in
     let f = fewer (λ (c : Child). is_same_step s c.of) n cs in
     let a = count_both (λ (c : Child). is_same_step s c.of) cs in
     let b = count_both (λ (c : Child). is_same_step s c.of) (but n cs) in
@@ -108,13 +114,17 @@ other_gone (Some s) n cs h =
 owner_from_at : (j n : ℕ) (ps : List ComponentState) (k : ℕ) (s : Step) → owner_from j n ps ≡ Some (k, s)
     → (d : ℕ) × (k ≡ j + d) × At d (λ p. IsSomeAnd (child_of n p.children) (λ c. c.of ≡ s)) ps
 owner_from_at j n [] k s e = absurd (cc)
-owner_from_at j n (p ∷ ps) k s e = elim (child_of n p.children) as (λ o. (elim o [ None ↦ owner_from (j + 1) n ps | Some c ↦ Some (j, c.of) ]) ≡ Some (k, s) → child_of n p.children ≡ o → (d : ℕ) × (k ≡ j + d) × At d (λ p. IsSomeAnd (child_of n p.children) (λ c. c.of ≡ s)) (p ∷ ps)) [
-  | None ↦ λ y q. (let i = owner_from_at (j + 1) n ps k s y in let a = i.1 in (suc i.0, omega (arith, a), i.2))
-  | Some c ↦ λ y q. (let a : j ≡ k = ap (λ (o : Option (ℕ × Step)). elim o [ None ↦ j | Some x ↦ x.0 ]) y in (0, omega (arith, a), subst (λ o. IsSomeAnd o (λ d. d.of ≡ s)) (sym q) (ap (λ (o : Option (ℕ × Step)). elim o [ None ↦ s | Some x ↦ x.1 ]) y)))
-] e refl
+owner_from_at j n (p ∷ ps) k s e = elim (child_of n p.children) as (λ o. (elim o [ None ↦ owner_from (j + 1) n ps | Some c ↦ Some (j, c.of) ]) ≡ Some (k, s) →
+    child_of n p.children ≡ o → (d : ℕ) × (k ≡ j + d) × At d (λ p. IsSomeAnd (child_of n p.children) (λ c. c.of ≡ s)) (p ∷ ps)) [
+      | None ↦ λ y q. (let i = owner_from_at (j + 1) n ps k s y in let a = i.1 in (suc i.0, omega (arith, a), i.2))
+      | Some c ↦ λ y q. (let a : j ≡ k = ap (λ (o : Option (ℕ × Step)). elim o [ None ↦ j | Some x ↦ x.0 ]) y in
+          (0, omega (arith, a), subst (λ o. IsSomeAnd o (λ d. d.of ≡ s)) (sym q) (ap (λ (o : Option (ℕ × Step)). elim o [ None ↦ s | Some x ↦ x.1 ]) y)))
+    ] e refl
 
-pub owner_at : (n : ℕ) (ps : List ComponentState) (k : ℕ) (s : Step) → owner n ps ≡ Some (k, s) → At k (λ p. IsSomeAnd (child_of n p.children) (λ c. c.of ≡ s)) ps
-owner_at n ps k s e = let x = owner_from_at 0 n ps k s e in let a = x.1 in subst (λ j. At j (λ p. IsSomeAnd (child_of n p.children) (λ c. c.of ≡ s)) ps) (let z : x.0 ≡ k = omega (arith, a) in z) x.2
+pub owner_at : (n : ℕ) (ps : List ComponentState) (k : ℕ) (s : Step) → owner n ps ≡ Some (k, s) →
+    At k (λ p. IsSomeAnd (child_of n p.children) (λ c. c.of ≡ s)) ps
+owner_at n ps k s e = let x = owner_from_at 0 n ps k s e in let a = x.1 in subst (λ j. At j (λ p. IsSomeAnd (child_of n p.children) (λ c. c.of ≡ s)) ps)
+    (let z : x.0 ≡ k = omega (arith, a) in z) x.2
 
 -- ---- what happens
 
@@ -124,15 +134,18 @@ module _ (w : Components) (kept : AllByRecursion IsKeptPart w.parts) (few : leng
 
   known : (k : ℕ) (P : ComponentState → Type 0) → At k P w.parts → At k (λ p. Known p × P p) w.parts
   known k P a = at_map k w.parts (λ p. IsKeptPart p × (IsFallingPart w.steady p × P p)) (λ p. Known p × P p) (λ p x. ((x.0, x.1.0), x.1.1))
-      (at_both k w.parts IsKeptPart (λ p. IsFallingPart w.steady p × P p) kept (at_both k w.parts (IsFallingPart w.steady) P (all_falling w.steady w.parts f) a))
+      (at_both k w.parts IsKeptPart (λ p. IsFallingPart w.steady p × P p) kept
+      (at_both k w.parts (IsFallingPart w.steady) P (all_falling w.steady w.parts f) a))
 
   row : (p : ComponentState) → IsKeptPart p → (e : LifeEvent) → is_awaited e p.life ≡ true → is_some (table p.life e) ≡ true
   row p k e a = table_row p.life e k.sound ∙ a
 
-  stays : (p : ComponentState) (e : LifeEvent) → Known p → MayBefall e p → is_awaited e p.life ≡ true → Pays e p.life.busy p.children p.children → Lowers w.steady e p p
+  stays : (p : ComponentState) (e : LifeEvent) → Known p → MayBefall e p → is_awaited e p.life ≡ true → Pays e p.life.busy p.children p.children →
+      Lowers w.steady e p p
   stays p e k m a y = lowers w.steady e p p.children k.0.sound k.0.asks k.1 m (row p k.0 e a) y
 
-  less_or : (k : ℕ) (e : LifeEvent) (P : ComponentState → Type 0) → ((p : ComponentState) → Known p → P p → Lowers w.steady e p p) → At k P w.parts → rank (lived_at k e w) < rank w
+  less_or : (k : ℕ) (e : LifeEvent) (P : ComponentState → Type 0) → ((p : ComponentState) → Known p → P p → Lowers w.steady e p p) → At k P w.parts →
+      rank (lived_at k e w) < rank w
   less_or k e P g a = plain_falls k e w few (at_map k w.parts (λ p. Known p × P p) (λ p. Lowers w.steady e p p) (λ p x. g p x.0 x.1) (known k P a))
 
   no_more : (cs : List Child) → length cs ≤ length cs
@@ -141,13 +154,19 @@ module _ (w : Components) (kept : AllByRecursion IsKeptPart w.parts) (few : leng
   by_stop : (p : ComponentState) (a : After) → p.stop ≡ Some a → may_stop w p ≡ true → is_awaited (event.Stop a) p.life ≡ true
   by_stop p a e m =
       let x : ((is_awaited (event.Stop a) p.life && not (has_orphan p || is_unstarted p)) && not (is_held (component_name p) w.parts)) ≡ true
-      = subst (λ (o : Option After). (elim o [ None ↦ false | Some b ↦ (is_awaited (event.Stop b) p.life && not (has_orphan p || is_unstarted p)) && not (is_held (component_name p) w.parts) ]) ≡ true) e m in
-      (and_parts (is_awaited (event.Stop a) p.life) (not (has_orphan p || is_unstarted p)) (and_parts (is_awaited (event.Stop a) p.life && not (has_orphan p || is_unstarted p)) (not (is_held (component_name p) w.parts)) x).0).0
+      = subst (λ (o : Option After). (elim o [
+        | None ↦ false
+        | Some b ↦ (is_awaited (event.Stop b) p.life && not (has_orphan p || is_unstarted p)) &&
+            not (is_held (component_name p) w.parts)
+      ]) ≡ true) e m in
+      (and_parts (is_awaited (event.Stop a) p.life) (not (has_orphan p || is_unstarted p))
+      (and_parts (is_awaited (event.Stop a) p.life && not (has_orphan p || is_unstarted p)) (not (is_held (component_name p) w.parts)) x).0).0
 
   -- components move in their turns
   pub move_lowers : (k : ℕ) (e : LifeEvent) → MayMove w k e → rank (lived_at k e w) < rank w
   move_lowers k event.MayBegin a = less_or k event.MayBegin (λ p. may_begin w p ≡ true) (λ p x m.
-      let y = and_parts (is_awaited event.MayBegin p.life && not (is_to_stop p)) (list_all (is_met stands_up w.parts) p.fitted.hard && list_all (is_met serves_softly w.parts) p.fitted.soft) m in
+      let y = and_parts (is_awaited event.MayBegin p.life && not (is_to_stop p)) (list_all (is_met stands_up w.parts) p.fitted.hard &&
+      list_all (is_met serves_softly w.parts) p.fitted.soft) m in
       let z = and_parts (is_awaited event.MayBegin p.life) (not (is_to_stop p)) y.0 in
       stays p event.MayBegin x (not_so (is_to_stop p) z.1) z.0 (inl ((λ b. refl), no_more p.children))) a
   move_lowers k event.Retry a = less_or k event.Retry (λ p. may_retry p ≡ true) (λ p x m.
@@ -171,7 +190,11 @@ module _ (w : Components) (kept : AllByRecursion IsKeptPart w.parts) (few : leng
       busy_is s o h = grind (arith, h)
 
   stands_busy : (p : ComponentState) → IsKeptPart p → (s : Step) → p.life.busy ≡ Some s → p.life.gone ≡ false
-  stands_busy p k s b = elim (either p.life.gone) [ inr g ↦ g | inl g ↦ (let x = bare_of p k g in let y : is_some p.life.busy ≡ false = rw x.2 refl in let z : is_some p.life.busy ≡ true = rw b refl in clash (is_some p.life.busy) z y) ]
+  stands_busy p k s b = elim (either p.life.gone) [
+    | inr g ↦ g
+    | inl g ↦ (let x = bare_of p k g in let y : is_some p.life.busy ≡ false = rw x.2 refl in
+        let z : is_some p.life.busy ≡ true = rw b refl in clash (is_some p.life.busy) z y)
+  ]
 
   refused_plainly : (k : ℕ) (t : Step) → At k (λ p. is_begun t p ≡ true) w.parts → rank (lived_at k (event.Ended t exits.NotStarted) w) < rank w
   refused_plainly k t a = less_or k (event.Ended t exits.NotStarted) (λ p. is_begun t p ≡ true) (λ p x m.
@@ -183,8 +206,10 @@ module _ (w : Components) (kept : AllByRecursion IsKeptPart w.parts) (few : leng
       let b = begun_busy p t m in let g = stands_busy p x.0 t b.0 in let c = b.1 in
       stays p event.Skipped x tt (rw g (rw b.0 refl)) (inr (omega (arith, c), omega arith))) a
 
-  lives_on : (k n : ℕ) (t : Step) → At k (λ p. is_begun t p ≡ true) w.parts → rank (record w { parts = changed_at k (with_child n t w.moment) w.parts }) < rank w
-  lives_on k n t a = let z = rank_changed k (with_child n t w.moment) 1 w.parts (at_map k w.parts (λ p. is_begun t p ≡ true) (λ p. part_rank (with_child n t w.moment p) + 1 ≤ part_rank p) (λ p m.
+  lives_on : (k n : ℕ) (t : Step) → At k (λ p. is_begun t p ≡ true) w.parts → rank (record w { parts = changed_at k (with_child n t w.moment) w.parts })
+      < rank w
+  lives_on k n t a = let z = rank_changed k (with_child n t w.moment) 1 w.parts
+      (at_map k w.parts (λ p. is_begun t p ≡ true) (λ p. part_rank (with_child n t w.moment p) + 1 ≤ part_rank p) (λ p m.
       let b = begun_busy p t m in let c = b.1 in
       let d : start_weight p.life.busy (with_child n t w.moment p).children ≡ 0 = rw b.0 (rw (same_self t) refl) in omega (arith, c, d)) a) in omega (arith, z)
 
@@ -192,7 +217,8 @@ module _ (w : Components) (kept : AllByRecursion IsKeptPart w.parts) (few : leng
   started_plainly k n step.Run a = event_falls k w.moment w.steady event.Launched (with_child n step.Run w.moment) w.parts few
       (at_map k w.parts (λ p. Known p × (is_begun step.Run p ≡ true)) (λ p. Lowers w.steady event.Launched (with_child n step.Run w.moment p) p) (λ p x.
       let b = begun_busy p step.Run x.1 in let g = stands_busy p x.0.0 step.Run b.0 in let c = b.1 in
-      lowers w.steady event.Launched p (with_child n step.Run w.moment p).children x.0.0.sound x.0.0.asks x.0.1 tt (row p x.0.0 event.Launched (rw g (rw b.0 refl))) (inr (omega (arith, c), omega arith))) (known k (λ p. is_begun step.Run p ≡ true) a))
+      lowers w.steady event.Launched p (with_child n step.Run w.moment p).children x.0.0.sound x.0.0.asks x.0.1 tt
+      (row p x.0.0 event.Launched (rw g (rw b.0 refl))) (inr (omega (arith, c), omega arith))) (known k (λ p. is_begun step.Run p ≡ true) a))
   started_plainly k n step.Install a = lives_on k n step.Install a
   started_plainly k n step.Startup a = lives_on k n step.Startup a
   started_plainly k n step.Shutdown a = lives_on k n step.Shutdown a
@@ -201,7 +227,8 @@ module _ (w : Components) (kept : AllByRecursion IsKeptPart w.parts) (few : leng
 
   -- ---- a failure that is told
   pub told_lowers : (k : ℕ) (s : Step) (x : Exit) (b : Bool) → OwesAt w k s x b → rank (told_at k w) < rank w
-  told_lowers k s x b a = let z = rank_changed k (λ p. record p { owed = None }) 1 w.parts (at_map k w.parts _ (λ p. part_rank (record p { owed = None }) + 1 ≤ part_rank p) (λ p m. let o = m.0 in rw o (omega arith)) a) in omega (arith, z)
+  told_lowers k s x b a = let z = rank_changed k (λ p. record p { owed = None }) 1 w.parts
+      (at_map k w.parts _ (λ p. part_rank (record p { owed = None }) + 1 ≤ part_rank p) (λ p m. let o = m.0 in rw o (omega arith)) a) in omega (arith, z)
 
   -- ---- a child that is gone
 
@@ -224,10 +251,15 @@ module _ (w : Components) (kept : AllByRecursion IsKeptPart w.parts) (few : leng
 
   child_lowers_orphan : (k n : ℕ) (s : Step) → owner n w.parts ≡ Some (k, s) → is_orphan_at k s w ≡ true → rank (child_gone k n w) < rank w
   child_lowers_orphan k n s o y =
-      let h = at_self k w.parts (λ p. Known p × IsSomeAnd (child_of n p.children) (λ c. c.of ≡ s)) (known k (λ p. IsSomeAnd (child_of n p.children) (λ c. c.of ≡ s)) (owner_at n w.parts k s o)) in
-      let z = rank_changed k (without_child n) 1 w.parts (at_map k w.parts (λ p. (Known p × IsSomeAnd (child_of n p.children) (λ c. c.of ≡ s)) × (slice_get w.parts k ≡ Some p)) (λ p. part_rank (without_child n p) + 1 ≤ part_rank p)
+      let h = at_self k w.parts (λ p. Known p × IsSomeAnd (child_of n p.children) (λ c. c.of ≡ s))
+      (known k (λ p. IsSomeAnd (child_of n p.children) (λ c. c.of ≡ s)) (owner_at n w.parts k s o)) in
+      let z = rank_changed k (without_child n) 1 w.parts (at_map k w.parts (λ p. (Known p × IsSomeAnd (child_of n p.children) (λ c. c.of ≡ s)) ×
+      (slice_get w.parts k ≡ Some p)) (λ p. part_rank (without_child n p) + 1 ≤ part_rank p)
       (λ p x. let u = orphan_is p x.1 in
-      let v = other_gone p.life.busy n p.children (moved (child_of n p.children) {P = λ c. c.of ≡ s} {R = λ c. is_busy_with c.of p.life.busy ≡ false} x.0.1 (λ c q. subst (λ t. is_busy_with t p.life.busy ≡ false) (sym q) (not_so (is_busy_with s p.life.busy) (and_parts (not (is_busy_with s p.life.busy)) (not (is_same_step s step.Run && p.life.runs)) u).0))) in omega (arith, v)) h) in omega (arith, z)
+      let v = other_gone p.life.busy n p.children (moved (child_of n p.children) {P = λ c. c.of ≡ s} {R = λ c. is_busy_with c.of p.life.busy ≡ false} x.0.1
+      (λ c q. subst (λ t. is_busy_with t p.life.busy ≡ false) (sym q)
+      (not_so (is_busy_with s p.life.busy) (and_parts (not (is_busy_with s p.life.busy)) (not (is_same_step s step.Run && p.life.runs)) u).0))) in
+      omega (arith, v)) h) in omega (arith, z)
     where
       orphan_is : (p : ComponentState) → slice_get w.parts k ≡ Some p → is_orphan p.life s ≡ true
       orphan_is p q = subst (λ (o : Option ComponentState). (elim o [ None ↦ false | Some z ↦ is_orphan z.life s ]) ≡ true) q y
@@ -237,15 +269,25 @@ module _ (w : Components) (kept : AllByRecursion IsKeptPart w.parts) (few : leng
       moved (Some c) h f = f c h
 
   child_lowers : (k n : ℕ) (s : Step) (e : LifeEvent) (Q : ComponentState → Type 0) → owner n w.parts ≡ Some (k, s) → At k Q w.parts
-      → ((p : ComponentState) → Known p → Q p → IsSomeAnd (child_of n p.children) (λ c. c.of ≡ s) → is_orphan p.life s ≡ false → slice_get w.parts k ≡ Some p → IsReady e n p)
+      → ((p : ComponentState) → Known p → Q p → IsSomeAnd (child_of n p.children) (λ c. c.of ≡ s) → is_orphan p.life s ≡ false →
+      slice_get w.parts k ≡ Some p → IsReady e n p)
       → rank (gone_by (Some e) k s n w) < rank w
   child_lowers k n s e Q o a g =
-      let h = at_self k w.parts (λ p. Known p × (IsSomeAnd (child_of n p.children) (λ c. c.of ≡ s) × Q p)) (known k (λ p. IsSomeAnd (child_of n p.children) (λ c. c.of ≡ s) × Q p) (two k w.parts (λ p. IsSomeAnd (child_of n p.children) (λ c. c.of ≡ s)) Q (owner_at n w.parts k s o) a)) in
+      let h = at_self k w.parts (λ p. Known p × (IsSomeAnd (child_of n p.children) (λ c. c.of ≡ s) × Q p))
+      (known k (λ p. IsSomeAnd (child_of n p.children) (λ c. c.of ≡ s) × Q p) (two k w.parts (λ p. IsSomeAnd (child_of n p.children) (λ c. c.of ≡ s)) Q
+      (owner_at n w.parts k s o) a)) in
       elim (is_orphan_at k s w) as (λ b. is_orphan_at k s w ≡ b → rank (if b then child_gone k n w else lived_at k e (child_gone k n w)) < rank w) [
-        | true ↦ λ y. (let z = rank_changed k (without_child n) 1 w.parts (at_map k w.parts (λ p. (Known p × (IsSomeAnd (child_of n p.children) (λ c. c.of ≡ s) × Q p)) × (slice_get w.parts k ≡ Some p)) (λ p. part_rank (without_child n p) + 1 ≤ part_rank p)
+        | true ↦ λ y. (let z = rank_changed k (without_child n) 1 w.parts
+            (at_map k w.parts (λ p. (Known p × (IsSomeAnd (child_of n p.children) (λ c. c.of ≡ s) × Q p)) × (slice_get w.parts k ≡ Some p))
+            (λ p. part_rank (without_child n p) + 1 ≤ part_rank p)
             (λ p x. let u = orphan_is p x.1 true y in
-            let v = other_gone p.life.busy n p.children (moved (child_of n p.children) {P = λ c. c.of ≡ s} {R = λ c. is_busy_with c.of p.life.busy ≡ false} x.0.1.0 (λ c q. subst (λ t. is_busy_with t p.life.busy ≡ false) (sym q) (not_so (is_busy_with s p.life.busy) (and_parts (not (is_busy_with s p.life.busy)) (not (is_same_step s step.Run && p.life.runs)) u).0))) in omega (arith, v)) h) in omega (arith, z))
-        | false ↦ λ y. event_falls k w.moment w.steady e (without_child n) w.parts few (at_map k w.parts (λ p. (Known p × (IsSomeAnd (child_of n p.children) (λ c. c.of ≡ s) × Q p)) × (slice_get w.parts k ≡ Some p)) (λ p. Lowers w.steady e (without_child n p) p)
+            let v = other_gone p.life.busy n p.children (moved (child_of n p.children) {P = λ c. c.of ≡ s} {R = λ c. is_busy_with c.of p.life.busy ≡ false}
+            x.0.1.0 (λ c q. subst (λ t. is_busy_with t p.life.busy ≡ false) (sym q)
+            (not_so (is_busy_with s p.life.busy) (and_parts (not (is_busy_with s p.life.busy)) (not (is_same_step s step.Run && p.life.runs)) u).0))) in
+            omega (arith, v)) h) in omega (arith, z))
+        | false ↦ λ y. event_falls k w.moment w.steady e (without_child n) w.parts few
+            (at_map k w.parts (λ p. (Known p × (IsSomeAnd (child_of n p.children) (λ c. c.of ≡ s) × Q p)) × (slice_get w.parts k ≡ Some p))
+            (λ p. Lowers w.steady e (without_child n p) p)
             (λ p x. let r = g p x.0.0 x.0.1.1 x.0.1.0 (orphan_is p x.1 false y) x.1 in
             lowers w.steady e p (without_child n p).children x.0.0.0.sound x.0.0.0.asks x.0.0.1 r.may (row p x.0.0.0 e r.awaited) r.pays) h)
       ] refl
@@ -262,7 +304,8 @@ module _ (w : Components) (kept : AllByRecursion IsKeptPart w.parts) (few : leng
       moved None h f = absurd h
       moved (Some c) h f = f c h
 
-  end_ready : (n : ℕ) (s : Step) (x : Exit) (p : ComponentState) → IsKeptPart p → IsSomeAnd (child_of n p.children) (λ c. c.of ≡ s) → is_orphan p.life s ≡ false → IsReady (event.Ended s x) n p
+  end_ready : (n : ℕ) (s : Step) (x : Exit) (p : ComponentState) → IsKeptPart p → IsSomeAnd (child_of n p.children) (λ c. c.of ≡ s) →
+      is_orphan p.life s ≡ false → IsReady (event.Ended s x) n p
   end_ready n s x p k h o = let a = shorter n (λ c. c.of ≡ s) p.children h in record {
     may = tt;
     awaited = rw (orphan_of_gone p k s o) (by_parts (is_busy_with s p.life.busy) (is_same_step s step.Run && p.life.runs) o);
@@ -275,7 +318,9 @@ module _ (w : Components) (kept : AllByRecursion IsKeptPart w.parts) (few : leng
       by_parts false false e = absurd (cc)
 
   pub ended_lowers : (n : ℕ) (x : Exit) (k : ℕ) (s : Step) → owner n w.parts ≡ Some (k, s) → rank (ended n x w) < rank w
-  ended_lowers n x k s o = subst (λ (z : Option (ℕ × Step)). rank (elim z [ None ↦ w | Some y ↦ gone_by (Some (event.Ended y.1 x)) y.0 y.1 n w ]) < rank w) (sym o) (child_lowers k n s (event.Ended s x) (λ p. Unit {0}) o (at_map k w.parts (λ p. IsSomeAnd (child_of n p.children) (λ c. c.of ≡ s)) (λ p. Unit {0}) (λ p y. tt) (owner_at n w.parts k s o))
+  ended_lowers n x k s o = subst (λ (z : Option (ℕ × Step)). rank (elim z [ None ↦ w | Some y ↦ gone_by (Some (event.Ended y.1 x)) y.0 y.1 n w ]) < rank w)
+      (sym o) (child_lowers k n s (event.Ended s x) (λ p. Unit {0}) o (at_map k w.parts (λ p. IsSomeAnd (child_of n p.children) (λ c. c.of ≡ s))
+      (λ p. Unit {0}) (λ p y. tt) (owner_at n w.parts k s o))
       (λ p kn q h u v. end_ready n s x p kn.0 h u))
 
   record IsKill (o : Option LifeEvent) (n : ℕ) (p : ComponentState) : Type 0 where
@@ -283,11 +328,13 @@ module _ (w : Components) (kept : AllByRecursion IsKeptPart w.parts) (few : leng
     is : o ≡ Some what
     ready : IsReady what n p
 
-  kill_ready : (n : ℕ) (s : Step) (p : ComponentState) → IsKeptPart p → IsSomeAnd (child_of n p.children) (λ c. c.of ≡ s) → is_orphan p.life s ≡ false → is_kill_due w n s p ≡ true → IsKill (kill_event w.moment n s p) n p
-  kill_ready n s p k h o d = elim (is_late_child w.moment n p) as (λ b. (b || (is_orphan p.life s || is_stop_due w p)) ≡ true → IsKill (if b then Some (event.Ended s exits.TimedOut) else option_map (λ a. event.Stop a) p.stop) n p) [
-    | true ↦ λ e. record { what = event.Ended s exits.TimedOut; is = refl; ready = end_ready n s exits.TimedOut p k h o }
-    | false ↦ λ e. by_asked p.stop refl (second (is_orphan p.life s) (is_stop_due w p) e o)
-  ] d
+  kill_ready : (n : ℕ) (s : Step) (p : ComponentState) → IsKeptPart p → IsSomeAnd (child_of n p.children) (λ c. c.of ≡ s) → is_orphan p.life s ≡ false →
+      is_kill_due w n s p ≡ true → IsKill (kill_event w.moment n s p) n p
+  kill_ready n s p k h o d = elim (is_late_child w.moment n p) as (λ b. (b || (is_orphan p.life s || is_stop_due w p)) ≡ true →
+      IsKill (if b then Some (event.Ended s exits.TimedOut) else option_map (λ a. event.Stop a) p.stop) n p) [
+        | true ↦ λ e. record { what = event.Ended s exits.TimedOut; is = refl; ready = end_ready n s exits.TimedOut p k h o }
+        | false ↦ λ e. by_asked p.stop refl (second (is_orphan p.life s) (is_stop_due w p) e o)
+      ] d
     where
       second : (a b : Bool) → (a || b) ≡ true → a ≡ false → b ≡ true
       second true b e f = absurd (cc)
@@ -304,10 +351,15 @@ module _ (w : Components) (kept : AllByRecursion IsKeptPart w.parts) (few : leng
   orphan_lowers : (k n : ℕ) (s : Step) → owner n w.parts ≡ Some (k, s) → is_orphan_at k s w ≡ true → rank (child_gone k n w) < rank w
   orphan_lowers k n s o y = child_lowers_orphan k n s o y
 
-  no_event : (o : Option LifeEvent) (k n : ℕ) (s : Step) → owner n w.parts ≡ Some (k, s) → At k (λ p. (is_kill_due w n s p ≡ true) × (kill_event w.moment n s p ≡ o)) w.parts → rank (gone_by o k s n w) < rank w
-  no_event None k n s o a = orphan_lowers k n s o (orphans (slice_get w.parts k) (at_map k w.parts (λ p. Known p × (IsSomeAnd (child_of n p.children) (λ c. c.of ≡ s) × ((is_kill_due w n s p ≡ true) × (kill_event w.moment n s p ≡ None)))) (λ p. is_orphan p.life s ≡ true) (λ p x.
+  no_event : (o : Option LifeEvent) (k n : ℕ) (s : Step) → owner n w.parts ≡ Some (k, s) →
+      At k (λ p. (is_kill_due w n s p ≡ true) × (kill_event w.moment n s p ≡ o)) w.parts → rank (gone_by o k s n w) < rank w
+  no_event None k n s o a = orphan_lowers k n s o (orphans (slice_get w.parts k)
+      (at_map k w.parts (λ p. Known p × (IsSomeAnd (child_of n p.children) (λ c. c.of ≡ s) ×
+      ((is_kill_due w n s p ≡ true) × (kill_event w.moment n s p ≡ None)))) (λ p. is_orphan p.life s ≡ true) (λ p x.
       elim (either (is_orphan p.life s)) [ inl y ↦ y | inr y ↦ (let r = kill_ready n s p x.0.0 x.1.0 y x.1.1.0 in some_none r.what (sym x.1.1.1 ∙ r.is)) ])
-      (known k (λ p. IsSomeAnd (child_of n p.children) (λ c. c.of ≡ s) × ((is_kill_due w n s p ≡ true) × (kill_event w.moment n s p ≡ None))) (both k w.parts (λ p. IsSomeAnd (child_of n p.children) (λ c. c.of ≡ s)) (λ p. (is_kill_due w n s p ≡ true) × (kill_event w.moment n s p ≡ None)) (owner_at n w.parts k s o) a))))
+      (known k (λ p. IsSomeAnd (child_of n p.children) (λ c. c.of ≡ s) × ((is_kill_due w n s p ≡ true) × (kill_event w.moment n s p ≡ None)))
+      (both k w.parts (λ p. IsSomeAnd (child_of n p.children) (λ c. c.of ≡ s)) (λ p. (is_kill_due w n s p ≡ true) × (kill_event w.moment n s p ≡ None))
+      (owner_at n w.parts k s o) a))))
     where
       orphans : (q : Option ComponentState) → IsSomeAnd q (λ p. is_orphan p.life s ≡ true) → (elim q [ None ↦ false | Some p ↦ is_orphan p.life s ]) ≡ true
       orphans None h = absurd h
@@ -327,9 +379,12 @@ module _ (w : Components) (kept : AllByRecursion IsKeptPart w.parts) (few : leng
       some_same x y e = ap (λ o. elim o [ None ↦ x | Some z ↦ z ]) e
 
   pub killed_lowers : (n k : ℕ) (s : Step) → MayKill w n k s → rank (killed n w) < rank w
-  killed_lowers n k s m = subst (λ (z : Option (ℕ × Step)). rank (elim z [ None ↦ w | Some y ↦ gone_by (kill_event_at y.0 y.1 n w) y.0 y.1 n w ]) < rank w) (sym m.0)
-      (no_event (kill_event_at k s n w) k n s m.0 (at_map k w.parts (λ p. (is_kill_due w n s p ≡ true) × (slice_get w.parts k ≡ Some p)) (λ p. (is_kill_due w n s p ≡ true) × (kill_event w.moment n s p ≡ kill_event_at k s n w))
-      (λ p x. (x.0, sym (ap (λ (o : Option ComponentState). option_and_then (kill_event w.moment n s) o) x.1))) (at_self k w.parts (λ p. is_kill_due w n s p ≡ true) m.1)))
+  killed_lowers n k s m = subst (λ (z : Option (ℕ × Step)). rank (elim z [ None ↦ w | Some y ↦ gone_by (kill_event_at y.0 y.1 n w) y.0 y.1 n w ]) < rank w)
+      (sym m.0)
+      (no_event (kill_event_at k s n w) k n s m.0 (at_map k w.parts (λ p. (is_kill_due w n s p ≡ true) × (slice_get w.parts k ≡ Some p))
+      (λ p. (is_kill_due w n s p ≡ true) × (kill_event w.moment n s p ≡ kill_event_at k s n w))
+      (λ p x. (x.0, sym (ap (λ (o : Option ComponentState). option_and_then (kill_event w.moment n s) o) x.1)))
+      (at_self k w.parts (λ p. is_kill_due w n s p ≡ true) m.1)))
 
 -- ---- a start that was handed out and is answered
 
@@ -343,7 +398,19 @@ falling_same k w (inr l) = inr (leave k w.parts l)
     leave (suc j) (p ∷ ps) e = let x = and_parts (is_leaving p) (list_all is_leaving ps) e in let y = leave j ps x.1 in rw x.0 y
 
 pub unhanded_kept : (p : ComponentState) → IsKeptPart p → IsKeptPart (unhanded p)
-unhanded_kept p k = record { sound = k.sound; steps = k.steps; runnable = k.runnable; coming = k.coming; timed = k.timed; run = k.run; gone = k.gone; own = k.own; asks = k.asks; waits = k.waits }
+unhanded_kept p k = record {
+  sound = k.sound;
+  steps = k.steps;
+  runnable = k.runnable;
+  coming = k.coming;
+  timed = k.timed;
+  run = k.run;
+  gone = k.gone;
+  own =
+      k.own;
+  asks = k.asks;
+  waits = k.waits;
+}
 
 module _ (w : Components) (kept : AllByRecursion IsKeptPart w.parts) (few : length w.parts ≤ 256) (f : IsFalling w) where
   answered_kept : (k : ℕ) → AllByRecursion IsKeptPart (answered_at k w).parts
@@ -353,11 +420,14 @@ module _ (w : Components) (kept : AllByRecursion IsKeptPart w.parts) (few : leng
   answered_few k = let l = answered_length k w.parts in omega (arith, l, few)
 
   pub refused_lowers : (k : ℕ) (t : Step) → At k (λ p. is_begun t p ≡ true) w.parts → rank (refused k t w) < rank w
-  refused_lowers k t a = let z = refused_plainly (answered_at k w) (answered_kept k) (answered_few k) (falling_same k w f) k t (answered_begun k t w.parts a) in let r = answered_rank k w.parts in omega (arith, z, r)
+  refused_lowers k t a = let z = refused_plainly (answered_at k w) (answered_kept k) (answered_few k) (falling_same k w f) k t (answered_begun k t w.parts a)
+      in let r = answered_rank k w.parts in omega (arith, z, r)
 
   pub skipped_lowers : (k : ℕ) (t : Step) → At k (λ p. is_begun t p ≡ true) w.parts → rank (skipped k w) < rank w
-  skipped_lowers k t a = let z = skipped_plainly (answered_at k w) (answered_kept k) (answered_few k) (falling_same k w f) k t (answered_begun k t w.parts a) in let r = answered_rank k w.parts in omega (arith, z, r)
+  skipped_lowers k t a = let z = skipped_plainly (answered_at k w) (answered_kept k) (answered_few k) (falling_same k w f) k t (answered_begun k t w.parts a)
+      in let r = answered_rank k w.parts in omega (arith, z, r)
 
   pub started_lowers : (k n : ℕ) (t : Step) → At k (λ p. is_begun t p ≡ true) w.parts → rank (started k t n w) < rank w
-  started_lowers k n t a = let z = started_plainly (answered_at k w) (answered_kept k) (answered_few k) (falling_same k w f) k n t (answered_begun k t w.parts a) in
+  started_lowers k n t a = let z = started_plainly (answered_at k w) (answered_kept k) (answered_few k) (falling_same k w f) k n t
+      (answered_begun k t w.parts a) in
       let r = answered_rank k w.parts in let e = ap rank (started_is k t n w) in omega (arith, z, r, e)

@@ -24,7 +24,10 @@ module _ (P : Fitted → Option (Fitted × ℕ) → StepSet → List Child → T
   Of p = Holds p.fitted p.next p.life.steps p.children
 
   by_forgotten : (b : Bool) (c : Life) (p : ComponentState) → Of p → Of (with_failures_forgotten b c p)
-  by_forgotten b c p h = elim (b && succeeds c p.life) as (λ (y : Bool). Of (if y then record p { life = record p.life { failures = 0 } } else p)) [ true ↦ h | false ↦ h ]
+  by_forgotten b c p h = elim (b && succeeds c p.life) as (λ (y : Bool). Of (if y then record p { life = record p.life { failures = 0 } } else p)) [
+    | true ↦ h
+    | false ↦ h
+  ]
 
   by_owed : (a : LifeAct) (p : ComponentState) → Of p → Of (with_failure_owed a p)
   by_owed act.Nothing p h = h
@@ -41,17 +44,30 @@ module _ (P : Fitted → Option (Fitted × ℕ) → StepSet → List Child → T
   by_given (event.Stop a) p h = h
   by_given event.Retry p h = h
 
-  by_new : (e : LifeEvent) (c : Life) (p : ComponentState) → Of p → P (with_new_item e c p).fitted (with_new_item e c p).next (with_new_item e c p).life.steps (with_new_item e c p).children
-  by_new e c p h = elim (is_again (completed e c p.life)) as (λ (y : Bool). (let q : ComponentState = (if y then elim p.next [ None ↦ p | Some n ↦ record p { fitted = n.0; life = record p.life { steps = steps_of n.0; failures = n.1 }; next = None } ] else p) in P q.fitted q.next q.life.steps q.children)) [
-    | false ↦ h.0
-    | true ↦ elim p.next as (λ (o : Option (Fitted × ℕ)). p.next ≡ o → (let q : ComponentState = (elim o [ None ↦ p | Some n ↦ record p { fitted = n.0; life = record p.life { steps = steps_of n.0; failures = n.1 }; next = None } ]) in P q.fitted q.next q.life.steps q.children))
-        [ None ↦ λ e. h.0 | Some n ↦ λ e. h.1 n e ] refl
-  ]
+  by_new : (e : LifeEvent) (c : Life) (p : ComponentState) → Of p → P (with_new_item e c p).fitted (with_new_item e c p).next (with_new_item e c p).life.steps
+      (with_new_item e c p).children
+  by_new e c p h = elim (is_again (completed e c p.life)) as (λ (y : Bool). (let q : ComponentState =
+      (if y then elim p.next [ None ↦ p | Some n ↦ record p { fitted = n.0; life = record p.life { steps = steps_of n.0; failures = n.1 }; next = None } ]
+      else p) in P q.fitted q.next q.life.steps q.children)) [
+        | false ↦ h.0
+        | true ↦ elim p.next as (λ (o : Option (Fitted × ℕ)). p.next ≡ o →
+            (let q : ComponentState = (elim o [
+              | None ↦ p
+              | Some n ↦ record p {
+                fitted = n.0;
+                life = record p.life { steps = steps_of n.0; failures = n.1 };
+                next =
+                    None;
+              }
+            ]) in P q.fitted q.next q.life.steps q.children))
+            [ None ↦ λ e. h.0 | Some n ↦ λ e. h.1 n e ] refl
+      ]
 
   by_row : (p : ComponentState) (d : Life) → d.steps ≡ p.life.steps → Of p → Of (after_row d p)
   by_row p d e h = subst (λ (z : StepSet). Holds p.fitted p.next z p.children) (sym e) h
 
-  pub by_lived : (b : Bool) (e : LifeEvent) (p : ComponentState) → IsSound p.life → Of p → P (lived b e p).fitted (lived b e p).next (lived b e p).life.steps (lived b e p).children
+  pub by_lived : (b : Bool) (e : LifeEvent) (p : ComponentState) → IsSound p.life → Of p → P (lived b e p).fitted (lived b e p).next (lived b e p).life.steps
+      (lived b e p).children
   by_lived b e p k h = go (table p.life e) (table_steps p.life e k)
     where
       go : (o : Option (LifeAct × Life)) → IfSome o (λ r. r.1.steps ≡ p.life.steps) → (let q : ComponentState = (elim o [

@@ -1,5 +1,6 @@
 -- What is kept of each component is kept by each event, and by marks.
-use Rattle.std.proofs.Common.{◌≡◌, ◌==◌, ℕ, suc, zero, List, [], ◌∷◌, length, Option, Some, None, Bool, true, false, refl, sym, ap, ◌∙◌, inl, inr, arith, subst, is_some}
+use Rattle.std.proofs.Common.{◌≡◌, ◌==◌, ℕ, suc, zero, List, [], ◌∷◌, length, Option, Some, None, Bool, true, false, refl, sym, ap, ◌∙◌, inl, inr, arith}
+use Rattle.std.proofs.Common.{subst, is_some}
 use Rattle.std.specs.Prelude.{◌&&◌, ◌||◌, not, if◌then◌else◌, IfSome, filter}
 use Rattle.std.specs.List.{list_any, list_all, AllByRecursion}
 use Rattle.std.proofs.lemmas.Bool.{or_parts, and_parts}
@@ -14,7 +15,8 @@ use Rattle.lifecycle.specs.declared.kinds.LifeAct.{LifeAct}
 use Rattle.lifecycle.specs.declared.kinds.LifeEvent.{LifeEvent}
 use Rattle.lifecycle.specs.declared.kinds.LifeEvent.TheVariants as event
 use Rattle.components.specs.Fitted.{Fitted, name_of, steps_of}
-use Rattle.components.specs.Components.{ComponentState, Child, At, changed_at, is_to_stop, is_leaving, has_orphan, is_orphan, under_way, component_name, is_again, is_starting, is_up}
+use Rattle.components.specs.Components.{ComponentState, Child, At, changed_at, is_to_stop, is_leaving, has_orphan, is_orphan, under_way, component_name}
+use Rattle.components.specs.Components.{is_again, is_starting, is_up}
 use Rattle.components.specs.Marks.{Flagged, flagged_at, reaching, marked, restarted, may_restart, may_replan}
 use Rattle.components.specs.Lives.{lived, lived_at, drops_at as drops_in, after_row, with_failures_forgotten, with_failure_owed, with_stop_given, with_new_item}
 use Rattle.law_termination.specs.Kept.{IsKeptPart, IsRunnable, IsComing, MayBefall, begins, is_own, is_timed}
@@ -36,55 +38,91 @@ table_none : (c : Life) (e : LifeEvent) → c.gone ≡ true → table c e ≡ No
 table_none c e g = rw g refl
 
 pub lived_gone : (b : Bool) (e : LifeEvent) (q : ComponentState) → q.life.gone ≡ true → lived b e q ≡ q
-lived_gone b e q g = ap (λ (o : Option (LifeAct × Life)). elim o [ None ↦ q | Some r ↦ with_new_item e q.life (with_stop_given e (with_failure_owed r.0 (with_failures_forgotten b q.life (after_row r.1 q)))) ]) (table_none q.life e g)
+lived_gone b e q g = ap (λ (o : Option (LifeAct × Life)). elim o [
+  | None ↦ q
+  | Some r ↦ with_new_item e q.life
+      (with_stop_given e (with_failure_owed r.0 (with_failures_forgotten b q.life (after_row r.1 q))))
+]) (table_none q.life e g)
 
 abbrev runs_in : List Child → Bool
 runs_in cs = list_any (λ (c : Child). is_same_step step.Run c.of) cs
 
-with_children : (p : ComponentState) (cs : List Child) → IsKeptPart p → list_all is_timed cs ≡ true → (is_busy_with step.Run p.life.busy && runs_in cs) ≡ false → IsKeptPart (record p { children = cs })
-with_children p cs k t r = record { sound = k.sound; steps = k.steps; runnable = k.runnable; coming = k.coming; timed = t; run = r; gone = k.gone; own = k.own; asks = k.asks; waits = k.waits }
+with_children : (p : ComponentState) (cs : List Child) → IsKeptPart p → list_all is_timed cs ≡ true → (is_busy_with step.Run p.life.busy && runs_in cs)
+    ≡ false → IsKeptPart (record p { children = cs })
+with_children p cs k t r = record {
+  sound = k.sound;
+  steps = k.steps;
+  runnable = k.runnable;
+  coming = k.coming;
+  timed = t;
+  run = r;
+  gone = k.gone;
+  own =
+      k.own;
+  asks = k.asks;
+  waits = k.waits;
+}
 
 abbrev Fits : List ℕ → List Child → Fitted → Option (Fitted × ℕ) → StepSet → List Child → Type 0
 Fits own cs f nx st ds = (st ≡ steps_of f) × IsRunnable f × IfSome nx (IsComing (name_of f)) × (name_of f ≡ own) × (ds ≡ cs)
 
-pub run_keeps : (b : Bool) (e : LifeEvent) (q : ComponentState) (z : Bool) → IsSound q.life → (is_busy_with step.Run q.life.busy && z) ≡ false → (begins e && z) ≡ false → (is_busy_with step.Run (lived b e q).life.busy && z) ≡ false
+pub run_keeps : (b : Bool) (e : LifeEvent) (q : ComponentState) (z : Bool) → IsSound q.life → (is_busy_with step.Run q.life.busy && z) ≡ false →
+    (begins e && z) ≡ false → (is_busy_with step.Run (lived b e q).life.busy && z) ≡ false
 run_keeps b e q z k h i = elim (either q.life.gone) [
   | inl g ↦ subst (λ (x : ComponentState). (is_busy_with step.Run x.life.busy && z) ≡ false) (sym (lived_gone b e q g)) h
-  | inr g ↦ standing (λ x. IsSound x.life → (is_busy_with step.Run x.life.busy && z) ≡ false → (begins e && z) ≡ false → (is_busy_with step.Run (lived b e x).life.busy && z) ≡ false) q g
-      (run_at q.fitted q.life.steps q.life.failures q.life.busy q.life.runs q.life.install_failed q.life.stop q.children q.handed q.owed q.stop q.next q.life.state e b z) k h i
+  | inr g ↦ standing (λ x. IsSound x.life → (is_busy_with step.Run x.life.busy && z) ≡ false → (begins e && z) ≡ false →
+      (is_busy_with step.Run (lived b e x).life.busy && z) ≡ false) q g
+      (run_at q.fitted q.life.steps q.life.failures q.life.busy q.life.runs q.life.install_failed q.life.stop q.children q.handed q.owed q.stop q.next
+      q.life.state e b z) k h i
 ]
 
-pub lived_keeps : (b : Bool) (e : LifeEvent) (p : ComponentState) (cs : List Child) → IsKeptPart p → MayBefall e (record p { children = cs }) → list_all is_timed cs ≡ true
+pub lived_keeps : (b : Bool) (e : LifeEvent) (p : ComponentState) (cs : List Child) → IsKeptPart p → MayBefall e (record p { children = cs }) →
+    list_all is_timed cs ≡ true
     → (is_busy_with step.Run (lived b e (record p { children = cs })).life.busy && runs_in cs) ≡ false → IsKeptPart (lived b e (record p { children = cs }))
 lived_keeps b e p cs k m t r = elim (either p.life.gone) [
   | inl g ↦ (let same = lived_gone b e (record p { children = cs }) g in
       subst IsKeptPart (sym same) (with_children p cs k t (subst (λ (x : ComponentState). (is_busy_with step.Run x.life.busy && runs_in cs) ≡ false) same r)))
-  | inr g ↦ (let items = by_lived (Fits (component_name p) cs) b e (record p { children = cs }) k.sound
-      ((k.steps, k.runnable, k.coming, refl, refl), λ n q. let c : IsComing (component_name p) n = subst (λ (o : Option (Fitted × ℕ)). IfSome o (IsComing (component_name p))) q k.coming in (refl, c.runnable, tt, c.name, refl)) in
+  | inr g ↦ (let items = by_lived (Fits (component_name p) cs) b e (record p { children = cs }) k.sound (
+    (k.steps, k.runnable, k.coming, refl, refl),
+    λ n q. let c : IsComing (component_name p) n =
+        subst (λ (o : Option (Fitted × ℕ)). IfSome o (IsComing (component_name p))) q k.coming in (refl, c.runnable, tt, c.name, refl),
+  ) in
       record {
         sound = standing (λ x. IsSound x.life → IfSome x.next (IsComing (component_name x)) → IsSound (lived b e x).life) (record p { children = cs }) g
-            (sound_at p.fitted p.life.steps p.life.failures p.life.busy p.life.runs p.life.install_failed p.life.stop cs p.handed p.owed p.stop p.next p.life.state e b) k.sound k.coming;
+            (sound_at p.fitted p.life.steps p.life.failures p.life.busy p.life.runs p.life.install_failed p.life.stop cs p.handed p.owed p.stop p.next
+            p.life.state e b) k.sound k.coming;
         steps = items.0;
         runnable = items.1;
         coming = items.2;
         timed = subst (λ (ds : List Child). list_all is_timed ds ≡ true) (sym items.4) t;
         run = subst (λ (ds : List Child). (is_busy_with step.Run (lived b e (record p { children = cs })).life.busy && runs_in ds) ≡ false) (sym items.4) r;
-        gone = standing (λ x. may_be_busy x.life.state x.life.busy ≡ true → may_run x.life.state x.life.runs ≡ true → may_ask (under_way x.life) x.stop ≡ true → MayBefall e x → (not (lived b e x).life.gone || is_bare (lived b e x)) ≡ true) (record p { children = cs }) g
-            (gone_at p.fitted p.life.steps p.life.failures p.life.busy p.life.runs p.life.install_failed p.life.stop cs p.handed p.owed p.stop p.next p.life.state e b) k.sound.busy k.sound.runs k.asks m;
+        gone = standing (λ x. may_be_busy x.life.state x.life.busy ≡ true → may_run x.life.state x.life.runs ≡ true → may_ask (under_way x.life) x.stop ≡ true
+            → MayBefall e x → (not (lived b e x).life.gone || is_bare (lived b e x)) ≡ true) (record p { children = cs }) g
+            (gone_at p.fitted p.life.steps p.life.failures p.life.busy p.life.runs p.life.install_failed p.life.stop cs p.handed p.owed p.stop p.next
+            p.life.state e b) k.sound.busy k.sound.runs k.asks m;
         own = standing (λ x. IsSound x.life → is_own x.life ≡ true → is_own (lived b e x).life ≡ true) (record p { children = cs }) g
-            (own_at p.fitted p.life.steps p.life.failures p.life.busy p.life.runs p.life.install_failed p.life.stop cs p.handed p.owed p.stop p.next p.life.state e b) k.sound k.own;
-        asks = standing (λ x. IsSound x.life → may_ask (under_way x.life) x.stop ≡ true → MayBefall e x → may_ask (under_way (lived b e x).life) (lived b e x).stop ≡ true) (record p { children = cs }) g
-            (asks_at p.fitted p.life.steps p.life.failures p.life.busy p.life.runs p.life.install_failed p.life.stop cs p.handed p.owed p.stop p.next p.life.state e b) k.sound k.asks m;
-        waits = standing (λ x. IsSound x.life → may_ask (under_way x.life) x.stop ≡ true → MayBefall e x → (not (is_some x.next) || (is_again x.stop || is_again (under_way x.life))) ≡ true → (not (is_some (lived b e x).next) || (is_again (lived b e x).stop || is_again (under_way (lived b e x).life))) ≡ true) (record p { children = cs }) g
-            (waits_at p.fitted p.life.steps p.life.failures p.life.busy p.life.runs p.life.install_failed p.life.stop cs p.handed p.owed p.stop p.next p.life.state e b) k.sound k.asks m k.waits;
+            (own_at p.fitted p.life.steps p.life.failures p.life.busy p.life.runs p.life.install_failed p.life.stop cs p.handed p.owed p.stop p.next
+            p.life.state e b) k.sound k.own;
+        asks = standing (λ x. IsSound x.life → may_ask (under_way x.life) x.stop ≡ true → MayBefall e x →
+            may_ask (under_way (lived b e x).life) (lived b e x).stop ≡ true) (record p { children = cs }) g
+            (asks_at p.fitted p.life.steps p.life.failures p.life.busy p.life.runs p.life.install_failed p.life.stop cs p.handed p.owed p.stop p.next
+            p.life.state e b) k.sound k.asks m;
+        waits = standing (λ x. IsSound x.life → may_ask (under_way x.life) x.stop ≡ true → MayBefall e x →
+            (not (is_some x.next) || (is_again x.stop || is_again (under_way x.life))) ≡ true →
+            (not (is_some (lived b e x).next) || (is_again (lived b e x).stop || is_again (under_way (lived b e x).life))) ≡ true)
+            (record p { children = cs }) g
+            (waits_at p.fitted p.life.steps p.life.failures p.life.busy p.life.runs p.life.install_failed p.life.stop cs p.handed p.owed p.stop p.next
+            p.life.state e b) k.sound k.asks m k.waits;
       })
 ]
 
-pub lived_leaving : (b : Bool) (e : LifeEvent) (q : ComponentState) → IsSound q.life → may_ask (under_way q.life) q.stop ≡ true → MayBefall e q → is_leaving (lived b e q) ≡ is_leaving q
+pub lived_leaving : (b : Bool) (e : LifeEvent) (q : ComponentState) → IsSound q.life → may_ask (under_way q.life) q.stop ≡ true → MayBefall e q →
+    is_leaving (lived b e q) ≡ is_leaving q
 lived_leaving b e q k a m = elim (either q.life.gone) [
   | inl g ↦ ap is_leaving (lived_gone b e q g)
   | inr g ↦ standing (λ x. IsSound x.life → may_ask (under_way x.life) x.stop ≡ true → MayBefall e x → is_leaving (lived b e x) ≡ is_leaving x) q g
-      (leaving_at q.fitted q.life.steps q.life.failures q.life.busy q.life.runs q.life.install_failed q.life.stop q.children q.handed q.owed q.stop q.next q.life.state e b) k a m
+      (leaving_at q.fitted q.life.steps q.life.failures q.life.busy q.life.runs q.life.install_failed q.life.stop q.children q.handed q.owed q.stop q.next
+      q.life.state e b) k a m
 ]
 
 -- one that begins has no child
@@ -110,7 +148,11 @@ idle_of p e =
 pub mark_keeps : (p : ComponentState) → may_replan p ≡ true → IsKeptPart p → IsKeptPart (record p { stop = Some after.Restart })
 mark_keeps p e k =
     let i = idle_of p e in
-    let w : not (is_waiting p) ≡ true = elim (either (not (is_waiting p))) [ inl y ↦ y | inr n ↦ clash (is_again p.stop || is_again (under_way p.life)) (second_true (not (is_waiting p)) (is_again p.stop || is_again (under_way p.life)) k.waits n) (rw i.0 (rw i.1 refl)) ] in
+    let w : not (is_waiting p) ≡ true = elim (either (not (is_waiting p))) [
+      | inl y ↦ y
+      | inr n ↦ clash (is_again p.stop || is_again (under_way p.life))
+          (second_true (not (is_waiting p)) (is_again p.stop || is_again (under_way p.life)) k.waits n) (rw i.0 (rw i.1 refl))
+    ] in
     record {
       sound = k.sound;
       steps = k.steps;
@@ -130,14 +172,17 @@ Known b p = IsKeptPart p × IsFallingPart b p
 mark_known : (b : Bool) (p : ComponentState) → may_replan p ≡ true → Known b p → Known b (record p { stop = Some after.Restart })
 mark_known b p e k = (mark_keeps p e k.0, elim k.1 [ inl f ↦ inl f | inr l ↦ (let i = idle_of p e in clash (is_leaving p) l (rw i.0 (rw i.1 (rw i.2 refl)))) ])
 
-pub marked_known : (b : Bool) (may : ComponentState → Bool) → ((p : ComponentState) → may p ≡ true → may_replan p ≡ true) → (fs : Flagged) → AllByRecursion (Known b) (firsts fs) → AllByRecursion (Known b) (marked may fs)
+pub marked_known : (b : Bool) (may : ComponentState → Bool) → ((p : ComponentState) → may p ≡ true → may_replan p ≡ true) → (fs : Flagged) →
+    AllByRecursion (Known b) (firsts fs) → AllByRecursion (Known b) (marked may fs)
 marked_known b may f [] a = tt
-marked_known b may f (x ∷ fs) a = elim (x.1 && may x.0) as (λ y. x.1 && may x.0 ≡ y → AllByRecursion (Known b) ((if y then record x.0 { stop = Some after.Restart } else x.0) ∷ marked may fs)) [
-  | true ↦ λ e. (mark_known b x.0 (f x.0 (and_parts x.1 (may x.0) e).1) a.0, marked_known b may f fs a.1)
-  | false ↦ λ e. (a.0, marked_known b may f fs a.1)
-] refl
+marked_known b may f (x ∷ fs) a = elim (x.1 && may x.0) as (λ y. x.1 && may x.0 ≡ y →
+    AllByRecursion (Known b) ((if y then record x.0 { stop = Some after.Restart } else x.0) ∷ marked may fs)) [
+      | true ↦ λ e. (mark_known b x.0 (f x.0 (and_parts x.1 (may x.0) e).1) a.0, marked_known b may f fs a.1)
+      | false ↦ λ e. (a.0, marked_known b may f fs a.1)
+    ] refl
 
-pub changed_known : (K : ComponentState → Type 0) (k : ℕ) (g : ComponentState → ComponentState) (ps : List ComponentState) → AllByRecursion K ps → At k (λ p. K (g p)) ps → AllByRecursion K (changed_at k g ps)
+pub changed_known : (K : ComponentState → Type 0) (k : ℕ) (g : ComponentState → ComponentState) (ps : List ComponentState) → AllByRecursion K ps →
+    At k (λ p. K (g p)) ps → AllByRecursion K (changed_at k g ps)
 changed_known K k g [] a h = tt
 changed_known K zero g (p ∷ ps) a h = (h, a.1)
 changed_known K (suc k) g (p ∷ ps) a h = (a.0, changed_known K k g ps a.1 h)
@@ -145,20 +190,28 @@ changed_known K (suc k) g (p ∷ ps) a h = (a.0, changed_known K k g ps a.1 h)
 pub may_replan_of : (p : ComponentState) → may_restart p ≡ true → may_replan p ≡ true
 may_replan_of p e = (and_parts (is_starting p.life.state || is_up p.life.state) (may_replan p) e).1
 
-pub event_known : (k m : ℕ) (d b : Bool) (e : LifeEvent) (h : ComponentState → ComponentState) (ps : List ComponentState) → AllByRecursion (Known d) ps → At k (λ p. Known d (lived b e (h p))) ps
+pub event_known : (k m : ℕ) (d b : Bool) (e : LifeEvent) (h : ComponentState → ComponentState) (ps : List ComponentState) → AllByRecursion (Known d) ps →
+    At k (λ p. Known d (lived b e (h p))) ps
     → AllByRecursion (Known d) (lived_at k e (record { parts = changed_at k h ps; moment = m; steady = b })).parts
 event_known k m d b e h ps a c =
     let one = changed_known (Known d) k (λ p. lived b e (h p)) ps a c in
-    let both : AllByRecursion (Known d) (changed_at k (lived b e) (changed_at k h ps)) = subst (λ (qs : List ComponentState). AllByRecursion (Known d) qs) (sym (twice k (lived b e) h ps)) one in
-    elim (drops_in k (record { parts = changed_at k h ps; moment = m; steady = b }) e) as (λ (x : Bool). AllByRecursion (Known d) (if x then restarted may_restart (flagged_at k (changed_at k (lived b e) (changed_at k h ps))) else changed_at k (lived b e) (changed_at k h ps))) [
-      | true ↦ marked_known d may_restart may_replan_of (reaching (length (flagged_at k (changed_at k (lived b e) (changed_at k h ps)))) (flagged_at k (changed_at k (lived b e) (changed_at k h ps))))
-          (subst (λ (qs : List ComponentState). AllByRecursion (Known d) qs) (sym (firsts_reaching (length (flagged_at k (changed_at k (lived b e) (changed_at k h ps)))) (flagged_at k (changed_at k (lived b e) (changed_at k h ps))) ∙ firsts_at k (changed_at k (lived b e) (changed_at k h ps)))) both)
+    let both : AllByRecursion (Known d) (changed_at k (lived b e) (changed_at k h ps)) = subst (λ (qs : List ComponentState). AllByRecursion (Known d) qs)
+    (sym (twice k (lived b e) h ps)) one in
+    elim (drops_in k (record { parts = changed_at k h ps; moment = m; steady = b }) e)
+    as (λ (x : Bool). AllByRecursion (Known d) (if x then restarted may_restart (flagged_at k (changed_at k (lived b e) (changed_at k h ps)))
+    else changed_at k (lived b e) (changed_at k h ps))) [
+      | true ↦ marked_known d may_restart may_replan_of (reaching (length (flagged_at k (changed_at k (lived b e) (changed_at k h ps))))
+          (flagged_at k (changed_at k (lived b e) (changed_at k h ps))))
+          (subst (λ (qs : List ComponentState). AllByRecursion (Known d) qs)
+          (sym (firsts_reaching (length (flagged_at k (changed_at k (lived b e) (changed_at k h ps))))
+          (flagged_at k (changed_at k (lived b e) (changed_at k h ps))) ∙ firsts_at k (changed_at k (lived b e) (changed_at k h ps)))) both)
       | false ↦ both
     ]
 
 -- ---- one component at each event
 
-pub stays_known : (d b : Bool) (e : LifeEvent) (p : ComponentState) → Known d p → MayBefall e p → (begins e && runs_in p.children) ≡ false → Known d (lived b e p)
+pub stays_known : (d b : Bool) (e : LifeEvent) (p : ComponentState) → Known d p → MayBefall e p → (begins e && runs_in p.children) ≡ false →
+    Known d (lived b e p)
 stays_known d b e p k m i = (
   lived_keeps b e p p.children k.0 m k.0.timed (run_keeps b e p (runs_in p.children) k.0.sound k.0.run i),
   elim k.1 [ inl f ↦ inl f | inr l ↦ inr (lived_leaving b e p k.0.sound k.0.asks m ∙ l) ],
@@ -187,25 +240,32 @@ run_but n p k = still_no (is_busy_with step.Run p.life.busy) (runs_in p.children
 pub gone_known : (d : Bool) (n : ℕ) (p : ComponentState) → Known d p → Known d (record p { children = filter (λ (c : Child). not (c.number == n)) p.children })
 gone_known d n p k = (with_children p (but n p.children) k.0 (timed_but n p.children k.0.timed) (run_but n p k.0), k.1)
 
-pub end_known : (d b : Bool) (e : LifeEvent) (n : ℕ) (p : ComponentState) → Known d p → MayBefall e (record p { children = filter (λ (c : Child). not (c.number == n)) p.children }) → begins e ≡ false
+pub end_known : (d b : Bool) (e : LifeEvent) (n : ℕ) (p : ComponentState) → Known d p →
+    MayBefall e (record p { children = filter (λ (c : Child). not (c.number == n)) p.children }) → begins e ≡ false
     → Known d (lived b e (record p { children = filter (λ (c : Child). not (c.number == n)) p.children }))
 end_known d b e n p k m i = (
-  lived_keeps b e p (but n p.children) k.0 m (timed_but n p.children k.0.timed) (run_keeps b e (record p { children = but n p.children }) (runs_in (but n p.children)) k.0.sound (run_but n p k.0) (rw i refl)),
+  lived_keeps b e p (but n p.children) k.0 m (timed_but n p.children k.0.timed)
+      (run_keeps b e (record p { children = but n p.children }) (runs_in (but n p.children)) k.0.sound (run_but n p k.0) (rw i refl)),
   elim k.1 [ inl f ↦ inl f | inr l ↦ inr (lived_leaving b e (record p { children = but n p.children }) k.0.sound k.0.asks m ∙ l) ],
 )
 
-launch_run : (b : Bool) (q : ComponentState) (z : Bool) → IsSound q.life → q.life.gone ≡ false → (is_busy_with step.Run (lived b event.Launched q).life.busy && z) ≡ false
+launch_run : (b : Bool) (q : ComponentState) (z : Bool) → IsSound q.life → q.life.gone ≡ false →
+    (is_busy_with step.Run (lived b event.Launched q).life.busy && z) ≡ false
 launch_run b q z k g = rw (standing (λ x. IsSound x.life → is_busy_with step.Run (lived b event.Launched x).life.busy ≡ false) q g
-    (launch_at q.fitted q.life.steps q.life.failures q.life.busy q.life.runs q.life.install_failed q.life.stop q.children q.handed q.owed q.stop q.next q.life.state b) k) refl
+    (launch_at q.fitted q.life.steps q.life.failures q.life.busy q.life.runs q.life.install_failed q.life.stop q.children q.handed q.owed q.stop q.next
+    q.life.state b) k) refl
 
 -- its run child lives
-pub launch_known : (d b : Bool) (c : Child) (p : ComponentState) → Known d p → p.life.gone ≡ false → c.of ≡ step.Run → Known d (lived b event.Launched (record p { children = c ∷ p.children }))
+pub launch_known : (d b : Bool) (c : Child) (p : ComponentState) → Known d p → p.life.gone ≡ false → c.of ≡ step.Run →
+    Known d (lived b event.Launched (record p { children = c ∷ p.children }))
 launch_known d b c p k g o =
     let t : is_timed c ≡ true = rw o refl in (
-      lived_keeps b event.Launched p (c ∷ p.children) k.0 tt (rw t k.0.timed) (launch_run b (record p { children = c ∷ p.children }) (runs_in (c ∷ p.children)) k.0.sound g),
+      lived_keeps b event.Launched p (c ∷ p.children) k.0 tt (rw t k.0.timed)
+          (launch_run b (record p { children = c ∷ p.children }) (runs_in (c ∷ p.children)) k.0.sound g),
       elim k.1 [ inl f ↦ inl f | inr l ↦ inr (lived_leaving b event.Launched (record p { children = c ∷ p.children }) k.0.sound k.0.asks tt ∙ l) ],
     )
 
 -- the child of another step lives
-pub child_known : (d : Bool) (c : Child) (p : ComponentState) → Known d p → is_timed c ≡ true → is_same_step step.Run c.of ≡ false → Known d (record p { children = c ∷ p.children })
+pub child_known : (d : Bool) (c : Child) (p : ComponentState) → Known d p → is_timed c ≡ true → is_same_step step.Run c.of ≡ false →
+    Known d (record p { children = c ∷ p.children })
 child_known d c p k t o = (with_children p (c ∷ p.children) k.0 (rw t k.0.timed) (rw o k.0.run), k.1)

@@ -19,8 +19,12 @@ use Rattle.law_supervisor.specs.Sound.{may_ask, is_bare}
 use Rattle.law_termination.proofs.Falls.{mk}
 use Rattle.law_termination.specs.Kept.{MayBefall}
 
-module _ (f : Fitted) (steps : StepSet) (n : ℕ) (busy : Option Step) (runs inst : Bool) (way : Option After) (cs : List Child) (hd : Bool) (o : Option (Step × Exit)) (asked : Option After) (nx : Option (Fitted × ℕ)) where
-  pub gone_at : (s : State) (e : LifeEvent) (b : Bool) → may_be_busy s busy ≡ true → may_run s runs ≡ true → may_ask (under_way (mk f steps n busy runs inst way cs hd o asked nx s).life) asked ≡ true → MayBefall e (mk f steps n busy runs inst way cs hd o asked nx s) → (not (lived b e (mk f steps n busy runs inst way cs hd o asked nx s)).life.gone || is_bare (lived b e (mk f steps n busy runs inst way cs hd o asked nx s))) ≡ true
+module _ (f : Fitted) (steps : StepSet) (n : ℕ) (busy : Option Step) (runs inst : Bool) (way : Option After) (cs : List Child) (hd : Bool)
+    (o : Option (Step × Exit)) (asked : Option After) (nx : Option (Fitted × ℕ)) where
+  pub gone_at : (s : State) (e : LifeEvent) (b : Bool) → may_be_busy s busy ≡ true → may_run s runs ≡ true →
+      may_ask (under_way (mk f steps n busy runs inst way cs hd o asked nx s).life) asked ≡ true →
+      MayBefall e (mk f steps n busy runs inst way cs hd o asked nx s) → (not (lived b e (mk f steps n busy runs inst way cs hd o asked nx s)).life.gone ||
+      is_bare (lived b e (mk f steps n busy runs inst way cs hd o asked nx s))) ≡ true
   gone_at state.New event.MayBegin b k r a m = grind (arith, k, r, a, m)
   gone_at state.New event.Retry b k r a m = grind (arith, k, r, a, m)
   gone_at state.New event.Launched b k r a m = grind (arith, k, r, a, m)

@@ -15,8 +15,10 @@ use Rattle.components.specs.Lives.{lived}
 use Rattle.law_termination.proofs.Falls.{mk}
 use Rattle.lifecycle.specs.Awaits.{is_busy_with}
 
-module _ (f : Fitted) (steps : StepSet) (n : ℕ) (busy : Option Step) (runs inst : Bool) (way : Option After) (cs : List Child) (hd : Bool) (o : Option (Step × Exit)) (asked : Option After) (nx : Option (Fitted × ℕ)) where
-  pub launch_at : (s : State) (b : Bool) → IsSound (mk f steps n busy runs inst way cs hd o asked nx s).life → is_busy_with step.Run (lived b event.Launched (mk f steps n busy runs inst way cs hd o asked nx s)).life.busy ≡ false
+module _ (f : Fitted) (steps : StepSet) (n : ℕ) (busy : Option Step) (runs inst : Bool) (way : Option After) (cs : List Child) (hd : Bool)
+    (o : Option (Step × Exit)) (asked : Option After) (nx : Option (Fitted × ℕ)) where
+  pub launch_at : (s : State) (b : Bool) → IsSound (mk f steps n busy runs inst way cs hd o asked nx s).life →
+      is_busy_with step.Run (lived b event.Launched (mk f steps n busy runs inst way cs hd o asked nx s)).life.busy ≡ false
   launch_at state.New b k = grind (arith, k)
   launch_at state.Installed b k = grind (arith, k)
   launch_at state.Starting b k = grind (arith, k)

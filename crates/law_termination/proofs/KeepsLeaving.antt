@@ -18,8 +18,12 @@ use Rattle.law_termination.specs.Kept.{MayBefall}
 use Rattle.law_supervisor.specs.Sound.{may_ask}
 use Rattle.law_termination.proofs.Falls.{mk}
 
-module _ (f : Fitted) (steps : StepSet) (n : ℕ) (busy : Option Step) (runs inst : Bool) (way : Option After) (cs : List Child) (hd : Bool) (o : Option (Step × Exit)) (asked : Option After) (nx : Option (Fitted × ℕ)) where
-  pub leaving_at : (s : State) (e : LifeEvent) (b : Bool) → IsSound (mk f steps n busy runs inst way cs hd o asked nx s).life → may_ask (under_way (mk f steps n busy runs inst way cs hd o asked nx s).life) asked ≡ true → MayBefall e (mk f steps n busy runs inst way cs hd o asked nx s) → is_leaving (lived b e (mk f steps n busy runs inst way cs hd o asked nx s)) ≡ is_leaving (mk f steps n busy runs inst way cs hd o asked nx s)
+module _ (f : Fitted) (steps : StepSet) (n : ℕ) (busy : Option Step) (runs inst : Bool) (way : Option After) (cs : List Child) (hd : Bool)
+    (o : Option (Step × Exit)) (asked : Option After) (nx : Option (Fitted × ℕ)) where
+  pub leaving_at : (s : State) (e : LifeEvent) (b : Bool) → IsSound (mk f steps n busy runs inst way cs hd o asked nx s).life →
+      may_ask (under_way (mk f steps n busy runs inst way cs hd o asked nx s).life) asked ≡ true →
+      MayBefall e (mk f steps n busy runs inst way cs hd o asked nx s) → is_leaving (lived b e (mk f steps n busy runs inst way cs hd o asked nx s))
+      ≡ is_leaving (mk f steps n busy runs inst way cs hd o asked nx s)
   leaving_at state.New event.MayBegin b k a m = grind (arith, k, a, m)
   leaving_at state.New event.Retry b k a m = grind (arith, k, a, m)
   leaving_at state.New event.Launched b k a m = grind (arith, k, a, m)

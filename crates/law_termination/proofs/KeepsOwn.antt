@@ -17,8 +17,11 @@ use Rattle.components.specs.Lives.{lived}
 use Rattle.law_termination.proofs.Falls.{mk}
 use Rattle.law_termination.specs.Kept.{is_own}
 
-module _ (f : Fitted) (steps : StepSet) (n : ℕ) (busy : Option Step) (runs inst : Bool) (way : Option After) (cs : List Child) (hd : Bool) (o : Option (Step × Exit)) (asked : Option After) (nx : Option (Fitted × ℕ)) where
-  pub own_at : (s : State) (e : LifeEvent) (b : Bool) → IsSound (mk f steps n busy runs inst way cs hd o asked nx s).life → is_own (mk f steps n busy runs inst way cs hd o asked nx s).life ≡ true → is_own (lived b e (mk f steps n busy runs inst way cs hd o asked nx s)).life ≡ true
+module _ (f : Fitted) (steps : StepSet) (n : ℕ) (busy : Option Step) (runs inst : Bool) (way : Option After) (cs : List Child) (hd : Bool)
+    (o : Option (Step × Exit)) (asked : Option After) (nx : Option (Fitted × ℕ)) where
+  pub own_at : (s : State) (e : LifeEvent) (b : Bool) → IsSound (mk f steps n busy runs inst way cs hd o asked nx s).life →
+      is_own (mk f steps n busy runs inst way cs hd o asked nx s).life ≡ true → is_own (lived b e (mk f steps n busy runs inst way cs hd o asked nx s)).life
+      ≡ true
   own_at state.New event.MayBegin b k c = grind (arith, k, c)
   own_at state.New event.Retry b k c = grind (arith, k, c)
   own_at state.New event.Launched b k c = grind (arith, k, c)

@@ -19,8 +19,11 @@ use Rattle.law_termination.proofs.Falls.{mk}
 use Rattle.law_termination.specs.Kept.{begins}
 use Rattle.lifecycle.specs.Awaits.{is_busy_with}
 
-module _ (f : Fitted) (steps : StepSet) (n : ℕ) (busy : Option Step) (runs inst : Bool) (way : Option After) (cs : List Child) (hd : Bool) (o : Option (Step × Exit)) (asked : Option After) (nx : Option (Fitted × ℕ)) where
-  pub run_at : (s : State) (e : LifeEvent) (b z : Bool) → IsSound (mk f steps n busy runs inst way cs hd o asked nx s).life → (is_busy_with step.Run busy && z) ≡ false → (begins e && z) ≡ false → (is_busy_with step.Run (lived b e (mk f steps n busy runs inst way cs hd o asked nx s)).life.busy && z) ≡ false
+module _ (f : Fitted) (steps : StepSet) (n : ℕ) (busy : Option Step) (runs inst : Bool) (way : Option After) (cs : List Child) (hd : Bool)
+    (o : Option (Step × Exit)) (asked : Option After) (nx : Option (Fitted × ℕ)) where
+  pub run_at : (s : State) (e : LifeEvent) (b z : Bool) → IsSound (mk f steps n busy runs inst way cs hd o asked nx s).life →
+      (is_busy_with step.Run busy && z) ≡ false → (begins e && z) ≡ false →
+      (is_busy_with step.Run (lived b e (mk f steps n busy runs inst way cs hd o asked nx s)).life.busy && z) ≡ false
   run_at state.New event.MayBegin b z k h i = grind (arith, k, h, i)
   run_at state.New event.Retry b z k h i = grind (arith, k, h, i)
   run_at state.New event.Launched b z k h i = grind (arith, k, h, i)

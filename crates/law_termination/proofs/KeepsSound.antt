@@ -19,8 +19,10 @@ use Rattle.law_termination.specs.Kept.{IsComing}
 use Rattle.components.specs.Fitted.{name_of}
 use Rattle.std.specs.Prelude.{IfSome}
 
-module _ (f : Fitted) (steps : StepSet) (n : ℕ) (busy : Option Step) (runs inst : Bool) (way : Option After) (cs : List Child) (hd : Bool) (o : Option (Step × Exit)) (asked : Option After) (nx : Option (Fitted × ℕ)) where
-  pub sound_at : (s : State) (e : LifeEvent) (b : Bool) → IsSound (mk f steps n busy runs inst way cs hd o asked nx s).life → IfSome nx (IsComing (name_of f)) → IsSound (lived b e (mk f steps n busy runs inst way cs hd o asked nx s)).life
+module _ (f : Fitted) (steps : StepSet) (n : ℕ) (busy : Option Step) (runs inst : Bool) (way : Option After) (cs : List Child) (hd : Bool)
+    (o : Option (Step × Exit)) (asked : Option After) (nx : Option (Fitted × ℕ)) where
+  pub sound_at : (s : State) (e : LifeEvent) (b : Bool) → IsSound (mk f steps n busy runs inst way cs hd o asked nx s).life →
+      IfSome nx (IsComing (name_of f)) → IsSound (lived b e (mk f steps n busy runs inst way cs hd o asked nx s)).life
   sound_at state.New event.MayBegin b k c = grind (arith, k, c)
   sound_at state.New event.Retry b k c = grind (arith, k, c)
   sound_at state.New event.Launched b k c = grind (arith, k, c)
@@ -28,12 +30,54 @@ module _ (f : Fitted) (steps : StepSet) (n : ℕ) (busy : Option Step) (runs ins
   sound_at state.New (event.Stop after.Restart) b k c = grind (arith, k, c)
   sound_at state.New (event.Stop after.Again) b k c = grind (arith, k, c)
   sound_at state.New (event.Stop after.Gone) b k c = grind (arith, k, c)
-  sound_at state.New (event.Ended step.Install x) b k c = record { main = grind (arith, k.main, c); failures = grind (arith, k.failures, c); busy = grind (arith, k.busy); runs = grind (arith, k.runs); stop = grind (arith, k.stop) }
-  sound_at state.New (event.Ended step.Run x) b k c = record { main = grind (arith, k.main, c); failures = grind (arith, k.failures, c); busy = grind (arith, k.busy); runs = grind (arith, k.runs); stop = grind (arith, k.stop) }
-  sound_at state.New (event.Ended step.Startup x) b k c = record { main = grind (arith, k.main, c); failures = grind (arith, k.failures, c); busy = grind (arith, k.busy); runs = grind (arith, k.runs); stop = grind (arith, k.stop) }
-  sound_at state.New (event.Ended step.Shutdown x) b k c = record { main = grind (arith, k.main, c); failures = grind (arith, k.failures, c); busy = grind (arith, k.busy); runs = grind (arith, k.runs); stop = grind (arith, k.stop) }
-  sound_at state.New (event.Ended step.Recover x) b k c = record { main = grind (arith, k.main, c); failures = grind (arith, k.failures, c); busy = grind (arith, k.busy); runs = grind (arith, k.runs); stop = grind (arith, k.stop) }
-  sound_at state.New (event.Ended step.Bootstrap x) b k c = record { main = grind (arith, k.main, c); failures = grind (arith, k.failures, c); busy = grind (arith, k.busy); runs = grind (arith, k.runs); stop = grind (arith, k.stop) }
+  sound_at state.New (event.Ended step.Install x) b k c = record {
+    main = grind (arith, k.main, c);
+    failures = grind (arith, k.failures, c);
+    busy =
+        grind (arith, k.busy);
+    runs = grind (arith, k.runs);
+    stop = grind (arith, k.stop);
+  }
+  sound_at state.New (event.Ended step.Run x) b k c = record {
+    main = grind (arith, k.main, c);
+    failures = grind (arith, k.failures, c);
+    busy =
+        grind (arith, k.busy);
+    runs = grind (arith, k.runs);
+    stop = grind (arith, k.stop);
+  }
+  sound_at state.New (event.Ended step.Startup x) b k c = record {
+    main = grind (arith, k.main, c);
+    failures = grind (arith, k.failures, c);
+    busy =
+        grind (arith, k.busy);
+    runs = grind (arith, k.runs);
+    stop = grind (arith, k.stop);
+  }
+  sound_at state.New (event.Ended step.Shutdown x) b k c = record {
+    main = grind (arith, k.main, c);
+    failures = grind (arith, k.failures, c);
+    busy =
+        grind (arith, k.busy);
+    runs = grind (arith, k.runs);
+    stop = grind (arith, k.stop);
+  }
+  sound_at state.New (event.Ended step.Recover x) b k c = record {
+    main = grind (arith, k.main, c);
+    failures = grind (arith, k.failures, c);
+    busy =
+        grind (arith, k.busy);
+    runs = grind (arith, k.runs);
+    stop = grind (arith, k.stop);
+  }
+  sound_at state.New (event.Ended step.Bootstrap x) b k c = record {
+    main = grind (arith, k.main, c);
+    failures = grind (arith, k.failures, c);
+    busy =
+        grind (arith, k.busy);
+    runs = grind (arith, k.runs);
+    stop = grind (arith, k.stop);
+  }
   sound_at state.Installed event.MayBegin b k c = grind (arith, k, c)
   sound_at state.Installed event.Retry b k c = grind (arith, k, c)
   sound_at state.Installed event.Launched b k c = grind (arith, k, c)
@@ -41,12 +85,54 @@ module _ (f : Fitted) (steps : StepSet) (n : ℕ) (busy : Option Step) (runs ins
   sound_at state.Installed (event.Stop after.Restart) b k c = grind (arith, k, c)
   sound_at state.Installed (event.Stop after.Again) b k c = grind (arith, k, c)
   sound_at state.Installed (event.Stop after.Gone) b k c = grind (arith, k, c)
-  sound_at state.Installed (event.Ended step.Install x) b k c = record { main = grind (arith, k.main, c); failures = grind (arith, k.failures, c); busy = grind (arith, k.busy); runs = grind (arith, k.runs); stop = grind (arith, k.stop) }
-  sound_at state.Installed (event.Ended step.Run x) b k c = record { main = grind (arith, k.main, c); failures = grind (arith, k.failures, c); busy = grind (arith, k.busy); runs = grind (arith, k.runs); stop = grind (arith, k.stop) }
-  sound_at state.Installed (event.Ended step.Startup x) b k c = record { main = grind (arith, k.main, c); failures = grind (arith, k.failures, c); busy = grind (arith, k.busy); runs = grind (arith, k.runs); stop = grind (arith, k.stop) }
-  sound_at state.Installed (event.Ended step.Shutdown x) b k c = record { main = grind (arith, k.main, c); failures = grind (arith, k.failures, c); busy = grind (arith, k.busy); runs = grind (arith, k.runs); stop = grind (arith, k.stop) }
-  sound_at state.Installed (event.Ended step.Recover x) b k c = record { main = grind (arith, k.main, c); failures = grind (arith, k.failures, c); busy = grind (arith, k.busy); runs = grind (arith, k.runs); stop = grind (arith, k.stop) }
-  sound_at state.Installed (event.Ended step.Bootstrap x) b k c = record { main = grind (arith, k.main, c); failures = grind (arith, k.failures, c); busy = grind (arith, k.busy); runs = grind (arith, k.runs); stop = grind (arith, k.stop) }
+  sound_at state.Installed (event.Ended step.Install x) b k c = record {
+    main = grind (arith, k.main, c);
+    failures = grind (arith, k.failures, c);
+    busy =
+        grind (arith, k.busy);
+    runs = grind (arith, k.runs);
+    stop = grind (arith, k.stop);
+  }
+  sound_at state.Installed (event.Ended step.Run x) b k c = record {
+    main = grind (arith, k.main, c);
+    failures = grind (arith, k.failures, c);
+    busy =
+        grind (arith, k.busy);
+    runs = grind (arith, k.runs);
+    stop = grind (arith, k.stop);
+  }
+  sound_at state.Installed (event.Ended step.Startup x) b k c = record {
+    main = grind (arith, k.main, c);
+    failures = grind (arith, k.failures, c);
+    busy =
+        grind (arith, k.busy);
+    runs = grind (arith, k.runs);
+    stop = grind (arith, k.stop);
+  }
+  sound_at state.Installed (event.Ended step.Shutdown x) b k c = record {
+    main = grind (arith, k.main, c);
+    failures = grind (arith, k.failures, c);
+    busy =
+        grind (arith, k.busy);
+    runs = grind (arith, k.runs);
+    stop = grind (arith, k.stop);
+  }
+  sound_at state.Installed (event.Ended step.Recover x) b k c = record {
+    main = grind (arith, k.main, c);
+    failures = grind (arith, k.failures, c);
+    busy =
+        grind (arith, k.busy);
+    runs = grind (arith, k.runs);
+    stop = grind (arith, k.stop);
+  }
+  sound_at state.Installed (event.Ended step.Bootstrap x) b k c = record {
+    main = grind (arith, k.main, c);
+    failures = grind (arith, k.failures, c);
+    busy =
+        grind (arith, k.busy);
+    runs = grind (arith, k.runs);
+    stop = grind (arith, k.stop);
+  }
   sound_at state.Starting event.MayBegin b k c = grind (arith, k, c)
   sound_at state.Starting event.Retry b k c = grind (arith, k, c)
   sound_at state.Starting event.Launched b k c = grind (arith, k, c)
@@ -54,12 +140,54 @@ module _ (f : Fitted) (steps : StepSet) (n : ℕ) (busy : Option Step) (runs ins
   sound_at state.Starting (event.Stop after.Restart) b k c = grind (arith, k, c)
   sound_at state.Starting (event.Stop after.Again) b k c = grind (arith, k, c)
   sound_at state.Starting (event.Stop after.Gone) b k c = grind (arith, k, c)
-  sound_at state.Starting (event.Ended step.Install x) b k c = record { main = grind (arith, k.main, c); failures = grind (arith, k.failures, c); busy = grind (arith, k.busy); runs = grind (arith, k.runs); stop = grind (arith, k.stop) }
-  sound_at state.Starting (event.Ended step.Run x) b k c = record { main = grind (arith, k.main, c); failures = grind (arith, k.failures, c); busy = grind (arith, k.busy); runs = grind (arith, k.runs); stop = grind (arith, k.stop) }
-  sound_at state.Starting (event.Ended step.Startup x) b k c = record { main = grind (arith, k.main, c); failures = grind (arith, k.failures, c); busy = grind (arith, k.busy); runs = grind (arith, k.runs); stop = grind (arith, k.stop) }
-  sound_at state.Starting (event.Ended step.Shutdown x) b k c = record { main = grind (arith, k.main, c); failures = grind (arith, k.failures, c); busy = grind (arith, k.busy); runs = grind (arith, k.runs); stop = grind (arith, k.stop) }
-  sound_at state.Starting (event.Ended step.Recover x) b k c = record { main = grind (arith, k.main, c); failures = grind (arith, k.failures, c); busy = grind (arith, k.busy); runs = grind (arith, k.runs); stop = grind (arith, k.stop) }
-  sound_at state.Starting (event.Ended step.Bootstrap x) b k c = record { main = grind (arith, k.main, c); failures = grind (arith, k.failures, c); busy = grind (arith, k.busy); runs = grind (arith, k.runs); stop = grind (arith, k.stop) }
+  sound_at state.Starting (event.Ended step.Install x) b k c = record {
+    main = grind (arith, k.main, c);
+    failures = grind (arith, k.failures, c);
+    busy =
+        grind (arith, k.busy);
+    runs = grind (arith, k.runs);
+    stop = grind (arith, k.stop);
+  }
+  sound_at state.Starting (event.Ended step.Run x) b k c = record {
+    main = grind (arith, k.main, c);
+    failures = grind (arith, k.failures, c);
+    busy =
+        grind (arith, k.busy);
+    runs = grind (arith, k.runs);
+    stop = grind (arith, k.stop);
+  }
+  sound_at state.Starting (event.Ended step.Startup x) b k c = record {
+    main = grind (arith, k.main, c);
+    failures = grind (arith, k.failures, c);
+    busy =
+        grind (arith, k.busy);
+    runs = grind (arith, k.runs);
+    stop = grind (arith, k.stop);
+  }
+  sound_at state.Starting (event.Ended step.Shutdown x) b k c = record {
+    main = grind (arith, k.main, c);
+    failures = grind (arith, k.failures, c);
+    busy =
+        grind (arith, k.busy);
+    runs = grind (arith, k.runs);
+    stop = grind (arith, k.stop);
+  }
+  sound_at state.Starting (event.Ended step.Recover x) b k c = record {
+    main = grind (arith, k.main, c);
+    failures = grind (arith, k.failures, c);
+    busy =
+        grind (arith, k.busy);
+    runs = grind (arith, k.runs);
+    stop = grind (arith, k.stop);
+  }
+  sound_at state.Starting (event.Ended step.Bootstrap x) b k c = record {
+    main = grind (arith, k.main, c);
+    failures = grind (arith, k.failures, c);
+    busy =
+        grind (arith, k.busy);
+    runs = grind (arith, k.runs);
+    stop = grind (arith, k.stop);
+  }
   sound_at state.Running event.MayBegin b k c = grind (arith, k, c)
   sound_at state.Running event.Retry b k c = grind (arith, k, c)
   sound_at state.Running event.Launched b k c = grind (arith, k, c)
@@ -67,12 +195,54 @@ module _ (f : Fitted) (steps : StepSet) (n : ℕ) (busy : Option Step) (runs ins
   sound_at state.Running (event.Stop after.Restart) b k c = grind (arith, k, c)
   sound_at state.Running (event.Stop after.Again) b k c = grind (arith, k, c)
   sound_at state.Running (event.Stop after.Gone) b k c = grind (arith, k, c)
-  sound_at state.Running (event.Ended step.Install x) b k c = record { main = grind (arith, k.main, c); failures = grind (arith, k.failures, c); busy = grind (arith, k.busy); runs = grind (arith, k.runs); stop = grind (arith, k.stop) }
-  sound_at state.Running (event.Ended step.Run x) b k c = record { main = grind (arith, k.main, c); failures = grind (arith, k.failures, c); busy = grind (arith, k.busy); runs = grind (arith, k.runs); stop = grind (arith, k.stop) }
-  sound_at state.Running (event.Ended step.Startup x) b k c = record { main = grind (arith, k.main, c); failures = grind (arith, k.failures, c); busy = grind (arith, k.busy); runs = grind (arith, k.runs); stop = grind (arith, k.stop) }
-  sound_at state.Running (event.Ended step.Shutdown x) b k c = record { main = grind (arith, k.main, c); failures = grind (arith, k.failures, c); busy = grind (arith, k.busy); runs = grind (arith, k.runs); stop = grind (arith, k.stop) }
-  sound_at state.Running (event.Ended step.Recover x) b k c = record { main = grind (arith, k.main, c); failures = grind (arith, k.failures, c); busy = grind (arith, k.busy); runs = grind (arith, k.runs); stop = grind (arith, k.stop) }
-  sound_at state.Running (event.Ended step.Bootstrap x) b k c = record { main = grind (arith, k.main, c); failures = grind (arith, k.failures, c); busy = grind (arith, k.busy); runs = grind (arith, k.runs); stop = grind (arith, k.stop) }
+  sound_at state.Running (event.Ended step.Install x) b k c = record {
+    main = grind (arith, k.main, c);
+    failures = grind (arith, k.failures, c);
+    busy =
+        grind (arith, k.busy);
+    runs = grind (arith, k.runs);
+    stop = grind (arith, k.stop);
+  }
+  sound_at state.Running (event.Ended step.Run x) b k c = record {
+    main = grind (arith, k.main, c);
+    failures = grind (arith, k.failures, c);
+    busy =
+        grind (arith, k.busy);
+    runs = grind (arith, k.runs);
+    stop = grind (arith, k.stop);
+  }
+  sound_at state.Running (event.Ended step.Startup x) b k c = record {
+    main = grind (arith, k.main, c);
+    failures = grind (arith, k.failures, c);
+    busy =
+        grind (arith, k.busy);
+    runs = grind (arith, k.runs);
+    stop = grind (arith, k.stop);
+  }
+  sound_at state.Running (event.Ended step.Shutdown x) b k c = record {
+    main = grind (arith, k.main, c);
+    failures = grind (arith, k.failures, c);
+    busy =
+        grind (arith, k.busy);
+    runs = grind (arith, k.runs);
+    stop = grind (arith, k.stop);
+  }
+  sound_at state.Running (event.Ended step.Recover x) b k c = record {
+    main = grind (arith, k.main, c);
+    failures = grind (arith, k.failures, c);
+    busy =
+        grind (arith, k.busy);
+    runs = grind (arith, k.runs);
+    stop = grind (arith, k.stop);
+  }
+  sound_at state.Running (event.Ended step.Bootstrap x) b k c = record {
+    main = grind (arith, k.main, c);
+    failures = grind (arith, k.failures, c);
+    busy =
+        grind (arith, k.busy);
+    runs = grind (arith, k.runs);
+    stop = grind (arith, k.stop);
+  }
   sound_at state.Stopping event.MayBegin b k c = grind (arith, k, c)
   sound_at state.Stopping event.Retry b k c = grind (arith, k, c)
   sound_at state.Stopping event.Launched b k c = grind (arith, k, c)
@@ -80,12 +250,54 @@ module _ (f : Fitted) (steps : StepSet) (n : ℕ) (busy : Option Step) (runs ins
   sound_at state.Stopping (event.Stop after.Restart) b k c = grind (arith, k, c)
   sound_at state.Stopping (event.Stop after.Again) b k c = grind (arith, k, c)
   sound_at state.Stopping (event.Stop after.Gone) b k c = grind (arith, k, c)
-  sound_at state.Stopping (event.Ended step.Install x) b k c = record { main = grind (arith, k.main, c); failures = grind (arith, k.failures, c); busy = grind (arith, k.busy); runs = grind (arith, k.runs); stop = grind (arith, k.stop) }
-  sound_at state.Stopping (event.Ended step.Run x) b k c = record { main = grind (arith, k.main, c); failures = grind (arith, k.failures, c); busy = grind (arith, k.busy); runs = grind (arith, k.runs); stop = grind (arith, k.stop) }
-  sound_at state.Stopping (event.Ended step.Startup x) b k c = record { main = grind (arith, k.main, c); failures = grind (arith, k.failures, c); busy = grind (arith, k.busy); runs = grind (arith, k.runs); stop = grind (arith, k.stop) }
-  sound_at state.Stopping (event.Ended step.Shutdown x) b k c = record { main = grind (arith, k.main, c); failures = grind (arith, k.failures, c); busy = grind (arith, k.busy); runs = grind (arith, k.runs); stop = grind (arith, k.stop) }
-  sound_at state.Stopping (event.Ended step.Recover x) b k c = record { main = grind (arith, k.main, c); failures = grind (arith, k.failures, c); busy = grind (arith, k.busy); runs = grind (arith, k.runs); stop = grind (arith, k.stop) }
-  sound_at state.Stopping (event.Ended step.Bootstrap x) b k c = record { main = grind (arith, k.main, c); failures = grind (arith, k.failures, c); busy = grind (arith, k.busy); runs = grind (arith, k.runs); stop = grind (arith, k.stop) }
+  sound_at state.Stopping (event.Ended step.Install x) b k c = record {
+    main = grind (arith, k.main, c);
+    failures = grind (arith, k.failures, c);
+    busy =
+        grind (arith, k.busy);
+    runs = grind (arith, k.runs);
+    stop = grind (arith, k.stop);
+  }
+  sound_at state.Stopping (event.Ended step.Run x) b k c = record {
+    main = grind (arith, k.main, c);
+    failures = grind (arith, k.failures, c);
+    busy =
+        grind (arith, k.busy);
+    runs = grind (arith, k.runs);
+    stop = grind (arith, k.stop);
+  }
+  sound_at state.Stopping (event.Ended step.Startup x) b k c = record {
+    main = grind (arith, k.main, c);
+    failures = grind (arith, k.failures, c);
+    busy =
+        grind (arith, k.busy);
+    runs = grind (arith, k.runs);
+    stop = grind (arith, k.stop);
+  }
+  sound_at state.Stopping (event.Ended step.Shutdown x) b k c = record {
+    main = grind (arith, k.main, c);
+    failures = grind (arith, k.failures, c);
+    busy =
+        grind (arith, k.busy);
+    runs = grind (arith, k.runs);
+    stop = grind (arith, k.stop);
+  }
+  sound_at state.Stopping (event.Ended step.Recover x) b k c = record {
+    main = grind (arith, k.main, c);
+    failures = grind (arith, k.failures, c);
+    busy =
+        grind (arith, k.busy);
+    runs = grind (arith, k.runs);
+    stop = grind (arith, k.stop);
+  }
+  sound_at state.Stopping (event.Ended step.Bootstrap x) b k c = record {
+    main = grind (arith, k.main, c);
+    failures = grind (arith, k.failures, c);
+    busy =
+        grind (arith, k.busy);
+    runs = grind (arith, k.runs);
+    stop = grind (arith, k.stop);
+  }
   sound_at state.Finished event.MayBegin b k c = grind (arith, k, c)
   sound_at state.Finished event.Retry b k c = grind (arith, k, c)
   sound_at state.Finished event.Launched b k c = grind (arith, k, c)
@@ -93,12 +305,54 @@ module _ (f : Fitted) (steps : StepSet) (n : ℕ) (busy : Option Step) (runs ins
   sound_at state.Finished (event.Stop after.Restart) b k c = grind (arith, k, c)
   sound_at state.Finished (event.Stop after.Again) b k c = grind (arith, k, c)
   sound_at state.Finished (event.Stop after.Gone) b k c = grind (arith, k, c)
-  sound_at state.Finished (event.Ended step.Install x) b k c = record { main = grind (arith, k.main, c); failures = grind (arith, k.failures, c); busy = grind (arith, k.busy); runs = grind (arith, k.runs); stop = grind (arith, k.stop) }
-  sound_at state.Finished (event.Ended step.Run x) b k c = record { main = grind (arith, k.main, c); failures = grind (arith, k.failures, c); busy = grind (arith, k.busy); runs = grind (arith, k.runs); stop = grind (arith, k.stop) }
-  sound_at state.Finished (event.Ended step.Startup x) b k c = record { main = grind (arith, k.main, c); failures = grind (arith, k.failures, c); busy = grind (arith, k.busy); runs = grind (arith, k.runs); stop = grind (arith, k.stop) }
-  sound_at state.Finished (event.Ended step.Shutdown x) b k c = record { main = grind (arith, k.main, c); failures = grind (arith, k.failures, c); busy = grind (arith, k.busy); runs = grind (arith, k.runs); stop = grind (arith, k.stop) }
-  sound_at state.Finished (event.Ended step.Recover x) b k c = record { main = grind (arith, k.main, c); failures = grind (arith, k.failures, c); busy = grind (arith, k.busy); runs = grind (arith, k.runs); stop = grind (arith, k.stop) }
-  sound_at state.Finished (event.Ended step.Bootstrap x) b k c = record { main = grind (arith, k.main, c); failures = grind (arith, k.failures, c); busy = grind (arith, k.busy); runs = grind (arith, k.runs); stop = grind (arith, k.stop) }
+  sound_at state.Finished (event.Ended step.Install x) b k c = record {
+    main = grind (arith, k.main, c);
+    failures = grind (arith, k.failures, c);
+    busy =
+        grind (arith, k.busy);
+    runs = grind (arith, k.runs);
+    stop = grind (arith, k.stop);
+  }
+  sound_at state.Finished (event.Ended step.Run x) b k c = record {
+    main = grind (arith, k.main, c);
+    failures = grind (arith, k.failures, c);
+    busy =
+        grind (arith, k.busy);
+    runs = grind (arith, k.runs);
+    stop = grind (arith, k.stop);
+  }
+  sound_at state.Finished (event.Ended step.Startup x) b k c = record {
+    main = grind (arith, k.main, c);
+    failures = grind (arith, k.failures, c);
+    busy =
+        grind (arith, k.busy);
+    runs = grind (arith, k.runs);
+    stop = grind (arith, k.stop);
+  }
+  sound_at state.Finished (event.Ended step.Shutdown x) b k c = record {
+    main = grind (arith, k.main, c);
+    failures = grind (arith, k.failures, c);
+    busy =
+        grind (arith, k.busy);
+    runs = grind (arith, k.runs);
+    stop = grind (arith, k.stop);
+  }
+  sound_at state.Finished (event.Ended step.Recover x) b k c = record {
+    main = grind (arith, k.main, c);
+    failures = grind (arith, k.failures, c);
+    busy =
+        grind (arith, k.busy);
+    runs = grind (arith, k.runs);
+    stop = grind (arith, k.stop);
+  }
+  sound_at state.Finished (event.Ended step.Bootstrap x) b k c = record {
+    main = grind (arith, k.main, c);
+    failures = grind (arith, k.failures, c);
+    busy =
+        grind (arith, k.busy);
+    runs = grind (arith, k.runs);
+    stop = grind (arith, k.stop);
+  }
   sound_at state.Errored event.MayBegin b k c = grind (arith, k, c)
   sound_at state.Errored event.Retry b k c = grind (arith, k, c)
   sound_at state.Errored event.Launched b k c = grind (arith, k, c)
@@ -106,12 +360,54 @@ module _ (f : Fitted) (steps : StepSet) (n : ℕ) (busy : Option Step) (runs ins
   sound_at state.Errored (event.Stop after.Restart) b k c = grind (arith, k, c)
   sound_at state.Errored (event.Stop after.Again) b k c = grind (arith, k, c)
   sound_at state.Errored (event.Stop after.Gone) b k c = grind (arith, k, c)
-  sound_at state.Errored (event.Ended step.Install x) b k c = record { main = grind (arith, k.main, c); failures = grind (arith, k.failures, c); busy = grind (arith, k.busy); runs = grind (arith, k.runs); stop = grind (arith, k.stop) }
-  sound_at state.Errored (event.Ended step.Run x) b k c = record { main = grind (arith, k.main, c); failures = grind (arith, k.failures, c); busy = grind (arith, k.busy); runs = grind (arith, k.runs); stop = grind (arith, k.stop) }
-  sound_at state.Errored (event.Ended step.Startup x) b k c = record { main = grind (arith, k.main, c); failures = grind (arith, k.failures, c); busy = grind (arith, k.busy); runs = grind (arith, k.runs); stop = grind (arith, k.stop) }
-  sound_at state.Errored (event.Ended step.Shutdown x) b k c = record { main = grind (arith, k.main, c); failures = grind (arith, k.failures, c); busy = grind (arith, k.busy); runs = grind (arith, k.runs); stop = grind (arith, k.stop) }
-  sound_at state.Errored (event.Ended step.Recover x) b k c = record { main = grind (arith, k.main, c); failures = grind (arith, k.failures, c); busy = grind (arith, k.busy); runs = grind (arith, k.runs); stop = grind (arith, k.stop) }
-  sound_at state.Errored (event.Ended step.Bootstrap x) b k c = record { main = grind (arith, k.main, c); failures = grind (arith, k.failures, c); busy = grind (arith, k.busy); runs = grind (arith, k.runs); stop = grind (arith, k.stop) }
+  sound_at state.Errored (event.Ended step.Install x) b k c = record {
+    main = grind (arith, k.main, c);
+    failures = grind (arith, k.failures, c);
+    busy =
+        grind (arith, k.busy);
+    runs = grind (arith, k.runs);
+    stop = grind (arith, k.stop);
+  }
+  sound_at state.Errored (event.Ended step.Run x) b k c = record {
+    main = grind (arith, k.main, c);
+    failures = grind (arith, k.failures, c);
+    busy =
+        grind (arith, k.busy);
+    runs = grind (arith, k.runs);
+    stop = grind (arith, k.stop);
+  }
+  sound_at state.Errored (event.Ended step.Startup x) b k c = record {
+    main = grind (arith, k.main, c);
+    failures = grind (arith, k.failures, c);
+    busy =
+        grind (arith, k.busy);
+    runs = grind (arith, k.runs);
+    stop = grind (arith, k.stop);
+  }
+  sound_at state.Errored (event.Ended step.Shutdown x) b k c = record {
+    main = grind (arith, k.main, c);
+    failures = grind (arith, k.failures, c);
+    busy =
+        grind (arith, k.busy);
+    runs = grind (arith, k.runs);
+    stop = grind (arith, k.stop);
+  }
+  sound_at state.Errored (event.Ended step.Recover x) b k c = record {
+    main = grind (arith, k.main, c);
+    failures = grind (arith, k.failures, c);
+    busy =
+        grind (arith, k.busy);
+    runs = grind (arith, k.runs);
+    stop = grind (arith, k.stop);
+  }
+  sound_at state.Errored (event.Ended step.Bootstrap x) b k c = record {
+    main = grind (arith, k.main, c);
+    failures = grind (arith, k.failures, c);
+    busy =
+        grind (arith, k.busy);
+    runs = grind (arith, k.runs);
+    stop = grind (arith, k.stop);
+  }
   sound_at state.Broken event.MayBegin b k c = grind (arith, k, c)
   sound_at state.Broken event.Retry b k c = grind (arith, k, c)
   sound_at state.Broken event.Launched b k c = grind (arith, k, c)
@@ -119,9 +415,51 @@ module _ (f : Fitted) (steps : StepSet) (n : ℕ) (busy : Option Step) (runs ins
   sound_at state.Broken (event.Stop after.Restart) b k c = grind (arith, k, c)
   sound_at state.Broken (event.Stop after.Again) b k c = grind (arith, k, c)
   sound_at state.Broken (event.Stop after.Gone) b k c = grind (arith, k, c)
-  sound_at state.Broken (event.Ended step.Install x) b k c = record { main = grind (arith, k.main, c); failures = grind (arith, k.failures, c); busy = grind (arith, k.busy); runs = grind (arith, k.runs); stop = grind (arith, k.stop) }
-  sound_at state.Broken (event.Ended step.Run x) b k c = record { main = grind (arith, k.main, c); failures = grind (arith, k.failures, c); busy = grind (arith, k.busy); runs = grind (arith, k.runs); stop = grind (arith, k.stop) }
-  sound_at state.Broken (event.Ended step.Startup x) b k c = record { main = grind (arith, k.main, c); failures = grind (arith, k.failures, c); busy = grind (arith, k.busy); runs = grind (arith, k.runs); stop = grind (arith, k.stop) }
-  sound_at state.Broken (event.Ended step.Shutdown x) b k c = record { main = grind (arith, k.main, c); failures = grind (arith, k.failures, c); busy = grind (arith, k.busy); runs = grind (arith, k.runs); stop = grind (arith, k.stop) }
-  sound_at state.Broken (event.Ended step.Recover x) b k c = record { main = grind (arith, k.main, c); failures = grind (arith, k.failures, c); busy = grind (arith, k.busy); runs = grind (arith, k.runs); stop = grind (arith, k.stop) }
-  sound_at state.Broken (event.Ended step.Bootstrap x) b k c = record { main = grind (arith, k.main, c); failures = grind (arith, k.failures, c); busy = grind (arith, k.busy); runs = grind (arith, k.runs); stop = grind (arith, k.stop) }
+  sound_at state.Broken (event.Ended step.Install x) b k c = record {
+    main = grind (arith, k.main, c);
+    failures = grind (arith, k.failures, c);
+    busy =
+        grind (arith, k.busy);
+    runs = grind (arith, k.runs);
+    stop = grind (arith, k.stop);
+  }
+  sound_at state.Broken (event.Ended step.Run x) b k c = record {
+    main = grind (arith, k.main, c);
+    failures = grind (arith, k.failures, c);
+    busy =
+        grind (arith, k.busy);
+    runs = grind (arith, k.runs);
+    stop = grind (arith, k.stop);
+  }
+  sound_at state.Broken (event.Ended step.Startup x) b k c = record {
+    main = grind (arith, k.main, c);
+    failures = grind (arith, k.failures, c);
+    busy =
+        grind (arith, k.busy);
+    runs = grind (arith, k.runs);
+    stop = grind (arith, k.stop);
+  }
+  sound_at state.Broken (event.Ended step.Shutdown x) b k c = record {
+    main = grind (arith, k.main, c);
+    failures = grind (arith, k.failures, c);
+    busy =
+        grind (arith, k.busy);
+    runs = grind (arith, k.runs);
+    stop = grind (arith, k.stop);
+  }
+  sound_at state.Broken (event.Ended step.Recover x) b k c = record {
+    main = grind (arith, k.main, c);
+    failures = grind (arith, k.failures, c);
+    busy =
+        grind (arith, k.busy);
+    runs = grind (arith, k.runs);
+    stop = grind (arith, k.stop);
+  }
+  sound_at state.Broken (event.Ended step.Bootstrap x) b k c = record {
+    main = grind (arith, k.main, c);
+    failures = grind (arith, k.failures, c);
+    busy =
+        grind (arith, k.busy);
+    runs = grind (arith, k.runs);
+    stop = grind (arith, k.stop);
+  }

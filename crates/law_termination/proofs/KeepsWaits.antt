@@ -20,8 +20,15 @@ use Rattle.law_supervisor.specs.Sound.{may_ask}
 use Rattle.law_termination.proofs.Falls.{mk}
 use Rattle.components.specs.Components.{is_again}
 
-module _ (f : Fitted) (steps : StepSet) (n : ℕ) (busy : Option Step) (runs inst : Bool) (way : Option After) (cs : List Child) (hd : Bool) (o : Option (Step × Exit)) (asked : Option After) (nx : Option (Fitted × ℕ)) where
-  pub waits_at : (s : State) (e : LifeEvent) (b : Bool) → IsSound (mk f steps n busy runs inst way cs hd o asked nx s).life → may_ask (under_way (mk f steps n busy runs inst way cs hd o asked nx s).life) asked ≡ true → MayBefall e (mk f steps n busy runs inst way cs hd o asked nx s) → (not (is_some nx) || (is_again asked || is_again (under_way (mk f steps n busy runs inst way cs hd o asked nx s).life))) ≡ true → (not (is_some (lived b e (mk f steps n busy runs inst way cs hd o asked nx s)).next) || (is_again (lived b e (mk f steps n busy runs inst way cs hd o asked nx s)).stop || is_again (under_way (lived b e (mk f steps n busy runs inst way cs hd o asked nx s)).life))) ≡ true
+module _ (f : Fitted) (steps : StepSet) (n : ℕ) (busy : Option Step) (runs inst : Bool) (way : Option After) (cs : List Child) (hd : Bool)
+    (o : Option (Step × Exit)) (asked : Option After) (nx : Option (Fitted × ℕ)) where
+  pub waits_at : (s : State) (e : LifeEvent) (b : Bool) → IsSound (mk f steps n busy runs inst way cs hd o asked nx s).life →
+      may_ask (under_way (mk f steps n busy runs inst way cs hd o asked nx s).life) asked ≡ true →
+      MayBefall e (mk f steps n busy runs inst way cs hd o asked nx s) →
+      (not (is_some nx) || (is_again asked || is_again (under_way (mk f steps n busy runs inst way cs hd o asked nx s).life))) ≡ true →
+      (not (is_some (lived b e (mk f steps n busy runs inst way cs hd o asked nx s)).next) ||
+      (is_again (lived b e (mk f steps n busy runs inst way cs hd o asked nx s)).stop || is_again
+      (under_way (lived b e (mk f steps n busy runs inst way cs hd o asked nx s)).life))) ≡ true
   waits_at state.New event.MayBegin b k a m h = grind (arith, k, a, m, h)
   waits_at state.New event.Retry b k a m h = grind (arith, k, a, m, h)
   waits_at state.New event.Launched b k a m h = grind (arith, k, a, m, h)

@@ -20,8 +20,13 @@ use Rattle.law_supervisor.specs.Sound.{may_ask}
 use Rattle.law_termination.specs.Rank.{core, gain}
 use Rattle.law_termination.proofs.Falls.{mk}
 
-module _ (f : Fitted) (steps : StepSet) (n : ℕ) (busy : Option Step) (runs inst : Bool) (way : Option After) (cs : List Child) (hd : Bool) (o : Option (Step × Exit)) (asked : Option After) (nx : Option (Fitted × ℕ)) where
-  pub leaves_at : (s : State) (e : LifeEvent) → IsSound (mk f steps n busy runs inst way cs hd o asked nx s).life → may_ask (under_way (mk f steps n busy runs inst way cs hd o asked nx s).life) asked ≡ true → MayBefall e (mk f steps n busy runs inst way cs hd o asked nx s) → is_some (table (mk f steps n busy runs inst way cs hd o asked nx s).life e) ≡ true → is_leaving (mk f steps n busy runs inst way cs hd o asked nx s) ≡ true → core (lived true e (mk f steps n busy runs inst way cs hd o asked nx s)) + gain e (lived true e (mk f steps n busy runs inst way cs hd o asked nx s)).life.busy ≤ core (mk f steps n busy runs inst way cs hd o asked nx s)
+module _ (f : Fitted) (steps : StepSet) (n : ℕ) (busy : Option Step) (runs inst : Bool) (way : Option After) (cs : List Child) (hd : Bool)
+    (o : Option (Step × Exit)) (asked : Option After) (nx : Option (Fitted × ℕ)) where
+  pub leaves_at : (s : State) (e : LifeEvent) → IsSound (mk f steps n busy runs inst way cs hd o asked nx s).life →
+      may_ask (under_way (mk f steps n busy runs inst way cs hd o asked nx s).life) asked ≡ true →
+      MayBefall e (mk f steps n busy runs inst way cs hd o asked nx s) → is_some (table (mk f steps n busy runs inst way cs hd o asked nx s).life e) ≡ true →
+      is_leaving (mk f steps n busy runs inst way cs hd o asked nx s) ≡ true → core (lived true e (mk f steps n busy runs inst way cs hd o asked nx s)) + gain
+      e (lived true e (mk f steps n busy runs inst way cs hd o asked nx s)).life.busy ≤ core (mk f steps n busy runs inst way cs hd o asked nx s)
   leaves_at state.New event.MayBegin k a m t l = grind (arith, k, a, m, t, l)
   leaves_at state.New event.Retry k a m t l = grind (arith, k, a, m, t, l)
   leaves_at state.New event.Launched k a m t l = grind (arith, k, a, m, t, l)

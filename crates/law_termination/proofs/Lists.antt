@@ -65,13 +65,37 @@ greatest test r [] = inl (λ q h. absurd h)
 greatest {X} test r (p ∷ ps) = elim (either (test p)) [
   | inr e ↦ elim (greatest test r ps) [
     | inl none ↦ inl (λ q h. elim h [ inl i ↦ ap test i ∙ e | inr j ↦ none q j ])
-    | inr g ↦ inr (record { one = g.one; here = inr g.here; passes = g.passes; greatest = λ q h t. elim h [ inl i ↦ clash (test p) (sym (ap test i) ∙ t) e | inr j ↦ g.greatest q j t ] })
+    | inr g ↦ inr (record {
+      one = g.one;
+      here = inr g.here;
+      passes = g.passes;
+      greatest =
+          λ q h t. elim h [ inl i ↦ clash (test p) (sym (ap test i) ∙ t) e | inr j ↦ g.greatest q j t ];
+    })
   ]
   | inl e ↦ elim (greatest test r ps) [
-    | inl none ↦ inr (record { one = p; here = inl refl; passes = e; greatest = λ q h t. elim h [ inl i ↦ (let f = ap r i in omega (arith, f)) | inr j ↦ clash (test q) t (none q j) ] })
+    | inl none ↦ inr (record {
+      one = p;
+      here = inl refl;
+      passes = e;
+      greatest =
+          λ q h t. elim h [ inl i ↦ (let f = ap r i in omega (arith, f)) | inr j ↦ clash (test q) t (none q j) ];
+    })
     | inr g ↦ elim (cases_lt (r g.one) (r p)) [
-      | inr le ↦ inr (record { one = g.one; here = inr g.here; passes = g.passes; greatest = λ q h t. elim h [ inl i ↦ (let f = ap r i in omega (arith, f, le)) | inr j ↦ g.greatest q j t ] })
-      | inl lt ↦ inr (record { one = p; here = inl refl; passes = e; greatest = λ q h t. elim h [ inl i ↦ (let f = ap r i in omega (arith, f)) | inr j ↦ (let f = g.greatest q j t in omega (arith, f, lt)) ] })
+      | inr le ↦ inr (record {
+        one = g.one;
+        here = inr g.here;
+        passes = g.passes;
+        greatest =
+            λ q h t. elim h [ inl i ↦ (let f = ap r i in omega (arith, f, le)) | inr j ↦ g.greatest q j t ];
+      })
+      | inl lt ↦ inr (record {
+        one = p;
+        here = inl refl;
+        passes = e;
+        greatest =
+            λ q h t. elim h [ inl i ↦ (let f = ap r i in omega (arith, f)) | inr j ↦ (let f = g.greatest q j t in omega (arith, f, lt)) ];
+      })
     ]
   ]
 ]
@@ -88,13 +112,37 @@ least test r [] = inl (λ q h. absurd h)
 least {X} test r (p ∷ ps) = elim (either (test p)) [
   | inr e ↦ elim (least test r ps) [
     | inl none ↦ inl (λ q h. elim h [ inl i ↦ ap test i ∙ e | inr j ↦ none q j ])
-    | inr g ↦ inr (record { one = g.one; here = inr g.here; passes = g.passes; least = λ q h t. elim h [ inl i ↦ clash (test p) (sym (ap test i) ∙ t) e | inr j ↦ g.least q j t ] })
+    | inr g ↦ inr (record {
+      one = g.one;
+      here = inr g.here;
+      passes = g.passes;
+      least =
+          λ q h t. elim h [ inl i ↦ clash (test p) (sym (ap test i) ∙ t) e | inr j ↦ g.least q j t ];
+    })
   ]
   | inl e ↦ elim (least test r ps) [
-    | inl none ↦ inr (record { one = p; here = inl refl; passes = e; least = λ q h t. elim h [ inl i ↦ (let f = ap r i in omega (arith, f)) | inr j ↦ clash (test q) t (none q j) ] })
+    | inl none ↦ inr (record {
+      one = p;
+      here = inl refl;
+      passes = e;
+      least =
+          λ q h t. elim h [ inl i ↦ (let f = ap r i in omega (arith, f)) | inr j ↦ clash (test q) t (none q j) ];
+    })
     | inr g ↦ elim (cases_lt (r p) (r g.one)) [
-      | inr le ↦ inr (record { one = g.one; here = inr g.here; passes = g.passes; least = λ q h t. elim h [ inl i ↦ (let f = ap r i in omega (arith, f, le)) | inr j ↦ g.least q j t ] })
-      | inl lt ↦ inr (record { one = p; here = inl refl; passes = e; least = λ q h t. elim h [ inl i ↦ (let f = ap r i in omega (arith, f)) | inr j ↦ (let f = g.least q j t in omega (arith, f, lt)) ] })
+      | inr le ↦ inr (record {
+        one = g.one;
+        here = inr g.here;
+        passes = g.passes;
+        least =
+            λ q h t. elim h [ inl i ↦ (let f = ap r i in omega (arith, f, le)) | inr j ↦ g.least q j t ];
+      })
+      | inl lt ↦ inr (record {
+        one = p;
+        here = inl refl;
+        passes = e;
+        least =
+            λ q h t. elim h [ inl i ↦ (let f = ap r i in omega (arith, f)) | inr j ↦ (let f = g.least q j t in omega (arith, f, lt)) ];
+      })
     ]
   ]
 ]

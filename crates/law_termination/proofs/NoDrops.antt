@@ -16,8 +16,10 @@ use Rattle.components.specs.Components.{Child, is_leaving}
 use Rattle.components.specs.Lives.{drops}
 use Rattle.law_termination.proofs.Falls.{mk}
 
-module _ (f : Fitted) (steps : StepSet) (n : ℕ) (busy : Option Step) (runs inst : Bool) (way : Option After) (cs : List Child) (hd : Bool) (o : Option (Step × Exit)) (asked : Option After) (nx : Option (Fitted × ℕ)) where
-  pub no_drop : (s : State) (e : LifeEvent) → IsSound (mk f steps n busy runs inst way cs hd o asked nx s).life → is_leaving (mk f steps n busy runs inst way cs hd o asked nx s) ≡ true → drops true e (mk f steps n busy runs inst way cs hd o asked nx s) ≡ false
+module _ (f : Fitted) (steps : StepSet) (n : ℕ) (busy : Option Step) (runs inst : Bool) (way : Option After) (cs : List Child) (hd : Bool)
+    (o : Option (Step × Exit)) (asked : Option After) (nx : Option (Fitted × ℕ)) where
+  pub no_drop : (s : State) (e : LifeEvent) → IsSound (mk f steps n busy runs inst way cs hd o asked nx s).life →
+      is_leaving (mk f steps n busy runs inst way cs hd o asked nx s) ≡ true → drops true e (mk f steps n busy runs inst way cs hd o asked nx s) ≡ false
   no_drop state.New event.MayBegin k l = grind (arith, k, l)
   no_drop state.New event.Retry k l = grind (arith, k, l)
   no_drop state.New event.Launched k l = grind (arith, k, l)

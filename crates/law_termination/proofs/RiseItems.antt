@@ -1,5 +1,6 @@
 -- Items of a sound device that were made ready may be brought up together.
-use Rattle.std.proofs.Common.{◌≡◌, ◌≢◌, ◌<◌, ◌≤◌, ◌⊎◌, ℕ, suc, zero, List, [], ◌∷◌, ◌++◌, length, map, Option, Some, None, is_some, Bool, true, false, refl, sym, ap, ◌∙◌, inl, inr, arith, subst, slice_get}
+use Rattle.std.proofs.Common.{◌≡◌, ◌≢◌, ◌<◌, ◌≤◌, ◌⊎◌, ℕ, suc, zero, List, [], ◌∷◌, ◌++◌, length, map, Option, Some, None, is_some, Bool, true, false, refl}
+use Rattle.std.proofs.Common.{sym, ap, ◌∙◌, inl, inr, arith, subst, slice_get}
 use Rattle.std.specs.Prelude.{◌&&◌, ◌||◌, not, filter, if◌then◌else◌, IfSome, IsSome, Contains}
 use Rattle.std.specs.List.{AllByRecursion}
 use Rattle.std.specs.Str.{bytes_eq}
@@ -74,18 +75,21 @@ has_either x (y ∷ xs) ys (inr h) = elim (has_either x xs ys h) [ inl a ↦ inl
 abbrev NamedIn : List Dependency → List ℕ → Type 0
 NamedIn ds n = (d : Dependency) × Has d ds × (d.name ≡ n)
 
-named_by : (b : Bool) (d : Dependency) (ds : List Dependency) (ns : List (List ℕ)) (n : List ℕ) → (Has n ns → NamedIn ds n) → Has n (if b then d.name ∷ ns else ns) → NamedIn (d ∷ ds) n
+named_by : (b : Bool) (d : Dependency) (ds : List Dependency) (ns : List (List ℕ)) (n : List ℕ) → (Has n ns → NamedIn ds n) →
+    Has n (if b then d.name ∷ ns else ns) → NamedIn (d ∷ ds) n
 named_by true d ds ns n f (inl q) = (d, inl refl, sym q)
 named_by true d ds ns n f (inr h) = let r = f h in (r.0, inr r.1, r.2)
 named_by false d ds ns n f h = let r = f h in (r.0, inr r.1, r.2)
 
-names_if : (b : Bool) (d : Dependency) (ds : List Dependency) → map (λ (d : Dependency). d.name) (if b then d ∷ ds else ds) ≡ (if b then d.name ∷ map (λ (d : Dependency). d.name) ds else map (λ (d : Dependency). d.name) ds)
+names_if : (b : Bool) (d : Dependency) (ds : List Dependency) → map (λ (d : Dependency). d.name) (if b then d ∷ ds else ds)
+    ≡ (if b then d.name ∷ map (λ (d : Dependency). d.name) ds else map (λ (d : Dependency). d.name) ds)
 names_if true d ds = refl
 names_if false d ds = refl
 
 named : (t : Dependency → Bool) (ds : List Dependency) (n : List ℕ) → Has n (map (λ (d : Dependency). d.name) (filter t ds)) → NamedIn ds n
 named t [] n h = absurd h
-named t (d ∷ ds) n h = named_by (t d) d ds (map (λ (d : Dependency). d.name) (filter t ds)) n (λ i. named t ds n i) (subst (λ (ns : List (List ℕ)). Has n ns) (names_if (t d) d (filter t ds)) h)
+named t (d ∷ ds) n h = named_by (t d) d ds (map (λ (d : Dependency). d.name) (filter t ds)) n (λ i. named t ds n i)
+    (subst (λ (ns : List (List ℕ)). Has n ns) (names_if (t d) d (filter t ds)) h)
 
 -- ---- limits
 
@@ -104,17 +108,21 @@ some_limit s (Some v) limit n i = ap (λ (z : Option ℕ). is_some z) i.2
 abbrev HasLimit : StepDef → Type 0
 HasLimit def = is_some def.limit_ms ≡ true
 
-limited : (s : Step) (outer : List Variable) (o : Option Data) (def : Option StepDef) → is_same_step step.Run s ≡ false → IsStep s outer o def → IfSome def HasLimit
+limited : (s : Step) (outer : List Variable) (o : Option Data) (def : Option StepDef) → is_same_step step.Run s ≡ false → IsStep s outer o def →
+    IfSome def HasLimit
 limited s outer None None n i = tt
 limited s outer None (Some def) n i = absurd i
 limited s outer (Some v) None n i = tt
 limited s outer (Some v) (Some def) n i = some_limit s _ def.limit_ms n i.limit
 
-prepared_limit : (scope : Scope) (def : Option StepDef) (made : Option Prepared) → IsPrepared scope def made → IfSome def HasLimit → (not (is_some made) || is_some (limit_of made)) ≡ true
+prepared_limit : (scope : Scope) (def : Option StepDef) (made : Option Prepared) → IsPrepared scope def made → IfSome def HasLimit →
+    (not (is_some made) || is_some (limit_of made)) ≡ true
 prepared_limit scope None made i l = subst (λ (o : Option Prepared). (not (is_some o) || is_some (limit_of o)) ≡ true) (sym i) refl
-prepared_limit scope (Some def) made i l = subst (λ (o : Option Prepared). (not (is_some o) || is_some (limit_of o)) ≡ true) (sym i.1) (ap (λ (o : Option ℕ). is_some o) i.2.limit ∙ l)
+prepared_limit scope (Some def) made i l = subst (λ (o : Option Prepared). (not (is_some o) || is_some (limit_of o)) ≡ true) (sym i.1)
+    (ap (λ (o : Option ℕ). is_some o) i.2.limit ∙ l)
 
-one_main : (scope : Scope) (a b : Option StepDef) (x y : Option Prepared) → IsPrepared scope a x → IsPrepared scope b y → (IsSome a → IsSome b → ⊥) → (is_some x && is_some y) ≡ false
+one_main : (scope : Scope) (a b : Option StepDef) (x y : Option Prepared) → IsPrepared scope a x → IsPrepared scope b y → (IsSome a → IsSome b → ⊥) →
+    (is_some x && is_some y) ≡ false
 one_main scope None b x y i j never = subst (λ (o : Option Prepared). (is_some o && is_some y) ≡ false) (sym i) refl
 one_main scope (Some a) None x y i j never = subst (λ (o : Option Prepared). (is_some x && is_some o) ≡ false) (sym j) (and_false (is_some x))
   where
@@ -135,7 +143,8 @@ module _ (sound : ReadsSound) (o : Origin) (items : List Item) (fitted : List Fi
 
   runs_to_end : (f : Fitted) → Has f fitted → IsRunnable f
   runs_to_end f h = let x = at_of f h in let i = x.1 in record {
-    main = one_main i.scope (step_of i.is_scope.recipe step.Run) (step_of i.is_scope.recipe step.Startup) f.run f.startup (i.steps step.Run (λ e. absurd (cc))) (i.steps step.Startup (λ e. absurd (cc)))
+    main = one_main i.scope (step_of i.is_scope.recipe step.Run) (step_of i.is_scope.recipe step.Startup) f.run f.startup
+        (i.steps step.Run (λ e. absurd (cc))) (i.steps step.Startup (λ e. absurd (cc)))
         (sound i.is_scope.item.recipe o.platform i.is_scope.recipe i.is_scope.reads).not_both;
     install = has_limits f x.0 i step.Install refl (λ e. absurd (cc));
     startup = has_limits f x.0 i step.Startup refl (λ e. absurd (cc));
@@ -154,8 +163,10 @@ module _ (sound : ReadsSound) (o : Origin) (items : List Item) (fitted : List Fi
 
   need_of : (f : Fitted) (n : List ℕ) → Has f fitted → Has n (needs_of f) → NeedOf f n
   need_of f n h m = let x = at_of f h in let i = x.1 in elim (has_either n f.hard f.soft m) [
-    | inl y ↦ (let r = named (λ (d : Dependency). d.hard) i.is_scope.recipe.dependencies n (subst (λ (ns : List (List ℕ)). Has n ns) i.hard y) in record { k = x.0; fit = i; dependency = r.0; is_one = r.1; name = r.2 })
-    | inr y ↦ (let r = named (λ (d : Dependency). not d.hard) i.is_scope.recipe.dependencies n (subst (λ (ns : List (List ℕ)). Has n ns) i.soft y) in record { k = x.0; fit = i; dependency = r.0; is_one = r.1; name = r.2 })
+    | inl y ↦ (let r = named (λ (d : Dependency). d.hard) i.is_scope.recipe.dependencies n (subst (λ (ns : List (List ℕ)). Has n ns) i.hard y) in
+        record { k = x.0; fit = i; dependency = r.0; is_one = r.1; name = r.2 })
+    | inr y ↦ (let r = named (λ (d : Dependency). not d.hard) i.is_scope.recipe.dependencies n (subst (λ (ns : List (List ℕ)). Has n ns) i.soft y) in
+        record { k = x.0; fit = i; dependency = r.0; is_one = r.1; name = r.2 })
   ]
 
   by_name : (b c : List ℕ) → Needs fitted b c → NeedsByName o.platform items b c
@@ -166,7 +177,12 @@ module _ (sound : ReadsSound) (o : Origin) (items : List Item) (fitted : List Fi
         is_one = contains_one items r.fit.is_scope.item (one_at r.fit.is_scope.item items r.k r.fit.is_scope.there);
         from = ap (λ (i : Item). i.name) (sym r.fit.item) ∙ n.from;
         dependency = r.dependency;
-        names = record { recipe = r.fit.is_scope.recipe; reads = r.fit.is_scope.reads; named = contains_one r.fit.is_scope.recipe.dependencies r.dependency r.is_one };
+        names = record {
+          recipe = r.fit.is_scope.recipe;
+          reads = r.fit.is_scope.reads;
+          named = contains_one r.fit.is_scope.recipe.dependencies r.dependency
+              r.is_one;
+        };
         to = r.name;
       }
 
@@ -176,7 +192,8 @@ module _ (sound : ReadsSound) (o : Origin) (items : List Item) (fitted : List Fi
       let m = a.many in
       let g = slice_get_cases fitted k (omega (arith, l, m)) in
       let x = a.each k g.0 g.1 in
-      let same : name_of g.0 ≡ n = ap (λ (z : Item). z.name) (x.item ∙ ap (λ (z : Option Item). elim z [ None ↦ i | Some y ↦ y ]) (sym x.is_scope.there ∙ e)) ∙ q in
+      let same : name_of g.0 ≡ n = ap (λ (z : Item). z.name) (x.item ∙ ap (λ (z : Option Item). elim z [ None ↦ i | Some y ↦ y ]) (sym x.is_scope.there ∙ e))
+      ∙ q in
       any_named fitted g.0 n (one_at g.0 fitted k g.1) same
     where
       slice_get_cases : (xs : List Fitted) (j : ℕ) → j < length xs → (f : Fitted) × (slice_get xs j ≡ Some f)
@@ -194,7 +211,12 @@ module _ (sound : ReadsSound) (o : Origin) (items : List Item) (fitted : List Fi
       let r = need_of f n h m in
       let i = r.fit.is_scope.item in
       let s = each_has (IsSupplied o.platform items) i items (one_at i items r.k r.fit.is_scope.there) are.supplied in
-      let y = s r.dependency (record { recipe = r.fit.is_scope.recipe; reads = r.fit.is_scope.reads; named = contains_one r.fit.is_scope.recipe.dependencies r.dependency r.is_one }) in
+      let y = s r.dependency (record {
+        recipe = r.fit.is_scope.recipe;
+        reads = r.fit.is_scope.reads;
+        named =
+            contains_one r.fit.is_scope.recipe.dependencies r.dependency r.is_one;
+      }) in
       let p = place_of_one y.item items (has_one items y.item y.is_one) in
       among_at n y.item p.0 p.1 (y.meets.name ∙ r.name)
 

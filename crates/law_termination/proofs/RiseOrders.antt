@@ -1,5 +1,6 @@
 -- Needs without a cycle have an order: of each name, how many of the items it reaches.
-use Rattle.std.proofs.Common.{◌≡◌, ◌<◌, ◌≤◌, ◌+◌, ◌⊎◌, ℕ, suc, zero, List, [], ◌∷◌, ◌++◌, length, map, Bool, true, false, refl, sym, ap, ◌∙◌, inl, inr, arith, subst}
+use Rattle.std.proofs.Common.{◌≡◌, ◌<◌, ◌≤◌, ◌+◌, ◌⊎◌, ℕ, suc, zero, List, [], ◌∷◌, ◌++◌, length, map, Bool, true, false, refl, sym, ap, ◌∙◌, inl, inr, arith}
+use Rattle.std.proofs.Common.{subst}
 use Rattle.std.specs.Prelude.{◌&&◌, ◌||◌, if◌then◌else◌, ⊤}
 use Rattle.std.specs.List.{AllByRecursion}
 use Rattle.std.specs.Str.{bytes_eq}
@@ -51,8 +52,11 @@ or_cases false b e = inr e
 
 flagged_has : (f : Fitted) (items : List Fitted) (t : List ℕ) → Has f items → name_of f ≡ t → is_flagged (name_of f) (first_of t items) ≡ true
 flagged_has f [] t h e = absurd h
-flagged_has f (g ∷ gs) t (inl q) e = subst (λ (z : Fitted). ((bytes_eq (name_of z) t && bytes_eq (name_of z) (name_of f)) || is_flagged (name_of f) (first_of t gs)) ≡ true) q (rw (subst (λ (z : List ℕ). bytes_eq (name_of f) z ≡ true) e (same_bytes (name_of f))) (rw (same_bytes (name_of f)) refl))
-flagged_has f (g ∷ gs) t (inr h) e = or_right (bytes_eq (name_of g) t && bytes_eq (name_of g) (name_of f)) (is_flagged (name_of f) (first_of t gs)) (flagged_has f gs t h e)
+flagged_has f (g ∷ gs) t (inl q) e = subst (λ (z : Fitted). ((bytes_eq (name_of z) t && bytes_eq (name_of z) (name_of f)) ||
+    is_flagged (name_of f) (first_of t gs)) ≡ true) q (rw (subst (λ (z : List ℕ). bytes_eq (name_of f) z ≡ true) e (same_bytes (name_of f)))
+    (rw (same_bytes (name_of f)) refl))
+flagged_has f (g ∷ gs) t (inr h) e = or_right (bytes_eq (name_of g) t && bytes_eq (name_of g) (name_of f)) (is_flagged (name_of f) (first_of t gs))
+    (flagged_has f gs t h e)
 
 flagged_more : (n : List ℕ) (fs hs : Flagged) → Within fs hs → is_flagged n fs ≡ true → is_flagged n hs ≡ true
 flagged_more n [] [] w e = e
@@ -60,12 +64,14 @@ flagged_more n [] (h ∷ hs) w e = absurd w
 flagged_more n (f ∷ fs) [] w e = absurd w
 flagged_more n (f ∷ fs) (h ∷ hs) w e = elim (or_cases (f.1 && bytes_eq (component_name f.0) n) (is_flagged n fs) e) [
   | inl a ↦ (let b = and_parts f.1 (bytes_eq (component_name f.0) n) a in
-      or_left (h.1 && bytes_eq (component_name h.0) n) (is_flagged n hs) (rw (w.1 b.0) (sym (ap (λ (p : ComponentState). bytes_eq (component_name p) n) w.0) ∙ b.1)))
+      or_left (h.1 && bytes_eq (component_name h.0) n) (is_flagged n hs)
+      (rw (w.1 b.0) (sym (ap (λ (p : ComponentState). bytes_eq (component_name p) n) w.0) ∙ b.1)))
   | inr a ↦ or_right (h.1 && bytes_eq (component_name h.0) n) (is_flagged n hs) (flagged_more n fs hs w.2 a)
 ]
 
 reaches_self : (items : List Fitted) (f : Fitted) → Has f items → reaches items (name_of f) (name_of f) ≡ true
-reaches_self items f h = flagged_more (name_of f) (first_of (name_of f) items) (reach_of (name_of f) items) (most (length (first_of (name_of f) items)) (first_of (name_of f) items)) (flagged_has f items (name_of f) h refl)
+reaches_self items f h = flagged_more (name_of f) (first_of (name_of f) items) (reach_of (name_of f) items)
+    (most (length (first_of (name_of f) items)) (first_of (name_of f) items)) (flagged_has f items (name_of f) h refl)
 
 -- ---- who needs what reaches, reaches
 
@@ -79,12 +85,15 @@ needs_has n (m ∷ ms) fs (inl q) e = or_left (is_flagged m fs) (needs_flagged m
 needs_has n (m ∷ ms) fs (inr h) e = or_right (is_flagged m fs) (needs_flagged ms fs) (needs_has n ms fs h e)
 
 -- in what is closed, whoever needs a flagged one has a flag
-closed_flags : (all fs : Flagged) (p : ComponentState) → grown all fs ≡ fs → HasFlag p fs → needs_flagged p.fitted.hard all ≡ true → is_flagged (component_name p) fs ≡ true
+closed_flags : (all fs : Flagged) (p : ComponentState) → grown all fs ≡ fs → HasFlag p fs → needs_flagged p.fitted.hard all ≡ true →
+    is_flagged (component_name p) fs ≡ true
 closed_flags all [] p c h e = absurd h
 closed_flags all (f ∷ fs) p c (inl q) e =
     let one : (f.1 || needs_flagged f.0.fitted.hard all) ≡ f.1 = ap (λ (gs : Flagged). elim gs [ [] ↦ false | ◌∷◌ g gs ↦ g.1 ]) c in
-    let has : f.1 ≡ true = sym one ∙ or_right f.1 (needs_flagged f.0.fitted.hard all) (subst (λ (z : ComponentState). needs_flagged z.fitted.hard all ≡ true) q e) in
-    or_left (f.1 && bytes_eq (component_name f.0) (component_name p)) (is_flagged (component_name p) fs) (rw has (subst (λ (z : ComponentState). bytes_eq (component_name z) (component_name p) ≡ true) q (same_bytes (component_name p))))
+    let has : f.1 ≡ true = sym one ∙ or_right f.1 (needs_flagged f.0.fitted.hard all)
+    (subst (λ (z : ComponentState). needs_flagged z.fitted.hard all ≡ true) q e) in
+    or_left (f.1 && bytes_eq (component_name f.0) (component_name p)) (is_flagged (component_name p) fs)
+    (rw has (subst (λ (z : ComponentState). bytes_eq (component_name z) (component_name p) ≡ true) q (same_bytes (component_name p))))
 closed_flags all (f ∷ fs) p c (inr h) e = or_right (f.1 && bytes_eq (component_name f.0) (component_name p)) (is_flagged (component_name p) fs)
     (closed_flags all fs p (ap (λ (gs : Flagged). elim gs [ [] ↦ [] | ◌∷◌ g gs ↦ gs ]) c) h e)
 
@@ -100,9 +109,11 @@ first_has f [] t h = absurd h
 first_has f (g ∷ gs) t (inl q) = inl (ap part_of q)
 first_has f (g ∷ gs) t (inr h) = inr (first_has f gs t h)
 
-reaches_on : (items : List Fitted) (f : Fitted) (n t : List ℕ) → Has f items → Has n (needs_of f) → reaches items n t ≡ true → reaches items (name_of f) t ≡ true
+reaches_on : (items : List Fitted) (f : Fitted) (n t : List ℕ) → Has f items → Has n (needs_of f) → reaches items n t ≡ true →
+    reaches items (name_of f) t ≡ true
 reaches_on items f n t h m e = closed_flags (reach_of t items) (reach_of t items) (part_of f) (closes (first_of t items))
-    (flag_within (part_of f) (first_of t items) (reach_of t items) (most (length (first_of t items)) (first_of t items)) (first_has f items t h)) (needs_has n (needs_of f) (reach_of t items) m e)
+    (flag_within (part_of f) (first_of t items) (reach_of t items) (most (length (first_of t items)) (first_of t items)) (first_has f items t h))
+    (needs_has n (needs_of f) (reach_of t items) m e)
 
 -- ---- whoever reaches does so by needs
 
@@ -115,7 +126,8 @@ IsFlag items t f = ((g : Fitted) × Has g items × (f.0 ≡ part_of g)) × (f.1 
 found : (items : List Fitted) (t n : List ℕ) (fs : Flagged) → AllByRecursion (IsFlag items t) fs → is_flagged n fs ≡ true → Sought items t n
 found items t n [] a e = absurd (cc)
 found items t n (f ∷ fs) a e = elim (or_cases (f.1 && bytes_eq (component_name f.0) n) (is_flagged n fs) e) [
-  | inl b ↦ (let c = and_parts f.1 (bytes_eq (component_name f.0) n) b in subst (λ (z : List ℕ). Sought items t z) ((bytes_eq-Decides (component_name f.0) n).0 c.1) (a.0.1 c.0))
+  | inl b ↦ (let c = and_parts f.1 (bytes_eq (component_name f.0) n) b in
+      subst (λ (z : List ℕ). Sought items t z) ((bytes_eq-Decides (component_name f.0) n).0 c.1) (a.0.1 c.0))
   | inr b ↦ found items t n fs a.1 b
 ]
 
@@ -135,7 +147,8 @@ lead : (items : List Fitted) (a b t : List ℕ) → Needs items a b → Sought i
 lead items a b t n (inl e) = inr (Leads.direct (subst (λ (z : List ℕ). Needs items a z) e n))
 lead items a b t n (inr l) = inr (Leads.through n l)
 
-flags_grown : (items : List Fitted) (t : List ℕ) (all fs : Flagged) → AllByRecursion (IsFlag items t) all → AllByRecursion (IsFlag items t) fs → AllByRecursion (IsFlag items t) (grown all fs)
+flags_grown : (items : List Fitted) (t : List ℕ) (all fs : Flagged) → AllByRecursion (IsFlag items t) all → AllByRecursion (IsFlag items t) fs →
+    AllByRecursion (IsFlag items t) (grown all fs)
 flags_grown items t all [] b a = tt
 flags_grown items t all (f ∷ fs) b a = ((a.0.0, λ e. one (or_cases f.1 (needs_flagged f.0.fitted.hard all) e)), flags_grown items t all fs b a.1)
   where
@@ -156,7 +169,8 @@ flags_first items [] t f = tt
 flags_first items (g ∷ gs) t f = (((g, f g (inl refl), refl), λ e. inl ((bytes_eq-Decides (name_of g) t).0 e)), flags_first items gs t (λ h i. f h (inr i)))
 
 sought : (items : List Fitted) (a t : List ℕ) → reaches items a t ≡ true → Sought items t a
-sought items a t e = found items t a (reach_of t items) (flags_reach items t (length (first_of t items)) (first_of t items) (flags_first items items t (λ g h. h))) e
+sought items a t e = found items t a (reach_of t items) (flags_reach items t (length (first_of t items)) (first_of t items)
+    (flags_first items items t (λ g h. h))) e
 
 -- ---- the order
 
@@ -174,7 +188,8 @@ not_more p q (f ∷ fs) i = let r = not_more p q fs i in elim (either (p f)) [
   ]
 ]
 
-fewer : (p q : Fitted → Bool) (one : Fitted) (fs : List Fitted) → Has one fs → p one ≡ false → q one ≡ true → ((f : Fitted) → p f ≡ true → q f ≡ true) → count_of p fs < count_of q fs
+fewer : (p q : Fitted → Bool) (one : Fitted) (fs : List Fitted) → Has one fs → p one ≡ false → q one ≡ true → ((f : Fitted) → p f ≡ true → q f ≡ true) →
+    count_of p fs < count_of q fs
 fewer p q one [] h x y i = absurd h
 fewer p q one (f ∷ fs) (inl e) x y i =
     let r = not_more p q fs i in
@@ -192,8 +207,10 @@ fewer p q one (f ∷ fs) (inr h) x y i = let r = fewer p q one fs h x y i in eli
 abbrev pub order_of : List Fitted → List ℕ → ℕ
 order_of items a = count_of (λ f. reaches items a (name_of f)) items
 
-pub needs_below : (items : List Fitted) (f : Fitted) (n : List ℕ) → ((name : List ℕ) → Leads (Needs items) name name → ⊥) → Has f items → Has n (needs_of f) → order_of items n < order_of items (name_of f)
-needs_below items f n acyclic h m = fewer (λ g. reaches items n (name_of g)) (λ g. reaches items (name_of f) (name_of g)) f items h none (reaches_self items f h) (λ g e. reaches_on items f n (name_of g) h m e)
+pub needs_below : (items : List Fitted) (f : Fitted) (n : List ℕ) → ((name : List ℕ) → Leads (Needs items) name name → ⊥) → Has f items → Has n (needs_of f) →
+    order_of items n < order_of items (name_of f)
+needs_below items f n acyclic h m = fewer (λ g. reaches items n (name_of g)) (λ g. reaches items (name_of f) (name_of g)) f items h none
+    (reaches_self items f h) (λ g e. reaches_on items f n (name_of g) h m e)
   where
     need : Needs items (name_of f) n
     need = record { item = f; is_one = h; from = refl; to = m }

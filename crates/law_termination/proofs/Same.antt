@@ -54,21 +54,30 @@ same_changed (suc k) g (p ∷ ps) h = (same_self p, same_changed k g ps h)
 
 same_marked : (fs : Flagged) → AreSame (firsts fs) (marked may_restart fs)
 same_marked [] = tt
-same_marked (f ∷ fs) = elim (f.1 && may_restart f.0) as (λ (y : Bool). f.1 && may_restart f.0 ≡ y → AreSame (f.0 ∷ firsts fs) ((if y then record f.0 { stop = Some after.Restart } else f.0) ∷ marked may_restart fs)) [
-  | true ↦ λ e. let i = idle_of f.0 (may_replan_of f.0 (and_parts f.1 (may_restart f.0) e).1) in (record { fitted = refl; next = refl; leaving = rw i.0 refl; in_time = λ h. h }, same_marked fs)
-  | false ↦ λ e. (same_self f.0, same_marked fs)
-] refl
+same_marked (f ∷ fs) = elim (f.1 && may_restart f.0) as (λ (y : Bool). f.1 && may_restart f.0 ≡ y →
+    AreSame (f.0 ∷ firsts fs) ((if y then record f.0 { stop = Some after.Restart } else f.0) ∷ marked may_restart fs)) [
+      | true ↦ λ e. let i = idle_of f.0 (may_replan_of f.0 (and_parts f.1 (may_restart f.0) e).1) in
+          (record { fitted = refl; next = refl; leaving = rw i.0 refl; in_time = λ h. h }, same_marked fs)
+      | false ↦ λ e. (same_self f.0, same_marked fs)
+    ] refl
 
 -- an event of one component behind a change to it
-pub same_befallen : (k m : ℕ) (b : Bool) (e : LifeEvent) (h : ComponentState → ComponentState) (ps : List ComponentState) → At k (λ p. IsSame p (lived b e (h p))) ps
+pub same_befallen : (k m : ℕ) (b : Bool) (e : LifeEvent) (h : ComponentState → ComponentState) (ps : List ComponentState) →
+    At k (λ p. IsSame p (lived b e (h p))) ps
     → AreSame ps (lived_at k e (record { parts = changed_at k h ps; moment = m; steady = b })).parts
 same_befallen k m b e h ps a =
-    let one : AreSame ps (changed_at k (lived b e) (changed_at k h ps)) = subst (λ (qs : List ComponentState). AreSame ps qs) (sym (twice k (lived b e) h ps)) (same_changed k (λ p. lived b e (h p)) ps a) in
-    let back = firsts_reaching (length (flagged_at k (changed_at k (lived b e) (changed_at k h ps)))) (flagged_at k (changed_at k (lived b e) (changed_at k h ps))) ∙ firsts_at k (changed_at k (lived b e) (changed_at k h ps)) in
-    elim (drops_in k (record { parts = changed_at k h ps; moment = m; steady = b }) e) as (λ (x : Bool). AreSame ps (if x then restarted may_restart (flagged_at k (changed_at k (lived b e) (changed_at k h ps))) else changed_at k (lived b e) (changed_at k h ps))) [
-      | true ↦ all_on ps (changed_at k (lived b e) (changed_at k h ps)) (restarted may_restart (flagged_at k (changed_at k (lived b e) (changed_at k h ps)))) one
+    let one : AreSame ps (changed_at k (lived b e) (changed_at k h ps)) = subst (λ (qs : List ComponentState). AreSame ps qs) (sym (twice k (lived b e) h ps))
+    (same_changed k (λ p. lived b e (h p)) ps a) in
+    let back = firsts_reaching (length (flagged_at k (changed_at k (lived b e) (changed_at k h ps))))
+    (flagged_at k (changed_at k (lived b e) (changed_at k h ps))) ∙ firsts_at k (changed_at k (lived b e) (changed_at k h ps)) in
+    elim (drops_in k (record { parts = changed_at k h ps; moment = m; steady = b }) e)
+    as (λ (x : Bool). AreSame ps (if x then restarted may_restart (flagged_at k (changed_at k (lived b e) (changed_at k h ps))) else changed_at k
+    (lived b e) (changed_at k h ps))) [
+      | true ↦ all_on ps (changed_at k (lived b e) (changed_at k h ps)) (restarted may_restart (flagged_at k (changed_at k (lived b e) (changed_at k h ps))))
+          one
           (subst (λ (qs : List ComponentState). AreSame qs (restarted may_restart (flagged_at k (changed_at k (lived b e) (changed_at k h ps))))) back
-          (same_marked (reaching (length (flagged_at k (changed_at k (lived b e) (changed_at k h ps)))) (flagged_at k (changed_at k (lived b e) (changed_at k h ps))))))
+          (same_marked (reaching (length (flagged_at k (changed_at k (lived b e) (changed_at k h ps))))
+          (flagged_at k (changed_at k (lived b e) (changed_at k h ps))))))
       | false ↦ one
     ]
 
@@ -76,10 +85,12 @@ none_some : {X A : Type 0} (o : Option X) (x : X) → o ≡ None → o ≡ Some 
 none_some o x n s = absurd (cc)
 
 -- one component at an event, with these children
-pub same_lived : (b : Bool) (e : LifeEvent) (p : ComponentState) (cs : List Child) (h : Bool) → IsKeptPart p → p.next ≡ None → MayBefall e (record p { children = cs; handed = h })
+pub same_lived : (b : Bool) (e : LifeEvent) (p : ComponentState) (cs : List Child) (h : Bool) → IsKeptPart p → p.next ≡ None →
+    MayBefall e (record p { children = cs; handed = h })
     → (AllByRecursion IsInTime p.children → AllByRecursion IsInTime cs) → IsSame p (lived b e (record p { children = cs; handed = h }))
 same_lived b e p cs h k n m t =
-    let x = by_lived (λ f nx st ds. (f ≡ p.fitted) × (nx ≡ None) × (ds ≡ cs)) b e (record p { children = cs; handed = h }) k.sound ((refl, n, refl), λ y q. none_some p.next y n q) in
+    let x = by_lived (λ f nx st ds. (f ≡ p.fitted) × (nx ≡ None) × (ds ≡ cs)) b e (record p { children = cs; handed = h }) k.sound
+    ((refl, n, refl), λ y q. none_some p.next y n q) in
     record {
       fitted = x.0;
       next = x.1 ∙ sym n;
@@ -110,18 +121,21 @@ shown_same : (ps qs : List ComponentState) → AreSame ps qs → map shown qs �
 shown_same [] [] a = refl
 shown_same [] (q ∷ qs) a = absurd a
 shown_same (p ∷ ps) [] a = absurd a
-shown_same (p ∷ ps) (q ∷ qs) a = ap (λ (f : Fitted). (name_of f, is_leaving q) ∷ map shown qs) a.0.fitted ∙ ap (λ (l : Bool). (component_name p, l) ∷ map shown qs) a.0.leaving ∙ ap (λ (vs : List Shown). shown p ∷ vs) (shown_same ps qs a.1)
+shown_same (p ∷ ps) (q ∷ qs) a = ap (λ (f : Fitted). (name_of f, is_leaving q) ∷ map shown qs) a.0.fitted ∙ ap (λ (l : Bool). (component_name p, l) ∷
+    map shown qs) a.0.leaving ∙ ap (λ (vs : List Shown). shown p ∷ vs) (shown_same ps qs a.1)
 
 there_still : (all new : List ComponentState) (ns : List (List ℕ)) → map shown new ≡ map shown all → are_there all ns ≡ true → are_there new ns ≡ true
 there_still all new ns e h = there_same new ns ∙ ap (λ (vs : List Shown). there_in vs ns) e ∙ sym (there_same all ns) ∙ h
 
-driven_on : (s : List ℕ → ℕ) (all new : List ComponentState) → map shown new ≡ map shown all → (ps qs : List ComponentState) → AreSame ps qs → AllByRecursion (IsDriven s all) ps → AllByRecursion (IsDriven s new) qs
+driven_on : (s : List ℕ → ℕ) (all new : List ComponentState) → map shown new ≡ map shown all → (ps qs : List ComponentState) → AreSame ps qs →
+    AllByRecursion (IsDriven s all) ps → AllByRecursion (IsDriven s new) qs
 driven_on s all new e [] [] a d = tt
 driven_on s all new e [] (q ∷ qs) a d = absurd a
 driven_on s all new e (p ∷ ps) [] a d = absurd a
 driven_on s all new e (p ∷ ps) (q ∷ qs) a d = (one, driven_on s all new e ps qs a.1 d.1)
   where
-    needs : (ns : Fitted → List (List ℕ)) → is_leaving q ≡ false → (is_leaving p ≡ false → are_there all (ns p.fitted) ≡ true) → are_there new (ns q.fitted) ≡ true
+    needs : (ns : Fitted → List (List ℕ)) → is_leaving q ≡ false → (is_leaving p ≡ false → are_there all (ns p.fitted) ≡ true) →
+        are_there new (ns q.fitted) ≡ true
     needs ns l h = subst (λ (f : Fitted). are_there new (ns f) ≡ true) (sym a.0.fitted) (there_still all new (ns p.fitted) e (h (sym a.0.leaving ∙ l)))
 
     one : IsDriven s new q

@@ -1,5 +1,6 @@
 -- What the laws of progress say of what is kept, and the stop of all.
-use Rattle.std.proofs.Common.{◌≡◌, ◌⊎◌, ◌<◌, ◌≤◌, ◌+◌, ◌^◌, ℕ, List, [], ◌∷◌, map, Option, Some, None, Bool, true, false, refl, sym, ap, ◌∙◌, inl, inr, arith, subst}
+use Rattle.std.proofs.Common.{◌≡◌, ◌⊎◌, ◌<◌, ◌≤◌, ◌+◌, ◌^◌, ℕ, List, [], ◌∷◌, map, Option, Some, None, Bool, true, false, refl, sym, ap, ◌∙◌, inl, inr, arith}
+use Rattle.std.proofs.Common.{subst}
 use Rattle.std.specs.Prelude.{if◌then◌else◌, IfSome, min, option_map}
 use Rattle.std.specs.Option.{IsSomeAnd}
 use Rattle.std.specs.List.{list_all, AllByRecursion}
@@ -79,7 +80,15 @@ stop_drives w d = record { alone = (stop_whole w (whole w d)).alone; s = d.s; ea
 
 steady_same : (s : List ℕ → ℕ) (all ps : List ComponentState) → AllByRecursion (IsDriven s all) ps → AreSame ps (map forgetting ps)
 steady_same s all [] d = tt
-steady_same s all (p ∷ ps) d = (record { fitted = refl; next = ap (λ (o : Option Coming). option_map (λ (n : Coming). (n.0, 0)) o) d.0.next ∙ sym d.0.next; leaving = refl; in_time = λ h. h }, steady_same s all ps d.1)
+steady_same s all (p ∷ ps) d = (
+  record {
+    fitted = refl;
+    next = ap (λ (o : Option Coming). option_map (λ (n : Coming). (n.0, 0)) o) d.0.next ∙ sym d.0.next;
+    leaving = refl;
+    in_time = λ h. h;
+  },
+  steady_same s all ps d.1,
+)
 
 pub steady_on : (w : Components) → Drives w → GoesOn w (steadied w)
 steady_on w d = goes_on w (steadied w) d (steady_whole w (whole w d)).alone (steady_same d.s w.parts w.parts d.each)
@@ -97,7 +106,8 @@ children_in_time (c ∷ cs) h = earlier_in_time c.deadline (child_deadline cs) h
 
 least_in_time : (s : List ℕ → ℕ) (all ps : List ComponentState) → AllByRecursion (IsDriven s all) ps → IfSome (least_of ps) (λ d. d < 2 ^ 62)
 least_in_time s all [] d = tt
-least_in_time s all (p ∷ ps) d = earlier_in_time (child_deadline p.children) (least_of ps) (children_in_time p.children d.0.in_time) (least_in_time s all ps d.1)
+least_in_time s all (p ∷ ps) d = earlier_in_time (child_deadline p.children) (least_of ps) (children_in_time p.children d.0.in_time)
+    (least_in_time s all ps d.1)
 
 abbrev pub Goes : Components → Type 0
 Goes w = HasTime w × (w.moment + 1 < 2 ^ 62)

@@ -1,5 +1,6 @@
 -- What a call that tells a supervisor what befell makes of the number of the loops.
-use Rattle.std.proofs.Common.{◌≡◌, ◌⊎◌, ◌<◌, ◌≤◌, ◌+◌, ◌*◌, ◌-◌, ◌^◌, ℕ, suc, zero, List, [], ◌∷◌, Option, Some, None, Bool, true, false, refl, sym, ap, ◌∙◌, inl, inr, arith, subst}
+use Rattle.std.proofs.Common.{◌≡◌, ◌⊎◌, ◌<◌, ◌≤◌, ◌+◌, ◌*◌, ◌-◌, ◌^◌, ℕ, suc, zero, List, [], ◌∷◌, Option, Some, None, Bool, true, false, refl, sym, ap, ◌∙◌}
+use Rattle.std.proofs.Common.{inl, inr, arith, subst}
 use Rattle.std.specs.Prelude.{IsSome, min}
 use Rattle.std.specs.Option.{IsSomeAnd}
 use Rattle.std.specs.List.{list_any}
@@ -45,17 +46,29 @@ module _ (w : Components) (now : ℕ) (d : Drives w) (f : IsFalling w) where
   pub start_falls : (v : Components) (k n : ℕ) (s : Step) → HasHanded k s w → v ≡ started k s n (later now w) → Falls w v
   start_falls v k n s h e =
       let l = (later_on w d now).drives in
-      subst (Falls w) (sym e) (record { on = then_on (started k s n (later now w)) (start_on (later now w) l k n s (begun k s h)); less = started_lowers (later now w) l.alone.parts l.alone.few f k n s (begun k s h) })
+      subst (Falls w) (sym e) (record {
+        on = then_on (started k s n (later now w)) (start_on (later now w) l k n s (begun k s h));
+        less =
+            started_lowers (later now w) l.alone.parts l.alone.few f k n s (begun k s h);
+      })
 
   pub refuse_falls : (v : Components) (k : ℕ) (s : Step) → HasHanded k s w → v ≡ refused k s (later now w) → Falls w v
   refuse_falls v k s h e =
       let l = (later_on w d now).drives in
-      subst (Falls w) (sym e) (record { on = then_on (refused k s (later now w)) (refuse_on (later now w) l k s (begun k s h)); less = refused_lowers (later now w) l.alone.parts l.alone.few f k s (begun k s h) })
+      subst (Falls w) (sym e) (record {
+        on = then_on (refused k s (later now w)) (refuse_on (later now w) l k s (begun k s h));
+        less =
+            refused_lowers (later now w) l.alone.parts l.alone.few f k s (begun k s h);
+      })
 
   pub skip_falls : (v : Components) (k : ℕ) (s : Step) → HasHanded k s w → v ≡ skipped k (later now w) → Falls w v
   skip_falls v k s h e =
       let l = (later_on w d now).drives in
-      subst (Falls w) (sym e) (record { on = then_on (skipped k (later now w)) (skip_on (later now w) l k s (begun k s h)); less = skipped_lowers (later now w) l.alone.parts l.alone.few f k s (begun k s h) })
+      subst (Falls w) (sym e) (record {
+        on = then_on (skipped k (later now w)) (skip_on (later now w) l k s (begun k s h));
+        less =
+            skipped_lowers (later now w) l.alone.parts l.alone.few f k s (begun k s h);
+      })
 
   owned : (o : Option (ℕ × Step)) → IsSome o → (x : ℕ × Step) × (o ≡ Some x)
   owned None h = absurd (cc)
@@ -65,7 +78,11 @@ module _ (w : Components) (now : ℕ) (d : Drives w) (f : IsFalling w) where
   end_falls v n x h e =
       let l = (later_on w d now).drives in
       let o = owned (owner n w.parts) h in
-      subst (Falls w) (sym e) (record { on = then_on (ended n x (later now w)) (end_on (later now w) l n x o.0.0 o.0.1 o.1); less = ended_lowers (later now w) l.alone.parts l.alone.few f n x o.0.0 o.0.1 o.1 })
+      subst (Falls w) (sym e) (record {
+        on = then_on (ended n x (later now w)) (end_on (later now w) l n x o.0.0 o.0.1 o.1);
+        less =
+            ended_lowers (later now w) l.alone.parts l.alone.few f n x o.0.0 o.0.1 o.1;
+      })
 
 pub pass_not_above : (w v : Components) (now : ℕ) → Drives w → v ≡ later now w → NotAbove w v
 pass_not_above w v now d e = subst (NotAbove w) (sym e) (record { on = later_on w d now; least = omega arith })
@@ -90,7 +107,8 @@ self_not_above w d = record { on = record { drives = d; stays = refl }; least = 
 -- ---- a wait, and the number of a loop of turns
 
 -- a wait to the least deadline that elapsed leaves a later moment
-pub time_on : (w : Components) (now old new limit : ℕ) → w.moment ≡ now → HasTime w → w.moment + 1 < 2 ^ 62 → limit ≡ until (least_deadline w) now → now ≤ old → (old + limit ≤ new) ⊎ (new ≡ 2 ^ 62 - 1) → now < new
+pub time_on : (w : Components) (now old new limit : ℕ) → w.moment ≡ now → HasTime w → w.moment + 1 < 2 ^ 62 → limit ≡ until (least_deadline w) now →
+    now ≤ old → (old + limit ≤ new) ⊎ (new ≡ 2 ^ 62 - 1) → now < new
 time_on w now old new limit m t r l o e = by (least_deadline w) t l e
   where
     by : (o : Option ℕ) → IsSomeAnd o (λ d. w.moment < d) → limit ≡ until o now → (old + limit ≤ new) ⊎ (new ≡ 2 ^ 62 - 1) → now < new
@@ -98,7 +116,8 @@ time_on w now old new limit m t r l o e = by (least_deadline w) t l e
     by (Some d) t l (inl e) = omega (arith, m, t, l, o, e)
     by (Some d) t l (inr e) = omega (arith, m, r, e)
 
-pub measure_less : (w v : Components) (old new : ℕ) → old < 2 ^ 62 → new < 2 ^ 62 → (rank v < rank w) ⊎ ((rank v ≤ rank w) × (old < new)) → measure (later new v) < measure (later old w)
+pub measure_less : (w v : Components) (old new : ℕ) → old < 2 ^ 62 → new < 2 ^ 62 → (rank v < rank w) ⊎ ((rank v ≤ rank w) × (old < new)) →
+    measure (later new v) < measure (later old w)
 measure_less w v old new a b (inl l) = omega (arith, a, b, l)
 measure_less w v old new a b (inr l) = omega (arith, a, b, l.0, l.1)
 

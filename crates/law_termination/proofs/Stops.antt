@@ -23,10 +23,35 @@ ask_none way = grind arith
 pub left_keeps : (p : ComponentState) → IsKeptPart p → IsKeptPart (leaving p)
 left_keeps p k = go p.life.gone refl (is_gone (under_way p.life)) refl
   where
-    go : (g : Bool) → p.life.gone ≡ g → (u : Bool) → is_gone (under_way p.life) ≡ u → IsKeptPart (if g then p else (if u then record p { stop = None; next = None } else record p { stop = Some after.Gone; next = None }))
+    go : (g : Bool) → p.life.gone ≡ g → (u : Bool) → is_gone (under_way p.life) ≡ u →
+        IsKeptPart (if g then p else (if u then record p { stop = None; next = None } else record p { stop = Some after.Gone; next = None }))
     go true e u f = k
-    go false e true f = record { sound = k.sound; steps = k.steps; runnable = k.runnable; coming = tt; timed = k.timed; run = k.run; gone = rw e refl; own = k.own; asks = ask_none (under_way p.life); waits = refl }
-    go false e false f = record { sound = k.sound; steps = k.steps; runnable = k.runnable; coming = tt; timed = k.timed; run = k.run; gone = rw e refl; own = k.own; asks = ask_gone (under_way p.life) f; waits = refl }
+    go false e true f = record {
+      sound = k.sound;
+      steps = k.steps;
+      runnable = k.runnable;
+      coming = tt;
+      timed = k.timed;
+      run = k.run;
+      gone = rw e refl;
+      own =
+          k.own;
+      asks = ask_none (under_way p.life);
+      waits = refl;
+    }
+    go false e false f = record {
+      sound = k.sound;
+      steps = k.steps;
+      runnable = k.runnable;
+      coming = tt;
+      timed = k.timed;
+      run = k.run;
+      gone = rw e refl;
+      own =
+          k.own;
+      asks = ask_gone (under_way p.life) f;
+      waits = refl;
+    }
 
 still_sound : (c : Life) → IsSound c → IsSound (record c { failures = 0 })
 still_sound c k = record { main = k.main; failures = few c.state; busy = k.busy; runs = k.runs; stop = k.stop }
@@ -46,9 +71,22 @@ still_waits None = refl
 still_waits (Some n) = refl
 
 still_keeps : (p : ComponentState) → IsKeptPart p → IsKeptPart (forgetting p)
-still_keeps p k = let w = still_waits p.next in record { sound = still_sound p.life k.sound; steps = k.steps; runnable = k.runnable; coming = still_coming (component_name p) p.next k.coming; timed = k.timed; run = k.run; gone = k.gone; own = k.own; asks = k.asks; waits = rw w k.waits }
+still_keeps p k = let w = still_waits p.next in record {
+  sound = still_sound p.life k.sound;
+  steps = k.steps;
+  runnable = k.runnable;
+  coming =
+      still_coming (component_name p) p.next k.coming;
+  timed = k.timed;
+  run = k.run;
+  gone = k.gone;
+  own = k.own;
+  asks = k.asks;
+  waits = rw w k.waits;
+}
 
-each : (f : ComponentState → ComponentState) → ((p : ComponentState) → IsKeptPart p → IsKeptPart (f p)) → (ps : List ComponentState) → AllByRecursion IsKeptPart ps → AllByRecursion IsKeptPart (map f ps)
+each : (f : ComponentState → ComponentState) → ((p : ComponentState) → IsKeptPart p → IsKeptPart (f p)) → (ps : List ComponentState) →
+    AllByRecursion IsKeptPart ps → AllByRecursion IsKeptPart (map f ps)
 each f g [] a = tt
 each f g (p ∷ ps) a = (g p a.0, each f g ps a.1)
 
@@ -73,7 +111,11 @@ still_stands r (p ∷ ps) a = (a.0, still_stands r ps a.1)
 
 pub stop_whole : (w : Components) → IsKept w → IsKept (all_stopped w)
 stop_whole w i = record {
-  alone = record { parts = each leaving left_keeps w.parts i.alone.parts; few = let x = i.alone.few in let y = length_map leaving w.parts in omega (arith, x, y) };
+  alone = record {
+    parts = each leaving left_keeps w.parts i.alone.parts;
+    few = let x = i.alone.few in let y = length_map leaving w.parts in
+        omega (arith, x, y);
+  };
   r = i.r;
   s = i.s;
   ordered = left_ordered i.r i.s w.parts w.parts i.ordered (map leaving w.parts);
@@ -81,10 +123,15 @@ stop_whole w i = record {
 
 pub steady_whole : (w : Components) → IsKept w → IsKept (steadied w)
 steady_whole w i = record {
-  alone = record { parts = each forgetting still_keeps w.parts i.alone.parts; few = let x = i.alone.few in let y = length_map forgetting w.parts in omega (arith, x, y) };
+  alone = record {
+    parts = each forgetting still_keeps w.parts i.alone.parts;
+    few = let x = i.alone.few in let y = length_map forgetting w.parts in
+        omega (arith, x, y);
+  };
   r = i.r;
   s = i.s;
-  ordered = still_ordered i.r i.s w.parts (map forgetting w.parts) (still_view w.parts) (still_stands i.r w.parts (stands_all i.r i.s w.parts w.parts i.ordered)) i.ordered;
+  ordered = still_ordered i.r i.s w.parts (map forgetting w.parts) (still_view w.parts)
+      (still_stands i.r w.parts (stands_all i.r i.s w.parts w.parts i.ordered)) i.ordered;
 }
 
 pub later_whole : (w : Components) (m : ℕ) → IsKept w → IsKept (later m w)

@@ -1,5 +1,6 @@
 -- What falls in one component falls in all, with the marks that it brings.
-use Rattle.std.proofs.Common.{◌≡◌, ◌<◌, ◌≤◌, ◌+◌, ◌*◌, ℕ, suc, zero, List, [], ◌∷◌, length, Option, Some, None, Bool, true, false, refl, sym, ap, ◌∙◌, ◌⊎◌, inl, inr, arith, subst, is_some}
+use Rattle.std.proofs.Common.{◌≡◌, ◌<◌, ◌≤◌, ◌+◌, ◌*◌, ℕ, suc, zero, List, [], ◌∷◌, length, Option, Some, None, Bool, true, false, refl, sym, ap, ◌∙◌, ◌⊎◌}
+use Rattle.std.proofs.Common.{inl, inr, arith, subst, is_some}
 use Rattle.std.specs.Prelude.{◌&&◌, ◌||◌, not, if◌then◌else◌}
 use Rattle.std.specs.List.{list_any, AllByRecursion}
 use Rattle.std.proofs.lemmas.Bool.{or_parts, and_parts}
@@ -79,27 +80,32 @@ mark_cost p e =
 
 marks_cost : (fs : Flagged) → rank_of (marked may_restart fs) ≤ rank_of (firsts fs) + 165 * length fs
 marks_cost [] = omega arith
-marks_cost (f ∷ fs) = elim (f.1 && may_restart f.0) as (λ b. f.1 && may_restart f.0 ≡ b → rank_of (marked may_restart (f ∷ fs)) ≤ rank_of (firsts (f ∷ fs)) + 165 * length (f ∷ fs)) [
-  | true ↦ λ e. (let m = and_parts f.1 (may_restart f.0) e in let c = mark_cost f.0 m.1 in let i = marks_cost fs in rw e (omega (arith, c, i)))
-  | false ↦ λ e. (let i = marks_cost fs in rw e (omega (arith, i)))
-] refl
+marks_cost (f ∷ fs) = elim (f.1 && may_restart f.0) as (λ b. f.1 && may_restart f.0 ≡ b → rank_of (marked may_restart (f ∷ fs)) ≤ rank_of
+    (firsts (f ∷ fs)) + 165 * length (f ∷ fs)) [
+      | true ↦ λ e. (let m = and_parts f.1 (may_restart f.0) e in let c = mark_cost f.0 m.1 in let i = marks_cost fs in rw e (omega (arith, c, i)))
+      | false ↦ λ e. (let i = marks_cost fs in rw e (omega (arith, i)))
+    ] refl
 
 -- one changes
-pub rank_changed : (k : ℕ) (g : ComponentState → ComponentState) (m : ℕ) (ps : List ComponentState) → At k (λ p. part_rank (g p) + m ≤ part_rank p) ps → rank_of (changed_at k g ps) + m ≤ rank_of ps
+pub rank_changed : (k : ℕ) (g : ComponentState → ComponentState) (m : ℕ) (ps : List ComponentState) → At k (λ p. part_rank (g p) + m ≤ part_rank p) ps →
+    rank_of (changed_at k g ps) + m ≤ rank_of ps
 rank_changed k g m [] h = absurd h
 rank_changed zero g m (p ∷ ps) h = omega (arith, h)
 rank_changed (suc k) g m (p ∷ ps) h = let i = rank_changed k g m ps h in omega (arith, i)
 
 -- where one loses a failure, the marks that it brings are paid
-error_falls : (k n : ℕ) (g : ComponentState → ComponentState) (ps : List ComponentState) → length ps ≤ 256 → At k (λ p. part_rank (g p) + 48000 ≤ part_rank p) ps
+error_falls : (k n : ℕ) (g : ComponentState → ComponentState) (ps : List ComponentState) → length ps ≤ 256 →
+    At k (λ p. part_rank (g p) + 48000 ≤ part_rank p) ps
     → rank_of (marked may_restart (reaching n (flagged_at k (changed_at k g ps)))) < rank_of ps
 error_falls k n g ps few h =
     let fs = reaching n (flagged_at k (changed_at k g ps)) in
     let a = rank_changed k g 48000 ps h in
     let b = marks_cost (reaching n (flagged_at k (changed_at k g ps))) in
-    let q : firsts (reaching n (flagged_at k (changed_at k g ps))) ≡ changed_at k g ps = firsts_reaching n (flagged_at k (changed_at k g ps)) ∙ firsts_at k (changed_at k g ps) in
+    let q : firsts (reaching n (flagged_at k (changed_at k g ps))) ≡ changed_at k g ps = firsts_reaching n (flagged_at k (changed_at k g ps)) ∙ firsts_at k
+    (changed_at k g ps) in
     let c = ap rank_of q in
-    let d : length (reaching n (flagged_at k (changed_at k g ps))) ≡ length ps = sym (length_firsts (reaching n (flagged_at k (changed_at k g ps)))) ∙ ap (λ (qs : List ComponentState). length qs) q ∙ length_changed k g ps in
+    let d : length (reaching n (flagged_at k (changed_at k g ps))) ≡ length ps = sym (length_firsts (reaching n (flagged_at k (changed_at k g ps)))) ∙ ap
+    (λ (qs : List ComponentState). length qs) q ∙ length_changed k g ps in
     omega (arith, a, b, c, d, few)
 
 pub at_map : (k : ℕ) (ps : List ComponentState) (P Q : ComponentState → Type 0) → ((p : ComponentState) → P p → Q p) → At k P ps → At k Q ps
@@ -128,11 +134,13 @@ dropped k m b e h [] P x l a = absurd a
 dropped zero m b e h (p ∷ ps) P x l a = (a, l)
 dropped (suc k) m b e h (p ∷ ps) P x l a = dropped k m b e h ps P x l a
 
-pub event_falls : (k m : ℕ) (b : Bool) (e : LifeEvent) (h : ComponentState → ComponentState) (ps : List ComponentState) → length ps ≤ 256 → At k (λ p. Lowers b e (h p) p) ps
+pub event_falls : (k m : ℕ) (b : Bool) (e : LifeEvent) (h : ComponentState → ComponentState) (ps : List ComponentState) → length ps ≤ 256 →
+    At k (λ p. Lowers b e (h p) p) ps
     → rank (lived_at k e (record { parts = changed_at k h ps; moment = m; steady = b })) < rank_of ps
 event_falls k m b e h ps few a = elim (drops_in k (record { parts = changed_at k h ps; moment = m; steady = b }) e)
     as (λ x. drops_in k (record { parts = changed_at k h ps; moment = m; steady = b }) e ≡ x
-    → rank_of (if x then restarted may_restart (flagged_at k (changed_at k (lived b e) (changed_at k h ps))) else changed_at k (lived b e) (changed_at k h ps)) < rank_of ps) [
+    → rank_of (if x then restarted may_restart (flagged_at k (changed_at k (lived b e) (changed_at k h ps))) else changed_at k (lived b e)
+    (changed_at k h ps)) < rank_of ps) [
       | true ↦ λ l. rw (twice k (lived b e) h ps) (error_falls k (length (flagged_at k (changed_at k (λ p. lived b e (h p)) ps))) (λ p. lived b e (h p)) ps few
           (at_map k ps (λ p. Lowers b e (h p) p × (drops b e (h p) ≡ true)) (λ p. part_rank (lived b e (h p)) + 48000 ≤ part_rank p) (λ p x. x.0.paid x.1)
           (dropped k m b e h ps (λ p. Lowers b e (h p) p) true l a)))
@@ -147,7 +155,8 @@ changed_same (suc k) (p ∷ ps) = ap (λ (qs : List ComponentState). p ∷ qs) (
 
 -- of a component as it is
 pub plain_falls : (k : ℕ) (e : LifeEvent) (w : Components) → length w.parts ≤ 256 → At k (λ p. Lowers w.steady e p p) w.parts → rank (lived_at k e w) < rank w
-plain_falls k e w few a = subst (λ (qs : List ComponentState). rank (lived_at k e (record w { parts = qs })) < rank w) (changed_same k w.parts) (event_falls k w.moment w.steady e (λ p. p) w.parts few a)
+plain_falls k e w few a = subst (λ (qs : List ComponentState). rank (lived_at k e (record w { parts = qs })) < rank w) (changed_same k w.parts)
+    (event_falls k w.moment w.steady e (λ p. p) w.parts few a)
 
 -- ---- of one component
 
@@ -157,34 +166,46 @@ standing P p e x = subst (λ (g : Bool). P (record p { life = record p.life { go
 stands_row : (c : Life) (e : LifeEvent) → is_some (table c e) ≡ true → c.gone ≡ false
 stands_row c e t = elim (either c.gone) [ inr g ↦ g | inl g ↦ (let x : is_some (table c e) ≡ false = rw g refl in clash (is_some (table c e)) t x) ]
 
-falls : (e : LifeEvent) (p : ComponentState) → IsSound p.life → may_ask (under_way p.life) p.stop ≡ true → MayBefall e p → is_some (table p.life e) ≡ true → core (lived false e p) + gain e (lived false e p).life.busy ≤ core p
-falls e p k a m t = standing (λ q. IsSound q.life → may_ask (under_way q.life) q.stop ≡ true → MayBefall e q → is_some (table q.life e) ≡ true → core (lived false e q) + gain e (lived false e q).life.busy ≤ core q) p (stands_row p.life e t)
-    (falls_at p.fitted p.life.steps p.life.failures p.life.busy p.life.runs p.life.install_failed p.life.stop p.children p.handed p.owed p.stop p.next p.life.state e) k a m t
+falls : (e : LifeEvent) (p : ComponentState) → IsSound p.life → may_ask (under_way p.life) p.stop ≡ true → MayBefall e p → is_some (table p.life e) ≡ true →
+    core (lived false e p) + gain e (lived false e p).life.busy ≤ core p
+falls e p k a m t = standing (λ q. IsSound q.life → may_ask (under_way q.life) q.stop ≡ true → MayBefall e q → is_some (table q.life e) ≡ true →
+    core (lived false e q) + gain e (lived false e q).life.busy ≤ core q) p (stands_row p.life e t)
+    (falls_at p.fitted p.life.steps p.life.failures p.life.busy p.life.runs p.life.install_failed p.life.stop p.children p.handed p.owed p.stop p.next
+    p.life.state e) k a m t
 
-leaves : (e : LifeEvent) (p : ComponentState) → IsSound p.life → may_ask (under_way p.life) p.stop ≡ true → MayBefall e p → is_some (table p.life e) ≡ true → is_leaving p ≡ true → core (lived true e p) + gain e (lived true e p).life.busy ≤ core p
-leaves e p k a m t = standing (λ q. IsSound q.life → may_ask (under_way q.life) q.stop ≡ true → MayBefall e q → is_some (table q.life e) ≡ true → is_leaving q ≡ true → core (lived true e q) + gain e (lived true e q).life.busy ≤ core q) p (stands_row p.life e t)
-    (leaves_at p.fitted p.life.steps p.life.failures p.life.busy p.life.runs p.life.install_failed p.life.stop p.children p.handed p.owed p.stop p.next p.life.state e) k a m t
+leaves : (e : LifeEvent) (p : ComponentState) → IsSound p.life → may_ask (under_way p.life) p.stop ≡ true → MayBefall e p → is_some (table p.life e) ≡ true →
+    is_leaving p ≡ true → core (lived true e p) + gain e (lived true e p).life.busy ≤ core p
+leaves e p k a m t = standing (λ q. IsSound q.life → may_ask (under_way q.life) q.stop ≡ true → MayBefall e q → is_some (table q.life e) ≡ true →
+    is_leaving q ≡ true → core (lived true e q) + gain e (lived true e q).life.busy ≤ core q) p (stands_row p.life e t)
+    (leaves_at p.fitted p.life.steps p.life.failures p.life.busy p.life.runs p.life.install_failed p.life.stop p.children p.handed p.owed p.stop p.next
+    p.life.state e) k a m t
 
-drops_paid : (e : LifeEvent) (p : ComponentState) → p.life.gone ≡ false → IsSound p.life → MayBefall e p → drops false e p ≡ true → core (lived false e p) + 49000 ≤ core p
+drops_paid : (e : LifeEvent) (p : ComponentState) → p.life.gone ≡ false → IsSound p.life → MayBefall e p → drops false e p ≡ true →
+    core (lived false e p) + 49000 ≤ core p
 drops_paid e p g k m d = standing (λ q. IsSound q.life → MayBefall e q → drops false e q ≡ true → core (lived false e q) + 49000 ≤ core q) p g
-    (drops_at p.fitted p.life.steps p.life.failures p.life.busy p.life.runs p.life.install_failed p.life.stop p.children p.handed p.owed p.stop p.next p.life.state e) k m d
+    (drops_at p.fitted p.life.steps p.life.failures p.life.busy p.life.runs p.life.install_failed p.life.stop p.children p.handed p.owed p.stop p.next
+    p.life.state e) k m d
 
 drops_not : (e : LifeEvent) (p : ComponentState) → p.life.gone ≡ false → IsSound p.life → is_leaving p ≡ true → drops true e p ≡ false
 drops_not e p g k l = standing (λ q. IsSound q.life → is_leaving q ≡ true → drops true e q ≡ false) p g
-    (no_drop p.fitted p.life.steps p.life.failures p.life.busy p.life.runs p.life.install_failed p.life.stop p.children p.handed p.owed p.stop p.next p.life.state e) k l
+    (no_drop p.fitted p.life.steps p.life.failures p.life.busy p.life.runs p.life.install_failed p.life.stop p.children p.handed p.owed p.stop p.next
+    p.life.state e) k l
 
 pub start_small : (b : Option Step) (cs : List Child) → start_weight b cs ≤ 4
 start_small None cs = omega arith
-start_small (Some s) cs = elim (list_any (λ (c : Child). is_same_step s c.of) cs) as (λ b. (if b then 0 else 4) ≤ 4) [ true ↦ omega arith | false ↦ omega arith ]
+start_small (Some s) cs = elim (list_any (λ (c : Child). is_same_step s c.of) cs)
+    as (λ b. (if b then 0 else 4) ≤ 4) [ true ↦ omega arith | false ↦ omega arith ]
 
 gain_some : (e : LifeEvent) (s : Step) → gain e (Some s) ≡ 5
 gain_some e s = grind arith
 
 -- what becomes of the children is paid: by the event, or by themselves
 abbrev pub Pays : LifeEvent → Option Step → List Child → List Child → Type 0
-Pays e busy cs ds = (((b : Option Step) → gain e b ≡ 5) × (length ds ≤ length cs)) ⊎ ((3 * length ds + 1 ≤ start_weight busy cs + 3 * length cs) × (length ds ≤ length cs + 1))
+Pays e busy cs ds = (((b : Option Step) → gain e b ≡ 5) × (length ds ≤ length cs)) ⊎
+    ((3 * length ds + 1 ≤ start_weight busy cs + 3 * length cs) × (length ds ≤ length cs + 1))
 
-paid : (e : LifeEvent) (busy new : Option Step) (cs ds : List Child) → Pays e busy cs ds → start_weight new ds + 3 * length ds + 1 ≤ start_weight busy cs + 3 * length cs + gain e new
+paid : (e : LifeEvent) (busy new : Option Step) (cs ds : List Child) → Pays e busy cs ds → start_weight new ds + 3 * length ds + 1 ≤ start_weight busy cs + 3
+    * length cs + gain e new
 paid e busy new cs ds (inl x) = let a = start_small new ds in let b = x.0 new in let c = x.1 in omega (arith, a, b, c)
 paid e busy None cs ds (inr x) = let a = x.0 in omega (arith, a)
 paid e busy (Some s) cs ds (inr x) = let a = start_small (Some s) ds in let b = gain_some e s in let c = x.0 in omega (arith, a, b, c)
@@ -198,11 +219,13 @@ abbrev pub IsFallingPart : Bool → ComponentState → Type 0
 IsFallingPart b p = (b ≡ false) ⊎ (is_leaving p ≡ true)
 
 lowers_driven : (e : LifeEvent) (p : ComponentState) (ds : List Child) → IsSound p.life → may_ask (under_way p.life) p.stop ≡ true
-    → MayBefall e (record p { children = ds }) → is_some (table p.life e) ≡ true → Pays e p.life.busy p.children ds → Lowers false e (record p { children = ds }) p
+    → MayBefall e (record p { children = ds }) → is_some (table p.life e) ≡ true → Pays e p.life.busy p.children ds →
+    Lowers false e (record p { children = ds }) p
 lowers_driven e p ds k a m t y =
     let c = falls e (record p { children = ds }) k a m t in
     let z = paid e p.life.busy (lived false e (record p { children = ds })).life.busy p.children ds y in
-    let v = ap (λ (cs : List Child). start_weight (lived false e (record p { children = ds })).life.busy cs + 3 * length cs) (same_children false e (record p { children = ds }) k) in
+    let v = ap (λ (cs : List Child). start_weight (lived false e (record p { children = ds })).life.busy cs + 3 * length cs)
+    (same_children false e (record p { children = ds }) k) in
     let u = few_more e p.life.busy p.children ds y in
     let s = start_small (lived false e (record p { children = ds })).life.busy ds in
     record {
@@ -211,11 +234,13 @@ lowers_driven e p ds k a m t y =
     }
 
 lowers_leaving : (e : LifeEvent) (p : ComponentState) (ds : List Child) → IsSound p.life → may_ask (under_way p.life) p.stop ≡ true → is_leaving p ≡ true
-    → MayBefall e (record p { children = ds }) → is_some (table p.life e) ≡ true → Pays e p.life.busy p.children ds → Lowers true e (record p { children = ds }) p
+    → MayBefall e (record p { children = ds }) → is_some (table p.life e) ≡ true → Pays e p.life.busy p.children ds →
+    Lowers true e (record p { children = ds }) p
 lowers_leaving e p ds k a l m t y =
     let c = leaves e (record p { children = ds }) k a m t l in
     let z = paid e p.life.busy (lived true e (record p { children = ds })).life.busy p.children ds y in
-    let v = ap (λ (cs : List Child). start_weight (lived true e (record p { children = ds })).life.busy cs + 3 * length cs) (same_children true e (record p { children = ds }) k) in
+    let v = ap (λ (cs : List Child). start_weight (lived true e (record p { children = ds })).life.busy cs + 3 * length cs)
+    (same_children true e (record p { children = ds }) k) in
     record {
       lower = omega (arith, c, z, v);
       paid = λ d. clash (drops true e (record p { children = ds })) d (drops_not e (record p { children = ds }) (stands_row p.life e t) k l);

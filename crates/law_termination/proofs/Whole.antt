@@ -21,7 +21,8 @@ use Rattle.law_termination.proofs.Sums.{length_changed}
 use Rattle.law_termination.proofs.Answered.{handed_length, handed_rank}
 use Rattle.law_termination.proofs.Keeps.{Known}
 use Rattle.law_termination.proofs.Happens.{move_lowers, killed_lowers, told_lowers}
-use Rattle.law_termination.proofs.Stays.{move_known, refused_known, skipped_known, told_known, started_known, ended_known, killed_known, length_lived, length_ended, length_killed, length_started, length_refused, length_skipped, handed_on}
+use Rattle.law_termination.proofs.Stays.{move_known, refused_known, skipped_known, told_known, started_known, ended_known, killed_known, length_lived}
+use Rattle.law_termination.proofs.Stays.{length_ended, length_killed, length_started, length_refused, length_skipped, handed_on}
 
 plain : (ps : List ComponentState) → AllByRecursion IsKeptPart ps → AllByRecursion (Known false) ps
 plain [] a = tt
@@ -39,7 +40,8 @@ all_leave : (ps : List ComponentState) → AllByRecursion (Known true) ps → li
 all_leave [] a = refl
 all_leave (p ∷ ps) a = elim a.0.1 [ inl f ↦ absurd (cc) | inr l ↦ rw l (all_leave ps a.1) ]
 
-keep_from : (w v : Components) → length v.parts ≡ length w.parts → v.steady ≡ w.steady → ((d : Bool) → AllByRecursion (Known d) w.parts → AllByRecursion (Known d) v.parts) → AreKept w → StaysKept w v
+keep_from : (w v : Components) → length v.parts ≡ length w.parts → v.steady ≡ w.steady →
+    ((d : Bool) → AllByRecursion (Known d) w.parts → AllByRecursion (Known d) v.parts) → AreKept w → StaysKept w v
 keep_from w v l s f a = record {
   kept = record { parts = alone false v.parts (f false (plain w.parts a.parts)); few = let x = a.few in omega (arith, l, x) };
   falling = λ g. elim g [ inl y ↦ inl (s ∙ y) | inr y ↦ inr (all_leave v.parts (f true (leaving w.parts a.parts y))) ];
@@ -47,14 +49,17 @@ keep_from w v l s f a = record {
 
 steady_gone_by : (o : Option LifeEvent) (k : ℕ) (s : Step) (n : ℕ) (w : Components) → (gone_by o k s n w).steady ≡ w.steady
 steady_gone_by None k s n w = refl
-steady_gone_by (Some e) k s n w = elim (is_orphan_at k s w) as (λ (b : Bool). (let v : Components = (if b then child_gone k n w else lived_at k e (child_gone k n w)) in v.steady ≡ w.steady)) [ true ↦ refl | false ↦ refl ]
+steady_gone_by (Some e) k s n w = elim (is_orphan_at k s w) as (λ (b : Bool). (let v : Components =
+    (if b then child_gone k n w else lived_at k e (child_gone k n w)) in v.steady ≡ w.steady)) [ true ↦ refl | false ↦ refl ]
 
 steady_ended : (n : ℕ) (x : Exit) (w : Components) → (ended n x w).steady ≡ w.steady
-steady_ended n x w = elim (owner n w.parts) as (λ (o : Option (ℕ × Step)). (let v : Components = (elim o [ None ↦ w | Some y ↦ gone_by (Some (event.Ended y.1 x)) y.0 y.1 n w ]) in v.steady ≡ w.steady))
+steady_ended n x w = elim (owner n w.parts) as (λ (o : Option (ℕ × Step)). (let v : Components =
+    (elim o [ None ↦ w | Some y ↦ gone_by (Some (event.Ended y.1 x)) y.0 y.1 n w ]) in v.steady ≡ w.steady))
     [ None ↦ refl | Some y ↦ steady_gone_by (Some (event.Ended y.1 x)) y.0 y.1 n w ]
 
 steady_killed : (n : ℕ) (w : Components) → (killed n w).steady ≡ w.steady
-steady_killed n w = elim (owner n w.parts) as (λ (o : Option (ℕ × Step)). (let v : Components = (elim o [ None ↦ w | Some y ↦ gone_by (kill_event_at y.0 y.1 n w) y.0 y.1 n w ]) in v.steady ≡ w.steady))
+steady_killed n w = elim (owner n w.parts) as (λ (o : Option (ℕ × Step)). (let v : Components =
+    (elim o [ None ↦ w | Some y ↦ gone_by (kill_event_at y.0 y.1 n w) y.0 y.1 n w ]) in v.steady ≡ w.steady))
     [ None ↦ refl | Some y ↦ steady_gone_by (kill_event_at y.0 y.1 n w) y.0 y.1 n w ]
 
 steady_started : (k n : ℕ) (t : Step) (w : Components) → (started k t n w).steady ≡ w.steady

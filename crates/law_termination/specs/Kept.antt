@@ -89,7 +89,8 @@ newest p = elim p.next [ None ↦ p.fitted | Some n ↦ n.0 ]
 abbrev pub are_there : List ComponentState → List (List ℕ) → Bool
 are_there all ns = list_all (is_met (λ q. not (is_leaving q)) all) ns
 
--- In the order r each stands above what its item needs hard. In the order s each that is not to leave stands above all that its newest item needs, and that is not to leave either.
+-- In the order r each stands above what its item needs hard. In the order s each that is not to leave stands above all
+-- that its newest item needs, and that is not to leave either.
 pub record IsOrderedPart (r s : List ℕ → ℕ) (all : List ComponentState) (p : ComponentState) : Type 0 where
   pub stands : p.life.gone ≡ false → AllBelow r (r (component_name p)) p.fitted.hard
   pub hard : is_leaving p ≡ false → AllBelow s (s (component_name p)) (newest p).hard

@@ -12,7 +12,17 @@ abbrev pub item_of : List ℕ → Item
 item_of name = record { name = name; version = 49 ∷ []; recipe = []; config = null; artifacts = [] }
 
 abbrev pub fitted_a : Prepared → Fitted
-fitted_a install = record { item = item_of (97 ∷ []); hard = []; soft = []; install = Some install; run = None; startup = None; shutdown = None; recover = None }
+fitted_a install = record {
+  item = item_of (97 ∷ []);
+  hard = [];
+  soft = [];
+  install = Some install;
+  run = None;
+  startup = None;
+  shutdown = None;
+  recover =
+      None;
+}
 
 abbrev pub fitted_b : Fitted
 fitted_b = record { item = item_of (98 ∷ []); hard = (97 ∷ []) ∷ []; soft = []; install = None; run = None; startup = None; shutdown = None; recover = None }

@@ -43,7 +43,8 @@ pub fn drives_stop()
 
 /// Where none stands, it begins with items that may be brought up together, each with fewer failures than break.
 pub fn changes_drive()
-    ensures { (items : List Fitted) (counts : List ℕ) (steady : Bool) (w : Components) → is_stopped w ≡ true → MayCome items → AllByRecursion (λ (n : ℕ). n < 3) counts → Rises (changed_to items counts steady w) }
+    ensures { (items : List Fitted) (counts : List ℕ) (steady : Bool) (w : Components) → is_stopped w ≡ true → MayCome items →
+        AllByRecursion (λ (n : ℕ). n < 3) counts → Rises (changed_to items counts steady w) }
 {}
 
 /// Where there are no components, it holds.
@@ -61,24 +62,31 @@ pub fn ready_items_may_come()
 /// While no failure is forgotten, whatever befalls the components lowers the number of the loops, but for a start that is
 /// handed out, which its answer lowers.
 pub fn drives_fall()
-    ensures acts { (w v : Components) (act : Option Act) → NextAct w act v → Drives w → IsFalling w → IsFalling v × (rank v ≤ rank w) × (is_done act ≡ true → rank v < rank w) }
-    ensures starts { (w : Components) → Drives w → IsFalling w → (k n : ℕ) (s : Step) → At k (λ p. is_begun s p ≡ true) w.parts → rank (started k s n w) < rank w }
+    ensures acts { (w v : Components) (act : Option Act) → NextAct w act v → Drives w → IsFalling w → IsFalling v × (rank v ≤ rank w) ×
+        (is_done act ≡ true → rank v < rank w) }
+    ensures starts { (w : Components) → Drives w → IsFalling w → (k n : ℕ) (s : Step) → At k (λ p. is_begun s p ≡ true) w.parts →
+        rank (started k s n w) < rank w }
     ensures refuses { (w : Components) → Drives w → IsFalling w → (k : ℕ) (s : Step) → At k (λ p. is_begun s p ≡ true) w.parts → rank (refused k s w) < rank w }
     ensures skips { (w : Components) → Drives w → IsFalling w → (k : ℕ) (s : Step) → At k (λ p. is_begun s p ≡ true) w.parts → rank (skipped k w) < rank w }
-    ensures ends { (w : Components) → Drives w → IsFalling w → (n : ℕ) (x : Exit) (k : ℕ) (s : Step) → owner n w.parts ≡ Some (k, s) → rank (ended n x w) < rank w }
+    ensures ends { (w : Components) → Drives w → IsFalling w → (n : ℕ) (x : Exit) (k : ℕ) (s : Step) → owner n w.parts ≡ Some (k, s) →
+        rank (ended n x w) < rank w }
     ensures passes { (w : Components) (m : ℕ) → rank (later m w) ≡ rank w }
 {}
 
 /// Where each start that was handed out is answered and nothing may act, what was to be is reached, or a deadline is still to
 /// come, which is a moment.
 pub fn drives_end()
-    ensures rises { (w : Components) → Drives w → has_answered w ≡ true → IsQuiet w → (is_settled w ≡ true) ⊎ (has_broken w ≡ true) ⊎ (HasTime w × (w.moment + 1 < 2 ^ 62)) }
-    ensures leaves { (w : Components) → Drives w → list_all is_leaving w.parts ≡ true → has_answered w ≡ true → IsQuiet w → (is_stopped w ≡ true) ⊎ (HasTime w × (w.moment + 1 < 2 ^ 62)) }
+    ensures rises { (w : Components) → Drives w → has_answered w ≡ true → IsQuiet w → (is_settled w ≡ true) ⊎ (has_broken w ≡ true) ⊎
+        (HasTime w × (w.moment + 1 < 2 ^ 62)) }
+    ensures leaves { (w : Components) → Drives w → list_all is_leaving w.parts ≡ true → has_answered w ≡ true → IsQuiet w → (is_stopped w ≡ true) ⊎
+        (HasTime w × (w.moment + 1 < 2 ^ 62)) }
 {}
 
 /// A loop of turns ends: each turn something befell the components, or the clock went on, as it does where a wait to the least
 /// deadline elapsed.
 pub fn turns_fall()
-    ensures waits { (w : Components) (now old new limit : ℕ) → w.moment ≡ now → HasTime w → w.moment + 1 < 2 ^ 62 → limit ≡ until (least_deadline w) now → now ≤ old → (old + limit ≤ new) ⊎ (new ≡ 2 ^ 62 - 1) → now < new }
-    ensures measured { (w v : Components) (old new : ℕ) → old < 2 ^ 62 → new < 2 ^ 62 → (rank v < rank w) ⊎ ((rank v ≤ rank w) × (old < new)) → measure (later new v) < measure (later old w) }
+    ensures waits { (w : Components) (now old new limit : ℕ) → w.moment ≡ now → HasTime w → w.moment + 1 < 2 ^ 62 → limit ≡ until (least_deadline w) now →
+        now ≤ old → (old + limit ≤ new) ⊎ (new ≡ 2 ^ 62 - 1) → now < new }
+    ensures measured { (w v : Components) (old new : ℕ) → old < 2 ^ 62 → new < 2 ^ 62 → (rank v < rank w) ⊎ ((rank v ≤ rank w) × (old < new)) →
+        measure (later new v) < measure (later old w) }
 {}

@@ -33,11 +33,15 @@ pub fn stopping()
 pub fn rank_falls()
     ensures moves { (w : Components) → AreKept w → IsFalling w → (k : ℕ) (e : LifeEvent) → MayMove w k e → rank (lived_at k e w) < rank w }
     ensures kills { (w : Components) → AreKept w → IsFalling w → (n k : ℕ) (s : Step) → MayKill w n k s → rank (killed n w) < rank w }
-    ensures is_modelled { (w : Components) → AreKept w → IsFalling w → (k : ℕ) (s : Step) (x : Exit) (breaks : Bool) → OwesAt w k s x breaks → rank (told_at k w) < rank w }
-    ensures starts { (w : Components) → AreKept w → IsFalling w → (k n : ℕ) (s : Step) → At k (λ p. is_begun s p ≡ true) w.parts → rank (started k s n w) < rank w }
-    ensures refuses { (w : Components) → AreKept w → IsFalling w → (k : ℕ) (s : Step) → At k (λ p. is_begun s p ≡ true) w.parts → rank (refused k s w) < rank w }
+    ensures is_modelled { (w : Components) → AreKept w → IsFalling w → (k : ℕ) (s : Step) (x : Exit) (breaks : Bool) → OwesAt w k s x breaks →
+        rank (told_at k w) < rank w }
+    ensures starts { (w : Components) → AreKept w → IsFalling w → (k n : ℕ) (s : Step) → At k (λ p. is_begun s p ≡ true) w.parts →
+        rank (started k s n w) < rank w }
+    ensures refuses { (w : Components) → AreKept w → IsFalling w → (k : ℕ) (s : Step) → At k (λ p. is_begun s p ≡ true) w.parts →
+        rank (refused k s w) < rank w }
     ensures skips { (w : Components) → AreKept w → IsFalling w → (k : ℕ) (s : Step) → At k (λ p. is_begun s p ≡ true) w.parts → rank (skipped k w) < rank w }
-    ensures ends { (w : Components) → AreKept w → IsFalling w → (n : ℕ) (x : Exit) (k : ℕ) (s : Step) → owner n w.parts ≡ Some (k, s) → rank (ended n x w) < rank w }
+    ensures ends { (w : Components) → AreKept w → IsFalling w → (n : ℕ) (x : Exit) (k : ℕ) (s : Step) → owner n w.parts ≡ Some (k, s) →
+        rank (ended n x w) < rank w }
     ensures passes { (w : Components) (m : ℕ) → rank (later m w) ≡ rank w }
 {}
 
@@ -56,14 +60,17 @@ pub fn each_keeps()
 /// A change to other items gives what is kept of each component alone, where each item is runnable and begins with fewer
 /// failures than break, an item that counts as the same has the same steps, and there are not too many.
 pub fn change_keeps()
-    ensures { (items : List Fitted) (counts : List ℕ) (steady : Bool) (w : Components) → AreKept w → AllByRecursion IsRunnable items → AllByRecursion (λ (n : ℕ). n < 3) counts
+    ensures { (items : List Fitted) (counts : List ℕ) (steady : Bool) (w : Components) → AreKept w → AllByRecursion IsRunnable items →
+        AllByRecursion (λ (n : ℕ). n < 3) counts
         → HaveSameSteps items w.parts → standing_count w + length items ≤ 256 → AreKept (changed_to items counts steady w) }
 {}
 
 /// The orders of needs are kept too where all are to be stopped, at the end of a deployment, and by a move or an end that takes no new item.
 pub fn all_keeps()
-    ensures moves { (w : Components) → IsKept w → (k : ℕ) (e : LifeEvent) → MayMove w k e → At k (λ p. (lived w.steady e p).fitted ≡ p.fitted) w.parts → IsKept (lived_at k e w) }
-    ensures ends { (w : Components) → IsKept w → (n : ℕ) (x : Exit) (k : ℕ) (s : Step) → owner n w.parts ≡ Some (k, s) → At k (λ p. (lived w.steady (event.Ended s x) (without_child n p)).fitted ≡ p.fitted) w.parts → IsKept (ended n x w) }
+    ensures moves { (w : Components) → IsKept w → (k : ℕ) (e : LifeEvent) → MayMove w k e → At k (λ p. (lived w.steady e p).fitted ≡ p.fitted) w.parts →
+        IsKept (lived_at k e w) }
+    ensures ends { (w : Components) → IsKept w → (n : ℕ) (x : Exit) (k : ℕ) (s : Step) → owner n w.parts ≡ Some (k, s) →
+        At k (λ p. (lived w.steady (event.Ended s x) (without_child n p)).fitted ≡ p.fitted) w.parts → IsKept (ended n x w) }
     ensures stops { (w : Components) → IsKept w → IsKept (all_stopped w) }
     ensures steadies { (w : Components) → IsKept w → IsKept (steadied w) }
     ensures passes { (w : Components) (m : ℕ) → IsKept w → IsKept (later m w) }

@@ -14,7 +14,8 @@ use Rattle.library_core.specs.Sources.{Source, source}
 pub alike_one : (cs : List Candidate) (a b : Candidate) → IsRising (members cs) → Contains cs a → Contains cs b → IsAlike a b → a ≡ b
 alike_one cs a b rising i j alike =
     let here : (d : Candidate) → get_or cs i.0 d ≡ a = λ d. get_or_default cs i.0 d a i.1 ∙ i.2 in
-    let one : get_or cs i.0 b ≡ b = one_alike cs b b i.0 rising i.1 (λ d. subst (λ (c : Candidate). IsAlike c b) (sym (here d)) alike) j (record { name = refl; version = refl }) in
+    let one : get_or cs i.0 b ≡ b = one_alike cs b b i.0 rising i.1 (λ d. subst (λ (c : Candidate). IsAlike c b) (sym (here d)) alike) j
+    (record { name = refl; version = refl }) in
     sym (here b) ∙ one
 
 -- ---- one more candidate
@@ -54,7 +55,8 @@ now_in cs new c (inr put) =
     (in_map source (put.before ++ c ∷ put.after) c (Contains-append_right put.before (c ∷ put.after) c (in_here c put.after)))
 
 -- the same of their sources
-pub source_added : (cs new : List Candidate) (c : Candidate) (s : Source) → IsAdded cs c new → Contains (map source new) s → Contains (map source cs) s ⊎ (source c ≡ s)
+pub source_added : (cs new : List Candidate) (c : Candidate) (s : Source) → IsAdded cs c new → Contains (map source new) s → Contains (map source cs) s ⊎
+    (source c ≡ s)
 source_added cs new c s h i =
     let r = from_map source new s i in
     elim (in_added cs new c r.0 h r.1) [

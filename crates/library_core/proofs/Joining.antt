@@ -38,7 +38,8 @@ sources_agree P p cs are a b at_a at_b clash =
     let one = alike_one cs x.0 y.0 are.rising x.1 y.1 alike in
     clash.differs (sym (ap (λ (s : Source). s.bytes) x.2) ∙ ap (λ (c : Candidate). c.bytes) one ∙ ap (λ (s : Source). s.bytes) y.2)
 
-pub grown : (P : Source → Type 0) (p : Platform) (cs new : List Candidate) (c : Candidate) → AreOf P p cs → IsAdded cs c new → IsRising (members new) → IsReadFor p c → AreOf (λ s. P s ⊎ (source c ≡ s)) p new
+pub grown : (P : Source → Type 0) (p : Platform) (cs new : List Candidate) (c : Candidate) → AreOf P p cs → IsAdded cs c new → IsRising (members new) →
+    IsReadFor p c → AreOf (λ s. P s ⊎ (source c ≡ s)) p new
 grown P p cs new c are added rising read = record {
   rising = rising;
   read = all_added (IsReadFor p) cs new c added are.read read;
@@ -52,12 +53,19 @@ grown P p cs new c are added rising read = record {
 }
 
 pub same_sources : (P Q : Source → Type 0) (p : Platform) (cs : List Candidate) → ((s : Source) → P s ↔ Q s) → AreOf P p cs → AreOf Q p cs
-same_sources P Q p cs same are = record { rising = are.rising; read = are.read; whole = λ s. (λ i. (same s).0 ((are.whole s).0 i), λ q. (are.whole s).1 ((same s).1 q)) }
+same_sources P Q p cs same are = record {
+  rising = are.rising;
+  read = are.read;
+  whole =
+      λ s. (λ i. (same s).0 ((are.whole s).0 i), λ q. (are.whole s).1 ((same s).1 q));
+}
 
-pub of_gathered : (mine : List Source) (p : Platform) (recipes : List (List ℕ)) (cs : List Candidate) → AreGathered mine p recipes cs → AreOf (IsSource mine p recipes) p cs
+pub of_gathered : (mine : List Source) (p : Platform) (recipes : List (List ℕ)) (cs : List Candidate) → AreGathered mine p recipes cs →
+    AreOf (IsSource mine p recipes) p cs
 of_gathered mine p recipes cs g = record { rising = g.rising; read = g.read; whole = g.whole }
 
-pub gathered_of : (mine : List Source) (p : Platform) (recipes : List (List ℕ)) (cs : List Candidate) → AreOf (IsSource mine p recipes) p cs → AreGathered mine p recipes cs
+pub gathered_of : (mine : List Source) (p : Platform) (recipes : List (List ℕ)) (cs : List Candidate) → AreOf (IsSource mine p recipes) p cs →
+    AreGathered mine p recipes cs
 gathered_of mine p recipes cs g = record { rising = g.rising; read = g.read; whole = g.whole }
 
 -- what clashes with a candidate clashes with a source
@@ -70,7 +78,8 @@ against P p cs c are clash = (
 
 -- ---- the device's own
 
-pub only_nucleus : (version : List ℕ) (p : Platform) (cs : List Candidate) (c : Candidate) → cs ≡ c ∷ [] → IsRising (members cs) → IsNucleus version c → AreOf (Contains (nucleus version ∷ [])) p cs
+pub only_nucleus : (version : List ℕ) (p : Platform) (cs : List Candidate) (c : Candidate) → cs ≡ c ∷ [] → IsRising (members cs) → IsNucleus version c →
+    AreOf (Contains (nucleus version ∷ [])) p cs
 only_nucleus version p cs c is rising n =
     let e : source c ≡ nucleus version = λ i. record { name = n.name i; version = n.version i; bytes = n.bytes i } in record {
       rising = rising;
@@ -84,7 +93,8 @@ only_nucleus version p cs c is rising n =
     first_of_one : All (IsReadFor p) (c ∷ [])
     first_of_one = All-cons (IsReadFor p) c [] (n.read p) (All-nil (IsReadFor p))
 
-pub own_more : (mine : List Source) (p : Platform) (cs new : List Candidate) (c : Candidate) (s : Source) → AreOf (Contains mine) p cs → IsAdded cs c new → IsRising (members new) → IsReadFor p c → source c ≡ s
+pub own_more : (mine : List Source) (p : Platform) (cs new : List Candidate) (c : Candidate) (s : Source) → AreOf (Contains mine) p cs → IsAdded cs c new →
+    IsRising (members new) → IsReadFor p c → source c ≡ s
     → AreOf (Contains (mine ++ s ∷ [])) p new
 own_more mine p cs new c s are added rising read is =
     same_sources (λ x. Contains mine x ⊎ (source c ≡ x)) (Contains (mine ++ s ∷ [])) p new
@@ -189,7 +199,8 @@ kept_against origin kept p before cs c g clash k =
     (s, there, record { name = k.2.0; version = k.2.1; differs = λ e. clash.differs (sym same ∙ e) })
 
 -- and none of the device's own does where there is no such item
-never_against : (origin : Origin) (kept : List Item) (c : Candidate) → c.recipe.name ≢ nucleus_name → (Keeps kept c → ⊥) → IsAgainst (Contains (own origin kept)) (source c) → ⊥
+never_against : (origin : Origin) (kept : List Item) (c : Candidate) → c.recipe.name ≢ nucleus_name → (Keeps kept c → ⊥) →
+    IsAgainst (Contains (own origin kept)) (source c) → ⊥
 never_against origin kept c other none a =
     elim (in_cons (nucleus origin.nucleus) (map kept_source kept) a.0 a.1) [
       | inl e ↦ other (sym (ap (λ (s : Source). s.name) e ∙ a.2.name))
@@ -198,7 +209,8 @@ never_against origin kept c other none a =
           none (r.0, r.1, (ap (λ (s : Source). s.name) r.2 ∙ a.2.name, ap (λ (s : Source). s.version) r.2 ∙ a.2.version))
     ]
 
-pub clash_found : (origin : Origin) (kept : List Item) (p : Platform) (before : List (List ℕ)) (b : List ℕ) (cs : List Candidate) (c : Candidate) (f : CandidatesFault)
+pub clash_found : (origin : Origin) (kept : List Item) (p : Platform) (before : List (List ℕ)) (b : List ℕ) (cs : List Candidate) (c : Candidate)
+    (f : CandidatesFault)
     → AreGathered (own origin kept) p before cs → Clashes cs c → IsOther p b c → Decides kept c f → IsClash (own origin kept) p (before ++ b ∷ []) f
 clash_found origin kept p before b cs c f g clash o (inl h) =
     subst (λ (x : CandidatesFault). IsClash (own origin kept) p (before ++ b ∷ []) x) (sym h.1)
@@ -208,7 +220,8 @@ clash_found origin kept p before b cs c f g clash o (inr h) =
     (source c, refl, refl, (first_clash (own origin kept) p before b cs c g clash o, never_against origin kept c o.other h.0))
 
 -- the first clash stays the first
-first_stays : (mine : List Source) (p : Platform) (before : List (List ℕ)) (b : List ℕ) (s : Source) → IsFirstClash mine p before s → IsFirstClash mine p (before ++ b ∷ []) s
+first_stays : (mine : List Source) (p : Platform) (before : List (List ℕ)) (b : List ℕ) (s : Source) → IsFirstClash mine p before s →
+    IsFirstClash mine p (before ++ b ∷ []) s
 first_stays mine p before b s h = record {
   before = h.before;
   bytes = h.bytes;
@@ -219,7 +232,8 @@ first_stays mine p before b s h = record {
   against = h.against;
 }
 
-pub clash_stays : (mine : List Source) (p : Platform) (before : List (List ℕ)) (b : List ℕ) (f : CandidatesFault) → IsClash mine p before f → IsClash mine p (before ++ b ∷ []) f
+pub clash_stays : (mine : List Source) (p : Platform) (before : List (List ℕ)) (b : List ℕ) (f : CandidatesFault) → IsClash mine p before f →
+    IsClash mine p (before ++ b ∷ []) f
 clash_stays mine p before b Library h = h
 clash_stays mine p before b (TooManyRecipes n) h = h
 clash_stays mine p before b (Recipe at f) h = h

@@ -45,7 +45,8 @@ heads c d cs ds p q i j = elim (in_cons (source d) (map source ds) (source c) i)
 ]
 
 -- what is behind the first of the one is behind the first of the other
-others : (c d : Candidate) (cs ds : List Candidate) → AllPairs Precedes (c ∷ cs) → source c ≡ source d → ((s : Source) → Contains (map source (c ∷ cs)) s → Contains (map source (d ∷ ds)) s)
+others : (c d : Candidate) (cs ds : List Candidate) → AllPairs Precedes (c ∷ cs) → source c ≡ source d →
+    ((s : Source) → Contains (map source (c ∷ cs)) s → Contains (map source (d ∷ ds)) s)
     → (s : Source) → Contains (map source cs) s → Contains (map source ds) s
 others c d cs ds p same f s i = elim (in_cons (source d) (map source ds) s (f s (in_there (source c) (map source cs) s i))) [
   | inl e ↦
@@ -61,10 +62,12 @@ one_list [] [] p q f g = refl
 one_list [] (d ∷ ds) p q f g = absurd (in_nil (source d) (g (source d) (in_here (source d) (map source ds))))
 one_list (c ∷ cs) [] p q f g = absurd (in_nil (source c) (f (source c) (in_here (source c) (map source cs))))
 one_list (c ∷ cs) (d ∷ ds) p q f g =
-    let same : source c ≡ source d = heads c d cs ds p q (f (source c) (in_here (source c) (map source cs))) (g (source d) (in_here (source d) (map source ds))) in
+    let same : source c ≡ source d = heads c d cs ds p q (f (source c) (in_here (source c) (map source cs)))
+    (g (source d) (in_here (source d) (map source ds))) in
     ap₂ (λ (x : Source) (xs : List Source). x ∷ xs) same
     (one_list cs ds (behind c cs p) (behind d ds q) (others c d cs ds p same f) (others d c ds cs q (sym same) g))
 
-pub one_gathered : (mine : List Source) (p : Platform) (recipes : List (List ℕ)) (cs ds : List Candidate) → AreGathered mine p recipes cs → AreGathered mine p recipes ds → map source cs ≡ map source ds
+pub one_gathered : (mine : List Source) (p : Platform) (recipes : List (List ℕ)) (cs ds : List Candidate) → AreGathered mine p recipes cs →
+    AreGathered mine p recipes ds → map source cs ≡ map source ds
 one_gathered mine p recipes cs ds g h =
     one_list cs ds (rising_pairs cs g.rising) (rising_pairs ds h.rising) (λ s i. (h.whole s).1 ((g.whole s).0 i)) (λ s i. (g.whole s).1 ((h.whole s).0 i))

@@ -30,27 +30,33 @@ pub record AreOwn (version : List ℕ) (p : Platform) (items : List Item) (i : �
   pub are : AreOf (Contains (first_own version items i)) p cs
   pub few : length cs ≤ i + 1
 
-pub own_start : (version : List ℕ) (p : Platform) (items : List Item) (cs : List Candidate) (c : Candidate) → cs ≡ c ∷ [] → IsNucleus version c → AreOwn version p items 0 cs
+pub own_start : (version : List ℕ) (p : Platform) (items : List Item) (cs : List Candidate) (c : Candidate) → cs ≡ c ∷ [] → IsNucleus version c →
+    AreOwn version p items 0 cs
 own_start version p items cs c is n = record {
   are = only_nucleus version p cs c is (subst (λ (l : List Candidate). IsRising (members l)) (sym is) (alone version c n).rising) n;
   few = subst (λ (l : List Candidate). length l ≤ 0 + 1) (sym is) (omega arith);
 }
 
 pub own_next : (version : List ℕ) (p : Platform) (items : List Item) (i : ℕ) (x : Item) (cs new : List Candidate) (c : Candidate)
-    → i < length items → x ≡ get_or items i x → AreOwn version p items i cs → IsAdded cs c new → IsRising (members new) → IsReadFor p c → source c ≡ kept_source x → AreOwn version p items (i + 1) new
+    → i < length items → x ≡ get_or items i x → AreOwn version p items i cs → IsAdded cs c new → IsRising (members new) → IsReadFor p c →
+    source c ≡ kept_source x → AreOwn version p items (i + 1) new
 own_next version p items i x cs new c below at h added rising read is =
-    let more : map kept_source (take (i + 1) items) ≡ map kept_source (take i items) ++ kept_source x ∷ [] = map_more kept_source items i x below ∙ ap (λ (y : Item). map kept_source (take i items) ++ kept_source y ∷ []) (sym at) in record {
-      are = subst (λ (l : List Source). AreOf (Contains (nucleus version ∷ l)) p new) (sym more) (own_more (first_own version items i) p cs new c (kept_source x) h.are added rising read is);
+    let more : map kept_source (take (i + 1) items) ≡ map kept_source (take i items) ++ kept_source x ∷ [] =
+    map_more kept_source items i x below ∙ ap (λ (y : Item). map kept_source (take i items) ++ kept_source y ∷ []) (sym at) in record {
+      are = subst (λ (l : List Source). AreOf (Contains (nucleus version ∷ l)) p new) (sym more)
+          (own_more (first_own version items i) p cs new c (kept_source x) h.are added rising read is);
       few = omega (arith, length_added cs new c added, h.few);
     }
 
 -- the whole list, where the loop ends
-pub own_end : (origin : Origin) (kept items : List Item) (i : ℕ) (cs : List Candidate) → items ≡ kept → length items ≤ i → AreOwn origin.nucleus origin.platform items i cs → AreGathered (own origin kept) origin.platform [] cs
+pub own_end : (origin : Origin) (kept items : List Item) (i : ℕ) (cs : List Candidate) → items ≡ kept → length items ≤ i →
+    AreOwn origin.nucleus origin.platform items i cs → AreGathered (own origin kept) origin.platform [] cs
 own_end origin kept items i cs same past h =
     own_gathered (own origin kept) origin.platform cs
     (subst (λ (l : List Item). AreOf (Contains (nucleus origin.nucleus ∷ map kept_source l)) origin.platform cs) (take_all i items past ∙ same) h.are)
 
-split_at : (items : List Item) (i : ℕ) (x : Item) → i < length items → x ≡ get_or items i x → map kept_source items ≡ map kept_source (take i items) ++ kept_source x ∷ map kept_source (drop (i + 1) items)
+split_at : (items : List Item) (i : ℕ) (x : Item) → i < length items → x ≡ get_or items i x → map kept_source items ≡ map kept_source (take i items)
+    ++ kept_source x ∷ map kept_source (drop (i + 1) items)
 split_at items i x below at =
     ap (map kept_source) (sym (take-append-drop i items)) ∙ map-append kept_source (take i items) (drop i items)
     ∙ ap (λ (l : List Source). map kept_source (take i items) ++ l) (map_next kept_source items i x below at)
@@ -71,7 +77,8 @@ own_clash origin kept items i x cs c f same below at h is (inr d) =
     } in
     inr (subst (λ (g : CandidatesFault). IsClash (own origin kept) origin.platform [] g) (sym d.1) (source c, refl, refl, inl first))
 
-pub kept_at : (p : Platform) (kept items : List Item) (i : ℕ) (x : Item) → items ≡ kept → i < length items → x ≡ get_or items i x → All (IsKept p) kept → IsKept p x
+pub kept_at : (p : Platform) (kept items : List Item) (i : ℕ) (x : Item) → items ≡ kept → i < length items → x ≡ get_or items i x → All (IsKept p) kept →
+    IsKept p x
 kept_at p kept items i x same below at all =
     let h : All (IsKept p) items = subst (λ (l : List Item). All (IsKept p) l) (sym same) all in
     subst (IsKept p) (sym at) (h i x below)
@@ -80,13 +87,15 @@ kept_at p kept items i x same below at all =
 pub seen_below : (items : List code.Item) (i : ℕ) → i < length items → i < length (map item_view items)
 seen_below items i below = omega (arith, below, length-map items item_view)
 
-pub seen_at : (items : List code.Item) (i : ℕ) (x : code.Item) → i < length items → x ≡ get_or items i x → item_view x ≡ get_or (map item_view items) i (item_view x)
+pub seen_at : (items : List code.Item) (i : ℕ) (x : code.Item) → i < length items → x ≡ get_or items i x → item_view x ≡ get_or (map item_view items) i
+    (item_view x)
 seen_at items i x below at = ap item_view at ∙ sym (get_or-map item_view items i x (item_view x) below)
 
 pub seen_past : (items : List code.Item) (i : ℕ) → length items ≤ i → length (map item_view items) ≤ i
 seen_past items i past = omega (arith, past, length-map items item_view)
 
 -- a clash that `?` hands on
-pub handed_so : (mine : List Source) (p : Platform) (recipes : List (List ℕ)) (r : Result (List Candidate) CandidatesFault) (f : CandidatesFault) → IsErrAnd r (λ e. e ≡ f) → (f ≡ NoMemory) ⊎ IsClash mine p recipes f → IsSoFar mine p recipes r
+pub handed_so : (mine : List Source) (p : Platform) (recipes : List (List ℕ)) (r : Result (List Candidate) CandidatesFault) (f : CandidatesFault) →
+    IsErrAnd r (λ e. e ≡ f) → (f ≡ NoMemory) ⊎ IsClash mine p recipes f → IsSoFar mine p recipes r
 handed_so mine p recipes (Ok cs) f h k = absurd h
 handed_so mine p recipes (Err e) f h k = subst (λ (x : CandidatesFault). (x ≡ NoMemory) ⊎ IsClash mine p recipes x) (sym h) k

@@ -45,7 +45,8 @@ reads_well one none bytes p r f a (inr h) =
     first_excludes (recipe_lines p h.0) f (subst (λ (d : Data). AllHold (recipe_lines p d)) same a.2) h.2
 
 -- and its reading answers nothing but want of memory
-pub wants_memory : IsOneTree → HasNoFault → (slice bytes : List ℕ) (p : Platform) (r : Recipe) (f : RecipeFault) → slice ≡ bytes → ReadsRecipe bytes p (Ok r) → (f ≡ fault.NoMemory) ⊎ IsFault slice p f → f ≡ fault.NoMemory
+pub wants_memory : IsOneTree → HasNoFault → (slice bytes : List ℕ) (p : Platform) (r : Recipe) (f : RecipeFault) → slice ≡ bytes →
+    ReadsRecipe bytes p (Ok r) → (f ≡ fault.NoMemory) ⊎ IsFault slice p f → f ≡ fault.NoMemory
 wants_memory one none slice bytes p r f same a (inl e) = e
 wants_memory one none slice bytes p r f same a (inr h) = absurd (reads_well one none bytes p r f a (subst (λ (s : List ℕ). IsFault s p f) same h))
 
@@ -54,11 +55,13 @@ never_both one p bytes s t (inl h) = reads_elsewhere one bytes p t.recipe t.read
 never_both one p bytes s t (inr h) = t.other (one_name one bytes p t.recipe h.0 t.reads h.1 ∙ h.2)
 
 -- two sources of one recipe are one
-pub one_source : IsOneTree → (p : Platform) (bytes : List ℕ) (s : Source) (r : Recipe) → IsTaken p bytes s → ReadsRecipe bytes p (Ok r) → record { name = r.name; version = r.version; bytes = bytes } ≡ s
+pub one_source : IsOneTree → (p : Platform) (bytes : List ℕ) (s : Source) (r : Recipe) → IsTaken p bytes s → ReadsRecipe bytes p (Ok r) →
+    record { name = r.name; version = r.version; bytes = bytes } ≡ s
 one_source one p bytes s r t h =
     let n = one_name one bytes p r t.recipe h t.reads in
     let v = one_version one bytes p r t.recipe h t.reads in
-    let e : record { name = r.name; version = r.version; bytes = bytes } ≡ record { name = t.recipe.name; version = t.recipe.version; bytes = bytes } = λ i. record { name = n i; version = v i; bytes = bytes } in
+    let e : record { name = r.name; version = r.version; bytes = bytes } ≡ record { name = t.recipe.name; version = t.recipe.version; bytes = bytes } =
+    λ i. record { name = n i; version = v i; bytes = bytes } in
     e ∙ sym t.is
 
 -- ---- the first bytes of a recipe say what it says

@@ -1,5 +1,6 @@
 -- What a step makes of the candidates so far.
-use Rattle.std.proofs.Common.{Bool, true, false, ◌≡◌, ℕ, ◌⊎◌, ◌+◌, ◌≤◌, List, [], ◌∷◌, ◌++◌, length, map, take, Ok, Err, Result, IfOk, IfErr, ◌≢◌, refl, sym, ap, subst, ◌∙◌, inl, inr, arith}
+use Rattle.std.proofs.Common.{Bool, true, false, ◌≡◌, ℕ, ◌⊎◌, ◌+◌, ◌≤◌, List, [], ◌∷◌, ◌++◌, length, map, take, Ok, Err, Result, IfOk, IfErr, ◌≢◌, refl, sym}
+use Rattle.std.proofs.Common.{ap, subst, ◌∙◌, inl, inr, arith}
 use Rattle.std.specs.Prelude.{Option, MatchOption, nat_eq, ◌||◌}
 use Rattle.std.specs.List.{list_any}
 use Rattle.std.specs.Cmp.Lexicographic.{pointwise, bytes_decides}
@@ -22,28 +23,33 @@ use Rattle.library_core.specs.Library.{most_given}
 use Rattle.library_core.specs.Sources.{Source, source, own, IsSkipped, IsFaulty, Passes}
 use Rattle.library_core.specs.Gathered.{AreGathered}
 use Rattle.library_core.specs.Faults.{IsClash}
-use Rattle.library_core.specs.SoFar.{IsSoFar, IsOther, IsUnread, IsSifted, IsOf, is_of, Keeps, IsClashOf, IsDiffering, IsRefusal, Decides, Joins, IsJoined, Stops, IsStopped}
+use Rattle.library_core.specs.SoFar.{IsSoFar, IsOther, IsUnread, IsSifted, IsOf, is_of, Keeps, IsClashOf, IsDiffering, IsRefusal, Decides, Joins, IsJoined}
+use Rattle.library_core.specs.SoFar.{Stops, IsStopped}
 use Rattle.library_core.specs.declared.fault.CandidatesFault.{CandidatesFault}
 use Rattle.library_core.specs.declared.fault.CandidatesFault.TheVariants.{Library, RecipeDiffers, NoMemory}
 use Rattle.library_core.proofs.Elements.{length_added}
 use Rattle.library_core.proofs.Readings.{reads_whole, faulty_whole}
 use Rattle.library_core.proofs.Joining.{recipe_more, recipe_skipped, clash_found, clash_stays, taken_of}
 
-fault_stays : (mine : List Source) (p : Platform) (before : List (List ℕ)) (b : List ℕ) (f : CandidatesFault) → (f ≡ NoMemory) ⊎ IsClash mine p before f → (f ≡ NoMemory) ⊎ IsClash mine p (before ++ b ∷ []) f
+fault_stays : (mine : List Source) (p : Platform) (before : List (List ℕ)) (b : List ℕ) (f : CandidatesFault) → (f ≡ NoMemory) ⊎ IsClash mine p before f →
+    (f ≡ NoMemory) ⊎ IsClash mine p (before ++ b ∷ []) f
 fault_stays mine p before b f (inl e) = inl e
 fault_stays mine p before b f (inr h) = inr (clash_stays mine p before b f h)
 
-joins : IsOneTree → (origin : Origin) (kept : List Item) (p : Platform) (before : List (List ℕ)) (b : List ℕ) (cs : List Candidate) (c : Candidate) (next : Result (List Candidate) CandidatesFault)
+joins : IsOneTree → (origin : Origin) (kept : List Item) (p : Platform) (before : List (List ℕ)) (b : List ℕ) (cs : List Candidate) (c : Candidate)
+    (next : Result (List Candidate) CandidatesFault)
     → AreGathered (own origin kept) p before cs → IsOther p b c → Joins kept c cs next → IsSoFar (own origin kept) p (before ++ b ∷ []) next
 joins one origin kept p before b cs c (Ok new) g o h = recipe_more one (own origin kept) p before b cs new c g h.0 h.1 o
 joins one origin kept p before b cs c (Err f) g o (inl e) = inl e
 joins one origin kept p before b cs c (Err f) g o (inr h) = inr (clash_found origin kept p before b cs c f g h.0 o h.1)
 
 -- a recipe that is taken
-pub takes : IsOneTree → (origin : Origin) (kept : List Item) (p : Platform) (before : List (List ℕ)) (b : List ℕ) (c : Candidate) (gathered next : Result (List Candidate) CandidatesFault)
+pub takes : IsOneTree → (origin : Origin) (kept : List Item) (p : Platform) (before : List (List ℕ)) (b : List ℕ) (c : Candidate)
+    (gathered next : Result (List Candidate) CandidatesFault)
     → IsSoFar (own origin kept) p before gathered → IsOther p b c → IsJoined kept c gathered next → IsSoFar (own origin kept) p (before ++ b ∷ []) next
 takes one origin kept p before b c (Ok cs) next so o h = joins one origin kept p before b cs c next so o h
-takes one origin kept p before b c (Err f) next so o h = subst (λ (r : Result (List Candidate) CandidatesFault). IsSoFar (own origin kept) p (before ++ b ∷ []) r) (sym h) (fault_stays (own origin kept) p before b f so)
+takes one origin kept p before b c (Err f) next so o h = subst (λ (r : Result (List Candidate) CandidatesFault). IsSoFar (own origin kept) p
+    (before ++ b ∷ []) r) (sym h) (fault_stays (own origin kept) p before b f so)
 
 -- a recipe that is skipped
 pub skips : IsOneTree → (mine : List Source) (p : Platform) (before : List (List ℕ)) (b : List ℕ) (gathered : Result (List Candidate) CandidatesFault)
@@ -61,7 +67,8 @@ other_whole b bytes p c e o =
 pub passes_taken : (p : Platform) (b : List ℕ) (c : Candidate) → IsOther p b c → Passes p b
 passes_taken p b c o = inr (source c, taken_of p b c o)
 
-pub joined_length : (kept : List Item) (c : Candidate) (gathered next : Result (List Candidate) CandidatesFault) (n : ℕ) → IsJoined kept c gathered next → IfOk gathered (λ cs. length cs ≤ n) → IfOk next (λ cs. length cs ≤ n + 1)
+pub joined_length : (kept : List Item) (c : Candidate) (gathered next : Result (List Candidate) CandidatesFault) (n : ℕ) → IsJoined kept c gathered next →
+    IfOk gathered (λ cs. length cs ≤ n) → IfOk next (λ cs. length cs ≤ n + 1)
 joined_length kept c (Ok cs) (Ok new) n h few = omega (arith, length_added cs new c h.0, few)
 joined_length kept c (Ok cs) (Err f) n h few = tt
 joined_length kept c (Err f) (Ok new) n h few = absurd (cc h)
@@ -72,7 +79,8 @@ same_length (Ok cs) n few = omega arith
 same_length (Err f) n few = tt
 
 -- what a fault of a reading comes to
-pub unread_is : (p : Platform) (bytes slice : List ℕ) (f : RecipeFault) (r : Result (Option Candidate) RecipeFault) → slice ≡ bytes → (f ≡ OutOfMemory) ⊎ IsFault slice p f → IsUnread f r → IsSifted p bytes r
+pub unread_is : (p : Platform) (bytes slice : List ℕ) (f : RecipeFault) (r : Result (Option Candidate) RecipeFault) → slice ≡ bytes → (f ≡ OutOfMemory) ⊎
+    IsFault slice p f → IsUnread f r → IsSifted p bytes r
 unread_is p bytes slice f (Ok taken) same (inl e) h = let k = h.1 in absurd (cc (sym e ∙ k))
 unread_is p bytes slice f (Ok taken) same (inr fault) h =
     let skipped : IsSkipped p bytes = inl (subst (λ (s : List ℕ). IsFault s p NoManifest) same (subst (IsFault slice p) h.1 fault)) in
@@ -83,11 +91,13 @@ unread_is p bytes slice f (Err g) same (inr fault) h =
 
 -- ---- refusals
 
-pub differing : (cs : List Candidate) (c : Candidate) (refusal : AddRefusal) (f : CandidatesFault) → IsRefused cs c refusal → IsClashOf refusal f → IsDiffering cs c f
+pub differing : (cs : List Candidate) (c : Candidate) (refusal : AddRefusal) (f : CandidatesFault) → IsRefused cs c refusal → IsClashOf refusal f →
+    IsDiffering cs c f
 differing cs c (add.Clash back) f h e = inr (h.1, e ∙ ap (λ (d : Candidate). RecipeDiffers d.recipe.name d.recipe.version) h.0)
 differing cs c (add.NoMemory back) f h e = inl e
 
-pub decided : (kept : List Item) (cs : List Candidate) (c : Candidate) (refusal : AddRefusal) (f : CandidatesFault) → IsRefused cs c refusal → IsRefusal kept refusal f → (f ≡ NoMemory) ⊎ (Clashes cs c × Decides kept c f)
+pub decided : (kept : List Item) (cs : List Candidate) (c : Candidate) (refusal : AddRefusal) (f : CandidatesFault) → IsRefused cs c refusal →
+    IsRefusal kept refusal f → (f ≡ NoMemory) ⊎ (Clashes cs c × Decides kept c f)
 decided kept cs c (add.Clash back) f h e = inr (h.1, subst (λ (d : Candidate). Decides kept d f) h.0 e)
 decided kept cs c (add.NoMemory back) f h e = inl e
 
@@ -121,7 +131,8 @@ keeps_shown (i ∷ kept) c k = elim (in_cons (item_view i) (map item_view kept) 
 
 -- ---- faults
 
-pub stops_at : (p : Platform) (b bytes : List ℕ) (n : ℕ) (f : RecipeFault) (r : CandidatesFault) → bytes ≡ take most_given b → (f ≡ OutOfMemory) ⊎ IsFaulty p bytes f → IsStopped n f r → Stops p b n r
+pub stops_at : (p : Platform) (b bytes : List ℕ) (n : ℕ) (f : RecipeFault) (r : CandidatesFault) → bytes ≡ take most_given b → (f ≡ OutOfMemory) ⊎
+    IsFaulty p bytes f → IsStopped n f r → Stops p b n r
 stops_at p b bytes n f r same why (inl h) = inl h.1
 stops_at p b bytes n f r same (inl e) (inr h) = absurd (h.0 e)
 stops_at p b bytes n f r same (inr faulty) (inr h) = inr (f, h.1, faulty_whole b p f (subst (λ (s : List ℕ). IsFaulty p s f) same faulty))
@@ -134,7 +145,8 @@ decides_other : (kept : List Item) (c : Candidate) (f : CandidatesFault) → Dec
 decides_other kept c f (inl h) e = let k = sym h.1 ∙ e in cc
 decides_other kept c f (inr h) e = let k = sym h.1 ∙ e in cc
 
-pub joined_other : (kept : List Item) (c : Candidate) (gathered next : Result (List Candidate) CandidatesFault) → IsJoined kept c gathered next → IfErr gathered (λ f. f ≢ Library) → IfErr next (λ f. f ≢ Library)
+pub joined_other : (kept : List Item) (c : Candidate) (gathered next : Result (List Candidate) CandidatesFault) → IsJoined kept c gathered next →
+    IfErr gathered (λ f. f ≢ Library) → IfErr next (λ f. f ≢ Library)
 joined_other kept c (Ok cs) (Ok new) h other = tt
 joined_other kept c (Ok cs) (Err f) (inl e) other = λ k. let l = sym e ∙ k in cc
 joined_other kept c (Ok cs) (Err f) (inr h) other = decides_other kept c f h.1
@@ -144,6 +156,7 @@ clash_other : (mine : List Source) (p : Platform) (recipes : List (List ℕ)) (f
 clash_other mine p recipes f (inl e) k = let l = sym e ∙ k in cc
 clash_other mine p recipes f (inr h) k = subst (IsClash mine p recipes) k h
 
-pub so_far_other : (mine : List Source) (p : Platform) (recipes : List (List ℕ)) (r : Result (List Candidate) CandidatesFault) → IsSoFar mine p recipes r → IfErr r (λ f. f ≢ Library)
+pub so_far_other : (mine : List Source) (p : Platform) (recipes : List (List ℕ)) (r : Result (List Candidate) CandidatesFault) → IsSoFar mine p recipes r →
+    IfErr r (λ f. f ≢ Library)
 so_far_other mine p recipes (Ok cs) h = tt
 so_far_other mine p recipes (Err f) h = clash_other mine p recipes f h

@@ -71,7 +71,8 @@ impl Library for MemoryLibrary {
 
     fn recipe(&mut self, alloc: Global, at: u32) -> Result<Bytes, LibraryFault>
         requires { (l : Content) → Some (library_content self.old) ≡ Some l → at < length l.recipes }
-        ensures told { (l : Content) → Some (library_content self.old) ≡ Some l → IfOk result (λ bytes. bytes ≡ take most_given (slice_index_or l.recipes at [])) }
+        ensures told { (l : Content) → Some (library_content self.old) ≡ Some l →
+            IfOk result (λ bytes. bytes ≡ take most_given (slice_index_or l.recipes at [])) }
         ensures short { IfOk result (λ bytes. length bytes ≤ most_given) }
         ensures kept { Some (library_content self.new) ≡ Some (library_content self.old) }
         ensures cause { IsErrOf result LibraryFault.Failed → Rose (faults_of (library_failing self.old)) (faults_of (library_failing self.new)) }
@@ -95,7 +96,8 @@ impl Library for MemoryLibrary {
         from: u64,
         into: &mut [u8],
     ) -> Result<Piece, LibraryFault>
-        ensures told { (l : Content) → Some (library_content self.old) ≡ Some l → IfOk result (IsPieceOf (l.artifact name.now version.now file.now) from into.old into.new) }
+        ensures told { (l : Content) → Some (library_content self.old) ≡ Some l →
+            IfOk result (IsPieceOf (l.artifact name.now version.now file.now) from into.old into.new) }
         ensures bound { IfOk result (IsWithin (length into.old)) }
         ensures kept { Some (library_content self.new) ≡ Some (library_content self.old) }
         ensures cause { IsErrOf result LibraryFault.Failed → Rose (faults_of (library_failing self.old)) (faults_of (library_failing self.new)) }

@@ -127,7 +127,8 @@ pub(crate) fn take_in(
     gathered: Result<Candidates, CandidatesFault>,
 ) -> Result<Result<Candidates, CandidatesFault>, CandidatesFault>
     requires room { IfOk gathered (λ cs. length cs < 2 ^ 32 - 1) }
-    ensures next { (b : List ℕ) → (before : List (List ℕ)) → bytes ≡ take most_given b → IsSoFar (own origin.now (map item_view kept.now)) origin.now.platform before gathered
+    ensures next { (b : List ℕ) → (before : List (List ℕ)) → bytes ≡ take most_given b → IsSoFar (own origin.now (map item_view kept.now)) origin.now.platform
+        before gathered
         → MatchResult result
         (λ next. Passes origin.now.platform b × IsSoFar (own origin.now (map item_view kept.now)) origin.now.platform (before ++ b ∷ []) next)
         (Stops origin.now.platform b at) }

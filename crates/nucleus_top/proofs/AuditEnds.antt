@@ -15,10 +15,29 @@ use Rattle.nucleus_top.proofs.Standing.{none_stands, same_device}
 use Rattle.nucleus_top.proofs.Told.{told_of}
 
 -- what is found of the device for which the journal stands
-pub found_audits : (store : Store) (d : Device) (a : Answer) → Compares store.is_modelled store.before d a → IsUnchanged store → (a ≡ DiskFailed → HasRisen store)
+pub found_audits : (store : Store) (d : Device) (a : Answer) → Compares store.is_modelled store.before d a → IsUnchanged store →
+    (a ≡ DiskFailed → HasRisen store)
     → (IsTrue store.is_modelled → HasEntry store.before × Stands store.before d) → Audits store a
-found_audits store d Whole comes same rose found = (same, λ is_modelled. record { some = (found is_modelled).0; device = d; stands = (found is_modelled).1; holds = comes is_modelled })
-found_audits store d (Differs text) comes same rose found = (same, λ is_modelled. record { some = (found is_modelled).0; device = d; stands = (found is_modelled).1; names = comes is_modelled })
+found_audits store d Whole comes same rose found = (
+  same,
+  λ is_modelled. record {
+    some = (found is_modelled).0;
+    device = d;
+    stands =
+        (found is_modelled).1;
+    holds = comes is_modelled;
+  },
+)
+found_audits store d (Differs text) comes same rose found = (
+  same,
+  λ is_modelled. record {
+    some = (found is_modelled).0;
+    device = d;
+    stands =
+        (found is_modelled).1;
+    names = comes is_modelled;
+  },
+)
 found_audits store d DiskFailed comes same rose found = (same, rose refl)
 found_audits store d NoMemory comes same rose found = same
 found_audits store d a comes same rose found = absurd comes
@@ -33,7 +52,8 @@ module _ (store : Store) (printed : Printed) (result : Status) where
   reads_only NoMemory comes = comes
   reads_only a comes = absurd comes
 
-  done : (a : Answer) → Audits store a → Told printed result a → result ≡ status.Done → (IsTrue store.is_modelled → IsWhole store.before) × Prints printed whole_line
+  done : (a : Answer) → Audits store a → Told printed result a → result ≡ status.Done → (IsTrue store.is_modelled → IsWhole store.before) ×
+      Prints printed whole_line
   done (Made thing) comes (inl told) is = absurd comes
   done (Shown text) comes (inl told) is = absurd comes
   done (Planned text) comes (inl told) is = absurd comes
@@ -47,20 +67,23 @@ module _ (store : Store) (printed : Printed) (result : Status) where
   done_comes Whole comes (inl told) is_modelled whole = inr (inl told.0)
   done_comes (Differs text) comes (inl told) is_modelled whole =
       let other = comes.1 is_modelled in
-      absurd (other.names.unlike (subst (λ (d : Device). HoldsDevice store.before d) (same_device store.before whole.device other.device whole.stands other.stands) whole.holds))
+      absurd (other.names.unlike (subst (λ (d : Device). HoldsDevice store.before d)
+      (same_device store.before whole.device other.device whole.stands other.stands) whole.holds))
   done_comes DiskFailed comes (inl told) is_modelled whole = inl told.0
   done_comes NotInitialised comes (inl told) is_modelled whole = absurd (whole.some (comes.1 is_modelled))
   done_comes (Damaged place) comes (inl told) is_modelled whole = absurd ((comes.1.2 is_modelled).none whole.device whole.stands)
   done_comes NoMemory comes (inl told) is_modelled whole = inr (inr (inr told.0))
   done_comes a comes (inl told) is_modelled whole = absurd comes
 
-  differs : (a : Answer) → Audits store a → Told printed result a → result ≡ status.Differs → (text : List ℕ) × (IsTrue store.is_modelled → IsDifferent store.before text) × Prints printed text
+  differs : (a : Answer) → Audits store a → Told printed result a → result ≡ status.Differs → (text : List ℕ) ×
+      (IsTrue store.is_modelled → IsDifferent store.before text) × Prints printed text
   differs (Differs text) comes (inl told) is = (text, comes.1, told.1)
   differs (Unplanned r text) comes (inl told) is = absurd comes
   differs a comes (inl told) is = cc
   differs a comes (inr told) is = cc
 
-  differs_comes : (a : Answer) → Audits store a → Told printed result a → IsTrue store.is_modelled → HasEntry store.before → (d : Device) → Stands store.before d
+  differs_comes : (a : Answer) → Audits store a → Told printed result a → IsTrue store.is_modelled → HasEntry store.before → (d : Device) →
+      Stands store.before d
       → (HoldsDevice store.before d → ⊥) → Expects result status.Differs
   differs_comes a comes (inr told) is_modelled some d stands unlike = inr (inr (inl told.0))
   differs_comes Whole comes (inl told) is_modelled some d stands unlike =
@@ -73,7 +96,8 @@ module _ (store : Store) (printed : Printed) (result : Status) where
   differs_comes NoMemory comes (inl told) is_modelled some d stands unlike = inr (inr (inr told.0))
   differs_comes a comes (inl told) is_modelled some d stands unlike = absurd comes
 
-  none : (a : Answer) → Audits store a → Told printed result a → result ≡ status.NotInitialised → (IsTrue store.is_modelled → slots_none store.before) × Prints printed none_line
+  none : (a : Answer) → Audits store a → Told printed result a → result ≡ status.NotInitialised → (IsTrue store.is_modelled → slots_none store.before) ×
+      Prints printed none_line
   none NotInitialised comes (inl told) is = (comes.1, told.1)
   none (Unplanned r text) comes (inl told) is = absurd comes
   none a comes (inl told) is = cc
@@ -89,7 +113,8 @@ module _ (store : Store) (printed : Printed) (result : Status) where
   none_comes NoMemory comes (inl told) is_modelled holds_none = inr (inr (inr told.0))
   none_comes a comes (inl told) is_modelled holds_none = absurd comes
 
-  damaged : (a : Answer) → Audits store a → Told printed result a → result ≡ status.Damaged → (place : List ℕ) × IsRefusedAt store place × Prints printed (damaged_line place)
+  damaged : (a : Answer) → Audits store a → Told printed result a → result ≡ status.Damaged → (place : List ℕ) × IsRefusedAt store place ×
+      Prints printed (damaged_line place)
   damaged (Damaged place) comes (inl told) is = (place, comes, told.1)
   damaged (Unplanned r text) comes (inl told) is = absurd comes
   damaged a comes (inl told) is = cc

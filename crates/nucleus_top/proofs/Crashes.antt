@@ -38,7 +38,8 @@ use Rattle.nucleus_top.proofs.Standing.{same_device}
 none_stays : (a b : Image) → ((name : List ℕ) → slots_files name → b name ≡ a name) → slots_none a → slots_none b
 none_stays a b same none = (subst HoldsNone (sym (same journal (inl refl))) none.0, subst HoldsNone (sym (same second (inr refl))) none.1)
 
-entries_stay : (a b : Image) (payloads : List (List ℕ)) → ((name : List ℕ) → slots_files name → b name ≡ a name) → slots_entries a payloads → slots_entries b payloads
+entries_stay : (a b : Image) (payloads : List (List ℕ)) → ((name : List ℕ) → slots_files name → b name ≡ a name) → slots_entries a payloads →
+    slots_entries b payloads
 entries_stay a b payloads same (inl none) = inl (none_stays a b same none.0, none.1)
 entries_stay a b payloads same (inr live) = inr (
   live.0,
@@ -85,7 +86,8 @@ means_sound payloads e (inr anew) = plays_sound anew.after anew.begun e anew.is.
 module _ {D : Type 0} {is_modelled : Bool} {seen : D → Image} {may_leave : D → Image → Type 0} {moment : D → ℕ} {left_since : D → ℕ → Image → Type 0}
     (laws : DiskLaws is_modelled seen may_leave moment left_since) where
   -- each image of a state that is in hand stands for its device
-  pub loaded_stands : (s : Loaded Slots) (disk : D) → OwnsLoaded is_modelled may_leave slots_stands (λ log. log.live.end) s disk → (c : Image) → may_leave disk c → Stands c (loaded_device s)
+  pub loaded_stands : (s : Loaded Slots) (disk : D) → OwnsLoaded is_modelled may_leave slots_stands (λ log. log.live.end) s disk → (c : Image) →
+      may_leave disk c → Stands c (loaded_device s)
   loaded_stands (loaded.Idle s) disk held c left = held_stands laws s.log disk (idle_device s) held.0 c left
   loaded_stands (loaded.Booting s) disk held c left = held_stands laws s.hand.log disk (booting_device s) held.0.0 c left
   loaded_stands (loaded.Activating s) disk held c left = held_stands laws s.hand.log disk (activating_device s) held.0.0 c left
@@ -100,7 +102,8 @@ module _ {D : Type 0} {is_modelled : Bool} {seen : D → Image} {may_leave : D �
   loaded_sound (loaded.Rolling s) disk held = held.0.0.sound
 
   -- what is allowed more where the disk tells
-  pub told_weaker : (old new : D) (P Q : Image → Type 0) → (IsTrue is_modelled → (c : Image) → P c → Q c) → Leaves moment left_since old new P → Leaves moment left_since old new Q
+  pub told_weaker : (old new : D) (P Q : Image → Type 0) → (IsTrue is_modelled → (c : Image) → P c → Q c) → Leaves moment left_since old new P →
+      Leaves moment left_since old new Q
   told_weaker old new P Q more leaves = record {
     later = leaves.later;
     each = λ c left. more (laws.told new (moment old) c left) c (leaves.each c left);
@@ -115,29 +118,38 @@ module _ {D : Type 0} {is_modelled : Bool} {seen : D → Image} {may_leave : D �
 
   -- one behind another
   pub same_on : (old mid new : D) (d : Device) → (IsTrue is_modelled → Stands (seen old) d) → (IsTrue is_modelled → Stands (seen mid) d)
-      → LeavesSame may_leave moment left_since seen old mid → LeavesSame may_leave moment left_since seen mid new → LeavesSame may_leave moment left_since seen old new
+      → LeavesSame may_leave moment left_since seen old mid → LeavesSame may_leave moment left_since seen mid new →
+      LeavesSame may_leave moment left_since seen old new
   same_on old mid new d first_stands then_stands first second =
       joined laws old mid new _ (AllowedOrSame (may_leave mid) (seen old)) _ first
       (told_weaker mid new (AllowedOrSame (may_leave mid) (seen mid)) (AllowedOrSame (may_leave mid) (seen old))
-      (λ told c was. ⊎_elim (λ left. inl left) (λ stands. inr (stands.0, subst (λ (e : Device). Stands (seen old) e) (same_device (seen mid) d stands.0 (then_stands told) stands.1) (first_stands told), stands.2)) was)
+      (λ told c was. ⊎_elim (λ left. inl left) (λ stands. inr (
+        stands.0,
+        subst (λ (e : Device). Stands (seen old) e) (same_device (seen mid) d stands.0 (then_stands told) stands.1) (first_stands told),
+        stands.2,
+      )) was)
       second)
       (λ c was. was)
       (λ c was. ⊎_elim (λ left. now laws old mid _ first c left) (λ stands. inr stands) was)
 
   -- it keeps no record of the device for which the journal stood
-  pub same_fronts : (old new : D) (d : Device) → (IsTrue is_modelled → Stands (seen old) d) → LeavesSame may_leave moment left_since seen old new → LeavesPrefixes may_leave moment left_since old new d []
+  pub same_fronts : (old new : D) (d : Device) → (IsTrue is_modelled → Stands (seen old) d) → LeavesSame may_leave moment left_since seen old new →
+      LeavesPrefixes may_leave moment left_since old new d []
   same_fronts old new d stands leaves =
       told_weaker old new (AllowedOrSame (may_leave old) (seen old)) (AllowedOrPrefix (may_leave old) d [])
-      (λ told c was. ⊎_elim (λ left. inl left) (λ other. inr (none_front d [] c (subst (λ (e : Device). Stands c e) (same_device (seen old) other.0 d other.1 (stands told)) other.2))) was)
+      (λ told c was. ⊎_elim (λ left. inl left) (λ other. inr
+      (none_front d [] c (subst (λ (e : Device). Stands c e) (same_device (seen old) other.0 d other.1 (stands told)) other.2))) was)
       leaves
 
   -- ---- a call that keeps records
 
   -- behind one that keeps none
-  pub fronts_on : (old mid new : D) (d : Device) (records : List Record) → LeavesPrefixes may_leave moment left_since old mid d [] → LeavesPrefixes may_leave moment left_since mid new d records
+  pub fronts_on : (old mid new : D) (d : Device) (records : List Record) → LeavesPrefixes may_leave moment left_since old mid d [] →
+      LeavesPrefixes may_leave moment left_since mid new d records
       → LeavesPrefixes may_leave moment left_since old new d records
   fronts_on old mid new d records first second =
-      joined laws old mid new (AllowedOrPrefix (may_leave old) d []) (AllowedOrPrefix (may_leave mid) d records) (AllowedOrPrefix (may_leave old) d records) first second more
+      joined laws old mid new (AllowedOrPrefix (may_leave old) d []) (AllowedOrPrefix (may_leave mid) d records) (AllowedOrPrefix (may_leave old) d records)
+      first second more
       (λ c was. ⊎_elim (λ left. more c (now laws old mid (AllowedOrPrefix (may_leave old) d []) first c left)) (λ front. inr front) was)
     where
       longer : (c : Image) → StandsForPrefix slots_entries d [] c → StandsForPrefix slots_entries d records c
@@ -155,35 +167,57 @@ module _ {D : Type 0} {is_modelled : Bool} {seen : D → Image} {may_leave : D �
     pub journal_stays : (a b : Image) → Spares (IsBelow artifacts) a b → (name : List ℕ) → slots_files name → b name ≡ a name
     journal_stays a b spares name is = spares name (λ below. apart name is below)
 
-    front_stays : (d : Device) (records : List Record) (a b : Image) → Spares (IsBelow artifacts) a b → StandsForPrefix slots_entries d records a → StandsForPrefix slots_entries d records b
-    front_stays d records a b spares h = record { front = h.front; rest = h.rest; split = h.split; device = h.device; run = h.run; stands = stands_stays h.device a b (journal_stays a b spares) h.stands }
+    front_stays : (d : Device) (records : List Record) (a b : Image) → Spares (IsBelow artifacts) a b → StandsForPrefix slots_entries d records a →
+        StandsForPrefix slots_entries d records b
+    front_stays d records a b spares h = record {
+      front = h.front;
+      rest = h.rest;
+      split = h.split;
+      device = h.device;
+      run = h.run;
+      stands =
+          stands_stays h.device a b (journal_stays a b spares) h.stands;
+    }
 
     -- the journal is opened, and stray files are swept
-    pub opened_same : (old opened new : D) (s : Loaded Slots) → Leaves moment left_since old opened (may_leave old) → (IsTrue is_modelled → Stands (seen old) (loaded_device s))
-        → OwnsLoaded is_modelled may_leave slots_stands (λ log. log.live.end) s opened → ChangesArtifactsAlone may_leave moment left_since opened new → LeavesSame may_leave moment left_since seen old new
+    pub opened_same : (old opened new : D) (s : Loaded Slots) → Leaves moment left_since old opened (may_leave old) →
+        (IsTrue is_modelled → Stands (seen old) (loaded_device s))
+        → OwnsLoaded is_modelled may_leave slots_stands (λ log. log.live.end) s opened → ChangesArtifactsAlone may_leave moment left_since opened new →
+        LeavesSame may_leave moment left_since seen old new
     opened_same old opened new s opening stands held spared =
-        joined laws old opened new (may_leave old) (After (may_leave opened) (Spares (IsBelow artifacts))) (AllowedOrSame (may_leave old) (seen old)) opening spared
+        joined laws old opened new (may_leave old) (After (may_leave opened) (Spares (IsBelow artifacts))) (AllowedOrSame (may_leave old) (seen old)) opening
+        spared
         (λ c left. inl left)
-        (λ c was. inr (loaded_device s, stands (tells_of laws opened was.0 was.1), stands_stays (loaded_device s) was.0 c (journal_stays was.0 c was.2) (loaded_stands s opened held was.0 was.1)))
+        (λ c was. inr (
+          loaded_device s,
+          stands (tells_of laws opened was.0 was.1),
+          stands_stays (loaded_device s) was.0 c (journal_stays was.0 c was.2)
+              (loaded_stands s opened held was.0 was.1),
+        ))
 
     -- what the journal says is stable once it is opened, and then files of artifacts change alone
-    pub opened_says : (old opened new : D) → seen opened ≡ seen old → AreSettled seen may_leave slots_files opened → ChangesArtifactsAlone may_leave moment left_since opened new → KeepsJournal may_leave seen old new
+    pub opened_says : (old opened new : D) → seen opened ≡ seen old → AreSettled seen may_leave slots_files opened →
+        ChangesArtifactsAlone may_leave moment left_since opened new → KeepsJournal may_leave seen old new
     opened_says old opened new same settled spared c left =
         let was = now laws opened new (After (may_leave opened) (Spares (IsBelow artifacts))) spared c left in
         says_same (seen old) c (λ name is. journal_stays was.0 c was.2 name is ∙ settled name is was.0 was.1 ∙ ap (λ (i : Image). i name) same)
 
     -- a call that changes files of artifacts alone, where each image stands for a front already
-    spared_fronts : (old new : D) (d : Device) (records : List Record) → ((c : Image) → may_leave old c → StandsForPrefix slots_entries d records c) → ChangesArtifactsAlone may_leave moment left_since old new
+    spared_fronts : (old new : D) (d : Device) (records : List Record) → ((c : Image) → may_leave old c → StandsForPrefix slots_entries d records c) →
+        ChangesArtifactsAlone may_leave moment left_since old new
         → Leaves moment left_since old new (StandsForPrefix slots_entries d records)
     spared_fronts old new d records stands spared =
-        weaker laws old new (After (may_leave old) (Spares (IsBelow artifacts))) (StandsForPrefix slots_entries d records) (λ c was. front_stays d records was.0 c was.2 (stands was.0 was.1)) spared
+        weaker laws old new (After (may_leave old) (Spares (IsBelow artifacts))) (StandsForPrefix slots_entries d records)
+        (λ c was. front_stays d records was.0 c was.2 (stands was.0 was.1)) spared
 
     -- one deployment, in a call that begins with the device in hand
-    module _ (old new : D) (old_list new_list : Option (List RunnerEntry)) (old_held new_held : Option (List ℕ)) (p : SessionState) (status : Status) (stands : (c : Image) → may_leave old c → Stands c p.device) where
+    module _ (old new : D) (old_list new_list : Option (List RunnerEntry)) (old_held new_held : Option (List ℕ)) (p : SessionState) (status : Status)
+        (stands : (c : Image) → may_leave old c → Stands c p.device) where
       abbrev IsCall : Type 0
       IsCall = Call slots_entries slots_files may_leave moment left_since old new old_list new_list old_held new_held p status
 
-      before_fronts : (records : List Record) (from : D) → ChangesArtifactsAlone may_leave moment left_since old from → Leaves moment left_since old from (StandsForPrefix slots_entries p.device records)
+      before_fronts : (records : List Record) (from : D) → ChangesArtifactsAlone may_leave moment left_since old from →
+          Leaves moment left_since old from (StandsForPrefix slots_entries p.device records)
       before_fronts records from spared = spared_fronts old from p.device records (λ c left. none_front p.device records c (stands c left)) spared
 
       call_fronts : (call : IsCall) → Leaves moment left_since old new (StandsForPrefix slots_entries p.device (records_of call.history))
@@ -192,8 +226,10 @@ module _ {D : Type 0} {is_modelled : Bool} {seen : D → Image} {may_leave : D �
           let front = StandsForPrefix slots_entries p.device records in
           let before : Leaves moment left_since old call.from front = before_fronts records call.from call.before in
           let trace : Leaves moment left_since call.from call.to front = weaker laws call.from call.to _ front (λ c was. was.2.here) call.trace.course in
-          let after : Leaves moment left_since call.to new front = spared_fronts call.to new p.device records (now laws call.from call.to front trace) call.after in
-          joined laws old call.to new front front front (joined laws old call.from call.to front front front before trace (λ c h. h) (λ c h. h)) after (λ c h. h) (λ c h. h)
+          let after : Leaves moment left_since call.to new front = spared_fronts call.to new p.device records (now laws call.from call.to front trace)
+          call.after in
+          joined laws old call.to new front front front (joined laws old call.from call.to front front front before trace (λ c h. h) (λ c h. h)) after
+          (λ c h. h) (λ c h. h)
 
       pub kept_fronts : (call : IsCall) → LeavesPrefixes may_leave moment left_since old new p.device (records_of call.history)
       kept_fronts call = weaker laws old new _ _ (λ c h. inr h) (call_fronts call)

@@ -73,8 +73,10 @@ pub record IsOn (store : Store) (result : Status) : Type 0 where
   pub found : IsFound store device
   pub ends : may_end result ≡ true
 
-module _ {D : Type 0} (may_leave : D → Image → Type 0) (moment : D → ℕ) (left_since : D → ℕ → Image → Type 0) (faults : D → ℕ) (old new : D) (old_list new_list : Option (List RunnerEntry)) (printed : Printed) (result : Status) (store : Store) where
-  pub deployed_is_on : (input : Input) (library : Shelf) → IsDeployed may_leave moment left_since faults old new old_list new_list printed result store input library
+module _ {D : Type 0} (may_leave : D → Image → Type 0) (moment : D → ℕ) (left_since : D → ℕ → Image → Type 0) (faults : D → ℕ) (old new : D)
+    (old_list new_list : Option (List RunnerEntry)) (printed : Printed) (result : Status) (store : Store) where
+  pub deployed_is_on : (input : Input) (library : Shelf) → IsDeployed may_leave moment left_since faults old new old_list new_list printed result store input
+      library
       → (on : IsOn store result) × (on.device.pending ≡ None)
   deployed_is_on input library trace =
       let on = trace.4.2 in (
@@ -100,13 +102,15 @@ withholds_turns store input SourceFailed why = absurd why
 withholds_turns store input a why = why
 
 module _ (store : Store) (input : Input) (printed : Printed) (result : Status) where
-  none : (a : Answer) → TurnsAway store input a → Told printed result a → result ≡ status.NotInitialised → (IsTrue store.is_modelled → slots_none store.before) × Prints printed none_line
+  none : (a : Answer) → TurnsAway store input a → Told printed result a → result ≡ status.NotInitialised →
+      (IsTrue store.is_modelled → slots_none store.before) × Prints printed none_line
   none NotInitialised why (inl told) is = (why.1, told.1)
   none (Unplanned r text) why (inl told) is = absurd why
   none a why (inl told) is = cc
   none a why (inr told) is = cc
 
-  none_comes : (a : Answer) → TurnsAway store input a → Told printed result a → IsTrue store.is_modelled → slots_none store.before → Expects result status.NotInitialised
+  none_comes : (a : Answer) → TurnsAway store input a → Told printed result a → IsTrue store.is_modelled → slots_none store.before →
+      Expects result status.NotInitialised
   none_comes a why (inr told) is_modelled holds_none = inr (inr (inl told.0))
   none_comes DiskFailed why (inl told) is_modelled holds_none = inl told.0
   none_comes SourceFailed why (inl told) is_modelled holds_none = inr (inr (inl told.0))
@@ -116,13 +120,15 @@ module _ (store : Store) (input : Input) (printed : Printed) (result : Status) w
   none_comes (Pending id) why (inl told) is_modelled holds_none = absurd ((why.0.1 is_modelled).0 holds_none)
   none_comes a why (inl told) is_modelled holds_none = absurd why
 
-  damaged : (a : Answer) → TurnsAway store input a → Told printed result a → result ≡ status.Damaged → (place : List ℕ) × IsRefusedAt store place × Prints printed (damaged_line place)
+  damaged : (a : Answer) → TurnsAway store input a → Told printed result a → result ≡ status.Damaged → (place : List ℕ) × IsRefusedAt store place ×
+      Prints printed (damaged_line place)
   damaged (Damaged place) why (inl told) is = (place, why, told.1)
   damaged (Unplanned r text) why (inl told) is = absurd why
   damaged a why (inl told) is = cc
   damaged a why (inr told) is = cc
 
-  damaged_comes : (a : Answer) → TurnsAway store input a → Told printed result a → IsTrue store.is_modelled → StandsForNone store.before → Expects result status.Damaged
+  damaged_comes : (a : Answer) → TurnsAway store input a → Told printed result a → IsTrue store.is_modelled → StandsForNone store.before →
+      Expects result status.Damaged
   damaged_comes a why (inr told) is_modelled refuses = inr (inr (inl told.0))
   damaged_comes DiskFailed why (inl told) is_modelled refuses = inl told.0
   damaged_comes SourceFailed why (inl told) is_modelled refuses = inr (inr (inl told.0))
@@ -197,5 +203,6 @@ module _ (store : Store) (input : Input) (printed : Printed) (result : Status) w
   }
 
 -- nothing is done where memory for the words is refused
-pub starved : (store : Store) (input : Input) (printed : Printed) → TurnsAway store input NoMemory → Told printed status.Memory NoMemory → IsTold store input printed status.Memory
+pub starved : (store : Store) (input : Input) (printed : Printed) → TurnsAway store input NoMemory → Told printed status.Memory NoMemory →
+    IsTold store input printed status.Memory
 starved store input printed why told = (NoMemory, why, told)

@@ -54,7 +54,8 @@ use Rattle.session.proofs.Sweeping.{never_closes}
 use Rattle.nucleus_top.specs.Answers.{HasRisen, Input, IsUnchanged, Printed, Prints, Shelf, Store, Told, status_of}
 use Rattle.nucleus_top.specs.Asked.{AsksFor, asked_of}
 use Rattle.nucleus_top.specs.Crashes.{KeepsJournal, KeepsSameWhole, LeavesPrefixes, LeavesSame}
-use Rattle.nucleus_top.specs.Drives.{DeploysOn, DriveParts, Drives, GoesUnread, IsDeployed, IsDeployedOn, IsResumedOn, IsRefusedBefore, IsUnread, IsUnswept, NamesPendingOf, StartsFrom, TellsSweep, TellsUnread, TurnsAway, MayNotOpen, MayNotOpenIdle, slots_start}
+use Rattle.nucleus_top.specs.Drives.{DeploysOn, DriveParts, Drives, GoesUnread, IsDeployed, IsDeployedOn, IsResumedOn, IsRefusedBefore, IsUnread, IsUnswept}
+use Rattle.nucleus_top.specs.Drives.{NamesPendingOf, StartsFrom, TellsSweep, TellsUnread, TurnsAway, MayNotOpen, MayNotOpenIdle, slots_start}
 use Rattle.nucleus_top.specs.Opening.{HasEntry, Stands as StandsFor}
 use Rattle.nucleus_top.specs.Parts.{Parts}
 use Rattle.nucleus_top.specs.Planning.{IsFound, NamesPending}
@@ -116,7 +117,8 @@ module _ (store : Store) where
 
   -- of a device that is there
   module _ (d : Device) (found : IsFound store d) where
-    pub unswept_withholds : {S : Type 0} (result : Result S Answer) → IfErr result (λ a. IsUnswept a) → (IsErrOf result DiskFailed → HasRisen store) → IfErr result (λ a. MayNotOpen store a)
+    pub unswept_withholds : {S : Type 0} (result : Result S Answer) → IfErr result (λ a. IsUnswept a) → (IsErrOf result DiskFailed → HasRisen store) →
+        IfErr result (λ a. MayNotOpen store a)
     unswept_withholds (Ok s) is rose = tt
     unswept_withholds (Err DiskFailed) is rose = inr ((d, found), rose refl)
     unswept_withholds (Err NoMemory) is rose = inr (d, found)
@@ -139,7 +141,8 @@ names_pending d q (Pending id) is names = subst (λ (x : Option PendingPlan). Is
 names_pending d q NoMemory is names = tt
 names_pending d q a is names = absurd names
 
-pub unread_goes : (input : Input) (f : ReadFault) (a : Answer) → TellsUnread f a → (f ≡ reading.Edge → Rose input.faults_before input.faults_after) → GoesUnread input a
+pub unread_goes : (input : Input) (f : ReadFault) (a : Answer) → TellsUnread f a → (f ≡ reading.Edge → Rose input.faults_before input.faults_after) →
+    GoesUnread input a
 unread_goes input reading.Edge SourceFailed is_modelled rose = rose refl
 unread_goes input reading.NoMemory NoMemory is_modelled rose = tt
 unread_goes input f a is_modelled rose = absurd is_modelled
@@ -291,7 +294,8 @@ pub kept_ok : {T E : Type 0} (P : T → Type 0) (state : T) (result : Result T E
 kept_ok P state (Ok s) is holds = subst P (sym is) holds
 kept_ok P state (Err e) is holds = tt
 
-pub idle_ok : {T S E : Type 0} (P : T → Type 0) (of : S → T) (state : T) (result : Result S E) → IfOk result (λ s. state ≡ of s) → P state → IfOk result (λ s. P (of s))
+pub idle_ok : {T S E : Type 0} (P : T → Type 0) (of : S → T) (state : T) (result : Result S E) → IfOk result (λ s. state ≡ of s) → P state →
+    IfOk result (λ s. P (of s))
 idle_ok P of state (Ok s) is holds = subst P is holds
 idle_ok P of state (Err e) is holds = tt
 
@@ -307,26 +311,45 @@ slots_elsewhere law name (inr is) below = law.1 (subst (IsBelow artifacts) is be
 module _ {D J : Type 0} {is_modelled : Bool} {seen : D → Image} {may_leave : D → Image → Type 0} {moment : D → ℕ} {left_since : D → ℕ → Image → Type 0}
     (laws : DiskLaws is_modelled seen may_leave moment left_since)
     {files : List ℕ → Type 0} {entries : Image → List (List ℕ) → Type 0} {holds_none : Image → Type 0} {is_damaged : Image → ℕ → Type 0}
-    {stands : J → Image → List (List ℕ) → Type 0} {end : J → ℕ} (journal : JournalLaws files entries holds_none is_damaged stands end) (apart : LieElsewhere files) where
+    {stands : J → Image → List (List ℕ) → Type 0} {end : J → ℕ} (journal : JournalLaws files entries holds_none is_damaged stands end)
+    (apart : LieElsewhere files) where
   -- whatever becomes of the files of artifacts, a state stays one of the disk
-  pub loaded_stays : (s : Loaded J) (old new : D) → ChangesArtifactsAlone may_leave moment left_since old new → OwnsLoaded is_modelled may_leave stands end s old → OwnsLoaded is_modelled may_leave stands end s new
+  pub loaded_stays : (s : Loaded J) (old new : D) → ChangesArtifactsAlone may_leave moment left_since old new →
+      OwnsLoaded is_modelled may_leave stands end s old → OwnsLoaded is_modelled may_leave stands end s new
   loaded_stays (loaded.Idle s) old new leaves held = (hand_stays laws journal apart s.log (idle_device s) old new leaves held.0, held.1)
-  loaded_stays (loaded.Booting s) old new leaves held = ((hand_stays laws journal apart s.hand.log (booting_device s) old new leaves held.0.0, held.0.1), held.1)
-  loaded_stays (loaded.Activating s) old new leaves held = ((hand_stays laws journal apart s.hand.log (activating_device s) old new leaves held.0.0, held.0.1), held.1)
-  loaded_stays (loaded.Backing s) old new leaves held = ((hand_stays laws journal apart s.hand.log (backing_device s) old new leaves held.0.0, held.0.1), held.1)
-  loaded_stays (loaded.Rolling s) old new leaves held = ((hand_stays laws journal apart s.hand.log (rolling_device s) old new leaves held.0.0, held.0.1), held.1)
+  loaded_stays (loaded.Booting s) old new leaves held = (
+    (hand_stays laws journal apart s.hand.log (booting_device s) old new leaves held.0.0, held.0.1),
+    held.1,
+  )
+  loaded_stays (loaded.Activating s) old new leaves held = (
+    (
+      hand_stays laws journal apart s.hand.log (activating_device s) old new leaves held.0.0,
+      held.0.1,
+    ),
+    held.1,
+  )
+  loaded_stays (loaded.Backing s) old new leaves held = (
+    (hand_stays laws journal apart s.hand.log (backing_device s) old new leaves held.0.0, held.0.1),
+    held.1,
+  )
+  loaded_stays (loaded.Rolling s) old new leaves held = (
+    (hand_stays laws journal apart s.hand.log (rolling_device s) old new leaves held.0.0, held.0.1),
+    held.1,
+  )
 
 -- ---- where an entry begins
 
 -- a slot that stands behind entries is the live one
-live_of : (log : Slots) (image : Image) (payloads : List (List ℕ)) → HasEntry image → SlotsStand log image payloads → IsLive image log.number log.live.end payloads
+live_of : (log : Slots) (image : Image) (payloads : List (List ℕ)) → HasEntry image → SlotsStand log image payloads →
+    IsLive image log.number log.live.end payloads
 live_of log image payloads some h = by h.says
   where
     by : FirstSays payloads log.number ⊎ ((payloads ≡ []) × (log.number ≡ 0)) → IsLive image log.number log.live.end payloads
     by (inl says) = record { closed = h.closed; says = says; older = h.older }
     by (inr none) = absurd (some (none_of image (subst (λ (ps : List (List ℕ)). slots_entries image ps) none.0 (slots_laws.holds log image payloads h))))
 
-pub starts_from : {D : Type 0} {is_modelled : Bool} {may_leave : D → Image → Type 0} {end : Slots → ℕ} (s : Idle Slots) (disk : D) (image : Image) → OwnsIdle is_modelled may_leave slots_stands end s disk
+pub starts_from : {D : Type 0} {is_modelled : Bool} {may_leave : D → Image → Type 0} {end : Slots → ℕ} (s : Idle Slots) (disk : D) (image : Image) →
+    OwnsIdle is_modelled may_leave slots_stands end s disk
     → may_leave disk image → HasEntry image → StartsFrom image (idle_device s) (slots_start s.log (idle_device s))
 starts_from s disk image held left some = record {
   number = s.log.number;
@@ -340,7 +363,8 @@ starts_from s disk image held left some = record {
 
 module _ (d : Device) (origin : Origin) (content : Option Content) (before after : ℕ) (taken : Result code.Plan Declined) where
   -- the first 524,289 bytes are enough
-  whole_takes : (whole front : List ℕ) → front ≡ take 524289 whole → TakesRead d origin content before after front taken → TakesRead d origin content before after whole taken
+  whole_takes : (whole front : List ℕ) → front ≡ take 524289 whole → TakesRead d origin content before after front taken → TakesRead d origin
+      content before after whole taken
   whole_takes whole front is takes =
       elim (cases_lt 524288 (length whole)) [
         | inl long ↦ by long takes
@@ -352,12 +376,14 @@ module _ (d : Device) (origin : Origin) (content : Option Content) (before after
       by long (inr (inl fails)) = inr (inl (fails.0, too_long whole front is long fails.0 fails.1, fails.2))
       by long (inr (inr reads)) = absurd (omega (arith, front_is_long whole front is long, reads.1.1.within))
 
-  pub document_takes : (left : Option (List ℕ)) (front : List ℕ) → IfSome left (λ whole. front ≡ take 524289 whole) → TakesRead d origin content before after front taken
+  pub document_takes : (left : Option (List ℕ)) (front : List ℕ) → IfSome left (λ whole. front ≡ take 524289 whole) → TakesRead d origin
+      content before after front taken
       → (bytes : List ℕ) × ((whole : List ℕ) → left ≡ Some whole → bytes ≡ whole) × TakesRead d origin content before after bytes taken
   document_takes None front is takes = (front, λ whole told. cc, takes)
   document_takes (Some document) front is takes = (document, λ whole told. cc, whole_takes document front is takes)
 
-module _ {D : Type 0} (may_leave : D → Image → Type 0) (moment : D → ℕ) (left_since : D → ℕ → Image → Type 0) (faults : D → ℕ) (old new : D) (old_list new_list : Option (List RunnerEntry)) (printed : Printed) (result : Status)
+module _ {D : Type 0} (may_leave : D → Image → Type 0) (moment : D → ℕ) (left_since : D → ℕ → Image → Type 0) (faults : D → ℕ) (old new : D)
+    (old_list new_list : Option (List RunnerEntry)) (printed : Printed) (result : Status)
     (d : Device) (start : ℕ → ℕ) (input : Input) (library : Shelf) where
   -- the document of the source, where its front was deployed
   pub document_deploys : input.faults_after ≡ input.faults_before → (front : List ℕ) → IfSome input.document (λ whole. front ≡ take 524289 whole)
@@ -413,7 +439,8 @@ stands_begun d told living none = record {
   children = λ n. (λ has. absurd (in_nil n (subst (λ (xs : List ℕ). Contains xs n) none has)), λ lives. absurd (no_lives d told n lives));
 }
 
-pub open_begun : (d : Device) (world : Components) (told : Heard) (living : List ℕ) → world ≡ no_world → living ≡ [] → d.pending ≡ None → IsOpen (begun d told) d world told living
+pub open_begun : (d : Device) (world : Components) (told : Heard) (living : List ℕ) → world ≡ no_world → living ≡ [] → d.pending ≡ None →
+    IsOpen (begun d told) d world told living
 open_begun d world told living is none idle = subst (λ (w : Components). IsOpen (begun d told) d w told living) (sym is) (record {
   stands = stands_begun d told living none;
   quiet = record { told = refl; none = refl };
@@ -425,7 +452,8 @@ open_begun d world told living is none idle = subst (λ (w : Components). IsOpen
   cut = refl;
 })
 
-pub front_begun : (d : Device) (world : Components) (told : Heard) (living : List ℕ) → world ≡ no_world → living ≡ [] → IsAtBootStage (begun d told) d world told living
+pub front_begun : (d : Device) (world : Components) (told : Heard) (living : List ℕ) → world ≡ no_world → living ≡ [] →
+    IsAtBootStage (begun d told) d world told living
 front_begun d world told living is none = subst (λ (w : Components). IsAtBootStage (begun d told) d w told living) (sym is) (record {
   between = record {
     stands = stands_begun d told living none;
@@ -452,11 +480,13 @@ module _ {D : Type 0} {is_modelled : Bool} {seen : D → Image} {may_leave : D �
   pub start_spared : (d : D) → ChangesArtifactsAlone may_leave moment left_since d d
   start_spared d = same_spared d d (at_start laws d)
 
-  pub then_spared : (old mid new : D) → ChangesArtifactsAlone may_leave moment left_since old mid → ChangesArtifactsAlone may_leave moment left_since mid new → ChangesArtifactsAlone may_leave moment left_since old new
+  pub then_spared : (old mid new : D) → ChangesArtifactsAlone may_leave moment left_since old mid → ChangesArtifactsAlone may_leave moment left_since mid new
+      → ChangesArtifactsAlone may_leave moment left_since old new
   then_spared old mid new first second = then_spares laws (IsBelow artifacts) old mid new first second
 
   -- behind a call that changes files of artifacts alone
-  module _ (old mid new : D) (first : ChangesArtifactsAlone may_leave moment left_since old mid) (old_list new_list : Option (List RunnerEntry)) (old_held new_held : Option (List ℕ)) (result : Status) where
+  module _ (old mid new : D) (first : ChangesArtifactsAlone may_leave moment left_since old mid) (old_list new_list : Option (List RunnerEntry))
+      (old_held new_held : Option (List ℕ)) (result : Status) where
     call_on : (p : SessionState) → Call slots_entries slots_files may_leave moment left_since mid new old_list new_list old_held new_held p result
         → Call slots_entries slots_files may_leave moment left_since old new old_list new_list old_held new_held p result
     call_on p call = record {
@@ -482,9 +512,12 @@ module _ {D : Type 0} {is_modelled : Bool} {seen : D → Image} {may_leave : D �
       unfolding call_on
       taken_on call = (call_on p call.0, call.1)
 
-  module _ (old mid new : D) (first : ChangesArtifactsAlone may_leave moment left_since old mid) (old_list new_list : Option (List RunnerEntry)) (printed : Printed) (result : Status) (faults : D → ℕ) (later : faults old ≤ faults mid) (d : Device)
-      (images : LeavesPrefixes may_leave moment left_since old mid d []) (stands : IsTrue is_modelled → StandsFor (seen old) d) (whole : KeepsSameWhole may_leave moment left_since seen old mid) where
-    pub deployed_on : (start : ℕ → ℕ) (library : Shelf) (bytes : List ℕ) → IsDeployedOn may_leave moment left_since faults mid new old_list new_list printed result d start library bytes
+  module _ (old mid new : D) (first : ChangesArtifactsAlone may_leave moment left_since old mid) (old_list new_list : Option (List RunnerEntry))
+      (printed : Printed) (result : Status) (faults : D → ℕ) (later : faults old ≤ faults mid) (d : Device)
+      (images : LeavesPrefixes may_leave moment left_since old mid d []) (stands : IsTrue is_modelled → StandsFor (seen old) d)
+      (whole : KeepsSameWhole may_leave moment left_since seen old mid) where
+    pub deployed_on : (start : ℕ → ℕ) (library : Shelf) (bytes : List ℕ) → IsDeployedOn may_leave moment left_since faults mid new old_list new_list printed
+        result d start library bytes
         → IsDeployedOn may_leave moment left_since faults old new old_list new_list printed result d start library bytes
     unfolding taken_on call_on
     deployed_on start library bytes h = record {
@@ -508,7 +541,8 @@ module _ {D : Type 0} {is_modelled : Bool} {seen : D → Image} {may_leave : D �
       lasts = h.lasts;
     }
 
-    pub resumed_on : IsResumedOn may_leave moment left_since faults mid new old_list new_list printed result d → IsResumedOn may_leave moment left_since faults old new old_list new_list printed result d
+    pub resumed_on : IsResumedOn may_leave moment left_since faults mid new old_list new_list printed result d →
+        IsResumedOn may_leave moment left_since faults old new old_list new_list printed result d
     unfolding call_on
     resumed_on h = record {
       place = h.place;
@@ -525,45 +559,58 @@ module _ {D : Type 0} {is_modelled : Bool} {seen : D → Image} {may_leave : D �
     }
 
   -- its document is not read behind such a call, or goes on with the device for which the journal stood
-  pub ran_on : (old mid new : D) (first : ChangesArtifactsAlone may_leave moment left_since old mid) (old_list new_list : Option (List RunnerEntry)) (printed : Printed) (result : Status)
+  pub ran_on : (old mid new : D) (first : ChangesArtifactsAlone may_leave moment left_since old mid) (old_list new_list : Option (List RunnerEntry))
+      (printed : Printed) (result : Status)
       (faults : D → ℕ) (store : Store) (input : Input) (library : Shelf) (d : Device) (start : ℕ → ℕ) (Same : Type 0) → faults old ≤ faults mid
       → IsFound store d → d.pending ≡ None → (IsTrue store.is_modelled → StartsFrom store.before d start) → (IsTrue is_modelled → StandsFor (seen old) d)
       → LeavesSame may_leave moment left_since seen old mid → KeepsSameWhole may_leave moment left_since seen old mid → KeepsJournal may_leave seen old mid
-      → (IsUnread mid new input printed result × Same) ⊎ DeploysOn may_leave moment left_since faults mid new old_list new_list printed result d start input library
-      → (IsRefusedBefore seen may_leave moment left_since (λ a. TurnsAway store input a) old new printed result × Same) ⊎ IsDeployed may_leave moment left_since faults old new old_list new_list printed result store input library
-  ran_on old mid new first old_list new_list printed result faults store input library d start Same later found idle starts stands images whole ends (inl away) = inl (
-    record {
-      answer = away.0.answer;
-      why = unread_turns store d found input away.0.answer idle away.0.why;
-      told = away.0.told;
-      spared = subst (λ (x : D). ChangesArtifactsAlone may_leave moment left_since old x) (sym away.0.same) first;
-      images = subst (λ (x : D). LeavesSame may_leave moment left_since seen old x) (sym away.0.same) images;
-      whole = subst (λ (x : D). KeepsSameWhole may_leave moment left_since seen old x) (sym away.0.same) whole;
-      ends = inr (λ other. subst (λ (x : D). KeepsJournal may_leave seen old x) (sym away.0.same) ends);
-      reads = inl (subst (λ (x : D). KeepsJournal may_leave seen old x) (sym away.0.same) ends);
-    },
-    away.1,
-  )
-  ran_on old mid new first old_list new_list printed result faults store input library d start Same later found idle starts stands images whole ends (inr trace) = inr (
-    d,
-    start,
-    found,
-    starts,
-    (trace.0, trace.1, deployed_on old mid new first old_list new_list printed result faults later d (same_fronts laws old mid d stands images) stands whole start library trace.0 trace.2),
-  )
+      → (IsUnread mid new input printed result × Same) ⊎ DeploysOn may_leave moment left_since faults mid new old_list new_list printed result d start input
+      library
+      → (IsRefusedBefore seen may_leave moment left_since (λ a. TurnsAway store input a) old new printed result × Same) ⊎
+      IsDeployed may_leave moment left_since faults old new old_list new_list printed result store input library
+  ran_on old mid new first old_list new_list printed result faults store input library d start Same later found idle starts stands images whole ends
+      (inl away) = inl (
+        record {
+          answer = away.0.answer;
+          why = unread_turns store d found input away.0.answer idle away.0.why;
+          told = away.0.told;
+          spared = subst (λ (x : D). ChangesArtifactsAlone may_leave moment left_since old x) (sym away.0.same) first;
+          images = subst (λ (x : D). LeavesSame may_leave moment left_since seen old x) (sym away.0.same) images;
+          whole = subst (λ (x : D). KeepsSameWhole may_leave moment left_since seen old x) (sym away.0.same) whole;
+          ends = inr (λ other. subst (λ (x : D). KeepsJournal may_leave seen old x) (sym away.0.same) ends);
+          reads = inl (subst (λ (x : D). KeepsJournal may_leave seen old x) (sym away.0.same) ends);
+        },
+        away.1,
+      )
+  ran_on old mid new first old_list new_list printed result faults store input library d start Same later found idle starts stands images whole ends
+      (inr trace) = inr (
+        d,
+        start,
+        found,
+        starts,
+        (
+          trace.0,
+          trace.1,
+          deployed_on old mid new first old_list new_list printed result faults later d (same_fronts laws old mid d stands images) stands whole
+              start library trace.0 trace.2,
+        ),
+      )
 
 -- ---- words
 
 -- words that ask this command ask none that drives no deployment
-pub no_quiet : AsksOnce → (words : List (List ℕ)) (root : List ℕ) (order other : Order) → (DrivesNone other → ⊥) → IsOrder words root other → Asks words order → ⊥
+pub no_quiet : AsksOnce → (words : List (List ℕ)) (root : List ℕ) (order other : Order) → (DrivesNone other → ⊥) → IsOrder words root other →
+    Asks words order → ⊥
 no_quiet once words root order other unbuilt is asks = unbuilt (subst DrivesNone (once words asks.root root order other asks.is_order is).1 asks.drives_none)
 
 -- nor do words that ask to deploy ask to resume
 pub not_both : AsksOnce → (words : List (List ℕ)) (root other : List ℕ) → IsOrder words root orders.Deploy → IsOrder words other orders.Resume → ⊥
-not_both once words root other deploys resumes = let same : orders.Deploy ≡ orders.Resume = (once words root other orders.Deploy orders.Resume deploys resumes).1 in cc
+not_both once words root other deploys resumes = let same : orders.Deploy ≡ orders.Resume =
+    (once words root other orders.Deploy orders.Resume deploys resumes).1 in cc
 
 -- nor do words that ask another command ask to drive
-pub no_drive : AsksOnce → (words : List (List ℕ)) (root : List ℕ) (order : Order) → IsOrder words root order → order ≢ orders.Deploy → order ≢ orders.Resume → Drives words → ⊥
+pub no_drive : AsksOnce → (words : List (List ℕ)) (root : List ℕ) (order : Order) → IsOrder words root order → order ≢ orders.Deploy → order ≢ orders.Resume →
+    Drives words → ⊥
 no_drive once words root order is deploys resumes (other, inl drives) = deploys (once words root other order orders.Deploy is drives).1
 no_drive once words root order is deploys resumes (other, inr drives) = resumes (once words root other order orders.Resume is drives).1
 
@@ -582,7 +629,8 @@ module _ (words : List (List ℕ)) (store : Store) (input : Input) (library : Sh
     (sink : printed.faults_after ≡ printed.faults_before) where
   pub unread_parts : AsksOnce → Prints printed [] → Parts words store input library printed status.Memory
   unread_parts once prints =
-      parts words store input library printed status.Memory once NoMemory (inr (inr (refl, same))) (record { disk = λ other. disk; source = λ other. source }) (λ other. shelf) (inl (refl, prints, sink))
+      parts words store input library printed status.Memory once NoMemory (inr (inr (refl, same))) (record { disk = λ other. disk; source = λ other. source })
+      (λ other. shelf) (inl (refl, prints, sink))
 
   pub unread_drives : DriveParts store input library printed status.Memory
   unread_drives = record {

@@ -9,7 +9,8 @@ use Rattle.command_words.specs.Laws.{AsksOnce}
 use Rattle.command_words.specs.declared.order.Order.{Order}
 use Rattle.command_words.specs.declared.order.Order.TheVariants.{Init, Status as Show, Plan, Audit}
 use Rattle.nucleus_top.specs.Words.{AsksNothing}
-use Rattle.nucleus_top.specs.Answers.{Store, Input, Shelf, Printed, Told, IsUnchanged, HasRisen, IsQuiet, IsStill, IsCutShort, Prints, Yields, usage_line, library_line, status_of}
+use Rattle.nucleus_top.specs.Answers.{Store, Input, Shelf, Printed, Told, IsUnchanged, HasRisen, IsQuiet, IsStill, IsCutShort, Prints, Yields, usage_line}
+use Rattle.nucleus_top.specs.Answers.{library_line, status_of}
 use Rattle.nucleus_top.specs.Leaving.{IsDurable, Keeps}
 use Rattle.nucleus_top.specs.Parts.{Comes, ComesOf, IsSourceFault, Parts}
 use Rattle.nucleus_top.specs.declared.answer.Answer.{Answer}
@@ -33,14 +34,16 @@ risen Plan store input library comes = comes.1
 risen Audit store input library comes = comes.1
 risen _ store input library comes = absurd comes
 
-unread : (order : Order) (store : Store) (input : Input) (library : Shelf) → ComesOf order store input library SourceFailed → Rose input.faults_before input.faults_after
+unread : (order : Order) (store : Store) (input : Input) (library : Shelf) → ComesOf order store input library SourceFailed →
+    Rose input.faults_before input.faults_after
 unread Plan store input library comes = comes.1.2.1
 unread Audit store input library comes = absurd comes
 unread (Init origin) store input library comes = absurd comes
 unread (Show json) store input library comes = absurd comes
 unread _ store input library comes = absurd comes
 
-ungiven : (order : Order) (store : Store) (input : Input) (library : Shelf) → ComesOf order store input library LibraryFailed → Rose library.faults_before library.faults_after
+ungiven : (order : Order) (store : Store) (input : Input) (library : Shelf) → ComesOf order store input library LibraryFailed →
+    Rose library.faults_before library.faults_after
 ungiven Plan store input library comes = comes.1.2.1
 ungiven Audit store input library comes = absurd comes
 ungiven (Init origin) store input library comes = absurd comes
@@ -51,7 +54,8 @@ ungiven _ store input library comes = absurd comes
 abbrev Refuses : Store → Refusal → List ℕ → Type 0
 Refuses store r text = IsUnchanged store × (text ≡ refusal_line r) × (status_of_refusal r ≢ status.Library)
 
-unplanned : (order : Order) (store : Store) (input : Input) (library : Shelf) (r : Refusal) (text : List ℕ) → ComesOf order store input library (Unplanned r text) → Refuses store r text
+unplanned : (order : Order) (store : Store) (input : Input) (library : Shelf) (r : Refusal) (text : List ℕ) →
+    ComesOf order store input library (Unplanned r text) → Refuses store r text
 unplanned Plan store input library r text comes = (comes.0, comes.1.2.1, comes.1.2.2)
 unplanned Audit store input library r text comes = absurd comes
 unplanned (Init origin) store input library r text comes = absurd comes
@@ -83,7 +87,8 @@ module _ (words : List (List ℕ)) (store : Store) (input : Input) (library : Sh
   refuses r text (inr (inl comes)) = cc
   refuses r text (inr (inr comes)) = cc
 
-  usage : (a : Answer) → Comes words store input library a → Told printed result a → result ≡ status.Usage → AsksNothing words × IsUnchanged store × Prints printed usage_line
+  usage : (a : Answer) → Comes words store input library a → Told printed result a → result ≡ status.Usage → AsksNothing words × IsUnchanged store ×
+      Prints printed usage_line
   usage WrongWords comes (inl told) is = let w = wrong comes in (w.0, w.1, told.1)
   usage (Unplanned r text) comes (inl told) is = absurd (no_refusal r status.Usage refl (sym told.0 ∙ is))
   usage a comes (inl told) is = cc
@@ -100,7 +105,8 @@ module _ (words : List (List ℕ)) (store : Store) (input : Input) (library : Sh
   failed (inr (inl comes)) = cc
   failed (inr (inr comes)) = cc
 
-  disk : (a : Answer) → Comes words store input library a → Told printed result a → result ≡ status.Disk → HasRisen store × Prints printed (codes "fault 5 disk\n")
+  disk : (a : Answer) → Comes words store input library a → Told printed result a → result ≡ status.Disk → HasRisen store ×
+      Prints printed (codes "fault 5 disk\n")
   disk DiskFailed comes (inl told) is = (failed comes, told.1)
   disk (Unplanned r text) comes (inl told) is = absurd (no_refusal r status.Disk refl (sym told.0 ∙ is))
   disk a comes (inl told) is = cc
@@ -116,14 +122,24 @@ module _ (words : List (List ℕ)) (store : Store) (input : Input) (library : Sh
   shelf (inr (inl comes)) = cc
   shelf (inr (inr comes)) = cc
 
-  disk_stays : (a : Answer) → IsQuiet store input a → Told printed result a → result ≢ status.Disk → result ≢ status.Edge → store.faults_after ≡ store.faults_before
+  disk_stays : (a : Answer) → IsQuiet store input a → Told printed result a → result ≢ status.Disk → result ≢ status.Edge →
+      store.faults_after ≡ store.faults_before
   disk_stays a quiet (inl told) other more = quiet.disk (λ is. other (told.0 ∙ ap status_of is))
   disk_stays a quiet (inr told) other more = absurd (more told.0)
 
   edge : (a : Answer) → Comes words store input library a → IsQuiet store input a → IsStill library a → Told printed result a → result ≡ status.Edge
-      → IsSourceFault words store input library printed ⊎ ((answer : Answer) × Comes words store input library answer × IsQuiet store input answer × IsStill library answer × IsCutShort printed answer)
+      → IsSourceFault words store input library printed ⊎ ((answer : Answer) × Comes words store input library answer × IsQuiet store input answer ×
+      IsStill library answer × IsCutShort printed answer)
   edge a comes quiet still (inr told) is = inr (a, comes, quiet, still, told.1)
-  edge SourceFailed comes quiet still (inl told) is = inl (record { comes = comes; rose = source comes; line = told.1; disk_stays = quiet.disk (λ other. cc); library_stays = still (λ other. cc); sink_stays = told.2 })
+  edge SourceFailed comes quiet still (inl told) is = inl (record {
+    comes = comes;
+    rose = source comes;
+    line = told.1;
+    disk_stays =
+        quiet.disk (λ other. cc);
+    library_stays = still (λ other. cc);
+    sink_stays = told.2;
+  })
   edge (Unplanned r text) comes quiet still (inl told) is = absurd (no_refusal r status.Edge refl (sym told.0 ∙ is))
   edge a comes quiet still (inl told) is = cc
 
@@ -132,13 +148,15 @@ module _ (words : List (List ℕ)) (store : Store) (input : Input) (library : Sh
   edges_stay a quiet (inl told) other = (quiet.source (λ is. other (told.0 ∙ ap status_of is)), told.2)
   edges_stay a quiet (inr told) other = absurd (other told.0)
 
-  given : (a : Answer) → Comes words store input library a → Told printed result a → result ≡ status.Library → Rose library.faults_before library.faults_after × Prints printed library_line
+  given : (a : Answer) → Comes words store input library a → Told printed result a → result ≡ status.Library → Rose library.faults_before library.faults_after
+      × Prints printed library_line
   given LibraryFailed comes (inl told) is = (shelf comes, told.1)
   given (Unplanned r text) comes (inl told) is = absurd ((refuses r text comes).2 (sym told.0 ∙ is))
   given a comes (inl told) is = cc
   given a comes (inr told) is = cc
 
-  library_stays : (a : Answer) → IsStill library a → Told printed result a → result ≢ status.Library → result ≢ status.Edge → library.faults_after ≡ library.faults_before
+  library_stays : (a : Answer) → IsStill library a → Told printed result a → result ≢ status.Library → result ≢ status.Edge →
+      library.faults_after ≡ library.faults_before
   library_stays a still (inl told) other more = still (λ is. other (told.0 ∙ ap status_of is))
   library_stays a still (inr told) other more = absurd (more told.0)
 
@@ -155,7 +173,8 @@ module _ (words : List (List ℕ)) (store : Store) (input : Input) (library : Sh
   memory a comes (inl told) is = cc
   memory a comes (inr told) is = cc
 
-  pub parts : AsksOnce → (a : Answer) → Comes words store input library a → IsQuiet store input a → IsStill library a → Told printed result a → Parts words store input library printed result
+  pub parts : AsksOnce → (a : Answer) → Comes words store input library a → IsQuiet store input a → IsStill library a → Told printed result a →
+      Parts words store input library printed result
   parts once a comes quiet still told = record {
     usage = usage a comes told;
     usage_comes = usage_comes a comes told;

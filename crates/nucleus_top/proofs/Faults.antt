@@ -19,7 +19,8 @@ use Rattle.nucleus_top.specs.declared.answer.Answer.TheVariants.{Shown, Whole, D
 
 module _ (store : Store) (fault : LoadFault) (a : Answer) (tells_fault : TellsFault fault a) (same : IsUnchanged store)
     (told : IsTrue store.is_modelled → Opens store.before (Err fault)) (cause : fault ≡ load.Disk → HasRisen store) where
-  refuses_by : (f : LoadFault) (x : Answer) → TellsFault f x → (IsTrue store.is_modelled → Opens store.before (Err f)) → (f ≡ load.Disk → HasRisen store) → Refuses store x
+  refuses_by : (f : LoadFault) (x : Answer) → TellsFault f x → (IsTrue store.is_modelled → Opens store.before (Err f)) → (f ≡ load.Disk → HasRisen store) →
+      Refuses store x
   refuses_by load.Disk DiskFailed is_modelled opens rose = (same, rose refl)
   refuses_by load.NotInitialised NotInitialised is_modelled opens rose = (same, opens)
   refuses_by (load.Damaged at) (Damaged place) is_modelled opens rose = (same, (at, is_modelled, opens))
@@ -47,7 +48,8 @@ refused_plans store input library (Damaged place) r = r
 refused_plans store input library NoMemory r = r
 refused_plans store input library a r = absurd r
 
-pub refused_inits : (origin : Origin) (store : Store) (fault : LoadFault) (a : Answer) → fault ≢ load.NotInitialised → TellsFault fault a → Refuses store a → Inits origin store a
+pub refused_inits : (origin : Origin) (store : Store) (fault : LoadFault) (a : Answer) → fault ≢ load.NotInitialised → TellsFault fault a → Refuses store a →
+    Inits origin store a
 refused_inits origin store load.Disk DiskFailed other is_modelled r = (r.1, λ told. inl r.0)
 refused_inits origin store load.NotInitialised a other is_modelled r = absurd (other refl)
 refused_inits origin store (load.Damaged at) (Damaged place) other is_modelled r = r
@@ -56,7 +58,8 @@ refused_inits origin store load.NoMemory NoMemory other is_modelled r = r
 refused_inits origin store fault a other is_modelled r = absurd is_modelled
 
 -- the work is not done
-pub refused_keeps : (order : Order) (images : Image → Type 0) (seen : Image) (fault : LoadFault) (a : Answer) → TellsFault fault a → status_of a ≡ status.Done → IsDurable order images seen
+pub refused_keeps : (order : Order) (images : Image → Type 0) (seen : Image) (fault : LoadFault) (a : Answer) → TellsFault fault a →
+    status_of a ≡ status.Done → IsDurable order images seen
 refused_keeps order images seen load.Disk DiskFailed is_modelled done = cc
 refused_keeps order images seen load.NotInitialised NotInitialised is_modelled done = cc
 refused_keeps order images seen (load.Damaged at) (Damaged place) is_modelled done = cc

@@ -47,11 +47,16 @@ module _ {D : Type 0} {is_modelled : Bool} {seen : D → Image} {may_leave : D �
         → ((name : List ℕ) → ¬ (slots_files name) → seen new name ≡ seen old name) → Begins o (seen old) (seen new)
     begun new leaves told others = record {
       none = none told;
-      within = record { here = ⊎_elim (λ left. inl (none_left (seen new) left)) (λ was. was.2.within.here) (now laws old new _ leaves (seen new) (laws.reads new told)); others = others };
+      within = record {
+        here = ⊎_elim (λ left. inl (none_left (seen new) left)) (λ was. was.2.within.here)
+            (now laws old new _ leaves (seen new) (laws.reads new told));
+        others = others;
+      };
     }
 
   -- each image of a journal that is in hand stands for the device
-  pub held_stands : {end : Slots → ℕ} (log : Slots) (disk : D) (d : Device) → OwnsJournal is_modelled may_leave slots_stands end log disk d → (c : Image) → may_leave disk c → Stands c d
+  pub held_stands : {end : Slots → ℕ} (log : Slots) (disk : D) (d : Device) → OwnsJournal is_modelled may_leave slots_stands end log disk d → (c : Image) →
+      may_leave disk c → Stands c d
   held_stands log disk d hand c left =
       let means = hand.means (tells_of laws disk c left) in
       record { payloads = hand.payloads; live = slots_laws.holds log c hand.payloads (hand.behind.each c left); means = means.0; room = means.1 }
@@ -65,7 +70,8 @@ module _ {D : Type 0} {is_modelled : Bool} {seen : D → Image} {may_leave : D �
       (λ c left. ⊎_elim (λ l. inl (now laws old mid _ first c l)) (λ was. inr (was.0, now laws old mid _ first was.0 was.1, was.2)) left)
 
   -- a call that changes nothing
-  pub only_allowed : (order : Order) (old new : D) → Leaves moment left_since old new (may_leave old) → Leaves moment left_since old new (LeavesOf order (may_leave old))
+  pub only_allowed : (order : Order) (old new : D) → Leaves moment left_since old new (may_leave old) →
+      Leaves moment left_since old new (LeavesOf order (may_leave old))
   only_allowed order old new leaves = weaker laws old new _ _ (λ c left. inl left) leaves
 
   -- what a crash leaves of these files stays so
@@ -76,7 +82,8 @@ module _ {D : Type 0} {is_modelled : Bool} {seen : D → Image} {may_leave : D �
 
   -- no call
   pub not_called : (order : Order) (old new : D) → new ≡ old → Leaves moment left_since old new (LeavesOf order (may_leave old))
-  not_called order old new same = subst (λ (d : D). Leaves moment left_since old d (LeavesOf order (may_leave old))) (sym same) (only_allowed order old old (at_start laws old))
+  not_called order old new same = subst (λ (d : D). Leaves moment left_since old d (LeavesOf order (may_leave old))) (sym same)
+      (only_allowed order old old (at_start laws old))
 
   -- by the words that ask the command
   pub by_words : (words : List (List ℕ)) (order : Order) (old new : D) → Asks words order
@@ -84,10 +91,18 @@ module _ {D : Type 0} {is_modelled : Bool} {seen : D → Image} {may_leave : D �
   by_words words order old new asks leaves =
       weaker laws old new _ _ (λ c left. ⊎_elim (λ l. inl l) (λ was. inr (order, asks, was)) left) leaves
 
-  pub by_none : (words : List (List ℕ)) (old new : D) → Leaves moment left_since old new (may_leave old) → Leaves moment left_since old new (MayLeave words (may_leave old))
+  pub by_none : (words : List (List ℕ)) (old new : D) → Leaves moment left_since old new (may_leave old) →
+      Leaves moment left_since old new (MayLeave words (may_leave old))
   by_none words old new leaves = weaker laws old new _ _ (λ c left. inl left) leaves
 
 -- a call after one that changed nothing and counted no fault
 pub store_after : {D : Type 0} (is_modelled : Bool) (seen : D → Image) (faults : D → ℕ) (old mid new : D) → seen mid ≡ seen old → faults mid ≡ faults old
     → store_of is_modelled seen faults mid new ≡ store_of is_modelled seen faults old new
-store_after is_modelled seen faults old mid new same stays = λ i. record { is_modelled = is_modelled; before = same i; after = seen new; faults_before = stays i; faults_after = faults new }
+store_after is_modelled seen faults old mid new same stays = λ i. record {
+  is_modelled = is_modelled;
+  before = same i;
+  after = seen new;
+  faults_before =
+      stays i;
+  faults_after = faults new;
+}

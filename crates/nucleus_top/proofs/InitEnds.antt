@@ -17,7 +17,8 @@ use Rattle.nucleus_top.proofs.Standing.{none_stands}
 use Rattle.nucleus_top.proofs.Told.{told_of}
 
 module _ (origin : Origin) (store : Store) (printed : Printed) (result : Status) where
-  done : (a : Answer) → Inits origin store a → Told printed result a → result ≡ status.Done → (IsTrue store.is_modelled → IsMade store origin) × Prints printed (made_line origin.thing)
+  done : (a : Answer) → Inits origin store a → Told printed result a → result ≡ status.Done → (IsTrue store.is_modelled → IsMade store origin) ×
+      Prints printed (made_line origin.thing)
   done (Shown text) comes (inl told) is = absurd comes
   done (Made thing) comes (inl told) is = (comes.1, subst (λ (t : List ℕ). Prints printed (made_line t)) comes.0 told.1)
   done (Planned text) comes (inl told) is = absurd comes
@@ -41,13 +42,15 @@ module _ (origin : Origin) (store : Store) (printed : Printed) (result : Status)
   failed a comes (inl told) is = cc
   failed a comes (inr told) is = cc
 
-  damaged : (a : Answer) → Inits origin store a → Told printed result a → result ≡ status.Damaged → (place : List ℕ) × IsRefusedAt store place × Prints printed (damaged_line place)
+  damaged : (a : Answer) → Inits origin store a → Told printed result a → result ≡ status.Damaged → (place : List ℕ) × IsRefusedAt store place ×
+      Prints printed (damaged_line place)
   damaged (Damaged place) comes (inl told) is = (place, comes, told.1)
   damaged (Unplanned r text) comes (inl told) is = absurd comes
   damaged a comes (inl told) is = cc
   damaged a comes (inr told) is = cc
 
-  damaged_comes : (a : Answer) → Inits origin store a → Told printed result a → IsTrue store.is_modelled → StandsForNone store.before → Expects result status.Damaged
+  damaged_comes : (a : Answer) → Inits origin store a → Told printed result a → IsTrue store.is_modelled → StandsForNone store.before →
+      Expects result status.Damaged
   damaged_comes a comes (inr told) is_modelled refuses = inr (inr (inl told.0))
   damaged_comes (Made thing) comes (inl told) is_modelled refuses = absurd (refuses no_device (none_stands store.before (comes.1 is_modelled).none))
   damaged_comes DiskFailed comes (inl told) is_modelled refuses = inl told.0
@@ -63,7 +66,8 @@ module _ (origin : Origin) (store : Store) (printed : Printed) (result : Status)
   initialised a comes (inl told) is = cc
   initialised a comes (inr told) is = cc
 
-  initialised_comes : (a : Answer) → Inits origin store a → Told printed result a → IsTrue store.is_modelled → HasEntry store.before → (d : Device) → Stands store.before d → Expects result status.Initialised
+  initialised_comes : (a : Answer) → Inits origin store a → Told printed result a → IsTrue store.is_modelled → HasEntry store.before → (d : Device) →
+      Stands store.before d → Expects result status.Initialised
   initialised_comes a comes (inr told) is_modelled some d stands = inr (inr (inl told.0))
   initialised_comes (Made thing) comes (inl told) is_modelled some d stands = absurd (some (comes.1 is_modelled).none)
   initialised_comes DiskFailed comes (inl told) is_modelled some d stands = inl told.0
@@ -85,12 +89,25 @@ module _ (origin : Origin) (store : Store) (printed : Printed) (result : Status)
   }
 
 -- the refusal of a store that stands for a device
-pub names_comes : (origin : Origin) (store : Store) (d : Device) (a : Answer) → NamesThing d a → IsUnchanged store → (IsTrue store.is_modelled → HasEntry store.before × Stands store.before d) → Inits origin store a
-names_comes origin store d (Initialised thing) names same found = (same, λ is_modelled. let f = found is_modelled in record { some = f.0; device = d; stands = f.1; origin = names.0; origin_is = names.1; thing_is = names.2 })
+pub names_comes : (origin : Origin) (store : Store) (d : Device) (a : Answer) → NamesThing d a → IsUnchanged store →
+    (IsTrue store.is_modelled → HasEntry store.before × Stands store.before d) → Inits origin store a
+names_comes origin store d (Initialised thing) names same found = (
+  same,
+  λ is_modelled. let f = found is_modelled in record {
+    some = f.0;
+    device = d;
+    stands = f.1;
+    origin = names.0;
+    origin_is = names.1;
+    thing_is =
+        names.2;
+  },
+)
 names_comes origin store d NoMemory names same found = same
 names_comes origin store d a names same found = absurd names
 
-pub names_keeps : (order : Order) (images : Image → Type 0) (seen : Image) (d : Device) (a : Answer) → NamesThing d a → status_of a ≡ status.Done → IsDurable order images seen
+pub names_keeps : (order : Order) (images : Image → Type 0) (seen : Image) (d : Device) (a : Answer) → NamesThing d a → status_of a ≡ status.Done →
+    IsDurable order images seen
 names_keeps order images seen d (Initialised thing) names done = cc
 names_keeps order images seen d NoMemory names done = cc
 names_keeps order images seen d a names done = absurd names

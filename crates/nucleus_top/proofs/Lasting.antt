@@ -1,5 +1,6 @@
 -- Nothing that was taken is lost along a run.
-use Rattle.std.proofs.Common.{◌≡◌, ◌∙◌, inl, inr, ℕ, Bool, true, false, List, [], ◌∷◌, ◌++◌, Option, Some, None, refl, sym, ap, subst, append-nil, append_assoc, ◌<◌, length, length-append, arith}
+use Rattle.std.proofs.Common.{◌≡◌, ◌∙◌, inl, inr, ℕ, Bool, true, false, List, [], ◌∷◌, ◌++◌, Option, Some, None, refl, sym, ap, subst, append-nil}
+use Rattle.std.proofs.Common.{append_assoc, ◌<◌, length, length-append, arith}
 use Rattle.std.specs.Prelude.{if◌then◌else◌, option_map}
 use Rattle.std.specs.Map.{lookup}
 use Rattle.std.specs.Option.{IsSome, IsSomeAnd}
@@ -92,11 +93,13 @@ loses_on a b c first second = record {
 
 pub runs_lose_nothing : (d e : Device) (records : List Record) → Run d records e → LosesNothing (course d) (course e)
 runs_lose_nothing d e [] along = subst (λ (x : Device). LosesNothing (course d) (course x)) (sym along) (none_loses (course d))
-runs_lose_nothing d e (r ∷ records) along = loses_on (course d) (course along.0) (course e) (one_loses d along.0 r along.1) (runs_lose_nothing along.0 e records along.2)
+runs_lose_nothing d e (r ∷ records) along = loses_on (course d) (course along.0) (course e) (one_loses d along.0 r along.1)
+    (runs_lose_nothing along.0 e records along.2)
 
 pub runs_take : (d e : Device) (before after : List Record) (plan : Plan) → Run d (before ++ Accepted plan ∷ after) e → IsTaken plan.id (course e)
 runs_take d e [] after plan along =
-    (runs_lose_nothing along.0 e after along.2).taken plan.id (subst (λ (c : Course). IsTaken plan.id c) (sym (one d along.0 (Accepted plan) along.1)) (inl refl))
+    (runs_lose_nothing along.0 e after along.2).taken plan.id (subst (λ (c : Course). IsTaken plan.id c) (sym (one d along.0 (Accepted plan) along.1))
+    (inl refl))
 runs_take d e (r ∷ before) after plan along = runs_take along.0 e before after plan along.2
 
 -- ---- a close

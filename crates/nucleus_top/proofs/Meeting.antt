@@ -37,19 +37,22 @@ once_brings d (Accepted p ∷ records) once = let never : true ≡ false = once.
 once_brings d (r ∷ records) once = (tt, once_brings (applied d r) records once.1)
 
 -- a call that resumes: there is nothing to resume, or one was taken before
-pub resumed_brings : (d : Device) (o : Option Pending) (ending : Ending) (h : List TraceEvent) (q : SessionState) → ResumesBy o ending → Ends ending h q → TakesOnce (is_some o) (records_of h) → BringMet d (records_of h)
+pub resumed_brings : (d : Device) (o : Option Pending) (ending : Ending) (h : List TraceEvent) (q : SessionState) → ResumesBy o ending → Ends ending h q →
+    TakesOnce (is_some o) (records_of h) → BringMet d (records_of h)
 resumed_brings d None ending h q resumes ends once =
     let none : h ≡ [] = (subst (λ (e : Ending). Ends e h q) resumes ends).0 in
     subst (λ (l : List TraceEvent). BringMet d (records_of l)) (sym none) tt
 resumed_brings d (Some p) ending h q resumes ends once = once_brings d (records_of h) once
 
-module _ (law : TakenAreMet) (d : Device) (o : Origin) (content : Option Content) (before after : ℕ) (bytes : List ℕ) (sound : IsSound d) (start : ℕ → ℕ) (ending : Ending) (records : List Record) where
+module _ (law : TakenAreMet) (d : Device) (o : Origin) (content : Option Content) (before after : ℕ) (bytes : List ℕ) (sound : IsSound d) (start : ℕ → ℕ)
+    (ending : Ending) (records : List Record) where
   begun_brings : (plan : Plan) → BringsMet d (Accepted plan) → Begins start plan ending records → BringMet d records
   begun_brings plan met (inl off) = subst (BringMet d) (sym off.1) tt
   begun_brings plan met (inr on) = subst (BringMet d) (sym on.2.1) (met, once_brings (applied d (Accepted plan)) on.2.0 on.2.2)
 
   -- one that deploys: the plan of its document, and no other
-  pub deployed_brings : (taken : Result code.Plan Declined) → TakesRead d o content before after bytes taken → Follows start taken ending records → BringMet d records
+  pub deployed_brings : (taken : Result code.Plan Declined) → TakesRead d o content before after bytes taken → Follows start taken ending records →
+      BringMet d records
   deployed_brings (Err a) takes follows = subst (BringMet d) (sym follows.1) tt
   deployed_brings (Ok plan) (inl memory) follows = cc
   deployed_brings (Ok plan) (inr (inl fault)) follows = let wrong = fault.2 in cc

@@ -12,14 +12,16 @@ use Rattle.nucleus_top.specs.declared.answer.Answer.TheVariants.{NoMemory}
 pub one_order : AsksOnce → (words : List (List ℕ)) (a b : Order) → Asks words a → Asks words b → a ≡ b
 one_order once words a b x y = (once words x.root y.root a b x.is_order y.is_order).1
 
-memory_of : (order : Order) (store : Store) (input : Input) (library : Shelf) → DrivesNone order → IsUnchanged store → ComesOf order store input library NoMemory
+memory_of : (order : Order) (store : Store) (input : Input) (library : Shelf) → DrivesNone order → IsUnchanged store →
+    ComesOf order store input library NoMemory
 memory_of (Init o) store input library built same = same
 memory_of (Status json) store input library built same = same
 memory_of Plan store input library built same = same
 memory_of Audit store input library built same = same
 memory_of _ store input library built same = absurd built
 
-pub comes_of : AsksOnce → (words : List (List ℕ)) (order : Order) (store : Store) (input : Input) (library : Shelf) (a : Answer) → Asks words order → Comes words store input library a → ComesOf order store input library a
+pub comes_of : AsksOnce → (words : List (List ℕ)) (order : Order) (store : Store) (input : Input) (library : Shelf) (a : Answer) → Asks words order →
+    Comes words store input library a → ComesOf order store input library a
 comes_of once words order store input library a is (inl comes) =
     subst (λ (o : Order). ComesOf o store input library a) (one_order once words comes.0 order comes.1 is) comes.2
 comes_of once words order store input library a is (inr (inl wrong)) = absurd (wrong.1 order is)

@@ -10,12 +10,14 @@ use Rattle.nucleus_top.proofs.Standing.{none_stands, same_device}
 use Rattle.plan_core.specs.declared.fault.Refusal.{Refusal}
 use Rattle.plan_core.specs.declared.fault.Refusal.TheVariants.{Repeated}
 use Rattle.refusal_lines.specs.Lines.{refusal_line}
-use Rattle.nucleus_top.specs.Answers.{Store, Input, Shelf, Printed, Told, IsUnchanged, Prints, Expects, none_line, damaged_line, pending_line, library_line, status_of, lines_of}
+use Rattle.nucleus_top.specs.Answers.{Store, Input, Shelf, Printed, Told, IsUnchanged, Prints, Expects, none_line, damaged_line, pending_line, library_line}
+use Rattle.nucleus_top.specs.Answers.{status_of, lines_of}
 use Rattle.nucleus_top.specs.Opening.{Stands, HasEntry, StandsForNone}
 use Rattle.nucleus_top.specs.Inits.{IsRefusedAt}
 use Rattle.nucleus_top.specs.Planning.{IsProposed, IsFound, Plans, IsPlanPrinted, IsClosePrinted, IsPending, PlanParts}
 use Rattle.nucleus_top.specs.declared.answer.Answer.{Answer}
-use Rattle.nucleus_top.specs.declared.answer.Answer.TheVariants.{Made, Shown, Planned, Unplanned, Whole, Pending, DiskFailed, SourceFailed, LibraryFailed, NotInitialised, Damaged, NoMemory}
+use Rattle.nucleus_top.specs.declared.answer.Answer.TheVariants.{Made, Shown, Planned, Unplanned, Whole, Pending, DiskFailed, SourceFailed, LibraryFailed}
+use Rattle.nucleus_top.specs.declared.answer.Answer.TheVariants.{NotInitialised, Damaged, NoMemory}
 use Rattle.nucleus_top.proofs.Unrefused.{no_refusal, only_successful}
 
 module _ (store : Store) (input : Input) (library : Shelf) (printed : Printed) (result : Status) where
@@ -31,7 +33,8 @@ module _ (store : Store) (input : Input) (library : Shelf) (printed : Printed) (
   reads_only NoMemory comes = comes
   reads_only a comes = comes.0
 
-  closed_before : (d : Device) (r : Refusal) (text : List ℕ) → IsFound store d → IsProposed d input library (Err r) → text ≡ refusal_line r → Prints printed text
+  closed_before : (d : Device) (r : Refusal) (text : List ℕ) → IsFound store d → IsProposed d input library (Err r) → text ≡ refusal_line r →
+      Prints printed text
       → (id : List ℕ) × (r ≡ Repeated id Successful) → IsClosePrinted store input library printed
   closed_before d r text found proposed text_is prints closed = (
     d,
@@ -41,7 +44,8 @@ module _ (store : Store) (input : Input) (library : Shelf) (printed : Printed) (
     subst (λ (t : List ℕ). Prints printed t) (text_is ∙ ap refusal_line closed.1) prints,
   )
 
-  done : (a : Answer) → Plans store input library a → Told printed result a → result ≡ status.Done → IsPlanPrinted store input library printed ⊎ IsClosePrinted store input library printed
+  done : (a : Answer) → Plans store input library a → Told printed result a → result ≡ status.Done → IsPlanPrinted store input library printed ⊎
+      IsClosePrinted store input library printed
   done (Made thing) comes (inl told) is = absurd comes.1.2
   done (Shown text) comes (inl told) is = absurd comes.1.2
   done Whole comes (inl told) is = absurd comes.1.2
@@ -59,7 +63,15 @@ module _ (store : Store) (input : Input) (library : Shelf) (printed : Printed) (
   pending (Pending id) comes (inl told) is =
       let on = comes.1.2 in (
         id,
-        λ is_modelled. record { some = (comes.1.1 is_modelled).0; device = comes.1.0; stands = (comes.1.1 is_modelled).1; plan = on.1.0; pending = on.1.1; id_is = on.1.2 },
+        λ is_modelled. record {
+          some = (comes.1.1 is_modelled).0;
+          device = comes.1.0;
+          stands = (comes.1.1 is_modelled).1;
+          plan = on.1.0;
+          pending =
+              on.1.1;
+          id_is = on.1.2;
+        },
         on.0,
         told.1,
       )
@@ -78,7 +90,8 @@ module _ (store : Store) (input : Input) (library : Shelf) (printed : Printed) (
       → (d : Device) → Stands store.before d → (q : PendingPlan) → d.pending ≡ Some q → Expects result status.PendingStands
   pending_comes a comes (inr told) is_modelled some d stands q is = inr (inr (inl told.0))
   pending_comes (Planned text) comes (inl told) is_modelled some d stands q is = absurd (busy d comes.1.0 q is_modelled comes.1.1 comes.1.2.1.idle stands is)
-  pending_comes (Unplanned r text) comes (inl told) is_modelled some d stands q is = absurd (busy d comes.1.0 q is_modelled comes.1.1 comes.1.2.0.idle stands is)
+  pending_comes (Unplanned r text) comes (inl told) is_modelled some d stands q is =
+      absurd (busy d comes.1.0 q is_modelled comes.1.1 comes.1.2.0.idle stands is)
   pending_comes LibraryFailed comes (inl told) is_modelled some d stands q is = absurd (busy d comes.1.0 q is_modelled comes.1.1 comes.1.2.0.idle stands is)
   pending_comes (Pending id) comes (inl told) is_modelled some d stands q is = inr (inl told.0)
   pending_comes DiskFailed comes (inl told) is_modelled some d stands q is = inl told.0
@@ -88,19 +101,22 @@ module _ (store : Store) (input : Input) (library : Shelf) (printed : Printed) (
   pending_comes NoMemory comes (inl told) is_modelled some d stands q is = inr (inr (inr told.0))
   pending_comes a comes (inl told) is_modelled some d stands q is = absurd comes.1.2
 
-  given : (a : Answer) → Plans store input library a → Told printed result a → result ≡ status.Library → Rose library.faults_before library.faults_after × Prints printed library_line
+  given : (a : Answer) → Plans store input library a → Told printed result a → result ≡ status.Library → Rose library.faults_before library.faults_after ×
+      Prints printed library_line
   given LibraryFailed comes (inl told) is = (comes.1.2.1, told.1)
   given (Unplanned r text) comes (inl told) is = absurd (comes.1.2.2 (sym told.0 ∙ is))
   given a comes (inl told) is = cc
   given a comes (inr told) is = cc
 
-  none : (a : Answer) → Plans store input library a → Told printed result a → result ≡ status.NotInitialised → (IsTrue store.is_modelled → slots_none store.before) × Prints printed none_line
+  none : (a : Answer) → Plans store input library a → Told printed result a → result ≡ status.NotInitialised →
+      (IsTrue store.is_modelled → slots_none store.before) × Prints printed none_line
   none NotInitialised comes (inl told) is = (comes.1, told.1)
   none (Unplanned r text) comes (inl told) is = absurd (no_refusal r status.NotInitialised refl (sym told.0 ∙ is))
   none a comes (inl told) is = cc
   none a comes (inr told) is = cc
 
-  none_comes : (a : Answer) → Plans store input library a → Told printed result a → IsTrue store.is_modelled → slots_none store.before → Expects result status.NotInitialised
+  none_comes : (a : Answer) → Plans store input library a → Told printed result a → IsTrue store.is_modelled → slots_none store.before →
+      Expects result status.NotInitialised
   none_comes a comes (inr told) is_modelled holds_none = inr (inr (inl told.0))
   none_comes DiskFailed comes (inl told) is_modelled holds_none = inl told.0
   none_comes SourceFailed comes (inl told) is_modelled holds_none = inr (inr (inl told.0))
@@ -109,13 +125,15 @@ module _ (store : Store) (input : Input) (library : Shelf) (printed : Printed) (
   none_comes NoMemory comes (inl told) is_modelled holds_none = inr (inr (inr told.0))
   none_comes a comes (inl told) is_modelled holds_none = absurd ((comes.1.1 is_modelled).0 holds_none)
 
-  damaged : (a : Answer) → Plans store input library a → Told printed result a → result ≡ status.Damaged → (place : List ℕ) × IsRefusedAt store place × Prints printed (damaged_line place)
+  damaged : (a : Answer) → Plans store input library a → Told printed result a → result ≡ status.Damaged → (place : List ℕ) × IsRefusedAt store place ×
+      Prints printed (damaged_line place)
   damaged (Damaged place) comes (inl told) is = (place, comes, told.1)
   damaged (Unplanned r text) comes (inl told) is = absurd (no_refusal r status.Damaged refl (sym told.0 ∙ is))
   damaged a comes (inl told) is = cc
   damaged a comes (inr told) is = cc
 
-  damaged_comes : (a : Answer) → Plans store input library a → Told printed result a → IsTrue store.is_modelled → StandsForNone store.before → Expects result status.Damaged
+  damaged_comes : (a : Answer) → Plans store input library a → Told printed result a → IsTrue store.is_modelled → StandsForNone store.before →
+      Expects result status.Damaged
   damaged_comes a comes (inr told) is_modelled refuses = inr (inr (inl told.0))
   damaged_comes DiskFailed comes (inl told) is_modelled refuses = inl told.0
   damaged_comes SourceFailed comes (inl told) is_modelled refuses = inr (inr (inl told.0))

@@ -32,8 +32,10 @@ prefix (f ∷ front) rest (t ∷ told) r few is =
     (more.0, ap (λ (x : Record). x ∷ front) heads ∙ ap (λ (l : List Record). t ∷ l) more.1)
 
 -- a front that has what was told
-told_front : (d : Device) (c : Image) (records told rest before after : List Record) (plan : Plan) → records ≡ told ++ rest → length rest ≤ 1 → told ≡ before ++ Accepted plan ∷ after
-    → (rest ≡ [] → (e : Device) × Run d records e × Stands c e) → StandsForMost slots_entries d records c → (e : Device) × Stands c e × IsTaken plan.id (course e)
+told_front : (d : Device) (c : Image) (records told rest before after : List Record) (plan : Plan) → records ≡ told ++ rest → length rest ≤ 1 →
+    told ≡ before ++ Accepted plan ∷ after
+    → (rest ≡ [] → (e : Device) × Run d records e × Stands c e) → StandsForMost slots_entries d records c → (e : Device) × Stands c e ×
+    IsTaken plan.id (course e)
 told_front d c records told [] before after plan split few is whole most =
     let all = whole refl in
     let same : records ≡ before ++ Accepted plan ∷ after = split ∙ append-nil told ∙ is in
@@ -45,8 +47,10 @@ told_front d c records told (r ∷ []) before after plan split few is whole most
     (most.device, most.stands, runs_take d most.device before (after ++ more.0) plan (subst (λ (l : List Record). Run d l most.device) same most.run))
 told_front d c records told (r ∷ s ∷ rest) before after plan split few is whole most = absurd (omega (arith, few))
 
-pub call_lasts : {D : Type 0} (may_leave : D → Image → Type 0) (moment : D → ℕ) (left_since : D → ℕ → Image → Type 0) (old new : D) (old_list new_list : Option (List RunnerEntry)) (old_held new_held : Option (List ℕ)) (p : SessionState) (status : Status)
-    → (call : Call slots_entries slots_files may_leave moment left_since old new old_list new_list old_held new_held p status) → Lasts (may_leave new) call.prints.told
+pub call_lasts : {D : Type 0} (may_leave : D → Image → Type 0) (moment : D → ℕ) (left_since : D → ℕ → Image → Type 0) (old new : D)
+    (old_list new_list : Option (List RunnerEntry)) (old_held new_held : Option (List ℕ)) (p : SessionState) (status : Status)
+    → (call : Call slots_entries slots_files may_leave moment left_since old new old_list new_list old_held new_held p status) →
+    Lasts (may_leave new) call.prints.told
 call_lasts may_leave moment left_since old new old_list new_list old_held new_held p status call before after plan is c left =
     told_front p.device c (records_of call.history) call.prints.told call.prints.rest before after plan call.prints.split call.prints.few is
     (λ none. ((state_after p call.history).device, call.trace.run, call.prints.stable none c left)) (call.stands c left)

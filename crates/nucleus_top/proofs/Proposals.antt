@@ -52,15 +52,18 @@ module _ (whole front : List ℕ) (is : front ≡ take 524289 whole) (long : 524
 
 module _ (d : Device) (origin : Origin) (content : Option Content) (before after : ℕ) (result : Result Draft Refusal) where
   -- the first 524,289 bytes are enough
-  whole_comes : (whole front : List ℕ) → front ≡ take 524289 whole → ProposesRead d origin content before after front result → ProposesRead d origin content before after whole result
+  whole_comes : (whole front : List ℕ) → front ≡ take 524289 whole → ProposesRead d origin content before after front result → ProposesRead d origin
+      content before after whole result
   whole_comes whole front is comes =
       elim (cases_lt 524288 (length whole)) [
         | inl long ↦ (comes.0, comes.1, comes.2, comes_of_long whole front is long (facts d origin content before after comes.0 comes.1 comes.2) result comes.3)
-        | inr short ↦ subst (λ (bytes : List ℕ). ProposesRead d origin content before after bytes result) (is ∙ take_all 524289 whole (omega (arith, short))) comes
+        | inr short ↦ subst (λ (bytes : List ℕ). ProposesRead d origin content before after bytes result) (is ∙ take_all 524289 whole (omega (arith, short)))
+            comes
       ]
 
   -- the whole document, where the source tells it, or what was read
-  pub document_comes : (left : Option (List ℕ)) (front : List ℕ) → IfSome left (λ whole. front ≡ take 524289 whole) → ProposesRead d origin content before after front result
+  pub document_comes : (left : Option (List ℕ)) (front : List ℕ) → IfSome left (λ whole. front ≡ take 524289 whole) → ProposesRead d origin
+      content before after front result
       → (bytes : List ℕ) × ((whole : List ℕ) → left ≡ Some whole → bytes ≡ whole) × ProposesRead d origin content before after bytes result
   document_comes None front is comes = (front, λ whole told. cc, comes)
   document_comes (Some document) front is comes = (document, λ whole told. cc, whole_comes document front is comes)
@@ -78,7 +81,8 @@ pub proposed : (d : Device) (input : Input) (library : Shelf) (front : List ℕ)
     → IsProposed d input library result
 proposed d input library front result some idle is comes =
     let origin = some_of d.origin some in
-    let document = document_comes d origin.0 library.content library.faults_before library.faults_after result input.document front is (comes origin.0 origin.1) in
+    let document = document_comes d origin.0 library.content library.faults_before library.faults_after result input.document front is
+    (comes origin.0 origin.1) in
     record {
       idle = idle;
       origin = origin.0;
@@ -102,7 +106,8 @@ told_on d input library (Err refusal) LibraryFailed proposal cause is_modelled =
 told_on d input library (Err refusal) NoMemory proposal cause is_modelled = tt
 told_on d input library (Err refusal) a proposal cause is_modelled = absurd is_modelled
 
-failed : (refusal : Refusal) (result : Result Draft Refusal) → result ≡ Err refusal → IsErrOf result (Candidates gather.Library) → status_of_refusal refusal ≡ status.Library
+failed : (refusal : Refusal) (result : Result Draft Refusal) → result ≡ Err refusal → IsErrOf result (Candidates gather.Library) →
+    status_of_refusal refusal ≡ status.Library
 failed refusal result refused is = let same : refusal ≡ Candidates gather.Library = cc in ap status_of_refusal same
 
 pub told_still : (library : Shelf) (result : Result Draft Refusal) (a : Answer) → Tells result a
@@ -115,12 +120,14 @@ told_still library (Err refusal) a is_modelled quiet = absurd is_modelled
 
 -- ---- any device
 
-pub pending_on : (d : Device) (input : Input) (library : Shelf) (q : PendingPlan) (a : Answer) → d.pending ≡ Some q → input.rest ≡ input.document → NamesPending q.plan.id a → PlansOn d input library a
+pub pending_on : (d : Device) (input : Input) (library : Shelf) (q : PendingPlan) (a : Answer) → d.pending ≡ Some q → input.rest ≡ input.document →
+    NamesPending q.plan.id a → PlansOn d input library a
 pending_on d input library q (Pending id) is same names = (same, (q, is, names))
 pending_on d input library q NoMemory is same names = tt
 pending_on d input library q a is same names = absurd names
 
-pub found_comes : (store : Store) (input : Input) (library : Shelf) (d : Device) (a : Answer) → IsUnchanged store → IsFound store d → PlansOn d input library a → Plans store input library a
+pub found_comes : (store : Store) (input : Input) (library : Shelf) (d : Device) (a : Answer) → IsUnchanged store → IsFound store d →
+    PlansOn d input library a → Plans store input library a
 found_comes store input library d DiskFailed same found on = absurd on
 found_comes store input library d NotInitialised same found on = absurd on
 found_comes store input library d (Damaged place) same found on = absurd on

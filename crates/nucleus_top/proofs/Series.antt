@@ -16,7 +16,8 @@ use Rattle.session_boots.proofs.Prefixes.{none_most, run_on}
 use Rattle.nucleus_top.specs.Begun.{Begins, IsNoneOrBegun, begun_device}
 use Rattle.nucleus_top.specs.Opening.{Stands}
 use Rattle.nucleus_top.specs.Crashes.{AllowedOrPrefix, AllowedOrSame}
-use Rattle.nucleus_top.specs.Series.{AllStayMet, AreKept, DrivesEnd, DrivesGoOn, Follow, IsFrontOf, IsLeftOn, IsReached, LeftAs, LeftBy, Made, TurnedEnd, TurnedGoOn, keeps_none, stopped}
+use Rattle.nucleus_top.specs.Series.{AllStayMet, AreKept, DrivesEnd, DrivesGoOn, Follow, IsFrontOf, IsLeftOn, IsReached, LeftAs, LeftBy, Made, TurnedEnd}
+use Rattle.nucleus_top.specs.Series.{TurnedGoOn, keeps_none, stopped}
 use Rattle.nucleus_top.proofs.Crashes.{means_sound}
 use Rattle.nucleus_top.proofs.Lasting.{runs_lose_nothing}
 use Rattle.nucleus_top.proofs.Standing.{none_stands, same_device}
@@ -73,11 +74,19 @@ module _ (d : Device) (c : Made) (before : List Made) (image : Image) where
   -- the image was there before it
   unmoved : IsReached d before image → (IsTrue c.ended → ⊥) → IsReached d (c ∷ before) image
   unmoved was inside =
-      reached d (c ∷ before) image was.kept was.device (was.kept, [], c.records, was.are, record { split = refl; few = λ ended. absurd (inside ended) }, sym (append-nil was.kept)) was.stands was.run
+      reached d (c ∷ before) image was.kept was.device (
+        was.kept,
+        [],
+        c.records,
+        was.are,
+        record { split = refl; few = λ ended. absurd (inside ended) },
+        sym (append-nil was.kept),
+      ) was.stands was.run
       (λ met each. was.met met each.1)
 
   -- a front of its records was kept
-  moved : (start : Image) → IsReached d before start → Stands start c.device → (front rest : List Record) (device : Device) → IsFrontOf c front rest → Run c.device front device → Stands image device
+  moved : (start : Image) → IsReached d before start → Stands start c.device → (front rest : List Record) (device : Device) → IsFrontOf c front rest →
+      Run c.device front device → Stands image device
       → IsReached d (c ∷ before) image
   moved start was stood front rest device is along stands =
       let same : was.device ≡ c.device = same_device start was.device c.device was.stands stood in
@@ -85,17 +94,20 @@ module _ (d : Device) (c : Made) (before : List Made) (image : Image) where
       (run_on d was.kept c.device front device (subst (λ (e : Device). Run d was.kept e) same was.run) along)
       (λ met each. each.0 (subst Met same (was.met met each.1)) front rest device is.split along)
 
-  reach_on : ((i : Image) → LeftBy d before i → IsReached d before i) → (start : Image) → LeftBy d before start → Stands start c.device → (ended : Bool) → c.ended ≡ ended
+  reach_on : ((i : Image) → LeftBy d before i → IsReached d before i) → (start : Image) → LeftBy d before start → Stands start c.device → (ended : Bool) →
+      c.ended ≡ ended
       → LeftAs ended (LeftBy d before) c.device c.records image → IsReached d (c ∷ before) image
   reach_on was start first stood true is left =
       moved start (was start first) stood left.front left.rest left.device (record { split = left.split; few = λ ended. left.few }) left.run left.stands
   reach_on was start first stood false is (inl left) = unmoved (was image left) (λ ended. false≢true (sym is ∙ ended))
   reach_on was start first stood false is (inr left) =
-      moved start (was start first) stood left.front left.rest left.device (record { split = left.split; few = λ ended. absurd (false≢true (sym is ∙ ended)) }) left.run left.stands
+      moved start (was start first) stood left.front left.rest left.device
+      (record { split = left.split; few = λ ended. absurd (false≢true (sym is ∙ ended)) }) left.run left.stands
 
 pub calls_reach : (d : Device) (calls : List Made) (image : Image) → Follow d calls → LeftBy d calls image → IsReached d calls image
 calls_reach d [] image follow left = reached d [] image [] d refl left refl (λ met each. met)
-calls_reach d (c ∷ before) image follow left = reach_on d c before image (λ i was. calls_reach d before i follow.0 was) follow.1.0 follow.1.1 follow.1.2 c.ended refl left
+calls_reach d (c ∷ before) image follow left = reach_on d c before image (λ i was. calls_reach d before i follow.0 was) follow.1.0 follow.1.1 follow.1.2
+    c.ended refl left
 
 -- ---- the calls of a disk
 
@@ -105,7 +117,8 @@ module _ {D : Type 0} {is_modelled : Bool} {seen : D → Image} {may_leave : D �
   drives_go_on d e before records old new begins leaves =
       let call : Made = stopped e records in (
         (begins.follow, (begins.start, begins.left begins.start begins.is_one, begins.stands)),
-        weaker laws old new (AllowedOrPrefix (may_leave old) e records) (LeftBy d (call ∷ before)) (λ c was. ⊎_elim (λ left. inl (begins.left c left)) (λ front. inr front) was) leaves,
+        weaker laws old new (AllowedOrPrefix (may_leave old) e records) (LeftBy d (call ∷ before))
+            (λ c was. ⊎_elim (λ left. inl (begins.left c left)) (λ front. inr front) was) leaves,
       )
 
   pub turned_go_on : TurnedGoOn may_leave moment left_since seen

@@ -16,7 +16,16 @@ use Rattle.nucleus_top.proofs.Told.{told_of}
 -- the text of the device for which the journal stands
 pub found_shows : (json : Bool) (store : Store) (d : Device) (a : Answer) → ShowsDevice json d a → IsUnchanged store
     → (IsTrue store.is_modelled → HasEntry store.before × Stands store.before d) → Shows json store a
-found_shows json store d (Shown text) shows same found = (same, λ is_modelled. record { some = (found is_modelled).0; device = d; stands = (found is_modelled).1; text_is = shows })
+found_shows json store d (Shown text) shows same found = (
+  same,
+  λ is_modelled. record {
+    some = (found is_modelled).0;
+    device = d;
+    stands =
+        (found is_modelled).1;
+    text_is = shows;
+  },
+)
 found_shows json store d NoMemory shows same found = same
 found_shows json store d a shows same found = absurd shows
 
@@ -29,7 +38,8 @@ module _ (json : Bool) (store : Store) (printed : Printed) (result : Status) whe
   reads_only NoMemory comes = comes
   reads_only a comes = absurd comes
 
-  done : (a : Answer) → Shows json store a → Told printed result a → result ≡ status.Done → (text : List ℕ) × (IsTrue store.is_modelled → IsShown store.before json text) × Prints printed text
+  done : (a : Answer) → Shows json store a → Told printed result a → result ≡ status.Done → (text : List ℕ) ×
+      (IsTrue store.is_modelled → IsShown store.before json text) × Prints printed text
   done (Made thing) comes (inl told) is = absurd comes
   done (Shown text) comes (inl told) is = (text, comes.1, told.1)
   done (Planned text) comes (inl told) is = absurd comes
@@ -38,7 +48,8 @@ module _ (json : Bool) (store : Store) (printed : Printed) (result : Status) whe
   done a comes (inl told) is = cc
   done a comes (inr told) is = cc
 
-  done_comes : (a : Answer) → Shows json store a → Told printed result a → IsTrue store.is_modelled → HasEntry store.before → (d : Device) → Stands store.before d → Expects result status.Done
+  done_comes : (a : Answer) → Shows json store a → Told printed result a → IsTrue store.is_modelled → HasEntry store.before → (d : Device) →
+      Stands store.before d → Expects result status.Done
   done_comes a comes (inr told) is_modelled some d stands = inr (inr (inl told.0))
   done_comes (Shown text) comes (inl told) is_modelled some d stands = inr (inl told.0)
   done_comes DiskFailed comes (inl told) is_modelled some d stands = inl told.0
@@ -47,13 +58,15 @@ module _ (json : Bool) (store : Store) (printed : Printed) (result : Status) whe
   done_comes NoMemory comes (inl told) is_modelled some d stands = inr (inr (inr told.0))
   done_comes a comes (inl told) is_modelled some d stands = absurd comes
 
-  none : (a : Answer) → Shows json store a → Told printed result a → result ≡ status.NotInitialised → (IsTrue store.is_modelled → slots_none store.before) × Prints printed none_line
+  none : (a : Answer) → Shows json store a → Told printed result a → result ≡ status.NotInitialised → (IsTrue store.is_modelled → slots_none store.before) ×
+      Prints printed none_line
   none NotInitialised comes (inl told) is = (comes.1, told.1)
   none (Unplanned r text) comes (inl told) is = absurd comes
   none a comes (inl told) is = cc
   none a comes (inr told) is = cc
 
-  none_comes : (a : Answer) → Shows json store a → Told printed result a → IsTrue store.is_modelled → slots_none store.before → Expects result status.NotInitialised
+  none_comes : (a : Answer) → Shows json store a → Told printed result a → IsTrue store.is_modelled → slots_none store.before →
+      Expects result status.NotInitialised
   none_comes a comes (inr told) is_modelled holds_none = inr (inr (inl told.0))
   none_comes (Shown text) comes (inl told) is_modelled holds_none = absurd ((comes.1 is_modelled).some holds_none)
   none_comes DiskFailed comes (inl told) is_modelled holds_none = inl told.0
@@ -62,13 +75,15 @@ module _ (json : Bool) (store : Store) (printed : Printed) (result : Status) whe
   none_comes NoMemory comes (inl told) is_modelled holds_none = inr (inr (inr told.0))
   none_comes a comes (inl told) is_modelled holds_none = absurd comes
 
-  damaged : (a : Answer) → Shows json store a → Told printed result a → result ≡ status.Damaged → (place : List ℕ) × IsRefusedAt store place × Prints printed (damaged_line place)
+  damaged : (a : Answer) → Shows json store a → Told printed result a → result ≡ status.Damaged → (place : List ℕ) × IsRefusedAt store place ×
+      Prints printed (damaged_line place)
   damaged (Damaged place) comes (inl told) is = (place, comes, told.1)
   damaged (Unplanned r text) comes (inl told) is = absurd comes
   damaged a comes (inl told) is = cc
   damaged a comes (inr told) is = cc
 
-  damaged_comes : (a : Answer) → Shows json store a → Told printed result a → IsTrue store.is_modelled → StandsForNone store.before → Expects result status.Damaged
+  damaged_comes : (a : Answer) → Shows json store a → Told printed result a → IsTrue store.is_modelled → StandsForNone store.before →
+      Expects result status.Damaged
   damaged_comes a comes (inr told) is_modelled refuses = inr (inr (inl told.0))
   damaged_comes (Shown text) comes (inl told) is_modelled refuses = absurd (refuses (comes.1 is_modelled).device (comes.1 is_modelled).stands)
   damaged_comes DiskFailed comes (inl told) is_modelled refuses = inl told.0

@@ -25,9 +25,11 @@ module _ {D : Type 0} {is_modelled : Bool} {seen : D → Image} {may_leave : D �
     (laws : DiskLaws is_modelled seen may_leave moment left_since) where
   -- ---- behind a call that keeps no record
 
-  theirs_on : (old mid : D) → Leaves moment left_since old mid (AllowedOrSameWhole (may_leave old) (seen old)) → AllHoldTheirs (may_leave old) → AllHoldTheirs (may_leave mid)
+  theirs_on : (old mid : D) → Leaves moment left_since old mid (AllowedOrSameWhole (may_leave old) (seen old)) → AllHoldTheirs (may_leave old) →
+      AllHoldTheirs (may_leave mid)
   theirs_on old mid kept theirs c left d stands =
-      ⊎_elim (λ allowed. theirs c allowed d stands) (λ w. subst (λ (e : Device). HoldsDevice c e) (same_device c w.0 d w.2 stands) w.3) (now laws old mid (AllowedOrSameWhole (may_leave old) (seen old)) kept c left)
+      ⊎_elim (λ allowed. theirs c allowed d stands) (λ w. subst (λ (e : Device). HoldsDevice c e) (same_device c w.0 d w.2 stands) w.3)
+      (now laws old mid (AllowedOrSameWhole (may_leave old) (seen old)) kept c left)
 
   -- with a device in hand
   pub theirs_hold : (disk : D) (d : Device) → ((c : Image) → may_leave disk c → Stands c d) → AllHoldTheirs (may_leave disk) → AllHoldDevice (may_leave disk) d
@@ -37,23 +39,34 @@ module _ {D : Type 0} {is_modelled : Bool} {seen : D → Image} {may_leave : D �
   same_kept old new leaves theirs = weaker laws old new (may_leave old) (AllowedOrSameWhole (may_leave old) (seen old)) (λ c left. inl left) leaves
 
   -- the journal is opened, and stray files are swept
-  pub opened_whole : LieElsewhere slots_files → (old opened new : D) (s : Loaded Slots) → Leaves moment left_since old opened (may_leave old) → (IsTrue is_modelled → Stands (seen old) (loaded_device s))
+  pub opened_whole : LieElsewhere slots_files → (old opened new : D) (s : Loaded Slots) → Leaves moment left_since old opened (may_leave old) →
+      (IsTrue is_modelled → Stands (seen old) (loaded_device s))
       → OwnsLoaded is_modelled may_leave slots_stands (λ log. log.live.end) s opened → ChangesArtifactsAlone may_leave moment left_since opened new
-      → (AllHoldDevice (may_leave opened) (loaded_device s) → Leaves moment left_since opened new (λ c. HoldsDevice c (loaded_device s))) → KeepsSameWhole may_leave moment left_since seen old new
+      → (AllHoldDevice (may_leave opened) (loaded_device s) → Leaves moment left_since opened new (λ c. HoldsDevice c (loaded_device s))) →
+      KeepsSameWhole may_leave moment left_since seen old new
   opened_whole apart old opened new s opening stands held spared safe theirs =
       let d = loaded_device s in
-      let there : AllHoldDevice (may_leave opened) d = λ c left. theirs c (now laws old opened (may_leave old) opening c left) d (loaded_stands laws s opened held c left) in
-      joined laws old opened new (may_leave old) (λ c. After (may_leave opened) (Spares (IsBelow artifacts)) c × HoldsDevice c d) (AllowedOrSameWhole (may_leave old) (seen old)) opening
+      let there : AllHoldDevice (may_leave opened) d = λ c left. theirs c (now laws old opened (may_leave old) opening c left) d
+      (loaded_stands laws s opened held c left) in
+      joined laws old opened new (may_leave old) (λ c. After (may_leave opened) (Spares (IsBelow artifacts)) c × HoldsDevice c d)
+      (AllowedOrSameWhole (may_leave old) (seen old)) opening
       (both_leave opened new (After (may_leave opened) (Spares (IsBelow artifacts))) (λ c. HoldsDevice c d) spared (safe there))
       (λ c left. inl left)
       (λ c both.
       let was = both.0 in
-      inr (d, stands (tells_of laws opened was.0 was.1), stands_stays d was.0 c (journal_stays laws apart was.0 c was.2) (loaded_stands laws s opened held was.0 was.1), both.1))
+      inr (
+        d,
+        stands (tells_of laws opened was.0 was.1),
+        stands_stays d was.0 c (journal_stays laws apart was.0 c was.2)
+            (loaded_stands laws s opened held was.0 was.1),
+        both.1,
+      ))
 
   -- ---- a call that keeps records
 
   -- of the device for which the journal stood
-  same_whole : (old new : D) (d : Device) → (IsTrue is_modelled → Stands (seen old) d) → Leaves moment left_since old new (AllowedOrSameWhole (may_leave old) (seen old)) → Leaves moment left_since old new (AllowedOrWhole (may_leave old) d [])
+  same_whole : (old new : D) (d : Device) → (IsTrue is_modelled → Stands (seen old) d) →
+      Leaves moment left_since old new (AllowedOrSameWhole (may_leave old) (seen old)) → Leaves moment left_since old new (AllowedOrWhole (may_leave old) d [])
   same_whole old new d stands leaves =
       told_weaker laws old new (AllowedOrSameWhole (may_leave old) (seen old)) (AllowedOrWhole (may_leave old) d [])
       (λ told c was. ⊎_elim (λ left. inl left)
@@ -69,7 +82,8 @@ module _ {D : Type 0} {is_modelled : Bool} {seen : D → Image} {may_leave : D �
       by (r ∷ front) is run = cc
 
   -- one behind the other
-  pub whole_on : (old mid new : D) (d : Device) (records : List Record) → (IsTrue is_modelled → Stands (seen old) d) → KeepsSameWhole may_leave moment left_since seen old mid → KeepsWhole may_leave moment left_since mid new d records
+  pub whole_on : (old mid new : D) (d : Device) (records : List Record) → (IsTrue is_modelled → Stands (seen old) d) →
+      KeepsSameWhole may_leave moment left_since seen old mid → KeepsWhole may_leave moment left_since mid new d records
       → KeepsWhole may_leave moment left_since old new d records
   whole_on old mid new d records stands first second theirs =
       joined laws old mid new (AllowedOrWhole (may_leave old) d []) (AllowedOrWhole (may_leave mid) d records) (AllowedOrWhole (may_leave old) d records) before
@@ -83,7 +97,9 @@ module _ {D : Type 0} {is_modelled : Bool} {seen : D → Image} {may_leave : D �
       more c was = ⊎_elim (λ left. inl left) (λ w. inr (longer d records c w)) was
 
   -- with the device in hand
-  pub held_whole : (old new : D) (d : Device) (records : List Record) → ((c : Image) → may_leave old c → Stands c d) → (AllHoldDevice (may_leave old) d → Leaves moment left_since old new (StandsWhole slots_entries d records))
+  pub held_whole : (old new : D) (d : Device) (records : List Record) → ((c : Image) → may_leave old c → Stands c d) →
+      (AllHoldDevice (may_leave old) d → Leaves moment left_since old new (StandsWhole slots_entries d records))
       → KeepsWhole may_leave moment left_since old new d records
   held_whole old new d records stands whole theirs =
-      weaker laws old new (StandsWhole slots_entries d records) (AllowedOrWhole (may_leave old) d records) (λ c w. inr w) (whole (theirs_hold old d stands theirs))
+      weaker laws old new (StandsWhole slots_entries d records) (AllowedOrWhole (may_leave old) d records) (λ c w. inr w)
+      (whole (theirs_hold old d stands theirs))

@@ -10,7 +10,8 @@ use Rattle.edges.specs.Pieces.{AppendsPrefix}
 use Rattle.library_core.specs.Library.{Content}
 use Rattle.refusal_lines.specs.Statuses.{status_of_refusal}
 use Rattle.nucleus_top.specs.declared.answer.Answer.{Answer}
-use Rattle.nucleus_top.specs.declared.answer.Answer.TheVariants.{Made, Shown, Planned, Unplanned, Whole, Differs, Pending, WrongWords, DiskFailed, SourceFailed, LibraryFailed, NotInitialised, Damaged, Initialised, NoMemory}
+use Rattle.nucleus_top.specs.declared.answer.Answer.TheVariants.{Made, Shown, Planned, Unplanned, Whole, Differs, Pending, WrongWords, DiskFailed}
+use Rattle.nucleus_top.specs.declared.answer.Answer.TheVariants.{SourceFailed, LibraryFailed, NotInitialised, Damaged, Initialised, NoMemory}
 
 abbrev pub status_of : Answer → Status
 status_of (Made thing) = status.Done
@@ -80,7 +81,14 @@ pub record Store : Type 0 where
   pub faults_after : ℕ
 
 abbrev pub store_of : {D : Type 0} → Bool → (D → Image) → (D → ℕ) → D → D → Store
-store_of is_modelled seen faults old new = record { is_modelled = is_modelled; before = seen old; after = seen new; faults_before = faults old; faults_after = faults new }
+store_of is_modelled seen faults old new = record {
+  is_modelled = is_modelled;
+  before = seen old;
+  after = seen new;
+  faults_before = faults old;
+  faults_after =
+      faults new;
+}
 
 -- What a call reads from: the bytes that it has left before and after. Untold bytes are None.
 pub record Input : Type 0 where

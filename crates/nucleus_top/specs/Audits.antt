@@ -70,7 +70,8 @@ pub record AuditParts (store : Store) (printed : Printed) (result : Status) : Ty
   pub done_comes : IsTrue store.is_modelled → IsWhole store.before → Expects result status.Done
   -- 20 comes exactly where some file has another, and the first of them is named with the digest found.
   pub differs : result ≡ status.Differs → (text : List ℕ) × (IsTrue store.is_modelled → IsDifferent store.before text) × Prints printed text
-  pub differs_comes : IsTrue store.is_modelled → HasEntry store.before → (d : Device) → Stands store.before d → (HoldsDevice store.before d → ⊥) → Expects result status.Differs
+  pub differs_comes : IsTrue store.is_modelled → HasEntry store.before → (d : Device) → Stands store.before d → (HoldsDevice store.before d → ⊥) →
+      Expects result status.Differs
   -- 8 comes exactly where the journal holds no entry.
   pub none : result ≡ status.NotInitialised → (IsTrue store.is_modelled → slots_none store.before) × Prints printed none_line
   pub none_comes : IsTrue store.is_modelled → slots_none store.before → Expects result status.NotInitialised

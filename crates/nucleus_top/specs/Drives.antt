@@ -144,7 +144,8 @@ pub record IsDocument (input : Input) (bytes : List ℕ) : Type 0 where
   pub whole : (document : List ℕ) → input.document ≡ Some document → bytes ≡ document
   pub quiet : input.faults_after ≡ input.faults_before
 
-module _ {D : Type 0} (may_leave : D → Image → Type 0) (moment : D → ℕ) (left_since : D → ℕ → Image → Type 0) (faults : D → ℕ) (old new : D) (old_list new_list : Option (List RunnerEntry)) (printed : Printed) (result : Status) where
+module _ {D : Type 0} (may_leave : D → Image → Type 0) (moment : D → ℕ) (left_since : D → ℕ → Image → Type 0) (faults : D → ℕ) (old new : D)
+    (old_list new_list : Option (List RunnerEntry)) (printed : Printed) (result : Status) where
   -- Nothing is pending on this device. The document is taken in on it or not, by the checks in their order, and then from the start of the call one
   -- deployment goes on by its plan, or the plan is put off. A crash leaves what a front of the records makes of the device, with
   -- all artifacts of that, where the images at the start had theirs.
@@ -178,7 +179,8 @@ module _ {D : Type 0} (may_leave : D → Image → Type 0) (moment : D → ℕ) 
 
   -- and with the device for which the journal stands, where the disk tells it
   abbrev pub IsDeployed : Store → Input → Shelf → Type 0
-  IsDeployed store input library = (d : Device) × (start : ℕ → ℕ) × IsFound store d × (IsTrue store.is_modelled → StartsFrom store.before d start) × DeploysOn d start input library
+  IsDeployed store input library = (d : Device) × (start : ℕ → ℕ) × IsFound store d × (IsTrue store.is_modelled → StartsFrom store.before d start) ×
+      DeploysOn d start input library
 
   -- ---- `resume`
 
@@ -214,8 +216,10 @@ pub record RefusedParts (store : Store) (printed : Printed) (result : Status) : 
 
 -- 4 comes exactly where a deployment is pending. The source is then left as it was.
 pub record PendingParts (store : Store) (input : Input) (printed : Printed) (result : Status) : Type 0 where
-  pub pending : result ≡ status.PendingStands → (id : List ℕ) × (IsTrue store.is_modelled → IsPending store.before id) × (input.rest ≡ input.document) × Prints printed (pending_line id)
-  pub pending_comes : IsTrue store.is_modelled → (d : Device) → Stands store.before d → (q : PendingPlan) → d.pending ≡ Some q → Expects result status.PendingStands
+  pub pending : result ≡ status.PendingStands → (id : List ℕ) × (IsTrue store.is_modelled → IsPending store.before id) × (input.rest ≡ input.document) ×
+      Prints printed (pending_line id)
+  pub pending_comes : IsTrue store.is_modelled → (d : Device) → Stands store.before d → (q : PendingPlan) → d.pending ≡ Some q →
+      Expects result status.PendingStands
 
 -- ---- faults, and files
 

@@ -59,5 +59,6 @@ pub record InitParts (origin : Origin) (store : Store) (printed : Printed) (resu
   pub damaged : result ≡ status.Damaged → (place : List ℕ) × IsRefusedAt store place × Prints printed (damaged_line place)
   pub damaged_comes : IsTrue store.is_modelled → StandsForNone store.before → Expects result status.Damaged
   -- 16 comes exactly where it has an entry and stands for a device, whose thing is named.
-  pub initialised : result ≡ status.Initialised → (thing : List ℕ) × IsUnchanged store × (IsTrue store.is_modelled → IsInitialised store.before thing) × Prints printed (initialised_line thing)
+  pub initialised : result ≡ status.Initialised → (thing : List ℕ) × IsUnchanged store × (IsTrue store.is_modelled → IsInitialised store.before thing) ×
+      Prints printed (initialised_line thing)
   pub initialised_comes : IsTrue store.is_modelled → HasEntry store.before → (d : Device) → Stands store.before d → Expects result status.Initialised

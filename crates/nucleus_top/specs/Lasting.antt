@@ -34,4 +34,5 @@ RunsCloseMore = (d e : Device) (front : List Record) (o : Outcome) → Run d (fr
 
 -- Of each plan whose acceptance is among these records, each of these images stands for a device that has it, pending or closed.
 abbrev pub Lasts : (Image → Type 0) → List Record → Type 0
-Lasts images told = (before after : List Record) (plan : Plan) → told ≡ before ++ Accepted plan ∷ after → (c : Image) → images c → (e : Device) × Stands c e × IsTaken plan.id (course e)
+Lasts images told = (before after : List Record) (plan : Plan) → told ≡ before ++ Accepted plan ∷ after → (c : Image) → images c → (e : Device) × Stands c e ×
+    IsTaken plan.id (course e)

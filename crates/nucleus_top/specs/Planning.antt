@@ -20,9 +20,11 @@ use Rattle.refusal_lines.specs.Statuses.{status_of_refusal}
 use Rattle.nucleus_top.specs.Opening.{Stands, HasEntry, StandsForNone}
 use Rattle.nucleus_top.specs.Inits.{IsRefusedAt}
 use Rattle.nucleus_top.specs.Refusing.{Refuses}
-use Rattle.nucleus_top.specs.Answers.{Store, Input, Shelf, Printed, IsUnchanged, Prints, Expects, none_line, damaged_line, pending_line, library_line, status_of, lines_of}
+use Rattle.nucleus_top.specs.Answers.{Store, Input, Shelf, Printed, IsUnchanged, Prints, Expects, none_line, damaged_line, pending_line, library_line}
+use Rattle.nucleus_top.specs.Answers.{status_of, lines_of}
 use Rattle.nucleus_top.specs.declared.answer.Answer.{Answer}
-use Rattle.nucleus_top.specs.declared.answer.Answer.TheVariants.{Planned, Unplanned, Pending, DiskFailed, SourceFailed, LibraryFailed, NotInitialised, Damaged, NoMemory}
+use Rattle.nucleus_top.specs.declared.answer.Answer.TheVariants.{Planned, Unplanned, Pending, DiskFailed, SourceFailed, LibraryFailed, NotInitialised}
+use Rattle.nucleus_top.specs.declared.answer.Answer.TheVariants.{Damaged, NoMemory}
 
 -- ---- a device without a pending deployment
 
@@ -64,7 +66,8 @@ NamesPending id _ = ⊥
 -- Why an answer comes on a device.
 abbrev pub PlansOn : Device → Input → Shelf → Answer → Type 0
 PlansOn d input library (Planned text) = (draft : Draft) × IsProposed d input library (Ok draft) × (text ≡ plan_lines (draft_view draft))
-PlansOn d input library (Unplanned refusal text) = IsProposed d input library (Err refusal) × (text ≡ refusal_line refusal) × (status_of_refusal refusal ≢ status.Library)
+PlansOn d input library (Unplanned refusal text) = IsProposed d input library (Err refusal) × (text ≡ refusal_line refusal) ×
+    (status_of_refusal refusal ≢ status.Library)
 PlansOn d input library (Pending id) = (input.rest ≡ input.document) × ((q : PendingPlan) × (d.pending ≡ Some q) × (id ≡ q.plan.id))
 PlansOn d input library LibraryFailed = IsProposed d input library (Err (Candidates gather.Library)) × Rose library.faults_before library.faults_after
 PlansOn d input library SourceFailed = (d.pending ≡ None) × Rose input.faults_before input.faults_after
@@ -116,8 +119,10 @@ pub record PlanParts (store : Store) (input : Input) (library : Shelf) (printed 
   -- 0: a plan was printed, or how the document's deployment closed.
   pub done : result ≡ status.Done → IsPlanPrinted store input library printed ⊎ IsClosePrinted store input library printed
   -- 4 comes exactly where a deployment is pending. The source is then left as it was.
-  pub pending : result ≡ status.PendingStands → (id : List ℕ) × (IsTrue store.is_modelled → IsPending store.before id) × (input.rest ≡ input.document) × Prints printed (pending_line id)
-  pub pending_comes : IsTrue store.is_modelled → HasEntry store.before → (d : Device) → Stands store.before d → (q : PendingPlan) → d.pending ≡ Some q → Expects result status.PendingStands
+  pub pending : result ≡ status.PendingStands → (id : List ℕ) × (IsTrue store.is_modelled → IsPending store.before id) × (input.rest ≡ input.document) ×
+      Prints printed (pending_line id)
+  pub pending_comes : IsTrue store.is_modelled → HasEntry store.before → (d : Device) → Stands store.before d → (q : PendingPlan) → d.pending ≡ Some q →
+      Expects result status.PendingStands
   -- 7 comes only where the library's count rose.
   pub library_failed : result ≡ status.Library → Rose library.faults_before library.faults_after × Prints printed library_line
   -- 8 comes exactly where the journal holds no entry.

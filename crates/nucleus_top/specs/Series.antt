@@ -107,17 +107,20 @@ module _ {D : Type 0} (may_leave : D → Image → Type 0) where
 
 -- The image may have been left by these calls, or by one more that keeps no record: with the device for which this one stands.
 abbrev pub IsLeftOn : Device → List Made → Image → Image → Type 0
-IsLeftOn d before seen image = LeftBy d before image ⊎ ((e : Device) × Stands seen e × Follow d (keeps_none e ∷ before) × LeftBy d (keeps_none e ∷ before) image)
+IsLeftOn d before seen image = LeftBy d before image ⊎ ((e : Device) × Stands seen e × Follow d (keeps_none e ∷ before) ×
+    LeftBy d (keeps_none e ∷ before) image)
 
 module _ {D : Type 0} (may_leave : D → Image → Type 0) (moment : D → ℕ) (left_since : D → ℕ → Image → Type 0) where
   -- What a call that drives a deployment says of its images makes it one more of these calls, with the records that it keeps.
   abbrev pub DrivesGoOn : Type 0
-  DrivesGoOn = (d e : Device) (before : List Made) (records : List Record) (old new : D) → BeginsBehind may_leave d before e old → LeavesPrefixes may_leave moment left_since old new e records
+  DrivesGoOn = (d e : Device) (before : List Made) (records : List Record) (old new : D) → BeginsBehind may_leave d before e old →
+      LeavesPrefixes may_leave moment left_since old new e records
       → Follow d (stopped e records ∷ before) × Leaves moment left_since old new (LeftBy d (stopped e records ∷ before))
 
   -- and what one that is turned away says of them, one that keeps no record
   abbrev pub TurnedGoOn : (D → Image) → Type 0
-  TurnedGoOn seen = (d : Device) (before : List Made) (old new : D) → Follow d before → AreLeftBy may_leave d before old → LeavesSame may_leave moment left_since seen old new
+  TurnedGoOn seen = (d : Device) (before : List Made) (old new : D) → Follow d before → AreLeftBy may_leave d before old →
+      LeavesSame may_leave moment left_since seen old new
       → Leaves moment left_since old new (IsLeftOn d before (seen old))
 
 module _ {D : Type 0} (may_leave : D → Image → Type 0) where
@@ -129,5 +132,6 @@ module _ {D : Type 0} (may_leave : D → Image → Type 0) where
 
   -- So does what one that is turned away says of what the journal says then: with the device for which it stood as it read.
   abbrev pub TurnedEnd : Bool → (D → Image) → Type 0
-  TurnedEnd is_modelled seen = (d e : Device) (before : List Made) (old new : D) → IsTrue is_modelled → Follow d before → AreLeftBy may_leave d before old → Stands (seen old) e
+  TurnedEnd is_modelled seen = (d e : Device) (before : List Made) (old new : D) → IsTrue is_modelled → Follow d before → AreLeftBy may_leave d before old →
+      Stands (seen old) e
       → KeepsJournal may_leave seen old new → Follow d (keeps_none e ∷ before) × AreLeftBy may_leave d (keeps_none e ∷ before) new

@@ -17,7 +17,8 @@ ghost use Rattle.edges.specs.Reading.{ReadsUpTo};
 ghost use Rattle.nucleus_top.specs.Answers.{input_of, printed_of, shelf_of, store_of};
 ghost use Rattle.nucleus_top.specs.Crashes.{KeepsJournal, KeepsJournalOrFiles, KeepsSameWhole, LeavesSame};
 ghost use Rattle.nucleus_top.specs.Opening.{HasEntry, Stands};
-ghost use Rattle.nucleus_top.specs.Drives.{DeploysOn, IsDeployed, IsDeployedOn, IsResumed, IsRefusedBefore, IsUnread, IsUnswept, NamesPendingOf, StartsFrom, TellsSweep, TellsUnread, TurnsAway, MayNotOpen, MayNotOpenIdle, slots_start};
+ghost use Rattle.nucleus_top.specs.Drives.{DeploysOn, IsDeployed, IsDeployedOn, IsResumed, IsRefusedBefore, IsUnread, IsUnswept, NamesPendingOf, StartsFrom};
+ghost use Rattle.nucleus_top.specs.Drives.{TellsSweep, TellsUnread, TurnsAway, MayNotOpen, MayNotOpenIdle, slots_start};
 
 use crate::answer::Answer;
 use crate::opening::{HasDevice, open, refused};
@@ -48,7 +49,8 @@ fn unswept(fault: SweepFault) -> Answer
 fn swept<T: HasDevice + Drop, D: Disk>(alloc: Global, state: T, disk: &mut D) -> Result<T, Answer>
     ensures kept { IfOk result (λ s. s ≡ state) }
     ensures spared { ChangesArtifactsAlone D.may_leave D.moment D.left_since disk.old disk.new }
-    ensures safe { AllHoldDevice (D.may_leave disk.old) (T.stands_for state) → Leaves D.moment D.left_since disk.old disk.new (λ c. HoldsDevice c (T.stands_for state)) }
+    ensures safe { AllHoldDevice (D.may_leave disk.old) (T.stands_for state) → Leaves D.moment D.left_since disk.old disk.new
+        (λ c. HoldsDevice c (T.stands_for state)) }
     ensures clean { IsTrue D.is_modelled → IfOk result (λ s. IsSwept (items_of (T.stands_for s)) (D.seen disk.new)) }
     ensures others { IsTrue D.is_modelled → Elsewhere slots_files (D.seen disk.old) (D.seen disk.new) }
     ensures disk { IsErrOf result Answer.DiskFailed → Rose (D.faults disk.old) (D.faults disk.new) }
@@ -65,7 +67,8 @@ fn swept<T: HasDevice + Drop, D: Disk>(alloc: Global, state: T, disk: &mut D) ->
 /// The device for which the journal stands, once stray files are swept.
 fn open_swept<D: Disk>(alloc: Global, disk: &mut D) -> Result<Loaded<Slots>, Answer>
     ensures opened { IsTrue D.is_modelled → IfOk result (λ s. HasEntry (D.seen disk.old) × Stands (D.seen disk.old) (loaded_device s)) }
-    ensures start { IsTrue D.is_modelled → IfOk result (λ s. (idle : idles.Idle Journal) → s ≡ Loaded.Idle idle → StartsFrom (D.seen disk.old) (idle_device idle) (slots_start (idle_log idle) (idle_device idle))) }
+    ensures start { IsTrue D.is_modelled → IfOk result (λ s. (idle : idles.Idle Journal) → s ≡ Loaded.Idle idle →
+        StartsFrom (D.seen disk.old) (idle_device idle) (slots_start (idle_log idle) (idle_device idle))) }
     ensures held { IfOk result (λ s. OwnsLoaded D.is_modelled D.may_leave slots_stands (λ log. log.live.end) s disk.new) }
     ensures images { LeavesSame D.may_leave D.moment D.left_since D.seen disk.old disk.new }
     ensures whole { KeepsSameWhole D.may_leave D.moment D.left_since D.seen disk.old disk.new }
@@ -155,7 +158,8 @@ fn deploy_document<D: Disk, L: Library, K: Sink, R: Runner>(
 ) -> Status
     requires held { OwnsIdle D.is_modelled D.may_leave slots_stands (λ log. log.live.end) idle disk.old }
     requires none { R.living runner.old ≡ [] }
-    ensures driven { IsDeployedOn D.may_leave D.moment D.left_since D.faults disk.old disk.new (R.list runner.old) (R.list runner.new) (printed_of K.held K.faults sink.old sink.new) result
+    ensures driven { IsDeployedOn D.may_leave D.moment D.left_since D.faults disk.old disk.new (R.list runner.old) (R.list runner.new)
+        (printed_of K.held K.faults sink.old sink.new) result
         (idle_device idle) (slots_start (idle_log idle) (idle_device idle)) (shelf_of L.content L.faults library.old library.new) document.now }
     ensures none { R.living runner.new ≡ [] }
     ensures others { IsTrue D.is_modelled → Elsewhere slots_files (D.seen disk.old) (D.seen disk.new) }
@@ -169,7 +173,8 @@ fn deploy_document<D: Disk, L: Library, K: Sink, R: Runner>(
     ensures library_later { L.faults library.old ≤ L.faults library.new }
     ensures kept { L.content library.new ≡ L.content library.old }
     // No stray file is left where none was there at the start.
-    ensures swept { (IsTrue D.is_modelled → IsSwept (items_of (idle_device idle)) (D.seen disk.old)) → LeavesNoStray D.is_modelled slots_entries result (D.seen disk.new) }
+    ensures swept { (IsTrue D.is_modelled → IsSwept (items_of (idle_device idle)) (D.seen disk.old)) → LeavesNoStray D.is_modelled slots_entries result
+        (D.seen disk.new) }
 {
     // The journal does not lie among the files of artifacts, and a plan that is taken in is met.
     needed_files_stay();
@@ -199,9 +204,12 @@ fn deploy_read<D: Disk, L: Library, S: Source, K: Sink, R: Runner>(
 ) -> Status
     requires held { OwnsIdle D.is_modelled D.may_leave slots_stands (λ log. log.live.end) idle disk.old }
     requires none { R.living runner.old ≡ [] }
-    ensures ran { (IsUnread disk.old disk.new (input_of S.left S.faults source.old source.new) (printed_of K.held K.faults sink.old sink.new) result × (runner.new ≡ runner.old))
-        ⊎ DeploysOn D.may_leave D.moment D.left_since D.faults disk.old disk.new (R.list runner.old) (R.list runner.new) (printed_of K.held K.faults sink.old sink.new) result
-        (idle_device idle) (slots_start (idle_log idle) (idle_device idle)) (input_of S.left S.faults source.old source.new) (shelf_of L.content L.faults library.old library.new) }
+    ensures ran { (IsUnread disk.old disk.new (input_of S.left S.faults source.old source.new) (printed_of K.held K.faults sink.old sink.new) result ×
+        (runner.new ≡ runner.old))
+        ⊎ DeploysOn D.may_leave D.moment D.left_since D.faults disk.old disk.new (R.list runner.old) (R.list runner.new)
+        (printed_of K.held K.faults sink.old sink.new) result
+        (idle_device idle) (slots_start (idle_log idle) (idle_device idle)) (input_of S.left S.faults source.old source.new)
+        (shelf_of L.content L.faults library.old library.new) }
     ensures none { R.living runner.new ≡ [] }
     ensures others { IsTrue D.is_modelled → Elsewhere slots_files (D.seen disk.old) (D.seen disk.new) }
     ensures disk { result ≡ statuses.Disk → Rose (D.faults disk.old) (D.faults disk.new) }
@@ -213,7 +221,8 @@ fn deploy_read<D: Disk, L: Library, S: Source, K: Sink, R: Runner>(
     ensures library_later { L.faults library.old ≤ L.faults library.new }
     ensures kept { L.content library.new ≡ L.content library.old }
     // No stray file is left where none was there at the start.
-    ensures swept { (IsTrue D.is_modelled → IsSwept (items_of (idle_device idle)) (D.seen disk.old)) → LeavesNoStray D.is_modelled slots_entries result (D.seen disk.new) }
+    ensures swept { (IsTrue D.is_modelled → IsSwept (items_of (idle_device idle)) (D.seen disk.old)) → LeavesNoStray D.is_modelled slots_entries result
+        (D.seen disk.new) }
     ensures edge { result ≡ statuses.Edge → Rose (S.faults source.old) (S.faults source.new) ⊎ Rose (K.faults sink.old) (K.faults sink.new) }
     ensures quiet_source { result ≢ statuses.Edge → S.faults source.new ≡ S.faults source.old }
     ensures read { ReadsUpTo 524289 (S.left source.old) (S.left source.new) }
@@ -241,9 +250,12 @@ pub(crate) fn deploy<D: Disk, L: Library, S: Source, K: Sink, R: Runner>(
     runner: &mut R,
 ) -> Status
     requires none { R.living runner.old ≡ [] }
-    ensures ran { (IsRefusedBefore D.seen D.may_leave D.moment D.left_since (λ a. TurnsAway (store_of D.is_modelled D.seen D.faults disk.old disk.new) (input_of S.left S.faults source.old source.new) a) disk.old disk.new (printed_of K.held K.faults sink.old sink.new) result × (runner.new ≡ runner.old))
-        ⊎ IsDeployed D.may_leave D.moment D.left_since D.faults disk.old disk.new (R.list runner.old) (R.list runner.new) (printed_of K.held K.faults sink.old sink.new) result
-        (store_of D.is_modelled D.seen D.faults disk.old disk.new) (input_of S.left S.faults source.old source.new) (shelf_of L.content L.faults library.old library.new) }
+    ensures ran { (IsRefusedBefore D.seen D.may_leave D.moment D.left_since (λ a. TurnsAway (store_of D.is_modelled D.seen D.faults disk.old disk.new)
+        (input_of S.left S.faults source.old source.new) a) disk.old disk.new (printed_of K.held K.faults sink.old sink.new) result × (runner.new ≡ runner.old))
+        ⊎ IsDeployed D.may_leave D.moment D.left_since D.faults disk.old disk.new (R.list runner.old) (R.list runner.new)
+        (printed_of K.held K.faults sink.old sink.new) result
+        (store_of D.is_modelled D.seen D.faults disk.old disk.new) (input_of S.left S.faults source.old source.new)
+        (shelf_of L.content L.faults library.old library.new) }
     ensures none { R.living runner.new ≡ [] }
     ensures others { IsTrue D.is_modelled → Elsewhere slots_files (D.seen disk.old) (D.seen disk.new) }
     ensures disk { result ≡ statuses.Disk → Rose (D.faults disk.old) (D.faults disk.new) }
@@ -278,8 +290,10 @@ pub(crate) fn resume<D: Disk, K: Sink, R: Runner>(
     runner: &mut R,
 ) -> Status
     requires none { R.living runner.old ≡ [] }
-    ensures ran { (IsRefusedBefore D.seen D.may_leave D.moment D.left_since (λ a. MayNotOpen (store_of D.is_modelled D.seen D.faults disk.old disk.new) a) disk.old disk.new (printed_of K.held K.faults sink.old sink.new) result × (runner.new ≡ runner.old))
-        ⊎ IsResumed D.may_leave D.moment D.left_since D.faults disk.old disk.new (R.list runner.old) (R.list runner.new) (printed_of K.held K.faults sink.old sink.new) result
+    ensures ran { (IsRefusedBefore D.seen D.may_leave D.moment D.left_since (λ a. MayNotOpen (store_of D.is_modelled D.seen D.faults disk.old disk.new) a)
+        disk.old disk.new (printed_of K.held K.faults sink.old sink.new) result × (runner.new ≡ runner.old))
+        ⊎ IsResumed D.may_leave D.moment D.left_since D.faults disk.old disk.new (R.list runner.old) (R.list runner.new)
+        (printed_of K.held K.faults sink.old sink.new) result
         (store_of D.is_modelled D.seen D.faults disk.old disk.new) }
     ensures none { R.living runner.new ≡ [] }
     ensures others { IsTrue D.is_modelled → Elsewhere slots_files (D.seen disk.old) (D.seen disk.new) }

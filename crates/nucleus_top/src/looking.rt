@@ -31,7 +31,8 @@ fn answer<D: Disk, L: Library, S: Source>(
     library: &mut L,
     source: &mut S,
 ) -> Answer
-    ensures comes { Comes (map string_bytes words.now.items) (store_of D.is_modelled D.seen D.faults disk.old disk.new) (input_of S.left S.faults source.old source.new) (shelf_of L.content L.faults library.old library.new) result }
+    ensures comes { Comes (map string_bytes words.now.items) (store_of D.is_modelled D.seen D.faults disk.old disk.new)
+        (input_of S.left S.faults source.old source.new) (shelf_of L.content L.faults library.old library.new) result }
     ensures quiet { IsQuiet (store_of D.is_modelled D.seen D.faults disk.old disk.new) (input_of S.left S.faults source.old source.new) result }
     ensures still { IsStill (shelf_of L.content L.faults library.old library.new) result }
     ensures unread { (Asks (map string_bytes words.now.items) order.Plan → ⊥) → source.new ≡ source.old }

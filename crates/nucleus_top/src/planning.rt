@@ -71,7 +71,8 @@ fn plan_idle<L: Library, S: Source>(
     requires idle { device.now.pending ≡ None }
     requires sound { IsSound (device_view device.now) }
     requires regular { IsRegularDevice (device_view device.now) }
-    ensures comes { PlansOn (device_view device.now) (input_of S.left S.faults source.old source.new) (shelf_of L.content L.faults library.old library.new) result }
+    ensures comes { PlansOn (device_view device.now) (input_of S.left S.faults source.old source.new) (shelf_of L.content L.faults library.old library.new)
+        result }
     ensures still { IsStill (shelf_of L.content L.faults library.old library.new) result }
     ensures kept { L.content library.new ≡ L.content library.old }
     ensures quiet { result ≢ Answer.SourceFailed → S.faults source.new ≡ S.faults source.old }
@@ -108,7 +109,8 @@ fn plan_on<L: Library, S: Source>(
     requires origin { IsSome device.now.origin }
     requires sound { IsSound (device_view device.now) }
     requires regular { IsRegularDevice (device_view device.now) }
-    ensures comes { PlansOn (device_view device.now) (input_of S.left S.faults source.old source.new) (shelf_of L.content L.faults library.old library.new) result }
+    ensures comes { PlansOn (device_view device.now) (input_of S.left S.faults source.old source.new) (shelf_of L.content L.faults library.old library.new)
+        result }
     ensures still { IsStill (shelf_of L.content L.faults library.old library.new) result }
     ensures kept { L.content library.new ≡ L.content library.old }
     ensures quiet { result ≢ Answer.SourceFailed → S.faults source.new ≡ S.faults source.old }
@@ -150,7 +152,8 @@ pub fn plan<D: Disk, L: Library, S: Source>(
     library: &mut L,
     source: &mut S,
 ) -> Answer
-    ensures comes { Plans (store_of D.is_modelled D.seen D.faults disk.old disk.new) (input_of S.left S.faults source.old source.new) (shelf_of L.content L.faults library.old library.new) result }
+    ensures comes { Plans (store_of D.is_modelled D.seen D.faults disk.old disk.new) (input_of S.left S.faults source.old source.new)
+        (shelf_of L.content L.faults library.old library.new) result }
     ensures quiet { IsQuiet (store_of D.is_modelled D.seen D.faults disk.old disk.new) (input_of S.left S.faults source.old source.new) result }
     ensures still { IsStill (shelf_of L.content L.faults library.old library.new) result }
     ensures kept { L.content library.new ≡ L.content library.old }

@@ -6,7 +6,8 @@ ghost use Rattle.command_words.specs.declared.order.Order.{Order};
 ghost use Rattle.command_words.specs.declared.order.Order.TheVariants as order;
 ghost use Rattle.session.specs.Calls.{Stays};
 ghost use Rattle.edges.specs.Reading.{ReadsUpTo};
-ghost use Rattle.nucleus_top.specs.Drives.{Deploys, DriveParts, Drives, IsDeployed, IsResumed, IsRefusedBefore, PendingParts, RefusedParts, TurnsAway, MayNotOpen};
+ghost use Rattle.nucleus_top.specs.Drives.{Deploys, DriveParts, Drives, IsDeployed, IsResumed, IsRefusedBefore, PendingParts, RefusedParts, TurnsAway};
+ghost use Rattle.nucleus_top.specs.Drives.{MayNotOpen};
 ghost use Rattle.nucleus_top.specs.Words.{Asks};
 ghost use Rattle.nucleus_top.specs.Answers.{store_of, input_of, shelf_of, printed_of};
 ghost use Rattle.nucleus_top.specs.Leaving.{IsDurable, MayLeave, files_of};
@@ -51,7 +52,8 @@ pub fn nucleus<D: Disk, L: Library, S: Source, K: Sink, R: Runner>(
 ) -> Status
     // No child lives yet.
     requires none { R.living runner.old ≡ [] }
-    ensures parts { (Drives (map string_bytes words.now.items) → ⊥) → Parts (map string_bytes words.now.items) (store_of D.is_modelled D.seen D.faults disk.old disk.new)
+    ensures parts { (Drives (map string_bytes words.now.items) → ⊥) →
+        Parts (map string_bytes words.now.items) (store_of D.is_modelled D.seen D.faults disk.old disk.new)
         (input_of S.left S.faults source.old source.new) (shelf_of L.content L.faults library.old library.new)
         (printed_of K.held K.faults sink.old sink.new) result }
     // `deploy` and `plan` alone read from the source and ask the library.
@@ -59,7 +61,8 @@ pub fn nucleus<D: Disk, L: Library, S: Source, K: Sink, R: Runner>(
     ensures unasked { (Deploys (map string_bytes words.now.items) → ⊥) → (Asks (map string_bytes words.now.items) order.Plan → ⊥) → library.new ≡ library.old }
     ensures library_kept { L.content library.new ≡ L.content library.old }
     // Whenever a crash comes during the call, it leaves an image that the start allowed, or what the command may make of one.
-    ensures moments { (Drives (map string_bytes words.now.items) → ⊥) → Leaves D.moment D.left_since disk.old disk.new (MayLeave (map string_bytes words.now.items) (D.may_leave disk.old)) }
+    ensures moments { (Drives (map string_bytes words.now.items) → ⊥) → Leaves D.moment D.left_since disk.old disk.new
+        (MayLeave (map string_bytes words.now.items) (D.may_leave disk.old)) }
     // Once the lines of finished work are printed, a crash does not undo it.
     ensures durable { (order : Order) → Asks (map string_bytes words.now.items) order → result ≡ status.Done →
         IsDurable order (D.may_leave disk.new) (D.seen disk.new) }
@@ -70,19 +73,26 @@ pub fn nucleus<D: Disk, L: Library, S: Source, K: Sink, R: Runner>(
     // a crash comes during it, it leaves an image that the start allowed, or one whose journal stands for what the call's
     // records, up to one of them, make of the device: with none of them where the call is turned away.
     ensures deploys { (root : List ℕ) → IsOrder (map string_bytes words.now.items) root order.Deploy →
-        (IsRefusedBefore D.seen D.may_leave D.moment D.left_since (λ a. TurnsAway (store_of D.is_modelled D.seen D.faults disk.old disk.new) (input_of S.left S.faults source.old source.new) a)
+        (IsRefusedBefore D.seen D.may_leave D.moment D.left_since (λ a. TurnsAway (store_of D.is_modelled D.seen D.faults disk.old disk.new)
+        (input_of S.left S.faults source.old source.new) a)
         disk.old disk.new (printed_of K.held K.faults sink.old sink.new) result × (runner.new ≡ runner.old))
-        ⊎ IsDeployed D.may_leave D.moment D.left_since D.faults disk.old disk.new (R.list runner.old) (R.list runner.new) (printed_of K.held K.faults sink.old sink.new) result
-        (store_of D.is_modelled D.seen D.faults disk.old disk.new) (input_of S.left S.faults source.old source.new) (shelf_of L.content L.faults library.old library.new) }
+        ⊎ IsDeployed D.may_leave D.moment D.left_since D.faults disk.old disk.new (R.list runner.old) (R.list runner.new)
+        (printed_of K.held K.faults sink.old sink.new) result
+        (store_of D.is_modelled D.seen D.faults disk.old disk.new) (input_of S.left S.faults source.old source.new)
+        (shelf_of L.content L.faults library.old library.new) }
     // `resume`: so it is with the pending deployment, which goes on where there is one.
     ensures resumes { (root : List ℕ) → IsOrder (map string_bytes words.now.items) root order.Resume →
         (IsRefusedBefore D.seen D.may_leave D.moment D.left_since (λ a. MayNotOpen (store_of D.is_modelled D.seen D.faults disk.old disk.new) a)
         disk.old disk.new (printed_of K.held K.faults sink.old sink.new) result × (runner.new ≡ runner.old))
-        ⊎ IsResumed D.may_leave D.moment D.left_since D.faults disk.old disk.new (R.list runner.old) (R.list runner.new) (printed_of K.held K.faults sink.old sink.new) result
+        ⊎ IsResumed D.may_leave D.moment D.left_since D.faults disk.old disk.new (R.list runner.old) (R.list runner.new)
+        (printed_of K.held K.faults sink.old sink.new) result
         (store_of D.is_modelled D.seen D.faults disk.old disk.new) }
     // Of both: when the refusals of a journal that gives no device come, and of `deploy` that of a pending deployment.
-    ensures refused { Drives (map string_bytes words.now.items) → RefusedParts (store_of D.is_modelled D.seen D.faults disk.old disk.new) (printed_of K.held K.faults sink.old sink.new) result }
-    ensures pending { (root : List ℕ) → IsOrder (map string_bytes words.now.items) root order.Deploy → PendingParts (store_of D.is_modelled D.seen D.faults disk.old disk.new) (input_of S.left S.faults source.old source.new) (printed_of K.held K.faults sink.old sink.new) result }
+    ensures refused { Drives (map string_bytes words.now.items) → RefusedParts (store_of D.is_modelled D.seen D.faults disk.old disk.new)
+        (printed_of K.held K.faults sink.old sink.new) result }
+    ensures pending { (root : List ℕ) → IsOrder (map string_bytes words.now.items) root order.Deploy →
+        PendingParts (store_of D.is_modelled D.seen D.faults disk.old disk.new) (input_of S.left S.faults source.old source.new)
+        (printed_of K.held K.faults sink.old sink.new) result }
     // When 5, 6 and 7 come, and which files change.
     ensures driven { Drives (map string_bytes words.now.items) → DriveParts (store_of D.is_modelled D.seen D.faults disk.old disk.new)
         (input_of S.left S.faults source.old source.new) (shelf_of L.content L.faults library.old library.new)

@@ -57,7 +57,10 @@ recipes_are : (p : Platform) (cs : List Candidate) (items : List Item) → AllZi
 recipes_are p [] [] z = tt
 recipes_are p [] (i ∷ items) z = absurd z
 recipes_are p (c ∷ cs) [] z = absurd z
-recipes_are p (c ∷ cs) (i ∷ items) z = ((c.recipe, record { reads = z.0.reads; name = z.0.name; version = z.0.version; files = z.0.files }), recipes_are p cs items z.1)
+recipes_are p (c ∷ cs) (i ∷ items) z = (
+  (c.recipe, record { reads = z.0.reads; name = z.0.name; version = z.0.version; files = z.0.files }),
+  recipes_are p cs items z.1,
+)
 
 configs_are : (p : Platform) (cs : List Candidate) (items : List Item) → AllZip (IsMade p) cs items → AllByRecursion HasConfig items
 configs_are p [] [] z = tt
@@ -90,7 +93,8 @@ module _ (one : IsOneRecipe) (reads_sound : ReadsSound) (object : ConfigIsObject
       record {
         requirements = subst AreRequirements (sym (same_requirements ∙ wants)) (requirements_are document.roots may.roots);
         items = subst (AreItems o.platform) (sym same_items) are;
-        boots = subst (λ (l : List Item). device_boots.AreBoots o.platform l plan.boots) (sym same_items) (subst (device_boots.AreBoots o.platform items) (sym same_boots) boot);
+        boots = subst (λ (l : List Item). device_boots.AreBoots o.platform l plan.boots) (sym same_items)
+            (subst (device_boots.AreBoots o.platform items) (sym same_boots) boot);
       }
 
 pub filled : IsOneRecipe → ReadsSound → ConfigIsObject → FilledIsAllowed

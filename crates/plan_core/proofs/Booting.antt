@@ -41,7 +41,8 @@ unfolding IsDistinct
 order_differs edges taken [] h = tt
 order_differs edges taken (p ∷ ps) h = (
   recursion_from_All (λ q. eqb p q ≡ false) ps
-      (all_from_in (λ q. eqb p q ≡ false) ps (λ q i. ne_eqb p q (λ same. order_fresh edges (taken ++ p ∷ []) ps h.1 q i (subst (Contains (taken ++ p ∷ [])) same (Contains-push taken p))))),
+      (all_from_in (λ q. eqb p q ≡ false) ps (λ q i. ne_eqb p q
+      (λ same. order_fresh edges (taken ++ p ∷ []) ps h.1 q i (subst (Contains (taken ++ p ∷ [])) same (Contains-push taken p))))),
   order_differs edges (taken ++ p ∷ []) ps h.1,
 )
 
@@ -68,7 +69,8 @@ module _ (cs : List Candidate) (wanted : List Need) (set : List ℕ) (valid : Is
       let low = chosen_at cs set (inside cs wanted set valid) a first.0 first.1 in
       let high = chosen_at cs set (inside cs wanted set valid) b second.0 second.1 in
       let same = valid.one_version low.place high.place (element set a low.place low.listed) (element set b high.place high.listed)
-      (ap name_in (at_place cs low.place first.0 low.there) ∙ ap (λ (m : List ℕ). Some m) (first.2 ∙ sym second.2) ∙ sym (ap name_in (at_place cs high.place second.0 high.there))) in
+      (ap name_in (at_place cs low.place first.0 low.there) ∙ ap (λ (m : List ℕ). Some m) (first.2 ∙ sym second.2) ∙ sym
+      (ap name_in (at_place cs high.place second.0 high.there))) in
       let climb : get_or set a 0 < get_or set b 0 = AllPairs-from_increasing set valid.rising a b 0 lt (slice_get_within set b high.place high.listed) in
       let from = get_or_from_slice_get set a low.place 0 low.listed in
       let to = get_or_from_slice_get set b high.place 0 high.listed in
@@ -91,7 +93,8 @@ module _ (cs : List Candidate) (wanted : List Need) (set : List ℕ) (valid : Is
     fewer : (taken : List ℕ) (p : ℕ) (n : List ℕ) → IsPicked (taken ++ p ∷ []) n → IsPicked taken n
     fewer taken p n h = record { at = h.at; untaken = λ i. h.untaken (Contains-append_left taken (p ∷ []) h.at i); named = h.named; due = h.due }
 
-    picked : (taken ps : List ℕ) (names : List (List ℕ)) → IsOrderAfter edges taken ps → ArePicked Due (chosen cs set) ps names → (n : List ℕ) → Contains names n → IsPicked taken n
+    picked : (taken ps : List ℕ) (names : List (List ℕ)) → IsOrderAfter edges taken ps → ArePicked Due (chosen cs set) ps names → (n : List ℕ) →
+        Contains names n → IsPicked taken n
     picked taken [] names h none n i = absurd (in_nil n (subst (λ (l : List (List ℕ)). Contains l n) none i))
     picked taken (p ∷ ps) names h (inl k) n i = elim (in_cons k.0 k.1 n (subst (λ (l : List (List ℕ)). Contains l n) k.2 i)) [
       | inl same ↦ record { at = p; untaken = h.0.is_open.untaken; named = subst (name_at (chosen cs set) p) same k.4; due = k.3 }
@@ -109,7 +112,8 @@ module _ (cs : List Candidate) (wanted : List Need) (set : List ℕ) (valid : Is
     differ taken [] names h none = subst (IsDistinct bytes_eq) (sym none) tt
     differ taken (p ∷ ps) names h (inl k) = subst (IsDistinct bytes_eq) (sym k.2) (
       recursion_from_All (λ m. bytes_eq k.0 m ≡ false) k.1
-          (all_from_in (λ m. bytes_eq k.0 m ≡ false) k.1 (λ m i. unequal_by k.0 m (bytes_eq k.0 m) refl (other taken p k.0 m k.4 (picked (taken ++ p ∷ []) ps k.1 h.1 k.5 m i)))),
+          (all_from_in (λ m. bytes_eq k.0 m ≡ false) k.1 (λ m i. unequal_by k.0 m (bytes_eq k.0 m) refl
+          (other taken p k.0 m k.4 (picked (taken ++ p ∷ []) ps k.1 h.1 k.5 m i)))),
       differ (taken ++ p ∷ []) ps k.1 h.1 k.5,
     )
     differ taken (p ∷ ps) names h (inr k) = differ (taken ++ p ∷ []) ps names h.1 k.1
@@ -131,7 +135,8 @@ module _ (cs : List Candidate) (wanted : List Need) (set : List ℕ) (valid : Is
           step = h.due.step;
         }
 
-    pub boots_are : (boots : List (List ℕ)) → length (chosen cs set) ≤ most_elements → AreBoots o old (chosen cs set) shown boots → device.AreBoots o.platform items boots
+    pub boots_are : (boots : List (List ℕ)) → length (chosen cs set) ≤ most_elements → AreBoots o old (chosen cs set) shown boots →
+        device.AreBoots o.platform items boots
     boots_are boots few h =
         let short = picked_few (IsDue o old (chosen cs set) shown) (chosen cs set) h.0 boots h.2 in
         let long = order_few (edges_of (chosen cs set)) h.0 h.1 in
@@ -139,5 +144,6 @@ module _ (cs : List Candidate) (wanted : List Need) (set : List ℕ) (valid : Is
           few = omega (arith, few, short, long);
           differ = differ (IsDue o old (chosen cs set) shown) (edges_of (chosen cs set)) [] h.0 boots h.1.order h.2;
           each = recursion_from_All (IsBoot o.platform items) boots
-              (all_from_in (IsBoot o.platform items) boots (λ n i. boot_of n (picked (IsDue o old (chosen cs set) shown) (edges_of (chosen cs set)) [] h.0 boots h.1.order h.2 n i)));
+              (all_from_in (IsBoot o.platform items) boots (λ n i. boot_of n
+              (picked (IsDue o old (chosen cs set) shown) (edges_of (chosen cs set)) [] h.0 boots h.1.order h.2 n i)));
         }

@@ -1,5 +1,6 @@
 -- Items beside their candidates, and what a set has already.
-use Rattle.std.proofs.Common.{◌≡◌, ℕ, zero, suc, ◌<◌, ◌+◌, Bool, true, false, not, List, [], ◌∷◌, length, map, get_or, refl, sym, ap, subst, ◌∙◌, arith, inl, inr}
+use Rattle.std.proofs.Common.{◌≡◌, ℕ, zero, suc, ◌<◌, ◌+◌, Bool, true, false, not, List, [], ◌∷◌, length, map, get_or, refl, sym, ap, subst, ◌∙◌, arith, inl}
+use Rattle.std.proofs.Common.{inr}
 use Rattle.std.specs.Prelude.{◌≢◌, ◌↔◌, IsTrue, Some, None, IsSome, slice_get, option_map, if◌then◌else◌}
 use Rattle.std.specs.Str.{bytes_eq}
 use Rattle.std.proofs.lemmas.Bool.{false≢true}
@@ -42,7 +43,8 @@ item_step k n i items p false e more is =
     let far = m.1 in
     (suc m.0, omega (arith, far), m.2, m.3, m.4)
 
-item_found : (k : ℕ) (n : List ℕ) (items : List Item) (p : ℕ) → place_from k n items ≡ Some p → (at : ℕ) × (p ≡ k + at) × (j : Item) × (slice_get items at ≡ Some j) × (j.name ≡ n)
+item_found : (k : ℕ) (n : List ℕ) (items : List Item) (p : ℕ) → place_from k n items ≡ Some p → (at : ℕ) × (p ≡ k + at) × (j : Item) ×
+    (slice_get items at ≡ Some j) × (j.name ≡ n)
 item_found k n [] p is = absurd (cc)
 item_found k n (i ∷ items) p is = item_step k n i items p (bytes_eq n i.name) refl (item_found (k + 1) n items p) is
 
@@ -71,11 +73,13 @@ placed_name n set p x is at =
 
 -- ---- what is changed
 
-pub changed_version : (origin : Origin) (set items : List Item) (at before : ℕ) (version : List ℕ) (i : Item) → slice_get set before ≡ Some i → i.version ≢ version
+pub changed_version : (origin : Origin) (set items : List Item) (at before : ℕ) (version : List ℕ) (i : Item) → slice_get set before ≡ Some i →
+    i.version ≢ version
     → IsChanged origin set items at version (Some before)
 changed_version origin set items at before version i there other = inl (subst (λ o. IsOtherVersion o version) (sym there) other)
 
-pub changed_script : (origin : Origin) (set items : List Item) (at before : ℕ) (version : List ℕ) (i : Item) (b : Bool) → slice_get set before ≡ Some i → i.version ≡ version
+pub changed_script : (origin : Origin) (set items : List Item) (at before : ℕ) (version : List ℕ) (i : Item) (b : Bool) → slice_get set before ≡ Some i →
+    i.version ≡ version
     → IsTrue b ↔ ScriptsDiffer origin set items before at → IsTrue b ↔ IsChanged origin set items at version (Some before)
 changed_script origin set items at before version i b there same is_modelled = (
   λ t. inr (is_modelled.0 t),
@@ -86,14 +90,16 @@ changed_script origin set items at before version i b there same is_modelled = (
 )
 
 -- the set's item in that version has the candidate's recipe
-pub kept_reads : (origin : Origin) (set : List Item) (before : ℕ) (c : Candidate) (i : Item) → slice_get set before ≡ Some i → i.name ≡ c.recipe.name → i.version ≡ c.recipe.version
+pub kept_reads : (origin : Origin) (set : List Item) (before : ℕ) (c : Candidate) (i : Item) → slice_get set before ≡ Some i → i.name ≡ c.recipe.name →
+    i.version ≡ c.recipe.version
     → KeepBytes set (c ∷ []) → IsReadFor origin.platform c → Reads i.recipe origin.platform c.recipe
 kept_reads origin set before c i there name version kept read =
     subst (λ (bytes : List ℕ). Reads bytes origin.platform c.recipe) (kept i c (element set before i there) (in_here c []) (sym name) (sym version)) read
 
 -- ---- beside one another
 
-pub beside : (cs : List Candidate) (items : List Item) → AreOf cs items → (at : ℕ) (c : Candidate) → slice_get cs at ≡ Some c → (i : Item) × (slice_get items at ≡ Some i) × IsOf c i
+pub beside : (cs : List Candidate) (items : List Item) → AreOf cs items → (at : ℕ) (c : Candidate) → slice_get cs at ≡ Some c → (i : Item) ×
+    (slice_get items at ≡ Some i) × IsOf c i
 beside [] items of at c there = absurd (cc)
 beside (x ∷ cs) [] of at c there = absurd of
 beside (x ∷ cs) (i ∷ items) of zero c there =
@@ -101,14 +107,17 @@ beside (x ∷ cs) (i ∷ items) of zero c there =
     (i, refl, subst (λ (y : Candidate). IsOf y i) same of.0)
 beside (x ∷ cs) (i ∷ items) of (suc at) c there = beside cs items of.1 at c there
 
-pub reads_beside : (origin : Origin) (cs : List Candidate) (items : List Item) (at : ℕ) (c : Candidate) → AreOf cs items → slice_get cs at ≡ Some c → IsReadFor origin.platform c
+pub reads_beside : (origin : Origin) (cs : List Candidate) (items : List Item) (at : ℕ) (c : Candidate) → AreOf cs items → slice_get cs at ≡ Some c →
+    IsReadFor origin.platform c
     → (i : Item) × (slice_get items at ≡ Some i) × Reads i.recipe origin.platform c.recipe
 reads_beside origin cs items at c of there read =
     let b = beside cs items of at c there in
     (b.0, b.1, subst (λ (bytes : List ℕ). Reads bytes origin.platform c.recipe) (sym b.2.2) read)
 
-pub due : (origin : Origin) (set : List Item) (cs : List Candidate) (items : List Item) (at : ℕ) (c : Candidate) (step : StepDef) (b : Bool) → slice_get cs at ≡ Some c
-    → c.recipe.bootstrap ≡ Some step → IsTrue b ↔ IsChanged origin set items at c.recipe.version (place c.recipe.name set) → IsTrue b ↔ IsDue origin set cs items at
+pub due : (origin : Origin) (set : List Item) (cs : List Candidate) (items : List Item) (at : ℕ) (c : Candidate) (step : StepDef) (b : Bool) →
+    slice_get cs at ≡ Some c
+    → c.recipe.bootstrap ≡ Some step → IsTrue b ↔ IsChanged origin set items at c.recipe.version (place c.recipe.name set) → IsTrue b ↔ IsDue origin
+    set cs items at
 due origin set cs items at c step b there has is_modelled = (
   λ t. record { candidate = c; there = there; step = subst IsSome (sym has) refl; changed = is_modelled.0 t },
   λ d. let both : Some d.candidate ≡ Some c = sym d.there ∙ there in
@@ -133,6 +142,8 @@ pub same_text : (a b : List ℕ) → false ≡ not (bytes_eq a b) → a ≡ b
 same_text a b is = same_by a b (bytes_eq a b) is refl
 
 -- the candidate behind a reference
-pub chosen_there : (choice : List (Bor Candidate)) (at : ℕ) (b : Bor Candidate) → at < length choice → b ≡ get_or choice at b → slice_get (candidates_of choice) at ≡ Some b.now
+pub chosen_there : (choice : List (Bor Candidate)) (at : ℕ) (b : Bor Candidate) → at < length choice → b ≡ get_or choice at b →
+    slice_get (candidates_of choice) at ≡ Some b.now
 chosen_there choice at b below is =
-    slice_get-map (λ (x : Bor Candidate). x.now) choice at ∙ ap (option_map (λ (x : Bor Candidate). x.now)) (slice_get_read choice (length choice) at b refl below is)
+    slice_get-map (λ (x : Bor Candidate). x.now) choice at ∙ ap (option_map (λ (x : Bor Candidate). x.now))
+    (slice_get_read choice (length choice) at b refl below is)

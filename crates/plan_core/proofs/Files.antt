@@ -59,9 +59,11 @@ free_first names v vs h =
     (hold_first (artifact_lines v ++ check (has_name names (file_at v) ≡ false) fault.DuplicateArtifact) (listed_lines (names ++ file_at v ∷ []) vs) h)).0
 
 later : (names : List (List ℕ)) (v : Data) (vs : List Data) → AllHold (listed_lines names (v ∷ vs)) → AllHold (listed_lines (names ++ file_at v ∷ []) vs)
-later names v vs h = hold_last (artifact_lines v ++ check (has_name names (file_at v) ≡ false) fault.DuplicateArtifact) (listed_lines (names ++ file_at v ∷ []) vs) h
+later names v vs h = hold_last (artifact_lines v ++ check (has_name names (file_at v) ≡ false) fault.DuplicateArtifact)
+    (listed_lines (names ++ file_at v ∷ []) vs) h
 
-unnamed : (names : List (List ℕ)) (vs : List Data) (parts : List Artifact) → AllHold (listed_lines names vs) → AllZip IsArtifact vs parts → (a : Artifact) → Contains parts a → has_name names a.file ≡ false
+unnamed : (names : List (List ℕ)) (vs : List Data) (parts : List Artifact) → AllHold (listed_lines names vs) → AllZip IsArtifact vs parts → (a : Artifact) →
+    Contains parts a → has_name names a.file ≡ false
 unnamed names [] [] h z a i = absurd (in_nil a i)
 unnamed names [] (x ∷ parts) h z a i = absurd z
 unnamed names (v ∷ vs) [] h z a i = absurd z
@@ -70,7 +72,8 @@ unnamed names (v ∷ vs) (x ∷ parts) h z a i = elim (in_cons x parts a i) [
   | inr there ↦ (apart names (file_at v) a.file (unnamed (names ++ file_at v ∷ []) vs parts (later names v vs h) z.1 a there)).0
 ]
 
-clash : (names : List (List ℕ)) (v : Data) (vs : List Data) (x : Artifact) (parts : List Artifact) → AllHold (listed_lines names (v ∷ vs)) → AllZip IsArtifact (v ∷ vs) (x ∷ parts)
+clash : (names : List (List ℕ)) (v : Data) (vs : List Data) (x : Artifact) (parts : List Artifact) → AllHold (listed_lines names (v ∷ vs)) →
+    AllZip IsArtifact (v ∷ vs) (x ∷ parts)
     → (b : Artifact) → Contains parts b → x.file ≡ b.file → ⊥
 clash names v vs x parts h z b there same =
     let other = (apart names (file_at v) b.file (unnamed (names ++ file_at v ∷ []) vs parts (later names v vs h) z.1 b there)).1 in
@@ -100,19 +103,22 @@ part_differ (Some v) parts h z = differ_in [] (values v) parts h.1.1 z
 chosen_differ : (o : Option Data) (parts : List Artifact) → AllHold (on o chosen_lines) → AreArtifacts (inner key.Artifacts o) parts → FilesDiffer parts
 chosen_differ None parts h z = part_differ None parts tt z
 chosen_differ (Some m) parts h z =
-    part_differ (present (get (spelled key.Artifacts) m)) parts (hold_last (optional (spelled key.Lifecycle) m lifecycle_lines) (optional (spelled key.Artifacts) m artifacts_lines) h) z
+    part_differ (present (get (spelled key.Artifacts) m)) parts
+    (hold_last (optional (spelled key.Lifecycle) m lifecycle_lines) (optional (spelled key.Artifacts) m artifacts_lines) h) z
 
 chosen_hold : (p : Platform) (d : Data) → AllHold (recipe_lines p d) → AllHold (on (manifest_of p d) chosen_lines)
 chosen_hold p d h =
     hold_last (optional (spelled key.Manifests) d (manifests_lines p)) (on (manifest_of p d) chosen_lines)
-    (hold_last (head_lines d ++ optional (spelled key.ComponentConfiguration) d config_lines ++ optional (spelled key.ComponentDependencies) d dependencies_lines) (part_lines p d) h)
+    (hold_last (head_lines d ++ optional (spelled key.ComponentConfiguration) d config_lines ++ optional (spelled key.ComponentDependencies) d
+    dependencies_lines) (part_lines p d) h)
 
 pub files_differ : (p : Platform) (bytes : List ℕ) (r : Recipe) → Reads bytes p r → FilesDiffer r.artifacts
 files_differ p bytes r reads = chosen_differ (manifest_of p reads.0) r.artifacts (chosen_hold p reads.0 reads.2) reads.3.artifacts
 
 -- ---- the digest that is kept of a file is the recipe's where that gives one
 
-kept_for : (parts : List Artifact) (held : List Held) → AllZip IsHeldFor parts held → (h : Held) → Contains held h → (a : Artifact) × Contains parts a × IsHeldFor a h
+kept_for : (parts : List Artifact) (held : List Held) → AllZip IsHeldFor parts held → (h : Held) → Contains held h → (a : Artifact) × Contains parts a ×
+    IsHeldFor a h
 kept_for [] [] z h i = absurd (in_nil h i)
 kept_for [] (x ∷ held) z h i = absurd z
 kept_for (a ∷ parts) [] z h i = absurd z
@@ -122,7 +128,8 @@ kept_for (a ∷ parts) (x ∷ held) z h i = elim (in_cons x held h i) [
 ]
 
 module _ (parts : List Artifact) (held : List Held) (differ : FilesDiffer parts) (z : AllZip IsHeldFor parts held) where
-  same_by : (a : Artifact) → Contains parts a → (e : List ℕ) (o : Option Held) → find (λ (h : Held). bytes_eq a.file h.file) held ≡ o → option_map (λ (h : Held). h.digest) o ≡ Some e
+  same_by : (a : Artifact) → Contains parts a → (e : List ℕ) (o : Option Held) → find (λ (h : Held). bytes_eq a.file h.file) held ≡ o →
+      option_map (λ (h : Held). h.digest) o ≡ Some e
       → IfSome a.digest (λ d. e ≡ d)
   same_by a i e None is some = absurd (cc)
   same_by a i e (Some h) is some =
@@ -130,7 +137,8 @@ module _ (parts : List Artifact) (held : List Held) (differ : FilesDiffer parts)
       let k = kept_for parts held z h f.0 in
       let file : a.file ≡ k.0.file = (bytes_eq-Decides a.file h.file).0 f.1 ∙ k.2.file in
       let given : h.digest ≡ e = cc in
-      subst (λ (d : List ℕ). IfSome a.digest (λ x. d ≡ x)) given (subst (λ (b : Artifact). IfSome b.digest (λ x. h.digest ≡ x)) (sym (differ a k.0 i k.1 file)) k.2.digest)
+      subst (λ (d : List ℕ). IfSome a.digest (λ x. d ≡ x)) given
+      (subst (λ (b : Artifact). IfSome b.digest (λ x. h.digest ≡ x)) (sym (differ a k.0 i k.1 file)) k.2.digest)
 
   kept_same : (a : Artifact) → Contains parts a → (e : List ℕ) → kept_digest a.file held ≡ Some e → IfSome a.digest (λ d. e ≡ d)
   kept_same a i e is = same_by a i e (find (λ (h : Held). bytes_eq a.file h.file) held) refl is
@@ -139,7 +147,8 @@ module _ (parts : List Artifact) (held : List Held) (differ : FilesDiffer parts)
   after None x e same h = tt
   after (Some d) x e same h = same ∙ h
 
-  digest_by : (a : Artifact) → Contains parts a → (x : List ℕ) (k : Option (List ℕ)) → kept_digest a.file held ≡ k → IfSome (option_or k a.digest) (λ y. x ≡ y) → IfSome a.digest (λ y. x ≡ y)
+  digest_by : (a : Artifact) → Contains parts a → (x : List ℕ) (k : Option (List ℕ)) → kept_digest a.file held ≡ k →
+      IfSome (option_or k a.digest) (λ y. x ≡ y) → IfSome a.digest (λ y. x ≡ y)
   digest_by a i x None is h = h
   digest_by a i x (Some e) is h = after a.digest x e h (kept_same a i e is)
 
@@ -147,11 +156,17 @@ module _ (parts : List Artifact) (held : List Held) (differ : FilesDiffer parts)
 abbrev pub KeepsFiles : List Artifact → Option Item → Type 0
 KeepsFiles parts k = IfSome k (λ i. AllZip IsHeldFor parts i.artifacts)
 
-held_one : (parts : List Artifact) (k : Option Item) → FilesDiffer parts → KeepsFiles parts k → (a : Artifact) → Contains parts a → (h : Held) → IsHeldFor (artifact_of k a) h → IsHeldFor a h
+held_one : (parts : List Artifact) (k : Option Item) → FilesDiffer parts → KeepsFiles parts k → (a : Artifact) → Contains parts a → (h : Held) →
+    IsHeldFor (artifact_of k a) h → IsHeldFor a h
 held_one parts None differ keeps a i h is = is
-held_one parts (Some item) differ keeps a i h is = record { file = is.file; digest = digest_by parts item.artifacts differ keeps a i h.digest (kept_digest a.file item.artifacts) refl is.digest }
+held_one parts (Some item) differ keeps a i h is = record {
+  file = is.file;
+  digest = digest_by parts item.artifacts differ keeps a i h.digest
+      (kept_digest a.file item.artifacts) refl is.digest;
+}
 
-held_each : (k : Option Item) (parts : List Artifact) (held : List Held) → ((a : Artifact) → Contains parts a → (h : Held) → IsHeldFor (artifact_of k a) h → IsHeldFor a h)
+held_each : (k : Option Item) (parts : List Artifact) (held : List Held) → ((a : Artifact) → Contains parts a → (h : Held) → IsHeldFor (artifact_of k a) h →
+    IsHeldFor a h)
     → AllZip IsHeldFor (map (artifact_of k) parts) held → AllZip IsHeldFor parts held
 held_each k [] [] one z = tt
 held_each k [] (h ∷ held) one z = absurd z
@@ -159,5 +174,6 @@ held_each k (a ∷ parts) [] one z = absurd z
 held_each k (a ∷ parts) (h ∷ held) one z = (one a (in_here a parts) h z.0, held_each k parts held (λ b i. one b (in_there a parts b i)) z.1)
 
 -- the files that are asked for by a draft are those that the recipe asks for
-pub held_all : (k : Option Item) (parts : List Artifact) (held : List Held) → FilesDiffer parts → KeepsFiles parts k → AllZip IsHeldFor (map (artifact_of k) parts) held → AllZip IsHeldFor parts held
+pub held_all : (k : Option Item) (parts : List Artifact) (held : List Held) → FilesDiffer parts → KeepsFiles parts k →
+    AllZip IsHeldFor (map (artifact_of k) parts) held → AllZip IsHeldFor parts held
 held_all k parts held differ keeps z = held_each k parts held (held_one parts k differ keeps) z

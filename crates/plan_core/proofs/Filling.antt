@@ -52,11 +52,14 @@ update_object : (o : Option Update) → IfSome o MergesObject → config.MergesO
 update_object None h = tt
 update_object (Some u) h = merge_object u.merge h
 
-change_object : (n : List ℕ) (roots : List Root) → AreSound roots → (o : Option Root) → root_named n roots ≡ o → config.MergesObject (option_and_then (λ (r : Root). option_map change_of r.update) o)
+change_object : (n : List ℕ) (roots : List Root) → AreSound roots → (o : Option Root) → root_named n roots ≡ o →
+    config.MergesObject (option_and_then (λ (r : Root). option_map change_of r.update) o)
 change_object n roots sound None is = tt
-change_object n roots sound (Some r) is = update_object r.update (All-contains UpdatesByObject roots r sound.merges (found (λ (root : Root). bytes_eq n root.name) roots r is).0)
+change_object n roots sound (Some r) is = update_object r.update
+    (All-contains UpdatesByObject roots r sound.merges (found (λ (root : Root). bytes_eq n root.name) roots r is).0)
 
-kept_object : (n : List ℕ) (items : List Item) → AllByRecursion HasConfig items → (o : Option Item) → item_named n items ≡ o → IfSome (option_map (λ (i : Item). i.config) o) IsObject
+kept_object : (n : List ℕ) (items : List Item) → AllByRecursion HasConfig items → (o : Option Item) → item_named n items ≡ o →
+    IfSome (option_map (λ (i : Item). i.config) o) IsObject
 kept_object n items configs None is = tt
 kept_object n items configs (Some i) is =
     (All-contains HasConfig items i (All-from_recursion HasConfig items configs) (found (λ (item : Item). bytes_eq n item.name) items i is).0).is_object
@@ -65,7 +68,8 @@ and_both : (a b : Bool) → (a && b) ≡ true → (a ≡ true) × (b ≡ true)
 and_both true b e = (refl, e)
 and_both false b e = absurd (false≢true e)
 
-module _ (one : IsOneRecipe) (reads_sound : ReadsSound) (object : config.ConfigIsObject) (p : Platform) (set : List Item) (roots : List Root) (items : AreItems p set) (sound : AreSound roots) where
+module _ (one : IsOneRecipe) (reads_sound : ReadsSound) (object : config.ConfigIsObject) (p : Platform) (set : List Item) (roots : List Root)
+    (items : AreItems p set) (sound : AreSound roots) where
   -- what is known of a candidate
   record Fits (c : Candidate) : Type 0 where
     read : IsReadFor p c
@@ -84,7 +88,8 @@ module _ (one : IsOneRecipe) (reads_sound : ReadsSound) (object : config.ConfigI
   keeps c fits (Some i) is =
       let f = found (λ (item : Item). bytes_eq c.recipe.name item.name && bytes_eq c.recipe.version item.version) set i is in
       let both = and_both (bytes_eq c.recipe.name i.name) (bytes_eq c.recipe.version i.version) f.1 in
-      let bytes = fits.kept i c f.0 (in_here c []) ((bytes_eq-Decides c.recipe.name i.name).0 both.0) ((bytes_eq-Decides c.recipe.version i.version).0 both.1) in
+      let bytes = fits.kept i c f.0 (in_here c []) ((bytes_eq-Decides c.recipe.name i.name).0 both.0) ((bytes_eq-Decides c.recipe.version i.version).0 both.1)
+      in
       let has = All-contains (HasRecipe p) set i (All-from_recursion (HasRecipe p) set items.recipes) f.0 in
       let same = one i.recipe p has.0 c.recipe has.1.reads (subst (λ (b : List ℕ). Reads b p c.recipe) bytes fits.read) in
       subst (λ (parts : List Artifact). AllZip IsHeldFor parts i.artifacts) same.artifacts has.1.files
@@ -105,7 +110,8 @@ module _ (one : IsOneRecipe) (reads_sound : ReadsSound) (object : config.ConfigI
   all_made (c ∷ cs) [] fits z = absurd z
   all_made (c ∷ cs) (i ∷ made) fits z = (made_one c i fits.0 z.0, all_made cs made fits.1 z.1)
 
-  all_fit : (cs : List Candidate) → All (IsReadFor p) cs → KeepBytes set cs → AllHold (each config_lines (map bare (items_of set roots cs))) → AllByRecursion Fits cs
+  all_fit : (cs : List Candidate) → All (IsReadFor p) cs → KeepBytes set cs → AllHold (each config_lines (map bare (items_of set roots cs))) →
+      AllByRecursion Fits cs
   all_fit [] read kept short = tt
   all_fit (c ∷ cs) read kept short = (
     record {
@@ -116,6 +122,7 @@ module _ (one : IsOneRecipe) (reads_sound : ReadsSound) (object : config.ConfigI
     all_fit cs (All-tail (IsReadFor p) c cs read) (λ i x among there. kept i x among (in_there c cs x there)) short.1,
   )
 
-  pub items_made : (cs : List Candidate) (made : List Item) → All (IsReadFor p) cs → KeepBytes set cs → AllHold (each config_lines (map bare (items_of set roots cs)))
+  pub items_made : (cs : List Candidate) (made : List Item) → All (IsReadFor p) cs → KeepBytes set cs →
+      AllHold (each config_lines (map bare (items_of set roots cs)))
       → AllZip FillsItem (items_of set roots cs) made → AllZip (IsMade p) cs made
   items_made cs made read kept short z = all_made cs made (all_fit cs read kept short) z

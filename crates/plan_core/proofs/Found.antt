@@ -34,7 +34,8 @@ found test [] x is = absurd (cc)
 found test (y ∷ ys) x is = find_at test y ys x (test y) refl (found test ys x) is
 
 pub kept_regular : (n : List ℕ) (items : List Item) (i : Item) → AreRegularItems items → Some i ≡ item_named n items → IsRegular i.config
-kept_regular n items i regular is = All-contains (λ (item : Item). IsRegular item.config) items i regular (found (λ (item : Item). bytes_eq n item.name) items i (sym is)).0
+kept_regular n items i regular is = All-contains (λ (item : Item). IsRegular item.config) items i regular
+    (found (λ (item : Item). bytes_eq n item.name) items i (sym is)).0
 
 regular_merge : (o : Option Tree) → IfSome o (λ t. IsObject (view t) × IsRegular (view t)) → IfSome o (λ t. IsRegular (view t))
 regular_merge None h = tt
@@ -44,7 +45,8 @@ regular_update : (o : Option Update) → IfSome o MergesObject → IfSome o IsRe
 regular_update None h = tt
 regular_update (Some u) h = regular_merge u.merge h
 
-pub change_regular : (n : List ℕ) (roots : List Root) (r : Root) (u : Update) → AreSound roots → Some r ≡ root_named n roots → r.update ≡ Some u → IsRegularUpdate u
+pub change_regular : (n : List ℕ) (roots : List Root) (r : Root) (u : Update) → AreSound roots → Some r ≡ root_named n roots → r.update ≡ Some u →
+    IsRegularUpdate u
 change_regular n roots r u sound is e =
     let by : UpdatesByObject r = All-contains UpdatesByObject roots r sound.merges (found (λ (root : Root). bytes_eq n root.name) roots r (sym is)).0 in
     subst (λ o. IfSome o IsRegularUpdate) e (regular_update r.update by)

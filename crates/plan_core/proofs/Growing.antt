@@ -25,7 +25,8 @@ pub next : {X : Type 0} (xs : List X) (i : ℕ) (x : X) → i < length xs → x 
 next xs i x below is = drop_more xs i x below ∙ ap (λ y. y ∷ drop (i + 1) xs) (sym is)
 
 -- one more is made of what is left
-pub pushed : {Y Z : Type 0} (v : Y → Z) (old : List Y) (new : Y) (left rest all : List Z) → map v old ++ left ≡ all → left ≡ v new ∷ rest → map v (old ++ new ∷ []) ++ rest ≡ all
+pub pushed : {Y Z : Type 0} (v : Y → Z) (old : List Y) (new : Y) (left rest all : List Z) → map v old ++ left ≡ all → left ≡ v new ∷ rest →
+    map v (old ++ new ∷ []) ++ rest ≡ all
 pushed v old new left rest all so_far is =
     ap (λ l. l ++ rest) (map-append v old (new ∷ [])) ∙ append_assoc (map v old) (v new ∷ []) rest ∙ ap (λ l. map v old ++ l) (sym is) ∙ so_far
 
@@ -48,8 +49,10 @@ checked_more all rest x c holds = record {
   holds = λ h. c.holds (all_both (config_lines x) (each config_lines rest) holds h);
 }
 
-pub checked_fault : (all rest : List Item) (x : Item) (f : PlanFault) → Checked all (x ∷ rest) → Faults fault.NoMemory (config_lines x) f → Faults fault.NoMemory (each config_lines all) f
-checked_fault all rest x f c h = fault_along fault.NoMemory (each config_lines (x ∷ rest)) (each config_lines all) f c.faults (fault_before fault.NoMemory (config_lines x) (each config_lines rest) f h)
+pub checked_fault : (all rest : List Item) (x : Item) (f : PlanFault) → Checked all (x ∷ rest) → Faults fault.NoMemory (config_lines x) f →
+    Faults fault.NoMemory (each config_lines all) f
+checked_fault all rest x f c h = fault_along fault.NoMemory (each config_lines (x ∷ rest)) (each config_lines all) f c.faults
+    (fault_before fault.NoMemory (config_lines x) (each config_lines rest) f h)
 
 -- ---- chosen candidates
 
@@ -73,12 +76,14 @@ at_step cs p ps (Some x) is below more (suc a) c there =
     let m = more a c there in
     record { place = m.place; listed = m.listed; there = m.there }
 
-pub chosen_at : (cs : List Candidate) (set : List ℕ) → All (λ p. p < length cs) set → (a : ℕ) (c : Candidate) → slice_get (chosen cs set) a ≡ Some c → IsChosenAt cs set a c
+pub chosen_at : (cs : List Candidate) (set : List ℕ) → All (λ p. p < length cs) set → (a : ℕ) (c : Candidate) → slice_get (chosen cs set) a ≡ Some c →
+    IsChosenAt cs set a c
 chosen_at cs [] below a c there = absurd (cc)
 chosen_at cs (p ∷ ps) below a c there =
     at_step cs p ps (slice_get cs p) refl (All-head (λ q. q < length cs) p ps below) (chosen_at cs ps (All-tail (λ q. q < length cs) p ps below)) a c there
 
-long_step : (cs : List Candidate) (p : ℕ) (rest : List Candidate) (n : ℕ) (o : Option Candidate) → slice_get cs p ≡ o → p < length cs → length rest ≡ n → length (with_candidate o rest) ≡ n + 1
+long_step : (cs : List Candidate) (p : ℕ) (rest : List Candidate) (n : ℕ) (o : Option Candidate) → slice_get cs p ≡ o → p < length cs → length rest ≡ n →
+    length (with_candidate o rest) ≡ n + 1
 long_step cs p rest n None is below same = absurd (some_below cs p below is)
 long_step cs p rest n (Some x) is below same = omega (arith, same)
 
@@ -86,22 +91,28 @@ long_step cs p rest n (Some x) is below same = omega (arith, same)
 pub chosen_long : (cs : List Candidate) (set : List ℕ) → All (λ p. p < length cs) set → length (chosen cs set) ≡ length set
 chosen_long cs [] below = refl
 chosen_long cs (p ∷ ps) below =
-    let l = long_step cs p (chosen cs ps) (length ps) (slice_get cs p) refl (All-head (λ q. q < length cs) p ps below) (chosen_long cs ps (All-tail (λ q. q < length cs) p ps below)) in
+    let l = long_step cs p (chosen cs ps) (length ps) (slice_get cs p) refl (All-head (λ q. q < length cs) p ps below)
+    (chosen_long cs ps (All-tail (λ q. q < length cs) p ps below)) in
     omega (arith, l)
 
-pub chosen_next : (cs : List Candidate) (set : List ℕ) (i : ℕ) (c : Candidate) → i < length set → All (λ p. p < length cs) set → c ≡ get_or cs (get_or set i 0) c
+pub chosen_next : (cs : List Candidate) (set : List ℕ) (i : ℕ) (c : Candidate) → i < length set → All (λ p. p < length cs) set →
+    c ≡ get_or cs (get_or set i 0) c
     → chosen cs (drop i set) ≡ c ∷ chosen cs (drop (i + 1) set)
 chosen_next cs set i c below all is =
-    let there : slice_get cs (get_or set i 0) ≡ Some c = slice_get_read cs (length cs) (get_or set i 0) c refl (All-get_or (λ p. p < length cs) set i 0 below all) is in
+    let there : slice_get cs (get_or set i 0) ≡ Some c = slice_get_read cs (length cs) (get_or set i 0) c refl
+    (All-get_or (λ p. p < length cs) set i 0 below all) is in
     ap (chosen cs) (drop_more set i 0 below) ∙ ap (λ (o : Option Candidate). with_candidate o (chosen cs (drop (i + 1) set))) there
 
 -- ---- regular trees
 
-pub regular_push : (items : List code.Item) (item : code.Item) → AreRegularItems (map item_view items) → IsRegular (view item.config) → AreRegularItems (map item_view (items ++ item ∷ []))
+pub regular_push : (items : List code.Item) (item : code.Item) → AreRegularItems (map item_view items) → IsRegular (view item.config) →
+    AreRegularItems (map item_view (items ++ item ∷ []))
 regular_push items item all one =
-    subst AreRegularItems (sym (map-append item_view items (item ∷ []))) (All-push (λ (i : Item). IsRegular i.config) (map item_view items) (item_view item) all one)
+    subst AreRegularItems (sym (map-append item_view items (item ∷ [])))
+    (All-push (λ (i : Item). IsRegular i.config) (map item_view items) (item_view item) all one)
 
-pub regular_at : (items : List code.Item) (i : ℕ) (x : code.Item) → i < length items → x ≡ get_or items i x → AreRegularItems (map item_view items) → IsRegular (view x.config)
+pub regular_at : (items : List code.Item) (i : ℕ) (x : code.Item) → i < length items → x ≡ get_or items i x → AreRegularItems (map item_view items) →
+    IsRegular (view x.config)
 regular_at items i x below is all =
     All-contains (λ (item : Item). IsRegular item.config) (map item_view items) (item_view x) all (in_map item_view items x (i, below, sym is))
 

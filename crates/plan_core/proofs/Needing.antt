@@ -93,7 +93,8 @@ are_nodes cs = all_from_in (λ (e : Edge). (e.from < length cs) × (e.to < lengt
 -- ---- no cycles
 
 -- steps of one relation are steps of another
-leads_by : {A B : Type 0} {R : A → A → Type 0} {S : B → B → Type 0} (f : A → B) → ((x y : A) → R x y → S (f x) (f y)) → {p q : A} → Leads R p q → Leads S (f p) (f q)
+leads_by : {A B : Type 0} {R : A → A → Type 0} {S : B → B → Type 0} (f : A → B) → ((x y : A) → R x y → S (f x) (f y)) → {p q : A} → Leads R p q →
+    Leads S (f p) (f q)
 leads_by f step (direct {a = x} {b = y} r) = direct (step x y r)
 leads_by f step (through {a = x} {b = y} {c = z} r m) = through (step x y r) (leads_by f step m)
 
@@ -111,18 +112,22 @@ module _ (cs : List Candidate) (set : List ℕ) (below : All (λ p. p < length c
       let first = n.from in
       let from = stands a i.candidate (subst (λ p. slice_get (chosen cs set) p ≡ Some i.candidate) (omega (arith, start, first)) i.there) in
       let to = stands b i.to.candidate (subst (λ p. slice_get (chosen cs set) p ≡ Some i.to.candidate) n.to i.to.there) in
-      let source : slice_get (members cs) (get_or set a 0) ≡ Some (member i.candidate) = slice_get-map member cs (get_or set a 0) ∙ ap (option_map member) from.0 in
-      let target : slice_get (members cs) (get_or set b 0) ≡ Some (member i.to.candidate) = slice_get-map member cs (get_or set b 0) ∙ ap (option_map member) to.0 in
+      let source : slice_get (members cs) (get_or set a 0) ≡ Some (member i.candidate) = slice_get-map member cs (get_or set a 0) ∙ ap (option_map member)
+      from.0 in
+      let target : slice_get (members cs) (get_or set b 0) ≡ Some (member i.to.candidate) = slice_get-map member cs (get_or set b 0) ∙ ap (option_map member)
+      to.0 in
       record {
         from = from.1;
         to = to.1;
         by = need i.dependency;
-        is = subst (λ (o : Option Member). Contains (needs_in o) (need i.dependency)) (sym source) (in_map need i.candidate.recipe.dependencies i.dependency i.has);
+        is = subst (λ (o : Option Member). Contains (needs_in o) (need i.dependency)) (sym source)
+            (in_map need i.candidate.recipe.dependencies i.dependency i.has);
         named = ap name_in target ∙ ap (λ (n : List ℕ). Some n) i.to.named;
       }
 
 -- the dependencies among the members of a valid set have no cycle
-pub choice_is_acyclic : (cs : List Candidate) (wanted : List Need) (set : List ℕ) → IsValid (members cs) wanted set → All (λ p. p < length cs) set → IsAcyclic (edges_of (chosen cs set))
+pub choice_is_acyclic : (cs : List Candidate) (wanted : List Need) (set : List ℕ) → IsValid (members cs) wanted set → All (λ p. p < length cs) set →
+    IsAcyclic (edges_of (chosen cs set))
 choice_is_acyclic cs wanted set valid below p l = valid.acyclic (get_or set p 0) (leads_by (λ a. get_or set a 0) (needs_too cs set below) l)
 
 -- ---- orders

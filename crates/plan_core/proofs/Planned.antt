@@ -80,11 +80,13 @@ may_make_of o d cs document set may preferred few =
       roots = may.roots;
     }
 
-pub may_make : (o : Origin) (d : Device) (cs : List Candidate) (document : Document) (choice : List Candidate) → MayPlan o d cs document → IsFewChoice d cs document choice → MayMake o d document choice
+pub may_make : (o : Origin) (d : Device) (cs : List Candidate) (document : Document) (choice : List Candidate) → MayPlan o d cs document →
+    IsFewChoice d cs document choice → MayMake o d document choice
 may_make o d cs document choice may chosen_few =
     let set = chosen_few.is_choice.0 in
     let is : choice ≡ chosen cs set = chosen_few.is_choice.2 in
-    subst (MayMake o d document) (sym is) (may_make_of o d cs document set may chosen_few.is_choice.1 (subst (λ (l : List Candidate). length l ≤ 128) is chosen_few.few))
+    subst (MayMake o d document) (sym is) (may_make_of o d cs document set may chosen_few.is_choice.1
+    (subst (λ (l : List Candidate). length l ≤ 128) is chosen_few.few))
 
 items_long : (set : List Item) (roots : List Root) (cs : List Candidate) → length (items_of set roots cs) ≡ length cs
 items_long set roots cs = length-map cs (item_of set roots)
@@ -103,7 +105,8 @@ module _ (o : Origin) (d : Device) (cs : List Candidate) (document : Document) (
       → IsHeadOf document (draft_view draft) → draft.items ≡ items → draft.boots ≡ boots
       → IsPlanned o d cs document (draft_view draft)
   planned draft items boots chosen_few made short regular are_boots head same_items same_boots =
-      let its : map draft_item_view draft.items ≡ items_of d.set document.roots choice = ap (λ (l : List code.DraftItem). map draft_item_view l) same_items ∙ made in
+      let its : map draft_item_view draft.items ≡ items_of d.set document.roots choice = ap (λ (l : List code.DraftItem). map draft_item_view l) same_items ∙
+      made in
       let long = items_long d.set document.roots choice in
       let few = chosen_few.few in
       record {
@@ -121,7 +124,8 @@ module _ (o : Origin) (d : Device) (cs : List Candidate) (document : Document) (
       }
 
   -- the first configuration that is too long
-  pub refused_config : (f : PlanFault) → IsFewChoice d cs document choice → Faults fault.NoMemory (each config_lines (map bare (items_of d.set document.roots choice))) f
+  pub refused_config : (f : PlanFault) → IsFewChoice d cs document choice →
+      Faults fault.NoMemory (each config_lines (map bare (items_of d.set document.roots choice))) f
       → (f ≡ fault.NoMemory) ⊎ IsRefused d cs document f
   refused_config f chosen_few (inl memory) = inl memory
   refused_config f chosen_few (inr first) =
@@ -139,7 +143,8 @@ module _ (d : Device) (cs : List Candidate) (document : Document) (room : AllHol
       inr (inr (inr (room, (many.0, many.1, inl (λ h. omega (arith, h, long, above), many.3 ∙ ap fault.TooManyComponents (sym long))))))
 
 -- the preferred set has too many members
-pub too_many : {A : Type 0} (P : A → Type 0) (d : Device) (cs : List Candidate) (document : Document) (set : List ℕ) (n : ℕ) (f : PlanFault) (result : Result A PlanFault)
+pub too_many : {A : Type 0} (P : A → Type 0) (d : Device) (cs : List Candidate) (document : Document) (set : List ℕ) (n : ℕ) (f : PlanFault)
+    (result : Result A PlanFault)
     → IsPreferred (members cs) (wanted_of d.groups document) set → n ≡ length set → (f ≡ fault.TooManyComponents n) × (128 < n) → IsErrAnd result (λ e. e ≡ f)
     → MatchResult result P (λ e. (e ≡ fault.NoMemory) ⊎ HasNoFewChoice d cs document e)
 too_many P d cs document set n f result preferred many is handed_on =

@@ -35,7 +35,8 @@ same_item items at i j a b = let e : Some i ≡ Some j = sym a ∙ b in cc
 same_needed : (items : List Item) (r s : Recipe) → r.dependencies ≡ s.dependencies → needed_items r items ≡ needed_items s items
 same_needed items r s e = ap (λ (ds : List Dependency). filter (λ (item : Item). list_any (λ d. bytes_eq d.name item.name) ds) items) e
 
-one_scope : IsOneRecipe → (origin : Origin) (items : List Item) (at : ℕ) (s t : Scope) → IsScopeOf origin items at s → IsScopeOf origin items at t → AreAlike s t
+one_scope : IsOneRecipe → (origin : Origin) (items : List Item) (at : ℕ) (s t : Scope) → IsScopeOf origin items at s → IsScopeOf origin items at t →
+    AreAlike s t
 one_scope one origin items at s t a b =
     let item = same_item items at a.item b.item a.there b.there in
     let reads : Reads a.item.recipe origin.platform b.recipe = subst (λ (i : Item). Reads i.recipe origin.platform b.recipe) (sym item) b.reads in
@@ -48,10 +49,12 @@ one_scope one origin items at s t a b =
           (subst (λ (l : List Item). AllZip IsPlaceOf l t.needed) (sym (same_needed items a.recipe b.recipe same.dependencies)) b.needed);
     }
 
-one_script : IsOneRecipe → ExpandAlike → (origin : Origin) (items : List Item) (at : ℕ) (a b : List ℕ) → IsBootScript origin items at a → IsBootScript origin items at b → a ≡ b
+one_script : IsOneRecipe → ExpandAlike → (origin : Origin) (items : List Item) (at : ℕ) (a b : List ℕ) → IsBootScript origin items at a → IsBootScript origin
+    items at b → a ≡ b
 one_script one alike origin items at a b first second =
     let item = same_item items at first.item second.item first.there second.there in
-    let reads : Reads first.item.recipe origin.platform second.recipe = subst (λ (i : Item). Reads i.recipe origin.platform second.recipe) (sym item) second.reads in
+    let reads : Reads first.item.recipe origin.platform second.recipe = subst (λ (i : Item). Reads i.recipe origin.platform second.recipe)
+    (sym item) second.reads in
     let same = one first.item.recipe origin.platform first.recipe second.recipe first.reads reads in
     let both : Some first.step ≡ Some second.step = sym first.is_step ∙ same.steps steps.Bootstrap ∙ second.is_step in
     let step : first.step ≡ second.step = cc in

@@ -26,7 +26,8 @@ use Rattle.plan_core.proofs.Planned.{inside}
 
 -- ---- lists beside one another
 
-pub right_of : {A B : Type 0} (R : A → B → Type 0) (xs : List A) (ys : List B) → AllZip R xs ys → (k : ℕ) (x : A) → slice_get xs k ≡ Some x → (y : B) × Contains ys y × R x y
+pub right_of : {A B : Type 0} (R : A → B → Type 0) (xs : List A) (ys : List B) → AllZip R xs ys → (k : ℕ) (x : A) → slice_get xs k ≡ Some x → (y : B) ×
+    Contains ys y × R x y
 right_of R [] ys z k x is = absurd (cc)
 right_of R (a ∷ xs) [] z k x is = absurd z
 right_of R (a ∷ xs) (y ∷ ys) z zero x is =
@@ -34,7 +35,8 @@ right_of R (a ∷ xs) (y ∷ ys) z zero x is =
     (y, in_here y ys, subst (λ b. R b y) same z.0)
 right_of R (a ∷ xs) (y ∷ ys) z (suc k) x is = let r = right_of R xs ys z.1 k x is in (r.0, in_there y ys r.0 r.1, r.2)
 
-left_of : {A B : Type 0} (R : A → B → Type 0) (xs : List A) (ys : List B) → AllZip R xs ys → (y : B) → Contains ys y → (k : ℕ) × (x : A) × (slice_get xs k ≡ Some x) × R x y
+left_of : {A B : Type 0} (R : A → B → Type 0) (xs : List A) (ys : List B) → AllZip R xs ys → (y : B) → Contains ys y → (k : ℕ) × (x : A) ×
+    (slice_get xs k ≡ Some x) × R x y
 left_of R [] [] z y i = absurd (in_nil y i)
 left_of R [] (b ∷ ys) z y i = absurd z
 left_of R (x ∷ xs) [] z y i = absurd z
@@ -51,14 +53,17 @@ candidate_name c = c.recipe.name
 pub at_place : (cs : List Candidate) (q : ℕ) (c : Candidate) → slice_get cs q ≡ Some c → slice_get (members cs) q ≡ Some (member c)
 at_place cs q c is = slice_get-map member cs q ∙ ap (option_map member) is
 
-here_step : (cs : List Candidate) (p : ℕ) (ps : List ℕ) (o : Option Candidate) → slice_get cs p ≡ o → p < length cs → (q : ℕ) (c : Candidate) → slice_get cs q ≡ Some c
-    → (p ≡ q) ⊎ Contains ps q → (Contains ps q → (a : ℕ) × (slice_get (chosen cs ps) a ≡ Some c)) → (a : ℕ) × (slice_get (with_candidate o (chosen cs ps)) a ≡ Some c)
+here_step : (cs : List Candidate) (p : ℕ) (ps : List ℕ) (o : Option Candidate) → slice_get cs p ≡ o → p < length cs → (q : ℕ) (c : Candidate) →
+    slice_get cs q ≡ Some c
+    → (p ≡ q) ⊎ Contains ps q → (Contains ps q → (a : ℕ) × (slice_get (chosen cs ps) a ≡ Some c)) → (a : ℕ) ×
+    (slice_get (with_candidate o (chosen cs ps)) a ≡ Some c)
 here_step cs p ps None is below q c at i more = absurd (some_below cs p below is)
 here_step cs p ps (Some x) is below q c at (inl same) more = (0, sym is ∙ ap (slice_get cs) same ∙ at)
 here_step cs p ps (Some x) is below q c at (inr there) more = let m = more there in (suc m.0, m.1)
 
 -- what stands at a place of the set is chosen
-chosen_here : (cs : List Candidate) (ps : List ℕ) → All (λ p. p < length cs) ps → (q : ℕ) (c : Candidate) → Contains ps q → slice_get cs q ≡ Some c → (a : ℕ) × (slice_get (chosen cs ps) a ≡ Some c)
+chosen_here : (cs : List Candidate) (ps : List ℕ) → All (λ p. p < length cs) ps → (q : ℕ) (c : Candidate) → Contains ps q → slice_get cs q ≡ Some c →
+    (a : ℕ) × (slice_get (chosen cs ps) a ≡ Some c)
 chosen_here cs [] below q c i at = absurd (in_nil q i)
 chosen_here cs (p ∷ ps) below q c i at =
     here_step cs p ps (slice_get cs p) refl (All-head (λ r. r < length cs) p ps below) q c at (in_cons p ps q i)
@@ -81,7 +86,8 @@ head_below p ps pairs q i =
     subst (λ (r : ℕ). p < r) i.2 far
 
 module _ (cs : List Candidate) where
-  firsts : (p : ℕ) (ps : List ℕ) (x : Candidate) → slice_get cs p ≡ Some x → All (λ q. q < length cs) ps → AllPairs (λ a b. a < b) (p ∷ ps) → Ordered cs (p ∷ ps)
+  firsts : (p : ℕ) (ps : List ℕ) (x : Candidate) → slice_get cs p ≡ Some x → All (λ q. q < length cs) ps → AllPairs (λ a b. a < b) (p ∷ ps) →
+      Ordered cs (p ∷ ps)
       → (n : List ℕ) → Contains (map candidate_name (chosen cs ps)) n → slice_cmp nat_cmp x.recipe.name n ≡ Less
   firsts p ps x is below pairs ordered n i =
       let f = from_map candidate_name (chosen cs ps) n i in
@@ -90,8 +96,10 @@ module _ (cs : List Candidate) where
       subst (λ (m : List ℕ). slice_cmp nat_cmp x.recipe.name m ≡ Less) f.2
       (ordered p at.place x f.0 (in_here p ps) (in_there p ps at.place there) (head_below p ps pairs at.place there) is at.there)
 
-  rise_step : (p : ℕ) (ps : List ℕ) (o : Option Candidate) → slice_get cs p ≡ o → p < length cs → All (λ q. q < length cs) ps → AllPairs (λ a b. a < b) (p ∷ ps) → Ordered cs (p ∷ ps)
-      → IsStrictlySortedBy (slice_cmp nat_cmp) (map candidate_name (chosen cs ps)) → IsStrictlySortedBy (slice_cmp nat_cmp) (map candidate_name (with_candidate o (chosen cs ps)))
+  rise_step : (p : ℕ) (ps : List ℕ) (o : Option Candidate) → slice_get cs p ≡ o → p < length cs → All (λ q. q < length cs) ps →
+      AllPairs (λ a b. a < b) (p ∷ ps) → Ordered cs (p ∷ ps)
+      → IsStrictlySortedBy (slice_cmp nat_cmp) (map candidate_name (chosen cs ps)) →
+      IsStrictlySortedBy (slice_cmp nat_cmp) (map candidate_name (with_candidate o (chosen cs ps)))
   unfolding IsStrictlySortedBy
   rise_step p ps None is low below pairs ordered more = absurd (some_below cs p low is)
   rise_step p ps (Some x) is low below pairs ordered more = (
@@ -100,7 +108,8 @@ module _ (cs : List Candidate) where
     more,
   )
 
-  rise_all : (ps : List ℕ) → All (λ q. q < length cs) ps → AllPairs (λ a b. a < b) ps → Ordered cs ps → IsStrictlySortedBy (slice_cmp nat_cmp) (map candidate_name (chosen cs ps))
+  rise_all : (ps : List ℕ) → All (λ q. q < length cs) ps → AllPairs (λ a b. a < b) ps → Ordered cs ps →
+      IsStrictlySortedBy (slice_cmp nat_cmp) (map candidate_name (chosen cs ps))
   unfolding IsStrictlySortedBy
   rise_all [] below pairs ordered = tt
   rise_all (p ∷ ps) below pairs ordered =
@@ -113,7 +122,8 @@ names_same p [] (i ∷ items) z = absurd z
 names_same p (c ∷ cs) [] z = absurd z
 names_same p (c ∷ cs) (i ∷ items) z = ap (λ n. n ∷ map candidate_name cs) z.0.name ∙ ap (λ l. i.name ∷ l) (names_same p cs items z.1)
 
-module _ (one : IsOneRecipe) (p : Platform) (cs : List Candidate) (rising : IsRising (members cs)) (wanted : List Need) (set : List ℕ) (valid : IsValid (members cs) wanted set)
+module _ (one : IsOneRecipe) (p : Platform) (cs : List Candidate) (rising : IsRising (members cs)) (wanted : List Need) (set : List ℕ)
+    (valid : IsValid (members cs) wanted set)
     (items : List Item) (made : AllZip (IsMade p) (chosen cs set) items) where
   below : All (λ q. q < length cs) set
   below = inside cs wanted set valid
@@ -127,7 +137,8 @@ module _ (one : IsOneRecipe) (p : Platform) (cs : List Candidate) (rising : IsRi
       (rising q r (member c) lt (slice_get_within (members cs) r (member e) (at_place cs r e to)))) in
       elim before [
         | inl less ↦ less
-        | inr same ↦ (let equal = valid.one_version q r i j (ap name_in (at_place cs q c at) ∙ ap (λ (n : List ℕ). Some n) same.0 ∙ sym (ap name_in (at_place cs r e to))) in
+        | inr same ↦ (let equal = valid.one_version q r i j (ap name_in (at_place cs q c at) ∙ ap (λ (n : List ℕ). Some n) same.0 ∙ sym
+            (ap name_in (at_place cs r e to))) in
             absurd (omega (arith, lt, equal)))
       ]
 
@@ -176,7 +187,8 @@ module _ (one : IsOneRecipe) (p : Platform) (cs : List Candidate) (rising : IsRi
   needed i f d names =
       let alike = one i.recipe p names.recipe f.candidate.recipe names.reads f.is_made.reads in
       let has : Contains f.candidate.recipe.dependencies d = subst (λ (ds : List Dependency). Contains ds d) alike.dependencies names.named in
-      subst (λ (o : Option Member). Contains (needs_in o) (need d)) (sym (at_place cs f.place f.candidate f.there)) (in_map need f.candidate.recipe.dependencies d has)
+      subst (λ (o : Option Member). Contains (needs_in o) (need d)) (sym (at_place cs f.place f.candidate f.there))
+      (in_map need f.candidate.recipe.dependencies d has)
 
   met : (i : Item) (f : IsFrom i) (d : Dependency) → NamesDependency p i d → IsMet (members cs) set d.name d.range
   met i f d names =
@@ -188,7 +200,15 @@ module _ (one : IsOneRecipe) (p : Platform) (cs : List Candidate) (rising : IsRi
   supplied_one i has d names =
       let m = met i (from_item i has) d names in
       let s = stands m.0 m.1 d.name m.2.named in
-      record { item = s.item; is_one = s.is_one; meets = record { name = s.named; version = subst (λ (o : Option (List ℕ)). IfSome o (λ v. Meets v d.range)) s.version m.2.meets } }
+      record {
+        item = s.item;
+        is_one = s.is_one;
+        meets = record {
+          name = s.named;
+          version = subst (λ (o : Option (List ℕ)). IfSome o (λ v. Meets v d.range))
+              s.version m.2.meets;
+        };
+      }
 
   pub supplied : AllByRecursion (IsSupplied p items) items
   supplied = recursion_from_All (IsSupplied p items) items (all_from_in (IsSupplied p items) items supplied_one)

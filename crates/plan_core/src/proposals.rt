@@ -54,7 +54,8 @@ pub fn propose<L: Library>(
     requires sound { IsSound (device_view device.now) }
     requires regular { IsRegularDevice (device_view device.now) }
     requires roots { AreSound document.now.roots }
-    ensures proposes { (o : Origin) → device.now.origin ≡ Some o → Proposes (device_view device.now) o (L.content library.old) (L.faults library.old) (L.faults library.new) document.now result }
+    ensures proposes { (o : Origin) → device.now.origin ≡ Some o → Proposes (device_view device.now) o (L.content library.old) (L.faults library.old)
+        (L.faults library.new) document.now result }
     ensures kept { L.content library.new ≡ L.content library.old }
     ensures cause { IsErrOf result (Refusal.Candidates LibraryFailed) → Rose (L.faults library.old) (L.faults library.new) }
     ensures quiet { ¬ (IsErrOf result (Refusal.Candidates LibraryFailed)) → L.faults library.new ≡ L.faults library.old }
@@ -80,7 +81,8 @@ pub fn propose_read<L: Library>(
     requires idle { device.now.pending ≡ None }
     requires sound { IsSound (device_view device.now) }
     requires regular { IsRegularDevice (device_view device.now) }
-    ensures proposes { (o : Origin) → device.now.origin ≡ Some o → ProposesRead (device_view device.now) o (L.content library.old) (L.faults library.old) (L.faults library.new) bytes.now result }
+    ensures proposes { (o : Origin) → device.now.origin ≡ Some o → ProposesRead (device_view device.now) o (L.content library.old) (L.faults library.old)
+        (L.faults library.new) bytes.now result }
     ensures kept { L.content library.new ≡ L.content library.old }
     ensures cause { IsErrOf result (Refusal.Candidates LibraryFailed) → Rose (L.faults library.old) (L.faults library.new) }
     ensures quiet { ¬ (IsErrOf result (Refusal.Candidates LibraryFailed)) → L.faults library.new ≡ L.faults library.old }

@@ -19,7 +19,8 @@ use std::alloc::Global;
 
 /// Whether one more deployment may close, of this group.
 pub(crate) fn check_room(device: &Device, document: &Document) -> Result<(), PlanFault>
-    ensures { MatchResult result (λ _. AllHold (room_lines (device_view device.now) document.now)) (IsFirst (room_lines (device_view device.now) document.now)) }
+    ensures { MatchResult result (λ _. AllHold (room_lines (device_view device.now) document.now))
+        (IsFirst (room_lines (device_view device.now) document.now)) }
 {
     if device.closed.len() >= MOST_CLOSED {
         return Err(PlanFault::TooManyClosed(MOST_CLOSED as u32));

@@ -19,4 +19,5 @@ shown_apart file apart = by (bytes_eq (take (length artifacts) file) artifacts) 
     by false is = refl
     by true is =
         absurd (apart (drop (length artifacts) file)
-        (sym (take-append-drop (length artifacts) file) ∙ ap (λ (l : List ℕ). l ++ drop (length artifacts) file) ((bytes_eq-Decides (take (length artifacts) file) artifacts).0 is)))
+        (sym (take-append-drop (length artifacts) file) ∙ ap (λ (l : List ℕ). l ++ drop (length artifacts) file)
+        ((bytes_eq-Decides (take (length artifacts) file) artifacts).0 is)))

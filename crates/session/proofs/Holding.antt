@@ -37,7 +37,8 @@ HoldsAccepted image r = Unit {0}
 abbrev HoldsAll : Image → List Record → Type 0
 HoldsAll image records = AllByRecursion (HoldsAccepted image) records
 
-holds_on : (f : Pending → Pending) → ((q : Pending) → (f q).plan ≡ q.plan) → (image : Image) (d : Device) → HoldsDevice image d → HoldsDevice image (on_pending f d)
+holds_on : (f : Pending → Pending) → ((q : Pending) → (f q).plan ≡ q.plan) → (image : Image) (d : Device) → HoldsDevice image d →
+    HoldsDevice image (on_pending f d)
 holds_on f same image d h = record { set = h.set; pending = by d.pending h.pending }
   where
     by : (o : Option Pending) → IfSome o (λ q. HoldsItems image q.plan.items) → IfSome (option_map f o) (λ q. HoldsItems image q.plan.items)
@@ -115,16 +116,19 @@ pub record HoldsBefore (image : Image) (d : Device) (records : List Record) : Ty
   pub device : HoldsDevice image d
   pub plans : HoldsAll image records
 
-pub all_before : (images : Image → Type 0) (d : Device) (plan : Plan) (records rest : List Record) → records ≡ Accepted plan ∷ rest → TakesOnce true rest → AllHoldBoth images d plan.items → (c : Image) → images c → HoldsBefore c d records
+pub all_before : (images : Image → Type 0) (d : Device) (plan : Plan) (records rest : List Record) → records ≡ Accepted plan ∷ rest → TakesOnce true rest →
+    AllHoldBoth images d plan.items → (c : Image) → images c → HoldsBefore c d records
 all_before images d plan records rest is once holds c left =
     let both = holds c left in
     record { device = both.0; plans = subst (λ (l : List Record). HoldsAll c l) (sym is) (holds_first c plan rest both.1 once) }
 
-pub none_before : (images : Image → Type 0) (d : Device) (records : List Record) → TakesOnce true records → AllHoldDevice images d → (c : Image) → images c → HoldsBefore c d records
+pub none_before : (images : Image → Type 0) (d : Device) (records : List Record) → TakesOnce true records → AllHoldDevice images d → (c : Image) → images c →
+    HoldsBefore c d records
 none_before images d records once holds c left = record { device = holds c left; plans = holds_none c records once }
 
 -- two things that hold at each moment
-pub both_leave : {D : Type 0} {moment : D → ℕ} {left_since : D → ℕ → Image → Type 0} (old new : D) (P Q : Image → Type 0) → Leaves moment left_since old new P → Leaves moment left_since old new Q
+pub both_leave : {D : Type 0} {moment : D → ℕ} {left_since : D → ℕ → Image → Type 0} (old new : D) (P Q : Image → Type 0) →
+    Leaves moment left_since old new P → Leaves moment left_since old new Q
     → Leaves moment left_since old new (λ c. P c × Q c)
 both_leave old new P Q one two = record { later = one.later; each = λ c left. (one.each c left, two.each c left); joins = one.joins; keeps = one.keeps }
 
@@ -132,12 +136,15 @@ module _ {D : Type 0} {is_modelled : Bool} {seen : D → Image} {may_leave : D �
     (laws : DiskLaws is_modelled seen may_leave moment left_since)
     (files : List ℕ → Type 0) (entries : Image → List (List ℕ) → Type 0) (apart : LieElsewhere files) where
   -- while the records are kept
-  pub went_whole : (old new : D) (a b : Option (List RunnerEntry)) (p : SessionState) (h : List TraceEvent) → IsTrace entries files may_leave moment left_since old new a b p h
+  pub went_whole : (old new : D) (a b : Option (List RunnerEntry)) (p : SessionState) (h : List TraceEvent) →
+      IsTrace entries files may_leave moment left_since old new a b p h
       → ((c : Image) → may_leave old c → HoldsBefore c p.device (records_of h)) → Leaves moment left_since old new (StandsWhole entries p.device (records_of h))
   went_whole old new a b p h trace holds =
-      weaker laws old new (After (may_leave old) (Within files (StandsForPrefix entries p.device (records_of h)))) (StandsWhole entries p.device (records_of h)) one trace.course
+      weaker laws old new (After (may_leave old) (Within files (StandsForPrefix entries p.device (records_of h))))
+      (StandsWhole entries p.device (records_of h)) one trace.course
     where
-      one : (c : Image) → After (may_leave old) (Within files (StandsForPrefix entries p.device (records_of h))) c → StandsWhole entries p.device (records_of h) c
+      one : (c : Image) → After (may_leave old) (Within files (StandsForPrefix entries p.device (records_of h))) c →
+          StandsWhole entries p.device (records_of h) c
       one c was =
           let f = was.2.here in
           let before = holds was.0 was.1 in
@@ -146,18 +153,22 @@ module _ {D : Type 0} {is_modelled : Bool} {seen : D → Image} {may_leave : D �
           (f, holds_run c f.front p.device f.device f.run device (holds_front c f.front f.rest (records_of h) f.split plans))
 
   -- and then
-  pub went_holds : (old new : D) (a b : Option (List RunnerEntry)) (p : SessionState) (h : List TraceEvent) → IsTrace entries files may_leave moment left_since old new a b p h
+  pub went_holds : (old new : D) (a b : Option (List RunnerEntry)) (p : SessionState) (h : List TraceEvent) →
+      IsTrace entries files may_leave moment left_since old new a b p h
       → ((c : Image) → may_leave old c → HoldsBefore c p.device (records_of h)) → AllHoldDevice (may_leave new) (state_after p h).device
   went_holds old new a b p h trace holds c left =
       let was = now laws old new (After (may_leave old) (Within files (StandsForPrefix entries p.device (records_of h)))) trace.course c left in
       let before = holds was.0 was.1 in
-      holds_run c (records_of h) p.device (state_after p h).device trace.run (device_stays files apart was.0 c was.2.others p.device before.device) (all_stay files apart was.0 c was.2.others (records_of h) before.plans)
+      holds_run c (records_of h) p.device (state_after p h).device trace.run (device_stays files apart was.0 c was.2.others p.device before.device)
+      (all_stay files apart was.0 c was.2.others (records_of h) before.plans)
 
   -- while files of artifacts alone change, with the device of a front of the records in hand
   module _ {J : Type 0} {holds_none : Image → Type 0} {is_damaged : Image → ℕ → Type 0} {stands : J → Image → List (List ℕ) → Type 0} {end : J → ℕ}
       (journal : JournalLaws files entries holds_none is_damaged stands end) where
-    pub spared_whole : (log : J) (old new : D) (d e : Device) (records front rest : List Record) → OwnsJournal is_modelled may_leave stands end log old e → records ≡ front ++ rest → Run d front e
-        → ChangesArtifactsAlone may_leave moment left_since old new → Leaves moment left_since old new (λ c. HoldsDevice c e) → Leaves moment left_since old new (StandsWhole entries d records)
+    pub spared_whole : (log : J) (old new : D) (d e : Device) (records front rest : List Record) → OwnsJournal is_modelled may_leave stands end log old e →
+        records ≡ front ++ rest → Run d front e
+        → ChangesArtifactsAlone may_leave moment left_since old new → Leaves moment left_since old new (λ c. HoldsDevice c e) →
+        Leaves moment left_since old new (StandsWhole entries d records)
     spared_whole log old new d e records front rest hand split run spared safe =
         weaker laws old new (λ c. After (may_leave old) (Spares (IsBelow artifacts)) c × HoldsDevice c e) (StandsWhole entries d records) one
         (both_leave old new (After (may_leave old) (Spares (IsBelow artifacts))) (λ c. HoldsDevice c e) spared safe)
@@ -179,16 +190,22 @@ module _ {D : Type 0} {is_modelled : Bool} {seen : D → Image} {may_leave : D �
             )
 
     -- while the files of a document are taken in
-    pub taken_whole : (log : J) (old new : D) (d : Device) (p : SessionState) → p.device ≡ d → OwnsJournal is_modelled may_leave stands end log old d → ChangesArtifactsAlone may_leave moment left_since old new
-        → (AllHoldDevice (may_leave old) d → Leaves moment left_since old new (λ c. HoldsDevice c d)) → AllHoldDevice (may_leave old) p.device → (records : List Record)
+    pub taken_whole : (log : J) (old new : D) (d : Device) (p : SessionState) → p.device ≡ d → OwnsJournal is_modelled may_leave stands end log old d →
+        ChangesArtifactsAlone may_leave moment left_since old new
+        → (AllHoldDevice (may_leave old) d → Leaves moment left_since old new (λ c. HoldsDevice c d)) → AllHoldDevice (may_leave old) p.device →
+        (records : List Record)
         → Leaves moment left_since old new (StandsWhole entries p.device records)
     taken_whole log old new d p same hand spared safe holds records =
-        spared_whole log old new p.device d records [] records hand refl (sym same) spared (safe (subst (λ (e : Device). AllHoldDevice (may_leave old) e) same holds))
+        spared_whole log old new p.device d records [] records hand refl (sym same) spared
+        (safe (subst (λ (e : Device). AllHoldDevice (may_leave old) e) same holds))
 
 -- and then
-pub taken_both : {D : Type 0} {is_modelled : Bool} {seen : D → Image} {may_leave : D → Image → Type 0} {moment : D → ℕ} {left_since : D → ℕ → Image → Type 0} → DiskLaws is_modelled seen may_leave moment left_since
-    → (old new : D) (d : Device) (p : SessionState) (items : List Item) → p.device ≡ d → (AllHoldDevice (may_leave old) d → Leaves moment left_since old new (λ c. HoldsDevice c d))
-    → (AllHoldDevice (may_leave old) d → AllHoldItems (may_leave new) items) → AllHoldDevice (may_leave old) p.device → AllHoldBoth (may_leave new) p.device items
+pub taken_both : {D : Type 0} {is_modelled : Bool} {seen : D → Image} {may_leave : D → Image → Type 0} {moment : D → ℕ} {left_since : D → ℕ → Image → Type 0}
+    → DiskLaws is_modelled seen may_leave moment left_since
+    → (old new : D) (d : Device) (p : SessionState) (items : List Item) → p.device ≡ d →
+    (AllHoldDevice (may_leave old) d → Leaves moment left_since old new (λ c. HoldsDevice c d))
+    → (AllHoldDevice (may_leave old) d → AllHoldItems (may_leave new) items) → AllHoldDevice (may_leave old) p.device →
+    AllHoldBoth (may_leave new) p.device items
 taken_both {may_leave} {moment} {left_since} laws old new d p items same safe files holds =
     let there = subst (λ (e : Device). AllHoldDevice (may_leave old) e) same holds in
     λ c left. (subst (λ (e : Device). HoldsDevice c e) (sym same) (now laws old new (λ i. HoldsDevice i d) (safe there) c left), files there c left)

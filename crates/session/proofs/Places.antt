@@ -109,7 +109,8 @@ no_boot : (o : Option Child) (n : ℕ) → o ≡ None → IsSomeAnd o (λ (c : C
 no_boot o n is h = subst (λ (x : Option Child). IsSomeAnd x (λ (c : Child). c.number ≡ n)) is h
 
 none_lives : (p : SessionState) (n : ℕ) → IsBare p → Lives n p → ⊥
-none_lives p n bare (inl h) = no_part (owner n p.world.parts) (no_owner_in 0 n p.world.parts (not_false (list_any (λ (q : ComponentState). has_child q.children) p.world.parts) bare.parts)) h
+none_lives p n bare (inl h) = no_part (owner n p.world.parts)
+    (no_owner_in 0 n p.world.parts (not_false (list_any (λ (q : ComponentState). has_child q.children) p.world.parts) bare.parts)) h
 none_lives p n bare (inr h) = no_boot p.boot n bare.boot h
 
 pub bare_none : (p : SessionState) (d : Device) (world : Components) (told : Told) (living : List ℕ) → Stands p d world told living → IsBare p → living ≡ []
@@ -131,7 +132,8 @@ orderly_none w none = record {
 }
 
 -- a moment brings none
-none_there : (p : SessionState) (d : Device) (world : Components) (told : Told) (living : List ℕ) → Stands p d world told living → world.parts ≡ [] → p.world.parts ≡ []
+none_there : (p : SessionState) (d : Device) (world : Components) (told : Told) (living : List ℕ) → Stands p d world told living → world.parts ≡ [] →
+    p.world.parts ≡ []
 none_there p d world told living s none = ap (λ (w : Components). w.parts) s.world_is ∙ none
 
 -- Nothing is open, no failure is owed, and all components are stopped.
@@ -143,7 +145,8 @@ pub record IsShut (p : SessionState) : Type 0 where
   pub over : p.over ≡ false
   pub cut : p.cut ≡ false
 
-pub open_shut : (p : SessionState) (d : Device) (world : Components) (told : Told) (living : List ℕ) → world.parts ≡ [] → IsOpen p d world told living → IsShut p
+pub open_shut : (p : SessionState) (d : Device) (world : Components) (told : Told) (living : List ℕ) → world.parts ≡ [] → IsOpen p d world told living →
+    IsShut p
 open_shut p d world told living none o = record {
   stopped = stopped_none p.world (none_there p d world told living o.stands none);
   told = o.quiet.told;
@@ -178,17 +181,20 @@ shut_ends p status rose s other = record {
   over = λ is. absurd (never p.over s.over is);
 }
 
-pub open_bare : (p : SessionState) (d : Device) (world : Components) (told : Told) (living : List ℕ) → world.parts ≡ [] → IsOpen p d world told living → IsBare p
+pub open_bare : (p : SessionState) (d : Device) (world : Components) (told : Told) (living : List ℕ) → world.parts ≡ [] → IsOpen p d world told living →
+    IsBare p
 open_bare p d world told living none o = shut_bare p (open_shut p d world told living none o)
 
-pub open_none : (p : SessionState) (d : Device) (world : Components) (told : Told) (living : List ℕ) → world.parts ≡ [] → IsOpen p d world told living → living ≡ []
+pub open_none : (p : SessionState) (d : Device) (world : Components) (told : Told) (living : List ℕ) → world.parts ≡ [] → IsOpen p d world told living →
+    living ≡ []
 open_none p d world told living none o = bare_none p d world told living o.stands (open_bare p d world told living none o)
 
 leaving_is : (w : Components) → is_stopped w ≡ true → generation_of w ≡ draining
 leaving_is w stopped = ap (λ (b : Bool). if b then draining else previous) stopped
 
 -- a deployment that was accepted is at its front
-pub opened_front : (p : SessionState) (d : Device) (world : Components) (told : Told) (living : List ℕ) → world.parts ≡ [] → IsOpened p d world told living → IsAtBootStage p d world told living
+pub opened_front : (p : SessionState) (d : Device) (world : Components) (told : Told) (living : List ℕ) → world.parts ≡ [] → IsOpened p d world told living →
+    IsAtBootStage p d world told living
 opened_front p d world told living none o =
     let stopped = stopped_none p.world (none_there p d world told living o.stands none) in
     record {
@@ -211,12 +217,14 @@ idle_phase activating is = absurd (false≢true is)
 idle_phase backing is = absurd (false≢true is)
 idle_phase rolling is = absurd (false≢true is)
 
-module _ (o : Outcome) (records : List Record) (p : SessionState) (d : Device) (world : Components) (told : Told) (living : List ℕ) (c : HasClosed o records p d world told living) where
+module _ (o : Outcome) (records : List Record) (p : SessionState) (d : Device) (world : Components) (told : Told) (living : List ℕ)
+    (c : HasClosed o records p d world told living) where
   -- all may be stopped
   pub closed_stops : p.serves ≡ false → MayStop p d world told living
   closed_stops serves = record {
     stands = c.stands;
-    may = subst (λ (f : Phase). MayStopAll (duty_of p.device) f p.generation p) (sym (idle_phase (duty_of p.device).phase c.back.idle_is)) (λ on. absurd (never p.serves serves on));
+    may = subst (λ (f : Phase). MayStopAll (duty_of p.device) f p.generation p) (sym (idle_phase (duty_of p.device).phase c.back.idle_is))
+        (λ on. absurd (never p.serves serves on));
     orderly = c.orderly;
     owed = c.back.told;
     boot = c.back.boot;
@@ -240,13 +248,23 @@ module _ (o : Outcome) (records : List Record) (p : SessionState) (d : Device) (
   }
 
 -- behind the stop of all
-pub stopped_ends : (o : Outcome) (p : SessionState) (d : Device) (world : Components) (told : Told) (living : List ℕ) (status : Status) → HasStopped p d world told living → status ≡ status_of_outcome o → IsEnd p status false
+pub stopped_ends : (o : Outcome) (p : SessionState) (d : Device) (world : Components) (told : Told) (living : List ℕ) (status : Status) →
+    HasStopped p d world told living → status ≡ status_of_outcome o → IsEnd p status false
 stopped_ends o p d world told living status s is =
     subst (λ (x : Status). IsEnd p x false) (sym is)
-    (shut_ends p (status_of_outcome o) false (record { stopped = s.stopped; told = s.quiet.told; boot = s.bare.boot; boot_end = s.boot_end; over = s.over; cut = s.cut }) (outcome_no_restart o))
+    (shut_ends p (status_of_outcome o) false (record {
+      stopped = s.stopped;
+      told = s.quiet.told;
+      boot = s.bare.boot;
+      boot_end = s.boot_end;
+      over =
+          s.over;
+      cut = s.cut;
+    }) (outcome_no_restart o))
 
 -- where a bootstrap asks that the call ends
-pub restart_ends : (p : SessionState) (d : Device) (world : Components) (told : Told) (living : List ℕ) (status again : Status) → IsBetween p d world told living → p.over ≡ true → is_restart again ≡ true → IsOrEdge status again → IsEnd p status false
+pub restart_ends : (p : SessionState) (d : Device) (world : Components) (told : Told) (living : List ℕ) (status again : Status) →
+    IsBetween p d world told living → p.over ≡ true → is_restart again ≡ true → IsOrEdge status again → IsEnd p status false
 restart_ends p d world told living status again b over restarts answers = record {
   bare = between_bare p d world told living b;
   stopped = λ stays. b.still.stopped;

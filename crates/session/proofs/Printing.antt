@@ -45,14 +45,17 @@ pub says_as : (a b : Option (List ℕ)) (status : Status) (x y : List ℕ) → x
 says_as a b status x y same says = subst (λ (l : List ℕ). SaysLine a b status l) same says
 
 -- that of a file with another digest
-pub mismatch_says : {x y : List ℕ} (d : Declined) (a b : Option (List ℕ)) (status : Status) → SaysRefusal a b status statuses.Artifact (mismatch_line x y) → d ≡ Unstaged (stage.Mismatch x y)
+pub mismatch_says : {x y : List ℕ} (d : Declined) (a b : Option (List ℕ)) (status : Status) → SaysRefusal a b status statuses.Artifact (mismatch_line x y) →
+    d ≡ Unstaged (stage.Mismatch x y)
     → SaysRefusal a b status (status_of_declined d) (line_of_declined d)
 mismatch_says d a b status says is = subst (λ (e : Declined). SaysRefusal a b status (status_of_declined e) (line_of_declined e)) (sym is) says
 
 -- that of a file with too many bytes
-pub large_says : {x : List ℕ} {y : ℕ} (d : Declined) (a b : Option (List ℕ)) (status : Status) → SaysLine a b status (large_line x y) → IsOrEdge status statuses.Limit → d ≡ Unstaged (stage.TooLarge x y)
+pub large_says : {x : List ℕ} {y : ℕ} (d : Declined) (a b : Option (List ℕ)) (status : Status) → SaysLine a b status (large_line x y) →
+    IsOrEdge status statuses.Limit → d ≡ Unstaged (stage.TooLarge x y)
     → SaysRefusal a b status (status_of_declined d) (line_of_declined d)
-large_says d a b status says answers is = subst (λ (e : Declined). SaysRefusal a b status (status_of_declined e) (line_of_declined e)) (sym is) (inl (says, answers))
+large_says d a b status says answers is = subst (λ (e : Declined). SaysRefusal a b status (status_of_declined e) (line_of_declined e)) (sym is)
+    (inl (says, answers))
 
 -- ---- before the records
 
@@ -73,7 +76,8 @@ opening_none a d none = subst (λ (o : Option Pending). Appends a a (elim o [ No
 
 -- ---- the lines of a call
 
-lines_are : (d : Device) (records : List Record) (ending : Ending) → ending ≢ Starves → opening_line d ++ (lines_of d records ++ line_of_ending ending) ≡ call_lines d records ending
+lines_are : (d : Device) (records : List Record) (ending : Ending) → ending ≢ Starves → opening_line d ++ (lines_of d records ++ line_of_ending ending)
+    ≡ call_lines d records ending
 lines_are d records (Closes o) fed = refl
 lines_are d records (Restarts id) fed = refl
 lines_are d records (Reboots id) fed = refl
@@ -86,8 +90,10 @@ lines_are d records (Full at) fed = refl
 lines_are d records Idle fed = refl
 
 -- the lines of some of the records, and one behind them
-told_prints : (sure : Type 0) (a b c e : Option (List ℕ)) (d : Device) (records told rest : List Record) (ending : Ending) (status : Status) → (rest ≡ [] → sure) → ending ≢ Starves → Appends a b (opening_line d) → Appends b c (lines_of d told)
-    → records ≡ told ++ rest → length rest ≤ 1 → (ending ≢ Fails → rest ≡ []) → SaysLine c e status (line_of_ending ending) → Prints a e d records ending status sure
+told_prints : (sure : Type 0) (a b c e : Option (List ℕ)) (d : Device) (records told rest : List Record) (ending : Ending) (status : Status) →
+    (rest ≡ [] → sure) → ending ≢ Starves → Appends a b (opening_line d) → Appends b c (lines_of d told)
+    → records ≡ told ++ rest → length rest ≤ 1 → (ending ≢ Fails → rest ≡ []) → SaysLine c e status (line_of_ending ending) →
+    Prints a e d records ending status sure
 told_prints sure a b c e d records told rest ending status stable fed before lines split few all says =
     let line = line_of_ending ending in
     let same = lines_are d told ending fed in
@@ -97,19 +103,23 @@ told_prints sure a b c e d records told rest ending status stable fed before lin
       split = split;
       few = few;
       all = all;
-      front = subst (λ (l : List ℕ). AppendsPrefix a e l) same (front_joined a b e (opening_line d) (lines_of d told ++ line) before (front_joined b c e (lines_of d told) line lines says.0));
-      whole = λ well. subst (λ (l : List ℕ). Appends a e l) same (Appends-trans a b e (opening_line d) (lines_of d told ++ line) before (Appends-trans b c e (lines_of d told) line lines (says.1 well)));
+      front = subst (λ (l : List ℕ). AppendsPrefix a e l) same
+          (front_joined a b e (opening_line d) (lines_of d told ++ line) before (front_joined b c e (lines_of d told) line lines says.0));
+      whole = λ well. subst (λ (l : List ℕ). Appends a e l) same
+          (Appends-trans a b e (opening_line d) (lines_of d told ++ line) before (Appends-trans b c e (lines_of d told) line lines (says.1 well)));
       stable = stable;
     }
 
 -- those of all
-pub all_prints : (sure : Type 0) (a b c e : Option (List ℕ)) (d : Device) (records : List Record) (ending : Ending) (status : Status) → sure → ending ≢ Starves → Appends a b (opening_line d) → Appends b c (lines_of d records)
+pub all_prints : (sure : Type 0) (a b c e : Option (List ℕ)) (d : Device) (records : List Record) (ending : Ending) (status : Status) → sure →
+    ending ≢ Starves → Appends a b (opening_line d) → Appends b c (lines_of d records)
     → SaysLine c e status (line_of_ending ending) → Prints a e d records ending status sure
 all_prints sure a b c e d records ending status stable fed before lines says =
     told_prints sure a b c e d records records [] ending status (λ none. stable) fed before lines (sym (append-nil records)) (omega arith) (λ other. refl) says
 
 -- no record was kept, and none was pending
-pub said_prints : (sure : Type 0) (a b : Option (List ℕ)) (d : Device) (ending : Ending) (status : Status) → sure → ending ≢ Starves → d.pending ≡ None → SaysLine a b status (line_of_ending ending) → Prints a b d [] ending status sure
+pub said_prints : (sure : Type 0) (a b : Option (List ℕ)) (d : Device) (ending : Ending) (status : Status) → sure → ending ≢ Starves → d.pending ≡ None →
+    SaysLine a b status (line_of_ending ending) → Prints a b d [] ending status sure
 said_prints sure a b d ending status stable fed none says = all_prints sure a a a b d [] ending status stable fed (opening_none a d none) (Appends-nil a) says
 
 -- there was no memory to begin
@@ -128,7 +138,8 @@ starved_prints sure a b d status stable same =
     }
 
 -- the line of a deployment that is resumed was not written
-pub unopened_prints : (sure : Type 0) (a b : Option (List ℕ)) (d : Device) (status : Status) → sure → AppendsPrefix a b (opening_line d) → status ≡ statuses.Edge → Prints a b d [] Breaks status sure
+pub unopened_prints : (sure : Type 0) (a b : Option (List ℕ)) (d : Device) (status : Status) → sure → AppendsPrefix a b (opening_line d) →
+    status ≡ statuses.Edge → Prints a b d [] Breaks status sure
 unopened_prints sure a b d status stable front is = record {
   told = [];
   rest = [];
@@ -141,7 +152,8 @@ unopened_prints sure a b d status stable front is = record {
 }
 
 -- a front of them, where the sink failed
-edge_prints : (sure : Type 0) (a b c : Option (List ℕ)) (d : Device) (records : List Record) (status : Status) → sure → Appends a b (opening_line d) → AppendsPrefix b c (lines_of d records) → status ≡ statuses.Edge → Prints a c d records Breaks status sure
+edge_prints : (sure : Type 0) (a b c : Option (List ℕ)) (d : Device) (records : List Record) (status : Status) → sure → Appends a b (opening_line d) →
+    AppendsPrefix b c (lines_of d records) → status ≡ statuses.Edge → Prints a c d records Breaks status sure
 edge_prints sure a b c d records status stable before lines is = record {
   told = records;
   rest = [];
@@ -159,9 +171,12 @@ ending_over over.Disk = Fails
 ending_over over.Edge = Breaks
 
 -- a deployment that was given up
-pub over_prints : (sure : Type 0) (e : SessionFault) (a b c f : Option (List ℕ)) (d : Device) (records : List Record) (status : Status) → (e ≡ over.Edge → sure) → Appends a b (opening_line d) → LinesAt b c d records e
+pub over_prints : (sure : Type 0) (e : SessionFault) (a b c f : Option (List ℕ)) (d : Device) (records : List Record) (status : Status) →
+    (e ≡ over.Edge → sure) → Appends a b (opening_line d) → LinesAt b c d records e
     → SaysLine c f status (line_of_ending (ending_over e)) → (e ≡ over.Edge → f ≡ c) → AnswersOver e status → Prints a f d records (ending_over e) status sure
 over_prints sure over.Disk a b c f d records status stable before lines says silent answers =
-    told_prints sure a b c f d records lines.0 (lines.1 ∷ []) Fails status (λ none. cc) (λ is. cc) before lines.3 lines.2 (omega arith) (λ other. absurd (other refl)) says
+    told_prints sure a b c f d records lines.0 (lines.1 ∷ []) Fails status (λ none. cc) (λ is. cc) before lines.3 lines.2 (omega arith)
+    (λ other. absurd (other refl)) says
 over_prints sure over.Edge a b c f d records status stable before lines says silent answers =
-    subst (λ (x : Option (List ℕ)). Prints a x d records Breaks status sure) (sym (silent refl)) (edge_prints sure a b c d records status (stable refl) before lines answers)
+    subst (λ (x : Option (List ℕ)). Prints a x d records Breaks status sure) (sym (silent refl))
+    (edge_prints sure a b c d records status (stable refl) before lines answers)

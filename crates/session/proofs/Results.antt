@@ -37,20 +37,25 @@ module _ {J : Type 0} (status : Status) where
 
   pub answers_err : (r : Result (Driven J) SessionFault) (e f : SessionFault) → r ≡ Err e → e ≡ f → AnswersFor {J = J} (Err f) status → AnswersFor r status
   answers_err r e f is same answers =
-      subst (λ (z : Result (Driven J) SessionFault). AnswersFor z status) (sym is) (subst (λ (z : SessionFault). AnswersFor {J = J} (Err z) status) (sym same) answers)
+      subst (λ (z : Result (Driven J) SessionFault). AnswersFor z status) (sym is)
+      (subst (λ (z : SessionFault). AnswersFor {J = J} (Err z) status) (sym same) answers)
 
   -- with the cause of a disk that failed
   abbrev EndsCaused : Type 0 → Result (Driven J) SessionFault → Ending → Type 0
   EndsCaused R r e = EndsFor r e × (e ≡ Fails → (IsErrOf r over.Disk) ⊎ R)
 
   module _ (old new : Option (List ℕ)) where
-    pub ends_ok : {R : Type 0} (r : Result (Driven J) SessionFault) (x y : Driven J) → r ≡ Ok x → x ≡ y → SaysEnding old new status (EndsCaused R (Ok y)) → SaysEnding old new status (EndsCaused R r)
+    pub ends_ok : {R : Type 0} (r : Result (Driven J) SessionFault) (x y : Driven J) → r ≡ Ok x → x ≡ y → SaysEnding old new status (EndsCaused R (Ok y)) →
+        SaysEnding old new status (EndsCaused R r)
     ends_ok {R = R} r x y is same says =
-        subst (λ (z : Result (Driven J) SessionFault). SaysEnding old new status (EndsCaused R z)) (sym is) (subst (λ (z : Driven J). SaysEnding old new status (EndsCaused R (Ok z))) (sym same) says)
+        subst (λ (z : Result (Driven J) SessionFault). SaysEnding old new status (EndsCaused R z)) (sym is)
+        (subst (λ (z : Driven J). SaysEnding old new status (EndsCaused R (Ok z))) (sym same) says)
 
-    pub ends_err : {R : Type 0} (r : Result (Driven J) SessionFault) (e f : SessionFault) → r ≡ Err e → e ≡ f → SaysEnding old new status (EndsCaused R (Err f)) → SaysEnding old new status (EndsCaused R r)
+    pub ends_err : {R : Type 0} (r : Result (Driven J) SessionFault) (e f : SessionFault) → r ≡ Err e → e ≡ f →
+        SaysEnding old new status (EndsCaused R (Err f)) → SaysEnding old new status (EndsCaused R r)
     ends_err {R = R} r e f is same says =
-        subst (λ (z : Result (Driven J) SessionFault). SaysEnding old new status (EndsCaused R z)) (sym is) (subst (λ (z : SessionFault). SaysEnding old new status (EndsCaused R (Err z))) (sym same) says)
+        subst (λ (z : Result (Driven J) SessionFault). SaysEnding old new status (EndsCaused R z)) (sym is)
+        (subst (λ (z : SessionFault). SaysEnding old new status (EndsCaused R (Err z))) (sym same) says)
 
 -- it failed, and not at the sink
 pub not_edge : {A : Type 0} (r : Result A SessionFault) (e : SessionFault) → r ≡ Err e → e ≡ over.Disk → IsErrOf r over.Edge → ⊥

@@ -27,7 +27,8 @@ some_mapped f None h = h
 some_mapped f (Some x) h = refl
 
 module _ {J D : Type 0} (is_modelled : Bool) (may_leave : D → Image → Type 0) (stands : J → Image → List (List ℕ) → Type 0) (end : J → ℕ) where
-  pub loaded_hand : (s : Loaded J) (disk : D) → OwnsLoaded is_modelled may_leave stands end s disk → (log : J) × OwnsJournal is_modelled may_leave stands end log disk (loaded_device s)
+  pub loaded_hand : (s : Loaded J) (disk : D) → OwnsLoaded is_modelled may_leave stands end s disk → (log : J) ×
+      OwnsJournal is_modelled may_leave stands end log disk (loaded_device s)
   loaded_hand (loaded.Idle s) disk h = (s.log, h.0)
   loaded_hand (loaded.Booting s) disk h = (s.hand.log, h.0.0)
   loaded_hand (loaded.Activating s) disk h = (s.hand.log, h.0.0)
@@ -35,7 +36,8 @@ module _ {J D : Type 0} (is_modelled : Bool) (may_leave : D → Image → Type 0
   loaded_hand (loaded.Rolling s) disk h = (s.hand.log, h.0.0)
 
   -- a deployment is pending where the state is not the idle one
-  pub loaded_pending : (s : Loaded J) (disk : D) → OwnsLoaded is_modelled may_leave stands end s disk → ((i : IdleState J) → s ≡ loaded.Idle i → ⊥) → IsSome (loaded_device s).pending
+  pub loaded_pending : (s : Loaded J) (disk : D) → OwnsLoaded is_modelled may_leave stands end s disk → ((i : IdleState J) → s ≡ loaded.Idle i → ⊥) →
+      IsSome (loaded_device s).pending
   loaded_pending (loaded.Idle s) disk h other = absurd (other s refl)
   loaded_pending (loaded.Booting s) disk h other = some_of (λ (q : Pending). q.stage ≡ stages.Booting) (booting_device s).pending h.1
   loaded_pending (loaded.Activating s) disk h other = some_of (λ (q : Pending). q.stage ≡ stages.Activating) (activating_device s).pending h.1
@@ -43,15 +45,18 @@ module _ {J D : Type 0} (is_modelled : Bool) (may_leave : D → Image → Type 0
   loaded_pending (loaded.Rolling s) disk h other = some_of (λ (q : Pending). q.stage ≡ stages.Rolling) (rolling_device s).pending h.1
 
   -- and none is where it is
-  pub loaded_idle : (s : Loaded J) (i : IdleState J) (disk : D) → s ≡ loaded.Idle i → OwnsLoaded is_modelled may_leave stands end s disk → (loaded_device s).pending ≡ None
+  pub loaded_idle : (s : Loaded J) (i : IdleState J) (disk : D) → s ≡ loaded.Idle i → OwnsLoaded is_modelled may_leave stands end s disk →
+      (loaded_device s).pending ≡ None
   loaded_idle s i disk is h =
       subst (λ (x : Loaded J). (loaded_device x).pending ≡ None) (sym is) (subst (λ (x : Loaded J). OwnsLoaded is_modelled may_leave stands end x disk) is h).1
 
 module _ {J D : Type 0} {is_modelled : Bool} {seen : D → Image} {may_leave : D → Image → Type 0} {moment : D → ℕ} {left_since : D → ℕ → Image → Type 0}
-    {files : List ℕ → Type 0} {entries : Image → List (List ℕ) → Type 0} {holds_none : Image → Type 0} {is_damaged : Image → ℕ → Type 0} {stands : J → Image → List (List ℕ) → Type 0} {end : J → ℕ}
+    {files : List ℕ → Type 0} {entries : Image → List (List ℕ) → Type 0} {holds_none : Image → Type 0} {is_damaged : Image → ℕ → Type 0} {stands : J → Image →
+    List (List ℕ) → Type 0} {end : J → ℕ}
     (laws : DiskLaws is_modelled seen may_leave moment left_since) (journal : JournalLaws files entries holds_none is_damaged stands end) where
   -- each image stands for its device
-  pub loaded_stands : (s : Loaded J) (disk : D) → OwnsLoaded is_modelled may_leave stands end s disk → (d : Device) → d ≡ loaded_device s → (c : Image) → may_leave disk c → StandsFor entries c d
+  pub loaded_stands : (s : Loaded J) (disk : D) → OwnsLoaded is_modelled may_leave stands end s disk → (d : Device) → d ≡ loaded_device s → (c : Image) →
+      may_leave disk c → StandsFor entries c d
   loaded_stands s disk held d is c left =
       let hand = loaded_hand is_modelled may_leave stands end s disk held in
       subst (λ (e : Device). StandsFor entries c e) (sym is) (in_hand_stands laws journal hand.0 disk (loaded_device s) hand.1 c left)

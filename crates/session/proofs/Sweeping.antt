@@ -31,7 +31,8 @@ use Rattle.session.proofs.Resuming.{loaded_hand}
 use Rattle.session.proofs.Statuses.{closes, no_outcome}
 
 -- the status of a close is that of the outcome
-pub close_is : (a o : Outcome) (status : Status) → (status ≡ status_of_outcome a) ⊎ (status ≡ statuses.Memory) ⊎ (status ≡ statuses.Disk) ⊎ (status ≡ statuses.Edge)
+pub close_is : (a o : Outcome) (status : Status) → (status ≡ status_of_outcome a) ⊎ (status ≡ statuses.Memory) ⊎ (status ≡ statuses.Disk) ⊎
+    (status ≡ statuses.Edge)
     → status ≡ status_of_outcome o → status ≡ status_of_outcome a
 close_is a o status (inl given) is = given
 close_is a o status (inr (inl given)) is = absurd (no_outcome o statuses.Memory refl (sym is ∙ given))
@@ -52,13 +53,15 @@ unstaged_never (stage.TooLarge file bytes) = refl
 unstaged_never (stage.Mismatch file digest) = refl
 unstaged_never stage.NoMemory = refl
 
-no_unstaged : (f : StageFault) (o : Outcome) (status : Status) → (status ≡ status_of_declined (Unstaged f)) ⊎ (status ≡ statuses.Memory) ⊎ (status ≡ statuses.Edge) → status ≡ status_of_outcome o → ⊥
+no_unstaged : (f : StageFault) (o : Outcome) (status : Status) → (status ≡ status_of_declined (Unstaged f)) ⊎ (status ≡ statuses.Memory) ⊎
+    (status ≡ statuses.Edge) → status ≡ status_of_outcome o → ⊥
 no_unstaged f o status (inl given) is = no_outcome o (status_of_declined (Unstaged f)) (unstaged_never f) (sym is ∙ given)
 no_unstaged f o status (inr (inl given)) is = no_outcome o statuses.Memory refl (sym is ∙ given)
 no_unstaged f o status (inr (inr given)) is = no_outcome o statuses.Edge refl (sym is ∙ given)
 
 -- a call with another status
-pub never_closes : (is_modelled : Bool) (entries : Image → List (List ℕ) → Type 0) (status s : Status) (image : Image) → closes s ≡ false → IsOrEdge status s → LeavesNoStray is_modelled entries status image
+pub never_closes : (is_modelled : Bool) (entries : Image → List (List ℕ) → Type 0) (status s : Status) (image : Image) → closes s ≡ false →
+    IsOrEdge status s → LeavesNoStray is_modelled entries status image
 never_closes is_modelled entries status s image never answers told o is e there = absurd (no_close o status s never answers is)
 
 module _ {D J : Type 0} {is_modelled : Bool} {seen : D → Image} {may_leave : D → Image → Type 0} {moment : D → ℕ} {left_since : D → ℕ → Image → Type 0}
@@ -70,29 +73,37 @@ module _ {D J : Type 0} {is_modelled : Bool} {seen : D → Image} {may_leave : D
   same_now disk d e each told there = same_device_for journal (seen disk) e d there (each (seen disk) (laws.reads disk told))
 
   -- nothing was done, and no stray file was there
-  pub none_closes : (disk : D) (d : Device) (status : Status) → ((c : Image) → may_leave disk c → StandsFor entries c d) → (IsTrue is_modelled → IsSwept (items_of d) (seen disk)) → LeavesNoStray is_modelled entries status (seen disk)
-  none_closes disk d status each clean told o is e there = subst (λ (z : Device). IsSwept (items_of z) (seen disk)) (sym (same_now disk d e each told there)) (clean told)
+  pub none_closes : (disk : D) (d : Device) (status : Status) → ((c : Image) → may_leave disk c → StandsFor entries c d) →
+      (IsTrue is_modelled → IsSwept (items_of d) (seen disk)) → LeavesNoStray is_modelled entries status (seen disk)
+  none_closes disk d status each clean told o is e there = subst (λ (z : Device). IsSwept (items_of z) (seen disk)) (sym (same_now disk d e each told there))
+      (clean told)
 
   -- a document was not taken: with the status of a close it is refused, and no file was touched
-  pub declined_sweeps : (old new : D) (d : Device) (why : Declined) (status : Status) → (status ≡ status_of_declined why) ⊎ (status ≡ statuses.Memory) ⊎ (status ≡ statuses.Edge)
-      → (IsRefused (Err why) → new ≡ old) → ((c : Image) → may_leave new c → StandsFor entries c d) → (IsTrue is_modelled → IsSwept (items_of d) (seen old)) → LeavesNoStray is_modelled entries status (seen new)
+  pub declined_sweeps : (old new : D) (d : Device) (why : Declined) (status : Status) → (status ≡ status_of_declined why) ⊎ (status ≡ statuses.Memory) ⊎
+      (status ≡ statuses.Edge)
+      → (IsRefused (Err why) → new ≡ old) → ((c : Image) → may_leave new c → StandsFor entries c d) → (IsTrue is_modelled → IsSwept (items_of d) (seen old)) →
+      LeavesNoStray is_modelled entries status (seen new)
   declined_sweeps old new d (Refused r) status answers same each clean told o is e there =
       none_closes new d status each (λ now. subst (λ (z : D). IsSwept (items_of d) (seen z)) (sym (same tt)) (clean now)) told o is e there
   declined_sweeps old new d (Unstaged f) status answers same each clean told o is e there = absurd (no_unstaged f o status answers is)
 
-  driven_in : (x : Driven J) (disk : D) → OwnsDriven is_modelled may_leave stands end x disk → (log : J) × OwnsJournal is_modelled may_leave stands end log disk (driven_device x)
+  driven_in : (x : Driven J) (disk : D) → OwnsDriven is_modelled may_leave stands end x disk → (log : J) ×
+      OwnsJournal is_modelled may_leave stands end log disk (driven_device x)
   driven_in (driven.Closed s o) disk hand = (s.log, hand.0)
   driven_in (driven.Restart s) disk hand = loaded_hand is_modelled may_leave stands end s disk hand
   driven_in (driven.Reboot s) disk hand = loaded_hand is_modelled may_leave stands end s disk hand
 
   -- a deployment was driven, and files are swept behind it
-  pub driven_sweeps : LieElsewhere files → (r : Result (Driven J) SessionFault) (to new : D) (status : Status) → IfOk r (λ x. OwnsDriven is_modelled may_leave stands end x to)
-      → ChangesArtifactsAlone may_leave moment left_since to new → AnswersFor r status → (IsTrue is_modelled → IfOk r (λ x. (o : Outcome) → status ≡ status_of_outcome o → IsSwept (items_of (driven_device x)) (seen new)))
+  pub driven_sweeps : LieElsewhere files → (r : Result (Driven J) SessionFault) (to new : D) (status : Status) →
+      IfOk r (λ x. OwnsDriven is_modelled may_leave stands end x to)
+      → ChangesArtifactsAlone may_leave moment left_since to new → AnswersFor r status →
+      (IsTrue is_modelled → IfOk r (λ x. (o : Outcome) → status ≡ status_of_outcome o → IsSwept (items_of (driven_device x)) (seen new)))
       → LeavesNoStray is_modelled entries status (seen new)
   driven_sweeps apart (Ok x) to new status held spared answers swept told o is e there =
       let hand = driven_in x to held in
       let left = driven_device x in
-      let same = same_now new left e (λ c may. in_hand_stands laws journal hand.0 new left (hand_stays laws journal apart hand.0 left to new spared hand.1) c may) told there in
+      let same = same_now new left e (λ c may. in_hand_stands laws journal hand.0 new left (hand_stays laws journal apart hand.0 left to new spared hand.1) c
+      may) told there in
       subst (λ (z : Device). IsSwept (items_of z) (seen new)) (sym same) (swept told o is)
   driven_sweeps apart (Err over.Disk) to new status held spared answers swept told o is e there = absurd (no_close o status statuses.Disk refl answers is)
   driven_sweeps apart (Err over.Edge) to new status held spared answers swept told o is e there = absurd (no_outcome o statuses.Edge refl (sym is ∙ answers))

@@ -38,18 +38,22 @@ module _ {J : Type 0} (x : Taken J) where
     pub fits_taken : (at : ℕ) → IsFullOrShort {J = J} (Ok x) at → ⊥
     fits_taken at short = subst (λ (y : Taken J). IsFullOrShort {J = J} (Ok y) at) is short
 
-    pub opened_at : (q : SessionState) (world : Components) (told : Told) (living : List ℕ) → Opened x q world told living → IsOpened q (booting_device s) world told living
+    pub opened_at : (q : SessionState) (world : Components) (told : Told) (living : List ℕ) → Opened x q world told living →
+        IsOpened q (booting_device s) world told living
     opened_at q world told living opened = subst (λ (y : Taken J). Opened y q world told living) is opened
 
     pub booting_of : (d : Device) (plan : Plan) → IsTakenOf d plan x → booting_device s ≡ applied d (Accepted plan)
     booting_of d plan of = subst (λ (y : Taken J). IsTakenOf d plan y) is of
 
     -- what was made ready for it serves it
-    pub taken_ready : (boots backs : List Prepared) (items earlier : List Fitted) (d : Device) (plan : Plan) → IsTakenOf d plan x → IsReadiedOn d plan boots backs items earlier → AreReadiedFor (booting_device s) boots backs items earlier
+    pub taken_ready : (boots backs : List Prepared) (items earlier : List Fitted) (d : Device) (plan : Plan) → IsTakenOf d plan x →
+        IsReadiedOn d plan boots backs items earlier → AreReadiedFor (booting_device s) boots backs items earlier
     taken_ready boots backs items earlier d plan of ready =
-        subst (λ (e : Device). AreReadiedFor e boots backs items earlier) (sym (booting_of d plan of)) (accepted_ready boots backs items earlier d ready.0 plan ready.1 ready.2)
+        subst (λ (e : Device). AreReadiedFor e boots backs items earlier) (sym (booting_of d plan of))
+        (accepted_ready boots backs items earlier d ready.0 plan ready.1 ready.2)
 
-    pub booting_held : {D : Type 0} (is_modelled : Bool) (may_leave : D → Image → Type 0) (stands : J → Image → List (List ℕ) → Type 0) (end : J → ℕ) (disk : D) → OwnsTaken is_modelled may_leave stands end x disk → OwnsBooting is_modelled may_leave stands end s disk
+    pub booting_held : {D : Type 0} (is_modelled : Bool) (may_leave : D → Image → Type 0) (stands : J → Image → List (List ℕ) → Type 0) (end : J → ℕ)
+        (disk : D) → OwnsTaken is_modelled may_leave stands end x disk → OwnsBooting is_modelled may_leave stands end s disk
     booting_held is_modelled may_leave stands end disk held = subst (λ (y : Taken J). OwnsTaken is_modelled may_leave stands end y disk) is held
 
   -- ---- it is given back
@@ -68,12 +72,14 @@ module _ {J : Type 0} (x : Taken J) where
     pub short_device : (d : Device) (plan : Plan) → IsTakenOf d plan x → idle_device s ≡ d
     short_device d plan of = subst (λ (y : Taken J). IsTakenOf d plan y) is of
 
-    pub short_held : {D : Type 0} (is_modelled : Bool) (may_leave : D → Image → Type 0) (stands : J → Image → List (List ℕ) → Type 0) (end : J → ℕ) (disk : D) → OwnsTaken is_modelled may_leave stands end x disk → OwnsIdle is_modelled may_leave stands end s disk
+    pub short_held : {D : Type 0} (is_modelled : Bool) (may_leave : D → Image → Type 0) (stands : J → Image → List (List ℕ) → Type 0) (end : J → ℕ) (disk : D)
+        → OwnsTaken is_modelled may_leave stands end x disk → OwnsIdle is_modelled may_leave stands end s disk
     short_held is_modelled may_leave stands end disk held = subst (λ (y : Taken J). OwnsTaken is_modelled may_leave stands end y disk) is held
 
 -- ---- the bytes are no document
 
-pub unread_taken : (d : Device) (o : Origin) (content : Option Content) (before after : ℕ) (bytes : List ℕ) (fault : DocFault) → (fault ≡ doc.NoMemory) ⊎ IsFault bytes fault
+pub unread_taken : (d : Device) (o : Origin) (content : Option Content) (before after : ℕ) (bytes : List ℕ) (fault : DocFault) → (fault ≡ doc.NoMemory) ⊎
+    IsFault bytes fault
     → TakesRead d o content before after bytes (Err (Refused (document_refusal fault)))
 unread_taken d o content before after bytes fault (inl none) = inl (ap (λ (f : DocFault). Err (Refused (document_refusal f))) none)
 unread_taken d o content before after bytes fault (inr is) = inr (inl (fault, is, refl))

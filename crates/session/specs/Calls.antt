@@ -34,7 +34,8 @@ use Rattle.session_admission.specs.Readied.{IsReadied}
 use Rattle.session_rollout.specs.declared.driven.Driven.{Driven}
 use Rattle.session_rollout.specs.declared.driven.Driven.TheVariants as driven
 use Rattle.refusal_lines.specs.Statuses.{status_of_outcome}
-use Rattle.session.specs.Endings.{Ending, Closes, Restarts, Reboots, Fails, Breaks, Forgets, Starves, Declines, Full, Idle, is_failing, line_of_ending, status_of_ending}
+use Rattle.session.specs.Endings.{Ending, Closes, Restarts, Reboots, Fails, Breaks, Forgets, Starves, Declines, Full, Idle, is_failing, line_of_ending}
+use Rattle.session.specs.Endings.{status_of_ending}
 
 -- ---- lines
 
@@ -122,14 +123,16 @@ AllHoldBoth images d items = (c : Image) → images c → HoldsDevice c d × Hol
 abbrev pub ChangesArtifactsAlone : {D : Type 0} → (D → Image → Type 0) → (D → ℕ) → (D → ℕ → Image → Type 0) → D → D → Type 0
 ChangesArtifactsAlone may_leave moment left_since old new = Leaves moment left_since old new (After (may_leave old) (Spares (IsBelow artifacts)))
 
-module _ (entries : Image → List (List ℕ) → Type 0) (files : List ℕ → Type 0) {D : Type 0} (may_leave : D → Image → Type 0) (moment : D → ℕ) (left_since : D → ℕ → Image → Type 0) where
+module _ (entries : Image → List (List ℕ) → Type 0) (files : List ℕ → Type 0) {D : Type 0} (may_leave : D → Image → Type 0) (moment : D → ℕ)
+    (left_since : D → ℕ → Image → Type 0) where
   -- Files of artifacts change, then the history goes on from its first record to its last, and then files of artifacts change
   -- again. It ends as that of a session that answers this status: no child lives, and all components are stopped unless the call gives
   -- up; with another status than 5 and 6 each failure is recorded, and each end of a bootstrap but where the disk failed. How the call
   -- ends gives its status, its lines, its last record, and what the disk holds: each image stands for the device of all records, or of
   -- all but the last, whose line is then not written, and behind which nothing is started. One plan is accepted at most, and none where
   -- one was pending.
-  pub record Call (old new : D) (old_list new_list : Option (List RunnerEntry)) (old_held new_held : Option (List ℕ)) (p : SessionState) (status : Status) : Type 0 where
+  pub record Call (old new : D) (old_list new_list : Option (List RunnerEntry)) (old_held new_held : Option (List ℕ)) (p : SessionState)
+      (status : Status) : Type 0 where
     pub from : D
     pub to : D
     pub before : ChangesArtifactsAlone may_leave moment left_since old from

@@ -56,16 +56,20 @@ abbrev pub Follows : (ℕ → ℕ) → Result code.Plan Declined → Ending → 
 Follows start (Err d) ending records = ((ending ≡ Declines d) ⊎ (ending ≡ Starves)) × (records ≡ [])
 Follows start (Ok plan) ending records = Begins start (plan_view plan) ending records
 
-module _ (entries : Image → List (List ℕ) → Type 0) (files : List ℕ → Type 0) {D : Type 0} (may_leave : D → Image → Type 0) (moment : D → ℕ) (left_since : D → ℕ → Image → Type 0) (old new : D) (old_list new_list : Option (List RunnerEntry)) (old_held new_held : Option (List ℕ)) (p : SessionState) (status : Status) where
+module _ (entries : Image → List (List ℕ) → Type 0) (files : List ℕ → Type 0) {D : Type 0} (may_leave : D → Image → Type 0) (moment : D → ℕ)
+    (left_since : D → ℕ → Image → Type 0) (old new : D) (old_list new_list : Option (List RunnerEntry)) (old_held new_held : Option (List ℕ))
+    (p : SessionState) (status : Status) where
   -- the plan is driven, or put off
   abbrev pub DrivesPlan : (ℕ → ℕ) → Plan → Type 0
   DrivesPlan start plan =
-      (c : Call entries files may_leave moment left_since old new old_list new_list old_held new_held p status) × Begins start plan c.ending (records_of c.history)
+      (c : Call entries files may_leave moment left_since old new old_list new_list old_held new_held p status) ×
+      Begins start plan c.ending (records_of c.history)
 
   -- so is a plan that was taken in, and a document that was not taken is declined
   abbrev pub DrivesTaken : (ℕ → ℕ) → Result code.Plan Declined → Type 0
   DrivesTaken start taken =
-      (c : Call entries files may_leave moment left_since old new old_list new_list old_held new_held p status) × Follows start taken c.ending (records_of c.history)
+      (c : Call entries files may_leave moment left_since old new old_list new_list old_held new_held p status) ×
+      Follows start taken c.ending (records_of c.history)
 
   -- At each moment each image stands for what a front of the call's records makes of the device, with all of its artifacts.
   abbrev pub KeepsArtifacts : Call entries files may_leave moment left_since old new old_list new_list old_held new_held p status → Type 0

@@ -11,4 +11,5 @@ use Rattle.refusal_lines.specs.Statuses.{status_of_outcome}
 -- With the status of a close the image as it reads has no file of an artifact but those that are named by the items of the device
 -- for which it stands.
 abbrev pub LeavesNoStray : Bool → (Image → List (List ℕ) → Type 0) → Status → Image → Type 0
-LeavesNoStray is_modelled entries status image = IsTrue is_modelled → (o : Outcome) → status ≡ status_of_outcome o → (d : Device) → StandsFor entries image d → IsSwept (items_of d) image
+LeavesNoStray is_modelled entries status image = IsTrue is_modelled → (o : Outcome) → status ≡ status_of_outcome o → (d : Device) →
+    StandsFor entries image d → IsSwept (items_of d) image

@@ -61,15 +61,19 @@ pub(crate) fn end_closed<D: Disk, J: Journal + Drop, K: Sink, R: Runner, S: Supe
     supervisor: &mut S,
 ) -> Status
     requires drives { Drives (S.world supervisor.old) }
-    requires placed { (p : SessionState) × (records : List Record) × AsTold R.Runner runner.old (HasClosed outcome records p (idle_device idle.now) (S.world supervisor.old)) × (p.serves ≡ false) }
-    ensures trace { (p : SessionState) → (records : List Record) → AsTold R.Runner runner.old (HasClosed outcome records p (idle_device idle.now) (S.world supervisor.old)) → (p.serves ≡ false) →
+    requires placed { (p : SessionState) × (records : List Record) ×
+        AsTold R.Runner runner.old (HasClosed outcome records p (idle_device idle.now) (S.world supervisor.old)) × (p.serves ≡ false) }
+    ensures trace { (p : SessionState) → (records : List Record) →
+        AsTold R.Runner runner.old (HasClosed outcome records p (idle_device idle.now) (S.world supervisor.old)) → (p.serves ≡ false) →
         (h : List TraceEvent) × Acts p h (R.list runner.old) (R.list runner.new) × IsEnd (state_after p h) result false }
     ensures none { R.living runner.new ≡ [] }
     ensures spared { ChangesArtifactsAlone D.may_leave D.moment D.left_since disk.old disk.new }
     // The device has its artifacts at each moment.
-    ensures safe { AllHoldDevice (D.may_leave disk.old) (idle_device idle.now) → Leaves D.moment D.left_since disk.old disk.new (λ c. HoldsDevice c (idle_device idle.now)) }
+    ensures safe { AllHoldDevice (D.may_leave disk.old) (idle_device idle.now) → Leaves D.moment D.left_since disk.old disk.new
+        (λ c. HoldsDevice c (idle_device idle.now)) }
     ensures others { IsTrue D.is_modelled → Spares (IsBelow artifacts) (D.seen disk.old) (D.seen disk.new) }
-    ensures ends { SaysEnding (K.held sink.old) (K.held sink.new) result (λ e. EndsClosed outcome e × (e ≡ Fails → Rose (D.faults disk.old) (D.faults disk.new))) }
+    ensures ends { SaysEnding (K.held sink.old) (K.held sink.new) result
+        (λ e. EndsClosed outcome e × (e ≡ Fails → Rose (D.faults disk.old) (D.faults disk.new))) }
     ensures answers { (result ≡ status_of_outcome outcome) ⊎ (result ≡ statuses.Memory) ⊎ (result ≡ statuses.Disk) ⊎ (result ≡ statuses.Edge) }
     ensures disk { result ≡ statuses.Disk → Rose (D.faults disk.old) (D.faults disk.new) }
     ensures edge { result ≡ statuses.Edge → Rose (K.faults sink.old) (K.faults sink.new) }

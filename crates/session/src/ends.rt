@@ -60,16 +60,20 @@ fn end_driven<D: Disk, J: Journal + Drop, K: Sink, R: Runner, S: Supervise>(
     runner: &mut R,
     supervisor: &mut S,
 ) -> Status
-    requires placed { (p : SessionState) × (h : List TraceEvent) × AsTold R.Runner runner.old (DrivenLeft driven.now h p (S.world supervisor.old)) × (p.serves ≡ false) }
+    requires placed { (p : SessionState) × (h : List TraceEvent) × AsTold R.Runner runner.old (DrivenLeft driven.now h p (S.world supervisor.old)) ×
+        (p.serves ≡ false) }
     requires drives { Drives (S.world supervisor.old) }
-    ensures trace { (p : SessionState) → (h : List TraceEvent) → AsTold R.Runner runner.old (DrivenLeft driven.now h p (S.world supervisor.old)) → (p.serves ≡ false) →
+    ensures trace { (p : SessionState) → (h : List TraceEvent) → AsTold R.Runner runner.old (DrivenLeft driven.now h p (S.world supervisor.old)) →
+        (p.serves ≡ false) →
         (k : List TraceEvent) × Acts p k (R.list runner.old) (R.list runner.new) × IsEnd (state_after p k) result false }
     ensures none { R.living runner.new ≡ [] }
     ensures spared { ChangesArtifactsAlone D.may_leave D.moment D.left_since disk.old disk.new }
     // The device has its artifacts at each moment.
-    ensures safe { AllHoldDevice (D.may_leave disk.old) (driven_device driven.now) → Leaves D.moment D.left_since disk.old disk.new (λ c. HoldsDevice c (driven_device driven.now)) }
+    ensures safe { AllHoldDevice (D.may_leave disk.old) (driven_device driven.now) → Leaves D.moment D.left_since disk.old disk.new
+        (λ c. HoldsDevice c (driven_device driven.now)) }
     ensures others { IsTrue D.is_modelled → Spares (IsBelow artifacts) (D.seen disk.old) (D.seen disk.new) }
-    ensures ends { SaysEnding (K.held sink.old) (K.held sink.new) result (λ e. EndsFor (Ok driven.now) e × (e ≡ Fails → Rose (D.faults disk.old) (D.faults disk.new))) }
+    ensures ends { SaysEnding (K.held sink.old) (K.held sink.new) result (λ e. EndsFor (Ok driven.now) e ×
+        (e ≡ Fails → Rose (D.faults disk.old) (D.faults disk.new))) }
     ensures answers { AnswersFor (Ok driven.now) result }
     ensures disk { result ≡ statuses.Disk → Rose (D.faults disk.old) (D.faults disk.new) }
     ensures edge { result ≡ statuses.Edge → Rose (K.faults sink.old) (K.faults sink.new) }
@@ -97,18 +101,22 @@ pub(crate) fn end_call<D: Disk, J: Journal + Drop, K: Sink, R: Runner, S: Superv
     runner: &mut R,
     supervisor: &mut S,
 ) -> Status
-    requires placed { IfOk driven (λ x. (p : SessionState) × (h : List TraceEvent) × AsTold R.Runner runner.old (DrivenLeft x h p (S.world supervisor.old)) × (p.serves ≡ false)) }
+    requires placed { IfOk driven (λ x. (p : SessionState) × (h : List TraceEvent) × AsTold R.Runner runner.old (DrivenLeft x h p (S.world supervisor.old)) ×
+        (p.serves ≡ false)) }
     requires drives { IfOk driven (λ x. Drives (S.world supervisor.old)) }
     requires none { OnErr driven (R.living runner.old ≡ []) }
-    ensures trace { IfOk driven (λ x. (p : SessionState) → (h : List TraceEvent) → AsTold R.Runner runner.old (DrivenLeft x h p (S.world supervisor.old)) → (p.serves ≡ false) →
+    ensures trace { IfOk driven (λ x. (p : SessionState) → (h : List TraceEvent) → AsTold R.Runner runner.old (DrivenLeft x h p (S.world supervisor.old)) →
+        (p.serves ≡ false) →
         (k : List TraceEvent) × Acts p k (R.list runner.old) (R.list runner.new) × IsEnd (state_after p k) result false) }
     ensures still { OnErr driven (R.list runner.new ≡ R.list runner.old) }
     ensures none { R.living runner.new ≡ [] }
     ensures spared { ChangesArtifactsAlone D.may_leave D.moment D.left_since disk.old disk.new }
     // The device has its artifacts at each moment.
-    ensures safe { IfOk driven (λ x. AllHoldDevice (D.may_leave disk.old) (driven_device x) → Leaves D.moment D.left_since disk.old disk.new (λ c. HoldsDevice c (driven_device x))) }
+    ensures safe { IfOk driven (λ x. AllHoldDevice (D.may_leave disk.old) (driven_device x) → Leaves D.moment D.left_since disk.old disk.new
+        (λ c. HoldsDevice c (driven_device x))) }
     ensures others { IsTrue D.is_modelled → Spares (IsBelow artifacts) (D.seen disk.old) (D.seen disk.new) }
-    ensures ends { SaysEnding (K.held sink.old) (K.held sink.new) result (λ e. EndsFor driven e × (e ≡ Fails → (IsErrOf driven SessionFault.Disk) ⊎ Rose (D.faults disk.old) (D.faults disk.new))) }
+    ensures ends { SaysEnding (K.held sink.old) (K.held sink.new) result
+        (λ e. EndsFor driven e × (e ≡ Fails → (IsErrOf driven SessionFault.Disk) ⊎ Rose (D.faults disk.old) (D.faults disk.new))) }
     ensures unswept { OnErr driven (disk.new ≡ disk.old) }
     ensures silent { IsErrOf driven SessionFault.Edge → K.held sink.new ≡ K.held sink.old }
     ensures answers { AnswersFor driven result }
@@ -117,7 +125,8 @@ pub(crate) fn end_call<D: Disk, J: Journal + Drop, K: Sink, R: Runner, S: Superv
     ensures quiet_disk { result ≢ statuses.Disk → result ≢ statuses.Edge → D.faults disk.new ≡ D.faults disk.old }
     ensures quiet_sink { result ≢ statuses.Edge → K.faults sink.new ≡ K.faults sink.old }
     ensures later { (D.faults disk.old ≤ D.faults disk.new) × (K.faults sink.old ≤ K.faults sink.new) }
-    ensures swept { IsTrue D.is_modelled → IfOk driven (λ x. (o : Outcome) → result ≡ status_of_outcome o → IsSwept (items_of (driven_device x)) (D.seen disk.new)) }
+    ensures swept { IsTrue D.is_modelled → IfOk driven (λ x. (o : Outcome) → result ≡ status_of_outcome o →
+        IsSwept (items_of (driven_device x)) (D.seen disk.new)) }
 {
     match &driven {
         Ok(driven) => end_driven(alloc, driven, disk, sink, runner, supervisor),

@@ -81,9 +81,12 @@ where
     requires placed { (p : SessionState) × AsTold R.Runner runner.old (IsAtBootStage p (loaded_device state) (S.world supervisor.old)) × (p.serves ≡ false) }
     // Where the images at the start have the device's artifacts, each of each moment has those of the device for which it stands.
     // The call ends as one whose disk failed only where the disk's count rose.
-    ensures call { (p : SessionState) → AsTold R.Runner runner.old (IsAtBootStage p (loaded_device state) (S.world supervisor.old)) → (p.serves ≡ false) → (p.taken ≡ is_some p.device.pending) →
-        (c : Call J.entries J.files D.may_leave D.moment D.left_since disk.old disk.new (R.list runner.old) (R.list runner.new) (K.held sink.old) (K.held sink.new) p result) × Resumes (loaded_device state) c.ending
-        × (AllHoldDevice (D.may_leave disk.old) p.device → KeepsArtifacts J.entries J.files D.may_leave D.moment D.left_since disk.old disk.new (R.list runner.old) (R.list runner.new) (K.held sink.old) (K.held sink.new) p result c)
+    ensures call { (p : SessionState) → AsTold R.Runner runner.old (IsAtBootStage p (loaded_device state) (S.world supervisor.old)) → (p.serves ≡ false) →
+        (p.taken ≡ is_some p.device.pending) →
+        (c : Call J.entries J.files D.may_leave D.moment D.left_since disk.old disk.new (R.list runner.old) (R.list runner.new) (K.held sink.old)
+        (K.held sink.new) p result) × Resumes (loaded_device state) c.ending
+        × (AllHoldDevice (D.may_leave disk.old) p.device → KeepsArtifacts J.entries J.files D.may_leave D.moment D.left_since disk.old disk.new
+        (R.list runner.old) (R.list runner.new) (K.held sink.old) (K.held sink.new) p result c)
         × (c.ending ≡ Fails → Rose (D.faults disk.old) (D.faults disk.new)) }
     ensures own { result ≢ statuses.Library }
     ensures none { R.living runner.new ≡ [] }
@@ -94,7 +97,8 @@ where
     ensures quiet_sink { result ≢ statuses.Edge → K.faults sink.new ≡ K.faults sink.old }
     ensures later { Stays (D.faults disk.old) (D.faults disk.new) × Stays (K.faults sink.old) (K.faults sink.new) }
     // No stray file is left where none was there at the start.
-    ensures swept { (IsTrue D.is_modelled → IsSwept (items_of (loaded_device state)) (D.seen disk.old)) → LeavesNoStray D.is_modelled J.entries result (D.seen disk.new) }
+    ensures swept { (IsTrue D.is_modelled → IsSwept (items_of (loaded_device state)) (D.seen disk.old)) → LeavesNoStray D.is_modelled J.entries result
+        (D.seen disk.new) }
 {
     if let Loaded::Idle(_) = &state {
         return say(sink, &["idle\n"], Status::Done);

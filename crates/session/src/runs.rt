@@ -91,8 +91,10 @@ where
     // Where the images at the start have the artifacts that are needed, so has each of each moment. The call ends as one whose
     // disk failed only where the disk's count rose.
     ensures call { (p : SessionState) → AsTold R.Runner runner.old (IsOpen p (idle_device idle) (S.world supervisor.old)) → (p.serves ≡ false) →
-        (t : DrivesPlan J.entries J.files D.may_leave D.moment D.left_since disk.old disk.new (R.list runner.old) (R.list runner.new) (K.held sink.old) (K.held sink.new) p result (start_of J.end J.number J.turns (idle_log idle) (idle_device idle)) (plan_view plan))
-        × (AllHoldBoth (D.may_leave disk.old) p.device (plan_view plan).items → KeepsArtifacts J.entries J.files D.may_leave D.moment D.left_since disk.old disk.new (R.list runner.old) (R.list runner.new) (K.held sink.old) (K.held sink.new) p result t.0)
+        (t : DrivesPlan J.entries J.files D.may_leave D.moment D.left_since disk.old disk.new (R.list runner.old) (R.list runner.new) (K.held sink.old)
+        (K.held sink.new) p result (start_of J.end J.number J.turns (idle_log idle) (idle_device idle)) (plan_view plan))
+        × (AllHoldBoth (D.may_leave disk.old) p.device (plan_view plan).items → KeepsArtifacts J.entries J.files D.may_leave D.moment D.left_since disk.old
+        disk.new (R.list runner.old) (R.list runner.new) (K.held sink.old) (K.held sink.new) p result t.0)
         × (t.0.ending ≡ Fails → Rose (D.faults disk.old) (D.faults disk.new)) }
     ensures own { result ≢ statuses.Library }
     ensures none { R.living runner.new ≡ [] }
@@ -154,9 +156,12 @@ where
     // disk failed only where the disk's count rose, and its document is declined for the disk or for the library only where the
     // count of that rose.
     ensures call { (p : SessionState) → AsTold R.Runner runner.old (IsOpen p (idle_device idle) (S.world supervisor.old)) → (p.serves ≡ false) →
-        (taken : Result code.Plan Declined) × ((o : Origin) → (idle_device idle).origin ≡ Some o → TakesIn (idle_device idle) o (L.content library.old) (L.faults library.old) (L.faults library.new) document.now taken)
-        × (t : DrivesTaken J.entries J.files D.may_leave D.moment D.left_since disk.old disk.new (R.list runner.old) (R.list runner.new) (K.held sink.old) (K.held sink.new) p result (start_of J.end J.number J.turns (idle_log idle) (idle_device idle)) taken)
-        × (AllHoldDevice (D.may_leave disk.old) p.device → KeepsArtifacts J.entries J.files D.may_leave D.moment D.left_since disk.old disk.new (R.list runner.old) (R.list runner.new) (K.held sink.old) (K.held sink.new) p result t.0)
+        (taken : Result code.Plan Declined) × ((o : Origin) → (idle_device idle).origin ≡ Some o → TakesIn (idle_device idle) o (L.content library.old)
+        (L.faults library.old) (L.faults library.new) document.now taken)
+        × (t : DrivesTaken J.entries J.files D.may_leave D.moment D.left_since disk.old disk.new (R.list runner.old) (R.list runner.new) (K.held sink.old)
+        (K.held sink.new) p result (start_of J.end J.number J.turns (idle_log idle) (idle_device idle)) taken)
+        × (AllHoldDevice (D.may_leave disk.old) p.device → KeepsArtifacts J.entries J.files D.may_leave D.moment D.left_since disk.old disk.new
+        (R.list runner.old) (R.list runner.new) (K.held sink.old) (K.held sink.new) p result t.0)
         × (t.0.ending ≡ Fails → Rose (D.faults disk.old) (D.faults disk.new))
         × (HasDiskFailed taken → Rose (D.faults disk.old) (D.faults disk.new))
         × (HasLibraryFailed taken → Rose (L.faults library.old) (L.faults library.new)) }
@@ -168,7 +173,8 @@ where
     ensures quiet_sink { result ≢ statuses.Edge → K.faults sink.new ≡ K.faults sink.old }
     ensures later { Stays (D.faults disk.old) (D.faults disk.new) × Stays (K.faults sink.old) (K.faults sink.new) }
     // No stray file is left where none was there at the start.
-    ensures swept { (IsTrue D.is_modelled → IsSwept (items_of (idle_device idle)) (D.seen disk.old)) → LeavesNoStray D.is_modelled J.entries result (D.seen disk.new) }
+    ensures swept { (IsTrue D.is_modelled → IsSwept (items_of (idle_device idle)) (D.seen disk.old)) → LeavesNoStray D.is_modelled J.entries result
+        (D.seen disk.new) }
     ensures library { result ≡ statuses.Library → Rose (L.faults library.old) (L.faults library.new) }
     ensures kept { L.content library.new ≡ L.content library.old }
     ensures library_quiet { result ≢ statuses.Library → result ≢ statuses.Edge → L.faults library.new ≡ L.faults library.old }
@@ -216,9 +222,12 @@ where
     // disk failed only where the disk's count rose, and its document is declined for the disk or for the library only where the
     // count of that rose.
     ensures call { (p : SessionState) → AsTold R.Runner runner.old (IsOpen p (idle_device idle) (S.world supervisor.old)) → (p.serves ≡ false) →
-        (taken : Result code.Plan Declined) × ((o : Origin) → (idle_device idle).origin ≡ Some o → TakesRead (idle_device idle) o (L.content library.old) (L.faults library.old) (L.faults library.new) document.now taken)
-        × (t : DrivesTaken J.entries J.files D.may_leave D.moment D.left_since disk.old disk.new (R.list runner.old) (R.list runner.new) (K.held sink.old) (K.held sink.new) p result (start_of J.end J.number J.turns (idle_log idle) (idle_device idle)) taken)
-        × (AllHoldDevice (D.may_leave disk.old) p.device → KeepsArtifacts J.entries J.files D.may_leave D.moment D.left_since disk.old disk.new (R.list runner.old) (R.list runner.new) (K.held sink.old) (K.held sink.new) p result t.0)
+        (taken : Result code.Plan Declined) × ((o : Origin) → (idle_device idle).origin ≡ Some o → TakesRead (idle_device idle) o (L.content library.old)
+        (L.faults library.old) (L.faults library.new) document.now taken)
+        × (t : DrivesTaken J.entries J.files D.may_leave D.moment D.left_since disk.old disk.new (R.list runner.old) (R.list runner.new) (K.held sink.old)
+        (K.held sink.new) p result (start_of J.end J.number J.turns (idle_log idle) (idle_device idle)) taken)
+        × (AllHoldDevice (D.may_leave disk.old) p.device → KeepsArtifacts J.entries J.files D.may_leave D.moment D.left_since disk.old disk.new
+        (R.list runner.old) (R.list runner.new) (K.held sink.old) (K.held sink.new) p result t.0)
         × (t.0.ending ≡ Fails → Rose (D.faults disk.old) (D.faults disk.new))
         × (HasDiskFailed taken → Rose (D.faults disk.old) (D.faults disk.new))
         × (HasLibraryFailed taken → Rose (L.faults library.old) (L.faults library.new)) }
@@ -230,7 +239,8 @@ where
     ensures quiet_sink { result ≢ statuses.Edge → K.faults sink.new ≡ K.faults sink.old }
     ensures later { Stays (D.faults disk.old) (D.faults disk.new) × Stays (K.faults sink.old) (K.faults sink.new) }
     // No stray file is left where none was there at the start.
-    ensures swept { (IsTrue D.is_modelled → IsSwept (items_of (idle_device idle)) (D.seen disk.old)) → LeavesNoStray D.is_modelled J.entries result (D.seen disk.new) }
+    ensures swept { (IsTrue D.is_modelled → IsSwept (items_of (idle_device idle)) (D.seen disk.old)) → LeavesNoStray D.is_modelled J.entries result
+        (D.seen disk.new) }
     ensures library { result ≡ statuses.Library → Rose (L.faults library.old) (L.faults library.new) }
     ensures kept { L.content library.new ≡ L.content library.old }
     ensures library_quiet { result ≢ statuses.Library → result ≢ statuses.Edge → L.faults library.new ≡ L.faults library.old }

@@ -8,7 +8,8 @@ use Rattle.records.specs.declared.record.Origin.{Origin}
 use Rattle.components.specs.declared.kinds.Prepared.{Prepared}
 use Rattle.session_boots.specs.Made.{AreBootsOf, IsBootOf}
 
-pub listed : (o : Origin) (items : List Item) (names : List (List ℕ)) (made : List Prepared) → AllZip (IsBootOf o items) names made → AreBootsOf o items names made
+pub listed : (o : Origin) (items : List Item) (names : List (List ℕ)) (made : List Prepared) → AllZip (IsBootOf o items) names made →
+    AreBootsOf o items names made
 listed o items [] [] z k name is = absurd (cc)
 listed o items [] (m ∷ made) z k name is = absurd z
 listed o items (n ∷ names) [] z k name is = absurd z

@@ -31,14 +31,16 @@ use Rattle.session_admission.specs.Accepts.{Answer, HasTaken, OwnsTaken, IsFullA
 
 -- ---- it may come there, and what it leaves
 
-accept_follows : (p : SessionState) (d : Device) (world : Components) (told : Told) (living : List ℕ) (plan : Plan) → IsOpen p d world told living → MayFollow p (Recorded (Accepted plan))
+accept_follows : (p : SessionState) (d : Device) (world : Components) (told : Told) (living : List ℕ) (plan : Plan) → IsOpen p d world told living →
+    MayFollow p (Recorded (Accepted plan))
 accept_follows p d world told living plan o = (
   (record { told = o.quiet.told; alone = o.boot; no_end = o.boot_end; on = o.going }, o.quiet, o.takes),
   (λ cut. absurd (never p.cut o.cut cut)),
   o.over,
 )
 
-pub opened_by : (p : SessionState) (d e : Device) (world : Components) (told : Told) (living : List ℕ) (plan : Plan) → IsOpen p d world told living → e ≡ applied d (Accepted plan)
+pub opened_by : (p : SessionState) (d e : Device) (world : Components) (told : Told) (living : List ℕ) (plan : Plan) → IsOpen p d world told living →
+    e ≡ applied d (Accepted plan)
     → IsOpened (leaves p (Recorded (Accepted plan))) e world told living
 opened_by p d e world told living plan o same =
     let s = o.stands in
@@ -66,12 +68,14 @@ line_is d plan = sym (append-nil (accepted_line plan.id))
 
 -- ---- over a disk
 
-module _ (entries : Image → List (List ℕ) → Type 0) (files : List ℕ → Type 0) {D : Type 0} {may_leave : D → Image → Type 0} {moment : D → ℕ} {left_since : D → ℕ → Image → Type 0} {is_modelled : Bool} {seen : D → Image}
+module _ (entries : Image → List (List ℕ) → Type 0) (files : List ℕ → Type 0) {D : Type 0} {may_leave : D → Image → Type 0} {moment : D → ℕ} {left_since : D →
+    ℕ → Image → Type 0} {is_modelled : Bool} {seen : D → Image}
     (laws : DiskLaws is_modelled seen may_leave moment left_since) where
   abbrev Notes : D → D → Device → Plan → Type 0
   Notes old new d plan = Leaves moment left_since old new (LeavesEither may_leave files entries old d (applied d (Accepted plan)))
 
-  pub accept_went : (old new : D) (list : Option (List RunnerEntry)) (p : SessionState) (d : Device) (world : Components) (told : Told) (living : List ℕ) (plan : Plan) → IsOpen p d world told living
+  pub accept_went : (old new : D) (list : Option (List RunnerEntry)) (p : SessionState) (d : Device) (world : Components) (told : Told) (living : List ℕ)
+      (plan : Plan) → IsOpen p d world told living
       → Allowed d (Accepted plan) → Notes old new d plan → IsTrace entries files may_leave moment left_since old new list list p (Recorded (Accepted plan) ∷ [])
   accept_went old new list p d world told living plan o allowed notes =
       let same = sym o.stands.device_is in
@@ -79,7 +83,8 @@ module _ (entries : Image → List (List ℕ) → Type 0) (files : List ℕ → 
       (subst (λ (x : Device). Allowed x (Accepted plan)) same allowed) (subst (λ (x : Device). Notes old new x plan) same notes)
 
   -- a refusal after which the plan is not given back
-  pub stopped_went : {J : Type 0} (refusal : AcceptRefusal J) (old new : D) (held : Option (List ℕ)) (p : SessionState) (d : Device) (world : Components) (told : Told) (living : List ℕ) (plan : Plan)
+  pub stopped_went : {J : Type 0} (refusal : AcceptRefusal J) (old new : D) (held : Option (List ℕ)) (p : SessionState) (d : Device) (world : Components)
+      (told : Told) (living : List ℕ) (plan : Plan)
       → HasTaken (answer_of refusal) → IsOpen p d world told living → Allowed d (Accepted plan) → Notes old new d plan
       → (h : List TraceEvent) × IsTrace entries files may_leave moment left_since old new told.list told.list p h
       × Lines held held p.device (records_of h) (answer_of refusal)
@@ -95,7 +100,8 @@ module _ (entries : Image → List (List ℕ) → Type 0) (files : List ℕ → 
     refl,
   )
 
-  pub stopped_answer : {J : Type 0} (refusal : AcceptRefusal J) (r : Answer J) → r ≡ answer_of refusal → (old new : D) (held : Option (List ℕ)) (p : SessionState) (d : Device) (world : Components) (told : Told) (living : List ℕ) (plan : Plan)
+  pub stopped_answer : {J : Type 0} (refusal : AcceptRefusal J) (r : Answer J) → r ≡ answer_of refusal →
+      (old new : D) (held : Option (List ℕ)) (p : SessionState) (d : Device) (world : Components) (told : Told) (living : List ℕ) (plan : Plan)
       → HasTaken r → IsOpen p d world told living → Allowed d (Accepted plan) → Notes old new d plan
       → (h : List TraceEvent) × IsTrace entries files may_leave moment left_since old new told.list told.list p h
       × Lines held held p.device (records_of h) r
@@ -103,7 +109,8 @@ module _ (entries : Image → List (List ℕ) → Type 0) (files : List ℕ → 
       × (records_of h ≡ Accepted plan ∷ [])
   stopped_answer {J = J} refusal r is old new held p d world told living plan taken o allowed notes =
       subst (λ (x : Answer J). (h : List TraceEvent) × IsTrace entries files may_leave moment left_since old new told.list told.list p h
-      × Lines held held p.device (records_of h) x × Left entries may_leave new p h (λ y q. Opened y q world told living) x × (records_of h ≡ Accepted plan ∷ [])) (sym is)
+      × Lines held held p.device (records_of h) x × Left entries may_leave new p h (λ y q. Opened y q world told living) x ×
+      (records_of h ≡ Accepted plan ∷ [])) (sym is)
       (stopped_went refusal old new held p d world told living plan (subst HasTaken is taken) o allowed notes)
 
 -- ---- the refusals one by one
@@ -142,13 +149,15 @@ module _ {J : Type 0} where
   refusal_edge (refused.NoMemory s) is = cc
   refusal_edge (refused.Stopped s) is = cc
 
-  pub refusal_taken : (refusal : AcceptRefusal J) (Is : Idle J → Type 0) (d : Device) (plan : Plan) → HandsBack (λ s. Is s × (idle_device s ≡ d)) (Refused refusal) → IfOk (answer_of refusal) (IsTakenOf d plan)
+  pub refusal_taken : (refusal : AcceptRefusal J) (Is : Idle J → Type 0) (d : Device) (plan : Plan) → HandsBack (λ s. Is s × (idle_device s ≡ d))
+      (Refused refusal) → IfOk (answer_of refusal) (IsTakenOf d plan)
   refusal_taken (refused.Full s at) Is d plan back = back.1
   refusal_taken (refused.NoMemory s) Is d plan back = back.1
   refusal_taken (refused.Stopped s) Is d plan back = tt
 
   module _ {D : Type 0} (is_modelled : Bool) (may_leave : D → Image → Type 0) (stands : J → Image → List (List ℕ) → Type 0) (end : J → ℕ) where
-    pub refusal_held : (refusal : AcceptRefusal J) (disk : D) (d : Device) → HandsBack (λ s. OwnsIdle is_modelled may_leave stands end s disk × (idle_device s ≡ d)) (Refused refusal)
+    pub refusal_held : (refusal : AcceptRefusal J) (disk : D) (d : Device) →
+        HandsBack (λ s. OwnsIdle is_modelled may_leave stands end s disk × (idle_device s ≡ d)) (Refused refusal)
         → IfOk (answer_of refusal) (λ x. OwnsTaken is_modelled may_leave stands end x disk)
     refusal_held (refused.Full s at) disk d back = back.0
     refusal_held (refused.NoMemory s) disk d back = back.0

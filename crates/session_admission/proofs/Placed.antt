@@ -1,5 +1,6 @@
 -- The item of a name, and its bootstrap step.
-use Rattle.std.proofs.Common.{◌≡◌, ℕ, zero, suc, ◌+◌, ◌≤◌, List, [], ◌∷◌, map, length, Option, Some, None, Bool, true, false, refl, sym, ap, subst, ◌∙◌, inl, inr, arith}
+use Rattle.std.proofs.Common.{◌≡◌, ℕ, zero, suc, ◌+◌, ◌≤◌, List, [], ◌∷◌, map, length, Option, Some, None, Bool, true, false, refl, sym, ap, subst, ◌∙◌, inl}
+use Rattle.std.proofs.Common.{inr, arith}
 use Rattle.std.specs.Prelude.{slice_get, is_some, IsSome, if◌then◌else◌}
 use Rattle.std.specs.List.{AllByRecursion, Contains}
 use Rattle.std.specs.List.Sorted.{IsStrictlySortedBy}
@@ -58,7 +59,8 @@ placed n items at is =
     let same : m.0 ≡ at = omega (arith, far) in
     subst (λ (k : ℕ). IsPlaced n items k) same m.2
 
-found_step : (k : ℕ) (n : List ℕ) (items : List Item) (b : Bool) → (b ≡ false → IsSome (place_from (k + 1) n items)) → IsSome (if b then Some k else place_from (k + 1) n items)
+found_step : (k : ℕ) (n : List ℕ) (items : List Item) (b : Bool) → (b ≡ false → IsSome (place_from (k + 1) n items)) →
+    IsSome (if b then Some k else place_from (k + 1) n items)
 found_step k n items true more = refl
 found_step k n items false more = more refl
 
@@ -80,7 +82,8 @@ is_there p items n boot none = none_is (place n items) none (found_from 0 n item
 less_self : (n : List ℕ) → slice_cmp nat_cmp n n ≡ Less → ⊥
 less_self n less = false≢true (sym (ap is_eq less) ∙ is_eq-slice_cmp n n ∙ (bytes_eq-Decides n n).1 refl)
 
-below_all : (n : List ℕ) (items : List Item) → AllByRecursion (λ m. slice_cmp nat_cmp n m ≡ Less) (map item_name items) → (i : Item) → Contains items i → slice_cmp nat_cmp n i.name ≡ Less
+below_all : (n : List ℕ) (items : List Item) → AllByRecursion (λ m. slice_cmp nat_cmp n m ≡ Less) (map item_name items) → (i : Item) → Contains items i →
+    slice_cmp nat_cmp n i.name ≡ Less
 below_all n [] less i has = absurd (in_nil i has)
 below_all n (x ∷ items) less i has = elim (in_cons x items i has) [
   | inl here ↦ subst (λ (y : Item). slice_cmp nat_cmp n y.name ≡ Less) here less.0
@@ -94,10 +97,12 @@ same_item [] rise a b i j same = absurd (in_nil a i)
 same_item (x ∷ items) rise a b i j same = elim (in_cons x items a i) [
   | inl e ↦ elim (in_cons x items b j) [
     | inl f ↦ sym e ∙ f
-    | inr there ↦ absurd (less_self b.name (subst (λ (n : List ℕ). slice_cmp nat_cmp n b.name ≡ Less) (ap item_name e ∙ same) (below_all x.name items rise.0 b there)))
+    | inr there ↦ absurd (less_self b.name (subst (λ (n : List ℕ). slice_cmp nat_cmp n b.name ≡ Less) (ap item_name e ∙ same)
+        (below_all x.name items rise.0 b there)))
   ]
   | inr here ↦ elim (in_cons x items b j) [
-    | inl f ↦ absurd (less_self a.name (subst (λ (n : List ℕ). slice_cmp nat_cmp n a.name ≡ Less) (ap item_name f ∙ sym same) (below_all x.name items rise.0 a here)))
+    | inl f ↦ absurd (less_self a.name (subst (λ (n : List ℕ). slice_cmp nat_cmp n a.name ≡ Less) (ap item_name f ∙ sym same)
+        (below_all x.name items rise.0 a here)))
     | inr there ↦ same_item items rise.1 a b here there same
   ]
 ]
@@ -118,17 +123,20 @@ none_made scope None made = refl
 none_made scope (Some def) made = let is = made.1 in absurd (cc)
 
 -- an item with a bootstrap step has it made ready
-pub is_made : IsOneRecipe → (o : Origin) (items : List Item) (n : List ℕ) (at : ℕ) → AreItems o.platform items → IsBoot o.platform items n → place n items ≡ Some at
+pub is_made : IsOneRecipe → (o : Origin) (items : List Item) (n : List ℕ) (at : ℕ) → AreItems o.platform items → IsBoot o.platform items n →
+    place n items ≡ Some at
     → IsStepAt o items at step.Bootstrap None → ⊥
 is_made one o items n at are boot is made =
     let p = placed n items at is in
     let scope = made.is_scope in
     let same : p.item ≡ boot.item = same_item items are.rise p.item boot.item p.is_one boot.is_one (p.named ∙ sym boot.named) in
     let here : scope.item ≡ boot.item = some_item scope.item p.item (sym scope.there ∙ p.there) ∙ same in
-    let alike = one boot.item.recipe o.platform scope.recipe boot.recipe (subst (λ (i : Item). Reads i.recipe o.platform scope.recipe) here scope.reads) boot.reads in
+    let alike = one boot.item.recipe o.platform scope.recipe boot.recipe (subst (λ (i : Item). Reads i.recipe o.platform scope.recipe) here scope.reads)
+    boot.reads in
     none_is boot.recipe.bootstrap (sym (alike.steps step.Bootstrap) ∙ none_made made.scope (step_of scope.recipe step.Bootstrap) made.prepared) boot.step
 
-pub boot_of : (o : Origin) (items : List Item) (n : List ℕ) (at : ℕ) (m : Prepared) → place n items ≡ Some at → IsStepAt o items at step.Bootstrap (Some m) → IsBootOf o items n m
+pub boot_of : (o : Origin) (items : List Item) (n : List ℕ) (at : ℕ) (m : Prepared) → place n items ≡ Some at → IsStepAt o items at step.Bootstrap (Some m) →
+    IsBootOf o items n m
 boot_of o items n at m is made =
     let p = placed n items at is in
     record { at = at; item = p.item; there = p.there; named = p.named; prepared = made }

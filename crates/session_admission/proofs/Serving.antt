@@ -5,7 +5,8 @@ use Rattle.std.specs.Option.{IfSome, IsSomeAnd}
 use Rattle.records.specs.Stored.{Item, Plan, Record, Genesis, Accepted, BootBegun, BootEnded, Activating, StepFailed, Failing, FailingBack, Closed}
 use Rattle.records.specs.declared.record.Origin.{Origin}
 use Rattle.device.specs.Devices.{Device, Pending}
-use Rattle.device.specs.Lawful.{Allowed, Lawful, MayAccept, activated, applied, begun, boot_ended, close_pending, count_failure, goes_back, on_pending, rolled, turned_back}
+use Rattle.device.specs.Lawful.{Allowed, Lawful, MayAccept, activated, applied, begun, boot_ended, close_pending, count_failure, goes_back, on_pending}
+use Rattle.device.specs.Lawful.{rolled, turned_back}
 use Rattle.device.specs.Sound.{IsBacking, IsInStage, IsSound, IsUnderWay}
 use Rattle.device.specs.declared.staged.Stage.{Stage}
 use Rattle.device.specs.declared.staged.Stage.TheVariants as stages
@@ -51,7 +52,8 @@ front p [] (suc n) k x h = absurd (cc)
 front p (y ∷ xs) (suc n) k x h = by (p y) k (λ j more. front p xs n j x more) h
   where
     by : (b : Bool) (k : ℕ) → ((j : ℕ) → slice_get (filter p (take n xs)) j ≡ Some x → slice_get (filter p xs) j ≡ Some x)
-        → slice_get (if b then y ∷ filter p (take n xs) else filter p (take n xs)) k ≡ Some x → slice_get (if b then y ∷ filter p xs else filter p xs) k ≡ Some x
+        → slice_get (if b then y ∷ filter p (take n xs) else filter p (take n xs)) k ≡ Some x → slice_get (if b then y ∷ filter p xs else filter p xs) k
+        ≡ Some x
     by true zero more h = h
     by true (suc k) more h = more k h
     by false k more h = more k h
@@ -64,11 +66,13 @@ module _ (boots backs : List Prepared) (items earlier : List Fitted) where
   -- ---- from record to record
 
   -- what is made ready for a plan before it is accepted
-  pub accepted_ready : (d : Device) (o : Origin) (plan : Plan) → d.origin ≡ Some o → IsReadied o d.set plan boots backs items earlier → AreReadiedFor (applied d (Accepted plan)) boots backs items earlier
+  pub accepted_ready : (d : Device) (o : Origin) (plan : Plan) → d.origin ≡ Some o → IsReadied o d.set plan boots backs items earlier →
+      AreReadiedFor (applied d (Accepted plan)) boots backs items earlier
   accepted_ready d o plan is readied = subst (λ (x : Option Origin). Serves x d.set plan) (sym is) readied
 
   -- for one plan, on devices of one origin and of the same items
-  pub ready_on : (d e : Device) → e.origin ≡ d.origin → e.set ≡ d.set → option_map (λ (q : Pending). q.plan) e.pending ≡ option_map (λ (q : Pending). q.plan) d.pending
+  pub ready_on : (d e : Device) → e.origin ≡ d.origin → e.set ≡ d.set → option_map (λ (q : Pending). q.plan) e.pending ≡ option_map (λ (q : Pending). q.plan)
+      d.pending
       → AreReadiedFor d boots backs items earlier → AreReadiedFor e boots backs items earlier
   ready_on d e origin set plan ready =
       let of : IfSome (option_map (λ (q : Pending). q.plan) d.pending) (Serves d.origin d.set) = of_plan (Serves d.origin d.set) d.pending ready in
@@ -78,7 +82,8 @@ module _ (boots backs : List Prepared) (items earlier : List Fitted) where
       with_plan (Serves e.origin e.set) e.pending set_of
 
   -- where what changes of the pending deployment is not its plan
-  pub ready_kept : (f : Pending → Pending) (d : Device) → ((q : Pending) → (f q).plan ≡ q.plan) → AreReadiedFor d boots backs items earlier → AreReadiedFor (on_pending f d) boots backs items earlier
+  pub ready_kept : (f : Pending → Pending) (d : Device) → ((q : Pending) → (f q).plan ≡ q.plan) → AreReadiedFor d boots backs items earlier →
+      AreReadiedFor (on_pending f d) boots backs items earlier
   ready_kept f d same ready = ready_on d (on_pending f d) refl refl (by d.pending) ready
     where
       by : (x : Option Pending) → option_map (λ (q : Pending). q.plan) (option_map f x) ≡ option_map (λ (q : Pending). q.plan) x
@@ -97,7 +102,8 @@ module _ (boots backs : List Prepared) (items earlier : List Fitted) where
       let none : d.pending ≡ None = may.2.0.0 in
       absurd (cc)
 
-  step : (d : Device) (r : Record) (q : Pending) → d.pending ≡ Some q → Allowed d r → AreReadiedFor d boots backs items earlier → AreReadiedFor (applied d r) boots backs items earlier
+  step : (d : Device) (r : Record) (q : Pending) → d.pending ≡ Some q → Allowed d r → AreReadiedFor d boots backs items earlier →
+      AreReadiedFor (applied d r) boots backs items earlier
   step d (Genesis o) q is allowed ready = absurd (no_origin d q is allowed.0 ready)
   step d (Accepted p) q is allowed ready = absurd (no_plan d q p is allowed)
   step d (BootBegun n) q is allowed ready = ready_kept begun d (λ p. refl) ready
@@ -110,36 +116,44 @@ module _ (boots backs : List Prepared) (items earlier : List Fitted) where
   step d _ q is allowed ready = absurd allowed
 
   -- whatever record is lawful while it is pending; behind its close nothing is asked
-  pub ready_after : (d e : Device) (r : Record) (q : Pending) → d.pending ≡ Some q → Lawful d r e → AreReadiedFor d boots backs items earlier → AreReadiedFor e boots backs items earlier
-  ready_after d e r q is lawful ready = subst (λ (x : Device). AreReadiedFor x boots backs items earlier) (sym lawful.leaves) (step d r q is lawful.allowed ready)
+  pub ready_after : (d e : Device) (r : Record) (q : Pending) → d.pending ≡ Some q → Lawful d r e → AreReadiedFor d boots backs items earlier →
+      AreReadiedFor e boots backs items earlier
+  ready_after d e r q is lawful ready = subst (λ (x : Device). AreReadiedFor x boots backs items earlier) (sym lawful.leaves)
+      (step d r q is lawful.allowed ready)
 
   -- ---- in the stages
 
   -- the bootstraps of the plan
   pub boots_made : (d : Device) → AreReadiedFor d boots backs items earlier → AreMade d boots
   boots_made d ready =
-      if_so (λ (q : Pending). Serves d.origin d.set q.plan) (λ (q : Pending). IsSomeAnd d.origin (λ o. AreBootsOf o q.plan.items q.plan.boots boots)) d.pending (λ q h. each q h) ready
+      if_so (λ (q : Pending). Serves d.origin d.set q.plan) (λ (q : Pending). IsSomeAnd d.origin (λ o. AreBootsOf o q.plan.items q.plan.boots boots))
+      d.pending (λ q h. each q h) ready
     where
       each : (q : Pending) → Serves d.origin d.set q.plan → IsSomeAnd d.origin (λ o. AreBootsOf o q.plan.items q.plan.boots boots)
-      each q h = some_so (λ (o : Origin). IsReadied o d.set q.plan boots backs items earlier) (λ (o : Origin). AreBootsOf o q.plan.items q.plan.boots boots) d.origin (λ o r. r.boots) h
+      each q h = some_so (λ (o : Origin). IsReadied o d.set q.plan boots backs items earlier) (λ (o : Origin). AreBootsOf o q.plan.items q.plan.boots boots)
+          d.origin (λ o r. r.boots) h
 
-  backs_in : (origin : Option Origin) (set : List Item) (q : Pending) → IsBacking origin set (record q { stage = stages.Backing }) → Serves origin set q.plan → IsSomeAnd origin (λ o. AreBootsOf o set q.backs backs)
+  backs_in : (origin : Option Origin) (set : List Item) (q : Pending) → IsBacking origin set (record q { stage = stages.Backing }) → Serves origin
+      set q.plan → IsSomeAnd origin (λ o. AreBootsOf o set q.backs backs)
   backs_in None set q is h = absurd h
   backs_in (Some o) set q is h =
       subst (λ (names : List (List ℕ)). AreBootsOf o set names backs) (sym is.backs_are)
       (λ k name there. h.backs k name (front (goes_back o.platform set) q.plan.boots q.reach k name there))
 
   -- the bootstraps that run again
-  pub backs_made : (d : Device) → IsSound d → IsIn stages.Backing d → AreReadiedFor d boots backs items earlier → IfSome d.pending (λ q. IsSomeAnd d.origin (λ o. AreBootsOf o d.set q.backs backs))
+  pub backs_made : (d : Device) → IsSound d → IsIn stages.Backing d → AreReadiedFor d boots backs items earlier →
+      IfSome d.pending (λ q. IsSomeAnd d.origin (λ o. AreBootsOf o d.set q.backs backs))
   backs_made d sound is ready = by d.pending sound.pending is ready
     where
-      by : (x : Option Pending) → IfSome x (IsUnderWay d) → IsSomeAnd x (λ (q : Pending). q.stage ≡ stages.Backing) → IfSome x (λ (q : Pending). Serves d.origin d.set q.plan)
+      by : (x : Option Pending) → IfSome x (IsUnderWay d) → IsSomeAnd x (λ (q : Pending). q.stage ≡ stages.Backing) →
+          IfSome x (λ (q : Pending). Serves d.origin d.set q.plan)
           → IfSome x (λ (q : Pending). IsSomeAnd d.origin (λ o. AreBootsOf o d.set q.backs backs))
       by None way stage h = tt
       by (Some q) way stage h = backs_in d.origin d.set q (subst (λ (s : Stage). IsInStage d.origin d.set (record q { stage = s })) stage way.1) h
 
   -- the items of the plan
-  pub items_ready : (d : Device) → IsIn stages.Activating d → AreReadiedFor d boots backs items earlier → (o : Origin) × (d.origin ≡ Some o) × AreFitted o (duty_of d).items items
+  pub items_ready : (d : Device) → IsIn stages.Activating d → AreReadiedFor d boots backs items earlier → (o : Origin) × (d.origin ≡ Some o) ×
+      AreFitted o (duty_of d).items items
   items_ready d is ready = by d.pending is ready
     where
       by : (x : Option Pending) → IsSomeAnd x (λ (q : Pending). q.stage ≡ stages.Activating) → IfSome x (λ (q : Pending). Serves d.origin d.set q.plan)
@@ -151,15 +165,18 @@ module _ (boots backs : List Prepared) (items earlier : List Fitted) where
           (r.0, r.1, subst (λ (xs : List Item). AreFitted r.0 xs items) (sym duty) r.2.items)
 
   -- the same, before the record with which they are to run
-  pub plan_ready : (d : Device) → IsIn stages.Booting d → AreReadiedFor d boots backs items earlier → (o : Origin) × (d.origin ≡ Some o) × AreFitted o (duty_of (applied d Activating)).items items
+  pub plan_ready : (d : Device) → IsIn stages.Booting d → AreReadiedFor d boots backs items earlier → (o : Origin) × (d.origin ≡ Some o) ×
+      AreFitted o (duty_of (applied d Activating)).items items
   plan_ready d is ready = items_ready (applied d Activating) (by d.pending is) (ready_kept activated d (λ p. refl) ready)
     where
-      by : (x : Option Pending) → IsSomeAnd x (λ (q : Pending). q.stage ≡ stages.Booting) → IsSomeAnd (option_map activated x) (λ (q : Pending). q.stage ≡ stages.Activating)
+      by : (x : Option Pending) → IsSomeAnd x (λ (q : Pending). q.stage ≡ stages.Booting) →
+          IsSomeAnd (option_map activated x) (λ (q : Pending). q.stage ≡ stages.Activating)
       by None h = h
       by (Some q) h = refl
 
   -- the items of the set, which come up again
-  pub earlier_ready : (d : Device) → IsIn stages.Rolling d → AreReadiedFor d boots backs items earlier → (o : Origin) × (d.origin ≡ Some o) × AreFitted o (duty_of d).items earlier
+  pub earlier_ready : (d : Device) → IsIn stages.Rolling d → AreReadiedFor d boots backs items earlier → (o : Origin) × (d.origin ≡ Some o) ×
+      AreFitted o (duty_of d).items earlier
   earlier_ready d is ready = by d.pending is ready
     where
       by : (x : Option Pending) → IsSomeAnd x (λ (q : Pending). q.stage ≡ stages.Rolling) → IfSome x (λ (q : Pending). Serves d.origin d.set q.plan)

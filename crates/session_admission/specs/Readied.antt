@@ -23,4 +23,5 @@ pub record IsReadied (o : Origin) (set : List Item) (plan : Plan) (made made_aga
 
 -- so they are for the deployment that is pending
 abbrev pub AreReadiedFor : Device → List Prepared → List Prepared → List Fitted → List Fitted → Type 0
-AreReadiedFor d made made_again fitted fitted_again = IfSome d.pending (λ q. IsSomeAnd d.origin (λ o. IsReadied o d.set q.plan made made_again fitted fitted_again))
+AreReadiedFor d made made_again fitted fitted_again = IfSome d.pending
+    (λ q. IsSomeAnd d.origin (λ o. IsReadied o d.set q.plan made made_again fitted fitted_again))

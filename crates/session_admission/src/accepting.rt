@@ -62,7 +62,8 @@ pub fn accept_plan<D: Disk, J: Journal + Drop, K: Sink>(
     requires lawful { Allowed (idle_device idle) (stored.Accepted (plan_view plan)) }
     requires regular { IsRegularRecord (stored.Accepted (plan_view plan)) }
     // A plan that is taken is the one record of a history.
-    ensures trace { HasTaken result → (p : SessionState) → (world : Components) → (told : Told) → (living : List ℕ) → IsOpen p (idle_device idle) world told living →
+    ensures trace { HasTaken result → (p : SessionState) → (world : Components) → (told : Told) → (living : List ℕ) →
+        IsOpen p (idle_device idle) world told living →
         (h : List TraceEvent) × IsTraceOver D.Disk J.Journal disk.old disk.new told.list told.list p h
         × Lines (K.held sink.old) (K.held sink.new) p.device (records_of h) result
         × LeftOver D.Disk J.Journal disk.new p h (λ x q. Opened x q world told living) result
@@ -71,7 +72,8 @@ pub fn accept_plan<D: Disk, J: Journal + Drop, K: Sink>(
     ensures moments { Leaves D.moment D.left_since disk.old disk.new
         (LeavesEither D.may_leave J.files J.entries disk.old (idle_device idle) (applied (idle_device idle) (stored.Accepted (plan_view plan)))) }
     // Where the plan is given back it leaves it without.
-    ensures unmade { ¬ (HasTaken result) → Leaves D.moment D.left_since disk.old disk.new (LeavesSame D.may_leave J.files J.entries disk.old (idle_device idle)) }
+    ensures unmade { ¬ (HasTaken result) → Leaves D.moment D.left_since disk.old disk.new
+        (LeavesSame D.may_leave J.files J.entries disk.old (idle_device idle)) }
     ensures taken { IfOk result (IsTakenOf (idle_device idle) (plan_view plan)) }
     ensures held { IfOk result (λ x. Holds D.Disk J.Journal OwnsTaken x disk.new) }
     ensures silent { ¬ (HasTaken result) → sink.new ≡ sink.old }

@@ -39,7 +39,8 @@ where
     requires set_regular { AreRegularItems (map item_view set.now) }
     requires plan { IsPlan origin.now.platform (plan_view plan.now) }
     requires plan_regular { AreRegularItems (plan_view plan.now).items }
-    ensures readied { IfOk result (λ r. IsReadied origin.now (map item_view set.now) (plan_view plan.now) r.boots r.backs (S.coming r.items) (S.coming r.earlier)) }
+    ensures readied { IfOk result (λ r. IsReadied origin.now (map item_view set.now) (plan_view plan.now) r.boots r.backs (S.coming r.items)
+        (S.coming r.earlier)) }
     ensures room { IfOk result (λ r. standing_count (S.world supervisor.now) ≤ S.room r.items) }
     ensures room_back { IfOk result (λ r. standing_count (S.world supervisor.now) ≤ S.room r.earlier) }
 {

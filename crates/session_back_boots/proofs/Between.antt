@@ -15,7 +15,8 @@ use Rattle.session_boots.specs.Stands.{IsAtBootStage}
 use Rattle.session_boots.specs.Steps.{MayStep}
 use Rattle.session_back_boots.proofs.Duties.{boots_phase, in_turn}
 
-pub may_step : (p : SessionState) (d : Device) (world : Components) (told : Told) (living : List ℕ) (m : Prepared) → IsAtBootStage p d world told living → IsIn stages.Backing d → IsTurn d m → (duty_of d).begun ≡ true → MayStep p m told
+pub may_step : (p : SessionState) (d : Device) (world : Components) (told : Told) (living : List ℕ) (m : Prepared) → IsAtBootStage p d world told living →
+    IsIn stages.Backing d → IsTurn d m → (duty_of d).begun ≡ true → MayStep p m told
 may_step p d world told living m f is t begun =
     let same = f.between.stands.device_is in
     let turn = in_turn d t.name is t.turn in

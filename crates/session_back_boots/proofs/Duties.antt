@@ -61,7 +61,8 @@ in_turn d name is turn = by d.pending is turn
 
 -- a turn as the calls of a state ask for it
 pub can_begin : (d : Device) (name : List ℕ) → InTurn d name → CanBegin d
-can_begin d name t = subst (λ (o : Option Pending). IsSomeAnd o (λ q. (q.boot_failed ≡ false) × IsSome (next_boot q))) (sym t.pending) (t.failed, ap (λ (o : Option (List ℕ)). is_some o) t.next)
+can_begin d name t = subst (λ (o : Option Pending). IsSomeAnd o (λ q. (q.boot_failed ≡ false) × IsSome (next_boot q))) (sym t.pending)
+    (t.failed, ap (λ (o : Option (List ℕ)). is_some o) t.next)
 
 pub named : (o : Option (List ℕ)) → is_some o ≡ true → (n : List ℕ) × (o ≡ Some n)
 named None h = absurd cc
@@ -73,7 +74,8 @@ turn_is b o name h k = rw (h, k) refl
 pub turn_told : (d : Device) → IsIn stages.Backing d → CanBegin d → (name : List ℕ) × ((duty_of d).turn ≡ Some name)
 turn_told d is can = by d.pending is can
   where
-    by : (o : Option Pending) → IsSomeAnd o (λ q. q.stage ≡ stages.Backing) → IsSomeAnd o (λ q. (q.boot_failed ≡ false) × IsSome (next_boot q)) → (name : List ℕ) × ((duty_of (pends d o)).turn ≡ Some name)
+    by : (o : Option Pending) → IsSomeAnd o (λ q. q.stage ≡ stages.Backing) → IsSomeAnd o (λ q. (q.boot_failed ≡ false) × IsSome (next_boot q)) →
+        (name : List ℕ) × ((duty_of (pends d o)).turn ≡ Some name)
     by None h c = absurd h
     by (Some q) h c =
         let n = named (next_boot q) c.1 in
@@ -82,11 +84,13 @@ turn_told d is can = by d.pending is can
 -- ---- the record that it begins
 
 pub mark_begun : (d : Device) (name : List ℕ) → InTurn d name → IsMark d marks.BootBegun (stored.BootBegun name)
-mark_begun d name t = subst (λ (o : Option Pending). IsSomeAnd o (λ q. IsMarkOf d.set q marks.BootBegun (stored.BootBegun name))) (sym t.pending) (name, t.next, refl)
+mark_begun d name t = subst (λ (o : Option Pending). IsSomeAnd o (λ q. IsMarkOf d.set q marks.BootBegun (stored.BootBegun name))) (sym t.pending)
+    (name, t.next, refl)
 
 -- it is lawful where it was not begun
 pub allowed_begun : (d : Device) (name : List ℕ) (t : InTurn d name) → t.q.begun ≡ false → Allowed d (stored.BootBegun name)
-allowed_begun d name t new = subst (λ (o : Option Pending). IsSomeAnd o (λ q. (q.boot_failed ≡ false) × (next_boot q ≡ Some name) × (q.begun ≡ false))) (sym t.pending) (t.failed, t.next, new)
+allowed_begun d name t new = subst (λ (o : Option Pending). IsSomeAnd o (λ q. (q.boot_failed ≡ false) × (next_boot q ≡ Some name) × (q.begun ≡ false)))
+    (sym t.pending) (t.failed, t.next, new)
 
 pub was_begun : (d : Device) (name : List ℕ) (t : InTurn d name) → t.q.begun ≡ true → IsBegun d
 was_begun d name t old = subst (λ (o : Option Pending). IsSomeAnd o (λ q. q.begun ≡ true)) (sym t.pending) old
@@ -95,7 +99,8 @@ was_begun d name t old = subst (λ (o : Option Pending). IsSomeAnd o (λ q. q.be
 pub begun_duty : (d : Device) (name : List ℕ) → IsIn stages.Backing d → duty_of (applied d (stored.BootBegun name)) ≡ record (duty_of d) { begun = true }
 begun_duty d name is = by d.pending is
   where
-    by : (o : Option Pending) → IsSomeAnd o (λ q. q.stage ≡ stages.Backing) → duty_of (pends d (option_map begun o)) ≡ record (duty_of (pends d o)) { begun = true }
+    by : (o : Option Pending) → IsSomeAnd o (λ q. q.stage ≡ stages.Backing) → duty_of (pends d (option_map begun o)) ≡ record (duty_of (pends d o))
+        { begun = true }
     by None h = absurd h
     by (Some q) h = rw h refl
 
@@ -118,10 +123,12 @@ begun_told d e name is same = ap (λ (x : Device). (duty_of x).begun) same ∙ a
 pub allowed_ended : (d : Device) (name : List ℕ) (e : Exit) → InTurn d name → (duty_of d).begun ≡ true → Allowed d (stored.BootEnded name e)
 allowed_ended d name e t begun =
     let old = sym (ap (λ (x : Duty). x.begun) t.duty) ∙ begun in
-    subst (λ (o : Option Pending). IsSomeAnd o (λ q. (q.boot_failed ≡ false) × (next_boot q ≡ Some name) × (q.begun ≡ true))) (sym t.pending) (t.failed, t.next, old)
+    subst (λ (o : Option Pending). IsSomeAnd o (λ q. (q.boot_failed ≡ false) × (next_boot q ≡ Some name) × (q.begun ≡ true))) (sym t.pending)
+    (t.failed, t.next, old)
 
 pub mark_ended : (d : Device) (name : List ℕ) (e : Exit) → InTurn d name → IsMark d (marks.BootEnded e) (stored.BootEnded name e)
-mark_ended d name e t = subst (λ (o : Option Pending). IsSomeAnd o (λ q. IsMarkOf d.set q (marks.BootEnded e) (stored.BootEnded name e))) (sym t.pending) (name, t.next, refl)
+mark_ended d name e t = subst (λ (o : Option Pending). IsSomeAnd o (λ q. IsMarkOf d.set q (marks.BootEnded e) (stored.BootEnded name e))) (sym t.pending)
+    (name, t.next, refl)
 
 pub may_end : (d : Device) (name : List ℕ) (e : Exit) → InTurn d name → (duty_of d).begun ≡ true → MayMark d (marks.BootEnded e)
 may_end d name e t begun = (stored.BootEnded name e, mark_ended d name e t, allowed_ended d name e t begun)
@@ -172,7 +179,8 @@ still_named d name e t fails = by d.pending t.q t.pending t.next
         ap (λ (x : Pending). next_boot (boot_ended e x)) same ∙ ap next_boot (failed_is (goes_on e) q fails) ∙ next
 
 -- and the stage is not over
-pub still_backing : (d : Device) (name : List ℕ) (e : Exit) → IsIn stages.Backing d → goes_on e ≡ false → IsIn stages.Backing (applied d (stored.BootEnded name e))
+pub still_backing : (d : Device) (name : List ℕ) (e : Exit) → IsIn stages.Backing d → goes_on e ≡ false →
+    IsIn stages.Backing (applied d (stored.BootEnded name e))
 still_backing d name e is fails = by d.pending is
   where
     by : (o : Option Pending) → IsSomeAnd o (λ q. q.stage ≡ stages.Backing) → IsSomeAnd (option_map (boot_ended e) o) (λ q. q.stage ≡ stages.Backing)

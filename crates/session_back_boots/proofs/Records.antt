@@ -42,39 +42,60 @@ same_line d e name exit same = ap (λ (id : List ℕ). if goes_on exit then [] e
 pub line_ended : (p : SessionState) (d e : Device) (name : List ℕ) (exit : Exit) → p.device ≡ d → e ≡ applied d (stored.BootEnded name exit)
     → line_of e (stored.BootEnded name exit) ≡ lines_of p.device (records_of (Recorded (stored.BootEnded name exit) ∷ []))
 line_ended p d e name exit device same =
-    same_line p.device e name exit (ap id_of same ∙ same_id d name exit ∙ ap id_of (sym device)) ∙ sym (append-nil (line_of p.device (stored.BootEnded name exit)))
+    same_line p.device e name exit (ap id_of same ∙ same_id d name exit ∙ ap id_of (sym device)) ∙ sym
+    (append-nil (line_of p.device (stored.BootEnded name exit)))
 
 -- ---- over a disk
 
-module _ (entries : Image → List (List ℕ) → Type 0) (files : List ℕ → Type 0) {D : Type 0} {may_leave : D → Image → Type 0} {moment : D → ℕ} {left_since : D → ℕ → Image → Type 0} {is_modelled : Bool} {seen : D → Image}
+module _ (entries : Image → List (List ℕ) → Type 0) (files : List ℕ → Type 0) {D : Type 0} {may_leave : D → Image → Type 0} {moment : D → ℕ} {left_since : D →
+    ℕ → Image → Type 0} {is_modelled : Bool} {seen : D → Image}
     (laws : DiskLaws is_modelled seen may_leave moment left_since) where
   abbrev Notes : D → D → Device → Record → Type 0
   Notes old new d r = Leaves moment left_since old new (LeavesEither may_leave files entries old d (applied d r))
 
-  none_went : (old new : D) (list : Option (List RunnerEntry)) (p : SessionState) (d : Device) → ((c : Image) → may_leave old c → StandsFor entries c d) → p.device ≡ d → new ≡ old → IsTrace entries files may_leave moment left_since old new list list p []
+  none_went : (old new : D) (list : Option (List RunnerEntry)) (p : SessionState) (d : Device) → ((c : Image) → may_leave old c → StandsFor entries c d) →
+      p.device ≡ d → new ≡ old → IsTrace entries files may_leave moment left_since old new list list p []
   none_went old new list p d stands device same =
       subst (λ (x : D). IsTrace entries files may_leave moment left_since old x list list p []) (sym same)
-      (acted entries files laws old list list p [] (λ c left. subst (λ (x : Device). StandsFor entries c x) (sym device) (stands c left)) (acts_none p list list refl))
+      (acted entries files laws old list list p [] (λ c left. subst (λ (x : Device). StandsFor entries c x) (sym device) (stands c left))
+      (acts_none p list list refl))
 
   -- where it was begun before nothing happens, and else its record is kept
-  pub begun_went : (old new : D) (list : Option (List RunnerEntry)) (p : SessionState) (d e : Device) (world : Components) (told : Told) (living : List ℕ) (name : List ℕ) (t : InTurn d name) → IsAtBootStage p d world told living
-      → ((c : Image) → may_leave old c → StandsFor entries c d) → (IsBegun d → new ≡ old) → (IsBegun d → e ≡ d) → Notes old new d (stored.BootBegun name) → e ≡ applied d (stored.BootBegun name)
-      → (h : List TraceEvent) × IsTrace entries files may_leave moment left_since old new list list p h × (lines_of p.device (records_of h) ≡ []) × IsAtBootStage (state_after p h) e world told living
+  pub begun_went : (old new : D) (list : Option (List RunnerEntry)) (p : SessionState) (d e : Device) (world : Components) (told : Told) (living : List ℕ)
+      (name : List ℕ) (t : InTurn d name) → IsAtBootStage p d world told living
+      → ((c : Image) → may_leave old c → StandsFor entries c d) → (IsBegun d → new ≡ old) → (IsBegun d → e ≡ d) → Notes old new d (stored.BootBegun name) →
+      e ≡ applied d (stored.BootBegun name)
+      → (h : List TraceEvent) × IsTrace entries files may_leave moment left_since old new list list p h × (lines_of p.device (records_of h) ≡ []) ×
+      IsAtBootStage (state_after p h) e world told living
   begun_went old new list p d e world told living name t f stands same_disk same_device notes same = by t.q.begun refl
     where
-      by : (b : Bool) → t.q.begun ≡ b → (h : List TraceEvent) × IsTrace entries files may_leave moment left_since old new list list p h × (lines_of p.device (records_of h) ≡ []) × IsAtBootStage (state_after p h) e world told living
+      by : (b : Bool) → t.q.begun ≡ b → (h : List TraceEvent) × IsTrace entries files may_leave moment left_since old new list list p h ×
+          (lines_of p.device (records_of h) ≡ []) × IsAtBootStage (state_after p h) e world told living
       by true is =
-          let begun = was_begun d name t is in
-          ([], none_went old new list p d stands f.between.stands.device_is (same_disk begun), refl, subst (λ (x : Device). IsAtBootStage p x world told living) (sym (same_device begun)) f)
-      by false is = (Recorded (stored.BootBegun name) ∷ [], begin_went entries files laws old new list p d world told living name f (allowed_begun d name t is) notes, refl, front_begun p d e world told living name f same)
+          let begun = was_begun d name t is in (
+            [],
+            none_went old new list p d stands f.between.stands.device_is (same_disk begun),
+            refl,
+            subst (λ (x : Device). IsAtBootStage p x world told living) (sym (same_device begun)) f,
+          )
+      by false is = (
+        Recorded (stored.BootBegun name) ∷ [],
+        begin_went entries files laws old new list p d world told living name f
+            (allowed_begun d name t is) notes,
+        refl,
+        front_begun p d e world told living name f same,
+      )
 
-  pub begun_doubt : (old new : D) (list : Option (List RunnerEntry)) (p : SessionState) (d : Device) (world : Components) (told : Told) (living : List ℕ) (name : List ℕ) (t : InTurn d name) → IsAtBootStage p d world told living
+  pub begun_doubt : (old new : D) (list : Option (List RunnerEntry)) (p : SessionState) (d : Device) (world : Components) (told : Told) (living : List ℕ)
+      (name : List ℕ) (t : InTurn d name) → IsAtBootStage p d world told living
       → (IsBegun d → ⊥) → Notes old new d (stored.BootBegun name)
-      → (h : List TraceEvent) × IsTrace entries files may_leave moment left_since old new list list p h × (lines_of p.device (records_of h) ≡ []) × LeftAt entries may_leave new p h over.Disk × IsBare (state_after p h) × IsOne (records_of h)
+      → (h : List TraceEvent) × IsTrace entries files may_leave moment left_since old new list list p h × (lines_of p.device (records_of h) ≡ []) ×
+      LeftAt entries may_leave new p h over.Disk × IsBare (state_after p h) × IsOne (records_of h)
   begun_doubt old new list p d world told living name t f unbegun notes = by t.q.begun refl
     where
       by : (b : Bool) → t.q.begun ≡ b
-          → (h : List TraceEvent) × IsTrace entries files may_leave moment left_since old new list list p h × (lines_of p.device (records_of h) ≡ []) × LeftAt entries may_leave new p h over.Disk × IsBare (state_after p h) × IsOne (records_of h)
+          → (h : List TraceEvent) × IsTrace entries files may_leave moment left_since old new list list p h × (lines_of p.device (records_of h) ≡ []) ×
+          LeftAt entries may_leave new p h over.Disk × IsBare (state_after p h) × IsOne (records_of h)
       by true is = absurd (unbegun (was_begun d name t is))
       by false is =
           let allowed = allowed_begun d name t is in (

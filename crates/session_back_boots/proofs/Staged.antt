@@ -21,7 +21,8 @@ not_both d back roll = by d.pending back roll
 
 module _ {J D : Type 0} (is_modelled : Bool) (may_leave : D → Image → Type 0) (stands : J → Image → List (List ℕ) → Type 0) (end : J → ℕ) (disk : D) where
   -- what holds of each journal and device in hand
-  pub backed_by : (P : Device → Type 0) → ((log : J) (d : Device) → OwnsJournal is_modelled may_leave stands end log disk d → P d) → (s : Backed J) → OwnsBacked is_modelled may_leave stands end s disk → P (backed_device s)
+  pub backed_by : (P : Device → Type 0) → ((log : J) (d : Device) → OwnsJournal is_modelled may_leave stands end log disk d → P d) → (s : Backed J) →
+      OwnsBacked is_modelled may_leave stands end s disk → P (backed_device s)
   backed_by P f (backed.Backing s) h = f s.hand.log (backing_device s) h.0.0
   backed_by P f (backed.Rolling s) h = f s.hand.log (rolling_device s) h.0.0
 

@@ -37,7 +37,8 @@ some_origin P (Some o) h = (o, refl)
 at_place : (q : Pending) → q.stage ≡ stages.Backing → slice_get q.backs q.ended ≡ next_boot q
 at_place q is = rw is refl
 
-made_turn : (d : Device) (name : List ℕ) (made : List Prepared) (t : InTurn d name) (o : Origin) → d.origin ≡ Some o → AreMadeAgain d made → IsSomeAnd (slice_get made t.q.ended) (IsBootOf o d.set name)
+made_turn : (d : Device) (name : List ℕ) (made : List Prepared) (t : InTurn d name) (o : Origin) → d.origin ≡ Some o → AreMadeAgain d made →
+    IsSomeAnd (slice_get made t.q.ended) (IsBootOf o d.set name)
 made_turn d name made t o origin are =
     let here = subst (λ (x : Option Pending). IfSome x (λ q. IsSomeAnd d.origin (λ o. AreBootsOf o d.set q.backs made))) t.pending are in
     let for_origin = subst (λ (x : Option Origin). IsSomeAnd x (λ o. AreBootsOf o d.set t.q.backs made)) origin here in
@@ -48,7 +49,8 @@ origin_of d name made t are =
     let here = subst (λ (x : Option Pending). IfSome x (λ q. IsSomeAnd d.origin (λ o. AreBootsOf o d.set q.backs made))) t.pending are in
     some_origin (λ o. AreBootsOf o d.set t.q.backs made) d.origin here
 
-pub turn_made : (d : Device) (name : List ℕ) (made : List Prepared) (m : Prepared) (t : InTurn d name) → (duty_of d).turn ≡ Some name → AreMadeAgain d made → slice_get made t.q.ended ≡ Some m → IsTurn d m
+pub turn_made : (d : Device) (name : List ℕ) (made : List Prepared) (m : Prepared) (t : InTurn d name) → (duty_of d).turn ≡ Some name → AreMadeAgain d made →
+    slice_get made t.q.ended ≡ Some m → IsTurn d m
 turn_made d name made m t turn are there =
     let o = origin_of d name made t are in
     let of = subst (λ (x : Option Prepared). IsSomeAnd x (IsBootOf o.0 d.set name)) there (made_turn d name made t o.0 o.1 are) in
@@ -60,13 +62,16 @@ turn_not_made d name made t are none =
     subst (λ (x : Option Prepared). IsSomeAnd x (IsBootOf o.0 d.set name)) none (made_turn d name made t o.0 o.1 are)
 
 -- what the code looks up stands at the place of the turn
-place_told : (x : code.Device) (q : code_pending.Pending) (d : Device) (name : List ℕ) (t : InTurn d name) → device_view x ≡ d → x.pending ≡ Some q → t.q.ended ≡ q.ended
+place_told : (x : code.Device) (q : code_pending.Pending) (d : Device) (name : List ℕ) (t : InTurn d name) → device_view x ≡ d → x.pending ≡ Some q →
+    t.q.ended ≡ q.ended
 place_told x q d name t view is =
     let told = sym t.pending ∙ ap (λ (y : Device). y.pending) (sym view) ∙ ap (λ (o : Option code_pending.Pending). option_map pending_view o) is in
     ap (λ (o : Option Pending). option_map_or (λ (y : Pending). y.ended) o 0) told
 
-module _ (x : code.Device) (q : code_pending.Pending) (d : Device) (made : List Prepared) (r : Option (Bor Prepared)) (view : device_view x ≡ d) (pending : x.pending ≡ Some q)
-    (is : IsIn stages.Backing d) (are : AreMadeAgain d made) (some : is_none (duty_of d).turn ≡ false) (there : option_map (λ (m : Bor Prepared). m.now) r ≡ slice_get made q.ended) where
+module _ (x : code.Device) (q : code_pending.Pending) (d : Device) (made : List Prepared) (r : Option (Bor Prepared)) (view : device_view x ≡ d)
+    (pending : x.pending ≡ Some q)
+    (is : IsIn stages.Backing d) (are : AreMadeAgain d made) (some : is_none (duty_of d).turn ≡ false)
+    (there : option_map (λ (m : Bor Prepared). m.now) r ≡ slice_get made q.ended) where
   abbrev name_is : (name : List ℕ) × ((duty_of d).turn ≡ Some name)
   name_is = some_name (duty_of d).turn some
 
@@ -79,7 +84,8 @@ module _ (x : code.Device) (q : code_pending.Pending) (d : Device) (made : List 
   pub turn_at : IfSome r (λ (s : Bor Prepared). IsTurn d s.now)
   turn_at = by r at_turn
     where
-      by : (o : Option (Bor Prepared)) → slice_get made turn_is.q.ended ≡ option_map (λ (m : Bor Prepared). m.now) o → IfSome o (λ (s : Bor Prepared). IsTurn d s.now)
+      by : (o : Option (Bor Prepared)) → slice_get made turn_is.q.ended ≡ option_map (λ (m : Bor Prepared). m.now) o →
+          IfSome o (λ (s : Bor Prepared). IsTurn d s.now)
       by None h = tt
       by (Some s) h = turn_made d name_is.0 made s.now turn_is name_is.1 are h
 
@@ -94,7 +100,8 @@ either false o = refl
 pub through_is : (d : Device) → IsIn stages.Backing d → (has_failed d || is_none (next_name d)) ≡ is_none (duty_of d).turn
 through_is d is = by d.pending is
   where
-    by : (o : Option Pending) → IsSomeAnd o (λ q. q.stage ≡ stages.Backing) → (has_failed (pends d o) || is_none (next_name (pends d o))) ≡ is_none (duty_of (pends d o)).turn
+    by : (o : Option Pending) → IsSomeAnd o (λ q. q.stage ≡ stages.Backing) → (has_failed (pends d o) || is_none (next_name (pends d o))) ≡ is_none
+        (duty_of (pends d o)).turn
     by None h = absurd h
     by (Some q) h = either q.boot_failed (next_boot q) ∙ sym (ap (λ (x : Duty). is_none x.turn) (duty_backing (pends d (Some q)) q h))
 
@@ -116,11 +123,13 @@ made_on d e exit made t are = subst (λ (x : Device). AreMadeAgain x made) (sym 
 abbrev left_in : Pending → ℕ
 left_in q = if q.boot_failed then 0 else 1 + (length q.backs - q.ended)
 
-fewer_moved : (b : Bool) (q : Pending) → q.boot_failed ≡ false → q.ended < length q.backs → left_in (if b then rolled (one_ended (begun q)) else one_ended (begun q)) < left_in q
+fewer_moved : (b : Bool) (q : Pending) → q.boot_failed ≡ false → q.ended < length q.backs → left_in
+    (if b then rolled (one_ended (begun q)) else one_ended (begun q)) < left_in q
 fewer_moved true q failed lt = rw failed (omega (arith, lt))
 fewer_moved false q failed lt = rw failed (omega (arith, lt))
 
-fewer_in : (b : Bool) (q : Pending) → q.boot_failed ≡ false → q.ended < length q.backs → left_in (if b then moved_on (begun q) else record (begun q) { boot_failed = true }) < left_in q
+fewer_in : (b : Bool) (q : Pending) → q.boot_failed ≡ false → q.ended < length q.backs → left_in
+    (if b then moved_on (begun q) else record (begun q) { boot_failed = true }) < left_in q
 fewer_in true q failed lt = fewer_moved (has_gone_back (one_ended (begun q))) q failed lt
 fewer_in false q failed lt = rw failed (omega arith)
 
@@ -132,7 +141,8 @@ fewer d e exit is t =
     let n = in_turn d t.1.0 is t.1.1 in
     subst (λ (x : Device). backs_left x < backs_left d) (sym (turned_is d e exit t)) (by d.pending n.q n.pending n.failed (within n.q t.1.0 n.stage n.next))
   where
-    by : (o : Option Pending) (q : Pending) → o ≡ Some q → q.boot_failed ≡ false → q.ended < length q.backs → backs_left (turned exit (pends d o)) < backs_left (pends d o)
+    by : (o : Option Pending) (q : Pending) → o ≡ Some q → q.boot_failed ≡ false → q.ended < length q.backs → backs_left (turned exit (pends d o))
+        < backs_left (pends d o)
     by None q same failed lt = absurd cc
     by (Some p) q same failed lt =
         let is : p ≡ q = cc in
@@ -154,14 +164,17 @@ pub none_failed : (d e : Device) (exit : Exit) → IsIn stages.Backing d → Tur
 none_failed d e exit is t rolls =
     let n = in_turn d t.1.0 is t.1.1 in
     let same = turned_is d e exit t in
-    subst (λ (x : Device). has_failed x ≡ false) (sym same) (by d.pending n.q n.pending n.failed n.stage (subst (λ (x : Device). IsIn stages.Rolling x) same rolls))
+    subst (λ (x : Device). has_failed x ≡ false) (sym same) (by d.pending n.q n.pending n.failed n.stage
+    (subst (λ (x : Device). IsIn stages.Rolling x) same rolls))
   where
-    in_end : (b : Bool) (q : Pending) → q.boot_failed ≡ false → q.stage ≡ stages.Backing → (if b then moved_on (begun q) else record (begun q) { boot_failed = true }).stage ≡ stages.Rolling
+    in_end : (b : Bool) (q : Pending) → q.boot_failed ≡ false → q.stage ≡ stages.Backing →
+        (if b then moved_on (begun q) else record (begun q) { boot_failed = true }).stage ≡ stages.Rolling
         → (if b then moved_on (begun q) else record (begun q) { boot_failed = true }).boot_failed ≡ false
     in_end true q failed stage rolls = moved_failed (has_gone_back (one_ended (begun q))) (begun q) ∙ failed
     in_end false q failed stage rolls = let both : stages.Backing ≡ stages.Rolling = sym stage ∙ rolls in absurd cc
 
-    by : (o : Option Pending) (q : Pending) → o ≡ Some q → q.boot_failed ≡ false → q.stage ≡ stages.Backing → IsIn stages.Rolling (turned exit (pends d o)) → has_failed (turned exit (pends d o)) ≡ false
+    by : (o : Option Pending) (q : Pending) → o ≡ Some q → q.boot_failed ≡ false → q.stage ≡ stages.Backing → IsIn stages.Rolling (turned exit (pends d o)) →
+        has_failed (turned exit (pends d o)) ≡ false
     by None q same failed stage rolls = absurd cc
     by (Some p) q same failed stage rolls =
         let is : p ≡ q = cc in

@@ -17,7 +17,8 @@ pub none_after : (n : ℕ) (living : List ℕ) → living ≡ n ∷ [] → witho
 none_after n living is = let same : (n == n) ≡ true = eq-eqb n n refl in ap (λ (l : List ℕ). without n l) is ∙ rw same refl
 
 -- a wait to the deadline elapsed, and a moment was asked for: the deadline has passed, or the time stands at its end
-pub late_after : (last told clock after now deadline : ℕ) → told ≤ clock → told < deadline → deadline < last → (clock ≤ after) × ((clock + (deadline - told) ≤ after) ⊎ (after ≡ last - 1)) → after ≤ now → deadline ≤ now
+pub late_after : (last told clock after now deadline : ℕ) → told ≤ clock → told < deadline → deadline < last → (clock ≤ after) ×
+    ((clock + (deadline - told) ≤ after) ⊎ (after ≡ last - 1)) → after ≤ now → deadline ≤ now
 late_after last told clock after now deadline past lt in_time waited later = by waited.1
   where
     by : (clock + (deadline - told) ≤ after) ⊎ (after ≡ last - 1) → deadline ≤ now

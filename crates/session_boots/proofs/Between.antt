@@ -46,7 +46,8 @@ contains_none n h = omega (arith, h.1)
 
 -- ---- the run
 
-pub may_step : (p : SessionState) (d : Device) (world : Components) (told : Told) (living : List ℕ) (m : Prepared) → IsAtBootStage p d world told living → IsIn stages.Booting d → IsTurn d m → (duty_of d).begun ≡ true → MayStep p m told
+pub may_step : (p : SessionState) (d : Device) (world : Components) (told : Told) (living : List ℕ) (m : Prepared) → IsAtBootStage p d world told living →
+    IsIn stages.Booting d → IsTurn d m → (duty_of d).begun ≡ true → MayStep p m told
 may_step p d world told living m f is t begun =
     let same = f.between.stands.device_is in
     let turn = in_turn d t.name is t.turn in
@@ -74,7 +75,8 @@ may_step p d world told living m f is t begun =
       moment = ap (λ (w : Components). w.moment) f.between.stands.world_is;
     }
 
-pub has_end : (p q : SessionState) (d : Device) (world : Components) (old new : Told) (living next : List ℕ) (exit : Exit) → IsAtBootStage p d world old living → q.device ≡ p.device → IsEnded p q exit new → old.moment ≤ new.moment → next ≡ [] → HasEnd q d exit world new next
+pub has_end : (p q : SessionState) (d : Device) (world : Components) (old new : Told) (living next : List ℕ) (exit : Exit) →
+    IsAtBootStage p d world old living → q.device ≡ p.device → IsEnded p q exit new → old.moment ≤ new.moment → next ≡ [] → HasEnd q d exit world new next
 has_end p q d world old new living next exit f device e later_on none =
     let s = f.between.stands in
     let still = still_later p q new.moment e.world e.generation e.cut f.between.still in

@@ -67,7 +67,8 @@ in_turn d name is turn = by d.pending is turn
 
 -- a turn as the calls of a state ask for it
 pub can_begin : (d : Device) (name : List ℕ) → InTurn d name → CanBegin d
-can_begin d name t = subst (λ (o : Option Pending). IsSomeAnd o (λ q. (q.boot_failed ≡ false) × IsSome (next_boot q))) (sym t.pending) (t.failed, ap (λ (o : Option (List ℕ)). is_some o) t.next)
+can_begin d name t = subst (λ (o : Option Pending). IsSomeAnd o (λ q. (q.boot_failed ≡ false) × IsSome (next_boot q))) (sym t.pending)
+    (t.failed, ap (λ (o : Option (List ℕ)). is_some o) t.next)
 
 pub named : (o : Option (List ℕ)) → is_some o ≡ true → (n : List ℕ) × (o ≡ Some n)
 named None h = absurd cc
@@ -79,7 +80,8 @@ turn_is b o name h k = rw (h, k) refl
 pub turn_told : (d : Device) → IsIn stages.Booting d → CanBegin d → (name : List ℕ) × ((duty_of d).turn ≡ Some name)
 turn_told d is can = by d.pending is can
   where
-    by : (o : Option Pending) → IsSomeAnd o (λ q. q.stage ≡ stages.Booting) → IsSomeAnd o (λ q. (q.boot_failed ≡ false) × IsSome (next_boot q)) → (name : List ℕ) × ((duty_of (pends d o)).turn ≡ Some name)
+    by : (o : Option Pending) → IsSomeAnd o (λ q. q.stage ≡ stages.Booting) → IsSomeAnd o (λ q. (q.boot_failed ≡ false) × IsSome (next_boot q)) →
+        (name : List ℕ) × ((duty_of (pends d o)).turn ≡ Some name)
     by None h c = absurd h
     by (Some q) h c =
         let n = named (next_boot q) c.1 in
@@ -88,11 +90,13 @@ turn_told d is can = by d.pending is can
 -- ---- the record that it begins
 
 pub mark_begun : (d : Device) (name : List ℕ) → InTurn d name → IsMark d marks.BootBegun (stored.BootBegun name)
-mark_begun d name t = subst (λ (o : Option Pending). IsSomeAnd o (λ q. IsMarkOf d.set q marks.BootBegun (stored.BootBegun name))) (sym t.pending) (name, t.next, refl)
+mark_begun d name t = subst (λ (o : Option Pending). IsSomeAnd o (λ q. IsMarkOf d.set q marks.BootBegun (stored.BootBegun name))) (sym t.pending)
+    (name, t.next, refl)
 
 -- it is lawful where it was not begun
 pub allowed_begun : (d : Device) (name : List ℕ) (t : InTurn d name) → t.q.begun ≡ false → Allowed d (stored.BootBegun name)
-allowed_begun d name t new = subst (λ (o : Option Pending). IsSomeAnd o (λ q. (q.boot_failed ≡ false) × (next_boot q ≡ Some name) × (q.begun ≡ false))) (sym t.pending) (t.failed, t.next, new)
+allowed_begun d name t new = subst (λ (o : Option Pending). IsSomeAnd o (λ q. (q.boot_failed ≡ false) × (next_boot q ≡ Some name) × (q.begun ≡ false)))
+    (sym t.pending) (t.failed, t.next, new)
 
 pub was_begun : (d : Device) (name : List ℕ) (t : InTurn d name) → t.q.begun ≡ true → IsBegun d
 was_begun d name t old = subst (λ (o : Option Pending). IsSomeAnd o (λ q. q.begun ≡ true)) (sym t.pending) old
@@ -101,7 +105,8 @@ was_begun d name t old = subst (λ (o : Option Pending). IsSomeAnd o (λ q. q.be
 pub begun_duty : (d : Device) (name : List ℕ) → IsIn stages.Booting d → duty_of (applied d (stored.BootBegun name)) ≡ record (duty_of d) { begun = true }
 begun_duty d name is = by d.pending is
   where
-    by : (o : Option Pending) → IsSomeAnd o (λ q. q.stage ≡ stages.Booting) → duty_of (pends d (option_map begun o)) ≡ record (duty_of (pends d o)) { begun = true }
+    by : (o : Option Pending) → IsSomeAnd o (λ q. q.stage ≡ stages.Booting) → duty_of (pends d (option_map begun o)) ≡ record (duty_of (pends d o))
+        { begun = true }
     by None h = absurd h
     by (Some q) h = rw h refl
 
@@ -124,10 +129,12 @@ begun_told d e name is same = ap (λ (x : Device). (duty_of x).begun) same ∙ a
 pub allowed_ended : (d : Device) (name : List ℕ) (e : Exit) → InTurn d name → (duty_of d).begun ≡ true → Allowed d (stored.BootEnded name e)
 allowed_ended d name e t begun =
     let old = sym (ap (λ (x : Duty). x.begun) t.duty) ∙ begun in
-    subst (λ (o : Option Pending). IsSomeAnd o (λ q. (q.boot_failed ≡ false) × (next_boot q ≡ Some name) × (q.begun ≡ true))) (sym t.pending) (t.failed, t.next, old)
+    subst (λ (o : Option Pending). IsSomeAnd o (λ q. (q.boot_failed ≡ false) × (next_boot q ≡ Some name) × (q.begun ≡ true))) (sym t.pending)
+    (t.failed, t.next, old)
 
 pub mark_ended : (d : Device) (name : List ℕ) (e : Exit) → InTurn d name → IsMark d (marks.BootEnded e) (stored.BootEnded name e)
-mark_ended d name e t = subst (λ (o : Option Pending). IsSomeAnd o (λ q. IsMarkOf d.set q (marks.BootEnded e) (stored.BootEnded name e))) (sym t.pending) (name, t.next, refl)
+mark_ended d name e t = subst (λ (o : Option Pending). IsSomeAnd o (λ q. IsMarkOf d.set q (marks.BootEnded e) (stored.BootEnded name e))) (sym t.pending)
+    (name, t.next, refl)
 
 pub may_end : (d : Device) (name : List ℕ) (e : Exit) → InTurn d name → (duty_of d).begun ≡ true → MayMark d (marks.BootEnded e)
 may_end d name e t begun = (stored.BootEnded name e, mark_ended d name e t, allowed_ended d name e t begun)
@@ -173,7 +180,8 @@ same_id d name e is = by d.pending is
 pub still_named : (d : Device) (name : List ℕ) (e : Exit) → InTurn d name → goes_on e ≡ false → next_name (applied d (stored.BootEnded name e)) ≡ Some name
 still_named d name e t fails = by d.pending t.q t.pending t.stage t.next
   where
-    by : (o : Option Pending) (q : Pending) → o ≡ Some q → q.stage ≡ stages.Booting → next_boot q ≡ Some name → next_name (pends d (option_map (boot_ended e) o)) ≡ Some name
+    by : (o : Option Pending) (q : Pending) → o ≡ Some q → q.stage ≡ stages.Booting → next_boot q ≡ Some name →
+        next_name (pends d (option_map (boot_ended e) o)) ≡ Some name
     by None q is h next = absurd cc
     by (Some p) q is h next =
         let same : p ≡ q = cc in
@@ -181,7 +189,8 @@ still_named d name e t fails = by d.pending t.q t.pending t.stage t.next
 
 -- ---- what was made ready, and how much is left
 
-pub made_turn : (d : Device) (name : List ℕ) (made : List Prepared) (t : InTurn d name) (o : Origin) → d.origin ≡ Some o → AreMade d made → IsSomeAnd (slice_get made t.q.ended) (IsBootOf o t.q.plan.items name)
+pub made_turn : (d : Device) (name : List ℕ) (made : List Prepared) (t : InTurn d name) (o : Origin) → d.origin ≡ Some o → AreMade d made →
+    IsSomeAnd (slice_get made t.q.ended) (IsBootOf o t.q.plan.items name)
 made_turn d name made t o origin are =
     let here = subst (λ (x : Option Pending). IfSome x (λ q. IsSomeAnd d.origin (λ o. AreBootsOf o q.plan.items q.plan.boots made))) t.pending are in
     let for_origin = subst (λ (x : Option Origin). IsSomeAnd x (λ o. AreBootsOf o t.q.plan.items t.q.plan.boots made)) origin here in

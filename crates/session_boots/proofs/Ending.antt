@@ -14,13 +14,16 @@ use Rattle.session_boots.specs.Lines.{failed_line, id_of, line_of}
 pub good_line : (d : Device) (name : List ℕ) (exit : Exit) → goes_on exit ≡ true → line_of d (BootEnded name exit) ≡ []
 good_line d name exit good = rw good refl
 
-pub bad_line : (d : Device) (name : List ℕ) (exit : Exit) → goes_on exit ≡ false → line_of d (BootEnded name exit) ≡ failed_line (id_of d) name steps.Bootstrap exit
+pub bad_line : (d : Device) (name : List ℕ) (exit : Exit) → goes_on exit ≡ false → line_of d (BootEnded name exit) ≡ failed_line
+    (id_of d) name steps.Bootstrap exit
 bad_line d name exit bad = rw bad refl
 
 pub id_told : (x : code.Device) (d : Device) (q : code_pending.Pending) → device_view x ≡ d → x.pending ≡ Some q → id_of d ≡ q.plan.id
-id_told x d q view is = ap id_of (sym view) ∙ ap (λ (o : Option code_pending.Pending). id_of (record (device_view x) { pending = option_map pending_view o })) is
+id_told x d q view is = ap id_of (sym view) ∙ ap (λ (o : Option code_pending.Pending). id_of (record (device_view x) { pending = option_map pending_view o }))
+    is
 
 pub not_pending : (x : code.Device) (d : Device) (name : List ℕ) → device_view x ≡ d → x.pending ≡ None → next_name d ≡ Some name → ⊥
 not_pending x d name view is next =
-    let none : next_name d ≡ None = ap next_name (sym view) ∙ ap (λ (o : Option code_pending.Pending). next_name (record (device_view x) { pending = option_map pending_view o })) is in
+    let none : next_name d ≡ None = ap next_name (sym view) ∙ ap
+    (λ (o : Option code_pending.Pending). next_name (record (device_view x) { pending = option_map pending_view o })) is in
     cc (sym none ∙ next)

@@ -80,7 +80,8 @@ still_later p q m world generation cut still = record {
 
 -- ---- the moment
 
-pub pass_acts : (p : SessionState) (m : Prepared) (told : Told) (now : ℕ) (old new : Option (List RunnerEntry)) → MayStep p m told → told.moment ≤ now → new ≡ old → Acts p (Asked now ∷ []) old new
+pub pass_acts : (p : SessionState) (m : Prepared) (told : Told) (now : ℕ) (old new : Option (List RunnerEntry)) → MayStep p m told → told.moment ≤ now →
+    new ≡ old → Acts p (Asked now ∷ []) old new
 pass_acts p m told now old new may later same = record {
   proper = ((omega (arith, may.moment, later), (λ cut. absurd (never p.cut may.still.cut cut)), may.over), tt);
   none = refl;
@@ -88,7 +89,8 @@ pass_acts p m told now old new may later same = record {
   device = refl;
 }
 
-pub pass_probe : (p : SessionState) (m : Prepared) (told new : Told) (now : ℕ) → MayStep p m told → new.moment ≡ now → new.asked ≡ true → MayProbe (leaves p (Asked now)) m new
+pub pass_probe : (p : SessionState) (m : Prepared) (told new : Told) (now : ℕ) → MayStep p m told → new.moment ≡ now → new.asked ≡ true →
+    MayProbe (leaves p (Asked now)) m new
 pass_probe p m told new now may moment asked = record {
   may = record {
     phase = may.may.phase;
@@ -112,7 +114,8 @@ pass_probe p m told new now may moment asked = record {
 
 -- ---- an entry
 
-entry_acts : (p : SessionState) (m : Prepared) (old new : Told) (s : Seen) → IsTold p old → MayBooted (duty_of p.device) p s m → Notes old new s → (booted s m p).device ≡ p.device → Acts p (Booted (entry old s) m ∷ []) old.list new.list
+entry_acts : (p : SessionState) (m : Prepared) (old new : Told) (s : Seen) → IsTold p old → MayBooted (duty_of p.device) p s m → Notes old new s →
+    (booted s m p).device ≡ p.device → Acts p (Booted (entry old s) m ∷ []) old.list new.list
 entry_acts p m old new s told may notes device = record {
   proper = (((may, is_entry p old s told), (λ cut. absurd (never p.cut told.cut cut)), told.over), tt);
   none = refl;
@@ -145,7 +148,8 @@ same_world : (p : SessionState) (old new : Told) (s : Seen) → IsTold p old →
 same_world p old new s told notes = later_now new.moment p.world (notes.told ∙ told.moment)
 
 -- it says that the step is to be skipped
-exists_yes : (p : SessionState) (m : Prepared) (old new : Told) (x : List ℕ) → MayProbe p m old → m.skip ≡ Some (skips.Exists x) → Notes old new (seen.Exists x true) → Ended p old new (exits.Code (pos 0)) (Booted (entry old (seen.Exists x true)) m ∷ [])
+exists_yes : (p : SessionState) (m : Prepared) (old new : Told) (x : List ℕ) → MayProbe p m old → m.skip ≡ Some (skips.Exists x) →
+    Notes old new (seen.Exists x true) → Ended p old new (exits.Code (pos 0)) (Booted (entry old (seen.Exists x true)) m ∷ [])
 exists_yes p m old new x may skip notes = record {
   acts = entry_acts p m old new (seen.Exists x true) may.is_told (may.may, (skip, may.probed)) notes refl;
   ended = record {
@@ -159,7 +163,8 @@ exists_yes p m old new x may skip notes = record {
   };
 }
 
-path_yes : (p : SessionState) (m : Prepared) (old new : Told) (x : List ℕ) → MayProbe p m old → m.skip ≡ Some (skips.OnPath x) → Notes old new (seen.OnPath x true) → Ended p old new (exits.Code (pos 0)) (Booted (entry old (seen.OnPath x true)) m ∷ [])
+path_yes : (p : SessionState) (m : Prepared) (old new : Told) (x : List ℕ) → MayProbe p m old → m.skip ≡ Some (skips.OnPath x) →
+    Notes old new (seen.OnPath x true) → Ended p old new (exits.Code (pos 0)) (Booted (entry old (seen.OnPath x true)) m ∷ [])
 path_yes p m old new x may skip notes = record {
   acts = entry_acts p m old new (seen.OnPath x true) may.is_told (may.may, (skip, may.probed)) notes refl;
   ended = record {
@@ -174,34 +179,50 @@ path_yes p m old new x may skip notes = record {
 }
 
 -- it says no
-exists_no : (p : SessionState) (m : Prepared) (old new : Told) (x : List ℕ) → MayProbe p m old → m.skip ≡ Some (skips.Exists x) → Notes old new (seen.Exists x false) → Probed p m old new (Booted (entry old (seen.Exists x false)) m ∷ [])
+exists_no : (p : SessionState) (m : Prepared) (old new : Told) (x : List ℕ) → MayProbe p m old → m.skip ≡ Some (skips.Exists x) →
+    Notes old new (seen.Exists x false) → Probed p m old new (Booted (entry old (seen.Exists x false)) m ∷ [])
 exists_no p m old new x may skip notes =
     let s = seen.Exists x false in
     let q = leaves p (Booted (entry old s) m) in
     let told = told_on p old new s may.is_told notes refl in
     record {
       acts = entry_acts p m old new s may.is_told (may.may, (skip, may.probed)) notes refl;
-      start = record { may = boot_as (duty_of p.device) p q m refl refl refl may.may; still = still_as p q refl refl refl may.still; asked = inr refl; is_told = told };
+      start = record {
+        may = boot_as (duty_of p.device) p q m refl refl refl may.may;
+        still = still_as p q refl refl refl may.still;
+        asked =
+            inr refl;
+        is_told = told;
+      };
       probed = record { world = refl; generation = refl; is_told = told };
     }
 
-path_no : (p : SessionState) (m : Prepared) (old new : Told) (x : List ℕ) → MayProbe p m old → m.skip ≡ Some (skips.OnPath x) → Notes old new (seen.OnPath x false) → Probed p m old new (Booted (entry old (seen.OnPath x false)) m ∷ [])
+path_no : (p : SessionState) (m : Prepared) (old new : Told) (x : List ℕ) → MayProbe p m old → m.skip ≡ Some (skips.OnPath x) →
+    Notes old new (seen.OnPath x false) → Probed p m old new (Booted (entry old (seen.OnPath x false)) m ∷ [])
 path_no p m old new x may skip notes =
     let s = seen.OnPath x false in
     let q = leaves p (Booted (entry old s) m) in
     let told = told_on p old new s may.is_told notes refl in
     record {
       acts = entry_acts p m old new s may.is_told (may.may, (skip, may.probed)) notes refl;
-      start = record { may = boot_as (duty_of p.device) p q m refl refl refl may.may; still = still_as p q refl refl refl may.still; asked = inr refl; is_told = told };
+      start = record {
+        may = boot_as (duty_of p.device) p q m refl refl refl may.may;
+        still = still_as p q refl refl refl may.still;
+        asked =
+            inr refl;
+        is_told = told;
+      };
       probed = record { world = refl; generation = refl; is_told = told };
     }
 
 -- whatever it looks for
-pub probe_yes : (p : SessionState) (m : Prepared) (old new : Told) (x : Skip) → MayProbe p m old → m.skip ≡ Some x → Notes old new (probe_seen x true) → Ended p old new (exits.Code (pos 0)) (Booted (entry old (probe_seen x true)) m ∷ [])
+pub probe_yes : (p : SessionState) (m : Prepared) (old new : Told) (x : Skip) → MayProbe p m old → m.skip ≡ Some x → Notes old new (probe_seen x true) →
+    Ended p old new (exits.Code (pos 0)) (Booted (entry old (probe_seen x true)) m ∷ [])
 probe_yes p m old new (skips.Exists x) may skip notes = exists_yes p m old new x may skip notes
 probe_yes p m old new (skips.OnPath x) may skip notes = path_yes p m old new x may skip notes
 
-pub probe_no : (p : SessionState) (m : Prepared) (old new : Told) (x : Skip) → MayProbe p m old → m.skip ≡ Some x → Notes old new (probe_seen x false) → Probed p m old new (Booted (entry old (probe_seen x false)) m ∷ [])
+pub probe_no : (p : SessionState) (m : Prepared) (old new : Told) (x : Skip) → MayProbe p m old → m.skip ≡ Some x → Notes old new (probe_seen x false) →
+    Probed p m old new (Booted (entry old (probe_seen x false)) m ∷ [])
 probe_no p m old new (skips.Exists x) may skip notes = exists_no p m old new x may skip notes
 probe_no p m old new (skips.OnPath x) may skip notes = path_no p m old new x may skip notes
 
@@ -215,7 +236,8 @@ no_probe p m told may skip = record {
 
 -- ---- a start
 
-pub refused : (p : SessionState) (m : Prepared) (old new : Told) (c : Command) → MayStart p m old → c ≡ m.command → Notes old new (seen.Refused c) → Ended p old new exits.NotStarted (Booted (entry old (seen.Refused c)) m ∷ [])
+pub refused : (p : SessionState) (m : Prepared) (old new : Told) (c : Command) → MayStart p m old → c ≡ m.command → Notes old new (seen.Refused c) →
+    Ended p old new exits.NotStarted (Booted (entry old (seen.Refused c)) m ∷ [])
 refused p m old new c may is notes = record {
   acts = entry_acts p m old new (seen.Refused c) may.is_told (may.may, (is, may.asked)) notes refl;
   ended = record {
@@ -232,17 +254,26 @@ refused p m old new c may is notes = record {
 abbrev child_until : ℕ → Option ℕ → Option Child
 child_until n d = Some (record { number = n; of = step.Bootstrap; deadline = d })
 
-pub started_acts : (p : SessionState) (m : Prepared) (old new : Told) (n : ℕ) (c : Command) → MayStart p m old → c ≡ m.command → Notes old new (seen.Started n c) → Acts p (Booted (entry old (seen.Started n c)) m ∷ []) old.list new.list
+pub started_acts : (p : SessionState) (m : Prepared) (old new : Told) (n : ℕ) (c : Command) → MayStart p m old → c ≡ m.command →
+    Notes old new (seen.Started n c) → Acts p (Booted (entry old (seen.Started n c)) m ∷ []) old.list new.list
 started_acts p m old new n c may is notes = entry_acts p m old new (seen.Started n c) may.is_told (may.may, (is, may.asked)) notes refl
 
-pub started_alive : (p : SessionState) (m : Prepared) (old new : Told) (n : ℕ) (c : Command) (deadline : ℕ) → MayStart p m old → Notes old new (seen.Started n c) → deadline_after m.limit_ms old.moment ≡ Some deadline
+pub started_alive : (p : SessionState) (m : Prepared) (old new : Told) (n : ℕ) (c : Command) (deadline : ℕ) → MayStart p m old →
+    Notes old new (seen.Started n c) → deadline_after m.limit_ms old.moment ≡ Some deadline
     → IsAlive (leaves p (Booted (entry old (seen.Started n c)) m)) n deadline new
 started_alive p m old new n c deadline may notes is = record {
   phase = may.may.phase;
   boot = ap (λ (d : Option ℕ). child_until n d) (ap (λ (x : ℕ). deadline_after m.limit_ms x) (sym may.is_told.moment) ∙ is);
   no_end = may.may.no_end;
   still = still_as p (leaves p (Booted (entry old (seen.Started n c)) m)) refl refl refl may.still;
-  is_told = record { moment = notes.told ∙ may.is_told.moment; asked = notes.asked; due = λ d. absurd (never false refl d); over = may.is_told.over; cut = may.is_told.cut };
+  is_told = record {
+    moment = notes.told ∙ may.is_told.moment;
+    asked = notes.asked;
+    due = λ d. absurd (never false refl d);
+    over = may.is_told.over;
+    cut =
+        may.is_told.cut;
+  };
 }
 
 -- ---- its end
@@ -250,7 +281,8 @@ started_alive p m old new n c deadline may notes is = record {
 is_child : (p : SessionState) (child deadline : ℕ) (told : Told) → IsAlive p child deadline told → IsBootChild child p
 is_child p child deadline told alive = subst (λ (o : Option Child). IsSomeAnd o (λ (c : Child). c.number ≡ child)) (sym alive.boot) refl
 
-passed : (p : SessionState) (child deadline : ℕ) (told : Told) → IsAlive p child deadline told → deadline ≤ told.moment → has_passed p.world.moment (boot_deadline p.boot) ≡ true
+passed : (p : SessionState) (child deadline : ℕ) (told : Told) → IsAlive p child deadline told → deadline ≤ told.moment →
+    has_passed p.world.moment (boot_deadline p.boot) ≡ true
 passed p child deadline told alive le =
     let at = alive.is_told.moment in
     let done : nat_le deadline p.world.moment ≡ true = le-leb deadline p.world.moment (omega (arith, le, at)) in
@@ -263,7 +295,8 @@ not_passed a b lt = by (nat_le a b) refl
     by true is = let le = leb-true a b is in absurd (omega (arith, le, lt))
     by false is = is
 
-may_wait : (p : SessionState) (child deadline : ℕ) (told : Told) → IsAlive p child deadline told → told.moment < deadline → MayWait (duty_of p.device) p (deadline - told.moment)
+may_wait : (p : SessionState) (child deadline : ℕ) (told : Told) → IsAlive p child deadline told → told.moment < deadline →
+    MayWait (duty_of p.device) p (deadline - told.moment)
 may_wait p child deadline told alive lt =
     let at = alive.is_told.moment in
     let open_yet : nat_le deadline p.world.moment ≡ false = not_passed deadline p.world.moment (omega (arith, lt, at)) in
@@ -271,11 +304,14 @@ may_wait p child deadline told alive lt =
       quiet = alive.still.quiet;
       no_end = alive.no_end;
       in_time = rw alive.boot open_yet;
-      work = waits_on (duty_of p.device).phase p.generation (duty_of p.device).counts p alive.phase alive.still.generation (ap (λ (o : Option Child). is_some o) alive.boot);
-      limit_is = ap (λ (x : ℕ). deadline - x) at ∙ sym (limit_on (duty_of p.device).phase p (record { number = child; of = step.Bootstrap; deadline = Some deadline }) deadline alive.phase alive.still.stopped alive.boot refl);
+      work = waits_on (duty_of p.device).phase p.generation (duty_of p.device).counts p alive.phase alive.still.generation
+          (ap (λ (o : Option Child). is_some o) alive.boot);
+      limit_is = ap (λ (x : ℕ). deadline - x) at ∙ sym (limit_on (duty_of p.device).phase p
+          (record { number = child; of = step.Bootstrap; deadline = Some deadline }) deadline alive.phase alive.still.stopped alive.boot refl);
     }
 
-pub killed : (p : SessionState) (m : Prepared) (child deadline : ℕ) (old new : Told) → IsAlive p child deadline old → deadline ≤ old.moment → Notes old new (seen.Killed child)
+pub killed : (p : SessionState) (m : Prepared) (child deadline : ℕ) (old new : Told) → IsAlive p child deadline old → deadline ≤ old.moment →
+    Notes old new (seen.Killed child)
     → Ended p old new exits.TimedOut (Booted (entry old (seen.Killed child)) m ∷ [])
 killed p m child deadline old new alive le notes = record {
   acts = entry_acts p m old new (seen.Killed child) alive.is_told (is_child p child deadline old alive, passed p child deadline old alive le) notes refl;
@@ -290,10 +326,14 @@ killed p m child deadline old new alive le notes = record {
   };
 }
 
-pub ended_itself : (p : SessionState) (m : Prepared) (child deadline : ℕ) (old new : Told) (exit : Exit) → IsAlive p child deadline old → old.moment < deadline → Notes old new (seen.Ended child exit (deadline - old.moment))
+pub ended_itself : (p : SessionState) (m : Prepared) (child deadline : ℕ) (old new : Told) (exit : Exit) → IsAlive p child deadline old →
+    old.moment < deadline → Notes old new (seen.Ended child exit (deadline - old.moment))
     → Ended p old new exit (Booted (entry old (seen.Ended child exit (deadline - old.moment))) m ∷ [])
 ended_itself p m child deadline old new exit alive lt notes = record {
-  acts = entry_acts p m old new (seen.Ended child exit (deadline - old.moment)) alive.is_told (may_wait p child deadline old alive lt, is_child p child deadline old alive) notes refl;
+  acts = entry_acts p m old new (seen.Ended child exit (deadline - old.moment)) alive.is_told (
+    may_wait p child deadline old alive lt,
+    is_child p child deadline old alive,
+  ) notes refl;
   ended = record {
     world = same_world p old new (seen.Ended child exit (deadline - old.moment)) alive.is_told notes;
     generation = refl;
@@ -306,7 +346,8 @@ ended_itself p m child deadline old new exit alive lt notes = record {
 }
 
 -- behind a place with the components of another time
-ended_from : (p q r : SessionState) (exit : Exit) (told : Told) (k : ℕ) → q.world ≡ later k p.world → q.generation ≡ p.generation → IsEnded q r exit told → IsEnded p r exit told
+ended_from : (p q r : SessionState) (exit : Exit) (told : Told) (k : ℕ) → q.world ≡ later k p.world → q.generation ≡ p.generation → IsEnded q r exit told →
+    IsEnded p r exit told
 ended_from p q r exit told k world generation e = record {
   world = e.world ∙ ap (λ (w : Components). later told.moment w) world;
   generation = e.generation ∙ generation;
@@ -317,20 +358,30 @@ ended_from p q r exit told k world generation e = record {
   cut = e.cut;
 }
 
-pub ended_on : (p : SessionState) (g h : List TraceEvent) (old mid new : Told) (exit : Exit) (k : ℕ) → Acts p g old.list mid.list → (state_after p g).world ≡ later k p.world → (state_after p g).generation ≡ p.generation
+pub ended_on : (p : SessionState) (g h : List TraceEvent) (old mid new : Told) (exit : Exit) (k : ℕ) → Acts p g old.list mid.list →
+    (state_after p g).world ≡ later k p.world → (state_after p g).generation ≡ p.generation
     → Ended (state_after p g) mid new exit h → Ended p old new exit (h ++ g)
 ended_on p g h old mid new exit k acts world generation e = record {
   acts = acts_on p g h old.list mid.list new.list acts e.acts;
-  ended = subst (λ (q : SessionState). IsEnded p q exit new) (sym (left-append p h g)) (ended_from p (state_after p g) (state_after (state_after p g) h) exit new k world generation e.ended);
+  ended = subst (λ (q : SessionState). IsEnded p q exit new) (sym (left-append p h g))
+      (ended_from p (state_after p g) (state_after (state_after p g) h) exit new k world generation e.ended);
 }
 
 -- the wait elapsed, and a moment was asked for
-pub slept_acts : (p : SessionState) (child deadline : ℕ) (old new : Told) (now : ℕ) (list : Option (List RunnerEntry)) → IsAlive p child deadline old → old.moment < deadline → Notes old new (seen.Elapsed (deadline - old.moment)) → old.moment ≤ now → list ≡ new.list
+pub slept_acts : (p : SessionState) (child deadline : ℕ) (old new : Told) (now : ℕ) (list : Option (List RunnerEntry)) → IsAlive p child deadline old →
+    old.moment < deadline → Notes old new (seen.Elapsed (deadline - old.moment)) → old.moment ≤ now → list ≡ new.list
     → Acts p (Asked now ∷ WaitElapsed (entry old (seen.Elapsed (deadline - old.moment))) ∷ []) old.list list
 slept_acts p child deadline old new now list alive lt notes le same =
     let e = entry old (seen.Elapsed (deadline - old.moment)) in
     let one : Acts p (WaitElapsed e ∷ []) old.list new.list = record {
-      proper = (((may_wait p child deadline old alive lt, is_entry p old (seen.Elapsed (deadline - old.moment)) alive.is_told), (λ cut. absurd (never p.cut alive.is_told.cut cut)), alive.is_told.over), tt);
+      proper = (
+        (
+          (may_wait p child deadline old alive lt, is_entry p old (seen.Elapsed (deadline - old.moment)) alive.is_told),
+          (λ cut. absurd (never p.cut alive.is_told.cut cut)),
+          alive.is_told.over,
+        ),
+        tt,
+      );
       none = refl;
       list = notes.entry;
       device = refl;
@@ -349,7 +400,8 @@ slept_alive p child deadline old new now alive moment asked = record {
   phase = alive.phase;
   boot = alive.boot;
   no_end = alive.no_end;
-  still = still_later p (state_after p (Asked now ∷ WaitElapsed (entry old (seen.Elapsed (deadline - old.moment))) ∷ [])) now refl refl alive.still.cut alive.still;
+  still = still_later p (state_after p (Asked now ∷ WaitElapsed (entry old (seen.Elapsed (deadline - old.moment))) ∷ [])) now refl refl alive.still.cut
+      alive.still;
   is_told = record { moment = moment; asked = asked; due = λ d. refl; over = alive.is_told.over; cut = alive.is_told.cut };
 }
 

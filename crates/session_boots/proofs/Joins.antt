@@ -23,7 +23,8 @@ use Rattle.session_boots.proofs.Prefixes.{run_on, no_record, one_record, fronts_
 
 -- ---- parts over a disk
 
-module _ (entries : Image → List (List ℕ) → Type 0) (files : List ℕ → Type 0) {D : Type 0} {may_leave : D → Image → Type 0} {moment : D → ℕ} {left_since : D → ℕ → Image → Type 0} {is_modelled : Bool} {seen : D → Image}
+module _ (entries : Image → List (List ℕ) → Type 0) (files : List ℕ → Type 0) {D : Type 0} {may_leave : D → Image → Type 0} {moment : D → ℕ} {left_since : D →
+    ℕ → Image → Type 0} {is_modelled : Bool} {seen : D → Image}
     (laws : DiskLaws is_modelled seen may_leave moment left_since) where
   pub went_on : (old mid new : D) (a b c : Option (List RunnerEntry)) (p : SessionState) (h g : List TraceEvent)
       → IsTrace entries files may_leave moment left_since old mid a b p h → IsTrace entries files may_leave moment left_since mid new b c (state_after p h) g
@@ -41,12 +42,14 @@ module _ (entries : Image → List (List ℕ) → Type 0) (files : List ℕ → 
       }
 
   -- a part without a record, while the disk is as it was
-  pub acted : (disk : D) (a b : Option (List RunnerEntry)) (p : SessionState) (h : List TraceEvent) → ((c : Image) → may_leave disk c → StandsFor entries c p.device)
+  pub acted : (disk : D) (a b : Option (List RunnerEntry)) (p : SessionState) (h : List TraceEvent) →
+      ((c : Image) → may_leave disk c → StandsFor entries c p.device)
       → Acts p h a b → IsTrace entries files may_leave moment left_since disk disk a b p h
   acted disk a b p h stands acts = record {
     proper = acts.proper;
     run = subst (λ (l : List Record). Run p.device l (state_after p h).device) (sym acts.none) acts.device;
-    course = subst (λ (l : List Record). HoldsPrefixes entries files may_leave moment left_since disk disk p.device l) (sym acts.none) (no_record entries files laws disk p.device stands);
+    course = subst (λ (l : List Record). HoldsPrefixes entries files may_leave moment left_since disk disk p.device l) (sym acts.none)
+        (no_record entries files laws disk p.device stands);
     list = acts.list;
   }
 
@@ -62,7 +65,8 @@ module _ (entries : Image → List (List ℕ) → Type 0) (files : List ℕ → 
   }
 
   -- a part without lines, and then one without a record
-  pub opened : (old mid : D) (a b : Option (List RunnerEntry)) (p : SessionState) (h g : List TraceEvent) → IsTrace entries files may_leave moment left_since old mid a a p h → ((c : Image) → may_leave mid c → StandsFor entries c (state_after p h).device)
+  pub opened : (old mid : D) (a b : Option (List RunnerEntry)) (p : SessionState) (h g : List TraceEvent) →
+      IsTrace entries files may_leave moment left_since old mid a a p h → ((c : Image) → may_leave mid c → StandsFor entries c (state_after p h).device)
       → Acts (state_after p h) g a b → IsTrace entries files may_leave moment left_since old mid a b p (g ++ h)
   opened old mid a b p h g one stands acts = went_on old mid mid a a b p h g one (acted mid a b (state_after p h) g stands acts)
 
@@ -71,4 +75,9 @@ records_opened h g none = records-append g h ∙ ap (λ (l : List Record). recor
 
 -- the last record of the second part is that of both
 pub ends_on : (exit : Exit) (h g : List TraceEvent) → EndsWith exit (records_of g) → EndsWith exit (records_of (g ++ h))
-ends_on exit h g e = (records_of h ++ e.0, e.1, records-append g h ∙ ap (λ (l : List Record). records_of h ++ l) e.2 ∙ sym (append_assoc (records_of h) e.0 (BootEnded e.1 exit ∷ [])))
+ends_on exit h g e = (
+  records_of h ++ e.0,
+  e.1,
+  records-append g h ∙ ap (λ (l : List Record). records_of h ++ l) e.2 ∙ sym
+      (append_assoc (records_of h) e.0 (BootEnded e.1 exit ∷ [])),
+)

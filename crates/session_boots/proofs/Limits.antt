@@ -28,7 +28,8 @@ near (Some l) n is short = short
 same_made : (m p : Prepared) → Some m ≡ Some p → m ≡ p
 same_made m p is = cc
 
-limited : (scope : Scope) (outer : List Variable) (m : Prepared) (o : Option Data) (def : Option StepDef) → IsStep step.Bootstrap outer o def → IfSome def IsShort → IsPrepared scope def (Some m) → IsNear m.limit_ms
+limited : (scope : Scope) (outer : List Variable) (m : Prepared) (o : Option Data) (def : Option StepDef) → IsStep step.Bootstrap outer o def →
+    IfSome def IsShort → IsPrepared scope def (Some m) → IsNear m.limit_ms
 limited scope outer m o None is short made = absurd cc
 limited scope outer m None (Some def) is short made = absurd is
 limited scope outer m (Some v) (Some def) is short made =
@@ -36,8 +37,10 @@ limited scope outer m (Some v) (Some def) is short made =
     let same : m.limit_ms ≡ def.limit_ms = ap (λ (p : Prepared). p.limit_ms) (same_made m made.0 made.1) ∙ made.2.limit in
     subst (λ (l : Option ℕ). IsNear l) (sym same) (near def.limit_ms limit.0 limit.1 short)
 
-pub boot_limit : ReadsSound → (o : Origin) (items : List Item) (at : ℕ) (m : Prepared) → IsStepAt o items at step.Bootstrap (Some m) → IsSomeAnd m.limit_ms (λ l. l ≤ 1000000000)
+pub boot_limit : ReadsSound → (o : Origin) (items : List Item) (at : ℕ) (m : Prepared) → IsStepAt o items at step.Bootstrap (Some m) →
+    IsSomeAnd m.limit_ms (λ l. l ≤ 1000000000)
 boot_limit sound o items at m is =
     let scope = is.is_scope in
     let recipe = scope.recipe in
-    limited is.scope scope.reads.3.steps.outer m _ (step_of recipe step.Bootstrap) (scope.reads.3.steps.steps step.Bootstrap) ((sound scope.item.recipe o.platform recipe scope.reads).limits step.Bootstrap) is.prepared
+    limited is.scope scope.reads.3.steps.outer m _ (step_of recipe step.Bootstrap) (scope.reads.3.steps.steps step.Bootstrap)
+    ((sound scope.item.recipe o.platform recipe scope.reads).limits step.Bootstrap) is.prepared

@@ -17,7 +17,8 @@ run_on d [] c second e h k = subst (λ (x : Device). Run x second e) h k
 run_on d (r ∷ first) c second e h k = (h.0, h.1, run_on h.0 first c second e h.2 k)
 
 module _ (entries : Image → List (List ℕ) → Type 0) where
-  pub front_more : (d : Device) (first second : List Record) (image : Image) → StandsForPrefix entries d first image → StandsForPrefix entries d (first ++ second) image
+  pub front_more : (d : Device) (first second : List Record) (image : Image) → StandsForPrefix entries d first image →
+      StandsForPrefix entries d (first ++ second) image
   front_more d first second image h = record {
     front = h.front;
     rest = h.rest ++ second;
@@ -27,7 +28,8 @@ module _ (entries : Image → List (List ℕ) → Type 0) where
     stands = h.stands;
   }
 
-  pub front_behind : (d : Device) (first second : List Record) (c : Device) (image : Image) → Run d first c → StandsForPrefix entries c second image → StandsForPrefix entries d (first ++ second) image
+  pub front_behind : (d : Device) (first second : List Record) (c : Device) (image : Image) → Run d first c → StandsForPrefix entries c second image →
+      StandsForPrefix entries d (first ++ second) image
   front_behind d first second c image run h = record {
     front = first ++ h.front;
     rest = h.rest;
@@ -37,7 +39,8 @@ module _ (entries : Image → List (List ℕ) → Type 0) where
     stands = h.stands;
   }
 
-  pub most_behind : (d : Device) (first second : List Record) (c : Device) (image : Image) → Run d first c → StandsForMost entries c second image → StandsForMost entries d (first ++ second) image
+  pub most_behind : (d : Device) (first second : List Record) (c : Device) (image : Image) → Run d first c → StandsForMost entries c second image →
+      StandsForMost entries d (first ++ second) image
   most_behind d first second c image run h = record {
     front = first ++ h.front;
     rest = h.rest;
@@ -51,32 +54,59 @@ module _ (entries : Image → List (List ℕ) → Type 0) where
   -- the device before a record, or with it
   either_front : (d : Device) (r : Record) (c : Image) → Allowed d r → StandsForEither entries d (applied d r) c → StandsForPrefix entries d (r ∷ []) c
   either_front d r c allowed (inl h) = record { front = []; rest = r ∷ []; split = refl; device = d; run = refl; stands = h }
-  either_front d r c allowed (inr h) = record { front = r ∷ []; rest = []; split = refl; device = applied d r; run = (applied d r, record { allowed = allowed; leaves = refl }, refl); stands = h }
+  either_front d r c allowed (inr h) = record {
+    front = r ∷ [];
+    rest = [];
+    split = refl;
+    device = applied d r;
+    run =
+        (applied d r, record { allowed = allowed; leaves = refl }, refl);
+    stands = h;
+  }
 
   either_most : (d : Device) (r : Record) (c : Image) → Allowed d r → StandsForEither entries d (applied d r) c → StandsForMost entries d (r ∷ []) c
   either_most d r c allowed (inl h) = record { front = []; rest = r ∷ []; split = refl; few = omega arith; device = d; run = refl; stands = h }
-  either_most d r c allowed (inr h) = record { front = r ∷ []; rest = []; split = refl; few = omega arith; device = applied d r; run = (applied d r, record { allowed = allowed; leaves = refl }, refl); stands = h }
+  either_most d r c allowed (inr h) = record {
+    front = r ∷ [];
+    rest = [];
+    split = refl;
+    few = omega arith;
+    device = applied d r;
+    run =
+        (applied d r, record { allowed = allowed; leaves = refl }, refl);
+    stands = h;
+  }
 
   -- no record, and the image stands for the device
   pub none_most : (d : Device) (c : Image) → StandsFor entries c d → StandsForMost entries d [] c
   none_most d c h = record { front = []; rest = []; split = refl; few = omega arith; device = d; run = refl; stands = h }
 
-  module _ (files : List ℕ → Type 0) {D : Type 0} {may_leave : D → Image → Type 0} {moment : D → ℕ} {left_since : D → ℕ → Image → Type 0} {is_modelled : Bool} {seen : D → Image}
+  module _ (files : List ℕ → Type 0) {D : Type 0} {may_leave : D → Image → Type 0} {moment : D → ℕ} {left_since : D → ℕ → Image → Type 0} {is_modelled : Bool}
+      {seen : D → Image}
       (laws : DiskLaws is_modelled seen may_leave moment left_since) where
-    pub no_record : (disk : D) (d : Device) → ((c : Image) → may_leave disk c → StandsFor entries c d) → HoldsPrefixes entries files may_leave moment left_since disk disk d []
-    no_record disk d stands = start_within laws files disk (StandsForPrefix entries d []) (λ c left. record { front = []; rest = []; split = refl; device = d; run = refl; stands = stands c left })
+    pub no_record : (disk : D) (d : Device) → ((c : Image) → may_leave disk c → StandsFor entries c d) →
+        HoldsPrefixes entries files may_leave moment left_since disk disk d []
+    no_record disk d stands = start_within laws files disk (StandsForPrefix entries d [])
+        (λ c left. record { front = []; rest = []; split = refl; device = d; run = refl; stands = stands c left })
 
     pub one_record : (old new : D) (d : Device) (r : Record) → Allowed d r
-        → Leaves moment left_since old new (After (may_leave old) (Within files (StandsForEither entries d (applied d r)))) → HoldsPrefixes entries files may_leave moment left_since old new d (r ∷ [])
-    one_record old new d r allowed leaves = more_within laws files old new (StandsForEither entries d (applied d r)) (StandsForPrefix entries d (r ∷ [])) (λ c h. either_front d r c allowed h) leaves
+        → Leaves moment left_since old new (After (may_leave old) (Within files (StandsForEither entries d (applied d r)))) →
+        HoldsPrefixes entries files may_leave moment left_since old new d (r ∷ [])
+    one_record old new d r allowed leaves = more_within laws files old new (StandsForEither entries d (applied d r)) (StandsForPrefix entries d (r ∷ []))
+        (λ c h. either_front d r c allowed h) leaves
 
-    pub fronts_join : (old mid new : D) (d : Device) (first : List Record) (c : Device) (second : List Record) → HoldsPrefixes entries files may_leave moment left_since old mid d first → Run d first c
-        → HoldsPrefixes entries files may_leave moment left_since mid new c second → HoldsPrefixes entries files may_leave moment left_since old new d (first ++ second)
+    pub fronts_join : (old mid new : D) (d : Device) (first : List Record) (c : Device) (second : List Record) →
+        HoldsPrefixes entries files may_leave moment left_since old mid d first → Run d first c
+        → HoldsPrefixes entries files may_leave moment left_since mid new c second → HoldsPrefixes entries files may_leave moment left_since old new d
+        (first ++ second)
     fronts_join old mid new d first c second one run two =
-        then_within laws files old mid new (StandsForPrefix entries d first) (StandsForPrefix entries c second) (StandsForPrefix entries d (first ++ second)) one two
+        then_within laws files old mid new (StandsForPrefix entries d first) (StandsForPrefix entries c second) (StandsForPrefix entries d (first ++ second))
+        one two
         (λ i h. front_more d first second i h) (λ i h. front_behind d first second c i run h)
 
     -- the images of now, after a record that is in doubt
     pub in_doubt : (old new : D) (d : Device) (r : Record) → Allowed d r
-        → Leaves moment left_since old new (After (may_leave old) (Within files (StandsForEither entries d (applied d r)))) → (c : Image) → may_leave new c → StandsForMost entries d (r ∷ []) c
-    in_doubt old new d r allowed leaves c left = either_most d r c allowed (now laws old new (After (may_leave old) (Within files (StandsForEither entries d (applied d r)))) leaves c left).2.here
+        → Leaves moment left_since old new (After (may_leave old) (Within files (StandsForEither entries d (applied d r)))) → (c : Image) → may_leave new c →
+        StandsForMost entries d (r ∷ []) c
+    in_doubt old new d r allowed leaves c left = either_most d r c allowed
+        (now laws old new (After (may_leave old) (Within files (StandsForEither entries d (applied d r)))) leaves c left).2.here

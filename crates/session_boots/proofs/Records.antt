@@ -42,14 +42,19 @@ use Rattle.session_boots.proofs.Told.{stops_last}
 still_on : (c : Generation) → c ≡ draining → is_shutting_down c ≡ false
 still_on c is = rw is refl
 
-begin_follows : (p : SessionState) (d : Device) (world : Components) (told : Told) (living : List ℕ) (name : List ℕ) → IsAtBootStage p d world told living → MayFollow p (Recorded (stored.BootBegun name))
+begin_follows : (p : SessionState) (d : Device) (world : Components) (told : Told) (living : List ℕ) (name : List ℕ) → IsAtBootStage p d world told living →
+    MayFollow p (Recorded (stored.BootBegun name))
 begin_follows p d world told living name f = (
-  (record { told = f.between.still.quiet.told; alone = f.between.boot; no_end = f.between.boot_end; on = still_on p.generation f.between.still.generation }, f.between.still.stopped),
+  (
+    record { told = f.between.still.quiet.told; alone = f.between.boot; no_end = f.between.boot_end; on = still_on p.generation f.between.still.generation },
+    f.between.still.stopped,
+  ),
   (λ cut. absurd (never p.cut f.between.still.cut cut)),
   f.over,
 )
 
-pub front_begun : (p : SessionState) (d e : Device) (world : Components) (told : Told) (living : List ℕ) (name : List ℕ) → IsAtBootStage p d world told living → e ≡ applied d (stored.BootBegun name)
+pub front_begun : (p : SessionState) (d e : Device) (world : Components) (told : Told) (living : List ℕ) (name : List ℕ) →
+    IsAtBootStage p d world told living → e ≡ applied d (stored.BootBegun name)
     → IsAtBootStage (leaves p (Recorded (stored.BootBegun name))) e world told living
 front_begun p d e world told living name f same =
     let s = f.between.stands in
@@ -79,10 +84,12 @@ bare_begun p name b = record { parts = b.parts; boot = b.boot }
 
 -- ---- its end
 
-end_follows : (p : SessionState) (d : Device) (exit : Exit) (world : Components) (told : Told) (living : List ℕ) (name : List ℕ) → HasEnd p d exit world told living → MayFollow p (Recorded (stored.BootEnded name exit))
+end_follows : (p : SessionState) (d : Device) (exit : Exit) (world : Components) (told : Told) (living : List ℕ) (name : List ℕ) →
+    HasEnd p d exit world told living → MayFollow p (Recorded (stored.BootEnded name exit))
 end_follows p d exit world told living name h = ((h.boot, h.boot_end), (λ cut. absurd (never p.cut h.still.cut cut)), h.over)
 
-pub between_ended : (p : SessionState) (d e : Device) (exit : Exit) (world : Components) (told : Told) (living : List ℕ) (name : List ℕ) → HasEnd p d exit world told living → e ≡ applied d (stored.BootEnded name exit)
+pub between_ended : (p : SessionState) (d e : Device) (exit : Exit) (world : Components) (told : Told) (living : List ℕ) (name : List ℕ) →
+    HasEnd p d exit world told living → e ≡ applied d (stored.BootEnded name exit)
     → IsBetween (leaves p (Recorded (stored.BootEnded name exit))) e world told living
 between_ended p d e exit world told living name h same =
     let s = h.stands in
@@ -101,7 +108,8 @@ between_ended p d e exit world told living name h same =
       probed = refl;
     }
 
-pub bare_ended : (p : SessionState) (d : Device) (exit : Exit) (world : Components) (told : Told) (living : List ℕ) (name : List ℕ) → HasEnd p d exit world told living → IsBare (leaves p (Recorded (stored.BootEnded name exit)))
+pub bare_ended : (p : SessionState) (d : Device) (exit : Exit) (world : Components) (told : Told) (living : List ℕ) (name : List ℕ) →
+    HasEnd p d exit world told living → IsBare (leaves p (Recorded (stored.BootEnded name exit)))
 bare_ended p d exit world told living name h = record { parts = childless p.world h.still.stopped; boot = h.boot }
 
 -- whether the call ends there
@@ -115,61 +123,90 @@ over_ended p d e exit name device same =
 same_line : (d e : Device) (name : List ℕ) (exit : Exit) → id_of e ≡ id_of d → line_of e (stored.BootEnded name exit) ≡ line_of d (stored.BootEnded name exit)
 same_line d e name exit same = ap (λ (id : List ℕ). if goes_on exit then [] else failed_line id name steps.Bootstrap exit) same
 
-pub line_ended : (p : SessionState) (d e : Device) (name : List ℕ) (exit : Exit) → IsIn stages.Booting d → p.device ≡ d → e ≡ applied d (stored.BootEnded name exit)
+pub line_ended : (p : SessionState) (d e : Device) (name : List ℕ) (exit : Exit) → IsIn stages.Booting d → p.device ≡ d →
+    e ≡ applied d (stored.BootEnded name exit)
     → line_of e (stored.BootEnded name exit) ≡ lines_of p.device (records_of (Recorded (stored.BootEnded name exit) ∷ []))
 line_ended p d e name exit is device same =
-    same_line p.device e name exit (ap id_of same ∙ same_id d name exit is ∙ ap id_of (sym device)) ∙ sym (append-nil (line_of p.device (stored.BootEnded name exit)))
+    same_line p.device e name exit (ap id_of same ∙ same_id d name exit is ∙ ap id_of (sym device)) ∙ sym
+    (append-nil (line_of p.device (stored.BootEnded name exit)))
 
 -- ---- over a disk
 
-module _ (entries : Image → List (List ℕ) → Type 0) (files : List ℕ → Type 0) {D : Type 0} {may_leave : D → Image → Type 0} {moment : D → ℕ} {left_since : D → ℕ → Image → Type 0} {is_modelled : Bool} {seen : D → Image}
+module _ (entries : Image → List (List ℕ) → Type 0) (files : List ℕ → Type 0) {D : Type 0} {may_leave : D → Image → Type 0} {moment : D → ℕ} {left_since : D →
+    ℕ → Image → Type 0} {is_modelled : Bool} {seen : D → Image}
     (laws : DiskLaws is_modelled seen may_leave moment left_since) where
   abbrev Notes : D → D → Device → Record → Type 0
   Notes old new d r = Leaves moment left_since old new (LeavesEither may_leave files entries old d (applied d r))
 
-  pub begin_went : (old new : D) (list : Option (List RunnerEntry)) (p : SessionState) (d : Device) (world : Components) (told : Told) (living : List ℕ) (name : List ℕ) → IsAtBootStage p d world told living → Allowed d (stored.BootBegun name)
+  pub begin_went : (old new : D) (list : Option (List RunnerEntry)) (p : SessionState) (d : Device) (world : Components) (told : Told) (living : List ℕ)
+      (name : List ℕ) → IsAtBootStage p d world told living → Allowed d (stored.BootBegun name)
       → Notes old new d (stored.BootBegun name) → IsTrace entries files may_leave moment left_since old new list list p (Recorded (stored.BootBegun name) ∷ [])
   begin_went old new list p d world told living name f allowed notes =
       let same = sym f.between.stands.device_is in
       kept_one entries files laws old new list p (stored.BootBegun name) (begin_follows p d world told living name f)
       (subst (λ (x : Device). Allowed x (stored.BootBegun name)) same allowed) (subst (λ (x : Device). Notes old new x (stored.BootBegun name)) same notes)
 
-  pub end_went : (old new : D) (list : Option (List RunnerEntry)) (p : SessionState) (d : Device) (exit : Exit) (world : Components) (told : Told) (living : List ℕ) (name : List ℕ) → HasEnd p d exit world told living → Allowed d (stored.BootEnded name exit)
-      → Notes old new d (stored.BootEnded name exit) → IsTrace entries files may_leave moment left_since old new list list p (Recorded (stored.BootEnded name exit) ∷ [])
+  pub end_went : (old new : D) (list : Option (List RunnerEntry)) (p : SessionState) (d : Device) (exit : Exit) (world : Components) (told : Told)
+      (living : List ℕ) (name : List ℕ) → HasEnd p d exit world told living → Allowed d (stored.BootEnded name exit)
+      → Notes old new d (stored.BootEnded name exit) → IsTrace entries files may_leave moment left_since old new list list p
+      (Recorded (stored.BootEnded name exit) ∷ [])
   end_went old new list p d exit world told living name h allowed notes =
       let same = sym h.stands.device_is in
       kept_one entries files laws old new list p (stored.BootEnded name exit) (end_follows p d exit world told living name h)
-      (subst (λ (x : Device). Allowed x (stored.BootEnded name exit)) same allowed) (subst (λ (x : Device). Notes old new x (stored.BootEnded name exit)) same notes)
+      (subst (λ (x : Device). Allowed x (stored.BootEnded name exit)) same allowed)
+      (subst (λ (x : Device). Notes old new x (stored.BootEnded name exit)) same notes)
 
   -- one record that is in doubt
-  pub doubt_at : (old new : D) (p : SessionState) (d : Device) (r : Record) → p.device ≡ d → Allowed d r → Notes old new d r → LeftAt entries may_leave new p (Recorded r ∷ []) over.Disk
-  doubt_at old new p d r device allowed notes =
-      (stops_last r, λ c left. subst (λ (x : Device). StandsForMost entries x (r ∷ []) c) (sym device) (in_doubt entries files laws old new d r allowed notes c left))
+  pub doubt_at : (old new : D) (p : SessionState) (d : Device) (r : Record) → p.device ≡ d → Allowed d r → Notes old new d r →
+      LeftAt entries may_leave new p (Recorded r ∷ []) over.Disk
+  doubt_at old new p d r device allowed notes = (
+    stops_last r,
+    λ c left. subst (λ (x : Device). StandsForMost entries x (r ∷ []) c) (sym device)
+        (in_doubt entries files laws old new d r allowed notes c left),
+  )
 
-  none_went : (old new : D) (list : Option (List RunnerEntry)) (p : SessionState) (d : Device) → ((c : Image) → may_leave old c → StandsFor entries c d) → p.device ≡ d → new ≡ old → IsTrace entries files may_leave moment left_since old new list list p []
+  none_went : (old new : D) (list : Option (List RunnerEntry)) (p : SessionState) (d : Device) → ((c : Image) → may_leave old c → StandsFor entries c d) →
+      p.device ≡ d → new ≡ old → IsTrace entries files may_leave moment left_since old new list list p []
   none_went old new list p d stands device same =
       subst (λ (x : D). IsTrace entries files may_leave moment left_since old x list list p []) (sym same)
-      (acted entries files laws old list list p [] (λ c left. subst (λ (x : Device). StandsFor entries c x) (sym device) (stands c left)) (acts_none p list list refl))
+      (acted entries files laws old list list p [] (λ c left. subst (λ (x : Device). StandsFor entries c x) (sym device) (stands c left))
+      (acts_none p list list refl))
 
   -- where it was begun before nothing happens, and else its record is kept
-  pub begun_went : (old new : D) (list : Option (List RunnerEntry)) (p : SessionState) (d e : Device) (world : Components) (told : Told) (living : List ℕ) (name : List ℕ) (t : InTurn d name) → IsAtBootStage p d world told living
-      → ((c : Image) → may_leave old c → StandsFor entries c d) → (IsBegun d → new ≡ old) → (IsBegun d → e ≡ d) → Notes old new d (stored.BootBegun name) → e ≡ applied d (stored.BootBegun name)
-      → (h : List TraceEvent) × IsTrace entries files may_leave moment left_since old new list list p h × (lines_of p.device (records_of h) ≡ []) × IsAtBootStage (state_after p h) e world told living
+  pub begun_went : (old new : D) (list : Option (List RunnerEntry)) (p : SessionState) (d e : Device) (world : Components) (told : Told) (living : List ℕ)
+      (name : List ℕ) (t : InTurn d name) → IsAtBootStage p d world told living
+      → ((c : Image) → may_leave old c → StandsFor entries c d) → (IsBegun d → new ≡ old) → (IsBegun d → e ≡ d) → Notes old new d (stored.BootBegun name) →
+      e ≡ applied d (stored.BootBegun name)
+      → (h : List TraceEvent) × IsTrace entries files may_leave moment left_since old new list list p h × (lines_of p.device (records_of h) ≡ []) ×
+      IsAtBootStage (state_after p h) e world told living
   begun_went old new list p d e world told living name t f stands same_disk same_device notes same = by t.q.begun refl
     where
-      by : (b : Bool) → t.q.begun ≡ b → (h : List TraceEvent) × IsTrace entries files may_leave moment left_since old new list list p h × (lines_of p.device (records_of h) ≡ []) × IsAtBootStage (state_after p h) e world told living
+      by : (b : Bool) → t.q.begun ≡ b → (h : List TraceEvent) × IsTrace entries files may_leave moment left_since old new list list p h ×
+          (lines_of p.device (records_of h) ≡ []) × IsAtBootStage (state_after p h) e world told living
       by true is =
-          let begun = was_begun d name t is in
-          ([], none_went old new list p d stands f.between.stands.device_is (same_disk begun), refl, subst (λ (x : Device). IsAtBootStage p x world told living) (sym (same_device begun)) f)
-      by false is = (Recorded (stored.BootBegun name) ∷ [], begin_went old new list p d world told living name f (allowed_begun d name t is) notes, refl, front_begun p d e world told living name f same)
+          let begun = was_begun d name t is in (
+            [],
+            none_went old new list p d stands f.between.stands.device_is (same_disk begun),
+            refl,
+            subst (λ (x : Device). IsAtBootStage p x world told living) (sym (same_device begun)) f,
+          )
+      by false is = (
+        Recorded (stored.BootBegun name) ∷ [],
+        begin_went old new list p d world told living name f (allowed_begun d name t is) notes,
+        refl,
+        front_begun p d e world told living name f same,
+      )
 
-  pub begun_doubt : (old new : D) (list : Option (List RunnerEntry)) (p : SessionState) (d : Device) (world : Components) (told : Told) (living : List ℕ) (name : List ℕ) (t : InTurn d name) → IsAtBootStage p d world told living
+  pub begun_doubt : (old new : D) (list : Option (List RunnerEntry)) (p : SessionState) (d : Device) (world : Components) (told : Told) (living : List ℕ)
+      (name : List ℕ) (t : InTurn d name) → IsAtBootStage p d world told living
       → (IsBegun d → ⊥) → Notes old new d (stored.BootBegun name)
-      → (h : List TraceEvent) × IsTrace entries files may_leave moment left_since old new list list p h × (lines_of p.device (records_of h) ≡ []) × LeftAt entries may_leave new p h over.Disk × IsBare (state_after p h) × IsOne (records_of h)
+      → (h : List TraceEvent) × IsTrace entries files may_leave moment left_since old new list list p h × (lines_of p.device (records_of h) ≡ []) ×
+      LeftAt entries may_leave new p h over.Disk × IsBare (state_after p h) × IsOne (records_of h)
   begun_doubt old new list p d world told living name t f unbegun notes = by t.q.begun refl
     where
       by : (b : Bool) → t.q.begun ≡ b
-          → (h : List TraceEvent) × IsTrace entries files may_leave moment left_since old new list list p h × (lines_of p.device (records_of h) ≡ []) × LeftAt entries may_leave new p h over.Disk × IsBare (state_after p h) × IsOne (records_of h)
+          → (h : List TraceEvent) × IsTrace entries files may_leave moment left_since old new list list p h × (lines_of p.device (records_of h) ≡ []) ×
+          LeftAt entries may_leave new p h over.Disk × IsBare (state_after p h) × IsOne (records_of h)
       by true is = absurd (unbegun (was_begun d name t is))
       by false is =
           let allowed = allowed_begun d name t is in (

@@ -30,11 +30,14 @@ none_is (Some x) other = absurd (other x refl)
 asked : (x : Exit) (last is_last : Bool) (r : Option Booted) → r ≡ restart_of x last → last ≡ is_last → restart_of x is_last ≡ r
 asked x last is_last r is same = ap (λ (b : Bool). restart_of x b) (sym same) ∙ sym is
 
-pub goes_on : (over : Bool) (x : Exit) (last is_last : Bool) (r : Option Booted) → over ≡ is_some (restart_of x is_last) → r ≡ restart_of x last → last ≡ is_last → r ≡ None → over ≡ false
+pub goes_on : (over : Bool) (x : Exit) (last is_last : Bool) (r : Option Booted) → over ≡ is_some (restart_of x is_last) → r ≡ restart_of x last →
+    last ≡ is_last → r ≡ None → over ≡ false
 goes_on over x last is_last r is told same none = is ∙ ap (λ (o : Option Booted). is_some o) (asked x last is_last r told same ∙ none)
 
 -- it asks for a restart or a reboot, and for nothing else
-code_asks : (restart reboot good : Bool) (end : Booted) → (if restart then Some booted.Restart else (if reboot then Some booted.Reboot else (if good then Some booted.Restart else None))) ≡ Some end → (end ≡ booted.Through → ⊥) × (end ≡ booted.Failed → ⊥)
+code_asks : (restart reboot good : Bool) (end : Booted) → (if restart then Some booted.Restart
+    else (if reboot then Some booted.Reboot else (if good then Some booted.Restart else None))) ≡ Some end → (end ≡ booted.Through → ⊥) ×
+    (end ≡ booted.Failed → ⊥)
 code_asks true reboot good end is = ((λ h. absurd cc), (λ h. absurd cc))
 code_asks false true good end is = ((λ h. absurd cc), (λ h. absurd cc))
 code_asks false false true end is = ((λ h. absurd cc), (λ h. absurd cc))
@@ -47,10 +50,14 @@ asks exits.TimedOut last end is = absurd cc
 asks exits.NotStarted last end is = absurd cc
 asks exits.Lost last end is = absurd cc
 
-pub ends_call : (end : Booted) (records : List Record) (q : SessionState) (d : Device) (world : Components) (told : Told) (living : List ℕ) (x : Exit) (last : Bool) (r : Option Booted) → IsBetween q d world told living
-    → q.over ≡ is_some (restart_of x (is_none (duty_of d).turn)) → EndsWith x records → r ≡ restart_of x last → last ≡ is_none (duty_of d).turn → r ≡ Some end → BootsLeft end records q d world told living
-ends_call booted.Through records q d world told living x last r between over ends is same some = absurd ((asks x (is_none (duty_of d).turn) booted.Through (asked x last (is_none (duty_of d).turn) r is same ∙ some)).0 refl)
-ends_call booted.Failed records q d world told living x last r between over ends is same some = absurd ((asks x (is_none (duty_of d).turn) booted.Failed (asked x last (is_none (duty_of d).turn) r is same ∙ some)).1 refl)
+pub ends_call : (end : Booted) (records : List Record) (q : SessionState) (d : Device) (world : Components) (told : Told) (living : List ℕ) (x : Exit)
+    (last : Bool) (r : Option Booted) → IsBetween q d world told living
+    → q.over ≡ is_some (restart_of x (is_none (duty_of d).turn)) → EndsWith x records → r ≡ restart_of x last → last ≡ is_none (duty_of d).turn →
+    r ≡ Some end → BootsLeft end records q d world told living
+ends_call booted.Through records q d world told living x last r between over ends is same some =
+    absurd ((asks x (is_none (duty_of d).turn) booted.Through (asked x last (is_none (duty_of d).turn) r is same ∙ some)).0 refl)
+ends_call booted.Failed records q d world told living x last r between over ends is same some =
+    absurd ((asks x (is_none (duty_of d).turn) booted.Failed (asked x last (is_none (duty_of d).turn) r is same ∙ some)).1 refl)
 ends_call booted.Restart records q d world told living x last r between over ends is same some =
     let told_so = asked x last (is_none (duty_of d).turn) r is same ∙ some in
     (between, over ∙ ap (λ (o : Option Booted). is_some o) told_so, (x, ends, told_so))

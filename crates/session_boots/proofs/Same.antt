@@ -7,7 +7,8 @@ use Rattle.nuc_base.specs.declared.kinds.Step.{Step}
 use Rattle.records.specs.Stored.{Plan, Record}
 use Rattle.records.specs.Stored as stored
 use Rattle.device.specs.Devices.{Device, Pending}
-use Rattle.device.specs.Lawful.{activated, applied, begun, boot_ended, count_failure, counted, failing_name, failing_place, goes_on, has_gone_back, moved_on, on_pending, one_ended, rolled, turned_back}
+use Rattle.device.specs.Lawful.{activated, applied, begun, boot_ended, count_failure, counted, failing_name, failing_place, goes_on, has_gone_back, moved_on}
+use Rattle.device.specs.Lawful.{on_pending, one_ended, rolled, turned_back}
 use Rattle.deploy_state.specs.Fields.{IsBreak, backs_now, break_by}
 use Rattle.session_boots.specs.Same.{IsSameDeployment}
 use Rattle.session_boots.specs.Turns.{Turns}
@@ -76,6 +77,7 @@ same_broken d r breaks = by d.pending breaks
     by_backs [] name = same_rolled d name
     by_backs (b ∷ others) name = same_turned_back d name
 
-    by : (o : Option Pending) → IsSomeAnd o (λ q. (n : List ℕ) × (failing_name q ≡ Some n) × (r ≡ break_by (backs_now d q) n)) → IsSameDeployment d (applied d r)
+    by : (o : Option Pending) → IsSomeAnd o (λ q. (n : List ℕ) × (failing_name q ≡ Some n) × (r ≡ break_by (backs_now d q) n)) →
+        IsSameDeployment d (applied d r)
     by None h = absurd h
     by (Some q) h = subst (λ (x : Record). IsSameDeployment d (applied d x)) (sym h.2) (by_backs (backs_now d q) h.0)

@@ -105,14 +105,16 @@ later_now m w is = sym (ap (λ (x : ℕ). later x w) is)
 
 -- ---- waits among bootstraps
 
-pub waits_on : (f : Phase) (c : Generation) (counts : List ℕ) (p : SessionState) → has_boots f ≡ true → c ≡ draining → is_some p.boot ≡ true → has_work f c counts p ≡ true
+pub waits_on : (f : Phase) (c : Generation) (counts : List ℕ) (p : SessionState) → has_boots f ≡ true → c ≡ draining → is_some p.boot ≡ true →
+    has_work f c counts p ≡ true
 waits_on idle c counts p h is boot = absurd cc
 waits_on booting c counts p h is boot = rw is (or_first (is_some p.boot) (not (is_stopped p.world)) boot)
 waits_on activating c counts p h is boot = absurd cc
 waits_on backing c counts p h is boot = rw is (or_first (is_some p.boot) (not (is_stopped p.world)) boot)
 waits_on rolling c counts p h is boot = absurd cc
 
-pub limit_on : (f : Phase) (p : SessionState) (child : Child) (deadline : ℕ) → has_boots f ≡ true → is_stopped p.world ≡ true → p.boot ≡ Some child → child.deadline ≡ Some deadline → wait_limit f p ≡ deadline - p.world.moment
+pub limit_on : (f : Phase) (p : SessionState) (child : Child) (deadline : ℕ) → has_boots f ≡ true → is_stopped p.world ≡ true → p.boot ≡ Some child →
+    child.deadline ≡ Some deadline → wait_limit f p ≡ deadline - p.world.moment
 limit_on idle p child deadline h stopped boot is = absurd cc
 limit_on booting p child deadline h stopped boot is = let none = no_deadline p.world stopped in rw (boot, is, none) refl
 limit_on activating p child deadline h stopped boot is = absurd cc

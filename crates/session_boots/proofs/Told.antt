@@ -29,15 +29,20 @@ lines_on d (r ∷ a) e b run =
 abbrev Printed : SessionState → List TraceEvent → List ℕ
 Printed p h = lines_of p.device (records_of h)
 
-pub lines_joined : (p : SessionState) (w t : List TraceEvent) → Run p.device (records_of w) (state_after p w).device → lines_of p.device (records_of (t ++ w)) ≡ lines_of p.device (records_of w) ++ lines_of (state_after p w).device (records_of t)
-lines_joined p w t run = ap (λ (l : List Record). lines_of p.device l) (records-append t w) ∙ lines_on p.device (records_of w) (state_after p w).device (records_of t) run
+pub lines_joined : (p : SessionState) (w t : List TraceEvent) → Run p.device (records_of w) (state_after p w).device → lines_of p.device (records_of (t ++ w))
+    ≡ lines_of p.device (records_of w) ++ lines_of (state_after p w).device (records_of t)
+lines_joined p w t run = ap (λ (l : List Record). lines_of p.device l) (records-append t w) ∙ lines_on p.device (records_of w) (state_after p w).device
+    (records_of t) run
 
 pub all_told : (a b c : Option (List ℕ)) (p : SessionState) (w t : List TraceEvent) → Run p.device (records_of w) (state_after p w).device
-    → Appends a b (lines_of p.device (records_of w)) → Appends b c (lines_of (state_after p w).device (records_of t)) → Appends a c (lines_of p.device (records_of (t ++ w)))
-all_told a b c p w t run one two = subst (λ (l : List ℕ). Appends a c l) (sym (lines_joined p w t run)) (Appends-trans a b c (Printed p w) (Printed (state_after p w) t) one two)
+    → Appends a b (lines_of p.device (records_of w)) → Appends b c (lines_of (state_after p w).device (records_of t)) →
+    Appends a c (lines_of p.device (records_of (t ++ w)))
+all_told a b c p w t run one two = subst (λ (l : List ℕ). Appends a c l) (sym (lines_joined p w t run))
+    (Appends-trans a b c (Printed p w) (Printed (state_after p w) t) one two)
 
 front_told : (a b c : Option (List ℕ)) (p : SessionState) (w t : List TraceEvent) → Run p.device (records_of w) (state_after p w).device
-    → Appends a b (lines_of p.device (records_of w)) → AppendsPrefix b c (lines_of (state_after p w).device (records_of t)) → AppendsPrefix a c (lines_of p.device (records_of (t ++ w)))
+    → Appends a b (lines_of p.device (records_of w)) → AppendsPrefix b c (lines_of (state_after p w).device (records_of t)) →
+    AppendsPrefix a c (lines_of p.device (records_of (t ++ w)))
 front_told a b c p w t run one two = (
   Printed p w ++ two.0,
   two.1,
@@ -45,13 +50,15 @@ front_told a b c p w t run one two = (
   Appends-trans a b c (Printed p w) two.0 one two.3,
 )
 
-pub lines_at_joined : (a b c : Option (List ℕ)) (p : SessionState) (w t : List TraceEvent) (e : SessionFault) → Run p.device (records_of w) (state_after p w).device
+pub lines_at_joined : (a b c : Option (List ℕ)) (p : SessionState) (w t : List TraceEvent) (e : SessionFault) →
+    Run p.device (records_of w) (state_after p w).device
     → Appends a b (lines_of p.device (records_of w)) → LinesAt b c (state_after p w).device (records_of t) e → LinesAt a c p.device (records_of (t ++ w)) e
 lines_at_joined a b c p w t over.Disk run one two = (
   records_of w ++ two.0,
   two.1,
   records-append t w ∙ ap (λ (l : List Record). records_of w ++ l) two.2 ∙ sym (append_assoc (records_of w) two.0 (two.1 ∷ [])),
-  subst (λ (l : List ℕ). Appends a c l) (sym (lines_on p.device (records_of w) (state_after p w).device two.0 run)) (Appends-trans a b c (Printed p w) (lines_of (state_after p w).device two.0) one two.3),
+  subst (λ (l : List ℕ). Appends a c l) (sym (lines_on p.device (records_of w) (state_after p w).device two.0 run))
+      (Appends-trans a b c (Printed p w) (lines_of (state_after p w).device two.0) one two.3),
 )
 lines_at_joined a b c p w t over.Edge run one two = front_told a b c p w t run one two
 
@@ -88,7 +95,8 @@ stops_behind w t s = record {
   kills = s.kills;
 }
 
-pub left_joined : {D : Type 0} (entries : Image → List (List ℕ) → Type 0) (may_leave : D → Image → Type 0) (disk : D) (p : SessionState) (w t : List TraceEvent) (e : SessionFault) → Run p.device (records_of w) (state_after p w).device
+pub left_joined : {D : Type 0} (entries : Image → List (List ℕ) → Type 0) (may_leave : D → Image → Type 0) (disk : D) (p : SessionState)
+    (w t : List TraceEvent) (e : SessionFault) → Run p.device (records_of w) (state_after p w).device
     → LeftAt entries may_leave disk (state_after p w) t e → LeftAt entries may_leave disk p (t ++ w) e
 left_joined entries may_leave disk p w t over.Disk run h = (
   stops_behind w t h.0,

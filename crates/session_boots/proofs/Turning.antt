@@ -39,7 +39,8 @@ origin_of d name made t are =
     let here = subst (λ (x : Option Pending). IfSome x (λ q. IsSomeAnd d.origin (λ o. AreBootsOf o q.plan.items q.plan.boots made))) t.pending are in
     some_origin (λ o. AreBootsOf o t.q.plan.items t.q.plan.boots made) d.origin here
 
-pub turn_made : (d : Device) (name : List ℕ) (made : List Prepared) (m : Prepared) (t : InTurn d name) → (duty_of d).turn ≡ Some name → AreMade d made → slice_get made t.q.ended ≡ Some m → IsTurn d m
+pub turn_made : (d : Device) (name : List ℕ) (made : List Prepared) (m : Prepared) (t : InTurn d name) → (duty_of d).turn ≡ Some name → AreMade d made →
+    slice_get made t.q.ended ≡ Some m → IsTurn d m
 turn_made d name made m t turn are there =
     let o = origin_of d name made t are in
     let of = subst (λ (x : Option Prepared). IsSomeAnd x (IsBootOf o.0 t.q.plan.items name)) there (made_turn d name made t o.0 o.1 are) in
@@ -51,13 +52,16 @@ turn_not_made d name made t are none =
     subst (λ (x : Option Prepared). IsSomeAnd x (IsBootOf o.0 t.q.plan.items name)) none (made_turn d name made t o.0 o.1 are)
 
 -- what the code looks up stands at the place of the turn
-place_told : (x : code.Device) (q : code_pending.Pending) (d : Device) (name : List ℕ) (t : InTurn d name) → device_view x ≡ d → x.pending ≡ Some q → t.q.ended ≡ q.ended
+place_told : (x : code.Device) (q : code_pending.Pending) (d : Device) (name : List ℕ) (t : InTurn d name) → device_view x ≡ d → x.pending ≡ Some q →
+    t.q.ended ≡ q.ended
 place_told x q d name t view is =
     let told = sym t.pending ∙ ap (λ (y : Device). y.pending) (sym view) ∙ ap (λ (o : Option code_pending.Pending). option_map pending_view o) is in
     ap (λ (o : Option Pending). option_map_or (λ (y : Pending). y.ended) o 0) told
 
-module _ (x : code.Device) (q : code_pending.Pending) (d : Device) (made : List Prepared) (r : Option (Bor Prepared)) (view : device_view x ≡ d) (pending : x.pending ≡ Some q)
-    (is : IsIn stages.Booting d) (are : AreMade d made) (some : is_none (duty_of d).turn ≡ false) (there : option_map (λ (m : Bor Prepared). m.now) r ≡ slice_get made q.ended) where
+module _ (x : code.Device) (q : code_pending.Pending) (d : Device) (made : List Prepared) (r : Option (Bor Prepared)) (view : device_view x ≡ d)
+    (pending : x.pending ≡ Some q)
+    (is : IsIn stages.Booting d) (are : AreMade d made) (some : is_none (duty_of d).turn ≡ false)
+    (there : option_map (λ (m : Bor Prepared). m.now) r ≡ slice_get made q.ended) where
   abbrev name_is : (name : List ℕ) × ((duty_of d).turn ≡ Some name)
   name_is = some_name (duty_of d).turn some
 
@@ -70,7 +74,8 @@ module _ (x : code.Device) (q : code_pending.Pending) (d : Device) (made : List 
   pub turn_at : IfSome r (λ (s : Bor Prepared). IsTurn d s.now)
   turn_at = by r at_turn
     where
-      by : (o : Option (Bor Prepared)) → slice_get made turn_is.q.ended ≡ option_map (λ (m : Bor Prepared). m.now) o → IfSome o (λ (s : Bor Prepared). IsTurn d s.now)
+      by : (o : Option (Bor Prepared)) → slice_get made turn_is.q.ended ≡ option_map (λ (m : Bor Prepared). m.now) o →
+          IfSome o (λ (s : Bor Prepared). IsTurn d s.now)
       by None h = tt
       by (Some s) h = turn_made d name_is.0 made s.now turn_is name_is.1 are h
 
@@ -85,7 +90,8 @@ either false o = refl
 pub through_is : (d : Device) → IsIn stages.Booting d → (has_failed d || is_none (next_name d)) ≡ is_none (duty_of d).turn
 through_is d is = by d.pending is
   where
-    by : (o : Option Pending) → IsSomeAnd o (λ q. q.stage ≡ stages.Booting) → (has_failed (pends d o) || is_none (next_name (pends d o))) ≡ is_none (duty_of (pends d o)).turn
+    by : (o : Option Pending) → IsSomeAnd o (λ q. q.stage ≡ stages.Booting) → (has_failed (pends d o) || is_none (next_name (pends d o))) ≡ is_none
+        (duty_of (pends d o)).turn
     by None h = absurd h
     by (Some q) h = either q.boot_failed (next_boot q) ∙ sym (ap (λ (x : Duty). is_none x.turn) (duty_booting (pends d (Some q)) q h))
 
@@ -122,11 +128,14 @@ within q name is next = slice_get_within q.plan.boots q.ended name (at_place q i
 pub fewer : (d e : Device) (exit : Exit) → IsIn stages.Booting d → Turns d exit e → steps_left e < steps_left d
 fewer d e exit is t =
     let n = in_turn d t.1.0 is t.1.1 in
-    subst (λ (x : Device). steps_left x < steps_left d) (sym (turned_is d e exit t)) (by d.pending n.q n.pending n.stage n.failed (within n.q t.1.0 n.stage n.next))
+    subst (λ (x : Device). steps_left x < steps_left d) (sym (turned_is d e exit t))
+    (by d.pending n.q n.pending n.stage n.failed (within n.q t.1.0 n.stage n.next))
   where
-    by : (o : Option Pending) (q : Pending) → o ≡ Some q → q.stage ≡ stages.Booting → q.boot_failed ≡ false → q.ended < length q.plan.boots → steps_left (turned exit (pends d o)) < steps_left (pends d o)
+    by : (o : Option Pending) (q : Pending) → o ≡ Some q → q.stage ≡ stages.Booting → q.boot_failed ≡ false → q.ended < length q.plan.boots →
+        steps_left (turned exit (pends d o)) < steps_left (pends d o)
     by None q same h failed lt = absurd cc
     by (Some p) q same h failed lt =
         let is : p ≡ q = cc in
-        let less : left_in (boot_ended exit (begun q)) < left_in q = subst (λ (x : Pending). left_in x < left_in q) (sym (ended_is exit (begun q) h)) (fewer_in (goes_on exit) q failed lt) in
+        let less : left_in (boot_ended exit (begun q)) < left_in q = subst (λ (x : Pending). left_in x < left_in q) (sym (ended_is exit (begun q) h))
+        (fewer_in (goes_on exit) q failed lt) in
         subst (λ (x : Pending). left_in (boot_ended exit (begun x)) < left_in x) (sym is) less

@@ -27,7 +27,8 @@ failed_joined id name e = simp append_assoc
 pub front_longer : (a b : Option (List ℕ)) (line first second : List ℕ) → line ≡ first ++ second → AppendsPrefix a b first → AppendsPrefix a b line
 front_longer a b line first second is h = (h.0, h.1 ++ second, is ∙ ap (λ (l : List ℕ). l ++ second) h.2 ∙ append_assoc h.0 h.1 second, h.3)
 
-pub written_on : {E : Type 0} (a b c : Option (List ℕ)) (line first second : List ℕ) (result : Result (Unit {0}) E) → line ≡ first ++ second → Appends a b first → Writes b c second result → Writes a c line result
+pub written_on : {E : Type 0} (a b c : Option (List ℕ)) (line first second : List ℕ) (result : Result (Unit {0}) E) → line ≡ first ++ second →
+    Appends a b first → Writes b c second result → Writes a c line result
 written_on a b c line first second (Ok u) is one two = subst (λ (l : List ℕ). Appends a c l) (sym is) (Appends-trans a b c first second one two)
 written_on a b c line first second (Err e) is one two =
     (first ++ two.0, two.1, is ∙ ap (λ (l : List ℕ). first ++ l) two.2 ∙ sym (append_assoc first two.0 two.1), Appends-trans a b c first two.0 one two.3)

@@ -39,4 +39,5 @@ BootsLeft booted.Reboot records q d world told living = IsBetween q d world told
 
 -- The run of one bootstrap left it so: its end is recorded, and the call is over where that end asks for it.
 abbrev pub BootTurnLeft : Exit → List Record → SessionState → Device → Components → Told → List ℕ → Type 0
-BootTurnLeft exit records q d world told living = IsBetween q d world told living × (q.over ≡ is_some (restart_of exit (is_none (duty_of d).turn))) × EndsWith exit records
+BootTurnLeft exit records q d world told living = IsBetween q d world told living × (q.over ≡ is_some (restart_of exit (is_none (duty_of d).turn))) ×
+    EndsWith exit records

@@ -42,9 +42,11 @@ pub record StopsAt (h : List TraceEvent) : Type 0 where
 -- a bootstrap is recorded, and each image stands for the device of all records.
 abbrev pub LeftAt : {D : Type 0} → (Image → List (List ℕ) → Type 0) → (D → Image → Type 0) → D → SessionState → List TraceEvent → SessionFault → Type 0
 LeftAt entries may_leave disk p h over.Disk = StopsAt h × ((c : Image) → may_leave disk c → StandsForMost entries p.device (records_of h) c)
-LeftAt entries may_leave disk p h over.Edge = ((state_after p h).boot_end ≡ None) × ((c : Image) → may_leave disk c → StandsFor entries c (state_after p h).device)
+LeftAt entries may_leave disk p h over.Edge = ((state_after p h).boot_end ≡ None) ×
+    ((c : Image) → may_leave disk c → StandsFor entries c (state_after p h).device)
 
 -- where the session goes on, the value is where the history leaves it
-abbrev pub Left : {A D : Type 0} → (Image → List (List ℕ) → Type 0) → (D → Image → Type 0) → D → SessionState → List TraceEvent → (A → SessionState → Type 0) → Result A SessionFault → Type 0
+abbrev pub Left : {A D : Type 0} → (Image → List (List ℕ) → Type 0) → (D → Image → Type 0) → D → SessionState → List TraceEvent →
+    (A → SessionState → Type 0) → Result A SessionFault → Type 0
 Left entries may_leave disk p h is (Ok x) = is x (state_after p h)
 Left entries may_leave disk p h is (Err e) = LeftAt entries may_leave disk p h e

@@ -37,7 +37,8 @@ module _ {D J : Type 0} (disk : a_disk.Ghosts D) (journal : a_journal.Ghosts J) 
 module _ {D J K R : Type 0} (disk : a_disk.Ghosts D) (journal : a_journal.Ghosts J) (sink : a_sink.Ghosts K) (runner : a_runner.Ghosts R) where
   -- From a state of the session on there is a trace that all four show. Where the call goes on its value is where the trace
   -- leaves it, and where it stops this holds of the state that it leaves.
-  abbrev pub HasTrace : {A : Type 0} → D → D → K → K → R → R → SessionState → (A → List TraceEvent → SessionState → Type 0) → (SessionState → Type 0) → Result A SessionFault → Type 0
+  abbrev pub HasTrace : {A : Type 0} → D → D → K → K → R → R → SessionState → (A → List TraceEvent → SessionState → Type 0) → (SessionState → Type 0) →
+      Result A SessionFault → Type 0
   HasTrace d e k l r s p is stops result = (h : List TraceEvent)
       × IsTrace journal.entries journal.files disk.may_leave disk.moment disk.left_since d e (runner.list r) (runner.list s) p h
       × Lines (sink.held k) (sink.held l) p.device (records_of h) result

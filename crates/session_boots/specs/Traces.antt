@@ -38,7 +38,8 @@ pub record Acts (p : SessionState) (h : List TraceEvent) (old new : Option (List
   pub list : Grows old new (entries_of h)
   pub device : (state_after p h).device ≡ p.device
 
-module _ (entries : Image → List (List ℕ) → Type 0) (files : List ℕ → Type 0) {D : Type 0} (may_leave : D → Image → Type 0) (moment : D → ℕ) (left_since : D → ℕ → Image → Type 0) where
+module _ (entries : Image → List (List ℕ) → Type 0) (files : List ℕ → Type 0) {D : Type 0} (may_leave : D → Image → Type 0) (moment : D → ℕ)
+    (left_since : D → ℕ → Image → Type 0) where
   -- at each moment of the part each image that a crash may leave stands for what a front of the records gives
   abbrev pub HoldsPrefixes : D → D → Device → List Record → Type 0
   HoldsPrefixes old new d records = Leaves moment left_since old new (After (may_leave old) (Within files (StandsForPrefix entries d records)))

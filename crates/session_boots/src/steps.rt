@@ -34,7 +34,8 @@ fn is_skipped<R: Runner>(runner: &mut R, step: &Prepared) -> bool
         × IsEnded p (state_after p h) (Exit.Code (pos 0)) (Listed R.list R.told R.asked runner.new) }
     ensures starts { result ≡ false → (p : SessionState) → MayProbe p step.now (Listed R.list R.told R.asked runner.old) →
         (h : List TraceEvent) × Acts p h (R.list runner.old) (R.list runner.new)
-        × MayStart (state_after p h) step.now (Listed R.list R.told R.asked runner.new) × IsProbed p (state_after p h) (Listed R.list R.told R.asked runner.new) }
+        × MayStart (state_after p h) step.now (Listed R.list R.told R.asked runner.new) ×
+        IsProbed p (state_after p h) (Listed R.list R.told R.asked runner.new) }
     ensures told { R.told runner.new ≡ R.told runner.old }
     ensures lives { R.living runner.new ≡ R.living runner.old }
 {
@@ -51,7 +52,8 @@ fn await_end<R: Runner>(runner: &mut R, child: u64, deadline: u64, now: u64) -> 
     requires near { deadline ≤ now + 1000000000 }
     requires in_time { deadline < 2 ^ 62 }
     ensures trace { (p : SessionState) → (made : PreparedStep) → IsAlive p child deadline (Listed R.list R.told R.asked runner.old) →
-        (h : List TraceEvent) × Acts p h (R.list runner.old) (R.list runner.new) × IsEnded p (state_after p h) result (Listed R.list R.told R.asked runner.new) }
+        (h : List TraceEvent) × Acts p h (R.list runner.old) (R.list runner.new) ×
+        IsEnded p (state_after p h) result (Listed R.list R.told R.asked runner.new) }
     ensures none { R.living runner.new ≡ [] }
     ensures later { R.told runner.old ≤ R.told runner.new }
 {
@@ -90,7 +92,8 @@ pub fn run_step<R: Runner>(runner: &mut R, step: &Prepared) -> Exit
     requires none { R.living runner.old ≡ [] }
     requires limit { IsSomeAnd step.now.limit_ms (λ l. l ≤ 1000000000) }
     ensures trace { (p : SessionState) → MayStep p step.now (Listed R.list R.told R.asked runner.old) →
-        (h : List TraceEvent) × Acts p h (R.list runner.old) (R.list runner.new) × IsEnded p (state_after p h) result (Listed R.list R.told R.asked runner.new) }
+        (h : List TraceEvent) × Acts p h (R.list runner.old) (R.list runner.new) ×
+        IsEnded p (state_after p h) result (Listed R.list R.told R.asked runner.new) }
     ensures none { R.living runner.new ≡ [] }
     ensures later { R.told runner.old ≤ R.told runner.new }
 {

@@ -13,7 +13,8 @@ use Rattle.step_runner.specs.declared.entries.Seen.TheVariants as seen
 use Rattle.components.specs.Fitted.{Fitted}
 use Rattle.components.specs.Components.{Components}
 use Rattle.components.specs.declared.kinds.Prepared.{Prepared}
-use Rattle.histories.specs.TraceEvents.{Answer, TraceEvent, Ran, Booted, WaitElapsed, KilledOnAbort, Recorded, Moved, Asked, Heard, InboxAsked, Changed, StopsAll, is_document, records_of}
+use Rattle.histories.specs.TraceEvents.{Answer, TraceEvent, Ran, Booted, WaitElapsed, KilledOnAbort, Recorded, Moved, Asked, Heard, InboxAsked, Changed}
+use Rattle.histories.specs.TraceEvents.{StopsAll, is_document, records_of}
 use Rattle.histories.specs.States.{SessionState, booted, cut_off, is_wait, leaves, state_after, noted, ran, takes_document}
 use Rattle.histories.specs.Follows.{IsProper, MayFollow, MayTakeBy}
 use Rattle.session_boots.specs.Stands.{IsAtBootStage}
@@ -36,13 +37,22 @@ pub shut_takes : (p : SessionState) → TakesNone (shut p)
 shut_takes p = record { serves = refl; turns = refl; answer = refl }
 
 -- the front of a bootstrap asks nothing of an inbox
-pub shut_front : (p : SessionState) (d : Device) (world : Components) (told : Told) (living : List ℕ) → IsAtBootStage p d world told living → IsAtBootStage (shut p) d world told living
+pub shut_front : (p : SessionState) (d : Device) (world : Components) (told : Told) (living : List ℕ) → IsAtBootStage p d world told living →
+    IsAtBootStage (shut p) d world told living
 shut_front p d world told living f =
     let s = f.between.stands in
     let still = f.between.still in
     record {
       between = record {
-        stands = record { device_is = s.device_is; world_is = s.world_is; answered = s.answered; not_before = s.not_before; asked = s.asked; children = s.children };
+        stands = record {
+          device_is = s.device_is;
+          world_is = s.world_is;
+          answered = s.answered;
+          not_before = s.not_before;
+          asked = s.asked;
+          children =
+              s.children;
+        };
         still = record { stopped = still.stopped; quiet = still.quiet; generation = still.generation; cut = still.cut };
         boot = f.between.boot;
         boot_end = f.between.boot_end;
@@ -86,7 +96,12 @@ none_or true a none = refl
 none_or false a none = none
 
 noted_takes : (s : Seen) (p q : SessionState) → SameInbox p q → TakesNone p → TakesNone (noted s q)
-noted_takes s p q same t = record { serves = same.serves ∙ t.serves; turns = same.turns ∙ t.turns; answer = none_or (is_wait s) q.answer (same.answer ∙ t.answer) }
+noted_takes s p q same t = record {
+  serves = same.serves ∙ t.serves;
+  turns = same.turns ∙ t.turns;
+  answer =
+      none_or (is_wait s) q.answer (same.answer ∙ t.answer);
+}
 
 takes_on : (p : SessionState) (e : TraceEvent) → MayFollow p e → TakesNone p → TakesNone (leaves p e)
 takes_on p (Ran e k s) may t = noted_takes e.seen p (record p { world = ran e.seen k s p.world }) (record { serves = refl; turns = refl; answer = refl }) t
@@ -107,7 +122,8 @@ abbrev TakeNone : List Record → Type 0
 TakeNone records = AllByRecursion (λ (r : Record). takes_document r ≡ false) records
 
 no_acceptance : (p : SessionState) (r : Record) (b : Bool) → takes_document r ≡ b → MayFollow p (Recorded r) → TakesNone p → b ≡ false
-no_acceptance p (Accepted x) b is may t = absurd (subst (λ (o : Option Answer). IsSomeAnd o (λ a. is_document a ≡ true)) t.answer (subst (λ (s : Bool). MayTakeBy s p) t.serves may.0.2).given)
+no_acceptance p (Accepted x) b is may t = absurd (subst (λ (o : Option Answer). IsSomeAnd o (λ a. is_document a ≡ true)) t.answer
+    (subst (λ (s : Bool). MayTakeBy s p) t.serves may.0.2).given)
 no_acceptance p _ b is may t = sym is
 
 more_none : (records : List Record) (r : Record) → TakeNone records → takes_document r ≡ false → TakeNone (records ++ r ∷ [])
@@ -169,6 +185,8 @@ module _ (boots backs : List Prepared) (items earlier : List Fitted) where
   ready_run [] d e none run ready = subst (λ (x : Device). Ready x) (sym run) ready
   ready_run (r ∷ records) d e none run ready = ready_run records run.0 e none.1 run.2 (ready_one d run.0 r none.0 run.1 ready)
 
-  pub ready_behind : (p : SessionState) (h : List TraceEvent) (d e : Device) → TakesNone p → IsProper p h → Run p.device (records_of h) (state_after p h).device → p.device ≡ d → (state_after p h).device ≡ e → Ready d → Ready e
+  pub ready_behind : (p : SessionState) (h : List TraceEvent) (d e : Device) → TakesNone p → IsProper p h →
+      Run p.device (records_of h) (state_after p h).device → p.device ≡ d → (state_after p h).device ≡ e → Ready d → Ready e
   ready_behind p h d e t proper run old new ready =
-      subst (λ (x : Device). Ready x) new (ready_run (records_of h) p.device (state_after p h).device (all_on p h t proper).1 run (subst (λ (x : Device). Ready x) (sym old) ready))
+      subst (λ (x : Device). Ready x) new (ready_run (records_of h) p.device (state_after p h).device (all_on p h t proper).1 run
+      (subst (λ (x : Device). Ready x) (sym old) ready))

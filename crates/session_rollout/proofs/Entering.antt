@@ -17,9 +17,11 @@ use Rattle.session_transitions.proofs.Rising.{may_enter}
 
 -- what a change to other items made of the world, for the device that was read
 abbrev pub Enters : Device → Components → Components → Type 0
-Enters x world new = (p : SessionState) (told : Told) (living : List ℕ) → MayEnter p x world told living → (h : List TraceEvent) × Acts p h told.list told.list × IsAtTurnStart (state_after p h) x new told living
+Enters x world new = (p : SessionState) (told : Told) (living : List ℕ) → MayEnter p x world told living → (h : List TraceEvent) ×
+    Acts p h told.list told.list × IsAtTurnStart (state_after p h) x new told living
 
-pub entered : (p : SessionState) (d x : Device) (world new : Components) (told : Told) (living : List ℕ) → x ≡ d → IsAtBootStage p d world told living → IsOrderly world → IsIn stages.Activating d ⊎ IsIn stages.Rolling d → Enters x world new
+pub entered : (p : SessionState) (d x : Device) (world new : Components) (told : Told) (living : List ℕ) → x ≡ d → IsAtBootStage p d world told living →
+    IsOrderly world → IsIn stages.Activating d ⊎ IsIn stages.Rolling d → Enters x world new
     → (h : List TraceEvent) × Acts p h told.list told.list × IsAtTurnStart (state_after p h) d new told living
 entered p d x world new told living is front orderly stage enters =
     let g = enters p told living (subst (λ (y : Device). MayEnter p y world told living) (sym is) (may_enter p d world told living front orderly stage)) in

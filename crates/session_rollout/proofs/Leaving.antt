@@ -15,9 +15,14 @@ use Rattle.session_rollout.specs.declared.driven.Driven.{Driven}
 use Rattle.session_rollout.specs.declared.driven.Driven.TheVariants as driven
 
 closes_on : (o : Outcome) (h g : List TraceEvent) → ClosesAs o (records_of g) → ClosesAs o (records_of (g ++ h))
-closes_on o h g e = (records_of h ++ e.0, records-append g h ∙ ap (λ (l : List Record). records_of h ++ l) e.1 ∙ sym (append_assoc (records_of h) e.0 (Closed o ∷ [])))
+closes_on o h g e = (
+  records_of h ++ e.0,
+  records-append g h ∙ ap (λ (l : List Record). records_of h ++ l) e.1 ∙ sym
+      (append_assoc (records_of h) e.0 (Closed o ∷ [])),
+)
 
-pub driven_on : {J : Type 0} (world : Components) (told : Told) (living : List ℕ) (h : List TraceEvent) (x : Driven J) (g : List TraceEvent) (q : SessionState) → DrivenLeft x g q world told living → DrivenLeft x (g ++ h) q world told living
+pub driven_on : {J : Type 0} (world : Components) (told : Told) (living : List ℕ) (h : List TraceEvent) (x : Driven J) (g : List TraceEvent)
+    (q : SessionState) → DrivenLeft x g q world told living → DrivenLeft x (g ++ h) q world told living
 driven_on world told living h (driven.Closed s o) g q c = record { stands = c.stands; back = c.back; closed = closes_on o h g c.closed; orderly = c.orderly }
 driven_on world told living h (driven.Restart s) g q c = (c.0, c.1, (c.2.0, ends_on c.2.0 h g c.2.1, c.2.2))
 driven_on world told living h (driven.Reboot s) g q c = (c.0, c.1, (c.2.0, ends_on c.2.0 h g c.2.1, c.2.2))

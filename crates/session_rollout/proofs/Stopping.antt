@@ -39,7 +39,8 @@ busy_in s d is = by d.pending is
     by (Some q) h = busy_at (pends d (Some q)) q q.stage
 
 -- the way back has begun
-pub broken_busy : {J D : Type 0} (is_modelled : Bool) (may_leave : D → Image → Type 0) (stands : J → Image → List (List ℕ) → Type 0) (end : J → ℕ) (b : BrokeOff J) (disk : D) → InBrokeOff is_modelled may_leave stands end b disk
+pub broken_busy : {J D : Type 0} (is_modelled : Bool) (may_leave : D → Image → Type 0) (stands : J → Image → List (List ℕ) → Type 0) (end : J → ℕ)
+    (b : BrokeOff J) (disk : D) → InBrokeOff is_modelled may_leave stands end b disk
     → is_idle (duty_of (broken_device b)).phase ≡ false
 broken_busy is_modelled may_leave stands end (broken.Backing s) disk h = busy_in stages.Backing (backing_device s) h.1
 broken_busy is_modelled may_leave stands end (broken.Rolling s) disk h = busy_in stages.Rolling (rolling_device s) h.1

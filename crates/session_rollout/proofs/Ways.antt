@@ -15,4 +15,5 @@ way_on backs earlier d e same way = (way.0, way.1, ready_on way.0 backs way.1 ea
 
 -- behind the record with which it is turned back
 pub way_broken : (backs : List Prepared) (earlier : List Fitted) (d e : Device) → Breaks d e → HasWayBack d backs earlier → HasWayBack e backs earlier
-way_broken backs earlier d e breaks way = way_on backs earlier d e (subst (λ (x : Device). IsSameDeployment d x) (sym breaks.2) (same_broken d breaks.0 breaks.1)) way
+way_broken backs earlier d e breaks way = way_on backs earlier d e
+    (subst (λ (x : Device). IsSameDeployment d x) (sym breaks.2) (same_broken d breaks.0 breaks.1)) way

@@ -2,6 +2,10 @@
 use Rattle.std.specs.Prelude.{ℕ, Bool, List, Option, Result, OnErr}
 use Rattle.device.specs.Devices.{Device}
 use Rattle.disk_model.specs.Disk.{Image}
+use Rattle.disk_model.specs.declared.disk.Disk as a_disk
+use Rattle.gate_log.specs.declared.journal.Journal as a_journal
+use Rattle.edges.specs.declared.sink.Sink as a_sink
+use Rattle.step_runner.specs.declared.runner.Runner as a_runner
 use Rattle.deploy_state.specs.States.{OwnsIdle, OwnsLoaded, idle_device, loaded_device}
 use Rattle.step_runner.specs.Entries.{Told}
 use Rattle.step_runner.specs.declared.entries.RunnerEntry.{RunnerEntry}
@@ -37,10 +41,18 @@ module _ {J D : Type 0} (is_modelled : Bool) (may_leave : D → Image → Type 0
 
 -- From a place on this happened, its lines were printed, and it leaves what is said of the result. Where it gives up no
 -- child lives.
-module _ (entries : Image → List (List ℕ) → Type 0) (files : List ℕ → Type 0) {D : Type 0} (may_leave : D → Image → Type 0) (moment : D → ℕ) (left_since : D → ℕ → Image → Type 0) where
-  pub record Course {A : Type 0} (old new : D) (old_list new_list : Option (List RunnerEntry)) (old_held new_held : Option (List ℕ)) (p : SessionState) (result : Result A SessionFault) (is : A → List TraceEvent → SessionState → Type 0) : Type 0 where
+module _ (entries : Image → List (List ℕ) → Type 0) (files : List ℕ → Type 0) {D : Type 0} (may_leave : D → Image → Type 0) (moment : D → ℕ)
+    (left_since : D → ℕ → Image → Type 0) where
+  pub record Course {A : Type 0} (old new : D) (old_list new_list : Option (List RunnerEntry)) (old_held new_held : Option (List ℕ)) (p : SessionState)
+      (result : Result A SessionFault) (is : A → List TraceEvent → SessionState → Type 0) : Type 0 where
     pub history : List TraceEvent
     pub trace : IsTrace entries files may_leave moment left_since old new old_list new_list p history
     pub lines : Lines old_held new_held p.device (records_of history) result
     pub left : Left entries may_leave new p history (λ x q. is x history q) result
     pub bare : OnErr result (IsBare (state_after p history))
+
+-- the same, each device passed with all that its trait tells
+module _ {D J K R : Type 0} (disk : a_disk.Ghosts D) (journal : a_journal.Ghosts J) (sink : a_sink.Ghosts K) (runner : a_runner.Ghosts R) where
+  abbrev pub IsCourse : {A : Type 0} → D → D → K → K → R → R → SessionState → Result A SessionFault → (A → List TraceEvent → SessionState → Type 0) → Type 0
+  IsCourse d e k l r s p result is = Course journal.entries journal.files disk.may_leave disk.moment disk.left_since d e
+      (runner.list r) (runner.list s) (sink.held k) (sink.held l) p result is

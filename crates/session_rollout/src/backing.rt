@@ -6,7 +6,7 @@ ghost use Rattle.session_back_boots.specs.Backs.{IsStillBacking};
 ghost use Rattle.deploy_state.specs.Fields.{has_failed};
 ghost use Rattle.deploy_state.specs.States.{OwnsBacked, OwnsBacking, InBrokeOff, backed_device, backing_device, broken_device};
 ghost use Rattle.session_rollout.specs.Backwards.{EndsBacks, HasWayBack, paused_of};
-ghost use Rattle.session_rollout.specs.Driven.{Course, DrivenLeft, OwnsDriven};
+ghost use Rattle.session_rollout.specs.Driven.{IsCourse, DrivenLeft, OwnsDriven};
 ghost use Rattle.session_boots.specs.Stands.{IsAtBootStage};
 ghost use Rattle.histories.specs.States.{SessionState};
 ghost use Rattle.law_supervisor.specs.Sound.{IsOrderly};
@@ -52,7 +52,7 @@ where
     requires orderly { IsOrderly (S.world supervisor.old) }
     requires placed { (p : SessionState) × AsTold R.Runner runner.old (IsAtBootStage p (backed_device backed) (S.world supervisor.old)) }
     ensures course { (p : SessionState) → AsTold R.Runner runner.old (IsAtBootStage p (backed_device backed) (S.world supervisor.old)) →
-        Course J.entries J.files D.may_leave D.moment D.left_since disk.old disk.new (R.list runner.old) (R.list runner.new) (K.held sink.old) (K.held sink.new) p result
+        IsCourse D.Disk J.Journal K.Sink R.Runner disk.old disk.new sink.old sink.new runner.old runner.new p result
         (λ x h q. AsTold R.Runner runner.new (DrivenLeft x h q (S.world supervisor.new))) }
     ensures none { OnErr result (R.living runner.new ≡ []) }
     ensures drives { IfOk result (λ x. Drives (S.world supervisor.new)) }
@@ -93,7 +93,7 @@ where
     requires orderly { IsOrderly (S.world supervisor.old) }
     requires placed { (p : SessionState) × AsTold R.Runner runner.old (IsAtBootStage p (backing_device state) (S.world supervisor.old)) }
     ensures course { (p : SessionState) → AsTold R.Runner runner.old (IsAtBootStage p (backing_device state) (S.world supervisor.old)) →
-        Course J.entries J.files D.may_leave D.moment D.left_since disk.old disk.new (R.list runner.old) (R.list runner.new) (K.held sink.old) (K.held sink.new) p result
+        IsCourse D.Disk J.Journal K.Sink R.Runner disk.old disk.new sink.old sink.new runner.old runner.new p result
         (λ x h q. AsTold R.Runner runner.new (DrivenLeft x h q (S.world supervisor.new))) }
     ensures none { OnErr result (R.living runner.new ≡ []) }
     ensures drives { IfOk result (λ x. Drives (S.world supervisor.new)) }
@@ -133,7 +133,7 @@ where
     requires orderly { IsOrderly (S.world supervisor.old) }
     requires placed { (p : SessionState) × AsTold R.Runner runner.old (IsAtBootStage p (broken_device broke) (S.world supervisor.old)) }
     ensures course { (p : SessionState) → AsTold R.Runner runner.old (IsAtBootStage p (broken_device broke) (S.world supervisor.old)) →
-        Course J.entries J.files D.may_leave D.moment D.left_since disk.old disk.new (R.list runner.old) (R.list runner.new) (K.held sink.old) (K.held sink.new) p result
+        IsCourse D.Disk J.Journal K.Sink R.Runner disk.old disk.new sink.old sink.new runner.old runner.new p result
         (λ x h q. AsTold R.Runner runner.new (DrivenLeft x h q (S.world supervisor.new))) }
     ensures none { OnErr result (R.living runner.new ≡ []) }
     ensures drives { IfOk result (λ x. Drives (S.world supervisor.new)) }

@@ -5,7 +5,7 @@ ghost use Rattle.nuc_base.specs.Faults.{Rose};
 ghost use Rattle.session_startup.specs.Runs.{IsAtTurnStart};
 ghost use Rattle.deploy_state.specs.States.{OwnsActivating, activating_device};
 ghost use Rattle.session_rollout.specs.Backwards.{HasWayBack};
-ghost use Rattle.session_rollout.specs.Driven.{Course, DrivenLeft, OwnsDriven};
+ghost use Rattle.session_rollout.specs.Driven.{IsCourse, DrivenLeft, OwnsDriven};
 ghost use Rattle.session_boots.specs.Stands.{IsAtBootStage};
 ghost use Rattle.histories.specs.Phases.{duty_of};
 ghost use Rattle.histories.specs.States.{SessionState};
@@ -44,7 +44,7 @@ where
     requires ready { HasWayBack (activating_device state) backs.now (S.coming ready) }
     requires placed { (p : SessionState) × AsTold R.Runner runner.old (IsAtTurnStart p (activating_device state) (S.world supervisor.old)) }
     ensures course { (p : SessionState) → AsTold R.Runner runner.old (IsAtTurnStart p (activating_device state) (S.world supervisor.old)) →
-        Course J.entries J.files D.may_leave D.moment D.left_since disk.old disk.new (R.list runner.old) (R.list runner.new) (K.held sink.old) (K.held sink.new) p result
+        IsCourse D.Disk J.Journal K.Sink R.Runner disk.old disk.new sink.old sink.new runner.old runner.new p result
         (λ x h q. AsTold R.Runner runner.new (DrivenLeft x h q (S.world supervisor.new))) }
     ensures none { OnErr result (R.living runner.new ≡ []) }
     ensures drives { IfOk result (λ x. Drives (S.world supervisor.new)) }
@@ -88,7 +88,7 @@ where
     requires orderly { IsOrderly (S.world supervisor.old) }
     requires placed { (p : SessionState) × AsTold R.Runner runner.old (IsAtBootStage p (activating_device state) (S.world supervisor.old)) }
     ensures course { (p : SessionState) → AsTold R.Runner runner.old (IsAtBootStage p (activating_device state) (S.world supervisor.old)) →
-        Course J.entries J.files D.may_leave D.moment D.left_since disk.old disk.new (R.list runner.old) (R.list runner.new) (K.held sink.old) (K.held sink.new) p result
+        IsCourse D.Disk J.Journal K.Sink R.Runner disk.old disk.new sink.old sink.new runner.old runner.new p result
         (λ x h q. AsTold R.Runner runner.new (DrivenLeft x h q (S.world supervisor.new))) }
     ensures none { OnErr result (R.living runner.new ≡ []) }
     ensures drives { IfOk result (λ x. Drives (S.world supervisor.new)) }
@@ -123,7 +123,7 @@ where
     requires orderly { IsOrderly (S.world supervisor.old) }
     requires placed { (p : SessionState) × AsTold R.Runner runner.old (IsAtBootStage p (activating_device state) (S.world supervisor.old)) }
     ensures course { (p : SessionState) → AsTold R.Runner runner.old (IsAtBootStage p (activating_device state) (S.world supervisor.old)) →
-        Course J.entries J.files D.may_leave D.moment D.left_since disk.old disk.new (R.list runner.old) (R.list runner.new) (K.held sink.old) (K.held sink.new) p result
+        IsCourse D.Disk J.Journal K.Sink R.Runner disk.old disk.new sink.old sink.new runner.old runner.new p result
         (λ x h q. AsTold R.Runner runner.new (DrivenLeft x h q (S.world supervisor.new))) }
     ensures none { OnErr result (R.living runner.new ≡ []) }
     ensures drives { IfOk result (λ x. Drives (S.world supervisor.new)) }

@@ -20,14 +20,17 @@ use Rattle.std.proofs.lemmas.Bool.{and_parts}
 
 -- ---- one that is to go away
 
-leaving_same : {X : Type 0} (v : ComponentState → X) → ((p : ComponentState) (s : Option After) → v (record p { stop = s; next = None }) ≡ v p) → (p : ComponentState) → v (leaving p) ≡ v p
-leaving_same v f p = elim p.life.gone as (λ (b : Bool). v (if b then p else (if is_gone (under_way p.life) then record p { stop = None; next = None } else record p { stop = Some after.Gone; next = None })) ≡ v p) [
-  | true ↦ refl
-  | false ↦ elim (is_gone (under_way p.life)) as (λ (c : Bool). v (if c then record p { stop = None; next = None } else record p { stop = Some after.Gone; next = None }) ≡ v p) [
-    | true ↦ f p None
-    | false ↦ f p (Some after.Gone)
-  ]
-]
+leaving_same : {X : Type 0} (v : ComponentState → X) → ((p : ComponentState) (s : Option After) → v (record p { stop = s; next = None }) ≡ v p) →
+    (p : ComponentState) → v (leaving p) ≡ v p
+leaving_same v f p = elim p.life.gone as (λ (b : Bool). v (if b then p else (if is_gone (under_way p.life) then record p { stop = None; next = None }
+    else record p { stop = Some after.Gone; next = None })) ≡ v p) [
+      | true ↦ refl
+      | false ↦ elim (is_gone (under_way p.life)) as (λ (c : Bool). v
+          (if c then record p { stop = None; next = None } else record p { stop = Some after.Gone; next = None }) ≡ v p) [
+            | true ↦ f p None
+            | false ↦ f p (Some after.Gone)
+          ]
+    ]
 
 may_none : (o : Option After) → may_ask o None ≡ true
 may_none None = refl
@@ -70,13 +73,15 @@ none_comes p k g =
     ])
 
 known_leaving : (p : ComponentState) → IsSoundPart p → p.owed ≡ None → Known (leaving p)
-known_leaving p k o = elim p.life.gone as (λ (b : Bool). p.life.gone ≡ b → Known (if b then p else (if is_gone (under_way p.life) then record p { stop = None; next = None } else record p { stop = Some after.Gone; next = None }))) [
-  | true ↦ λ g. (k, (rw g refl, o, none_comes p k g))
-  | false ↦ λ g. elim (is_gone (under_way p.life)) as (λ (c : Bool). is_gone (under_way p.life) ≡ c → Known (if c then record p { stop = None; next = None } else record p { stop = Some after.Gone; next = None })) [
-    | true ↦ λ u. (by_way g u, (going p.life.gone (is_gone (under_way p.life)) g u, o, refl))
-    | false ↦ λ u. (by_stop g u, (asked p.life.gone (is_gone (under_way p.life)) g, o, refl))
-  ] refl
-] refl
+known_leaving p k o = elim p.life.gone as (λ (b : Bool). p.life.gone ≡ b →
+    Known (if b then p else (if is_gone (under_way p.life) then record p { stop = None; next = None } else record p { stop = Some after.Gone; next = None }))) [
+      | true ↦ λ g. (k, (rw g refl, o, none_comes p k g))
+      | false ↦ λ g. elim (is_gone (under_way p.life)) as (λ (c : Bool). is_gone (under_way p.life) ≡ c →
+          Known (if c then record p { stop = None; next = None } else record p { stop = Some after.Gone; next = None })) [
+            | true ↦ λ u. (by_way g u, (going p.life.gone (is_gone (under_way p.life)) g u, o, refl))
+            | false ↦ λ u. (by_stop g u, (asked p.life.gone (is_gone (under_way p.life)) g, o, refl))
+          ] refl
+    ] refl
   where
     going : (a b : Bool) → a ≡ false → b ≡ true → (a || (false || b)) ≡ true
     going a b e f = rw e f
@@ -122,7 +127,8 @@ known_leaving p k o = elim p.life.gone as (λ (b : Bool). p.life.gone ≡ b → 
 
 -- ---- all of them
 
-map_same : {X : Type 0} (v : ComponentState → X) → ((p : ComponentState) (s : Option After) → v (record p { stop = s; next = None }) ≡ v p) → (ps : List ComponentState) → map v (map leaving ps) ≡ map v ps
+map_same : {X : Type 0} (v : ComponentState → X) → ((p : ComponentState) (s : Option After) → v (record p { stop = s; next = None }) ≡ v p) →
+    (ps : List ComponentState) → map v (map leaving ps) ≡ map v ps
 map_same v f [] = refl
 map_same v f (p ∷ ps) = ap (λ x. x ∷ map v (map leaving ps)) (leaving_same v f p) ∙ ap (λ xs. v p ∷ xs) (map_same v f ps)
 
@@ -136,7 +142,8 @@ firsts P Q (p ∷ ps) a = (a.0.1, firsts P Q ps a.1)
 
 pub stopped_leave : (w : Components) → IsOrderly w → IsTold w → Leaves (all_stopped w)
 stopped_leave w i t =
-    let known : AllByRecursion Known (map leaving w.parts) = map_all Known w.parts (from_places (λ p. Known (leaving p)) w.parts (λ k p e. known_leaving p (i.sound k p e) (told_each w.parts t k p e))) in
+    let known : AllByRecursion Known (map leaving w.parts) =
+    map_all Known w.parts (from_places (λ p. Known (leaving p)) w.parts (λ k p e. known_leaving p (i.sound k p e) (told_each w.parts t k p e))) in
     record {
       orderly = record {
         sound = λ k p e. (at_places Known (map leaving w.parts) known k p e).0;
@@ -151,7 +158,8 @@ stopped_owner n w = same_owner n w.parts (map leaving w.parts) (map_same (λ p. 
 
 handed_same : (ps : List ComponentState) → list_any (λ (p : ComponentState). p.handed) (map leaving ps) ≡ list_any (λ (p : ComponentState). p.handed) ps
 handed_same [] = refl
-handed_same (p ∷ ps) = ap (λ (b : Bool). b || list_any (λ (p : ComponentState). p.handed) (map leaving ps)) (leaving_same (λ p. p.handed) (λ p s. refl) p) ∙ ap (λ (b : Bool). p.handed || b) (handed_same ps)
+handed_same (p ∷ ps) = ap (λ (b : Bool). b || list_any (λ (p : ComponentState). p.handed) (map leaving ps)) (leaving_same (λ p. p.handed) (λ p s. refl) p) ∙
+    ap (λ (b : Bool). p.handed || b) (handed_same ps)
 
 pub stopped_answered : (w : Components) → has_answered w ≡ true → has_answered (all_stopped w) ≡ true
 stopped_answered w h = free_is (all_stopped w) (handed_same w.parts ∙ is_free w h)

@@ -7,7 +7,8 @@ use Rattle.step_runner.specs.Entries.{Told}
 use Rattle.step_runner.specs.declared.entries.RunnerEntry.{RunnerEntry}
 use Rattle.components.specs.Components.{Components, owner}
 use Rattle.components.specs.Changes.{all_stopped}
-use Rattle.histories.specs.Phases.{Phase, idle, booting, activating, backing, rolling, is_idle, duty_of, Duty, Generation, previous, draining, current, shutting_down}
+use Rattle.histories.specs.Phases.{Phase, idle, booting, activating, backing, rolling, is_idle, duty_of, Duty, Generation, previous, draining, current}
+use Rattle.histories.specs.Phases.{shutting_down}
 use Rattle.histories.specs.TraceEvents.{StopsAll}
 use Rattle.histories.specs.States.{SessionState, leaves}
 use Rattle.histories.specs.Follows.{MayStopAll, IsBootChild}
@@ -37,7 +38,8 @@ lives_on n o o2 B is = subst (λ (x : Option (ℕ × Step)). (IsSome o ⊎ B) �
 through : {A B C : Type 0} → A ↔ B → B ↔ C → A ↔ C
 through e f = ((λ h. f.0 (e.0 h)), (λ h. e.1 (f.1 h)))
 
-pub stop_acts : (p : SessionState) (d : Device) (world : Components) (told : Told) (living : List ℕ) (list : Option (List RunnerEntry)) → MayStop p d world told living → Acts p (StopsAll ∷ []) list list
+pub stop_acts : (p : SessionState) (d : Device) (world : Components) (told : Told) (living : List ℕ) (list : Option (List RunnerEntry)) →
+    MayStop p d world told living → Acts p (StopsAll ∷ []) list list
 stop_acts p d world told living list m = record {
   proper = ((m.may, (λ cut. absurd (never p.cut m.cut cut)), m.over), tt);
   none = refl;
@@ -45,7 +47,8 @@ stop_acts p d world told living list m = record {
   device = refl;
 }
 
-pub stop_comes : ((w : Components) → IsOrderly w → IsTold w → Leaves (all_stopped w)) → (p : SessionState) (d : Device) (world : Components) (told : Told) (living : List ℕ) → MayStop p d world told living → IsAtTurnStart (leaves p StopsAll) d (all_stopped world) told living
+pub stop_comes : ((w : Components) → IsOrderly w → IsTold w → Leaves (all_stopped w)) → (p : SessionState) (d : Device) (world : Components) (told : Told)
+    (living : List ℕ) → MayStop p d world told living → IsAtTurnStart (leaves p StopsAll) d (all_stopped world) told living
 stop_comes law p d world told living m =
     let s = m.stands in
     record {
@@ -55,7 +58,8 @@ stop_comes law p d world told living m =
         answered = stopped_answered world s.answered;
         not_before = s.not_before;
         asked = s.asked;
-        children = λ n. through (s.children n) (lives_on n (owner n p.world.parts) (owner n (all_stopped p.world).parts) (IsBootChild n p) (stopped_owner n p.world));
+        children = λ n. through (s.children n) (lives_on n (owner n p.world.parts) (owner n (all_stopped p.world).parts) (IsBootChild n p)
+            (stopped_owner n p.world));
       };
       on = record {
         going = goes (duty_of p.device) (duty_of p.device).phase p.generation p m.may;

@@ -38,9 +38,17 @@ drives p on = drives_in (duty_of p.device).phase p.generation p.serves on.going
 
 -- ---- an entry
 
-pub ran_acts : (p : SessionState) (old new : Told) (living : List ℕ) (s : Seen) (k : ℕ) (t : Step) → IsWithin p old living → MayRun (duty_of p.device) p s k t → Notes old new s → Acts p (Ran (entry old s) k t ∷ []) old.list new.list
+pub ran_acts : (p : SessionState) (old new : Told) (living : List ℕ) (s : Seen) (k : ℕ) (t : Step) → IsWithin p old living →
+    MayRun (duty_of p.device) p s k t → Notes old new s → Acts p (Ran (entry old s) k t ∷ []) old.list new.list
 ran_acts p old new living s k t w may notes = record {
-  proper = (((may, record { moment = w.moment; asked = w.asked; due = λ d. w.asked ∙ w.due d }, drives p w.on), (λ cut. absurd (never p.cut w.on.cut cut)), w.on.over), tt);
+  proper = (
+    (
+      (may, record { moment = w.moment; asked = w.asked; due = λ d. w.asked ∙ w.due d }, drives p w.on),
+      (λ cut. absurd (never p.cut w.on.cut cut)),
+      w.on.over,
+    ),
+    tt,
+  );
   none = refl;
   list = notes.entry;
   device = refl;
@@ -57,7 +65,8 @@ pub on_ran : (p : SessionState) (e : RunnerEntry) (k : ℕ) (t : Step) → IsOn 
 on_ran p e k t on = record { going = on.going; boot = on.boot; boot_end = on.boot_end; over = on.over; cut = on.cut }
 
 -- back in the turn
-pub within_on : (p : SessionState) (old new : Told) (s : Seen) (k : ℕ) (t : Step) (before living : List ℕ) → IsWithin p old before → Notes old new s → is_wait s ≡ false → IsRunAfter p s k t living
+pub within_on : (p : SessionState) (old new : Told) (s : Seen) (k : ℕ) (t : Step) (before living : List ℕ) → IsWithin p old before → Notes old new s →
+    is_wait s ≡ false → IsRunAfter p s k t living
     → IsWithin (leaves p (Ran (entry old s) k t)) new living
 within_on p old new s k t before living w notes wait a = record {
   on = on_ran p (entry old s) k t w.on;
@@ -80,7 +89,8 @@ pub record MovedTo (p : SessionState) (told : Told) (living : List ℕ) (list : 
   pub world_is : (state_after p h).world ≡ v
 
 -- moves within a turn, one after another
-pub moves_on : Laws → (p : SessionState) (told : Told) (living : List ℕ) (list : Option (List RunnerEntry)) (v : Components) (ms : List Move) → Quietly p.world ms v → IsWithin p told living → p.probed ≡ false → MovedTo p told living list v
+pub moves_on : Laws → (p : SessionState) (told : Told) (living : List ℕ) (list : Option (List RunnerEntry)) (v : Components) (ms : List Move) →
+    Quietly p.world ms v → IsWithin p told living → p.probed ≡ false → MovedTo p told living list v
 moves_on laws p told living list v [] q w probed = record { h = []; acts = acts_none p list list refl; within = w; probed = probed; world_is = sym q }
 moves_on laws p told living list v (m ∷ ms) q w probed =
     let first : List TraceEvent = Moved m.who m.what ∷ [] in
@@ -99,7 +109,8 @@ moves_on laws p told living list v (m ∷ ms) q w probed =
       moment = w.moment;
       asked = w.asked;
       due = w.due;
-      children = λ n. subst (λ (o : Option (ℕ × Step)). Contains living n ↔ IsSome o) (sym (laws.owner_moved n p.world two.world (m ∷ []) alone)) (w.children n);
+      children = λ n. subst (λ (o : Option (ℕ × Step)). Contains living n ↔ IsSome o) (sym (laws.owner_moved n p.world two.world (m ∷ []) alone))
+          (w.children n);
     } in
     let rest = moves_on laws two told living list v ms q.2 next refl in
     record {
@@ -112,7 +123,8 @@ moves_on laws p told living list v (m ∷ ms) q w probed =
 
 -- ---- a turn's front
 
-pub pass_runs : Laws → (p : SessionState) (d : Device) (world : Components) (old new : Told) (living next : List ℕ) (now : ℕ) → IsAtTurnStart p d world old living → new.moment ≡ now → new.asked ≡ true → next ≡ living
+pub pass_runs : Laws → (p : SessionState) (d : Device) (world : Components) (old new : Told) (living next : List ℕ) (now : ℕ) →
+    IsAtTurnStart p d world old living → new.moment ≡ now → new.asked ≡ true → next ≡ living
     → IsInTurn (leaves p (Asked now)) (later now world) new next
 pass_runs laws p d world old new living next now c moment asked same =
     let s = c.stands in
@@ -131,7 +143,8 @@ pass_runs laws p d world old new living next now c moment asked same =
       world_is = sym (ap (λ (w : Components). later now w) s.world_is);
     }
 
-pub pass_acts : (p : SessionState) (d : Device) (world : Components) (old : Told) (living : List ℕ) (now : ℕ) (list new : Option (List RunnerEntry)) → IsAtTurnStart p d world old living → old.moment ≤ now → new ≡ list → Acts p (Asked now ∷ []) list new
+pub pass_acts : (p : SessionState) (d : Device) (world : Components) (old : Told) (living : List ℕ) (now : ℕ) (list new : Option (List RunnerEntry)) →
+    IsAtTurnStart p d world old living → old.moment ≤ now → new ≡ list → Acts p (Asked now ∷ []) list new
 pass_acts p d world old living now list new c later_on same = record {
   proper = ((subst (λ (w : Components). w.moment ≤ now) (sym c.stands.world_is) later_on, (λ cut. absurd (never p.cut c.on.cut cut)), c.on.over), tt);
   none = refl;
@@ -140,7 +153,8 @@ pass_acts p d world old living now list new c later_on same = record {
 }
 
 -- back at a front
-pub comes_of : (p : SessionState) (d : Device) (world : Components) (told : Told) (living : List ℕ) → IsInTurn p world told living → p.device ≡ d → IsAtTurnStart p d world told living
+pub comes_of : (p : SessionState) (d : Device) (world : Components) (told : Told) (living : List ℕ) → IsInTurn p world told living → p.device ≡ d →
+    IsAtTurnStart p d world told living
 comes_of p d world told living r device =
     let w = r.within in
     record {

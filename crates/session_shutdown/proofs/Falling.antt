@@ -32,7 +32,8 @@ Goes w = HasTime w × (w.moment + 1 < 2 ^ 62)
 
 -- no act is left, and one still stands
 pub sits_time : (p : SessionState) (world : Components) (told : Told) (living : List ℕ) → IsReadyToWait p world told living → Drives world → Goes world
-sits_time p world told living s d = subst (λ (w : Components). Goes w) (sym s.runs.world_is) (by (leaves p.world (subst (λ (w : Components). Drives w) s.runs.world_is d) (leaving_in p.world s.runs.within.keeps) s.runs.within.answered s.quiet))
+sits_time p world told living s d = subst (λ (w : Components). Goes w) (sym s.runs.world_is)
+    (by (leaves p.world (subst (λ (w : Components). Drives w) s.runs.world_is d) (leaving_in p.world s.runs.within.keeps) s.runs.within.answered s.quiet))
   where
     by : (is_stopped p.world ≡ true) ⊎ Goes p.world → Goes p.world
     by (inl e) = clash (is_stopped p.world) e s.stands

@@ -19,29 +19,37 @@ use Rattle.session_shutdown.specs.Leaves.{Leaves, LeavesPart}
 use Rattle.law_supervisor.proofs.Lists.{at_places, no_some}
 use Rattle.session_shutdown.proofs.Entering.{MovedTo, moves_on}
 
-pub moved : Laws → (p : SessionState) (v w : Components) (told : Told) (living : List ℕ) (list : Option (List RunnerEntry)) (a : Option Act) → IsInTurn p v told living → (n : NextAct v a w) → MovedTo p told living list n.seen
-moved laws p v w told living list a r n = moves_on laws p told living list n.seen n.made (subst (λ (x : Components). Quietly x n.made n.seen) r.world_is n.quietly) r.within r.probed
+pub moved : Laws → (p : SessionState) (v w : Components) (told : Told) (living : List ℕ) (list : Option (List RunnerEntry)) (a : Option Act) →
+    IsInTurn p v told living → (n : NextAct v a w) → MovedTo p told living list n.seen
+moved laws p v w told living list a r n = moves_on laws p told living list n.seen n.made
+    (subst (λ (x : Components). Quietly x n.made n.seen) r.world_is n.quietly) r.within r.probed
 
 -- of the place that they lead to
-pub hands_at : (p : SessionState) (v w : Components) (told : Told) (living : List ℕ) (list : Option (List RunnerEntry)) (a : Option Act) (n : NextAct v a w) (m : MovedTo p told living list n.seen) → HandsOut (state_after p m.h).world a w
+pub hands_at : (p : SessionState) (v w : Components) (told : Told) (living : List ℕ) (list : Option (List RunnerEntry)) (a : Option Act) (n : NextAct v a w)
+    (m : MovedTo p told living list n.seen) → HandsOut (state_after p m.h).world a w
 hands_at p v w told living list a n m = subst (λ (x : Components). HandsOut x a w) (sym m.world_is) n.hands
 
-pub quiet_at : (q : SessionState) (w : Components) (told : Told) (living : List ℕ) → IsWithin q told living → q.probed ≡ false → HandsOut q.world None w → IsInTurn q w told living × IsQuiet q.world
+pub quiet_at : (q : SessionState) (w : Components) (told : Told) (living : List ℕ) → IsWithin q told living → q.probed ≡ false → HandsOut q.world None w →
+    IsInTurn q w told living × IsQuiet q.world
 quiet_at q w told living within probed h = (record { within = within; probed = probed; world_is = h.1 }, h.0)
 
-pub starting_at : (q : SessionState) (w : Components) (told : Told) (living : List ℕ) (k : ℕ) (t : Step) → IsWithin q told living → q.probed ≡ false → HandsOut q.world (Some (Start k t)) w → IsStarting q k t w told living
+pub starting_at : (q : SessionState) (w : Components) (told : Told) (living : List ℕ) (k : ℕ) (t : Step) → IsWithin q told living → q.probed ≡ false →
+    HandsOut q.world (Some (Start k t)) w → IsStarting q k t w told living
 starting_at q w told living k t within probed h = record { within = within; probed = probed; world_is = h.2; next = h.0; start = h.1 }
 
 -- who leaves owes none
 no_debt : (k : ℕ) (s : Step) (e : Exit) (b : Bool) (w : Components) → Leaves w → OwesAt w k s e b → ⊥
 no_debt k s e b w l o = by (slice_get w.parts k) refl o
   where
-    by : (x : Option ComponentState) → slice_get w.parts k ≡ x → IsSomeAnd x (λ p. (p.owed ≡ Some (s, e)) × (is_broken p.life.state ≡ b) × (place_of (component_name p) w.parts ≡ Some k)) → ⊥
+    by : (x : Option ComponentState) → slice_get w.parts k ≡ x → IsSomeAnd x (λ p. (p.owed ≡ Some (s, e)) × (is_broken p.life.state ≡ b) ×
+        (place_of (component_name p) w.parts ≡ Some k)) → ⊥
     by None is h = absurd h
     by (Some p) is h = no_some (s, e) (sym (at_places LeavesPart w.parts l.each k p is).1 ∙ h.0)
 
-pub none_failed : (q : SessionState) (w : Components) (told : Told) (living : List ℕ) (k : ℕ) (t : Step) (e : Exit) → IsWithin q told living → HandsOut q.world (Some (Failed k t e)) w → ⊥
+pub none_failed : (q : SessionState) (w : Components) (told : Told) (living : List ℕ) (k : ℕ) (t : Step) (e : Exit) → IsWithin q told living →
+    HandsOut q.world (Some (Failed k t e)) w → ⊥
 none_failed q w told living k t e within h = no_debt k t e false q.world within.keeps h.0
 
-pub none_broke : (q : SessionState) (w : Components) (told : Told) (living : List ℕ) (k : ℕ) (t : Step) (e : Exit) → IsWithin q told living → HandsOut q.world (Some (Broke k t e)) w → ⊥
+pub none_broke : (q : SessionState) (w : Components) (told : Told) (living : List ℕ) (k : ℕ) (t : Step) (e : Exit) → IsWithin q told living →
+    HandsOut q.world (Some (Broke k t e)) w → ⊥
 none_broke q w told living k t e within h = no_debt k t e true q.world within.keeps h.0

@@ -19,8 +19,11 @@ use Rattle.law_supervisor.proofs.Made.{mk, MayBefall}
 abbrev pub leaves_quietly : ComponentState → Bool
 leaves_quietly p = (is_leaving p && not (is_some p.owed)) && not (is_some p.next)
 
-module _ (f : Fitted) (steps : StepSet) (n : ℕ) (busy : Option Step) (runs inst : Bool) (way : Option After) (cs : List Child) (hd : Bool) (asked : Option After) where
-  pub leaving_at : (s : State) (e : LifeEvent) (b : Bool) → may_ask (under_way (mk f steps n busy runs inst way cs hd None asked None s).life) asked ≡ true → MayBefall e (mk f steps n busy runs inst way cs hd None asked None s) → is_leaving (mk f steps n busy runs inst way cs hd None asked None s) ≡ true → leaves_quietly (lived b e (mk f steps n busy runs inst way cs hd None asked None s)) ≡ true
+module _ (f : Fitted) (steps : StepSet) (n : ℕ) (busy : Option Step) (runs inst : Bool) (way : Option After) (cs : List Child) (hd : Bool)
+    (asked : Option After) where
+  pub leaving_at : (s : State) (e : LifeEvent) (b : Bool) → may_ask (under_way (mk f steps n busy runs inst way cs hd None asked None s).life) asked ≡ true →
+      MayBefall e (mk f steps n busy runs inst way cs hd None asked None s) → is_leaving (mk f steps n busy runs inst way cs hd None asked None s) ≡ true →
+      leaves_quietly (lived b e (mk f steps n busy runs inst way cs hd None asked None s)) ≡ true
   leaving_at state.New event.MayBegin b a m l = grind (arith, a, m, l)
   leaving_at state.New event.Retry b a m l = grind (arith, a, m, l)
   leaving_at state.New event.Launched b a m l = grind (arith, a, m, l)

@@ -1,5 +1,6 @@
 -- What each event keeps of components that all leave.
-use Rattle.std.proofs.Common.{◌≡◌, ◌≤◌, ℕ, suc, zero, List, [], ◌∷◌, map, Option, Some, None, Bool, true, false, refl, sym, ap, ◌∙◌, ◌⊎◌, ◌+◌, ◌==◌, inl, inr, arith, subst}
+use Rattle.std.proofs.Common.{◌≡◌, ◌≤◌, ℕ, suc, zero, List, [], ◌∷◌, map, Option, Some, None, Bool, true, false, refl, sym, ap, ◌∙◌, ◌⊎◌, ◌+◌, ◌==◌, inl, inr}
+use Rattle.std.proofs.Common.{arith, subst}
 use Rattle.std.specs.Prelude.{⊤, ◌↔◌, ◌&&◌, ◌||◌, not, slice_get, is_some, if◌then◌else◌}
 use Rattle.std.specs.Option.{IfSome, IsSomeAnd}
 use Rattle.std.specs.List.{AllByRecursion}
@@ -13,7 +14,8 @@ use Rattle.lifecycle.specs.declared.kinds.LifeEvent.{LifeEvent}
 use Rattle.lifecycle.specs.declared.kinds.LifeEvent.TheVariants as event
 use Rattle.components.specs.Fitted.{Fitted, prepared_of, limit_of}
 use Rattle.components.specs.Deadlines.{deadline_after}
-use Rattle.components.specs.Components.{Components, ComponentState, Child, At, changed_at, component_name, child_gone, without_child, owner, is_leaving, under_way}
+use Rattle.components.specs.Components.{Components, ComponentState, Child, At, changed_at, component_name, child_gone, without_child, owner, is_leaving}
+use Rattle.components.specs.Components.{under_way}
 use Rattle.components.specs.Lives.{lived, lived_at}
 use Rattle.components.specs.Events.{answered_at, refused, skipped, started, with_child, gone_by, is_orphan_at}
 use Rattle.components.specs.Acts.{Move, Quietly}
@@ -50,11 +52,13 @@ untold P p g o n x =
     (subst (λ (y : Option (Step × Exit)). P (bare false y p.next p)) (sym o)
     (subst (λ (y : Option (Fitted × ℕ)). P (bare false None y p)) (sym n) x))
 
-leaving_lived : (b : Bool) (e : LifeEvent) (p : ComponentState) (cs : List Child) (hd : Bool) → IsSoundPart p → LeavesPart p → MayBefall e (with_these cs hd p) → LeavesPart (lived b e (with_these cs hd p))
+leaving_lived : (b : Bool) (e : LifeEvent) (p : ComponentState) (cs : List Child) (hd : Bool) → IsSoundPart p → LeavesPart p →
+    MayBefall e (with_these cs hd p) → LeavesPart (lived b e (with_these cs hd p))
 leaving_lived b e p cs hd k l m = elim (either p.life.gone) [
   | inl g ↦ subst LeavesPart (sym (lived_gone b e (with_these cs hd p) g)) (l.0, l.1, l.2)
   | inr g ↦ quiet_parts (lived b e (with_these cs hd p))
-      (untold (λ x. may_ask (under_way x.life) x.stop ≡ true → MayBefall e x → is_leaving x ≡ true → leaves_quietly (lived b e x) ≡ true) (with_these cs hd p) g l.1 l.2
+      (untold (λ x. may_ask (under_way x.life) x.stop ≡ true → MayBefall e x → is_leaving x ≡ true → leaves_quietly (lived b e x) ≡ true) (with_these cs hd p)
+      g l.1 l.2
       (leaving_at p.fitted p.life.steps p.life.failures p.life.busy p.life.runs p.life.install_failed p.life.stop cs hd p.stop p.life.state e b) k.asks m l.0)
 ]
 
@@ -87,7 +91,8 @@ second P Q (p ∷ ps) a = (a.0.1, second P Q ps a.1)
 known_of : (w : Components) → Leaves w → AllByRecursion Known w.parts
 known_of w i = both IsSoundPart LeavesPart w.parts (sound_of w i.orderly.sound) i.each
 
-keep_from : (w v : Components) → Leaves w → AllByRecursion Known v.parts → map component_name v.parts ≡ map component_name w.parts → Differ (living_numbers v.parts) → Leaves v
+keep_from : (w v : Components) → Leaves w → AllByRecursion Known v.parts → map component_name v.parts ≡ map component_name w.parts →
+    Differ (living_numbers v.parts) → Leaves v
 keep_from w v k a n f = record {
   orderly = record {
     sound = λ j p e. (at_places Known v.parts a j p e).0;
@@ -99,7 +104,8 @@ keep_from w v k a n f = record {
 
 -- what befalls one that keeps its children
 pub plain_keeps : (k : ℕ) (e : LifeEvent) (w : Components) → Leaves w
-    → ((p : ComponentState) → slice_get w.parts k ≡ Some p → IsSoundPart p → MayBefall e p × (ends_fairly e p ≡ true) × ((begins e && runs_in p.children) ≡ false)) → Leaves (lived_at k e w)
+    → ((p : ComponentState) → slice_get w.parts k ≡ Some p → IsSoundPart p → MayBefall e p × (ends_fairly e p ≡ true) ×
+    ((begins e && runs_in p.children) ≡ false)) → Leaves (lived_at k e w)
 plain_keeps k e w i f = keep_from w (lived_at k e w) i
     (plain_all Known mark_known k e w (known_of w i) (λ p q x.
     let m = f p q x.0 in (
@@ -115,10 +121,11 @@ differ_gone : (k n : ℕ) (ps : List ComponentState) → Differ (living_numbers 
 differ_gone k n ps d = few_differ (living_numbers (changed_at k (without_child n) ps)) (λ m. fewer m k ps (differ_few (living_numbers ps) d m))
   where
     fewer : (m k : ℕ) (ps : List ComponentState) → count m (living_numbers ps) ≤ 1 → count m (living_numbers (changed_at k (without_child n) ps)) ≤ 1
-    fewer m k ps l = elim (slice_get ps k) as (λ (o : Option ComponentState). slice_get ps k ≡ o → count m (living_numbers (changed_at k (without_child n) ps)) ≤ 1) [
-      | None ↦ λ e. subst (λ (qs : List ComponentState). count m (living_numbers qs) ≤ 1) (sym (outside k ps e)) l
-      | Some p ↦ λ e. (let a = count_changed m k (without_child n) ps p e in let b = count_but m n p.children in omega (arith, a, b, l))
-    ] refl
+    fewer m k ps l = elim (slice_get ps k) as (λ (o : Option ComponentState). slice_get ps k ≡ o →
+        count m (living_numbers (changed_at k (without_child n) ps)) ≤ 1) [
+          | None ↦ λ e. subst (λ (qs : List ComponentState). count m (living_numbers qs) ≤ 1) (sym (outside k ps e)) l
+          | Some p ↦ λ e. (let a = count_changed m k (without_child n) ps p e in let b = count_but m n p.children in omega (arith, a, b, l))
+        ] refl
       where
         outside : (k : ℕ) (ps : List ComponentState) → slice_get ps k ≡ None → changed_at k (without_child n) ps ≡ ps
         outside k [] e = refl
@@ -135,33 +142,41 @@ child_gone_keeps k n w i = keep_from w (child_gone k n w) i
     (differ_gone k n w.parts i.orderly.differ)
 
 event_gone_keeps : (k n : ℕ) (e : LifeEvent) (w : Components) → Leaves w → begins e ≡ false
-    → ((p : ComponentState) → slice_get w.parts k ≡ Some p → IsSoundPart p → MayBefall e (without_child n p) × (ends_fairly e (without_child n p) ≡ true)) → Leaves (lived_at k e (child_gone k n w))
+    → ((p : ComponentState) → slice_get w.parts k ≡ Some p → IsSoundPart p → MayBefall e (without_child n p) × (ends_fairly e (without_child n p) ≡ true)) →
+    Leaves (lived_at k e (child_gone k n w))
 event_gone_keeps k n e w i b f = keep_from w (lived_at k e (child_gone k n w)) i
     (event_all (Known) (mark_known) k e (without_child n) w (known_of w i) (λ p q x.
     let m = f p q x.0 in (
-      sound_lived w.steady e p (but n p.children) p.handed x.0 m.0 (run_lived w.steady e (without_child n p) (runs_in (but n p.children)) (gone_known n p x).0 (run_but n p x.0) (rw b refl)),
+      sound_lived w.steady e p (but n p.children) p.handed x.0 m.0 (run_lived w.steady e (without_child n p) (runs_in (but n p.children)) (gone_known n p x).0
+          (run_but n p x.0) (rw b refl)),
       leaving_lived w.steady e p (but n p.children) p.handed x.0 x.1 m.0,
     )))
-    (event_names k e (child_gone k n w) (sound_of (child_gone k n w) (child_gone_keeps k n w i).orderly.sound) ∙ changed_same component_name k (without_child n) w.parts (λ p q. refl))
-    (subst Differ (sym (same_living (child_gone k n w).parts (lived_at k e (child_gone k n w)).parts (event_children k e (child_gone k n w)))) (differ_gone k n w.parts i.orderly.differ))
+    (event_names k e (child_gone k n w) (sound_of (child_gone k n w) (child_gone_keeps k n w i).orderly.sound) ∙ changed_same component_name k
+    (without_child n) w.parts (λ p q. refl))
+    (subst Differ (sym (same_living (child_gone k n w).parts (lived_at k e (child_gone k n w)).parts (event_children k e (child_gone k n w))))
+    (differ_gone k n w.parts i.orderly.differ))
 
 pub gone_by_keeps : (o : Option LifeEvent) (k : ℕ) (s : Step) (n : ℕ) (w : Components) → Leaves w
-    → ((e : LifeEvent) → o ≡ Some e → is_orphan_at k s w ≡ false → (begins e ≡ false) × ((p : ComponentState) → slice_get w.parts k ≡ Some p → IsSoundPart p → MayBefall e (without_child n p) × (ends_fairly e (without_child n p) ≡ true)))
+    → ((e : LifeEvent) → o ≡ Some e → is_orphan_at k s w ≡ false → (begins e ≡ false) ×
+    ((p : ComponentState) → slice_get w.parts k ≡ Some p → IsSoundPart p → MayBefall e (without_child n p) × (ends_fairly e (without_child n p) ≡ true)))
     → Leaves (gone_by o k s n w)
 gone_by_keeps None k s n w i f = child_gone_keeps k n w i
-gone_by_keeps (Some e) k s n w i f = elim (is_orphan_at k s w) as (λ (b : Bool). is_orphan_at k s w ≡ b → Leaves (if b then child_gone k n w else lived_at k e (child_gone k n w))) [
-  | true ↦ λ y. child_gone_keeps k n w i
-  | false ↦ λ y. (let m = f e refl y in event_gone_keeps k n e w i m.0 m.1)
-] refl
+gone_by_keeps (Some e) k s n w i f = elim (is_orphan_at k s w) as (λ (b : Bool). is_orphan_at k s w ≡ b →
+    Leaves (if b then child_gone k n w else lived_at k e (child_gone k n w))) [
+      | true ↦ λ y. child_gone_keeps k n w i
+      | false ↦ λ y. (let m = f e refl y in event_gone_keeps k n e w i m.0 m.1)
+    ] refl
 
 -- ---- a start that is answered
 
-answered_children : (k : ℕ) (w : Components) → map (λ (p : ComponentState). p.children) (answered_at k w).parts ≡ map (λ (p : ComponentState). p.children) w.parts
+answered_children : (k : ℕ) (w : Components) → map (λ (p : ComponentState). p.children) (answered_at k w).parts ≡ map (λ (p : ComponentState). p.children)
+    w.parts
 answered_children k w = changed_same (λ p. p.children) k (λ p. record p { handed = false }) w.parts (λ p q. refl)
 
 answered_keeps : (k : ℕ) (w : Components) → Leaves w → Leaves (answered_at k w)
 answered_keeps k w i = keep_from w (answered_at k w) i
-    (changed_all Known k (λ p. record p { handed = false }) w.parts (known_of w i) (λ p q x. (sound_these p p.children false x.0 x.0.run, leaving_these p.children false p x.1)))
+    (changed_all Known k (λ p. record p { handed = false }) w.parts (known_of w i)
+    (λ p q x. (sound_these p p.children false x.0 x.0.run, leaving_these p.children false p x.1)))
     (changed_same component_name k (λ p. record p { handed = false }) w.parts (λ p q. refl))
     (subst Differ (sym (same_living w.parts (answered_at k w).parts (answered_children k w))) i.orderly.differ)
 
@@ -213,12 +228,16 @@ still_few : (a b n : ℕ) (y : Bool) → a ≡ b + (if y then 1 else 0) → b �
 still_few a b n true e l f = let z = f refl in omega (arith, e, z)
 still_few a b n false e l f = omega (arith, e, l)
 
-differ_begun : (n k : ℕ) (s : Step) (t : ℕ) (ps : List ComponentState) → owner n ps ≡ None → Differ (living_numbers ps) → Differ (living_numbers (changed_at k (begun n s t) ps))
-differ_begun n k s t ps o d = elim (slice_get ps k) as (λ (q : Option ComponentState). slice_get ps k ≡ q → Differ (living_numbers (changed_at k (begun n s t) ps))) [
-  | None ↦ λ e. subst (λ (qs : List ComponentState). Differ (living_numbers qs)) (sym (outside k (begun n s t) ps e)) d
-  | Some p ↦ λ e. few_differ (living_numbers (changed_at k (begun n s t) ps)) (λ m. still_few (count m (living_numbers (changed_at k (begun n s t) ps))) (count m (living_numbers ps)) n (n == m)
-      (one_more m n k s t ps p e) (differ_few (living_numbers ps) d m) (λ y. subst (λ (x : ℕ). count x (living_numbers ps) ≡ 0) (eqb-true n m y) (none_owns 0 n ps o)))
-] refl
+differ_begun : (n k : ℕ) (s : Step) (t : ℕ) (ps : List ComponentState) → owner n ps ≡ None → Differ (living_numbers ps) →
+    Differ (living_numbers (changed_at k (begun n s t) ps))
+differ_begun n k s t ps o d = elim (slice_get ps k) as (λ (q : Option ComponentState). slice_get ps k ≡ q →
+    Differ (living_numbers (changed_at k (begun n s t) ps))) [
+      | None ↦ λ e. subst (λ (qs : List ComponentState). Differ (living_numbers qs)) (sym (outside k (begun n s t) ps e)) d
+      | Some p ↦ λ e. few_differ (living_numbers (changed_at k (begun n s t) ps)) (λ m. still_few (count m (living_numbers (changed_at k (begun n s t) ps)))
+          (count m (living_numbers ps)) n (n == m)
+          (one_more m n k s t ps p e) (differ_few (living_numbers ps) d m) (λ y. subst (λ (x : ℕ). count x (living_numbers ps) ≡ 0) (eqb-true n m y)
+          (none_owns 0 n ps o)))
+    ] refl
 
 -- ---- a child that lives, and nothing else
 
@@ -226,10 +245,12 @@ no_run : (a b x : Bool) → (a && b) ≡ false → x ≡ false → (a && (x || b
 no_run true b x e f = rw f e
 no_run false b x e f = refl
 
-lives_keeps : (k : ℕ) (s : Step) (n : ℕ) (w : Components) → is_same_step step.Run s ≡ false → owner n w.parts ≡ None → Leaves w → Leaves (record w { parts = changed_at k (begun n s w.moment) w.parts })
+lives_keeps : (k : ℕ) (s : Step) (n : ℕ) (w : Components) → is_same_step step.Run s ≡ false → owner n w.parts ≡ None → Leaves w →
+    Leaves (record w { parts = changed_at k (begun n s w.moment) w.parts })
 lives_keeps k s n w r o i = keep_from w (record w { parts = changed_at k (begun n s w.moment) w.parts }) i
     (changed_all (Known) k (begun n s w.moment) w.parts (known_of w i) (λ p q x. (
-      sound_these p (child n s w.moment p ∷ p.children) false x.0 (no_run (is_busy_with step.Run p.life.busy) (runs_in p.children) (is_same_step step.Run s) x.0.run r),
+      sound_these p (child n s w.moment p ∷ p.children) false x.0 (no_run (is_busy_with step.Run p.life.busy) (runs_in p.children) (is_same_step step.Run s)
+          x.0.run r),
       leaving_these (child n s w.moment p ∷ p.children) false p x.1,
     )))
     (changed_same component_name k (begun n s w.moment) w.parts (λ p q. refl))
@@ -243,13 +264,15 @@ Coming p = IfSome p.next (IsNamed (component_name p))
 run_keeps : (k n : ℕ) (w : Components) → owner n w.parts ≡ None → Leaves w → Leaves (started k step.Run n w)
 run_keeps k n w o i = keep_from w (started k step.Run n w) i
     (event_all (Known) (mark_known) k event.Launched (begun n step.Run w.moment) w (known_of w i) (λ p q x. (
-      sound_lived w.steady event.Launched p (child n step.Run w.moment p ∷ p.children) false x.0 tt (rw (launch_lived w.steady p (child n step.Run w.moment p ∷ p.children) false x.0) refl),
+      sound_lived w.steady event.Launched p (child n step.Run w.moment p ∷ p.children) false x.0 tt
+          (rw (launch_lived w.steady p (child n step.Run w.moment p ∷ p.children) false x.0) refl),
       leaving_lived w.steady event.Launched p (child n step.Run w.moment p ∷ p.children) false x.0 x.1 tt,
     )))
     (event_same component_name (λ p. refl) k event.Launched (record w { parts = changed_at k (begun n step.Run w.moment) w.parts })
     (λ p q. same_name w.steady event.Launched p (at_places Coming (changed_at k (begun n step.Run w.moment) w.parts) coming k p q))
     ∙ changed_same component_name k (begun n step.Run w.moment) w.parts (λ p q. refl))
-    (subst Differ (sym (same_living (changed_at k (begun n step.Run w.moment) w.parts) (started k step.Run n w).parts (event_children k event.Launched (record w { parts = changed_at k (begun n step.Run w.moment) w.parts }))))
+    (subst Differ (sym (same_living (changed_at k (begun n step.Run w.moment) w.parts) (started k step.Run n w).parts
+    (event_children k event.Launched (record w { parts = changed_at k (begun n step.Run w.moment) w.parts }))))
     (differ_begun n k step.Run w.moment w.parts o i.orderly.differ))
   where
     coming : AllByRecursion Coming (changed_at k (begun n step.Run w.moment) w.parts)
@@ -265,16 +288,19 @@ started_keeps k step.Bootstrap n w o i = lives_keeps k step.Bootstrap n w refl o
 
 -- ---- who owns it
 
-living_started : (k : ℕ) (s : Step) (n : ℕ) (w : Components) → living_numbers (started k s n w).parts ≡ living_numbers (changed_at k (begun n s w.moment) w.parts)
+living_started : (k : ℕ) (s : Step) (n : ℕ) (w : Components) → living_numbers (started k s n w).parts ≡ living_numbers
+    (changed_at k (begun n s w.moment) w.parts)
 living_started k step.Install n w = refl
-living_started k step.Run n w = same_living (changed_at k (begun n step.Run w.moment) w.parts) (started k step.Run n w).parts (event_children k event.Launched (record w { parts = changed_at k (begun n step.Run w.moment) w.parts }))
+living_started k step.Run n w = same_living (changed_at k (begun n step.Run w.moment) w.parts) (started k step.Run n w).parts
+    (event_children k event.Launched (record w { parts = changed_at k (begun n step.Run w.moment) w.parts }))
 living_started k step.Startup n w = refl
 living_started k step.Shutdown n w = refl
 living_started k step.Recover n w = refl
 living_started k step.Bootstrap n w = refl
 
 at_some : (k : ℕ) (ps : List ComponentState) → At k (λ p. ⊤) ps → (p : ComponentState) × (slice_get ps k ≡ Some p)
-at_some k ps a = elim (slice_get ps k) as (λ (o : Option ComponentState). slice_get ps k ≡ o → IsSomeAnd o (λ p. ⊤) → (p : ComponentState) × (slice_get ps k ≡ Some p))
+at_some k ps a = elim (slice_get ps k) as (λ (o : Option ComponentState). slice_get ps k ≡ o → IsSomeAnd o (λ p. ⊤) → (p : ComponentState) ×
+    (slice_get ps k ≡ Some p))
     [ None ↦ λ e h. absurd h | Some p ↦ λ e h. (p, e) ] refl a
 
 pub started_owns : (k : ℕ) (s : Step) (n m : ℕ) (w : Components) → At k (λ p. ⊤) w.parts → Owns (started k s n w) m ↔ ((m ≡ n) ⊎ Owns w m)

@@ -39,26 +39,32 @@ at_some (Some p) P Q f h = f p h
 
 -- ---- a probe
 
-of_skip : (o : Option Prepared) (x : Option Skip) (P : Prepared → Type 0) → IsSome o → option_and_then (λ m. m.skip) o ≡ x → ((m : Prepared) → m.skip ≡ x → P m) → IsSomeAnd o P
+of_skip : (o : Option Prepared) (x : Option Skip) (P : Prepared → Type 0) → IsSome o → option_and_then (λ m. m.skip) o ≡ x →
+    ((m : Prepared) → m.skip ≡ x → P m) → IsSomeAnd o P
 of_skip None x P some is f = absurd cc
 of_skip (Some m) x P some is f = f m is
 
-try_at : (t : Step) (x : Option Skip) (P : Prepared → Type 0) → ((m : Prepared) → m.skip ≡ x → P m) → (q : ComponentState) → HasStart t q × SkipIs t x q → (is_begun t q ≡ true) × HasStep q t P
+try_at : (t : Step) (x : Option Skip) (P : Prepared → Type 0) → ((m : Prepared) → m.skip ≡ x → P m) → (q : ComponentState) → HasStart t q × SkipIs t x q →
+    (is_begun t q ≡ true) × HasStep q t P
 try_at t x P f q h = (h.0.begun, of_skip (prepared_of q.fitted t) x P h.0.prepared h.1 f)
 
 abbrev Asks : ℕ → Step → Option Skip → Components → Type 0
 Asks k t x w = At k (λ q. HasStart t q × SkipIs t x q) w.parts
 
 may_probe : (p : SessionState) (k : ℕ) (t : Step) (x : Skip) → IsNext p.world k → p.probed ≡ false → Asks k t (Some x) p.world → MayTry p k t (Probes p x)
-may_probe p k t x next probed a =
-    (next, at_some (slice_get p.world.parts k) (λ q. HasStart t q × SkipIs t (Some x) q) (λ q. (is_begun t q ≡ true) × HasStep q t (Probes p x)) (try_at t (Some x) (Probes p x) (λ m is. (is, probed))) a)
+may_probe p k t x next probed a = (
+  next,
+  at_some (slice_get p.world.parts k) (λ q. HasStart t q × SkipIs t (Some x) q) (λ q. (is_begun t q ≡ true) × HasStep q t (Probes p x))
+      (try_at t (Some x) (Probes p x) (λ m is. (is, probed))) a,
+)
 
 may_run_probe : (p : SessionState) (k : ℕ) (t : Step) (x : Skip) (b : Bool) → MayTry p k t (Probes p x) → MayRun (duty_of p.device) p (probe_seen x b) k t
 may_run_probe p k t (skips.Exists x) b may = may
 may_run_probe p k t (skips.OnPath x) b may = may
 
 -- the components once a step was skipped
-skip_after : Laws → (p : SessionState) (told : Told) (living : List ℕ) (k : ℕ) (t : Step) (x : Skip) → IsWithin p told living → IsNext p.world k → IsRunAfter p (probe_seen x true) k t living
+skip_after : Laws → (p : SessionState) (told : Told) (living : List ℕ) (k : ℕ) (t : Step) (x : Skip) → IsWithin p told living → IsNext p.world k →
+    IsRunAfter p (probe_seen x true) k t living
 skip_after laws p told living k t (skips.Exists x) w next = record {
   moment = refl;
   keeps = laws.keeps_skipped k p.world w.keeps;
@@ -92,7 +98,8 @@ says (skips.OnPath x) true = refl
 says (skips.OnPath x) false = refl
 
 -- it says that the step is to be skipped
-pub probe_yes : Laws → (p : SessionState) (k : ℕ) (t : Step) (x : Skip) (world : Components) (old new : Told) (living next : List ℕ) → IsStarting p k t world old living → At k (SkipIs t (Some x)) world.parts → Notes old new (probe_seen x true) → next ≡ living
+pub probe_yes : Laws → (p : SessionState) (k : ℕ) (t : Step) (x : Skip) (world : Components) (old new : Told) (living next : List ℕ) →
+    IsStarting p k t world old living → At k (SkipIs t (Some x)) world.parts → Notes old new (probe_seen x true) → next ≡ living
     → Skipped p k world old new next
 probe_yes laws p k t x world old new living next s told notes same =
     let seen = probe_seen x true in
@@ -117,12 +124,14 @@ same_world : (p : SessionState) (k : ℕ) (t : Step) (x : Skip) → ran (probe_s
 same_world p k t (skips.Exists x) = refl
 same_world p k t (skips.OnPath x) = refl
 
-no_after : (p : SessionState) (told : Told) (living : List ℕ) (k : ℕ) (t : Step) (x : Skip) → IsWithin p told living → IsRunAfter p (probe_seen x false) k t living
+no_after : (p : SessionState) (told : Told) (living : List ℕ) (k : ℕ) (t : Step) (x : Skip) → IsWithin p told living →
+    IsRunAfter p (probe_seen x false) k t living
 no_after p told living k t (skips.Exists x) w = record { moment = refl; keeps = w.keeps; answered = w.answered; children = w.children }
 no_after p told living k t (skips.OnPath x) w = record { moment = refl; keeps = w.keeps; answered = w.answered; children = w.children }
 
 -- it says no
-pub probe_no : (p : SessionState) (k : ℕ) (t : Step) (x : Skip) (world : Components) (old new : Told) (living next : List ℕ) → IsStarting p k t world old living → At k (SkipIs t (Some x)) world.parts → Notes old new (probe_seen x false) → next ≡ living
+pub probe_no : (p : SessionState) (k : ℕ) (t : Step) (x : Skip) (world : Components) (old new : Told) (living next : List ℕ) →
+    IsStarting p k t world old living → At k (SkipIs t (Some x)) world.parts → Notes old new (probe_seen x false) → next ≡ living
     → Launches p k t world old new next
 probe_no p k t x world old new living next s told notes same =
     let seen = probe_seen x false in
@@ -147,7 +156,8 @@ probe_no p k t x world old new living next s told notes same =
     }
 
 -- the step has none
-pub no_probe : (p : SessionState) (k : ℕ) (t : Step) (world : Components) (told : Told) (living : List ℕ) → IsStarting p k t world told living → At k (SkipIs t None) world.parts → Launches p k t world told told living
+pub no_probe : (p : SessionState) (k : ℕ) (t : Step) (world : Components) (told : Told) (living : List ℕ) → IsStarting p k t world told living →
+    At k (SkipIs t None) world.parts → Launches p k t world told told living
 no_probe p k t world told living s is =
     let a = asks k t None world p.world s.world_is s.start is in
     record {
@@ -168,17 +178,20 @@ no_probe p k t world told living s is =
 some_same : {A : Type 0} (a b : A) → Some a ≡ Some b → a ≡ b
 some_same a b is = ap (λ (o : Option _). elim o [ None ↦ a | Some x ↦ x ]) is
 
-of_start : (o : Option Prepared) (c : Command) (P : Prepared → Type 0) → IsSomeAnd o P → option_map (λ m. m.command) o ≡ Some c → IsSomeAnd o (λ m. (c ≡ m.command) × P m)
+of_start : (o : Option Prepared) (c : Command) (P : Prepared → Type 0) → IsSomeAnd o P → option_map (λ m. m.command) o ≡ Some c →
+    IsSomeAnd o (λ m. (c ≡ m.command) × P m)
 of_start None c P h is = absurd h
 of_start (Some m) c P h is = (sym (some_same m.command c is), h)
 
-may_start : (p : SessionState) (k : ℕ) (t : Step) (c : Command) (world : Components) (told : Told) (living : List ℕ) → MayLaunch p k t world told living → At k (CommandIs t c) world.parts → MayTry p k t (Starts p c)
+may_start : (p : SessionState) (k : ℕ) (t : Step) (c : Command) (world : Components) (told : Told) (living : List ℕ) → MayLaunch p k t world told living →
+    At k (CommandIs t c) world.parts → MayTry p k t (Starts p c)
 may_start p k t c world told living m is =
     let before = told_before k world p.world (CommandIs t c) m.world_is (λ q h. h) is in
     let all = at_both (slice_get p.world.parts k) (HasStart t) (λ q. HasStep q t (λ m. (m.skip ≡ None) ⊎ (p.probed ≡ true)) × CommandIs t c q) m.start
     (at_both (slice_get p.world.parts k) (λ q. HasStep q t (λ m. (m.skip ≡ None) ⊎ (p.probed ≡ true))) (CommandIs t c) m.asked before) in (
       m.next,
-      at_some (slice_get p.world.parts k) (λ q. HasStart t q × (HasStep q t (λ m. (m.skip ≡ None) ⊎ (p.probed ≡ true)) × CommandIs t c q)) (λ q. (is_begun t q ≡ true) × HasStep q t (Starts p c))
+      at_some (slice_get p.world.parts k) (λ q. HasStart t q × (HasStep q t (λ m. (m.skip ≡ None) ⊎ (p.probed ≡ true)) × CommandIs t c q))
+          (λ q. (is_begun t q ≡ true) × HasStep q t (Starts p c))
           (λ q h. (h.0.begun, of_start (prepared_of q.fitted t) c (λ m. (m.skip ≡ None) ⊎ (p.probed ≡ true)) h.1.0 h.1.1)) all,
     )
 
@@ -205,7 +218,8 @@ either e = ((λ h. or_on e.0 h), (λ h. or_on e.1 h))
 there_is : (k : ℕ) (t : Step) (w : Components) → At k (HasStart t) w.parts → At k (λ p. ⊤) w.parts
 there_is k t w h = at_some (slice_get w.parts k) (HasStart t) (λ p. ⊤) (λ p h. tt) h
 
-pub start_runs : Laws → (p : SessionState) (k : ℕ) (t : Step) (n : ℕ) (c : Command) (world : Components) (old new : Told) (living next : List ℕ) → MayLaunch p k t world old living → At k (CommandIs t c) world.parts
+pub start_runs : Laws → (p : SessionState) (k : ℕ) (t : Step) (n : ℕ) (c : Command) (world : Components) (old new : Told) (living next : List ℕ) →
+    MayLaunch p k t world old living → At k (CommandIs t c) world.parts
     → Notes old new (seen.Started n c) → next ≡ n ∷ living → (Contains living n → ⊥) → Launched p (started k t n world) old new next
 start_runs laws p k t n c world old new living next m is notes lives fresh =
     let w = p.world in
@@ -226,7 +240,8 @@ start_runs laws p k t n c world old new living next m is notes lives fresh =
       };
     }
 
-pub refuse_runs : Laws → (p : SessionState) (k : ℕ) (t : Step) (c : Command) (world : Components) (old new : Told) (living next : List ℕ) → MayLaunch p k t world old living → At k (CommandIs t c) world.parts
+pub refuse_runs : Laws → (p : SessionState) (k : ℕ) (t : Step) (c : Command) (world : Components) (old new : Told) (living next : List ℕ) →
+    MayLaunch p k t world old living → At k (CommandIs t c) world.parts
     → Notes old new (seen.Refused c) → next ≡ living → Launched p (refused k t world) old new next
 refuse_runs laws p k t c world old new living next m is notes same =
     let w = p.world in
@@ -254,7 +269,8 @@ owns o x is = subst (λ (y : Option (ℕ × Step)). IsSome y) (sym is) cc
 pub kill_lives : (p : SessionState) (told : Told) (living : List ℕ) (n k : ℕ) (t : Step) → IsWithin p told living → MayKill p.world n k t → Contains living n
 kill_lives p told living n k t w may = (w.children n).1 (owns (owner n p.world.parts) (k, t) may.0)
 
-pub kill_runs : Laws → (p : SessionState) (n k : ℕ) (t : Step) (world : Components) (old new : Told) (living next : List ℕ) → IsWithin p old living → IsNext p.world k → MayKill p.world n k t → world ≡ killed n p.world
+pub kill_runs : Laws → (p : SessionState) (n k : ℕ) (t : Step) (world : Components) (old new : Told) (living next : List ℕ) → IsWithin p old living →
+    IsNext p.world k → MayKill p.world n k t → world ≡ killed n p.world
     → Notes old new (seen.Killed n) → next ≡ without n living → Launched p world old new next
 kill_runs laws p n k t world old new living next within may_next may is notes lives =
     let w = p.world in
@@ -275,8 +291,10 @@ kill_runs laws p n k t world old new living next within may_next may is notes li
     }
 
 -- the moment of the components
-pub handed_moment : (p : SessionState) (k : ℕ) (t : Step) (world : Components) (told : Told) (living : List ℕ) → MayLaunch p k t world told living → told.moment ≡ world.moment
+pub handed_moment : (p : SessionState) (k : ℕ) (t : Step) (world : Components) (told : Told) (living : List ℕ) → MayLaunch p k t world told living →
+    told.moment ≡ world.moment
 handed_moment p k t world told living m = m.within.moment ∙ sym (ap (λ (w : Components). w.moment) m.world_is)
 
-pub starting_moment : (p : SessionState) (k : ℕ) (t : Step) (world : Components) (told : Told) (living : List ℕ) → IsStarting p k t world told living → told.moment ≡ world.moment
+pub starting_moment : (p : SessionState) (k : ℕ) (t : Step) (world : Components) (told : Told) (living : List ℕ) → IsStarting p k t world told living →
+    told.moment ≡ world.moment
 starting_moment p k t world told living s = s.within.moment ∙ sym (ap (λ (w : Components). w.moment) s.world_is)

@@ -12,7 +12,8 @@ use Rattle.session_shutdown.proofs.Entering.{comes_of}
 
 -- ---- the end of a turn
 
-pub has_stopped : (q : SessionState) (d : Device) (world : Components) (told : Told) (living : List ℕ) (none stopped : Bool) → ActLeft q none world told living → none ≡ true → q.device ≡ d → stopped ≡ is_stopped world → stopped ≡ true → HasStopped q d world told living
+pub has_stopped : (q : SessionState) (d : Device) (world : Components) (told : Told) (living : List ℕ) (none stopped : Bool) →
+    ActLeft q none world told living → none ≡ true → q.device ≡ d → stopped ≡ is_stopped world → stopped ≡ true → HasStopped q d world told living
 has_stopped q d world told living none stopped a all device is yes_is =
     let w = a.runs.within in
     let done : is_stopped q.world ≡ true = sym (ap (λ (v : Components). is_stopped v) a.runs.world_is) ∙ sym is ∙ yes_is in
@@ -29,7 +30,8 @@ has_stopped q d world told living none stopped a all device is yes_is =
       cut = w.on.cut;
     }
 
-pub sits : (q : SessionState) (world : Components) (told : Told) (living : List ℕ) (none stopped : Bool) → ActLeft q none world told living → none ≡ true → stopped ≡ is_stopped world → stopped ≡ false → IsReadyToWait q world told living
+pub sits : (q : SessionState) (world : Components) (told : Told) (living : List ℕ) (none stopped : Bool) → ActLeft q none world told living → none ≡ true →
+    stopped ≡ is_stopped world → stopped ≡ false → IsReadyToWait q world told living
 sits q world told living none stopped a all is no_is = record {
   runs = a.runs;
   quiet = a.quiet all;
@@ -38,11 +40,13 @@ sits q world told living none stopped a all is no_is = record {
 
 -- ---- whether none stands
 
-pub is_on : (b : Bool) (q : SessionState) (d : Device) (world : Components) (told : Told) (living : List ℕ) → b ≡ false → TurnLeft b q d world told living → IsAtTurnStart q d world told living
+pub is_on : (b : Bool) (q : SessionState) (d : Device) (world : Components) (told : Told) (living : List ℕ) → b ≡ false → TurnLeft b q d world told living →
+    IsAtTurnStart q d world told living
 is_on true q d world told living is t = absurd cc
 is_on false q d world told living is t = t
 
-pub is_stopped_left : (b : Bool) (q : SessionState) (d : Device) (world : Components) (told : Told) (living : List ℕ) → b ≡ true → TurnLeft b q d world told living → HasStopped q d world told living
+pub is_stopped_left : (b : Bool) (q : SessionState) (d : Device) (world : Components) (told : Told) (living : List ℕ) → b ≡ true →
+    TurnLeft b q d world told living → HasStopped q d world told living
 is_stopped_left true q d world told living is t = t
 is_stopped_left false q d world told living is t = absurd cc
 

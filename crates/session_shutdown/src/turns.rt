@@ -26,7 +26,8 @@ pub(crate) fn turn<R: Runner, S: Supervise>(runner: &mut R, supervisor: &mut S) 
         (h : List TraceEvent) × Acts p h (R.list runner.old) (R.list runner.new)
         × AsTold R.Runner runner.new (TurnLeft result (state_after p h) d (S.world supervisor.new)) }
     ensures drives { Drives (S.world supervisor.new) }
-    ensures falls { result ≡ false → measure (later (R.clock runner.new) (S.world supervisor.new)) < measure (later (R.clock runner.old) (S.world supervisor.old)) }
+    ensures falls { result ≡ false → measure (later (R.clock runner.new) (S.world supervisor.new)) < measure
+        (later (R.clock runner.old) (S.world supervisor.old)) }
 {
     let now = pass(runner, supervisor);
     take_acts(runner, supervisor, now);

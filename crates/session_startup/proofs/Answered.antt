@@ -16,7 +16,8 @@ use Rattle.lifecycle.specs.declared.kinds.LifeEvent.TheVariants as event
 use Rattle.components.specs.Fitted.{Fitted, steps_of}
 use Rattle.components.specs.Components.{Components, ComponentState, changed_at, owner, child_gone, without_child, is_again, is_spared}
 use Rattle.components.specs.Marks.{Flagged, flagged, flagged_at, grown, marked, may_restart, reaching, restarted}
-use Rattle.components.specs.Lives.{after_row, completed, drops_at, lived, lived_at, replaced, succeeds, with_failure_owed, with_failures_forgotten, with_new_item, with_stop_given}
+use Rattle.components.specs.Lives.{after_row, completed, drops_at, lived, lived_at, replaced, succeeds, with_failure_owed, with_failures_forgotten}
+use Rattle.components.specs.Lives.{with_new_item, with_stop_given}
 use Rattle.components.specs.Events.{answered_at, ended, gone_by, is_orphan_at, kill_event_at, killed, launched, refused, skipped, started, told_at, with_child}
 use Rattle.components.specs.Changes.{forgetting, steadied}
 use Rattle.components.specs.Acts.{Move, Quietly}
@@ -45,12 +46,14 @@ none_or a b x y = rw (x, y) refl
 
 -- ---- one component
 
-same_at : (k : ℕ) (f : ComponentState → ComponentState) (ps : List ComponentState) → ((p : ComponentState) → (f p).handed ≡ p.handed) → handed_in (changed_at k f ps) ≡ handed_in ps
+same_at : (k : ℕ) (f : ComponentState → ComponentState) (ps : List ComponentState) → ((p : ComponentState) → (f p).handed ≡ p.handed) → handed_in
+    (changed_at k f ps) ≡ handed_in ps
 same_at k f [] keeps = refl
 same_at zero f (p ∷ ps) keeps = ap (λ (b : Bool). b || handed_in ps) (keeps p)
 same_at (suc k) f (p ∷ ps) keeps = ap (λ (b : Bool). p.handed || b) (same_at k f ps keeps)
 
-free_at : (k : ℕ) (f : ComponentState → ComponentState) (ps : List ComponentState) → ((p : ComponentState) → (f p).handed ≡ false) → handed_in ps ≡ false → handed_in (changed_at k f ps) ≡ false
+free_at : (k : ℕ) (f : ComponentState → ComponentState) (ps : List ComponentState) → ((p : ComponentState) → (f p).handed ≡ false) → handed_in ps ≡ false →
+    handed_in (changed_at k f ps) ≡ false
 free_at k f [] frees h = refl
 free_at zero f (p ∷ ps) frees h = none_or (f p).handed (handed_in ps) (frees p) (or_false p.handed (handed_in ps) h).1
 free_at (suc k) f (p ∷ ps) frees h =
@@ -68,7 +71,8 @@ marked_one false p = refl
 
 any_marked : (may : ComponentState → Bool) (fs : Flagged) → handed_in (marked may fs) ≡ flags_in fs
 any_marked may [] = refl
-any_marked may (f ∷ fs) = ap (λ (b : Bool). b || handed_in (marked may fs)) (marked_one (f.1 && may f.0) f.0) ∙ ap (λ (b : Bool). f.0.handed || b) (any_marked may fs)
+any_marked may (f ∷ fs) = ap (λ (b : Bool). b || handed_in (marked may fs)) (marked_one (f.1 && may f.0) f.0) ∙ ap (λ (b : Bool). f.0.handed || b)
+    (any_marked may fs)
 
 any_grown : (all fs : Flagged) → flags_in (grown all fs) ≡ flags_in fs
 any_grown all [] = refl
@@ -88,14 +92,23 @@ any_flagged_at zero (p ∷ ps) = ap (λ (b : Bool). p.handed || b) (any_flagged 
 any_flagged_at (suc k) (p ∷ ps) = ap (λ (b : Bool). p.handed || b) (any_flagged_at k ps)
 
 any_restarted : (k : ℕ) (ps : List ComponentState) → handed_in (restarted may_restart (flagged_at k ps)) ≡ handed_in ps
-any_restarted k ps = any_marked may_restart (reaching (length (flagged_at k ps)) (flagged_at k ps)) ∙ any_reaching (length (flagged_at k ps)) (flagged_at k ps) ∙ any_flagged_at k ps
+any_restarted k ps = any_marked may_restart (reaching (length (flagged_at k ps)) (flagged_at k ps)) ∙ any_reaching (length (flagged_at k ps))
+    (flagged_at k ps) ∙ any_flagged_at k ps
 
 -- ---- an event of the table
 
 same_replaced : (p : ComponentState) → (replaced p).handed ≡ p.handed
 same_replaced p = by p.next
   where
-    by : (o : Option (Fitted × ℕ)) → (elim o as (λ x. ComponentState) [ None ↦ p | Some n ↦ record p { fitted = n.0; life = record p.life { steps = steps_of n.0; failures = n.1 }; next = None } ]).handed ≡ p.handed
+    by : (o : Option (Fitted × ℕ)) → (elim o as (λ x. ComponentState) [
+      | None ↦ p
+      | Some n ↦ record p {
+        fitted = n.0;
+        life =
+            record p.life { steps = steps_of n.0; failures = n.1 };
+        next = None;
+      }
+    ]).handed ≡ p.handed
     by None = refl
     by (Some n) = refl
 
@@ -138,7 +151,8 @@ row_done steady e a d p = with_stop_given e (with_failure_owed a (with_failures_
 same_lived : (steady : Bool) (e : LifeEvent) (p : ComponentState) → (lived steady e p).handed ≡ p.handed
 same_lived steady e p = by (table p.life e)
   where
-    by : (o : Option (LifeAct × Life)) → (elim o as (λ x. ComponentState) [ None ↦ p | Some r ↦ with_new_item e p.life (row_done steady e r.0 r.1 p) ]).handed ≡ p.handed
+    by : (o : Option (LifeAct × Life)) → (elim o as (λ x. ComponentState) [ None ↦ p | Some r ↦ with_new_item e p.life (row_done steady e r.0 r.1 p) ]).handed
+        ≡ p.handed
     by None = refl
     by (Some r) =
         same_new_item e p.life (row_done steady e r.0 r.1 p)
@@ -152,7 +166,8 @@ same_lived_at k e w = by (drops_at k w e)
     here : handed_in (changed_at k (lived w.steady e) w.parts) ≡ handed_in w.parts
     here = same_at k (lived w.steady e) w.parts (λ p. same_lived w.steady e p)
 
-    by : (b : Bool) → handed_in (if b then restarted may_restart (flagged_at k (changed_at k (lived w.steady e) w.parts)) else changed_at k (lived w.steady e) w.parts) ≡ handed_in w.parts
+    by : (b : Bool) → handed_in (if b then restarted may_restart (flagged_at k (changed_at k (lived w.steady e) w.parts)) else changed_at k (lived w.steady e)
+        w.parts) ≡ handed_in w.parts
     by true = any_restarted k (changed_at k (lived w.steady e) w.parts) ∙ here
     by false = here
 
@@ -196,14 +211,16 @@ gone_by_same (Some e) k s n w = by (is_orphan_at k s w)
 pub free_killed : (n : ℕ) (w : Components) → handed_in (killed n w).parts ≡ handed_in w.parts
 free_killed n w = by (owner n w.parts)
   where
-    by : (o : Option (ℕ × Step)) → handed_in (elim o as (λ x. Components) [ None ↦ w | Some o ↦ gone_by (kill_event_at o.0 o.1 n w) o.0 o.1 n w ]).parts ≡ handed_in w.parts
+    by : (o : Option (ℕ × Step)) → handed_in (elim o as (λ x. Components) [ None ↦ w | Some o ↦ gone_by (kill_event_at o.0 o.1 n w) o.0 o.1 n w ]).parts
+        ≡ handed_in w.parts
     by None = refl
     by (Some o) = gone_by_same (kill_event_at o.0 o.1 n w) o.0 o.1 n w
 
 pub free_ended : (n : ℕ) (e : Exit) (w : Components) → handed_in (ended n e w).parts ≡ handed_in w.parts
 free_ended n e w = by (owner n w.parts)
   where
-    by : (o : Option (ℕ × Step)) → handed_in (elim o as (λ x. Components) [ None ↦ w | Some o ↦ gone_by (Some (event.Ended o.1 e)) o.0 o.1 n w ]).parts ≡ handed_in w.parts
+    by : (o : Option (ℕ × Step)) → handed_in (elim o as (λ x. Components) [ None ↦ w | Some o ↦ gone_by (Some (event.Ended o.1 e)) o.0 o.1 n w ]).parts
+        ≡ handed_in w.parts
     by None = refl
     by (Some o) = gone_by_same (Some (event.Ended o.1 e)) o.0 o.1 n w
 

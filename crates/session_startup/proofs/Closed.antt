@@ -1,5 +1,6 @@
 -- The close of a deployment in a history.
-use Rattle.std.specs.Prelude.{Contains, ℕ, ◌==◌, nat_eq, nat_lt, length, Bool, true, false, List, [], ◌∷◌, ◌++◌, Option, Some, None, IsSome, is_some, if◌then◌else◌}
+use Rattle.std.specs.Prelude.{Contains, ℕ, ◌==◌, nat_eq, nat_lt, length, Bool, true, false, List, [], ◌∷◌, ◌++◌, Option, Some, None, IsSome, is_some}
+use Rattle.std.specs.Prelude.{if◌then◌else◌}
 use Rattle.std.specs.List.{list_any, position_or_len}
 use Rattle.std.specs.Option.{IsSomeAnd, option_map_or}
 use Rattle.std.proofs.Common.{◌≡◌, ◌↔◌, ◌∙◌, inl, refl, sym, ap, subst, arith}
@@ -83,25 +84,30 @@ pends d o = record d { pending = o }
 pub may_complete : (d : Device) → IsIn stages.Activating d → has_three (duty_of d).counts ≡ false → Allowed d (stored.Closed outcomes.Successful)
 may_complete d is few = by d.pending is few
   where
-    by : (o : Option Pending) → IsSomeAnd o (λ q. q.stage ≡ stages.Activating) → has_three (duty_of (pends d o)).counts ≡ false → IsSomeAnd o (λ q. MayClose q outcomes.Successful)
+    by : (o : Option Pending) → IsSomeAnd o (λ q. q.stage ≡ stages.Activating) → has_three (duty_of (pends d o)).counts ≡ false →
+        IsSomeAnd o (λ q. MayClose q outcomes.Successful)
     by None is few = absurd is
     by (Some q) is few = (is, none_of (broken q) (three_same q ∙ ap has_three (sym (counts_in (pends d (Some q)) q q.stage)) ∙ few))
 
-pub outcome_of : (d : Device) (b : Bool) → IsIn stages.Rolling d → has_three (duty_of d).counts ≡ b → rolled_outcome d ≡ (if b then outcomes.UnableToRollback else outcomes.RollbackComplete)
+pub outcome_of : (d : Device) (b : Bool) → IsIn stages.Rolling d → has_three (duty_of d).counts ≡ b →
+    rolled_outcome d ≡ (if b then outcomes.UnableToRollback else outcomes.RollbackComplete)
 outcome_of d b is three = ap (λ (x : Bool). if x then outcomes.UnableToRollback else outcomes.RollbackComplete) (by d.pending is three)
   where
-    by : (o : Option Pending) → IsSomeAnd o (λ q. q.stage ≡ stages.Rolling) → has_three (duty_of (pends d o)).counts ≡ b → option_map_or (λ q. is_some (broken q)) o false ≡ b
+    by : (o : Option Pending) → IsSomeAnd o (λ q. q.stage ≡ stages.Rolling) → has_three (duty_of (pends d o)).counts ≡ b →
+        option_map_or (λ q. is_some (broken q)) o false ≡ b
     by None is three = absurd is
     by (Some q) is three = three_same q ∙ ap has_three (sym (counts_in (pends d (Some q)) q q.stage)) ∙ three
 
-pub completes : (p : SessionState) (d : Device) (world : Components) (told : Told) (living : List ℕ) → IsIn stages.Activating d → HasNoActLeft p d false world told living → Allowed d (stored.Closed outcomes.Successful)
+pub completes : (p : SessionState) (d : Device) (world : Components) (told : Told) (living : List ℕ) → IsIn stages.Activating d →
+    HasNoActLeft p d false world told living → Allowed d (stored.Closed outcomes.Successful)
 completes p d world told living is r = may_complete d is (ap (λ (x : Device). has_three (duty_of x).counts) (sym r.device_is) ∙ r.counts)
 
 -- the outcome by whether one has three failures
 abbrev pub set_outcome : Bool → Outcome
 set_outcome b = if b then outcomes.UnableToRollback else outcomes.RollbackComplete
 
-pub rolls : (p : SessionState) (d : Device) (b : Bool) (world : Components) (told : Told) (living : List ℕ) → IsIn stages.Rolling d → HasNoActLeft p d b world told living → rolled_outcome d ≡ set_outcome b
+pub rolls : (p : SessionState) (d : Device) (b : Bool) (world : Components) (told : Told) (living : List ℕ) → IsIn stages.Rolling d →
+    HasNoActLeft p d b world told living → rolled_outcome d ≡ set_outcome b
 rolls p d b world told living is r = outcome_of d b is (ap (λ (x : Device). has_three (duty_of x).counts) (sym r.device_is) ∙ r.counts)
 
 pub roll_allowed : (d : Device) (b : Bool) → IsIn stages.Rolling d → rolled_outcome d ≡ set_outcome b → Allowed d (stored.Closed (set_outcome b))
@@ -116,7 +122,8 @@ last_in d (Some q) o h = refl
 pub last_closed : (d e : Device) (o : Outcome) → IsSome d.pending → e ≡ applied d (stored.Closed o) → e.closed ≡ d.closed ++ (id_of d, o) ∷ []
 last_closed d e o h same = ap (λ (x : Device). x.closed) same ∙ last_in d d.pending o h
 
-pub line_closed : (p : SessionState) (d : Device) (o : Outcome) → p.device ≡ d → closed_line (id_of d) o ≡ lines_of p.device (records_of (Recorded (stored.Closed o) ∷ []))
+pub line_closed : (p : SessionState) (d : Device) (o : Outcome) → p.device ≡ d → closed_line (id_of d) o ≡ lines_of p.device
+    (records_of (Recorded (stored.Closed o) ∷ []))
 line_closed p d o device = ap (λ (x : Device). closed_line (id_of x) o) (sym device) ∙ sym (append-nil (line_of p.device (stored.Closed o)))
 
 pub pends_in : (s : Stage) (d : Device) → IsIn s d → IsSome d.pending
@@ -138,7 +145,8 @@ present_is c is = rw is refl
 not_closing : (c : Generation) → c ≡ current → is_shutting_down c ≡ false
 not_closing c is = rw is refl
 
-pub closed_at : (p : SessionState) (d e : Device) (b : Bool) (o : Outcome) (world : Components) (told : Told) (living : List ℕ) → IsSome d.pending → HasNoActLeft p d b world told living → e ≡ applied d (stored.Closed o)
+pub closed_at : (p : SessionState) (d e : Device) (b : Bool) (o : Outcome) (world : Components) (told : Told) (living : List ℕ) → IsSome d.pending →
+    HasNoActLeft p d b world told living → e ≡ applied d (stored.Closed o)
     → HasClosed o (records_of (Recorded (stored.Closed o) ∷ [])) (leaves p (Recorded (stored.Closed o))) e (steadied world) told living
 closed_at p d e b o world told living pending r same =
     let w = r.runs.within in
@@ -147,7 +155,8 @@ closed_at p d e b o world told living pending r same =
       stands = record {
         device_is = ap (λ (x : Device). applied x (stored.Closed o)) r.device_is ∙ sym same;
         world_is = sym (later_same told.moment (steadied p.world) w.moment) ∙ ap (λ (v : Components). later told.moment (steadied v)) (sym r.runs.world_is);
-        answered = ap (λ (v : Components). has_answered (steadied v)) r.runs.world_is ∙ free_is (steadied p.world) (free_steadied p.world ∙ is_free p.world w.answered);
+        answered = ap (λ (v : Components). has_answered (steadied v)) r.runs.world_is ∙ free_is (steadied p.world)
+            (free_steadied p.world ∙ is_free p.world w.answered);
         not_before = omega (arith, w.moment, ap (λ (v : Components). v.moment) r.runs.world_is);
         asked = w.asked;
         children = λ n. (
@@ -170,7 +179,9 @@ closed_at p d e b o world told living pending r same =
     }
 
 -- where the call gives up behind the close, whether or not the supervisor knows of it
-pub closed_quits : (p : SessionState) (d : Device) (b : Bool) (o : Outcome) (world now : Components) (told : Told) (living : List ℕ) → HasNoActLeft p d b world told living → ((n : ℕ) → owner n now.parts ≡ owner n p.world.parts) → MayAbort (leaves p (Recorded (stored.Closed o))) now told living
+pub closed_quits : (p : SessionState) (d : Device) (b : Bool) (o : Outcome) (world now : Components) (told : Told) (living : List ℕ) →
+    HasNoActLeft p d b world told living → ((n : ℕ) → owner n now.parts ≡ owner n p.world.parts) →
+    MayAbort (leaves p (Recorded (stored.Closed o))) now told living
 closed_quits p d b o world now told living r same =
     let w = r.runs.within in
     record {
@@ -186,37 +197,50 @@ closed_quits p d b o world now told living r same =
       children = λ n. subst (λ (x : Option (ℕ × Step)). Contains living n ↔ IsSome x) (sym (owner_steadied n p.world)) (w.children n);
     }
 
-pub same_owners : (p : SessionState) (d : Device) (b : Bool) (world : Components) (told : Told) (living : List ℕ) → HasNoActLeft p d b world told living → (n : ℕ) → owner n world.parts ≡ owner n p.world.parts
+pub same_owners : (p : SessionState) (d : Device) (b : Bool) (world : Components) (told : Told) (living : List ℕ) → HasNoActLeft p d b world told living →
+    (n : ℕ) → owner n world.parts ≡ owner n p.world.parts
 same_owners p d b world told living r n = ap (λ (v : Components). owner n v.parts) r.runs.world_is
 
-pub steadied_owners : (p : SessionState) (d : Device) (b : Bool) (world now : Components) (told : Told) (living : List ℕ) → HasNoActLeft p d b world told living → now ≡ steadied world → (n : ℕ) → owner n now.parts ≡ owner n p.world.parts
-steadied_owners p d b world now told living r is n = ap (λ (v : Components). owner n v.parts) is ∙ owner_steadied n world ∙ same_owners p d b world told living r n
+pub steadied_owners : (p : SessionState) (d : Device) (b : Bool) (world now : Components) (told : Told) (living : List ℕ) →
+    HasNoActLeft p d b world told living → now ≡ steadied world → (n : ℕ) → owner n now.parts ≡ owner n p.world.parts
+steadied_owners p d b world now told living r is n = ap (λ (v : Components). owner n v.parts) is ∙ owner_steadied n world ∙ same_owners p d b world told
+    living r n
 
-close_follows : (p : SessionState) (d : Device) (b : Bool) (o : Outcome) (world : Components) (told : Told) (living : List ℕ) → HasNoActLeft p d b world told living → MayEnd p o → MayFollow p (Recorded (stored.Closed o))
+close_follows : (p : SessionState) (d : Device) (b : Bool) (o : Outcome) (world : Components) (told : Told) (living : List ℕ) →
+    HasNoActLeft p d b world told living → MayEnd p o → MayFollow p (Recorded (stored.Closed o))
 close_follows p d b o world told living r may =
-    let on = r.runs.within.on in
-    ((record { told = r.quiet.told; alone = on.boot; no_end = on.boot_end; on = not_closing p.generation on.generation }, may), (λ cut. absurd (never p.cut on.cut cut)), on.over)
+    let on = r.runs.within.on in (
+      (record { told = r.quiet.told; alone = on.boot; no_end = on.boot_end; on = not_closing p.generation on.generation }, may),
+      (λ cut. absurd (never p.cut on.cut cut)),
+      on.over,
+    )
 
 -- all are up
-pub ends_up : (p : SessionState) (d : Device) (b : Bool) (world : Components) (told : Told) (living : List ℕ) → HasNoActLeft p d b world told living → is_settled p.world ≡ true → MayEnd p outcomes.Successful
+pub ends_up : (p : SessionState) (d : Device) (b : Bool) (world : Components) (told : Told) (living : List ℕ) → HasNoActLeft p d b world told living →
+    is_settled p.world ≡ true → MayEnd p outcomes.Successful
 ends_up p d b world told living r up = (present_is p.generation r.runs.within.on.generation, up)
 
-pub ends_set : (p : SessionState) (d : Device) (b : Bool) (world : Components) (told : Told) (living : List ℕ) → HasNoActLeft p d b world told living → (b ≡ false → is_settled p.world ≡ true) → MayEnd p (if b then outcomes.UnableToRollback else outcomes.RollbackComplete)
+pub ends_set : (p : SessionState) (d : Device) (b : Bool) (world : Components) (told : Told) (living : List ℕ) → HasNoActLeft p d b world told living →
+    (b ≡ false → is_settled p.world ≡ true) → MayEnd p (if b then outcomes.UnableToRollback else outcomes.RollbackComplete)
 ends_set p d true world told living r up = tt
 ends_set p d false world told living r up = (present_is p.generation r.runs.within.on.generation, up refl)
 
 -- ---- over a disk
 
-module _ (entries : Image → List (List ℕ) → Type 0) (files : List ℕ → Type 0) {D : Type 0} {may_leave : D → Image → Type 0} {moment : D → ℕ} {left_since : D → ℕ → Image → Type 0} {is_modelled : Bool} {seen : D → Image}
+module _ (entries : Image → List (List ℕ) → Type 0) (files : List ℕ → Type 0) {D : Type 0} {may_leave : D → Image → Type 0} {moment : D → ℕ} {left_since : D →
+    ℕ → Image → Type 0} {is_modelled : Bool} {seen : D → Image}
     (laws : DiskLaws is_modelled seen may_leave moment left_since) where
   abbrev pub Notes : D → D → Device → Record → Type 0
   Notes old new d r = Leaves moment left_since old new (LeavesEither may_leave files entries old d (applied d r))
 
-  pub close_went : (old new : D) (list : Option (List RunnerEntry)) (p : SessionState) (d : Device) (b : Bool) (o : Outcome) (world : Components) (told : Told) (living : List ℕ) → HasNoActLeft p d b world told living → MayEnd p o → Allowed d (stored.Closed o)
+  pub close_went : (old new : D) (list : Option (List RunnerEntry)) (p : SessionState) (d : Device) (b : Bool) (o : Outcome) (world : Components)
+      (told : Told) (living : List ℕ) → HasNoActLeft p d b world told living → MayEnd p o → Allowed d (stored.Closed o)
       → Notes old new d (stored.Closed o) → IsTrace entries files may_leave moment left_since old new list list p (Recorded (stored.Closed o) ∷ [])
   close_went old new list p d b o world told living r may allowed notes =
       let same = sym r.device_is in
-      kept_one entries files laws old new list p (stored.Closed o) (close_follows p d b o world told living r may) (subst (λ (x : Device). Allowed x (stored.Closed o)) same allowed) (subst (λ (x : Device). Notes old new x (stored.Closed o)) same notes)
+      kept_one entries files laws old new list p (stored.Closed o) (close_follows p d b o world told living r may)
+      (subst (λ (x : Device). Allowed x (stored.Closed o)) same allowed) (subst (λ (x : Device). Notes old new x (stored.Closed o)) same notes)
 
-  pub close_doubt : (old new : D) (p : SessionState) (d : Device) (o : Outcome) → p.device ≡ d → Allowed d (stored.Closed o) → Notes old new d (stored.Closed o) → LeftAt entries may_leave new p (Recorded (stored.Closed o) ∷ []) over.Disk
+  pub close_doubt : (old new : D) (p : SessionState) (d : Device) (o : Outcome) → p.device ≡ d → Allowed d (stored.Closed o) →
+      Notes old new d (stored.Closed o) → LeftAt entries may_leave new p (Recorded (stored.Closed o) ∷ []) over.Disk
   close_doubt old new p d o same allowed notes = doubt_at entries files laws old new p d (stored.Closed o) same allowed notes

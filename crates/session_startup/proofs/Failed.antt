@@ -49,7 +49,8 @@ less (Some c) f h = h.1
 abbrev pends : Device → Option Pending → Device
 pends d o = record d { pending = o }
 
-may : (d : Device) (o : Option Pending) (n : List ℕ) (f : ℕ) (s : Step) (e : Exit) → AgreesBy (pends d o) n f (Some (s, e)) → IsSomeAnd o (λ q. MayFail d.set n s e q)
+may : (d : Device) (o : Option Pending) (n : List ℕ) (f : ℕ) (s : Step) (e : Exit) → AgreesBy (pends d o) n f (Some (s, e)) →
+    IsSomeAnd o (λ q. MayFail d.set n s e q)
 may d None n f s e h = absurd h.0
 may d (Some q) n f s e h = (less (option_and_then (slice_get q.failures) (failing_place d.set q n)) f h.0, h.1, h.2)
 
@@ -70,29 +71,35 @@ some_same : (a c : List ℕ) → Some a ≡ Some c → a ≡ c
 some_same a c e = ap (λ (o : Option (List ℕ)). elim o [ None ↦ a | Some y ↦ y ]) e
 
 -- by the name that the supervisor tells
-can_fail : (d : Device) (w : Components) (k : ℕ) (s : Step) (e : Exit) (b : Bool) (n : List ℕ) → Keeps d w → OwesAt w k s e b → slice_get (map component_name (told_at k w).parts) k ≡ Some n → CanFail d w k s e n
+can_fail : (d : Device) (w : Components) (k : ℕ) (s : Step) (e : Exit) (b : Bool) (n : List ℕ) → Keeps d w → OwesAt w k s e b →
+    slice_get (map component_name (told_at k w).parts) k ≡ Some n → CanFail d w k s e n
 can_fail d w k s e b n keeps owes is =
     let x = named k w.parts _ owes in
     let same : component_name x.part ≡ n = some_same (component_name x.part) n (sym x.name ∙ is) in
     let counts = keeps.counted k x.part x.there in
     let place = subst (λ (m : List ℕ). place_of m w.parts ≡ Some k) same x.has.2 in
     record {
-      allowed = may d d.pending n x.part.life.failures s e (subst (λ (m : List ℕ). AgreesBy d m x.part.life.failures (Some (s, e))) same (agrees d x.part (s, e) counts x.has.0));
-      owes = owes_by (place_of n w.parts) k (λ j. At j (λ p. p.owed ≡ Some (s, e)) w.parts) place (at_part (slice_get w.parts k) x.part (λ p. p.owed ≡ Some (s, e)) x.there x.has.0);
+      allowed = may d d.pending n x.part.life.failures s e (subst (λ (m : List ℕ). AgreesBy d m x.part.life.failures (Some (s, e))) same
+          (agrees d x.part (s, e) counts x.has.0));
+      owes = owes_by (place_of n w.parts) k (λ j. At j (λ p. p.owed ≡ Some (s, e)) w.parts) place
+          (at_part (slice_get w.parts k) x.part (λ p. p.owed ≡ Some (s, e)) x.there x.has.0);
       place = place;
       named = at_part (slice_get w.parts k) x.part (λ p. component_name p ≡ n) x.there same;
     }
 
 -- the same of the supervisor's components, where the failure was told
-pub can_tell : (d : Device) (w v : Components) (k : ℕ) (s : Step) (e : Exit) (b : Bool) (n : List ℕ) → Keeps d w → OwesAt w k s e b → v ≡ told_at k w → slice_get (map component_name v.parts) k ≡ Some n → CanFail d w k s e n
-can_tell d w v k s e b n keeps owes is name = can_fail d w k s e b n keeps owes (subst (λ (x : Components). slice_get (map component_name x.parts) k ≡ Some n) is name)
+pub can_tell : (d : Device) (w v : Components) (k : ℕ) (s : Step) (e : Exit) (b : Bool) (n : List ℕ) → Keeps d w → OwesAt w k s e b → v ≡ told_at k w →
+    slice_get (map component_name v.parts) k ≡ Some n → CanFail d w k s e n
+can_tell d w v k s e b n keeps owes is name = can_fail d w k s e b n keeps owes
+    (subst (λ (x : Components). slice_get (map component_name x.parts) k ≡ Some n) is name)
 
 pub within_told : (w v : Components) (k : ℕ) (s : Step) (e : Exit) (b : Bool) → OwesAt w k s e b → v ≡ told_at k w → k < length v.parts
 within_told w v k s e b owes is = subst (λ (x : Components). k < length x.parts) (sym is) (named k w.parts _ owes).within
 
 -- ---- the stage
 
-phase_in : (d e : Device) (q : Pending) (s : Stage) (x : Option ℕ) → (duty_in e (counted x (record q { stage = s }))).phase ≡ (duty_in d (record q { stage = s })).phase
+phase_in : (d e : Device) (q : Pending) (s : Stage) (x : Option ℕ) → (duty_in e (counted x (record q { stage = s }))).phase
+    ≡ (duty_in d (record q { stage = s })).phase
 phase_in d e q stages.Booting None = refl
 phase_in d e q stages.Booting (Some k) = refl
 phase_in d e q stages.Activating None = refl
@@ -102,7 +109,8 @@ phase_in d e q stages.Backing (Some k) = refl
 phase_in d e q stages.Rolling None = refl
 phase_in d e q stages.Rolling (Some k) = refl
 
-same_phase : (d : Device) (o : Option Pending) (n : List ℕ) (s : Step) (e : Exit) → (duty_of (applied (pends d o) (stored.StepFailed n s e))).phase ≡ (duty_of (pends d o)).phase
+same_phase : (d : Device) (o : Option Pending) (n : List ℕ) (s : Step) (e : Exit) → (duty_of (applied (pends d o) (stored.StepFailed n s e))).phase
+    ≡ (duty_of (pends d o)).phase
 same_phase d None n s e = refl
 same_phase d (Some q) n s e = phase_in (pends d (Some q)) (pends d (Some (count_failure d.set n q))) q q.stage (failing_place d.set q n)
 

@@ -1,5 +1,6 @@
 -- What is kept of the components while a turn goes, and the number of the loops.
-use Rattle.std.specs.Prelude.{Err, IsErrOf, ℕ, suc, zero, ◌==◌, Bool, true, false, not, ◌&&◌, ◌||◌, List, [], ◌∷◌, Option, Some, None, slice_get, option_and_then, is_some}
+use Rattle.std.specs.Prelude.{Err, IsErrOf, ℕ, suc, zero, ◌==◌, Bool, true, false, not, ◌&&◌, ◌||◌, List, [], ◌∷◌, Option, Some, None, slice_get}
+use Rattle.std.specs.Prelude.{option_and_then, is_some}
 use Rattle.std.specs.List.{AllByRecursion, list_any}
 use Rattle.std.proofs.Common.{◌≡◌, ◌⊎◌, ◌<◌, ◌+◌, ◌^◌, ◌∙◌, inl, inr, refl, sym, ap, subst}
 use Rattle.std.proofs.lemmas.Bool.{and_parts, or_parts, or_right}
@@ -11,7 +12,8 @@ use Rattle.nuc_base.specs.declared.kinds.Exit.{Exit}
 use Rattle.nuc_base.specs.declared.kinds.Step.{Step}
 use Rattle.step_runner.specs.Entries.{Told}
 use Rattle.components.specs.Turns.{owes}
-use Rattle.components.specs.Components.{ComponentState, Components, has_broken, is_again, is_broken, is_gone, is_leaving, is_settled, is_spared, component_name, under_way}
+use Rattle.components.specs.Components.{ComponentState, Components, has_broken, is_again, is_broken, is_gone, is_leaving, is_settled, is_spared}
+use Rattle.components.specs.Components.{component_name, under_way}
 use Rattle.law_supervisor.specs.Keeps.{AgreesBy, Keeps, count_of}
 use Rattle.law_supervisor.specs.Sound.{IsSoundPart, is_to_begin_again, is_waiting}
 use Rattle.histories.specs.Phases.{duty_in, duty_of}
@@ -53,7 +55,8 @@ one_of f (p ∷ ps) e = by (f p) refl (λ h. one_of f ps h) e
 
 none_at : (f : ComponentState → Bool) (ps : List ComponentState) (k : ℕ) (p : ComponentState) → slice_get ps k ≡ Some p → list_any f ps ≡ false → f p ≡ false
 none_at f [] k p e h = absurd (cc)
-none_at f (q ∷ qs) zero p e h = subst (λ (x : ComponentState). f x ≡ false) (ap (λ (o : Option ComponentState). elim o [ None ↦ q | Some x ↦ x ]) e) (or_parts (f q) (list_any f qs) h).0
+none_at f (q ∷ qs) zero p e h = subst (λ (x : ComponentState). f x ≡ false) (ap (λ (o : Option ComponentState). elim o [ None ↦ q | Some x ↦ x ]) e)
+    (or_parts (f q) (list_any f qs) h).0
 none_at f (q ∷ qs) (suc k) p e h = none_at f qs k p e (or_parts (f q) (list_any f qs) h).1
 
 none_of : {A : Type 0} (o : Option A) → is_some o ≡ false → o ≡ None
@@ -83,7 +86,8 @@ three_in (Some k) counts e = by k counts e
   where
     by : (k : ℕ) (cs : List ℕ) → slice_get cs k ≡ Some 3 → has_three cs ≡ true
     by k [] e = absurd (cc)
-    by zero (c ∷ cs) e = let is : c ≡ 3 = ap (λ (o : Option ℕ). elim o [ None ↦ c | Some x ↦ x ]) e in subst (λ (n : ℕ). (n == 3 || has_three cs) ≡ true) (sym is) refl
+    by zero (c ∷ cs) e = let is : c ≡ 3 = ap (λ (o : Option ℕ). elim o [ None ↦ c | Some x ↦ x ]) e in subst (λ (n : ℕ). (n == 3 || has_three cs) ≡ true)
+        (sym is) refl
     by (suc k) (c ∷ cs) e = or_right (c == 3) (has_three cs) (by k cs e)
 
 abbrev found_in : Device → List ℕ → Option Pending → Option ℕ
@@ -106,21 +110,26 @@ agreed : (d : Device) (n : List ℕ) (f : ℕ) (o : Option (Step × Exit)) → o
 agreed d n f None e a = a
 agreed d n f (Some x) e a = absurd (cc)
 
-driven_at : (s : List ℕ → ℕ) (all ps : List ComponentState) (k : ℕ) (p : ComponentState) → AllByRecursion (IsDriven s all) ps → slice_get ps k ≡ Some p → p.next ≡ None
+driven_at : (s : List ℕ → ℕ) (all ps : List ComponentState) (k : ℕ) (p : ComponentState) → AllByRecursion (IsDriven s all) ps → slice_get ps k ≡ Some p →
+    p.next ≡ None
 driven_at s all [] k p a e = absurd (cc)
-driven_at s all (q ∷ qs) zero p a e = subst (λ (x : ComponentState). x.next ≡ None) (ap (λ (o : Option ComponentState). elim o [ None ↦ q | Some x ↦ x ]) e) a.0.next
+driven_at s all (q ∷ qs) zero p a e = subst (λ (x : ComponentState). x.next ≡ None) (ap (λ (o : Option ComponentState). elim o [ None ↦ q | Some x ↦ x ]) e)
+    a.0.next
 driven_at s all (q ∷ qs) (suc k) p a e = driven_at s all qs k p a.1 e
 
-pub broken_three : (d : Device) (w : Components) → Keeps d w → Rises w → list_any owes w.parts ≡ false → has_broken w ≡ true → has_three (duty_of d).counts ≡ true
+pub broken_three : (d : Device) (w : Components) → Keeps d w → Rises w → list_any owes w.parts ≡ false → has_broken w ≡ true →
+    has_three (duty_of d).counts ≡ true
 broken_three d w keeps r told e =
     let o = one_of (λ p. is_broken p.life.state && not p.life.gone) w.parts e in
     let p = o.part in
     let x = and_parts (is_broken p.life.state) (not p.life.gone) o.passes in
     let gone = not_false p.life.gone x.1 in
-    let spared = stands_unspared p (keeps.sound o.k p o.there) (driven_at r.drives.s w.parts w.parts o.k p r.drives.each o.there) (none_at is_leaving w.parts o.k p o.there r.stays) in
+    let spared = stands_unspared p (keeps.sound o.k p o.there) (driven_at r.drives.s w.parts w.parts o.k p r.drives.each o.there)
+    (none_at is_leaving w.parts o.k p o.there r.stays) in
     let c = keeps.counted o.k p o.there in
     let owed = none_of p.owed (none_at owes w.parts o.k p o.there told) in
-    counts_three d (component_name p) (agreed d (component_name p) p.life.failures p.owed owed (c.own spared gone) ∙ ap (λ (n : ℕ). Some n) (c.broken spared gone x.0))
+    counts_three d (component_name p) (agreed d (component_name p) p.life.failures p.owed owed (c.own spared gone) ∙ ap (λ (n : ℕ). Some n)
+    (c.broken spared gone x.0))
 
 -- ---- no act is left, and there is something to wait for
 
@@ -144,7 +153,8 @@ sits_time p world told living s r = subst (λ (w : Components). Goes w) (sym s.r
 
     by : (is_settled p.world ≡ true) ⊎ (has_broken p.world ≡ true) ⊎ Goes p.world → Goes p.world
     by (inl e) = clash (is_settled p.world) e (at_work (is_settled p.world) (has_three (duty_of p.device).counts) s.work).0
-    by (inr (inl e)) = clash (has_three (duty_of p.device).counts) (broken_three p.device p.world s.runs.within.keeps own s.quiet.told e) (at_work (is_settled p.world) (has_three (duty_of p.device).counts) s.work).1
+    by (inr (inl e)) = clash (has_three (duty_of p.device).counts) (broken_three p.device p.world s.runs.within.keeps own s.quiet.told e)
+        (at_work (is_settled p.world) (has_three (duty_of p.device).counts) s.work).1
     by (inr (inr t)) = t
 
 -- ---- a fault is handed on

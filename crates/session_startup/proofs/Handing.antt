@@ -15,21 +15,28 @@ use Rattle.session_startup.specs.Laws.{Laws}
 use Rattle.session_startup.specs.Runs.{HasFailed, IsStarting, IsWithin, IsInTurn}
 use Rattle.session_startup.proofs.Entering.{MovedTo, moves_on}
 
-pub moved : Laws → (p : SessionState) (v w : Components) (told : Told) (living : List ℕ) (list : Option (List RunnerEntry)) (a : Option Act) → IsInTurn p v told living → (n : NextAct v a w) → MovedTo p told living list n.seen
-moved laws p v w told living list a r n = moves_on laws p told living list n.seen n.made (subst (λ (x : Components). Quietly x n.made n.seen) r.world_is n.quietly) r.within r.probed
+pub moved : Laws → (p : SessionState) (v w : Components) (told : Told) (living : List ℕ) (list : Option (List RunnerEntry)) (a : Option Act) →
+    IsInTurn p v told living → (n : NextAct v a w) → MovedTo p told living list n.seen
+moved laws p v w told living list a r n = moves_on laws p told living list n.seen n.made
+    (subst (λ (x : Components). Quietly x n.made n.seen) r.world_is n.quietly) r.within r.probed
 
 -- of the place that they lead to
-pub hands_at : (p : SessionState) (v w : Components) (told : Told) (living : List ℕ) (list : Option (List RunnerEntry)) (a : Option Act) (n : NextAct v a w) (m : MovedTo p told living list n.seen) → HandsOut (state_after p m.h).world a w
+pub hands_at : (p : SessionState) (v w : Components) (told : Told) (living : List ℕ) (list : Option (List RunnerEntry)) (a : Option Act) (n : NextAct v a w)
+    (m : MovedTo p told living list n.seen) → HandsOut (state_after p m.h).world a w
 hands_at p v w told living list a n m = subst (λ (x : Components). HandsOut x a w) (sym m.world_is) n.hands
 
-pub quiet_at : (q : SessionState) (w : Components) (told : Told) (living : List ℕ) → IsWithin q told living → q.probed ≡ false → HandsOut q.world None w → IsInTurn q w told living × IsQuiet q.world
+pub quiet_at : (q : SessionState) (w : Components) (told : Told) (living : List ℕ) → IsWithin q told living → q.probed ≡ false → HandsOut q.world None w →
+    IsInTurn q w told living × IsQuiet q.world
 quiet_at q w told living within probed h = (record { within = within; probed = probed; world_is = h.1 }, h.0)
 
-pub starting_at : (q : SessionState) (w : Components) (told : Told) (living : List ℕ) (k : ℕ) (t : Step) → IsWithin q told living → q.probed ≡ false → HandsOut q.world (Some (Start k t)) w → IsStarting q k t w told living
+pub starting_at : (q : SessionState) (w : Components) (told : Told) (living : List ℕ) (k : ℕ) (t : Step) → IsWithin q told living → q.probed ≡ false →
+    HandsOut q.world (Some (Start k t)) w → IsStarting q k t w told living
 starting_at q w told living k t within probed h = record { within = within; probed = probed; world_is = h.2; next = h.0; start = h.1 }
 
-pub failed_at : (q : SessionState) (w : Components) (told : Told) (living : List ℕ) (k : ℕ) (t : Step) (e : Exit) → IsWithin q told living → HandsOut q.world (Some (Failed k t e)) w → HasFailed q k t e w told living
+pub failed_at : (q : SessionState) (w : Components) (told : Told) (living : List ℕ) (k : ℕ) (t : Step) (e : Exit) → IsWithin q told living →
+    HandsOut q.world (Some (Failed k t e)) w → HasFailed q k t e w told living
 failed_at q w told living k t e within h = record { within = within; breaks = false; owes = h.0; world_is = h.1 }
 
-pub broke_at : (q : SessionState) (w : Components) (told : Told) (living : List ℕ) (k : ℕ) (t : Step) (e : Exit) → IsWithin q told living → HandsOut q.world (Some (Broke k t e)) w → HasFailed q k t e w told living
+pub broke_at : (q : SessionState) (w : Components) (told : Told) (living : List ℕ) (k : ℕ) (t : Step) (e : Exit) → IsWithin q told living →
+    HandsOut q.world (Some (Broke k t e)) w → HasFailed q k t e w told living
 broke_at q w told living k t e within h = record { within = within; breaks = true; owes = h.0; world_is = h.1 }

@@ -19,11 +19,13 @@ there : (x m : ℕ) (xs : List ℕ) → Contains xs m → Contains (x ∷ xs) m
 there x m xs h = (suc h.0, omega (arith, h.1), h.2)
 
 -- whoever is kept was there, and passes
-kept_first : (p : ℕ → Bool) (x m : ℕ) (xs : List ℕ) → (Contains (filter p xs) m → Contains xs m × (p m ≡ true)) → p x ≡ true → (x ≡ m) ⊎ Contains (filter p xs) m → Contains (x ∷ xs) m × (p m ≡ true)
+kept_first : (p : ℕ → Bool) (x m : ℕ) (xs : List ℕ) → (Contains (filter p xs) m → Contains xs m × (p m ≡ true)) → p x ≡ true → (x ≡ m) ⊎
+    Contains (filter p xs) m → Contains (x ∷ xs) m × (p m ≡ true)
 kept_first p x m xs rest is (inl same) = (here x m xs same, subst (λ (y : ℕ). p y ≡ true) same is)
 kept_first p x m xs rest is (inr more) = let k = rest more in (there x m xs k.0, k.1)
 
-kept_by : (p : ℕ → Bool) (x m : ℕ) (xs : List ℕ) (b : Bool) → (Contains (filter p xs) m → Contains xs m × (p m ≡ true)) → p x ≡ b → Contains (if b then x ∷ filter p xs else filter p xs) m → Contains (x ∷ xs) m × (p m ≡ true)
+kept_by : (p : ℕ → Bool) (x m : ℕ) (xs : List ℕ) (b : Bool) → (Contains (filter p xs) m → Contains xs m × (p m ≡ true)) → p x ≡ b →
+    Contains (if b then x ∷ filter p xs else filter p xs) m → Contains (x ∷ xs) m × (p m ≡ true)
 kept_by p x m xs true rest is h = kept_first p x m xs rest is (uncons x m (filter p xs) h)
 kept_by p x m xs false rest is h = let k = rest h in (there x m xs k.0, k.1)
 
@@ -31,7 +33,8 @@ kept : (p : ℕ → Bool) (xs : List ℕ) (m : ℕ) → Contains (filter p xs) m
 kept p [] m h = absurd (contains_none m h)
 kept p (x ∷ xs) m h = kept_by p x m xs (p x) (λ more. kept p xs m more) refl h
 
-keeps_by : (p : ℕ → Bool) (x m : ℕ) (xs : List ℕ) (b : Bool) → (Contains xs m → Contains (filter p xs) m) → p m ≡ true → p x ≡ b → (x ≡ m) ⊎ Contains xs m → Contains (if b then x ∷ filter p xs else filter p xs) m
+keeps_by : (p : ℕ → Bool) (x m : ℕ) (xs : List ℕ) (b : Bool) → (Contains xs m → Contains (filter p xs) m) → p m ≡ true → p x ≡ b → (x ≡ m) ⊎ Contains xs m →
+    Contains (if b then x ∷ filter p xs else filter p xs) m
 keeps_by p x m xs true rest passes is (inl same) = here x m (filter p xs) same
 keeps_by p x m xs true rest passes is (inr more) = there x m (filter p xs) (rest more)
 keeps_by p x m xs false rest passes is (inl same) = let no_pass = subst (λ (y : ℕ). p y ≡ false) same is in absurd cc

@@ -25,24 +25,39 @@ use Rattle.session_startup.specs.declared.turns.Turned.{Turned}
 pub apart : true ≡ false → ⊥
 apart is = absurd cc
 
-pub left_plan : {J : Type 0} (s : Coming J) (a : Activating J) (k t : Turned) (q : SessionState) (world : Components) (told : Told) (living : List ℕ) → s ≡ coming.Plan a → k ≡ t → TurnLeft (Some k) q (coming_device s) world told living → TurnLeft (Some t) q (activating_device a) world told living
-left_plan s a k t q world told living is kind h = subst (λ (x : Turned). TurnLeft (Some x) q (activating_device a) world told living) kind (subst (λ (d : Device). TurnLeft (Some k) q d world told living) (ap coming_device is) h)
+pub left_plan : {J : Type 0} (s : Coming J) (a : Activating J) (k t : Turned) (q : SessionState) (world : Components) (told : Told) (living : List ℕ) →
+    s ≡ coming.Plan a → k ≡ t → TurnLeft (Some k) q (coming_device s) world told living → TurnLeft (Some t) q (activating_device a) world told living
+left_plan s a k t q world told living is kind h = subst (λ (x : Turned). TurnLeft (Some x) q (activating_device a) world told living) kind
+    (subst (λ (d : Device). TurnLeft (Some k) q d world told living) (ap coming_device is) h)
 
-pub left_set : {J : Type 0} (s : Coming J) (a : Rolling J) (k t : Turned) (q : SessionState) (world : Components) (told : Told) (living : List ℕ) → s ≡ coming.Set a → k ≡ t → TurnLeft (Some k) q (coming_device s) world told living → TurnLeft (Some t) q (rolling_device a) world told living
-left_set s a k t q world told living is kind h = subst (λ (x : Turned). TurnLeft (Some x) q (rolling_device a) world told living) kind (subst (λ (d : Device). TurnLeft (Some k) q d world told living) (ap coming_device is) h)
+pub left_set : {J : Type 0} (s : Coming J) (a : Rolling J) (k t : Turned) (q : SessionState) (world : Components) (told : Told) (living : List ℕ) →
+    s ≡ coming.Set a → k ≡ t → TurnLeft (Some k) q (coming_device s) world told living → TurnLeft (Some t) q (rolling_device a) world told living
+left_set s a k t q world told living is kind h = subst (λ (x : Turned). TurnLeft (Some x) q (rolling_device a) world told living) kind
+    (subst (λ (d : Device). TurnLeft (Some k) q d world told living) (ap coming_device is) h)
 
-pub held_plan : {J D : Type 0} (is_modelled : Bool) (may_leave : D → Image → Type 0) (stands : J → Image → List (List ℕ) → Type 0) (end : J → ℕ) (s : Coming J) (a : Activating J) (disk : D) → s ≡ coming.Plan a → OwnsComing is_modelled may_leave stands end s disk → OwnsActivating is_modelled may_leave stands end a disk
+pub held_plan : {J D : Type 0} (is_modelled : Bool) (may_leave : D → Image → Type 0) (stands : J → Image → List (List ℕ) → Type 0) (end : J → ℕ)
+    (s : Coming J) (a : Activating J) (disk : D) → s ≡ coming.Plan a → OwnsComing is_modelled may_leave stands end s disk →
+    OwnsActivating is_modelled may_leave stands end a disk
 held_plan is_modelled may_leave stands end s a disk is h = subst (λ (x : Coming _). OwnsComing is_modelled may_leave stands end x disk) is h
 
-pub held_set : {J D : Type 0} (is_modelled : Bool) (may_leave : D → Image → Type 0) (stands : J → Image → List (List ℕ) → Type 0) (end : J → ℕ) (s : Coming J) (a : Rolling J) (disk : D) → s ≡ coming.Set a → OwnsComing is_modelled may_leave stands end s disk → OwnsRolling is_modelled may_leave stands end a disk
+pub held_set : {J D : Type 0} (is_modelled : Bool) (may_leave : D → Image → Type 0) (stands : J → Image → List (List ℕ) → Type 0) (end : J → ℕ) (s : Coming J)
+    (a : Rolling J) (disk : D) → s ≡ coming.Set a → OwnsComing is_modelled may_leave stands end s disk → OwnsRolling is_modelled may_leave stands end a disk
 held_set is_modelled may_leave stands end s a disk is h = subst (λ (x : Coming _). OwnsComing is_modelled may_leave stands end x disk) is h
 
 -- the last record of the second part is that of both
 closes_on : (o : Outcome) (h g : List TraceEvent) → ClosesAs o (records_of g) → ClosesAs o (records_of (g ++ h))
-closes_on o h g e = (records_of h ++ e.0, records-append g h ∙ ap (λ (l : List Record). records_of h ++ l) e.1 ∙ sym (append_assoc (records_of h) e.0 (Closed o ∷ [])))
+closes_on o h g e = (
+  records_of h ++ e.0,
+  records-append g h ∙ ap (λ (l : List Record). records_of h ++ l) e.1 ∙ sym
+      (append_assoc (records_of h) e.0 (Closed o ∷ [])),
+)
 
-pub closed_on : (o : Outcome) (p : SessionState) (h g : List TraceEvent) (d : Device) (world : Components) (told : Told) (living : List ℕ) → HasClosed o (records_of g) (state_after (state_after p h) g) d world told living → HasClosed o (records_of (g ++ h)) (state_after p (g ++ h)) d world told living
-closed_on o p h g d world told living c = subst (λ (q : SessionState). HasClosed o (records_of (g ++ h)) q d world told living) (sym (left-append p g h)) (record { stands = c.stands; back = c.back; orderly = c.orderly; closed = closes_on o h g c.closed })
+pub closed_on : (o : Outcome) (p : SessionState) (h g : List TraceEvent) (d : Device) (world : Components) (told : Told) (living : List ℕ) →
+    HasClosed o (records_of g) (state_after (state_after p h) g) d world told living → HasClosed o (records_of (g ++ h)) (state_after p (g ++ h)) d world told
+    living
+closed_on o p h g d world told living c = subst (λ (q : SessionState). HasClosed o (records_of (g ++ h)) q d world told living) (sym (left-append p g h))
+    (record { stands = c.stands; back = c.back; orderly = c.orderly; closed = closes_on o h g c.closed })
 
-pub broken_of : (q : SessionState) (d : Device) (world : Components) (told : Told) (living : List ℕ) → HasNoActLeft q d true world told living → HasBroken q d world told living
+pub broken_of : (q : SessionState) (d : Device) (world : Components) (told : Told) (living : List ℕ) → HasNoActLeft q d true world told living →
+    HasBroken q d world told living
 broken_of q d world told living r = record { comes = comes_of q d world told living r.runs r.device_is; quiet = r.quiet; counts = r.counts }

@@ -19,7 +19,8 @@ use Rattle.session_startup.specs.Runs.{IsReadyToWait, MayAbort, HasNoActLeft, Is
 neither : (x y : Bool) → x ≡ false → y ≡ false → (not x && not y) ≡ true
 neither x y a b = rw (a, b) refl
 
-pub rests : (q : SessionState) (d : Device) (world : Components) (told : Told) (living : List ℕ) (none broken v : Bool) → ActLeft q d none world told living → none ≡ true → broken ≡ has_three (duty_of d).counts → broken ≡ v → HasNoActLeft q d v world told living
+pub rests : (q : SessionState) (d : Device) (world : Components) (told : Told) (living : List ℕ) (none broken v : Bool) → ActLeft q d none world told living →
+    none ≡ true → broken ≡ has_three (duty_of d).counts → broken ≡ v → HasNoActLeft q d v world told living
 rests q d world told living none broken v a all is v_is = record {
   runs = a.runs;
   device_is = a.device_is;
@@ -27,10 +28,12 @@ rests q d world told living none broken v a all is v_is = record {
   counts = ap (λ (x : Device). has_three (duty_of x).counts) a.device_is ∙ sym is ∙ v_is;
 }
 
-pub settled_is : (q : SessionState) (d : Device) (v : Bool) (world : Components) (told : Told) (living : List ℕ) (settled b : Bool) → HasNoActLeft q d v world told living → settled ≡ is_settled world → settled ≡ b → is_settled q.world ≡ b
+pub settled_is : (q : SessionState) (d : Device) (v : Bool) (world : Components) (told : Told) (living : List ℕ) (settled b : Bool) →
+    HasNoActLeft q d v world told living → settled ≡ is_settled world → settled ≡ b → is_settled q.world ≡ b
 settled_is q d v world told living settled b r is b_is = sym (ap (λ (w : Components). is_settled w) r.runs.world_is) ∙ sym is ∙ b_is
 
-pub sits : (q : SessionState) (d : Device) (world : Components) (told : Told) (living : List ℕ) (settled : Bool) → HasNoActLeft q d false world told living → settled ≡ is_settled world → settled ≡ false → IsReadyToWait q world told living
+pub sits : (q : SessionState) (d : Device) (world : Components) (told : Told) (living : List ℕ) (settled : Bool) → HasNoActLeft q d false world told living →
+    settled ≡ is_settled world → settled ≡ false → IsReadyToWait q world told living
 sits q d world told living settled r is f = record {
   runs = r.runs;
   quiet = r.quiet;
@@ -59,5 +62,6 @@ quits_of q world told living r =
       children = w.children;
     }
 
-pub quits_on : (p : SessionState) (h g : List TraceEvent) (world : Components) (told : Told) (living : List ℕ) → MayAbort (state_after (state_after p h) g) world told living → MayAbort (state_after p (g ++ h)) world told living
+pub quits_on : (p : SessionState) (h g : List TraceEvent) (world : Components) (told : Told) (living : List ℕ) →
+    MayAbort (state_after (state_after p h) g) world told living → MayAbort (state_after p (g ++ h)) world told living
 quits_on p h g world told living q = subst (λ (x : SessionState). MayAbort x world told living) (sym (left-append p g h)) q

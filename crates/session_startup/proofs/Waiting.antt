@@ -23,7 +23,8 @@ use Rattle.session_startup.proofs.Entering.{entry, later_same, moment_ended, nev
 use Rattle.session_startup.proofs.Living.{lives_without}
 use Rattle.session_startup.proofs.Starting.{back, beside, through}
 
-works_in : (f : Phase) (c : Generation) (counts : List ℕ) (p : SessionState) → rises f ≡ true → c ≡ current → comes_up counts p ≡ true → has_work f c counts p ≡ true
+works_in : (f : Phase) (c : Generation) (counts : List ℕ) (p : SessionState) → rises f ≡ true → c ≡ current → comes_up counts p ≡ true →
+    has_work f c counts p ≡ true
 works_in idle c counts p h is work = absurd cc
 works_in booting c counts p h is work = absurd cc
 works_in activating c counts p h is work = rw is work
@@ -38,7 +39,8 @@ limit_in backing p h boot = absurd cc
 limit_in rolling p h boot = rw boot refl
 
 -- every act was taken, and the wait is to the next deadline
-pub may_wait : (p : SessionState) (world : Components) (told : Told) (living : List ℕ) (limit now : ℕ) → IsReadyToWait p world told living → told.moment ≡ now → limit ≡ until (least_deadline world) now → MayWait (duty_of p.device) p limit
+pub may_wait : (p : SessionState) (world : Components) (told : Told) (living : List ℕ) (limit now : ℕ) → IsReadyToWait p world told living →
+    told.moment ≡ now → limit ≡ until (least_deadline world) now → MayWait (duty_of p.device) p limit
 may_wait p world told living limit now s moment is =
     let on = s.runs.within.on in
     let at : now ≡ p.world.moment = sym moment ∙ s.runs.within.moment in
@@ -47,7 +49,8 @@ may_wait p world told living limit now s moment is =
       no_end = on.boot_end;
       in_time = rw on.boot refl;
       work = works_in (duty_of p.device).phase p.generation (duty_of p.device).counts p on.phase on.generation s.work;
-      limit_is = is ∙ ap (λ (w : Components). until (least_deadline w) now) s.runs.world_is ∙ ap (λ (m : ℕ). until (least_deadline p.world) m) at ∙ sym (limit_in (duty_of p.device).phase p on.phase on.boot);
+      limit_is = is ∙ ap (λ (w : Components). until (least_deadline w) now) s.runs.world_is ∙ ap (λ (m : ℕ). until (least_deadline p.world) m) at ∙ sym
+          (limit_in (duty_of p.device).phase p on.phase on.boot);
     }
 
 pub record Waited (p : SessionState) (d : Device) (world : Components) (old new : Told) (living : List ℕ) : Type 0 where
@@ -55,7 +58,8 @@ pub record Waited (p : SessionState) (d : Device) (world : Components) (old new 
   pub acts : Acts p h old.list new.list
   pub comes : IsAtTurnStart (state_after p h) d world new living
 
-pub elapsed : (p : SessionState) (d : Device) (world : Components) (old new : Told) (living next : List ℕ) (limit now : ℕ) → p.device ≡ d → IsReadyToWait p world old living → old.moment ≡ now → limit ≡ until (least_deadline world) now
+pub elapsed : (p : SessionState) (d : Device) (world : Components) (old new : Told) (living next : List ℕ) (limit now : ℕ) → p.device ≡ d →
+    IsReadyToWait p world old living → old.moment ≡ now → limit ≡ until (least_deadline world) now
     → Notes old new (seen.Elapsed limit) → next ≡ living → Waited p d world old new next
 elapsed p d world old new living next limit now device s moment is notes same =
     let w = s.runs.within in
@@ -65,7 +69,14 @@ elapsed p d world old new living next limit now device s moment is notes same =
     record {
       h = WaitElapsed e ∷ [];
       acts = record {
-        proper = (((may_wait p world old living limit now s moment is, record { moment = w.moment; asked = w.asked; due = λ d. w.asked ∙ w.due d }), (λ cut. absurd (never p.cut w.on.cut cut)), w.on.over), tt);
+        proper = (
+          (
+            (may_wait p world old living limit now s moment is, record { moment = w.moment; asked = w.asked; due = λ d. w.asked ∙ w.due d }),
+            (λ cut. absurd (never p.cut w.on.cut cut)),
+            w.on.over,
+          ),
+          tt,
+        );
         none = refl;
         list = notes.entry;
         device = refl;
@@ -93,10 +104,12 @@ is_owned : (o : Option (ℕ × Step)) → IsSome o → (x : ℕ × Step) × (o �
 is_owned None h = absurd cc
 is_owned (Some x) h = (x, refl)
 
-pub owns_world : (p : SessionState) (world : Components) (told : Told) (living : List ℕ) (n : ℕ) → IsReadyToWait p world told living → Contains living n → IsSome (owner n world.parts)
+pub owns_world : (p : SessionState) (world : Components) (told : Told) (living : List ℕ) (n : ℕ) → IsReadyToWait p world told living → Contains living n →
+    IsSome (owner n world.parts)
 owns_world p world told living n s lives = subst (λ (v : Components). IsSome (owner n v.parts)) (sym s.runs.world_is) ((s.runs.within.children n).0 lives)
 
-pub ends : Laws → (p : SessionState) (d : Device) (world : Components) (old new : Told) (living next : List ℕ) (n : ℕ) (x : Exit) (limit now : ℕ) → p.device ≡ d → IsReadyToWait p world old living → old.moment ≡ now → limit ≡ until (least_deadline world) now
+pub ends : Laws → (p : SessionState) (d : Device) (world : Components) (old new : Told) (living next : List ℕ) (n : ℕ) (x : Exit) (limit now : ℕ) →
+    p.device ≡ d → IsReadyToWait p world old living → old.moment ≡ now → limit ≡ until (least_deadline world) now
     → Notes old new (seen.Ended n x limit) → Contains living n → next ≡ without n living → Waited p d (ended n x (later now world)) old new next
 ends laws p d world old new living next n x limit now device s moment is notes lives same =
     let w = s.runs.within in

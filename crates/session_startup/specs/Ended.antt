@@ -25,11 +25,12 @@ abbrev pub ClosesAs : Outcome → List Record → Type 0
 ClosesAs outcome records = (front : List Record) × (records ≡ front ++ Closed outcome ∷ [])
 
 -- Nothing is pending any more, and the components are as they were.
-pub record HasClosed (outcome : Outcome) (records : List Record) (q : SessionState) (d : Device) (world : Components) (told : Told) (living : List ℕ) : Type 0 where
-  pub stands : Stands q d world told living
-  pub back : IsBack q
-  pub orderly : IsOrderly q.world
-  pub closed : ClosesAs outcome records
+pub record HasClosed (outcome : Outcome) (records : List Record) (q : SessionState) (d : Device) (world : Components) (told : Told) (living : List ℕ) : Type 0
+  where
+    pub stands : Stands q d world told living
+    pub back : IsBack q
+    pub orderly : IsOrderly q.world
+    pub closed : ClosesAs outcome records
 
 -- No act is left, and a component failed three times.
 pub record HasBroken (q : SessionState) (d : Device) (world : Components) (told : Told) (living : List ℕ) : Type 0 where

@@ -23,7 +23,8 @@ pub record Laws : Type 0 where
   pub owner_killed : (d : Device) (n m : ℕ) (w : Components) → Keeps d w → Owns (killed n w) m ↔ ((m ≢ n) × Owns w m)
   pub keeps_ended : (d : Device) (n : ℕ) (e : Exit) (w : Components) → Owns w n → IsTold w → Keeps d w → Keeps d (ended n e w)
   pub owner_ended : (d : Device) (n m : ℕ) (e : Exit) (w : Components) → Keeps d w → Owns (ended n e w) m ↔ ((m ≢ n) × Owns w m)
-  pub keeps_told : (d : Device) (k : ℕ) (n : List ℕ) (s : Step) (e : Exit) (b : Bool) (w : Components) → Keeps d w → OwesAt w k s e b → At k (λ p. component_name p ≡ n) w.parts
+  pub keeps_told : (d : Device) (k : ℕ) (n : List ℕ) (s : Step) (e : Exit) (b : Bool) (w : Components) → Keeps d w → OwesAt w k s e b →
+      At k (λ p. component_name p ≡ n) w.parts
       → Keeps (applied d (StepFailed n s e)) (told_at k w)
   pub owner_told : (n k : ℕ) (w : Components) → owner n (told_at k w).parts ≡ owner n w.parts
   pub keeps_later : (d : Device) (m : ℕ) (w : Components) → Keeps d w → Keeps d (later m w)

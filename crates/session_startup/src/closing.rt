@@ -30,11 +30,14 @@ pub(crate) fn close_plan<D: Disk, J: Journal + Drop, K: Sink, S: Supervise>(
 ) -> Result<Idle<J>, SessionFault>
     requires held { Holds D.Disk J.Journal OwnsActivating state disk.old }
     requires drives { Drives (S.world supervisor.old) }
-    requires placed { (p : SessionState) × (told : Told) × (living : List ℕ) × HasNoActLeft p (activating_device state) false (S.world supervisor.old) told living × (is_settled p.world ≡ true) }
-    ensures trace { (p : SessionState) → (told : Told) → (living : List ℕ) → HasNoActLeft p (activating_device state) false (S.world supervisor.old) told living → (is_settled p.world ≡ true) →
+    requires placed { (p : SessionState) × (told : Told) × (living : List ℕ) × HasNoActLeft p (activating_device state) false (S.world supervisor.old) told
+        living × (is_settled p.world ≡ true) }
+    ensures trace { (p : SessionState) → (told : Told) → (living : List ℕ) → HasNoActLeft p (activating_device state) false (S.world supervisor.old) told
+        living → (is_settled p.world ≡ true) →
         (h : List TraceEvent) × IsTraceOver D.Disk J.Journal disk.old disk.new told.list told.list p h
         × Lines (K.held sink.old) (K.held sink.new) p.device (records_of h) result
-        × LeftOver D.Disk J.Journal disk.new p h (λ s q. HasClosed outcomes.Successful (records_of h) q (idle_device s) (S.world supervisor.new) told living) result
+        × LeftOver D.Disk J.Journal disk.new p h (λ s q. HasClosed outcomes.Successful (records_of h) q (idle_device s) (S.world supervisor.new) told living)
+        result
         × OnErr result (MayAbort (state_after p h) (S.world supervisor.new) told living) }
     ensures drives { Drives (S.world supervisor.new) }
     ensures held { IfOk result (λ s. Holds D.Disk J.Journal OwnsIdle s disk.new) }
@@ -69,11 +72,14 @@ pub(crate) fn close_set<D: Disk, J: Journal + Drop, K: Sink, S: Supervise>(
 ) -> Result<Idle<J>, SessionFault>
     requires held { Holds D.Disk J.Journal OwnsRolling state disk.old }
     requires drives { Drives (S.world supervisor.old) }
-    requires placed { (p : SessionState) × (told : Told) × (living : List ℕ) × (broken : Bool) × HasNoActLeft p (rolling_device state) broken (S.world supervisor.old) told living × (broken ≡ false → is_settled p.world ≡ true) }
-    ensures trace { (p : SessionState) → (told : Told) → (living : List ℕ) → (broken : Bool) → HasNoActLeft p (rolling_device state) broken (S.world supervisor.old) told living → (broken ≡ false → is_settled p.world ≡ true) →
+    requires placed { (p : SessionState) × (told : Told) × (living : List ℕ) × (broken : Bool) × HasNoActLeft p (rolling_device state) broken
+        (S.world supervisor.old) told living × (broken ≡ false → is_settled p.world ≡ true) }
+    ensures trace { (p : SessionState) → (told : Told) → (living : List ℕ) → (broken : Bool) → HasNoActLeft p (rolling_device state) broken
+        (S.world supervisor.old) told living → (broken ≡ false → is_settled p.world ≡ true) →
         (h : List TraceEvent) × IsTraceOver D.Disk J.Journal disk.old disk.new told.list told.list p h
         × Lines (K.held sink.old) (K.held sink.new) p.device (records_of h) result
-        × LeftOver D.Disk J.Journal disk.new p h (λ s q. HasClosed (if broken then outcomes.UnableToRollback else outcomes.RollbackComplete) (records_of h) q (idle_device s) (S.world supervisor.new) told living) result
+        × LeftOver D.Disk J.Journal disk.new p h (λ s q. HasClosed (if broken then outcomes.UnableToRollback else outcomes.RollbackComplete) (records_of h) q
+        (idle_device s) (S.world supervisor.new) told living) result
         × OnErr result (MayAbort (state_after p h) (S.world supervisor.new) told living) }
     ensures drives { Drives (S.world supervisor.new) }
     ensures held { IfOk result (λ s. Holds D.Disk J.Journal OwnsIdle s disk.new) }

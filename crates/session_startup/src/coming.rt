@@ -56,7 +56,8 @@ impl<J: Journal + Drop> Coming<J> {
     ) -> Result<Coming<J>, Stopped<J>>
         requires held { Holds D.Disk J.Journal OwnsComing self disk.old }
         requires may { Allowed (coming_device self) (StepFailed name.now step exit) }
-        ensures moments { Leaves D.moment D.left_since disk.old disk.new (LeavesEither D.may_leave J.files J.entries disk.old (coming_device self) (applied (coming_device self) (StepFailed name.now step exit))) }
+        ensures moments { Leaves D.moment D.left_since disk.old disk.new (LeavesEither D.may_leave J.files J.entries disk.old (coming_device self)
+            (applied (coming_device self) (StepFailed name.now step exit))) }
         ensures taken { IfOk result (λ s. coming_device s ≡ applied (coming_device self) (StepFailed name.now step exit)) }
         ensures held { IfOk result (λ s. Holds D.Disk J.Journal OwnsComing s disk.new) }
         ensures same { IfOk result (λ s. is_plan s ≡ is_plan self) }

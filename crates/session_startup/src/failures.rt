@@ -53,8 +53,10 @@ pub(crate) fn note_failure<D: Disk, J: Journal + Drop, K: Sink, S: Supervise>(
     exit: Exit,
 ) -> Result<Coming<J>, SessionFault>
     requires held { Holds D.Disk J.Journal OwnsComing state disk.old }
-    requires placed { (p : SessionState) × (told : Told) × (living : List ℕ) × HasFailed p who step exit (S.world supervisor.now) told living × (p.device ≡ coming_device state) }
-    ensures trace { (p : SessionState) → (told : Told) → (living : List ℕ) → HasFailed p who step exit (S.world supervisor.now) told living → (p.device ≡ coming_device state) →
+    requires placed { (p : SessionState) × (told : Told) × (living : List ℕ) × HasFailed p who step exit (S.world supervisor.now) told living ×
+        (p.device ≡ coming_device state) }
+    ensures trace { (p : SessionState) → (told : Told) → (living : List ℕ) → HasFailed p who step exit (S.world supervisor.now) told living →
+        (p.device ≡ coming_device state) →
         (h : List TraceEvent) × IsTraceOver D.Disk J.Journal disk.old disk.new told.list told.list p h
         × Lines (K.held sink.old) (K.held sink.new) p.device (records_of h) result
         × LeftOver D.Disk J.Journal disk.new p h (λ s q. IsInTurn q (S.world supervisor.now) told living × (q.device ≡ coming_device s)) result

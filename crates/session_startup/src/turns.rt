@@ -142,7 +142,8 @@ fn turn<D: Disk, J: Journal + Drop, K: Sink, R: Runner, S: Supervise>(
     ensures quiet_disk { ¬ (IsErrOf result SessionFault.Disk) → D.faults disk.new ≡ D.faults disk.old }
     ensures quiet_sink { ¬ (IsErrOf result SessionFault.Edge) → K.faults sink.new ≡ K.faults sink.old }
     ensures rises { Rises (S.world supervisor.new) }
-    ensures falls { IfOk result (λ s. s.1 ≡ None → measure (later (R.clock runner.new) (S.world supervisor.new)) < measure (later (R.clock runner.old) (S.world supervisor.old))) }
+    ensures falls { IfOk result (λ s. s.1 ≡ None → measure (later (R.clock runner.new) (S.world supervisor.new)) < measure
+        (later (R.clock runner.old) (S.world supervisor.old))) }
     ensures later { (D.faults disk.old ≤ D.faults disk.new) × (K.faults sink.old ≤ K.faults sink.new) }
 {
     let now = pass(runner, supervisor);

@@ -38,14 +38,27 @@ none_next false o well none = none
 pub can_activate : (d : Device) → IsIn stages.Booting d → (duty_of d).turn ≡ None → has_failed d ≡ false → Allowed d stored.Activating
 can_activate d is none well = by d.pending is none well
   where
-    in_stage : (s : Stage) (q : Pending) → s ≡ stages.Booting → (duty_in d (record q { stage = s })).turn ≡ None → q.boot_failed ≡ false → next_boot (record q { stage = s }) ≡ None
+    in_stage : (s : Stage) (q : Pending) → s ≡ stages.Booting → (duty_in d (record q { stage = s })).turn ≡ None → q.boot_failed ≡ false →
+        next_boot (record q { stage = s }) ≡ None
     in_stage s q is none well =
         let there : Pending = record q { stage = stages.Booting } in
         let turn : (duty_in d there).turn ≡ None = subst (λ (x : Stage). (duty_in d (record q { stage = x })).turn ≡ None) is none in
         subst (λ (x : Stage). next_boot (record q { stage = x }) ≡ None) (sym is) (none_next q.boot_failed (next_boot there) well turn)
 
     by : (o : Option Pending) → IsSomeAnd o (λ q. q.stage ≡ stages.Booting)
-        → (elim o as (λ (x : Option Pending). Duty) [ None ↦ record { origin = d.origin; phase = phases.idle; items = d.set; counts = no_failures; boots = []; turn = None; begun = false } | Some q ↦ duty_in d q ]).turn ≡ None
+        → (elim o as (λ (x : Option Pending). Duty) [
+          | None ↦ record {
+            origin = d.origin;
+            phase = phases.idle;
+            items = d.set;
+            counts =
+                no_failures;
+            boots = [];
+            turn = None;
+            begun = false;
+          }
+          | Some q ↦ duty_in d q
+        ]).turn ≡ None
         → option_map_or (λ q. q.boot_failed) o false ≡ false → IsSomeAnd o MayActivate
     by None is none well = absurd is
     by (Some q) is none well = (is, well, in_stage q.stage q is none well)
@@ -57,8 +70,12 @@ begin_follows p d world told living f = (boot_clear p d world told living f, (λ
 
 -- ---- over a disk
 
-module _ (entries : Image → List (List ℕ) → Type 0) (files : List ℕ → Type 0) {D : Type 0} {may_leave : D → Image → Type 0} {moment : D → ℕ} {left_since : D → ℕ → Image → Type 0} {is_modelled : Bool} {seen : D → Image}
+module _ (entries : Image → List (List ℕ) → Type 0) (files : List ℕ → Type 0) {D : Type 0} {may_leave : D → Image → Type 0} {moment : D → ℕ} {left_since : D →
+    ℕ → Image → Type 0} {is_modelled : Bool} {seen : D → Image}
     (laws : DiskLaws is_modelled seen may_leave moment left_since) where
-  pub begin_went : (old new : D) (list : Option (List RunnerEntry)) (p : SessionState) (d : Device) (world : Components) (told : Told) (living : List ℕ) → IsAtBootStage p d world told living → Allowed d stored.Activating
-      → Leaves moment left_since old new (LeavesEither may_leave files entries old d (applied d stored.Activating)) → IsTrace entries files may_leave moment left_since old new list list p (Begin ∷ [])
-  begin_went old new list p d world told living f allowed notes = turn_went entries files laws old new list p d stored.Activating f.between.stands.device_is (begin_follows p d world told living f) allowed notes
+  pub begin_went : (old new : D) (list : Option (List RunnerEntry)) (p : SessionState) (d : Device) (world : Components) (told : Told) (living : List ℕ) →
+      IsAtBootStage p d world told living → Allowed d stored.Activating
+      → Leaves moment left_since old new (LeavesEither may_leave files entries old d (applied d stored.Activating)) →
+      IsTrace entries files may_leave moment left_since old new list list p (Begin ∷ [])
+  begin_went old new list p d world told living f allowed notes = turn_went entries files laws old new list p d stored.Activating f.between.stands.device_is
+      (begin_follows p d world told living f) allowed notes

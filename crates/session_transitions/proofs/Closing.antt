@@ -55,7 +55,8 @@ idle_of d (Some q) o h = refl
 
 -- ---- where it leaves the call
 
-stands_closed : (p : SessionState) (d e : Device) (o : Outcome) (world : Components) (told : Told) (living : List ℕ) → Stands p d world told living → e ≡ applied d (stored.Closed o)
+stands_closed : (p : SessionState) (d e : Device) (o : Outcome) (world : Components) (told : Told) (living : List ℕ) → Stands p d world told living →
+    e ≡ applied d (stored.Closed o)
     → Stands (leaves p (Recorded (stored.Closed o))) e (steadied world) told living
 stands_closed p d e o world told living s same = record {
   device_is = ap (λ (x : Device). applied x (stored.Closed o)) s.device_is ∙ sym same;
@@ -79,13 +80,20 @@ still_on c is = rw is refl
 
 module _ (p : SessionState) (d : Device) (world : Components) (told : Told) (living : List ℕ) (f : IsAtBootStage p d world told living) where
   pub boot_clear : IsClear p
-  boot_clear = record { told = f.between.still.quiet.told; alone = f.between.boot; no_end = f.between.boot_end; on = still_on p.generation f.between.still.generation }
+  boot_clear = record {
+    told = f.between.still.quiet.told;
+    alone = f.between.boot;
+    no_end = f.between.boot_end;
+    on =
+        still_on p.generation f.between.still.generation;
+  }
 
 module _ (p : SessionState) (d : Device) (o : Outcome) (world : Components) (told : Told) (living : List ℕ) (f : IsAtBootStage p d world told living) where
   boot_follows : MayEnd p o → MayFollow p (Recorded (stored.Closed o))
   boot_follows may = ((boot_clear p d world told living f, may), (λ cut. absurd (never p.cut f.between.still.cut cut)), f.over)
 
-  pub boot_closed : (e : Device) → IsOrderly p.world → IsSome d.pending → e ≡ applied d (stored.Closed o) → HasClosed o (records_of (Recorded (stored.Closed o) ∷ [])) (leaves p (Recorded (stored.Closed o))) e (steadied world) told living
+  pub boot_closed : (e : Device) → IsOrderly p.world → IsSome d.pending → e ≡ applied d (stored.Closed o) →
+      HasClosed o (records_of (Recorded (stored.Closed o) ∷ [])) (leaves p (Recorded (stored.Closed o))) e (steadied world) told living
   boot_closed e orderly pending same = record {
     stands = stands_closed p d e o world told living f.between.stands same;
     back = record {
@@ -117,11 +125,13 @@ module _ (p : SessionState) (d : Device) (world : Components) (told : Told) (liv
   items_follow : MayFollow p (Recorded Unasked)
   items_follow = ((items_clear, tt), (λ cut. absurd (never p.cut b.comes.on.cut cut)), b.comes.on.over)
 
-  pub items_closed : (e : Device) → IsSome d.pending → e ≡ applied d Unasked → HasClosed outcomes.RollbackNotRequested (records_of (Recorded Unasked ∷ [])) (leaves p (Recorded Unasked)) e (steadied world) told living
+  pub items_closed : (e : Device) → IsSome d.pending → e ≡ applied d Unasked → HasClosed outcomes.RollbackNotRequested (records_of (Recorded Unasked ∷ []))
+      (leaves p (Recorded Unasked)) e (steadied world) told living
   items_closed e pending same = record {
     stands = stands_closed p d e outcomes.RollbackNotRequested world told living b.comes.stands same;
     back = record {
-      idle_is = idle_of p.device p.device.pending outcomes.RollbackNotRequested (subst (λ (x : Device). IsSome x.pending) (sym b.comes.stands.device_is) pending);
+      idle_is = idle_of p.device p.device.pending outcomes.RollbackNotRequested
+          (subst (λ (x : Device). IsSome x.pending) (sym b.comes.stands.device_is) pending);
       going = going_on p.generation b.comes.on.generation;
       there = inl (present_is p.generation b.comes.on.generation);
       boot = b.comes.on.boot;
@@ -151,7 +161,8 @@ module _ (p : SessionState) (d : Device) (world : Components) (told : Told) (liv
     cut = b.comes.on.cut;
     differ = subst (λ (l : List ℕ). Differ l) (sym (living_steadied p.world)) b.comes.keeps.differ;
     owners = λ n. same n ∙ owners_now n ∙ sym (owner_steadied n p.world);
-    children = λ n. subst (λ (x : Option (ℕ × Step)). Contains living n ↔ IsSome x) (sym (owner_steadied n p.world)) (no_other p n living b.comes.on.boot (b.comes.stands.children n));
+    children = λ n. subst (λ (x : Option (ℕ × Step)). Contains living n ↔ IsSome x) (sym (owner_steadied n p.world))
+        (no_other p n living b.comes.on.boot (b.comes.stands.children n));
   }
 
 pub owners_steadied : (world now : Components) → now ≡ steadied world → (n : ℕ) → owner n now.parts ≡ owner n world.parts
@@ -159,24 +170,32 @@ owners_steadied world now is n = ap (λ (w : Components). owner n w.parts) is �
 
 -- ---- over a disk
 
-module _ (entries : Image → List (List ℕ) → Type 0) (files : List ℕ → Type 0) {D : Type 0} {may_leave : D → Image → Type 0} {moment : D → ℕ} {left_since : D → ℕ → Image → Type 0} {is_modelled : Bool} {seen : D → Image}
+module _ (entries : Image → List (List ℕ) → Type 0) (files : List ℕ → Type 0) {D : Type 0} {may_leave : D → Image → Type 0} {moment : D → ℕ} {left_since : D →
+    ℕ → Image → Type 0} {is_modelled : Bool} {seen : D → Image}
     (laws : DiskLaws is_modelled seen may_leave moment left_since) where
   abbrev pub Notes : D → D → Device → Outcome → Type 0
   Notes old new d o = Leaves moment left_since old new (LeavesEither may_leave files entries old d (applied d (stored.Closed o)))
 
-  close_went : (old new : D) (list : Option (List RunnerEntry)) (p : SessionState) (d : Device) (o : Outcome) → p.device ≡ d → MayFollow p (Recorded (stored.Closed o)) → Allowed d (stored.Closed o) → Notes old new d o
+  close_went : (old new : D) (list : Option (List RunnerEntry)) (p : SessionState) (d : Device) (o : Outcome) → p.device ≡ d →
+      MayFollow p (Recorded (stored.Closed o)) → Allowed d (stored.Closed o) → Notes old new d o
       → IsTrace entries files may_leave moment left_since old new list list p (Recorded (stored.Closed o) ∷ [])
   close_went old new list p d o device may allowed notes =
       let same = sym device in
-      kept_one entries files laws old new list p (stored.Closed o) may (subst (λ (x : Device). Allowed x (stored.Closed o)) same allowed) (subst (λ (x : Device). Notes old new x o) same notes)
+      kept_one entries files laws old new list p (stored.Closed o) may (subst (λ (x : Device). Allowed x (stored.Closed o)) same allowed)
+      (subst (λ (x : Device). Notes old new x o) same notes)
 
-  pub boot_went : (old new : D) (list : Option (List RunnerEntry)) (p : SessionState) (d : Device) (o : Outcome) (world : Components) (told : Told) (living : List ℕ) → IsAtBootStage p d world told living → MayEnd p o → Allowed d (stored.Closed o) → Notes old new d o
+  pub boot_went : (old new : D) (list : Option (List RunnerEntry)) (p : SessionState) (d : Device) (o : Outcome) (world : Components) (told : Told)
+      (living : List ℕ) → IsAtBootStage p d world told living → MayEnd p o → Allowed d (stored.Closed o) → Notes old new d o
       → IsTrace entries files may_leave moment left_since old new list list p (Recorded (stored.Closed o) ∷ [])
-  boot_went old new list p d o world told living f may allowed notes = close_went old new list p d o f.between.stands.device_is (boot_follows p d o world told living f may) allowed notes
+  boot_went old new list p d o world told living f may allowed notes = close_went old new list p d o f.between.stands.device_is
+      (boot_follows p d o world told living f may) allowed notes
 
-  pub items_went : (old new : D) (list : Option (List RunnerEntry)) (p : SessionState) (d : Device) (world : Components) (told : Told) (living : List ℕ) → HasBroken p d world told living → Allowed d Unasked → Notes old new d outcomes.RollbackNotRequested
+  pub items_went : (old new : D) (list : Option (List RunnerEntry)) (p : SessionState) (d : Device) (world : Components) (told : Told) (living : List ℕ) →
+      HasBroken p d world told living → Allowed d Unasked → Notes old new d outcomes.RollbackNotRequested
       → IsTrace entries files may_leave moment left_since old new list list p (Recorded Unasked ∷ [])
-  items_went old new list p d world told living b allowed notes = close_went old new list p d outcomes.RollbackNotRequested b.comes.stands.device_is (items_follow p d world told living b) allowed notes
+  items_went old new list p d world told living b allowed notes = close_went old new list p d outcomes.RollbackNotRequested b.comes.stands.device_is
+      (items_follow p d world told living b) allowed notes
 
-  pub close_doubt : (old new : D) (p : SessionState) (d : Device) (o : Outcome) → p.device ≡ d → Allowed d (stored.Closed o) → Notes old new d o → LeftAt entries may_leave new p (Recorded (stored.Closed o) ∷ []) over.Disk
+  pub close_doubt : (old new : D) (p : SessionState) (d : Device) (o : Outcome) → p.device ≡ d → Allowed d (stored.Closed o) → Notes old new d o →
+      LeftAt entries may_leave new p (Recorded (stored.Closed o) ∷ []) over.Disk
   close_doubt old new p d o same allowed notes = doubt_at entries files laws old new p d (stored.Closed o) same allowed notes

@@ -53,7 +53,8 @@ module _ (first : HasFirst) (d : Device) (fitted : List Fitted) (counts : List �
   Change = Changed fitted counts false
 
   -- it may come there
-  change_follows : (p : SessionState) (world : Components) (told : Told) (living : List ℕ) → MayEnter p d world told living → rises (duty_of d).phase ≡ true → AreReady d fitted
+  change_follows : (p : SessionState) (world : Components) (told : Told) (living : List ℕ) → MayEnter p d world told living → rises (duty_of d).phase ≡ true →
+      AreReady d fitted
       → counts ≡ (duty_of d).counts → has_three counts ≡ false → MayFollow p Change
   change_follows p world told living e up ready same few =
       let back : duty_of d ≡ duty_of p.device = ap (λ (x : Device). duty_of x) (sym e.stands.device_is) in
@@ -100,7 +101,8 @@ module _ (first : HasFirst) (d : Device) (fitted : List Fitted) (counts : List �
         probed = refl;
       }
 
-  pub entered : (p : SessionState) (world : Components) (told : Told) (living : List ℕ) → MayEnter p d world told living → rises (duty_of d).phase ≡ true → AreReady d fitted
+  pub entered : (p : SessionState) (world : Components) (told : Told) (living : List ℕ) → MayEnter p d world told living → rises (duty_of d).phase ≡ true →
+      AreReady d fitted
       → counts ≡ (duty_of d).counts → has_three counts ≡ false
       → Keeps d (changed_to fitted counts false p.world) → ((n : ℕ) → Owns (changed_to fitted counts false p.world) n ↔ Owns p.world n)
       → (h : List TraceEvent) × Acts p h told.list told.list × IsAtTurnStart (state_after p h) d (changed_to fitted counts false world) told living

@@ -7,7 +7,8 @@ use Rattle.session_startup.specs.Runs as rising
 use Rattle.session_transitions.specs.Fails.{IsGivenUp}
 
 -- among items that come up
-pub quits_given_up : (p : SessionState) (world : Components) (told : Told) (living : List ℕ) → rising.MayAbort p world told living → IsGivenUp p world told living
+pub quits_given_up : (p : SessionState) (world : Components) (told : Told) (living : List ℕ) → rising.MayAbort p world told living →
+    IsGivenUp p world told living
 quits_given_up p world told living q = record {
   moment = q.moment;
   asked = q.asked;

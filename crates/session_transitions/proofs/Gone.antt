@@ -26,7 +26,8 @@ numbers_left n [] = refl
 numbers_left n (c ∷ cs) = at (not (c.number == n)) (numbers_left n cs)
   where
     at : (b : Bool) → child_numbers (filter (λ (d : Child). not (d.number == n)) cs) ≡ without n (child_numbers cs)
-        → child_numbers (if b then c ∷ filter (λ (d : Child). not (d.number == n)) cs else filter (λ (d : Child). not (d.number == n)) cs) ≡ (if b then c.number ∷ without n (child_numbers cs) else without n (child_numbers cs))
+        → child_numbers (if b then c ∷ filter (λ (d : Child). not (d.number == n)) cs else filter (λ (d : Child). not (d.number == n)) cs)
+        ≡ (if b then c.number ∷ without n (child_numbers cs) else without n (child_numbers cs))
     at true rest = ap (λ (l : List ℕ). c.number ∷ l) rest
     at false rest = rest
 
@@ -41,27 +42,32 @@ taken_from : (j n : ℕ) (ps : List ComponentState) (k : ℕ) (s : Step) → Are
 taken_from j n [] k s a e = absurd cc
 taken_from j n (p ∷ ps) k s a e = at (child_of n p.children) refl e (taken_from (j + 1) n ps k s (apart_back (child_numbers p.children) (living_numbers ps) a))
   where
-    at : (o : Option Child) → child_of n p.children ≡ o → ◌≡◌ {A = Option (ℕ × Step)} (elim o [ None ↦ owner_from (j + 1) n ps | Some c ↦ Some (j, c.of) ]) (Some (k, s)) → (owner_from (j + 1) n ps ≡ Some (k, s) → Taken (j + 1) n k ps)
+    at : (o : Option Child) → child_of n p.children ≡ o → ◌≡◌ {A = Option (ℕ × Step)} (elim o [ None ↦ owner_from (j + 1) n ps | Some c ↦ Some (j, c.of) ])
+        (Some (k, s)) → (owner_from (j + 1) n ps ≡ Some (k, s) → Taken (j + 1) n k ps)
         → Taken j n k (p ∷ ps)
     at None q e rest =
         let r = rest e in
         let front = without_none n (child_numbers p.children) (no_child n p.children q) in (
           suc r.0,
           omega (arith, r.1),
-          ap (λ (l : List ℕ). child_numbers p.children ++ l) r.2 ∙ sym (filter-append (λ m. not (m == n)) (child_numbers p.children) (living_numbers ps) ∙ ap (λ (l : List ℕ). l ++ without n (living_numbers ps)) front),
+          ap (λ (l : List ℕ). child_numbers p.children ++ l) r.2 ∙ sym (filter-append (λ m. not (m == n)) (child_numbers p.children) (living_numbers ps) ∙ ap
+              (λ (l : List ℕ). l ++ without n (living_numbers ps)) front),
         )
     at (Some c) q e rest =
         let back = without_none n (living_numbers ps) (apart_both n (child_numbers p.children) (living_numbers ps) a (has_number n p.children c q)) in
         let same = same_place j k s c.of e in (
           zero,
           omega (arith, same),
-          ap (λ (l : List ℕ). l ++ living_numbers ps) (numbers_left n p.children) ∙ sym (filter-append (λ m. not (m == n)) (child_numbers p.children) (living_numbers ps) ∙ ap (λ (l : List ℕ). without n (child_numbers p.children) ++ l) back),
+          ap (λ (l : List ℕ). l ++ living_numbers ps) (numbers_left n p.children) ∙ sym
+              (filter-append (λ m. not (m == n)) (child_numbers p.children) (living_numbers ps) ∙ ap
+              (λ (l : List ℕ). without n (child_numbers p.children) ++ l) back),
         )
 
 cut_numbers : (n : ℕ) (w : Components) → AreApart (living_numbers w.parts) → living_numbers (cut_child n w).parts ≡ without n (living_numbers w.parts)
 cut_numbers n w a = at (owner n w.parts) refl
   where
-    at : (o : Option (ℕ × Step)) → owner n w.parts ≡ o → living_numbers (elim o as (λ x. Components) [ None ↦ w | Some x ↦ child_gone x.0 n w ]).parts ≡ without n (living_numbers w.parts)
+    at : (o : Option (ℕ × Step)) → owner n w.parts ≡ o → living_numbers (elim o as (λ x. Components) [ None ↦ w | Some x ↦ child_gone x.0 n w ]).parts
+        ≡ without n (living_numbers w.parts)
     at None q = sym (without_none n (living_numbers w.parts) (not_owned 0 n w.parts q))
     at (Some x) q =
         let t = taken_from 0 n w.parts x.0 x.1 a q in
@@ -81,7 +87,8 @@ cut_lives n m w a =
     let numbers = living_numbers w.parts in
     let is = ap (λ (l : List ℕ). among m l) (cut_numbers n w a) in (
       (λ e. let there : among m (without n numbers) ≡ true = sym is ∙ (owner_lives m (cut_child n w).parts).0 e in
-          let ne : m ≢ n = λ q. clash (among m (without n numbers)) there (subst (λ (k : ℕ). among k (without n numbers) ≡ false) (sym q) (without_self n numbers)) in
+          let ne : m ≢ n = λ q. clash (among m (without n numbers)) there
+          (subst (λ (k : ℕ). among k (without n numbers) ≡ false) (sym q) (without_self n numbers)) in
           (ne, (owner_lives m w.parts).1 (sym (without_other m n numbers ne) ∙ there))),
       (λ e. (owner_lives m (cut_child n w).parts).1 (is ∙ without_other m n numbers e.0 ∙ (owner_lives m w.parts).0 e.1)),
     )
@@ -107,11 +114,13 @@ cut_owes n w = at (owner n w.parts)
 
 -- ---- none is left
 
-none_at : (ps : List ComponentState) → ((n : ℕ) → among n (living_numbers ps) ≡ true → ⊥) → list_any (λ p. elim p.children [ [] ↦ false | ◌∷◌ c cs ↦ true ]) ps ≡ false
+none_at : (ps : List ComponentState) → ((n : ℕ) → among n (living_numbers ps) ≡ true → ⊥) → list_any (λ p. elim p.children [ [] ↦ false | ◌∷◌ c cs ↦ true ])
+    ps ≡ false
 none_at [] none = refl
 none_at (p ∷ ps) none = at p.children none (none_at ps)
   where
-    at : (cs : List Child) → ((n : ℕ) → among n (child_numbers cs ++ living_numbers ps) ≡ true → ⊥) → (((n : ℕ) → among n (living_numbers ps) ≡ true → ⊥) → list_any (λ (q : ComponentState). elim q.children [ [] ↦ false | ◌∷◌ d ds ↦ true ]) ps ≡ false)
+    at : (cs : List Child) → ((n : ℕ) → among n (child_numbers cs ++ living_numbers ps) ≡ true → ⊥) →
+        (((n : ℕ) → among n (living_numbers ps) ≡ true → ⊥) → list_any (λ (q : ComponentState). elim q.children [ [] ↦ false | ◌∷◌ d ds ↦ true ]) ps ≡ false)
         → ((elim cs [ [] ↦ false | ◌∷◌ d ds ↦ true ]) || list_any (λ (q : ComponentState). elim q.children [ [] ↦ false | ◌∷◌ d ds ↦ true ]) ps) ≡ false
     at [] none rest = rest none
     at (c ∷ cs) none rest = absurd (none c.number (among_here c.number (child_numbers cs ++ living_numbers ps)))

@@ -78,7 +78,8 @@ above_on : (last : Option ℕ) (m n : ℕ) → is_above last m ≡ true → m < 
 above_on None m n above l = refl
 above_on (Some k) m n above l = let less = ltb-true k m above in lt-ltb k n (omega (arith, less, l))
 
-module _ (p : SessionState) (last : Option ℕ) (world : Components) (old : Told) (living : List ℕ) (k : IsKilling p last world old living) (n : ℕ) (is : IsNextLiving world last (Some n)) where
+module _ (p : SessionState) (last : Option ℕ) (world : Components) (old : Told) (living : List ℕ) (k : IsKilling p last world old living) (n : ℕ)
+    (is : IsNextLiving world last (Some n)) where
   own : IsSome (owner n p.world.parts)
   own = (k.left n).1 (is.0, is.1)
 
@@ -103,7 +104,8 @@ module _ (p : SessionState) (last : Option ℕ) (world : Components) (old : Told
   beside : (m : ℕ) → ((m ≢ n) × Contains living m) ↔ ((m ≢ n) × IsSome (owner m p.world.parts))
   beside m = ((λ h. (h.0, (k.children m).0 h.1)), (λ h. (h.0, (k.children m).1 h.1)))
 
-  pub kill_kills : (new : Told) (next : List ℕ) → Notes old new (seen.Killed n) → next ≡ without n living → IsKilling (leaves p (KilledOnAbort (entry old (seen.Killed n)))) (Some n) world new next
+  pub kill_kills : (new : Told) (next : List ℕ) → Notes old new (seen.Killed n) → next ≡ without n living →
+      IsKilling (leaves p (KilledOnAbort (entry old (seen.Killed n)))) (Some n) world new next
   kill_kills new next notes same = record {
     moment = notes.told ∙ k.moment ∙ sym (cut_moment n p.world);
     asked = notes.asked;
@@ -130,7 +132,8 @@ nobody : (living : List ℕ) → ((n : ℕ) → Contains living n → ⊥) → l
 nobody [] none = refl
 nobody (n ∷ ns) none = absurd (none n (0, omega arith, refl))
 
-module _ (p : SessionState) (last : Option ℕ) (world : Components) (told : Told) (living : List ℕ) (k : IsKilling p last world told living) (is : IsNextLiving world last None) where
+module _ (p : SessionState) (last : Option ℕ) (world : Components) (told : Told) (living : List ℕ) (k : IsKilling p last world told living)
+    (is : IsNextLiving world last None) where
   no_more : (n : ℕ) → IsSome (owner n p.world.parts) → ⊥
   no_more n h = let there = (k.left n).0 h in never (is_above last n) (is n there.0) there.1
 

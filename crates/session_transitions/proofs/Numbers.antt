@@ -46,7 +46,8 @@ apart_both n [] ys a e = absurd cc
 apart_both n (x ∷ xs) ys a e = at (x == n) refl e (apart_both n xs ys a.1)
   where
     at : (b : Bool) → (x == n) ≡ b → (b || among n xs) ≡ true → (among n xs ≡ true → among n ys ≡ false) → among n ys ≡ false
-    at true q e rest = let behind = not_back (among x xs) (among x ys) (sym (list_any-append (λ m. m == x) xs ys) ∙ a.0) in subst (λ (m : ℕ). among m ys ≡ false) (eqb-true x n q) behind
+    at true q e rest = let behind = not_back (among x xs) (among x ys) (sym (list_any-append (λ m. m == x) xs ys) ∙ a.0) in
+        subst (λ (m : ℕ). among m ys ≡ false) (eqb-true x n q) behind
     at false q e rest = rest e
 
 -- ---- without one
@@ -84,6 +85,7 @@ pub without_fewer : (n : ℕ) (ns : List ℕ) → Contains ns n → length (with
 without_fewer n [] h = absurd (omega (arith, h.1))
 without_fewer n (x ∷ xs) h = at (x == n) refl (without_most n xs) (without_fewer n xs)
   where
-    at : (b : Bool) → (x == n) ≡ b → length (without n xs) ≤ length xs → (Contains xs n → length (without n xs) < length xs) → length (if not b then x ∷ without n xs else without n xs) < length (x ∷ xs)
+    at : (b : Bool) → (x == n) ≡ b → length (without n xs) ≤ length xs → (Contains xs n → length (without n xs) < length xs) →
+        length (if not b then x ∷ without n xs else without n xs) < length (x ∷ xs)
     at true e most fewer = omega (arith, most)
     at false e most fewer = let less = fewer (there n x xs h e) in omega (arith, less)

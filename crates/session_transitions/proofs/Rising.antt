@@ -33,7 +33,8 @@ pends d o = record d { pending = o }
 pub rises_in : (d : Device) → IsIn stages.Activating d ⊎ IsIn stages.Rolling d → rises (duty_of d).phase ≡ true
 rises_in d is = by d.pending is
   where
-    by : (o : Option Pending) → IsSomeAnd o (λ q. q.stage ≡ stages.Activating) ⊎ IsSomeAnd o (λ q. q.stage ≡ stages.Rolling) → rises (duty_of (pends d o)).phase ≡ true
+    by : (o : Option Pending) → IsSomeAnd o (λ q. q.stage ≡ stages.Activating) ⊎ IsSomeAnd o (λ q. q.stage ≡ stages.Rolling) →
+        rises (duty_of (pends d o)).phase ≡ true
     by None (inl is) = absurd is
     by None (inr is) = absurd is
     by (Some q) (inl is) = subst (λ (s : Stage). rises (duty_in (pends d (Some q)) (record q { stage = s })).phase ≡ true) (sym is) refl
@@ -64,7 +65,8 @@ shut_step false rest h = (refl, h)
 both_none : (a b : Bool) → a ≡ false → b ≡ false → (a || b) ≡ false
 both_none a b e f = rw e f
 
-none_begun : (w : Components) (ps : List ComponentState) → list_any (may_act w) ps ≡ false → not (list_any (λ (p : ComponentState). p.handed) ps) ≡ true → list_any is_unstarted ps ≡ false
+none_begun : (w : Components) (ps : List ComponentState) → list_any (may_act w) ps ≡ false → not (list_any (λ (p : ComponentState). p.handed) ps) ≡ true →
+    list_any is_unstarted ps ≡ false
 none_begun w [] quiet shut = refl
 none_begun w (p ∷ ps) quiet shut =
     let acts = or_none (may_act w p) (list_any (may_act w) ps) quiet in
@@ -113,7 +115,8 @@ none_in : (ps : List ComponentState) → not (list_any (λ p. not (is_over p)) p
 none_in [] stopped = refl
 none_in (p ∷ ps) stopped = by (not (is_over p)) stopped (none_in ps)
   where
-    by : (b : Bool) → not (b || list_any (λ p. not (is_over p)) ps) ≡ true → (not (list_any (λ p. not (is_over p)) ps) ≡ true → standing ps ≡ []) → (if b then p ∷ standing ps else standing ps) ≡ []
+    by : (b : Bool) → not (b || list_any (λ p. not (is_over p)) ps) ≡ true → (not (list_any (λ p. not (is_over p)) ps) ≡ true → standing ps ≡ []) →
+        (if b then p ∷ standing ps else standing ps) ≡ []
     by true stopped rest = absurd (false≢true stopped)
     by false stopped rest = rest stopped
 
@@ -121,7 +124,8 @@ none_standing : (w : Components) → is_stopped w ≡ true → standing w.parts 
 none_standing w stopped = none_in w.parts stopped
 
 pub keeps_none : (coming : List Fitted) (w : Components) → is_stopped w ≡ true → KeepSteps coming (standing w.parts)
-keeps_none coming w stopped = subst (λ (ps : List ComponentState). KeepSteps coming ps) (sym (none_standing w stopped)) (λ f p comes stands same. absurd (in_nil p stands))
+keeps_none coming w stopped = subst (λ (ps : List ComponentState). KeepSteps coming ps) (sym (none_standing w stopped))
+    (λ f p comes stands same. absurd (in_nil p stands))
 
 pub room_for_none : (w : Components) (room : ℕ) → is_stopped w ≡ true → standing_count w ≤ room
 room_for_none w room stopped = let none = ap (λ (ps : List ComponentState). length ps) (none_standing w stopped) in omega (arith, none)

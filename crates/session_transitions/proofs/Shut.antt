@@ -9,7 +9,8 @@ use Rattle.components.specs.Fitted.{Fitted, is_before, is_same_item, name_of}
 use Rattle.components.specs.Components.{Components, ComponentState, is_gone, is_over, component_name, stops_for_good, under_way}
 use Rattle.components.specs.Marks.{Flagged, HasFirst, Within, flagged, marked, may_replan, reaching}
 use Rattle.components.specs.Answers.{has_answered}
-use Rattle.components.specs.Changes.{Coming, changed_to, coming_again, coming_for, counted, fate, fresh_part, is_replaced, is_replacing, leaving, meeting, newcomers, placed, replanned, standing, staying, with_newcomers, with_texts}
+use Rattle.components.specs.Changes.{Coming, changed_to, coming_again, coming_for, counted, fate, fresh_part, is_replaced, is_replacing, leaving, meeting}
+use Rattle.components.specs.Changes.{newcomers, placed, replanned, standing, staying, with_newcomers, with_texts}
 
 abbrev IsShut : ComponentState → Type 0
 IsShut p = p.handed ≡ false
@@ -54,7 +55,13 @@ shut_meeting n p s = go p.life.gone (is_replaced n.0 p) (stops_for_good (with_te
     t : IsShut (with_texts n.0 p)
     t = shut_texts n.0 p s
 
-    go : (g y z : Bool) → IsShut (if g then coming_again n p else (if y then (let q : ComponentState = with_texts n.0 p in if z then record q { life = record q.life { stop = Some after.Again }; stop = None; next = Some n } else record q { stop = Some after.Again; next = Some n }) else staying n (with_texts n.0 p)))
+    go : (g y z : Bool) → IsShut (if g then coming_again n p
+        else (if y then (let q : ComponentState = with_texts n.0 p in if z then record q {
+          life = record q.life { stop = Some after.Again };
+          stop =
+              None;
+          next = Some n;
+        } else record q { stop = Some after.Again; next = Some n }) else staying n (with_texts n.0 p)))
     go true y z = refl
     go false true true = t
     go false true false = t
@@ -125,10 +132,12 @@ shut_newcomers : (ns ps : List ComponentState) → AreShut ns → AreShut ps →
 shut_newcomers [] ps n a = a
 shut_newcomers (x ∷ ns) ps n a = shut_placed x (with_newcomers ns ps) n.0 (shut_newcomers ns ps n.1 a)
 
-pub changed_answered : HasFirst → (items : List Fitted) (counts : List ℕ) (steady : Bool) (w : Components) → has_answered w ≡ true → has_answered (changed_to items counts steady w) ≡ true
+pub changed_answered : HasFirst → (items : List Fitted) (counts : List ℕ) (steady : Bool) (w : Components) → has_answered w ≡ true →
+    has_answered (changed_to items counts steady w) ≡ true
 changed_answered first items counts steady w h =
     let ns = counted 0 counts items in
     let before = standing w.parts in
     of_shut (changed_to items counts steady w).parts
-    (shut_newcomers (newcomers ns before) (replanned (map (fate ns) before)) (shut_fresh (filter (λ (n : Coming). not (list_any (λ p. bytes_eq (component_name p) (name_of n.0)) before)) ns))
+    (shut_newcomers (newcomers ns before) (replanned (map (fate ns) before))
+    (shut_fresh (filter (λ (n : Coming). not (list_any (λ p. bytes_eq (component_name p) (name_of n.0)) before)) ns))
     (shut_replanned first (map (fate ns) before) (shut_fates ns before (shut_standing w.parts (shut_of w.parts h)))))

@@ -1,5 +1,6 @@
 -- What a device has whose stage brings items up.
-use Rattle.std.proofs.Common.{◌≡◌, ℕ, zero, suc, ◌≤◌, ◌<◌, ◌==◌, List, [], ◌∷◌, map, length, get_or, Option, Some, None, Bool, true, false, refl, sym, ap, subst, ◌∙◌, arith}
+use Rattle.std.proofs.Common.{◌≡◌, ℕ, zero, suc, ◌≤◌, ◌<◌, ◌==◌, List, [], ◌∷◌, map, length, get_or, Option, Some, None, Bool, true, false, refl, sym, ap}
+use Rattle.std.proofs.Common.{subst, ◌∙◌, arith}
 use Rattle.std.specs.Prelude.{◌||◌, IfSome, option_map}
 use Rattle.std.specs.Option.{IsSomeAnd}
 use Rattle.std.specs.List.{All, AllByRecursion}
@@ -52,7 +53,8 @@ pub record IsStage (o : Origin) (d : Device) (q : Pending) (duty : Duty) : Type 
 plan_of : (o : Origin) (x : Option Origin) (P : Origin → Type 0) → x ≡ Some o → IsSomeAnd x P → P o
 plan_of o x P has h = subst (λ (y : Option Origin). IsSomeAnd y P) has h
 
-stage_facts : (d : Device) (q : Pending) (duty : Duty) (items : List Item) (o : Origin) → running d.set q ≡ Some duty.items → duty.counts ≡ q.failures → duty.items ≡ items
+stage_facts : (d : Device) (q : Pending) (duty : Duty) (items : List Item) (o : Origin) → running d.set q ≡ Some duty.items → duty.counts ≡ q.failures →
+    duty.items ≡ items
     → AreItems o.platform items → AreCounts items q.failures → has_three duty.counts ≡ false → IsStage o d q duty
 stage_facts d q duty items o runs counts same are counted few =
     let many = counted.many in
@@ -74,7 +76,8 @@ module _ (d : Device) (o : Origin) (has : d.origin ≡ Some o) (sound : IsSound 
   set_items = subst (λ (x : Option Origin). AreItemsFor x d.set) has sound.set
 
   by_stage : (s : Stage) (q : Pending) → IsSomeAnd d.origin (λ p. IsPlan p.platform q.plan) → IsInStage d.origin d.set (record q { stage = s })
-      → rises (duty_in d (record q { stage = s })).phase ≡ true → has_three (duty_in d (record q { stage = s })).counts ≡ false → IsStage o d (record q { stage = s }) (duty_in d (record q { stage = s }))
+      → rises (duty_in d (record q { stage = s })).phase ≡ true → has_three (duty_in d (record q { stage = s })).counts ≡ false →
+      IsStage o d (record q { stage = s }) (duty_in d (record q { stage = s }))
   by_stage stages.Booting q plan in_stage up few = absurd (false≢true up)
   by_stage stages.Activating q plan in_stage up few =
       let qs : Pending = record q { stage = stages.Activating } in
@@ -85,7 +88,11 @@ module _ (d : Device) (o : Origin) (has : d.origin ≡ Some o) (sound : IsSound 
       stage_facts d qs (duty_in d qs) d.set o refl refl refl set_items in_stage few
 
   abbrev duty_by : Option Pending → Duty
-  duty_by x = elim x [ None ↦ record { origin = d.origin; phase = idle; items = d.set; counts = no_failures; boots = []; turn = None; begun = false } | Some q ↦ duty_in d q ]
+  duty_by x = elim x [
+    | None ↦ record { origin = d.origin; phase = idle; items = d.set; counts = no_failures; boots = []; turn = None; begun = false }
+    | Some q
+        ↦ duty_in d q
+  ]
 
   pub record HasStage (x : Option Pending) (duty : Duty) : Type 0 where
     pub pending : Pending

@@ -49,13 +49,19 @@ is_readable platform (i ∷ items) n h = by (bytes_eq n i.name) (is_readable pla
     by true rest = (h.0.0, h.0.1.reads)
     by false rest = rest
 
-are_readable : (platform : Platform) (items : List Item) (names : List (List ℕ)) → AllByRecursion (HasRecipe platform) items → AllByRecursion (IsReadable platform items) names
+are_readable : (platform : Platform) (items : List Item) (names : List (List ℕ)) → AllByRecursion (HasRecipe platform) items →
+    AllByRecursion (IsReadable platform items) names
 are_readable platform items [] h = tt
 are_readable platform items (n ∷ names) h = (is_readable platform items n h, are_readable platform items names h)
 
-has_backs : (x : Option Origin) (set : List Item) (q : Pending) (b : List ℕ) (l : List (List ℕ)) → AreItemsFor x set → IsPlanFor x q.plan → backs x set q.plan (reach_of q) ≡ b ∷ l → IsSomeAnd x (HasBacks set q)
+has_backs : (x : Option Origin) (set : List Item) (q : Pending) (b : List ℕ) (l : List (List ℕ)) → AreItemsFor x set → IsPlanFor x q.plan →
+    backs x set q.plan (reach_of q) ≡ b ∷ l → IsSomeAnd x (HasBacks set q)
 has_backs None set q b l items plan is = absurd plan
-has_backs (Some o) set q b l items plan is = (are_readable o.platform set q.plan.boots items.recipes, λ none. let both : b ∷ l ≡ [] = sym is ∙ none in absurd cc)
+has_backs (Some o) set q b l items plan is = (
+  are_readable o.platform set q.plan.boots items.recipes,
+  λ none. let both : b ∷ l ≡ [] = sym is ∙ none in
+      absurd cc,
+)
 
 module _ (d : Device) (sound : IsSound d) where
   lawful_by : (q : Pending) (n : List ℕ) (l : List (List ℕ)) → backs_now d q ≡ l → IsUnderWay d q → MayBreak n q → Allowed (pends d (Some q)) (break_by l n)
@@ -65,7 +71,8 @@ module _ (d : Device) (sound : IsSound d) where
   pub break_allowed : (r : Record) → CanBreakOff d → IsBreak d r → Allowed d r
   break_allowed r can is = by d.pending sound.pending can is
     where
-      by : (o : Option Pending) → IfSome o (IsUnderWay d) → IsSomeAnd o (λ q. IsSome (failing_name q) × (q.plan.policy ≡ policies.Rollback)) → IsSomeAnd o (λ q. (n : List ℕ) × (failing_name q ≡ Some n) × (r ≡ break_by (backs_now d q) n)) → Allowed (pends d o) r
+      by : (o : Option Pending) → IfSome o (IsUnderWay d) → IsSomeAnd o (λ q. IsSome (failing_name q) × (q.plan.policy ≡ policies.Rollback)) →
+          IsSomeAnd o (λ q. (n : List ℕ) × (failing_name q ≡ Some n) × (r ≡ break_by (backs_now d q) n)) → Allowed (pends d o) r
       by None under can is = absurd is
       by (Some q) under can is = subst (λ (x : Record). Allowed (pends d (Some q)) x) (sym is.2) (lawful_by q is.0 (backs_now d q) refl under (can.1, is.1))
 
@@ -92,11 +99,13 @@ no_line d r way = subst (λ (x : Record). lines_of d (x ∷ []) ≡ []) (sym way
 is_plain : (d : Device) (r : Record) → IsBreak d r → (way : IsWay r) × (way.0 ≡ [] → HasNoBacks d)
 is_plain d r is = by d.pending is
   where
-    by : (o : Option Pending) → IsSomeAnd o (λ q. (n : List ℕ) × (failing_name q ≡ Some n) × (r ≡ break_by (backs_now d q) n)) → (way : IsWay r) × (way.0 ≡ [] → IsSomeAnd o (λ q. backs_now d q ≡ []))
+    by : (o : Option Pending) → IsSomeAnd o (λ q. (n : List ℕ) × (failing_name q ≡ Some n) × (r ≡ break_by (backs_now d q) n)) → (way : IsWay r) ×
+        (way.0 ≡ [] → IsSomeAnd o (λ q. backs_now d q ≡ []))
     by None is = absurd is
     by (Some q) is = ((backs_now d q, is.0, is.2), λ none. none)
 
-follows_by : (p : SessionState) (l : List (List ℕ)) (n : List ℕ) → (l ≡ [] → HasNoBacks p.device) → IsClear p → p.cut ≡ false → p.over ≡ false → MayFollow p (Recorded (break_by l n))
+follows_by : (p : SessionState) (l : List (List ℕ)) (n : List ℕ) → (l ≡ [] → HasNoBacks p.device) → IsClear p → p.cut ≡ false → p.over ≡ false →
+    MayFollow p (Recorded (break_by l n))
 follows_by p [] n plain clear cut over = ((clear, plain refl), (λ is. absurd (never p.cut cut is)), over)
 follows_by p (b ∷ l) n plain clear cut over = (clear, (λ is. absurd (never p.cut cut is)), over)
 
@@ -117,7 +126,8 @@ place_by p (b ∷ l) n = refl
 place_is : (p : SessionState) (r : Record) → IsWay r → leaves p (Recorded r) ≡ turned_place p (applied p.device r)
 place_is p r way = subst (λ (x : Record). leaves p (Recorded x) ≡ turned_place p (applied p.device x)) (sym way.2) (place_by p way.0 way.1)
 
-stands_turned : (p : SessionState) (d e : Device) (r : Record) (world : Components) (told : Told) (living : List ℕ) → Stands p d world told living → e ≡ applied d r → Stands (turned_place p (applied p.device r)) e world told living
+stands_turned : (p : SessionState) (d e : Device) (r : Record) (world : Components) (told : Told) (living : List ℕ) → Stands p d world told living →
+    e ≡ applied d r → Stands (turned_place p (applied p.device r)) e world told living
 stands_turned p d e r world told living s same = record {
   device_is = ap (λ (x : Device). applied x r) s.device_is ∙ sym same;
   world_is = s.world_is;
@@ -132,30 +142,40 @@ generation_is w stopped = rw stopped refl
 
 -- all may be stopped: before the first of the backs, and where none runs again
 clear_by : (d : Device) (q : Pending) (n : List ℕ) (l : List (List ℕ)) → backs_now d q ≡ l → (c : Bool) (p : SessionState) → p.boot ≡ None → p.boot_end ≡ None
-    → MayStopAll (duty_of (applied (pends d (Some q)) (break_by l n))) (duty_of (applied (pends d (Some q)) (break_by l n))).phase (if c then draining else previous) p
+    → MayStopAll (duty_of (applied (pends d (Some q)) (break_by l n))) (duty_of (applied (pends d (Some q)) (break_by l n))).phase
+    (if c then draining else previous) p
 clear_by d q n [] is true p boot end = tt
 clear_by d q n [] is false p boot end = tt
 clear_by d q n (b ∷ l) is true p boot end = (subst (λ (x : List (List ℕ)). is_some (slice_get x 0) ≡ true) (sym is) refl, boot, end)
 clear_by d q n (b ∷ l) is false p boot end = (subst (λ (x : List (List ℕ)). is_some (slice_get x 0) ≡ true) (sym is) refl, boot, end)
 
-clear_in : (d : Device) (r : Record) → IsBreak d r → (c : Bool) (p : SessionState) → p.boot ≡ None → p.boot_end ≡ None → MayStopAll (duty_of (applied d r)) (duty_of (applied d r)).phase (if c then draining else previous) p
+clear_in : (d : Device) (r : Record) → IsBreak d r → (c : Bool) (p : SessionState) → p.boot ≡ None → p.boot_end ≡ None →
+    MayStopAll (duty_of (applied d r)) (duty_of (applied d r)).phase (if c then draining else previous) p
 clear_in d r is c p boot end = by d.pending is
   where
     by : (o : Option Pending) → IsSomeAnd o (λ q. (n : List ℕ) × (failing_name q ≡ Some n) × (r ≡ break_by (backs_now d q) n))
         → MayStopAll (duty_of (applied (pends d o) r)) (duty_of (applied (pends d o) r)).phase (if c then draining else previous) p
     by None is = absurd is
     by (Some q) is =
-        subst (λ (x : Record). MayStopAll (duty_of (applied (pends d (Some q)) x)) (duty_of (applied (pends d (Some q)) x)).phase (if c then draining else previous) p) (sym is.2)
+        subst (λ (x : Record). MayStopAll (duty_of (applied (pends d (Some q)) x)) (duty_of (applied (pends d (Some q)) x)).phase
+        (if c then draining else previous) p) (sym is.2)
         (clear_by d q is.0 (backs_now d q) refl c p boot end)
 
 -- ---- from among bootstraps
 
 -- where a record leaves it with which another stage begins
-pub front_turned : (p : SessionState) (d e : Device) (world : Components) (told : Told) (living : List ℕ) → IsAtBootStage p d world told living → (r : Record) → e ≡ applied d r → IsAtBootStage (turned_place p (applied p.device r)) e world told living
+pub front_turned : (p : SessionState) (d e : Device) (world : Components) (told : Told) (living : List ℕ) → IsAtBootStage p d world told living →
+    (r : Record) → e ≡ applied d r → IsAtBootStage (turned_place p (applied p.device r)) e world told living
 front_turned p d e world told living f r same = record {
   between = record {
     stands = stands_turned p d e r world told living f.between.stands same;
-    still = record { stopped = f.between.still.stopped; quiet = f.between.still.quiet; generation = generation_is p.world f.between.still.stopped; cut = f.between.still.cut };
+    still = record {
+      stopped = f.between.still.stopped;
+      quiet = f.between.still.quiet;
+      generation = generation_is p.world f.between.still.stopped;
+      cut =
+          f.between.still.cut;
+    };
     boot = f.between.boot;
     boot_end = f.between.boot_end;
     probed = refl;
@@ -163,10 +183,12 @@ front_turned p d e world told living f r same = record {
   over = refl;
 }
 
-boot_follows : (p : SessionState) (d : Device) (world : Components) (told : Told) (living : List ℕ) → IsAtBootStage p d world told living → (r : Record) → IsBreak d r → MayFollow p (Recorded r)
+boot_follows : (p : SessionState) (d : Device) (world : Components) (told : Told) (living : List ℕ) → IsAtBootStage p d world told living → (r : Record) →
+    IsBreak d r → MayFollow p (Recorded r)
 boot_follows p d world told living f r is = follows p d r f.between.stands.device_is is (boot_clear p d world told living f) f.between.still.cut f.over
 
-module _ (p : SessionState) (d : Device) (world : Components) (told : Told) (living : List ℕ) (f : IsAtBootStage p d world told living) (r : Record) (way : IsWay r) where
+module _ (p : SessionState) (d : Device) (world : Components) (told : Told) (living : List ℕ) (f : IsAtBootStage p d world told living) (r : Record)
+    (way : IsWay r) where
   pub boot_front : (e : Device) → e ≡ applied d r → IsAtBootStage (leaves p (Recorded r)) e world told living
   boot_front e same = subst (λ (q : SessionState). IsAtBootStage q e world told living) (sym (place_is p r way)) (front_turned p d e world told living f r same)
 
@@ -175,7 +197,8 @@ module _ (p : SessionState) (d : Device) (world : Components) (told : Told) (liv
 
 -- ---- from among items that come up
 
-module _ (p : SessionState) (d : Device) (world : Components) (told : Told) (living : List ℕ) (b : HasBroken p d world told living) (r : Record) (is : IsBreak d r) where
+module _ (p : SessionState) (d : Device) (world : Components) (told : Told) (living : List ℕ) (b : HasBroken p d world told living) (r : Record)
+    (is : IsBreak d r) where
   items_follow : MayFollow p (Recorded r)
   items_follow = follows p d r b.comes.stands.device_is is (items_clear p d world told living b) b.comes.on.cut b.comes.on.over
 
@@ -185,7 +208,8 @@ module _ (p : SessionState) (d : Device) (world : Components) (told : Told) (liv
     quiet = b.quiet;
     orderly = record { sound = b.comes.keeps.sound; differ = b.comes.keeps.differ; names = b.comes.keeps.names };
     generation = refl;
-    clear = clear_in p.device r (subst (λ (x : Device). IsBreak x r) (sym b.comes.stands.device_is) is) (is_stopped p.world) (turned_place p (applied p.device r)) b.comes.on.boot b.comes.on.boot_end;
+    clear = clear_in p.device r (subst (λ (x : Device). IsBreak x r) (sym b.comes.stands.device_is) is) (is_stopped p.world)
+        (turned_place p (applied p.device r)) b.comes.on.boot b.comes.on.boot_end;
     boot = b.comes.on.boot;
     boot_end = b.comes.on.boot_end;
     probed = refl;
@@ -208,24 +232,31 @@ module _ (p : SessionState) (d : Device) (world : Components) (told : Told) (liv
 
 -- ---- over a disk
 
-module _ (entries : Image → List (List ℕ) → Type 0) (files : List ℕ → Type 0) {D : Type 0} {may_leave : D → Image → Type 0} {moment : D → ℕ} {left_since : D → ℕ → Image → Type 0} {is_modelled : Bool} {seen : D → Image}
+module _ (entries : Image → List (List ℕ) → Type 0) (files : List ℕ → Type 0) {D : Type 0} {may_leave : D → Image → Type 0} {moment : D → ℕ} {left_since : D →
+    ℕ → Image → Type 0} {is_modelled : Bool} {seen : D → Image}
     (laws : DiskLaws is_modelled seen may_leave moment left_since) where
   abbrev Notes : D → D → Device → Record → Type 0
   Notes old new d r = Leaves moment left_since old new (LeavesEither may_leave files entries old d (applied d r))
 
-  pub turn_went : (old new : D) (list : Option (List RunnerEntry)) (p : SessionState) (d : Device) (r : Record) → p.device ≡ d → MayFollow p (Recorded r) → Allowed d r → Notes old new d r
+  pub turn_went : (old new : D) (list : Option (List RunnerEntry)) (p : SessionState) (d : Device) (r : Record) → p.device ≡ d → MayFollow p (Recorded r) →
+      Allowed d r → Notes old new d r
       → IsTrace entries files may_leave moment left_since old new list list p (Recorded r ∷ [])
   turn_went old new list p d r device may allowed notes =
       let same = sym device in
       kept_one entries files laws old new list p r may (subst (λ (x : Device). Allowed x r) same allowed) (subst (λ (x : Device). Notes old new x r) same notes)
 
-  pub boot_went : (old new : D) (list : Option (List RunnerEntry)) (p : SessionState) (d : Device) (world : Components) (told : Told) (living : List ℕ) → IsAtBootStage p d world told living → (r : Record) → IsBreak d r → Allowed d r → Notes old new d r
+  pub boot_went : (old new : D) (list : Option (List RunnerEntry)) (p : SessionState) (d : Device) (world : Components) (told : Told) (living : List ℕ) →
+      IsAtBootStage p d world told living → (r : Record) → IsBreak d r → Allowed d r → Notes old new d r
       → IsTrace entries files may_leave moment left_since old new list list p (Recorded r ∷ [])
-  boot_went old new list p d world told living f r is allowed notes = turn_went old new list p d r f.between.stands.device_is (boot_follows p d world told living f r is) allowed notes
+  boot_went old new list p d world told living f r is allowed notes = turn_went old new list p d r f.between.stands.device_is
+      (boot_follows p d world told living f r is) allowed notes
 
-  pub items_went : (old new : D) (list : Option (List RunnerEntry)) (p : SessionState) (d : Device) (world : Components) (told : Told) (living : List ℕ) → HasBroken p d world told living → (r : Record) → IsBreak d r → Allowed d r → Notes old new d r
+  pub items_went : (old new : D) (list : Option (List RunnerEntry)) (p : SessionState) (d : Device) (world : Components) (told : Told) (living : List ℕ) →
+      HasBroken p d world told living → (r : Record) → IsBreak d r → Allowed d r → Notes old new d r
       → IsTrace entries files may_leave moment left_since old new list list p (Recorded r ∷ [])
-  items_went old new list p d world told living b r is allowed notes = turn_went old new list p d r b.comes.stands.device_is (items_follow p d world told living b r is) allowed notes
+  items_went old new list p d world told living b r is allowed notes = turn_went old new list p d r b.comes.stands.device_is
+      (items_follow p d world told living b r is) allowed notes
 
-  pub turn_doubt : (old new : D) (p : SessionState) (d : Device) (r : Record) → p.device ≡ d → Allowed d r → Notes old new d r → LeftAt entries may_leave new p (Recorded r ∷ []) over.Disk
+  pub turn_doubt : (old new : D) (p : SessionState) (d : Device) (r : Record) → p.device ≡ d → Allowed d r → Notes old new d r →
+      LeftAt entries may_leave new p (Recorded r ∷ []) over.Disk
   turn_doubt old new p d r same allowed notes = doubt_at entries files laws old new p d r same allowed notes

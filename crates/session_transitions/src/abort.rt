@@ -18,7 +18,8 @@ pub fn kill_all<R: Runner, S: Supervise>(runner: &mut R, supervisor: &S)
     requires placed { (p : SessionState) × AsTold R.Runner runner.old (IsGivenUp p (S.world supervisor.now)) }
     // Nothing is done but that the moment is asked for and children are killed.
     ensures trace { (p : SessionState) → AsTold R.Runner runner.old (IsGivenUp p (S.world supervisor.now)) →
-        (h : List TraceEvent) × Acts p h (R.list runner.old) (R.list runner.new) × KeepsRest p (state_after p h) × IsBare (state_after p h) × AllByRecursion IsLast h }
+        (h : List TraceEvent) × Acts p h (R.list runner.old) (R.list runner.new) × KeepsRest p (state_after p h) × IsBare (state_after p h) ×
+        AllByRecursion IsLast h }
     ensures none { R.living runner.new ≡ [] }
 {
     // The moment may be due, as after a wait.

@@ -40,7 +40,8 @@ pub fn begin_rollback_again<D: Disk, J: Journal + Drop>(
     requires failed { has_three (duty_of (activating_device state)).counts ≡ true }
     requires policy { is_to_roll_back (activating_device state) ≡ true }
     // Where it gives up, no child lives.
-    ensures trace { (p : SessionState) → (world : Components) → (told : Told) → (living : List ℕ) → IsAtBootStage p (activating_device state) world told living →
+    ensures trace { (p : SessionState) → (world : Components) → (told : Told) → (living : List ℕ) →
+        IsAtBootStage p (activating_device state) world told living →
         (h : List TraceEvent) × IsTraceOver D.Disk J.Journal disk.old disk.new told.list told.list p h
         × (lines_of p.device (records_of h) ≡ [])
         × LeftOver D.Disk J.Journal disk.new p h (λ s q. IsAtBootStage q (broken_device s) world told living) result
@@ -72,10 +73,12 @@ pub fn close_failed_again<D: Disk, J: Journal + Drop, K: Sink, S: Supervise>(
     requires failed { has_three (duty_of (activating_device state)).counts ≡ true }
     requires policy { is_to_roll_back (activating_device state) ≡ false }
     // Where it gives up, no child lives.
-    ensures trace { (p : SessionState) → (told : Told) → (living : List ℕ) → IsAtBootStage p (activating_device state) (S.world supervisor.old) told living → IsOrderly p.world →
+    ensures trace { (p : SessionState) → (told : Told) → (living : List ℕ) → IsAtBootStage p (activating_device state) (S.world supervisor.old) told living →
+        IsOrderly p.world →
         (h : List TraceEvent) × IsTraceOver D.Disk J.Journal disk.old disk.new told.list told.list p h
         × Lines (K.held sink.old) (K.held sink.new) p.device (records_of h) result
-        × LeftOver D.Disk J.Journal disk.new p h (λ s q. HasClosed outcomes.RollbackNotRequested (records_of h) q (idle_device s) (S.world supervisor.new) told living) result
+        × LeftOver D.Disk J.Journal disk.new p h (λ s q. HasClosed outcomes.RollbackNotRequested (records_of h) q (idle_device s) (S.world supervisor.new)
+        told living) result
         × OnErr result (IsBare (state_after p h)) }
     ensures taken { IfOk result (λ s. idle_device s ≡ applied (activating_device state) (stored.Closed outcomes.RollbackNotRequested)) }
     ensures drives { Drives (S.world supervisor.new) }
@@ -114,10 +117,12 @@ pub fn close_again<D: Disk, J: Journal + Drop, K: Sink, S: Supervise>(
     requires held { Holds D.Disk J.Journal OwnsRolling state disk.old }
     requires failed { has_three (duty_of (rolling_device state)).counts ≡ true }
     // Where it gives up, no child lives.
-    ensures trace { (p : SessionState) → (told : Told) → (living : List ℕ) → IsAtBootStage p (rolling_device state) (S.world supervisor.old) told living → IsOrderly p.world →
+    ensures trace { (p : SessionState) → (told : Told) → (living : List ℕ) → IsAtBootStage p (rolling_device state) (S.world supervisor.old) told living →
+        IsOrderly p.world →
         (h : List TraceEvent) × IsTraceOver D.Disk J.Journal disk.old disk.new told.list told.list p h
         × Lines (K.held sink.old) (K.held sink.new) p.device (records_of h) result
-        × LeftOver D.Disk J.Journal disk.new p h (λ s q. HasClosed outcomes.UnableToRollback (records_of h) q (idle_device s) (S.world supervisor.new) told living) result
+        × LeftOver D.Disk J.Journal disk.new p h (λ s q. HasClosed outcomes.UnableToRollback (records_of h) q (idle_device s) (S.world supervisor.new) told
+        living) result
         × OnErr result (IsBare (state_after p h)) }
     ensures taken { IfOk result (λ s. idle_device s ≡ applied (rolling_device state) (stored.Closed outcomes.UnableToRollback)) }
     ensures drives { Drives (S.world supervisor.new) }

@@ -53,10 +53,12 @@ pub fn close_failed_booting<D: Disk, J: Journal + Drop, K: Sink, S: Supervise>(
     requires failed { has_failed (booting_device state) ≡ true }
     requires policy { is_to_roll_back (booting_device state) ≡ false }
     // Where it gives up, no child lives.
-    ensures trace { (p : SessionState) → (told : Told) → (living : List ℕ) → IsAtBootStage p (booting_device state) (S.world supervisor.old) told living → IsOrderly p.world →
+    ensures trace { (p : SessionState) → (told : Told) → (living : List ℕ) → IsAtBootStage p (booting_device state) (S.world supervisor.old) told living →
+        IsOrderly p.world →
         (h : List TraceEvent) × IsTraceOver D.Disk J.Journal disk.old disk.new told.list told.list p h
         × Lines (K.held sink.old) (K.held sink.new) p.device (records_of h) result
-        × LeftOver D.Disk J.Journal disk.new p h (λ s q. HasClosed outcomes.RollbackNotRequested (records_of h) q (idle_device s) (S.world supervisor.new) told living) result
+        × LeftOver D.Disk J.Journal disk.new p h (λ s q. HasClosed outcomes.RollbackNotRequested (records_of h) q (idle_device s) (S.world supervisor.new)
+        told living) result
         × OnErr result (IsBare (state_after p h)) }
     ensures taken { IfOk result (λ s. idle_device s ≡ applied (booting_device state) (stored.Closed outcomes.RollbackNotRequested)) }
     ensures drives { Drives (S.world supervisor.new) }
@@ -98,7 +100,8 @@ pub fn close_failed_activating<D: Disk, J: Journal + Drop, K: Sink, S: Supervise
     ensures trace { (p : SessionState) → (told : Told) → (living : List ℕ) → HasBroken p (activating_device state) (S.world supervisor.old) told living →
         (h : List TraceEvent) × IsTraceOver D.Disk J.Journal disk.old disk.new told.list told.list p h
         × Lines (K.held sink.old) (K.held sink.new) p.device (records_of h) result
-        × LeftOver D.Disk J.Journal disk.new p h (λ s q. HasClosed outcomes.RollbackNotRequested (records_of h) q (idle_device s) (S.world supervisor.new) told living) result
+        × LeftOver D.Disk J.Journal disk.new p h (λ s q. HasClosed outcomes.RollbackNotRequested (records_of h) q (idle_device s) (S.world supervisor.new)
+        told living) result
         × OnErr result (IsGivenUp (state_after p h) (S.world supervisor.new) told living) }
     ensures taken { IfOk result (λ s. idle_device s ≡ applied (activating_device state) (stored.Closed outcomes.RollbackNotRequested)) }
     ensures drives { Drives (S.world supervisor.new) }
@@ -136,10 +139,12 @@ pub fn close_failed_backing<D: Disk, J: Journal + Drop, K: Sink, S: Supervise>(
     requires held { Holds D.Disk J.Journal OwnsBacking state disk.old }
     requires failed { has_failed (backing_device state) ≡ true }
     // Where it gives up, no child lives.
-    ensures trace { (p : SessionState) → (told : Told) → (living : List ℕ) → IsAtBootStage p (backing_device state) (S.world supervisor.old) told living → IsOrderly p.world →
+    ensures trace { (p : SessionState) → (told : Told) → (living : List ℕ) → IsAtBootStage p (backing_device state) (S.world supervisor.old) told living →
+        IsOrderly p.world →
         (h : List TraceEvent) × IsTraceOver D.Disk J.Journal disk.old disk.new told.list told.list p h
         × Lines (K.held sink.old) (K.held sink.new) p.device (records_of h) result
-        × LeftOver D.Disk J.Journal disk.new p h (λ s q. HasClosed outcomes.UnableToRollback (records_of h) q (idle_device s) (S.world supervisor.new) told living) result
+        × LeftOver D.Disk J.Journal disk.new p h (λ s q. HasClosed outcomes.UnableToRollback (records_of h) q (idle_device s) (S.world supervisor.new) told
+        living) result
         × OnErr result (IsBare (state_after p h)) }
     ensures taken { IfOk result (λ s. idle_device s ≡ applied (backing_device state) (stored.Closed outcomes.UnableToRollback)) }
     ensures drives { Drives (S.world supervisor.new) }

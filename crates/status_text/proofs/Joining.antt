@@ -11,7 +11,8 @@ module _ {A : Type 0} (tree_of : A → Data) where
   abbrev pub text_from : ℕ → List A → List ℕ
   text_from at xs = items_text (nat_lt 0 at) (items_of (map tree_of xs))
 
-  pub goes_on : (out total : List ℕ) (at : ℕ) (x : A) (xs : List A) → out ++ text_from at (x ∷ xs) ≡ total → (out ++ comma_if (nat_lt 0 at) ++ compact_text (tree_of x)) ++ text_from (at + 1) xs ≡ total
+  pub goes_on : (out total : List ℕ) (at : ℕ) (x : A) (xs : List A) → out ++ text_from at (x ∷ xs) ≡ total →
+      (out ++ comma_if (nat_lt 0 at) ++ compact_text (tree_of x)) ++ text_from (at + 1) xs ≡ total
   goes_on out total at x xs so_far =
       let later : nat_lt 0 (at + 1) ≡ true = lt-ltb 0 (at + 1) (omega arith) in
       rw later (append_assoc (out ++ comma_if (nat_lt 0 at)) (compact_text (tree_of x)) (items_text true (items_of (map tree_of xs)))
@@ -21,8 +22,10 @@ module _ {A : Type 0} (tree_of : A → Data) where
 pub joined3 : (o a b c p q : List ℕ) → p ≡ o ++ a → q ≡ p ++ b → q ++ c ≡ o ++ (a ++ (b ++ c))
 joined3 o a b c p q first second = rw (second, first) (simp append_assoc)
 
-pub joined6 : (o a b c d e f p q r s t : List ℕ) → p ≡ o ++ a → q ≡ p ++ b → r ≡ q ++ c → s ≡ r ++ d → t ≡ s ++ e → t ++ f ≡ o ++ (a ++ (b ++ (c ++ (d ++ (e ++ f)))))
+pub joined6 : (o a b c d e f p q r s t : List ℕ) → p ≡ o ++ a → q ≡ p ++ b → r ≡ q ++ c → s ≡ r ++ d → t ≡ s ++ e →
+    t ++ f ≡ o ++ (a ++ (b ++ (c ++ (d ++ (e ++ f)))))
 joined6 o a b c d e f p q r s t first second third fourth fifth = rw (fifth, fourth, third, second, first) (simp append_assoc)
 
-pub joined7 : (o a b c d e f g p q r s t u : List ℕ) → p ≡ o ++ a → q ≡ p ++ b → r ≡ q ++ c → s ≡ r ++ d → t ≡ s ++ e → u ≡ t ++ f → u ++ g ≡ o ++ (a ++ (b ++ (c ++ (d ++ (e ++ (f ++ g))))))
+pub joined7 : (o a b c d e f g p q r s t u : List ℕ) → p ≡ o ++ a → q ≡ p ++ b → r ≡ q ++ c → s ≡ r ++ d → t ≡ s ++ e → u ≡ t ++ f →
+    u ++ g ≡ o ++ (a ++ (b ++ (c ++ (d ++ (e ++ (f ++ g))))))
 joined7 o a b c d e f g p q r s t u first second third fourth fifth sixth = rw (sixth, fifth, fourth, third, second, first) (simp append_assoc)

@@ -6,7 +6,8 @@ ghost use Rattle.tree_core.specs.View.{view};
 ghost use Rattle.device.specs.Devices.{device_view, pending_view, IsRegularDevice};
 ghost use Rattle.status_text.specs.Regularity.{AreRegular};
 ghost use Rattle.status_text.specs.Lists.{texts};
-ghost use Rattle.status_text.specs.Status.{line, origin_lines, requirement_line, revision_line, group_lines, component_line, closed_line, pending_lines, status_text};
+ghost use Rattle.status_text.specs.Status.{line, origin_lines, requirement_line, revision_line, group_lines, component_line, closed_line, pending_lines};
+ghost use Rattle.status_text.specs.Status.{status_text};
 
 use crate::places::group_at;
 use crate::words::{outcome_word, stage_word};
@@ -16,7 +17,8 @@ use records::{Group, Item, Origin, Requirement};
 use std::alloc::Global;
 
 /// The status of a device in lines, each with a line feed at its end: `thing THING`, `nucleus VERSION`, then for each
-/// group `group ARN`, where its revision is 1 or more `revision R`, and a line `require NAME RANGE` for each of its requirements, `component NAME VERSION CONFIG` for
+/// group `group ARN`, where its revision is 1 or more `revision R`, and a line `require NAME RANGE` for each of its
+/// requirements, `component NAME VERSION CONFIG` for
 /// each component, its configuration as compact JSON, `closed ID OUTCOME` for each closed deployment, and where one
 /// is pending `pending ID STAGE`.
 pub fn status_lines(alloc: Global, device: &Device) -> Result<Text, NoMemory>

@@ -113,7 +113,8 @@ fn put_pair(
     first: (&str, &str),
     second: (&str, &str),
 ) -> Result<(), NoMemory>
-    ensures { OnOk result (out.new ≡ out.old ++ (first.entry.0.now ++ (quoted first.entry.1.now ++ (second.entry.0.now ++ (quoted second.entry.1.now ++ codes "}"))))) }
+    ensures { OnOk result (out.new ≡ out.old ++ (first.entry.0.now
+        ++ (quoted first.entry.1.now ++ (second.entry.0.now ++ (quoted second.entry.1.now ++ codes "}"))))) }
 {
     out.push_str(first.0)?;
     put_text(alloc, out, first.1)?;
@@ -172,7 +173,10 @@ fn put_group(alloc: Global, out: &mut Text, group: &Group) -> Result<(), NoMemor
 /// Adds the beginning of the object, up to its third field.
 fn put_lists(alloc: Global, out: &mut Text, device: &Device) -> Result<(), NoMemory>
     requires { IsRegularDevice (device_view device.now) }
-    ensures text { OnOk result (out.new ≡ out.old ++ (codes "{\"closed\":" ++ (compact_text (list_tree closed_tree device.now.closed) ++ (codes ",\"components\":" ++ (compact_text (list_tree component_tree (map item_view device.now.set)) ++ (codes ",\"groups\":" ++ compact_text (list_tree group_tree device.now.groups.list))))))) }
+    ensures text { OnOk result (out.new ≡ out.old ++ (codes "{\"closed\":"
+        ++ (compact_text (list_tree closed_tree device.now.closed)
+        ++ (codes ",\"components\":" ++ (compact_text (list_tree component_tree (map item_view device.now.set))
+        ++ (codes ",\"groups\":" ++ compact_text (list_tree group_tree device.now.groups.list))))))) }
     ensures numbers { OnOk result (AreNumbers device.now.groups.list) }
 {
     out.push_str("{\"closed\":")?;
@@ -190,7 +194,9 @@ fn put_rest(
     origin: &Origin,
     pending: &Option<Pending>,
 ) -> Result<(), NoMemory>
-    ensures { OnOk result (out.new ≡ out.old ++ (codes ",\"nucleus\":" ++ (quoted origin.now.nucleus ++ (codes ",\"pending\":" ++ (compact_text (pending_tree (option_map pending_view pending.now)) ++ (codes ",\"thing\":" ++ (quoted origin.now.thing ++ codes "}"))))))) }
+    ensures { OnOk result (out.new ≡ out.old ++ (codes ",\"nucleus\":"
+        ++ (quoted origin.now.nucleus ++ (codes ",\"pending\":"
+        ++ (compact_text (pending_tree (option_map pending_view pending.now)) ++ (codes ",\"thing\":" ++ (quoted origin.now.thing ++ codes "}"))))))) }
 {
     out.push_str(",\"nucleus\":")?;
     put_text(alloc, out, origin.nucleus.text().as_str())?;

@@ -1,5 +1,6 @@
 //! A runner in memory.
-ghost use Rattle.std.specs.Prelude.{◌≡◌, ◌≤◌, ◌<◌, ◌+◌, ◌-◌, ◌^◌, ◌++◌, ◌∷◌, ◌↔◌, [], ℕ, List, Some, None, true, false, All, Contains, IsTrue, IfOk, IfSome, IfNone, OnErr, IsErr, IsNone, min, max};
+ghost use Rattle.std.specs.Prelude.{◌≡◌, ◌≤◌, ◌<◌, ◌+◌, ◌-◌, ◌^◌, ◌++◌, ◌∷◌, ◌↔◌, [], ℕ, List, Some, None, true, false, All, Contains, IsTrue, IfOk, IfSome};
+ghost use Rattle.std.specs.Prelude.{IfNone, OnErr, IsErr, IsNone, min, max};
 ghost use Rattle.std.specs.List.{list_any, list_all};
 ghost use Rattle.std.specs.Str.{bytes_eq};
 ghost use Rattle.nuc_base.specs.Faults.{HasCause, Rose};
@@ -87,7 +88,8 @@ fn on_path_seen(alloc: Global, word: &Text, found: bool) -> Result<Seen, NoMemor
 }
 
 impl ScriptedRunner {
-    ghost use Rattle.step_runner.specs.Scripted.{unplayed, refused_starts, present_texts, start_calls, entries_kept, entries_told, moment_asked, is_asked, now_of, living_of, started_by, faults_by, Same, in_time};
+    ghost use Rattle.step_runner.specs.Scripted.{unplayed, refused_starts, present_texts, start_calls, entries_kept, entries_told, moment_asked, is_asked};
+    ghost use Rattle.step_runner.specs.Scripted.{now_of, living_of, started_by, faults_by, Same, in_time};
 
     /// Each exit is one that a child can have by itself.
     pub fn new(
@@ -160,7 +162,8 @@ impl ScriptedRunner {
 
     /// Adds an entry where there was memory for it.
     fn keep(&mut self, seen: Result<Seen, NoMemory>)
-        ensures kept { (s : Seen) → IfOk seen (λ x. x ≡ s) → Notes (Listed entries_told moment_asked is_asked self.old) (Listed entries_told moment_asked is_asked self.new) s }
+        ensures kept { (s : Seen) → IfOk seen (λ x. x ≡ s) → Notes (Listed entries_told moment_asked is_asked self.old)
+            (Listed entries_told moment_asked is_asked self.new) s }
         ensures same { Same self.old self.new }
     {
         match seen {
@@ -170,7 +173,8 @@ impl ScriptedRunner {
     }
 
     fn keep_started(&mut self, command: &Command, child: u64)
-        ensures kept { Notes (Listed entries_told moment_asked is_asked self.old) (Listed entries_told moment_asked is_asked self.new) (seen.Started child command.now) }
+        ensures kept { Notes (Listed entries_told moment_asked is_asked self.old) (Listed entries_told moment_asked is_asked self.new)
+            (seen.Started child command.now) }
         ensures same { Same self.old self.new }
     {
         let seen = started_seen(self.alloc, command, child);
@@ -178,7 +182,8 @@ impl ScriptedRunner {
     }
 
     fn keep_refused(&mut self, command: &Command)
-        ensures kept { Notes (Listed entries_told moment_asked is_asked self.old) (Listed entries_told moment_asked is_asked self.new) (seen.Refused command.now) }
+        ensures kept { Notes (Listed entries_told moment_asked is_asked self.old) (Listed entries_told moment_asked is_asked self.new)
+            (seen.Refused command.now) }
         ensures same { Same self.old self.new }
     {
         let seen = refused_seen(self.alloc, command);
@@ -186,7 +191,8 @@ impl ScriptedRunner {
     }
 
     fn keep_exists(&mut self, path: &Text, found: bool)
-        ensures kept { Notes (Listed entries_told moment_asked is_asked self.old) (Listed entries_told moment_asked is_asked self.new) (seen.Exists path.now found) }
+        ensures kept { Notes (Listed entries_told moment_asked is_asked self.old) (Listed entries_told moment_asked is_asked self.new)
+            (seen.Exists path.now found) }
         ensures same { Same self.old self.new }
     {
         let seen = exists_seen(self.alloc, path, found);
@@ -194,7 +200,8 @@ impl ScriptedRunner {
     }
 
     fn keep_on_path(&mut self, word: &Text, found: bool)
-        ensures kept { Notes (Listed entries_told moment_asked is_asked self.old) (Listed entries_told moment_asked is_asked self.new) (seen.OnPath word.now found) }
+        ensures kept { Notes (Listed entries_told moment_asked is_asked self.old) (Listed entries_told moment_asked is_asked self.new)
+            (seen.OnPath word.now found) }
         ensures same { Same self.old self.new }
     {
         let seen = on_path_seen(self.alloc, word, found);
@@ -204,8 +211,10 @@ impl ScriptedRunner {
     /// Whether this start is refused. A child that starts lives from here on.
     fn admit(&mut self) -> Option<u64>
         ensures fresh { IfSome result (λ n. ¬ Contains (living_of self.old) n) }
-        ensures some { IfSome result (λ n. (n ≡ started_by self.old) × (started_by self.new ≡ n + 1) × (living_of self.new ≡ n ∷ living_of self.old) × (faults_by self.new ≡ faults_by self.old)) }
-        ensures none { IfNone result ((started_by self.new ≡ started_by self.old) × (living_of self.new ≡ living_of self.old) × Rose (faults_by self.old) (faults_by self.new)) }
+        ensures some { IfSome result (λ n. (n ≡ started_by self.old) × (started_by self.new ≡ n + 1) × (living_of self.new ≡ n ∷ living_of self.old) ×
+            (faults_by self.new ≡ faults_by self.old)) }
+        ensures none { IfNone result ((started_by self.new ≡ started_by self.old) × (living_of self.new ≡ living_of self.old) ×
+            Rose (faults_by self.old) (faults_by self.new)) }
         ensures later { faults_by self.old ≤ faults_by self.new }
         ensures listed { Contains (refused_starts self.old) (start_calls self.old) → IsNone result }
         ensures counted { start_calls self.new ≡ min (start_calls self.old + 1) (2 ^ 64 - 1) }
@@ -243,7 +252,8 @@ impl ScriptedRunner {
 }
 
 impl Runner for ScriptedRunner {
-    ghost use Rattle.step_runner.specs.Scripted.{unplayed, refused_starts, present_texts, start_calls, entries_kept, entries_told, moment_asked, is_asked, now_of, living_of, started_by, faults_by, Same, Plays};
+    ghost use Rattle.step_runner.specs.Scripted.{unplayed, refused_starts, present_texts, start_calls, entries_kept, entries_told, moment_asked, is_asked};
+    ghost use Rattle.step_runner.specs.Scripted.{now_of, living_of, started_by, faults_by, Same, Plays};
 
     ghost list = { entries_told };
 
@@ -260,11 +270,13 @@ impl Runner for ScriptedRunner {
     ghost faults = { faults_by };
 
     fn start(&mut self, command: &Command) -> Result<u64, RunnerFault>
-        ensures ok { IfOk result (λ n. Notes (Listed entries_told moment_asked is_asked self.old) (Listed entries_told moment_asked is_asked self.new) (seen.Started n command.now)) }
+        ensures ok { IfOk result (λ n. Notes (Listed entries_told moment_asked is_asked self.old) (Listed entries_told moment_asked is_asked self.new)
+            (seen.Started n command.now)) }
         ensures number { IfOk result (λ n. (n ≡ started_by self.old) × (started_by self.new ≡ n + 1)) }
         ensures lives { IfOk result (λ n. living_of self.new ≡ n ∷ living_of self.old) }
         ensures fresh { IfOk result (λ n. ¬ Contains (living_of self.old) n) }
-        ensures err { OnErr result (Notes (Listed entries_told moment_asked is_asked self.old) (Listed entries_told moment_asked is_asked self.new) (seen.Refused command.now)) }
+        ensures err { OnErr result (Notes (Listed entries_told moment_asked is_asked self.old) (Listed entries_told moment_asked is_asked self.new)
+            (seen.Refused command.now)) }
         ensures same { OnErr result ((living_of self.new ≡ living_of self.old) × (started_by self.new ≡ started_by self.old)) }
         ensures time { now_of self.old ≤ now_of self.new }
         ensures cause { HasCause (faults_by self.old) (faults_by self.new) result }
@@ -345,7 +357,8 @@ impl Runner for ScriptedRunner {
     }
 
     fn exists(&mut self, path: &Text) -> bool
-        ensures notes { Notes (Listed entries_told moment_asked is_asked self.old) (Listed entries_told moment_asked is_asked self.new) (seen.Exists path.now result) }
+        ensures notes { Notes (Listed entries_told moment_asked is_asked self.old) (Listed entries_told moment_asked is_asked self.new)
+            (seen.Exists path.now result) }
         ensures lives { living_of self.new ≡ living_of self.old }
         ensures time { now_of self.old ≤ now_of self.new }
         ensures same { started_by self.new ≡ started_by self.old }
@@ -359,7 +372,8 @@ impl Runner for ScriptedRunner {
     }
 
     fn on_path(&mut self, word: &Text) -> bool
-        ensures notes { Notes (Listed entries_told moment_asked is_asked self.old) (Listed entries_told moment_asked is_asked self.new) (seen.OnPath word.now result) }
+        ensures notes { Notes (Listed entries_told moment_asked is_asked self.old) (Listed entries_told moment_asked is_asked self.new)
+            (seen.OnPath word.now result) }
         ensures lives { living_of self.new ≡ living_of self.old }
         ensures time { now_of self.old ≤ now_of self.new }
         ensures same { started_by self.new ≡ started_by self.old }

@@ -37,7 +37,8 @@ step_prepared f step.Bootstrap = refl
 same_step : (t s : Step) → is_same_step t s ≡ true → t ≡ s
 same_step t s e = grind (arith, e)
 
-own_busy : (t : Step) (steps : StepSet) (o : Option Step) → is_busy_with t o ≡ true → (elim o [ None ↦ true | Some s ↦ has_step s steps ]) ≡ true → has_step t steps ≡ true
+own_busy : (t : Step) (steps : StepSet) (o : Option Step) → is_busy_with t o ≡ true → (elim o [ None ↦ true | Some s ↦ has_step s steps ]) ≡ true →
+    has_step t steps ≡ true
 own_busy t steps None b h = absurd (cc)
 own_busy t steps (Some s) b h = subst (λ (x : Step). has_step x steps ≡ true) (sym (same_step t s b)) h
 
@@ -70,7 +71,8 @@ found_some test [] = refl
 found_some test (d ∷ ds) = some_at (test d) d (find test ds) (list_any test ds) (found_some test ds)
 
 -- one that passes a stronger test
-pub has_found : (test other : Child → Bool) (p : ComponentState) (c : Child) → ((d : Child) → test d ≡ true → other d ≡ true) → find test p.children ≡ Some c → HasChild other c.number p
+pub has_found : (test other : Child → Bool) (p : ComponentState) (c : Child) → ((d : Child) → test d ≡ true → other d ≡ true) →
+    find test p.children ≡ Some c → HasChild other c.number p
 has_found test other p c f e = let x = found test p.children c e in record { child = c; here = x.0; number = refl; passes = f c x.1 }
 
 any_either : (f g : Child → Bool) (cs : List Child) → list_any (λ (c : Child). f c || g c) cs ≡ (list_any f cs || list_any g cs)
@@ -83,22 +85,26 @@ any_either f g (c ∷ cs) = ap (λ (b : Bool). (f c || g c) || b) (any_either f 
   four false false x y = refl
 
 -- one that is late, or that outlived the stop
-pub overdue_some : (m : ℕ) (p : ComponentState) (o : Option Child) → o ≡ find (λ (c : Child). has_passed m c.deadline || is_orphan p.life c.of) p.children → is_some o ≡ (is_late m p || has_orphan p)
+pub overdue_some : (m : ℕ) (p : ComponentState) (o : Option Child) → o ≡ find (λ (c : Child). has_passed m c.deadline || is_orphan p.life c.of) p.children →
+    is_some o ≡ (is_late m p || has_orphan p)
 overdue_some m p o e =
     ap (λ (x : Option Child). is_some x) e ∙ found_some (λ (c : Child). has_passed m c.deadline || is_orphan p.life c.of) p.children
     ∙ any_either (λ (c : Child). has_passed m c.deadline) (λ (c : Child). is_orphan p.life c.of) p.children
 
-pub overdue_child : (m : ℕ) (p : ComponentState) (c : Child) → Some c ≡ find (λ (d : Child). has_passed m d.deadline || is_orphan p.life d.of) p.children → HasChild (λ (d : Child). has_passed m d.deadline || is_orphan p.life d.of) c.number p
+pub overdue_child : (m : ℕ) (p : ComponentState) (c : Child) → Some c ≡ find (λ (d : Child). has_passed m d.deadline || is_orphan p.life d.of) p.children →
+    HasChild (λ (d : Child). has_passed m d.deadline || is_orphan p.life d.of) c.number p
 overdue_child m p c e =
     let t : Child → Bool = λ (d : Child). has_passed m d.deadline || is_orphan p.life d.of in
     has_found t t p c (λ d h. h) (sym e)
 
 -- ---- its stop
 
-pub kills_stop : (c : Life) (a : After) → is_awaited (event.Stop a) c ≡ true → (elim (table c (event.Stop a)) [ None ↦ false | Some r ↦ is_kill r.0 ]) ≡ (not (is_running c.state && c.steps.shutdown) && (c.runs || is_some c.busy))
+pub kills_stop : (c : Life) (a : After) → is_awaited (event.Stop a) c ≡ true → (elim (table c (event.Stop a)) [ None ↦ false | Some r ↦ is_kill r.0 ])
+    ≡ (not (is_running c.state && c.steps.shutdown) && (c.runs || is_some c.busy))
 kills_stop c a h = grind (arith, h)
 
-pub kills_is : (p : ComponentState) (a : After) → IsKeptPart p → is_awaited (event.Stop a) p.life ≡ true → kills (event.Stop a) p ≡ (not (is_running p.life.state && is_some p.fitted.shutdown) && (p.life.runs || is_some p.life.busy))
+pub kills_is : (p : ComponentState) (a : After) → IsKeptPart p → is_awaited (event.Stop a) p.life ≡ true →
+    kills (event.Stop a) p ≡ (not (is_running p.life.state && is_some p.fitted.shutdown) && (p.life.runs || is_some p.life.busy))
 kills_is p a k h = kills_stop p.life a h ∙ ap (λ (s : StepSet). not (is_running p.life.state && s.shutdown) && (p.life.runs || is_some p.life.busy)) k.steps
 
 pub spares_stop : (c : Life) (a : After) → is_awaited (event.Stop a) c ≡ true → (elim (table c (event.Stop a)) [ None ↦ false | Some r ↦ is_kill r.0 ]) ≡ false
@@ -106,7 +112,8 @@ pub spares_stop : (c : Life) (a : After) → is_awaited (event.Stop a) c ≡ tru
 spares_stop c a h e = grind (arith, h, e)
 
 -- the parts of a stop that is ready
-pub ready_parts : (p : ComponentState) (a : After) → p.stop ≡ Some a → is_stop_ready p ≡ true → (is_awaited (event.Stop a) p.life ≡ true) × (is_unstarted p ≡ false)
+pub ready_parts : (p : ComponentState) (a : After) → p.stop ≡ Some a → is_stop_ready p ≡ true → (is_awaited (event.Stop a) p.life ≡ true) ×
+    (is_unstarted p ≡ false)
 ready_parts p a e h =
     let x : (is_awaited (event.Stop a) p.life && not (has_orphan p || is_unstarted p)) ≡ true
     = subst (λ (o : Option After). (elim o [ None ↦ false | Some b ↦ is_awaited (event.Stop b) p.life && not (has_orphan p || is_unstarted p) ]) ≡ true) e h in
@@ -122,7 +129,11 @@ stands_on p a h = stands_at p.life.gone (and_parts (not p.life.gone) (awaits (ev
   stands_at true q = absurd (cc)
   stands_at false q = refl
 
-no_one : (o : Option Step) → is_some o ≡ true → (elim o as (λ (x : Option Step). Bool) [ None ↦ false | Some s ↦ is_busy_with s o && not (list_any (λ (c : Child). is_same_step s c.of) []) ]) ≡ false → ⊥
+no_one : (o : Option Step) → is_some o ≡ true → (elim o as (λ (x : Option Step). Bool) [
+  | None ↦ false
+  | Some s ↦ is_busy_with s o &&
+      not (list_any (λ (c : Child). is_same_step s c.of) [])
+]) ≡ false → ⊥
 no_one None i e = absurd (cc)
 no_one (Some step.Install) i e = absurd (cc)
 no_one (Some step.Run) i e = absurd (cc)
@@ -137,10 +148,15 @@ no_run true false e f h = absurd (cc)
 no_run false g e f h = absurd (cc)
 
 -- a stop that kills has a child to kill
-pub has_one : (p : ComponentState) (a : After) → IsWhole p → p.stop ≡ Some a → is_stop_ready p ≡ true → (p.life.runs || is_some p.life.busy) ≡ true → p.children ≡ [] → ⊥
+pub has_one : (p : ComponentState) (a : After) → IsWhole p → p.stop ≡ Some a → is_stop_ready p ≡ true → (p.life.runs || is_some p.life.busy) ≡ true →
+    p.children ≡ [] → ⊥
 has_one p a w e h k none =
     let x = ready_parts p a e h in
-    let u = subst (λ (cs : List Child). (elim p.life.busy [ None ↦ false | Some s ↦ is_busy_with s p.life.busy && not (list_any (λ (c : Child). is_same_step s c.of) cs) ]) ≡ false) none x.1 in
+    let u = subst (λ (cs : List Child). (elim p.life.busy [
+      | None ↦ false
+      | Some s ↦ is_busy_with s p.life.busy &&
+          not (list_any (λ (c : Child). is_same_step s c.of) cs)
+    ]) ≡ false) none x.1 in
     let r = subst (λ (cs : List Child). keeps_run p.life cs ≡ true) none w.run in
     elim (cases_Bool p.life.runs) [
       | inl y ↦ no_run p.life.runs p.life.gone y (stands_on p a x.0) r
@@ -158,10 +174,12 @@ none_here (c ∷ cs) e = absurd (cc)
 pub stop_awaits : (p : ComponentState) (a : After) → p.stop ≡ Some a → is_stop_ready p ≡ true → is_awaited (event.Stop a) p.life ≡ true
 stop_awaits p a e r = (ready_parts p a e r).0
 
-pub stop_moves : (p : ComponentState) (a : After) → p.stop ≡ Some a → is_stop_ready p ≡ true → kills (event.Stop a) p ≡ false → (m : ℕ) (b : Bool) → IsFor m b (Some a) p (Moves (event.Stop a))
+pub stop_moves : (p : ComponentState) (a : After) → p.stop ≡ Some a → is_stop_ready p ≡ true → kills (event.Stop a) p ≡ false → (m : ℕ) (b : Bool) →
+    IsFor m b (Some a) p (Moves (event.Stop a))
 stop_moves p a e r k m b = (refl, spares_stop p.life a (stop_awaits p a e r) k)
 
-pub stop_first : (p : ComponentState) (a : After) (c : Child) → kills (event.Stop a) p ≡ true → Some c ≡ slice_get p.children 0 → (m : ℕ) (b : Bool) → IsFor m b (Some a) p (Kills c.number)
+pub stop_first : (p : ComponentState) (a : After) (c : Child) → kills (event.Stop a) p ≡ true → Some c ≡ slice_get p.children 0 → (m : ℕ) (b : Bool) →
+    IsFor m b (Some a) p (Kills c.number)
 stop_first p a c k e m b = record {
   child = c;
   here = first_here p.children c e;
@@ -169,9 +187,11 @@ stop_first p a c k e m b = record {
   passes = or_right (has_passed m c.deadline) (is_orphan p.life c.of || kills (event.Stop a) p) (or_right (is_orphan p.life c.of) (kills (event.Stop a) p) k);
 }
 
-pub stop_none : (p : ComponentState) (a : After) → IsWhole p → p.stop ≡ Some a → is_stop_ready p ≡ true → kills (event.Stop a) p ≡ true → None ≡ slice_get p.children 0 → ⊥
+pub stop_none : (p : ComponentState) (a : After) → IsWhole p → p.stop ≡ Some a → is_stop_ready p ≡ true → kills (event.Stop a) p ≡ true →
+    None ≡ slice_get p.children 0 → ⊥
 stop_none p a w e r k n =
-    let x = and_parts (not (is_running p.life.state && p.life.steps.shutdown)) (p.life.runs || is_some p.life.busy) (sym (kills_stop p.life a (stop_awaits p a e r)) ∙ k) in
+    let x = and_parts (not (is_running p.life.state && p.life.steps.shutdown)) (p.life.runs || is_some p.life.busy)
+    (sym (kills_stop p.life a (stop_awaits p a e r)) ∙ k) in
     has_one p a w e r x.1 (none_here p.children n)
 
 -- ---- all of it
@@ -183,10 +203,12 @@ pub deed_retries : (m : ℕ) (b : Bool) (st : Option After) (p : ComponentState)
 deed_retries m b st p e = sym (or_left (b || may_retry p) (is_late m p || (is_some st || (has_orphan p || is_to_start p))) (or_right b (may_retry p) e))
 
 pub deed_overdue : (m : ℕ) (b : Bool) (st : Option After) (p : ComponentState) → true ≡ (is_late m p || has_orphan p) → true ≡ has_deed m b st p
-deed_overdue m b st p e = sym (or_right (b || may_retry p) (is_late m p || (is_some st || (has_orphan p || is_to_start p))) (elim (or_cases (is_late m p) (has_orphan p) (sym e)) [
-  | inl x ↦ or_left (is_late m p) (is_some st || (has_orphan p || is_to_start p)) x
-  | inr x ↦ or_right (is_late m p) (is_some st || (has_orphan p || is_to_start p)) (or_right (is_some st) (has_orphan p || is_to_start p) (or_left (has_orphan p) (is_to_start p) x))
-]))
+deed_overdue m b st p e = sym (or_right (b || may_retry p) (is_late m p || (is_some st || (has_orphan p || is_to_start p)))
+    (elim (or_cases (is_late m p) (has_orphan p) (sym e)) [
+      | inl x ↦ or_left (is_late m p) (is_some st || (has_orphan p || is_to_start p)) x
+      | inr x ↦ or_right (is_late m p) (is_some st || (has_orphan p || is_to_start p))
+          (or_right (is_some st) (has_orphan p || is_to_start p) (or_left (has_orphan p) (is_to_start p) x))
+    ]))
 
 pub deed_stops : (m : ℕ) (b : Bool) (st : Option After) (p : ComponentState) → is_some st ≡ true → true ≡ has_deed m b st p
 deed_stops m b st p e = sym (or_right (b || may_retry p) (is_late m p || (is_some st || (has_orphan p || is_to_start p)))
@@ -200,12 +222,14 @@ last_of false false false true o t e f g h i = absurd (cc)
 last_of false false false false true t e f g h i = absurd (cc)
 last_of false false false false false t e f g h i = refl
 
-pub deed_starts : (m : ℕ) (b : Bool) (st : Option After) (p : ComponentState) (x : Bool) → b ≡ false → may_retry p ≡ false → false ≡ (is_late m p || has_orphan p) → is_some st ≡ false → x ≡ is_to_start p → x ≡ has_deed m b st p
+pub deed_starts : (m : ℕ) (b : Bool) (st : Option After) (p : ComponentState) (x : Bool) → b ≡ false → may_retry p ≡ false →
+    false ≡ (is_late m p || has_orphan p) → is_some st ≡ false → x ≡ is_to_start p → x ≡ has_deed m b st p
 deed_starts m b st p x e f g h i =
     let y = or_parts (is_late m p) (has_orphan p) (sym g) in
     i ∙ last_of b (may_retry p) (is_late m p) (is_some st) (has_orphan p) (is_to_start p) e f y.0 h y.1
 
-pub overdue_due : (m : ℕ) (b : Bool) (st : Option After) (p : ComponentState) (n : ℕ) → HasChild (λ (c : Child). has_passed m c.deadline || is_orphan p.life c.of) n p → IsFor m b st p (Kills n)
+pub overdue_due : (m : ℕ) (b : Bool) (st : Option After) (p : ComponentState) (n : ℕ) →
+    HasChild (λ (c : Child). has_passed m c.deadline || is_orphan p.life c.of) n p → IsFor m b st p (Kills n)
 overdue_due m b st p n h =
     let c : Child = h.child in
     record {

@@ -1,5 +1,6 @@
 -- Flags that spread along hard needs.
-use Rattle.std.proofs.Common.{◌≡◌, ◌<◌, ◌≤◌, ◌+◌, ℕ, suc, zero, List, [], ◌∷◌, length, Bool, true, false, refl, sym, ap, ◌∙◌, arith, subst, get_or, take, drop, replicate, ◌⊎◌, inl, inr, add-one, Some}
+use Rattle.std.proofs.Common.{◌≡◌, ◌<◌, ◌≤◌, ◌+◌, ℕ, suc, zero, List, [], ◌∷◌, length, Bool, true, false, refl, sym, ap, ◌∙◌, arith, subst, get_or, take}
+use Rattle.std.proofs.Common.{drop, replicate, ◌⊎◌, inl, inr, add-one, Some}
 use Rattle.std.proofs.lemmas.List.{take_all}
 use Rattle.lifecycle.specs.declared.kinds.After.TheVariants as after
 use Rattle.std.proofs.Math.ListN.{set}
@@ -8,7 +9,8 @@ use Rattle.std.specs.Str.{bytes_eq}
 use Rattle.std.specs.Prelude.{◌&&◌, ◌||◌, not, if◌then◌else◌, slice_set}
 use Rattle.components.specs.Components.{ComponentState, At, component_name}
 use Rattle.components.specs.Changes.{is_replacing, replanned}
-use Rattle.components.specs.Marks.{Flagged, grown, reaching, is_flagged, needs_flagged, flagged, flagged_at, marked, restarted, may_restart, may_replan, Within, IsClosedBack}
+use Rattle.components.specs.Marks.{Flagged, grown, reaching, is_flagged, needs_flagged, flagged, flagged_at, marked, restarted, may_restart, may_replan}
+use Rattle.components.specs.Marks.{Within, IsClosedBack}
 use Rattle.components.specs.Flags.{with_flags, free, may_by, joins, Under, Grows, Spreads}
 use Rattle.components.proofs.Each.{at_more}
 use Rattle.components.proofs.Closes.{within_refl, trans, needs_more, most, closes, least}
@@ -45,7 +47,8 @@ flag_is [] k = false
 flag_is (h ∷ hs) zero = h.1
 flag_is (h ∷ hs) (suc k) = flag_is hs k
 
-set_under : (ps : List ComponentState) (bs : List Bool) (hs : Flagged) (k : ℕ) → Within (with_flags ps bs) hs → (k < length ps → k < length bs → flag_is hs k ≡ true) → Within (with_flags ps (set bs k true)) hs
+set_under : (ps : List ComponentState) (bs : List Bool) (hs : Flagged) (k : ℕ) → Within (with_flags ps bs) hs →
+    (k < length ps → k < length bs → flag_is hs k ≡ true) → Within (with_flags ps (set bs k true)) hs
 set_under [] bs hs k w f = w
 set_under (p ∷ ps) [] hs k w f = w
 set_under (p ∷ ps) (b ∷ bs) [] k w f = absurd w
@@ -60,7 +63,8 @@ tail_is : (all : Flagged) (h : ComponentState × Bool) (hs : Flagged) → grown 
 tail_is all h hs c = cc
 
 -- in what is closed, one that needs a flagged one has a flag
-closed_flag : (all hs : Flagged) (ps : List ComponentState) (bs : List Bool) (k : ℕ) → grown all hs ≡ hs → Within (with_flags ps bs) hs → k < length ps → k < length bs → At k (λ p. needs_flagged p.fitted.hard all ≡ true) ps → flag_is hs k ≡ true
+closed_flag : (all hs : Flagged) (ps : List ComponentState) (bs : List Bool) (k : ℕ) → grown all hs ≡ hs → Within (with_flags ps bs) hs → k < length ps →
+    k < length bs → At k (λ p. needs_flagged p.fitted.hard all ≡ true) ps → flag_is hs k ≡ true
 closed_flag all hs [] bs k c w l m n = absurd n
 closed_flag all hs (p ∷ ps) [] k c w l m n = absurd (omega arith)
 closed_flag all [] (p ∷ ps) (b ∷ bs) k c w l m n = absurd w
@@ -71,10 +75,13 @@ closed_flag all (h ∷ hs) (p ∷ ps) (b ∷ bs) (suc k) c w l m n = closed_flag
 
 -- ---- a pass
 
-pub join_under : (ps : List ComponentState) (old bs : List Bool) (k : ℕ) → Under ps old bs → At k (λ p. needs_flagged p.fitted.hard (with_flags ps bs) ≡ true) ps → Under ps old (set bs k true)
+pub join_under : (ps : List ComponentState) (old bs : List Bool) (k : ℕ) → Under ps old bs → At k (λ p. needs_flagged p.fitted.hard (with_flags ps bs) ≡ true)
+    ps → Under ps old (set bs k true)
 join_under ps old bs k u n = λ hs w c.
     let v = u hs w c in
-    set_under ps bs hs k v (λ l m. closed_flag hs hs ps bs k c v l m (at_more (λ p. needs_flagged p.fitted.hard (with_flags ps bs) ≡ true) (λ p. needs_flagged p.fitted.hard hs ≡ true) ps k (λ p e. needs_more p.fitted.hard (with_flags ps bs) hs v e) n))
+    set_under ps bs hs k v (λ l m. closed_flag hs hs ps bs k c v l m
+    (at_more (λ p. needs_flagged p.fitted.hard (with_flags ps bs) ≡ true) (λ p. needs_flagged p.fitted.hard hs ≡ true) ps k
+    (λ p e. needs_more p.fitted.hard (with_flags ps bs) hs v e) n))
 
 under_refl : (ps : List ComponentState) (bs : List Bool) → Under ps bs bs
 under_refl ps bs = λ hs w c. w
@@ -101,7 +108,8 @@ passes_none ps old = record {
 at_split : (j k : ℕ) → j < k + 1 → (j < k) ⊎ (j ≡ k)
 at_split j k l = elim (cases_eq j k) [ inl e ↦ inr e | inr ne ↦ inl (omega (arith, ne)) ]
 
-pub passes_skip : (ps : List ComponentState) (old bs : List Bool) (grew : Bool) (k : ℕ) → Passes ps old bs grew k → At k (λ p. false ≡ joins ps bs k p) ps → Passes ps old bs grew (k + 1)
+pub passes_skip : (ps : List ComponentState) (old bs : List Bool) (grew : Bool) (k : ℕ) → Passes ps old bs grew k → At k (λ p. false ≡ joins ps bs k p) ps →
+    Passes ps old bs grew (k + 1)
 passes_skip ps old bs grew k p j = record {
   many = p.many;
   more = p.more;
@@ -110,7 +118,8 @@ passes_skip ps old bs grew k p j = record {
   same = p.same;
   none = λ e i l. elim (at_split i k l) [
     | inl m ↦ p.none e i m
-    | inr q ↦ subst (λ (n : ℕ). At n (λ x. joins ps old n x ≡ false) ps) (sym q) (at_more (λ x. false ≡ joins ps bs k x) (λ x. joins ps old k x ≡ false) ps k (λ x h. subst (λ (cs : List Bool). joins ps cs k x ≡ false) (p.same e) (sym h)) j)
+    | inr q ↦ subst (λ (n : ℕ). At n (λ x. joins ps old n x ≡ false) ps) (sym q) (at_more (λ x. false ≡ joins ps bs k x) (λ x. joins ps old k x ≡ false) ps k
+        (λ x h. subst (λ (cs : List Bool). joins ps cs k x ≡ false) (p.same e) (sym h)) j)
   ];
 }
 
@@ -141,11 +150,13 @@ joined_free ps [] bs k j h = absurd h
 joined_free ps (q ∷ qs) bs k zero h = and_left (get_or bs k false) (needs_flagged q.fitted.hard (with_flags ps bs)) h
 joined_free ps (q ∷ qs) bs k (suc j) h = joined_free ps qs bs k j h
 
-pub passes_set : (ps : List ComponentState) (old bs : List Bool) (grew : Bool) (k : ℕ) → k < length bs → Passes ps old bs grew k → At k (λ p. true ≡ joins ps bs k p) ps → Passes ps old (set bs k true) true (k + 1)
+pub passes_set : (ps : List ComponentState) (old bs : List Bool) (grew : Bool) (k : ℕ) → k < length bs → Passes ps old bs grew k →
+    At k (λ p. true ≡ joins ps bs k p) ps → Passes ps old (set bs k true) true (k + 1)
 passes_set ps old bs grew k l p j = record {
   many = length-set bs k ∙ p.many;
   more = trans (with_flags ps old) (with_flags ps bs) (with_flags ps (set bs k true)) p.more (within_set ps bs k);
-  under = join_under ps old bs k p.under (at_more (λ x. true ≡ joins ps bs k x) (λ x. needs_flagged x.fitted.hard (with_flags ps bs) ≡ true) ps k (λ x h. and_right (get_or bs k false) (needs_flagged x.fitted.hard (with_flags ps bs)) h) j);
+  under = join_under ps old bs k p.under (at_more (λ x. true ≡ joins ps bs k x) (λ x. needs_flagged x.fitted.hard (with_flags ps bs) ≡ true) ps k
+      (λ x h. and_right (get_or bs k false) (needs_flagged x.fitted.hard (with_flags ps bs)) h) j);
   fewer = λ e. free_less grew (free (set bs k true)) (free bs) (free old) (free_set bs k l (joined_free ps ps bs k k j)) p.fewer (λ e. ap free (p.same e));
   same = λ e. absurd (cc);
   none = λ e. absurd (cc);
@@ -159,7 +170,8 @@ or_none : (a : Bool) → (a || false) ≡ a
 or_none true = refl
 or_none false = refl
 
-pub passes_next : (ps : List ComponentState) (old bs new : List Bool) (grew b : Bool) (k : ℕ) → k < length bs → Passes ps old bs grew k → At k (λ p. b ≡ joins ps bs k p) ps → new ≡ (if b then slice_set bs k true else bs)
+pub passes_next : (ps : List ComponentState) (old bs new : List Bool) (grew b : Bool) (k : ℕ) → k < length bs → Passes ps old bs grew k →
+    At k (λ p. b ≡ joins ps bs k p) ps → new ≡ (if b then slice_set bs k true else bs)
     → Passes ps old new (grew || b) (k + 1)
 passes_next ps old bs new grew true k l p j e = rw (e, or_is grew) (passes_set ps old bs grew k l p j)
 passes_next ps old bs new grew false k l p j e = rw (e, or_none grew) (passes_skip ps old bs grew k p j)
@@ -168,7 +180,9 @@ no_join : (b n : Bool) → (not b && n) ≡ false → (b || n) ≡ b
 no_join true n e = refl
 no_join false n e = e
 
-closed_all : (all : Flagged) (ps : List ComponentState) (bs : List Bool) → length bs ≡ length ps → ((j : ℕ) → j < length ps → At j (λ p. (not (get_or bs j false) && needs_flagged p.fitted.hard all) ≡ false) ps) → grown all (with_flags ps bs) ≡ with_flags ps bs
+closed_all : (all : Flagged) (ps : List ComponentState) (bs : List Bool) → length bs ≡ length ps →
+    ((j : ℕ) → j < length ps → At j (λ p. (not (get_or bs j false) && needs_flagged p.fitted.hard all) ≡ false) ps) →
+    grown all (with_flags ps bs) ≡ with_flags ps bs
 closed_all all [] bs m f = refl
 closed_all all (p ∷ ps) [] m f = absurd (omega (arith, m))
 closed_all all (p ∷ ps) (b ∷ bs) m f =
@@ -176,13 +190,15 @@ closed_all all (p ∷ ps) (b ∷ bs) m f =
     let i : grown all (with_flags ps bs) ≡ with_flags ps bs = closed_all all ps bs (omega (arith, m)) (λ j l. f (suc j) (omega arith)) in
     ap (λ (x : Bool). (p, x) ∷ grown all (with_flags ps bs)) e ∙ ap (λ (fs : Flagged). (p, b) ∷ fs) i
 
-pub spreads_of : (ps : List ComponentState) (old bs : List Bool) (grew : Bool) (k : ℕ) → length old ≡ length ps → length ps ≤ k → Passes ps old bs grew k → Spreads ps old bs grew
+pub spreads_of : (ps : List ComponentState) (old bs : List Bool) (grew : Bool) (k : ℕ) → length old ≡ length ps → length ps ≤ k → Passes ps old bs grew k →
+    Spreads ps old bs grew
 spreads_of ps old bs grew k m l p = record {
   many = p.many;
   more = p.more;
   under = p.under;
   fewer = p.fewer;
-  closed = λ e. subst (λ (cs : List Bool). IsClosedBack (with_flags ps cs)) (sym (p.same e)) (closed_all (with_flags ps old) ps old m (λ j h. p.none e j (omega (arith, l, h))));
+  closed = λ e. subst (λ (cs : List Bool). IsClosedBack (with_flags ps cs)) (sym (p.same e))
+      (closed_all (with_flags ps old) ps old m (λ j h. p.none e j (omega (arith, l, h))));
 }
 
 -- ---- all passes
@@ -201,7 +217,8 @@ pub grows_spread : (ps : List ComponentState) (first bs new : List Bool) (grew :
 grows_spread ps first bs new grew g s = grows_more ps first bs new g (record { many = s.many; more = s.more; under = s.under })
 
 -- one that needs a flagged one gets a flag
-pub grows_join : (ps : List ComponentState) (bs : List Bool) (k : ℕ) → At k (λ p. needs_flagged p.fitted.hard (with_flags ps bs) ≡ true) ps → Grows ps bs (set bs k true)
+pub grows_join : (ps : List ComponentState) (bs : List Bool) (k : ℕ) → At k (λ p. needs_flagged p.fitted.hard (with_flags ps bs) ≡ true) ps →
+    Grows ps bs (set bs k true)
 grows_join ps bs k n = record {
   many = length-set bs k;
   more = within_set ps bs k;
@@ -213,12 +230,14 @@ with_length [] bs e = refl
 with_length (p ∷ ps) [] e = absurd (omega (arith, e))
 with_length (p ∷ ps) (b ∷ bs) e = ap suc (with_length ps bs (omega (arith, e)))
 
-pub reached : (ps : List ComponentState) (first bs : List Bool) → length first ≡ length ps → Grows ps first bs → IsClosedBack (with_flags ps bs) → with_flags ps bs ≡ reaching (length ps) (with_flags ps first)
+pub reached : (ps : List ComponentState) (first bs : List Bool) → length first ≡ length ps → Grows ps first bs → IsClosedBack (with_flags ps bs) →
+    with_flags ps bs ≡ reaching (length ps) (with_flags ps first)
 reached ps first bs m r c =
     let fs = with_flags ps first in
     let e = with_length ps first m in
     subst (λ (n : ℕ). with_flags ps bs ≡ reaching n fs) e
-    (same_flags (with_flags ps bs) (reaching (length fs) fs) (r.under (reaching (length fs) fs) (most (length fs) fs) (closes fs)) (least (length fs) fs (with_flags ps bs) r.more c))
+    (same_flags (with_flags ps bs) (reaching (length fs) fs) (r.under (reaching (length fs) fs) (most (length fs) fs) (closes fs))
+    (least (length fs) fs (with_flags ps bs) r.more c))
 
 -- ---- the first flag
 
@@ -239,7 +258,8 @@ flag_at_one ps n k e = subst (λ (m : ℕ). with_flags ps (set (replicate m fals
 abbrev pub mark_one : Bool → (ComponentState → Bool) → ComponentState → ComponentState
 mark_one b may p = if b && may p then record p { stop = Some after.Restart } else p
 
-pub marks_more : (may : ComponentState → Bool) (xs ys : List ComponentState) (bs : List Bool) (k : ℕ) (d t : ComponentState) → length bs ≡ length xs → k < length xs → t ≡ mark_one (get_or bs k false) may (get_or ys k d)
+pub marks_more : (may : ComponentState → Bool) (xs ys : List ComponentState) (bs : List Bool) (k : ℕ) (d t : ComponentState) → length bs ≡ length xs →
+    k < length xs → t ≡ mark_one (get_or bs k false) may (get_or ys k d)
     → take k ys ≡ take k (marked may (with_flags xs bs)) → drop k ys ≡ drop k xs
     → (take (k + 1) (set ys k t) ≡ take (k + 1) (marked may (with_flags xs bs))) × (drop (k + 1) (set ys k t) ≡ drop (k + 1) xs)
 marks_more may [] ys bs k d t m l h a b = absurd (omega (arith, l))
@@ -253,28 +273,36 @@ marks_more may (x ∷ xs) (y ∷ ys) (c ∷ cs) (suc k) d t m l h a b =
     let e : y ≡ mark_one c may x = cc in
     let f : take k ys ≡ take k (marked may (with_flags xs cs)) = cc in
     let i = marks_more may xs ys cs k d t (omega (arith, m)) (omega (arith, l)) h f b in
-    rw add-one (let j = rw add-one at i.0 in ap (λ (p : ComponentState). p ∷ take (suc k) (set ys k t)) e ∙ ap (λ (ps : List ComponentState). mark_one c may x ∷ ps) j, rw add-one at i.1)
+    rw add-one (
+      let j = rw add-one at i.0 in ap (λ (p : ComponentState). p ∷ take (suc k) (set ys k t)) e ∙ ap
+          (λ (ps : List ComponentState). mark_one c may x ∷ ps) j,
+      rw add-one at i.1,
+    )
 
-marked_length : (may : ComponentState → Bool) (xs : List ComponentState) (bs : List Bool) → length bs ≡ length xs → length (marked may (with_flags xs bs)) ≡ length xs
+marked_length : (may : ComponentState → Bool) (xs : List ComponentState) (bs : List Bool) → length bs ≡ length xs → length (marked may (with_flags xs bs))
+    ≡ length xs
 marked_length may [] bs e = refl
 marked_length may (x ∷ xs) [] e = absurd (omega (arith, e))
 marked_length may (x ∷ xs) (b ∷ bs) e = ap suc (marked_length may xs bs (omega (arith, e)))
 
-pub marks_whole : (may : ComponentState → Bool) (xs ys : List ComponentState) (bs : List Bool) (k : ℕ) → length bs ≡ length xs → length ys ≡ length xs → length xs ≤ k → take k ys ≡ take k (marked may (with_flags xs bs)) → ys ≡ marked may (with_flags xs bs)
+pub marks_whole : (may : ComponentState → Bool) (xs ys : List ComponentState) (bs : List Bool) (k : ℕ) → length bs ≡ length xs → length ys ≡ length xs →
+    length xs ≤ k → take k ys ≡ take k (marked may (with_flags xs bs)) → ys ≡ marked may (with_flags xs bs)
 marks_whole may xs ys bs k m n l e =
     let f = marked_length may xs bs m in
     sym (take_all k ys (omega (arith, n, l))) ∙ e ∙ take_all k (marked may (with_flags xs bs)) (omega (arith, f, l))
 
 -- ---- a search for a flag
 
-pub flagged_skip : (n : List ℕ) (ps : List ComponentState) (bs : List Bool) (k : ℕ) → k < length bs → At k (λ p. false ≡ (get_or bs k false && bytes_eq (component_name p) n)) ps
+pub flagged_skip : (n : List ℕ) (ps : List ComponentState) (bs : List Bool) (k : ℕ) → k < length bs →
+    At k (λ p. false ≡ (get_or bs k false && bytes_eq (component_name p) n)) ps
     → is_flagged n (with_flags (drop k ps) (drop k bs)) ≡ is_flagged n (with_flags (drop (k + 1) ps) (drop (k + 1) bs))
 flagged_skip n [] bs k l h = absurd h
 flagged_skip n (p ∷ ps) [] k l h = absurd (omega (arith, l))
 flagged_skip n (p ∷ ps) (b ∷ bs) zero l h = ap (λ (x : Bool). x || is_flagged n (with_flags ps bs)) (sym h)
 flagged_skip n (p ∷ ps) (b ∷ bs) (suc k) l h = rw add-one (rw add-one at (flagged_skip n ps bs k (omega (arith, l)) h))
 
-pub flagged_here : (n : List ℕ) (ps : List ComponentState) (bs : List Bool) (k : ℕ) → k < length bs → At k (λ p. true ≡ (get_or bs k false && bytes_eq (component_name p) n)) ps → true ≡ is_flagged n (with_flags (drop k ps) (drop k bs))
+pub flagged_here : (n : List ℕ) (ps : List ComponentState) (bs : List Bool) (k : ℕ) → k < length bs →
+    At k (λ p. true ≡ (get_or bs k false && bytes_eq (component_name p) n)) ps → true ≡ is_flagged n (with_flags (drop k ps) (drop k bs))
 flagged_here n [] bs k l h = absurd h
 flagged_here n (p ∷ ps) [] k l h = absurd (omega (arith, l))
 flagged_here n (p ∷ ps) (b ∷ bs) zero l h = ap (λ (x : Bool). x || is_flagged n (with_flags ps bs)) h
@@ -291,10 +319,12 @@ length_flagged_at k [] = refl
 length_flagged_at zero (p ∷ ps) = ap suc (length_flagged (λ q. false) ps)
 length_flagged_at (suc k) (p ∷ ps) = ap suc (length_flagged_at k ps)
 
-pub restarted_is : (ps new : List ComponentState) (k : ℕ) (fs hs : Flagged) → new ≡ marked (may_by false) hs → hs ≡ reaching (length ps) fs → fs ≡ flagged_at k ps → new ≡ restarted may_restart (flagged_at k ps)
+pub restarted_is : (ps new : List ComponentState) (k : ℕ) (fs hs : Flagged) → new ≡ marked (may_by false) hs → hs ≡ reaching (length ps) fs →
+    fs ≡ flagged_at k ps → new ≡ restarted may_restart (flagged_at k ps)
 restarted_is ps new k fs hs e r f =
     e ∙ ap (marked may_restart) (r ∙ ap (reaching (length ps)) f ∙ ap (λ (n : ℕ). reaching n (flagged_at k ps)) (sym (length_flagged_at k ps)))
 
-pub replanned_is : (ps new : List ComponentState) (fs hs : Flagged) → new ≡ marked (may_by true) hs → hs ≡ reaching (length ps) fs → fs ≡ flagged is_replacing ps → new ≡ replanned ps
+pub replanned_is : (ps new : List ComponentState) (fs hs : Flagged) → new ≡ marked (may_by true) hs → hs ≡ reaching (length ps) fs →
+    fs ≡ flagged is_replacing ps → new ≡ replanned ps
 replanned_is ps new fs hs e r f =
     e ∙ ap (marked may_replan) (r ∙ ap (reaching (length ps)) f ∙ ap (λ (n : ℕ). reaching n (flagged is_replacing ps)) (sym (length_flagged is_replacing ps)))

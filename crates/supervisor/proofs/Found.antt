@@ -11,7 +11,8 @@ use Rattle.components.specs.Turns.{is_met}
 use Rattle.components.specs.Components.{ComponentState, At, component_name}
 use Rattle.components.proofs.Names.{names, flips, same_name}
 
-none_other : (t : ComponentState → Bool) (p : ComponentState) (n : List ℕ) (b : Bool) → bytes_eq n (component_name p) ≡ false → b ≡ false → ((bytes_eq (component_name p) n && t p) || b) ≡ false
+none_other : (t : ComponentState → Bool) (p : ComponentState) (n : List ℕ) (b : Bool) → bytes_eq n (component_name p) ≡ false → b ≡ false →
+    ((bytes_eq (component_name p) n && t p) || b) ≡ false
 none_other t p n b e f = ap (λ (x : Bool). (x && t p) || b) (flips (component_name p) n ∙ e) ∙ f
 
 met_none : (t : ComponentState → Bool) (ps : List ComponentState) (n : List ℕ) → list_any (bytes_eq n) (names ps) ≡ false → is_met t ps n ≡ false
@@ -21,7 +22,8 @@ met_none t (p ∷ ps) n e =
     none_other t p n (is_met t ps n) o.0 (met_none t ps n o.1)
 
 -- a name that stands elsewhere is another one
-other_name : (m n : List ℕ) (ps : List ComponentState) (k : ℕ) → list_any (bytes_eq m) (names ps) ≡ false → At k (λ p. bytes_eq n (component_name p) ≡ true) ps → bytes_eq m n ≡ false
+other_name : (m n : List ℕ) (ps : List ComponentState) (k : ℕ) → list_any (bytes_eq m) (names ps) ≡ false →
+    At k (λ p. bytes_eq n (component_name p) ≡ true) ps → bytes_eq m n ≡ false
 other_name m n [] k e h = absurd h
 other_name m n (p ∷ ps) zero e h =
     let o = or_parts (bytes_eq m (component_name p)) (list_any (bytes_eq m) (names ps)) e in
@@ -40,18 +42,21 @@ not_this true b c e = absurd (cc)
 not_this false b c e = refl
 
 -- names stand once, so the one that is here is the only one that is so
-pub met_here : (t : ComponentState → Bool) (ps : List ComponentState) (k : ℕ) (n : List ℕ) (x : ComponentState) → AreNamesApart (names ps) → At k (λ p. bytes_eq n (component_name p) ≡ true) ps → x ≡ get_or ps k x → t x ≡ is_met t ps n
+pub met_here : (t : ComponentState → Bool) (ps : List ComponentState) (k : ℕ) (n : List ℕ) (x : ComponentState) → AreNamesApart (names ps) →
+    At k (λ p. bytes_eq n (component_name p) ≡ true) ps → x ≡ get_or ps k x → t x ≡ is_met t ps n
 met_here t [] k n x a h e = absurd h
 met_here t (p ∷ ps) zero n x a h e =
     let g : x ≡ p = e in
-    let f : list_any (bytes_eq n) (names ps) ≡ false = subst (λ (m : List ℕ). list_any (bytes_eq m) (names ps) ≡ false) (sym (same_name n (component_name p) h)) a.0 in
+    let f : list_any (bytes_eq n) (names ps) ≡ false = subst (λ (m : List ℕ). list_any (bytes_eq m) (names ps) ≡ false)
+    (sym (same_name n (component_name p) h)) a.0 in
     ap t g ∙ only_this (bytes_eq (component_name p) n) (t p) (is_met t ps n) (flips (component_name p) n ∙ h) (met_none t ps n f)
 met_here t (p ∷ ps) (suc k) n x a h e =
     met_here t ps k n x a.1 h e ∙ not_this (bytes_eq (component_name p) n) (t p) (is_met t ps n) (other_name (component_name p) n ps k a.0 h)
 
 -- ---- flags
 
-pub any_flagged : (ns : List (List ℕ)) (fs : Flagged) (k : ℕ) (x : List ℕ) → k < length ns → x ≡ get_or ns k x → is_flagged x fs ≡ true → needs_flagged ns fs ≡ true
+pub any_flagged : (ns : List (List ℕ)) (fs : Flagged) (k : ℕ) (x : List ℕ) → k < length ns → x ≡ get_or ns k x → is_flagged x fs ≡ true →
+    needs_flagged ns fs ≡ true
 any_flagged [] fs k x l e h = absurd (omega (arith, l))
 any_flagged (m ∷ ms) fs zero x l e h = let g : x ≡ m = e in or_left (is_flagged m fs) (needs_flagged ms fs) (ap (λ (y : List ℕ). is_flagged y fs) (sym g) ∙ h)
 any_flagged (m ∷ ms) fs (suc k) x l e h = or_right (is_flagged m fs) (needs_flagged ms fs) (any_flagged ms fs k x (omega (arith, l)) e h)
@@ -76,11 +81,13 @@ other_flag true d e = absurd (cc)
 other_flag false d e = refl
 
 -- names stand once, so the flag of the one that is here is the flag of its name
-pub flagged_place : (ps : List ComponentState) (bs : List Bool) (k : ℕ) (n : List ℕ) → length bs ≡ length ps → AreNamesApart (names ps) → At k (λ p. bytes_eq n (component_name p) ≡ true) ps → get_or bs k false ≡ is_flagged n (with_flags ps bs)
+pub flagged_place : (ps : List ComponentState) (bs : List Bool) (k : ℕ) (n : List ℕ) → length bs ≡ length ps → AreNamesApart (names ps) →
+    At k (λ p. bytes_eq n (component_name p) ≡ true) ps → get_or bs k false ≡ is_flagged n (with_flags ps bs)
 flagged_place [] bs k n m a h = absurd h
 flagged_place (p ∷ ps) [] k n m a h = absurd (omega (arith, m))
 flagged_place (p ∷ ps) (b ∷ bs) zero n m a h =
-    let f : list_any (bytes_eq n) (names ps) ≡ false = subst (λ (x : List ℕ). list_any (bytes_eq x) (names ps) ≡ false) (sym (same_name n (component_name p) h)) a.0 in
+    let f : list_any (bytes_eq n) (names ps) ≡ false = subst (λ (x : List ℕ). list_any (bytes_eq x) (names ps) ≡ false)
+    (sym (same_name n (component_name p) h)) a.0 in
     this_flag b (bytes_eq (component_name p) n) (is_flagged n (with_flags ps bs)) (flips (component_name p) n ∙ h) (flagged_none ps bs n f)
 flagged_place (p ∷ ps) (b ∷ bs) (suc k) n m a h =
     let o : (b && bytes_eq (component_name p) n) ≡ false = and_right b (bytes_eq (component_name p) n) (other_name (component_name p) n ps k a.0 h) in

@@ -15,10 +15,12 @@ use Rattle.lifecycle.specs.declared.kinds.After.TheVariants as stops
 use Rattle.lifecycle.specs.declared.kinds.LifeAct.{LifeAct}
 use Rattle.lifecycle.specs.declared.kinds.LifeEvent.{LifeEvent}
 use Rattle.lifecycle.specs.declared.kinds.LifeEvent.TheVariants as event
-use Rattle.components.specs.Components.{Components, ComponentState, Child, At, changed_at, without_child, child_of, child_gone, owner, owner_from, is_orphan, is_gone, under_way}
+use Rattle.components.specs.Components.{Components, ComponentState, Child, At, changed_at, without_child, child_of, child_gone, owner, owner_from, is_orphan}
+use Rattle.components.specs.Components.{is_gone, under_way}
 use Rattle.components.specs.Deadlines.{deadline_after}
 use Rattle.components.specs.Fitted.{prepared_of, limit_of}
-use Rattle.components.specs.Events.{gone_by, is_orphan_at, ended, killed, kill_event, kill_event_at, is_late_child, with_child, launched, answered_at, noticed, later}
+use Rattle.components.specs.Events.{gone_by, is_orphan_at, ended, killed, kill_event, kill_event_at, is_late_child, with_child, launched, answered_at}
+use Rattle.components.specs.Events.{noticed, later}
 use Rattle.components.specs.Lives.{lived_at}
 use Rattle.components.specs.Changes.{leaving, forgetting}
 use Rattle.components.specs.declared.kinds.Event.{Event}
@@ -29,7 +31,8 @@ use Rattle.components.specs.Answers.{living_numbers}
 use Rattle.components.specs.Readied.{AreApart}
 use Rattle.components.specs.Whole.{has_run_child, keeps_run, IsWhole, AreWhole}
 use Rattle.components.proofs.Tables.{after, kills_row}
-use Rattle.components.proofs.Whole.{lived_whole, keeps_from, keeps_gives, other_keeps, launch_keeps, run_end_keeps, other_removed, apart_at, changed_whole, lived_at_whole, plain_whole}
+use Rattle.components.proofs.Whole.{lived_whole, keeps_from, keeps_gives, other_keeps, launch_keeps, run_end_keeps, other_removed, apart_at, changed_whole}
+use Rattle.components.proofs.Whole.{lived_at_whole, plain_whole}
 
 pub at_of : (P : ComponentState → Type 0) (k : ℕ) (ps : List ComponentState) (p : ComponentState) → At k P ps → slice_get ps k ≡ Some p → P p
 at_of P k ps p h e = subst (λ (o : Option ComponentState). IsSomeAnd o P) e h
@@ -39,13 +42,17 @@ at_of P k ps p h e = subst (λ (o : Option ComponentState). IsSomeAnd o P) e h
 owner_from_at : (j n : ℕ) (ps : List ComponentState) (k : ℕ) (s : Step) → owner_from j n ps ≡ Some (k, s)
     → (d : ℕ) × (k ≡ j + d) × At d (λ p. IsSomeAnd (child_of n p.children) (λ c. c.of ≡ s)) ps
 owner_from_at j n [] k s e = absurd (cc)
-owner_from_at j n (p ∷ ps) k s e = elim (child_of n p.children) as (λ o. (elim o [ None ↦ owner_from (j + 1) n ps | Some c ↦ Some (j, c.of) ]) ≡ Some (k, s) → child_of n p.children ≡ o → (d : ℕ) × (k ≡ j + d) × At d (λ p. IsSomeAnd (child_of n p.children) (λ c. c.of ≡ s)) (p ∷ ps)) [
-  | None ↦ λ y q. (let i = owner_from_at (j + 1) n ps k s y in let a = i.1 in (suc i.0, omega (arith, a), i.2))
-  | Some c ↦ λ y q. (let a : j ≡ k = ap (λ (o : Option (ℕ × Step)). elim o [ None ↦ j | Some x ↦ x.0 ]) y in (0, omega (arith, a), subst (λ o. IsSomeAnd o (λ d. d.of ≡ s)) (sym q) (ap (λ (o : Option (ℕ × Step)). elim o [ None ↦ s | Some x ↦ x.1 ]) y)))
-] e refl
+owner_from_at j n (p ∷ ps) k s e = elim (child_of n p.children) as (λ o. (elim o [ None ↦ owner_from (j + 1) n ps | Some c ↦ Some (j, c.of) ]) ≡ Some (k, s) →
+    child_of n p.children ≡ o → (d : ℕ) × (k ≡ j + d) × At d (λ p. IsSomeAnd (child_of n p.children) (λ c. c.of ≡ s)) (p ∷ ps)) [
+      | None ↦ λ y q. (let i = owner_from_at (j + 1) n ps k s y in let a = i.1 in (suc i.0, omega (arith, a), i.2))
+      | Some c ↦ λ y q. (let a : j ≡ k = ap (λ (o : Option (ℕ × Step)). elim o [ None ↦ j | Some x ↦ x.0 ]) y in
+          (0, omega (arith, a), subst (λ o. IsSomeAnd o (λ d. d.of ≡ s)) (sym q) (ap (λ (o : Option (ℕ × Step)). elim o [ None ↦ s | Some x ↦ x.1 ]) y)))
+    ] e refl
 
-pub owner_at : (n : ℕ) (ps : List ComponentState) (k : ℕ) (s : Step) → owner n ps ≡ Some (k, s) → At k (λ p. IsSomeAnd (child_of n p.children) (λ c. c.of ≡ s)) ps
-owner_at n ps k s e = let x = owner_from_at 0 n ps k s e in let a = x.1 in subst (λ j. At j (λ p. IsSomeAnd (child_of n p.children) (λ c. c.of ≡ s)) ps) (let z : x.0 ≡ k = omega (arith, a) in z) x.2
+pub owner_at : (n : ℕ) (ps : List ComponentState) (k : ℕ) (s : Step) → owner n ps ≡ Some (k, s) →
+    At k (λ p. IsSomeAnd (child_of n p.children) (λ c. c.of ≡ s)) ps
+owner_at n ps k s e = let x = owner_from_at 0 n ps k s e in let a = x.1 in subst (λ j. At j (λ p. IsSomeAnd (child_of n p.children) (λ c. c.of ≡ s)) ps)
+    (let z : x.0 ≡ k = omega (arith, a) in z) x.2
 
 some_more : {X : Type 0} (o : Option X) (P Q : X → Type 0) → ((x : X) → P x → Q x) → IsSomeAnd o P → IsSomeAnd o Q
 some_more None P Q f h = absurd h
@@ -66,30 +73,37 @@ not_both false y e f g = absurd (cc)
 
 module _ (w : Components) (a : AreWhole w.parts) (apart : AreApart (living_numbers w.parts)) (k n : ℕ) (s : Step) (own : owner n w.parts ≡ Some (k, s)) where
   -- the run child stays where another one goes
-  stays : (p : ComponentState) → slice_get w.parts k ≡ Some p → is_same_step step.Run s ≡ false → has_run_child p.children ≡ true → has_run_child (without_child n p).children ≡ true
+  stays : (p : ComponentState) → slice_get w.parts k ≡ Some p → is_same_step step.Run s ≡ false → has_run_child p.children ≡ true →
+      has_run_child (without_child n p).children ≡ true
   stays p i ne h =
       other_removed n p.children (apart_at k w.parts p apart i)
-      (some_more (child_of n p.children) (λ c. c.of ≡ s) (λ c. is_same_step step.Run c.of ≡ false) (λ c e. ap (is_same_step step.Run) e ∙ ne) (at_of (λ p. IsSomeAnd (child_of n p.children) (λ c. c.of ≡ s)) k w.parts p (owner_at n w.parts k s own) i)) h
+      (some_more (child_of n p.children) (λ c. c.of ≡ s) (λ c. is_same_step step.Run c.of ≡ false) (λ c e. ap (is_same_step step.Run) e ∙ ne)
+      (at_of (λ p. IsSomeAnd (child_of n p.children) (λ c. c.of ≡ s)) k w.parts p (owner_at n w.parts k s own) i)) h
 
   -- one that outlived its component's stop
-  orphan_keeps : (p : ComponentState) → slice_get w.parts k ≡ Some p → is_orphan p.life s ≡ true → IsWhole p → keeps_run p.life (without_child n p).children ≡ true
+  orphan_keeps : (p : ComponentState) → slice_get w.parts k ≡ Some p → is_orphan p.life s ≡ true → IsWhole p → keeps_run p.life (without_child n p).children
+      ≡ true
   orphan_keeps p i o h =
       let x = and_parts (not (is_busy_with s p.life.busy)) (not (is_same_step s step.Run && p.life.runs)) o in
       elim (cases_Bool (is_same_step s step.Run)) [
         | inl y ↦ keeps_from p.life (without_child n p).children (λ q. absurd (not_both (is_same_step s step.Run) p.life.runs x.1 y q))
-        | inr y ↦ keeps_from p.life (without_child n p).children (λ q. elim (keeps_gives p.life p.children h.run q) [ inl g ↦ inl g | inr r ↦ inr (stays p i (no_run s y) r) ])
+        | inr y ↦ keeps_from p.life (without_child n p).children
+            (λ q. elim (keeps_gives p.life p.children h.run q) [ inl g ↦ inl g | inr r ↦ inr (stays p i (no_run s y) r) ])
       ]
 
   pub orphan_goes : ((p : ComponentState) → slice_get w.parts k ≡ Some p → is_orphan p.life s ≡ true) → AreWhole (child_gone k n w).parts
   orphan_goes o = changed_whole (without_child n) k w.parts a (λ p i h. record { may = h.may; run = orphan_keeps p i (o p i) h })
 
-  pub event_goes : (e : LifeEvent) → ((p : ComponentState) → slice_get w.parts k ≡ Some p → IsWhole p → keeps_run (after e p.life) (without_child n p).children ≡ true) → AreWhole (lived_at k e (child_gone k n w)).parts
+  pub event_goes : (e : LifeEvent) → ((p : ComponentState) → slice_get w.parts k ≡ Some p → IsWhole p →
+      keeps_run (after e p.life) (without_child n p).children ≡ true) → AreWhole (lived_at k e (child_gone k n w)).parts
   event_goes e g = lived_at_whole k e (without_child n) w a (λ p i h. lived_whole w.steady e (without_child n p) h.may (g p i h))
 
   -- its end
-  end_keeps : (x : Exit) (p : ComponentState) → slice_get w.parts k ≡ Some p → IsWhole p → keeps_run (after (event.Ended s x) p.life) (without_child n p).children ≡ true
+  end_keeps : (x : Exit) (p : ComponentState) → slice_get w.parts k ≡ Some p → IsWhole p → keeps_run (after (event.Ended s x) p.life)
+      (without_child n p).children ≡ true
   end_keeps x p i h = elim (cases_Bool (is_same_step step.Run s)) [
-    | inl y ↦ subst (λ (t : Step). keeps_run (after (event.Ended t x) p.life) (without_child n p).children ≡ true) (sym (same_run s y)) (run_end_keeps p.life x (without_child n p).children h.may)
+    | inl y ↦ subst (λ (t : Step). keeps_run (after (event.Ended t x) p.life) (without_child n p).children ≡ true) (sym (same_run s y))
+        (run_end_keeps p.life x (without_child n p).children h.may)
     | inr y ↦ other_keeps (event.Ended s x) p.life p.children (without_child n p).children refl h.run (stays p i y)
   ]
 
@@ -97,7 +111,8 @@ module _ (w : Components) (a : AreWhole w.parts) (apart : AreApart (living_numbe
   orphan_there b e p i = sym (ap (λ (o : Option ComponentState). elim o [ None ↦ false | Some q ↦ is_orphan q.life s ]) i) ∙ e
 
   -- an event with a child that goes
-  pub some_goes : (e : LifeEvent) → ((p : ComponentState) → slice_get w.parts k ≡ Some p → is_orphan p.life s ≡ false → IsWhole p → keeps_run (after e p.life) (without_child n p).children ≡ true)
+  pub some_goes : (e : LifeEvent) → ((p : ComponentState) → slice_get w.parts k ≡ Some p → is_orphan p.life s ≡ false → IsWhole p →
+      keeps_run (after e p.life) (without_child n p).children ≡ true)
       → AreWhole (gone_by (Some e) k s n w).parts
   some_goes e g = by_orphan (is_orphan_at k s w) refl where
     by_orphan : (b : Bool) → is_orphan_at k s w ≡ b → AreWhole (if b then child_gone k n w else lived_at k e (child_gone k n w)).parts
@@ -110,20 +125,24 @@ module _ (w : Components) (a : AreWhole w.parts) (apart : AreApart (living_numbe
   -- a kill that is due
   module _ (due : At k (λ p. is_kill_due w n s p ≡ true) w.parts) where
     stop_kills : (p : ComponentState) (st : After) → p.stop ≡ Some st → is_stop_due w p ≡ true → kills (event.Stop st) p ≡ true
-    stop_kills p st e d = subst (λ (o : Option After). (elim o [ None ↦ false | Some x ↦ kills (event.Stop x) p ]) ≡ true) e (and_parts (may_stop w p) (elim p.stop [ None ↦ false | Some x ↦ kills (event.Stop x) p ]) d).1
+    stop_kills p st e d = subst (λ (o : Option After). (elim o [ None ↦ false | Some x ↦ kills (event.Stop x) p ]) ≡ true) e
+        (and_parts (may_stop w p) (elim p.stop [ None ↦ false | Some x ↦ kills (event.Stop x) p ]) d).1
 
-    killed_keeps : (c : Life) (cs : List Child) (o : Option (LifeAct × Life)) → IfSome o (λ r. is_kill r.0 ≡ true → r.1.runs ≡ false) → (elim o [ None ↦ false | Some r ↦ is_kill r.0 ]) ≡ true → keeps_run (elim o [ None ↦ c | Some r ↦ r.1 ]) cs ≡ true
+    killed_keeps : (c : Life) (cs : List Child) (o : Option (LifeAct × Life)) → IfSome o (λ r. is_kill r.0 ≡ true → r.1.runs ≡ false) →
+        (elim o [ None ↦ false | Some r ↦ is_kill r.0 ]) ≡ true → keeps_run (elim o [ None ↦ c | Some r ↦ r.1 ]) cs ≡ true
     killed_keeps c cs None i e = absurd (cc)
     killed_keeps c cs (Some r) i e = keeps_from r.1 cs (λ q. absurd (let z = i e in cc))
 
     stop_none : (p : ComponentState) → p.stop ≡ None → is_stop_due w p ≡ true → ⊥
-    stop_none p e d = let x = subst (λ (o : Option After). (elim o [ None ↦ false | Some y ↦ kills (event.Stop y) p ]) ≡ true) e (and_parts (may_stop w p) (elim p.stop [ None ↦ false | Some y ↦ kills (event.Stop y) p ]) d).1 in absurd (cc)
+    stop_none p e d = let x = subst (λ (o : Option After). (elim o [ None ↦ false | Some y ↦ kills (event.Stop y) p ]) ≡ true) e
+        (and_parts (may_stop w p) (elim p.stop [ None ↦ false | Some y ↦ kills (event.Stop y) p ]) d).1 in absurd (cc)
 
     due_here : (p : ComponentState) → slice_get w.parts k ≡ Some p → is_late_child w.moment n p ≡ false → (is_orphan p.life s ≡ true) ⊎ (is_stop_due w p ≡ true)
-    due_here p i l = late_no (is_late_child w.moment n p) (is_orphan p.life s) (is_stop_due w p) (at_of (λ p. is_kill_due w n s p ≡ true) k w.parts p due i) l where
-      late_no : (x y z : Bool) → (x || (y || z)) ≡ true → x ≡ false → (y ≡ true) ⊎ (z ≡ true)
-      late_no true y z e f = absurd (cc)
-      late_no false y z e f = or_cases y z e
+    due_here p i l = late_no (is_late_child w.moment n p) (is_orphan p.life s) (is_stop_due w p) (at_of (λ p. is_kill_due w n s p ≡ true) k w.parts p due i) l
+      where
+        late_no : (x y z : Bool) → (x || (y || z)) ≡ true → x ≡ false → (y ≡ true) ⊎ (z ≡ true)
+        late_no true y z e f = absurd (cc)
+        late_no false y z e f = or_cases y z e
 
     orphan_or : (p : ComponentState) → slice_get w.parts k ≡ Some p → is_late_child w.moment n p ≡ false → is_orphan p.life s ≡ false → is_stop_due w p ≡ true
     orphan_or p i l o = elim (due_here p i l) [ inl x ↦ absurd (cc) | inr x ↦ x ]
@@ -131,19 +150,25 @@ module _ (w : Components) (a : AreWhole w.parts) (apart : AreApart (living_numbe
     only : (p q : ComponentState) → slice_get w.parts k ≡ Some p → slice_get w.parts k ≡ Some q → p ≡ q
     only p q i j = let e : Some p ≡ Some q = sym i ∙ j in cc
 
-    by_stop : (p : ComponentState) → slice_get w.parts k ≡ Some p → is_late_child w.moment n p ≡ false → (o : Option After) → p.stop ≡ o → AreWhole (gone_by (option_map (λ st. event.Stop st) o) k s n w).parts
-    by_stop p i l None e = orphan_goes (λ q j. elim (due_here p i l) [ inl x ↦ subst (λ (r : ComponentState). is_orphan r.life s ≡ true) (only p q i j) x | inr x ↦ absurd (stop_none p e x) ])
+    by_stop : (p : ComponentState) → slice_get w.parts k ≡ Some p → is_late_child w.moment n p ≡ false → (o : Option After) → p.stop ≡ o →
+        AreWhole (gone_by (option_map (λ st. event.Stop st) o) k s n w).parts
+    by_stop p i l None e = orphan_goes (λ q j. elim (due_here p i l) [
+      | inl x ↦ subst (λ (r : ComponentState). is_orphan r.life s ≡ true) (only p q i j) x
+      | inr x ↦ absurd (stop_none p e x)
+    ])
     by_stop p i l (Some st) e = some_goes (event.Stop st) (λ q j o h.
         let r : p ≡ q = only p q i j in
         let d : is_stop_due w q ≡ true = orphan_or q j (subst (λ (x : ComponentState). is_late_child w.moment n x ≡ false) r l) o in
-        killed_keeps q.life (without_child n q).children (table q.life (event.Stop st)) (kills_row q.life (event.Stop st)) (stop_kills q st (subst (λ (x : ComponentState). x.stop ≡ Some st) r e) d))
+        killed_keeps q.life (without_child n q).children (table q.life (event.Stop st)) (kills_row q.life (event.Stop st))
+        (stop_kills q st (subst (λ (x : ComponentState). x.stop ≡ Some st) r e) d))
 
     by_late : (p : ComponentState) → slice_get w.parts k ≡ Some p → (b : Bool) → is_late_child w.moment n p ≡ b
         → AreWhole (gone_by (if b then Some (event.Ended s exits.TimedOut) else option_map (λ st. event.Stop st) p.stop) k s n w).parts
     by_late p i true l = end_goes exits.TimedOut
     by_late p i false l = by_stop p i l p.stop refl
 
-    by_part : (o : Option ComponentState) → slice_get w.parts k ≡ o → At k (λ p. is_kill_due w n s p ≡ true) w.parts → AreWhole (gone_by (option_and_then (kill_event w.moment n s) o) k s n w).parts
+    by_part : (o : Option ComponentState) → slice_get w.parts k ≡ o → At k (λ p. is_kill_due w n s p ≡ true) w.parts →
+        AreWhole (gone_by (option_and_then (kill_event w.moment n s) o) k s n w).parts
     by_part None e d = absurd (subst (λ (o : Option ComponentState). IsSomeAnd o (λ p. is_kill_due w n s p ≡ true)) e d)
     by_part (Some p) e d = by_late p e (is_late_child w.moment n p) refl
 
@@ -152,22 +177,29 @@ module _ (w : Components) (a : AreWhole w.parts) (apart : AreApart (living_numbe
 
 pub ended_whole : (n : ℕ) (x : Exit) (w : Components) → AreWhole w.parts → AreApart (living_numbers w.parts) → AreWhole (ended n x w).parts
 ended_whole n x w a p = by_owner (owner n w.parts) refl where
-  by_owner : (o : Option (ℕ × Step)) → owner n w.parts ≡ o → (let v : Components = elim o [ None ↦ w | Some y ↦ gone_by (Some (event.Ended y.1 x)) y.0 y.1 n w ] in AreWhole v.parts)
+  by_owner : (o : Option (ℕ × Step)) → owner n w.parts ≡ o →
+      (let v : Components = elim o [ None ↦ w | Some y ↦ gone_by (Some (event.Ended y.1 x)) y.0 y.1 n w ] in AreWhole v.parts)
   by_owner None e = a
   by_owner (Some y) e = end_goes w a p y.0 n y.1 e x
 
 pub killed_whole : (n k : ℕ) (s : Step) (w : Components) → AreWhole w.parts → AreApart (living_numbers w.parts) → MayKill w n k s → AreWhole (killed n w).parts
-killed_whole n k s w a p m = subst (λ (o : Option (ℕ × Step)). let v : Components = elim o [ None ↦ w | Some y ↦ gone_by (kill_event_at y.0 y.1 n w) y.0 y.1 n w ] in AreWhole v.parts) (sym m.0) (kill_goes w a p k n s m.0 m.1)
+killed_whole n k s w a p m = subst (λ (o : Option (ℕ × Step)). let v : Components =
+    elim o [ None ↦ w | Some y ↦ gone_by (kill_event_at y.0 y.1 n w) y.0 y.1 n w ] in AreWhole v.parts) (sym m.0) (kill_goes w a p k n s m.0 m.1)
 
 -- ---- a child comes
 
 with_one : (c : Life) (d : Child) (cs : List Child) → keeps_run c cs ≡ true → keeps_run c (d ∷ cs) ≡ true
-with_one c d cs h = keeps_from c (d ∷ cs) (λ q. elim (keeps_gives c cs h q) [ inl g ↦ inl g | inr r ↦ inr (or_right (is_same_step step.Run d.of) (has_run_child cs) r) ])
+with_one c d cs h = keeps_from c (d ∷ cs) (λ q. elim (keeps_gives c cs h q) [
+  | inl g ↦ inl g
+  | inr r ↦ inr
+      (or_right (is_same_step step.Run d.of) (has_run_child cs) r)
+])
 
 abbrev child_from : ℕ → Step → ℕ → ComponentState → Child
 child_from n t m p = record { number = n; of = t; deadline = deadline_after (limit_of (prepared_of p.fitted t)) m }
 
-pub started_whole : (k : ℕ) (s : Step) (n m : ℕ) (w : Components) → AreWhole w.parts → AreWhole (launched s k (record w { parts = changed_at k (λ p. with_child n s m (record p { handed = false })) w.parts })).parts
+pub started_whole : (k : ℕ) (s : Step) (n m : ℕ) (w : Components) → AreWhole w.parts →
+    AreWhole (launched s k (record w { parts = changed_at k (λ p. with_child n s m (record p { handed = false })) w.parts })).parts
 started_whole k s n m w a = by_step s where
   comes : (t : Step) → AreWhole (changed_at k (λ p. with_child n t m (record p { handed = false })) w.parts)
   comes t = changed_whole (λ p. with_child n t m (record p { handed = false })) k w.parts a (λ p i h.
@@ -176,7 +208,8 @@ started_whole k s n m w a = by_step s where
   by_step : (t : Step) → AreWhole (launched t k (record w { parts = changed_at k (λ p. with_child n t m (record p { handed = false })) w.parts })).parts
   by_step step.Install = comes step.Install
   by_step step.Run = lived_at_whole k event.Launched (λ p. with_child n step.Run m (record p { handed = false })) w a (λ p i h.
-      lived_whole w.steady event.Launched (with_child n step.Run m (record p { handed = false })) h.may (launch_keeps (after event.Launched p.life) (child_from n step.Run m p ∷ p.children) refl))
+      lived_whole w.steady event.Launched (with_child n step.Run m (record p { handed = false })) h.may
+      (launch_keeps (after event.Launched p.life) (child_from n step.Run m p ∷ p.children) refl))
   by_step step.Startup = comes step.Startup
   by_step step.Shutdown = comes step.Shutdown
   by_step step.Recover = comes step.Recover
@@ -190,7 +223,8 @@ handed_whole b k ps a = changed_whole (λ p. record p { handed = b }) k ps a (λ
 pub told_whole : (k : ℕ) (ps : List ComponentState) → AreWhole ps → AreWhole (changed_at k (λ p. record p { owed = None }) ps)
 told_whole k ps a = changed_whole (λ p. record p { owed = None }) k ps a (λ p i h. record { may = h.may; run = h.run })
 
-leaving_by : (b d : Bool) (p : ComponentState) → IsWhole p → IsWhole (if b then p else (if d then record p { stop = None; next = None } else record p { stop = Some stops.Gone; next = None }))
+leaving_by : (b d : Bool) (p : ComponentState) → IsWhole p →
+    IsWhole (if b then p else (if d then record p { stop = None; next = None } else record p { stop = Some stops.Gone; next = None }))
 leaving_by true d p h = h
 leaving_by false true p h = record { may = h.may; run = h.run }
 leaving_by false false p h = record { may = h.may; run = h.run }

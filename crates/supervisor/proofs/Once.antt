@@ -75,18 +75,25 @@ by_steps [] = refl
 by_steps (c ∷ cs) = let i = by_steps cs in let o = ones c.of in omega (arith, i, o)
 
 free_step : (s : Step) (cs : List Child) → IsOnce cs → count_of s cs ≡ 0 → all_of cs ≤ 5
-free_step Install cs o z = let b = o Run in let c = o Startup in let d = o Shutdown in let e = o Recover in let f = o Bootstrap in omega (arith, z, b, c, d, e, f)
-free_step Run cs o z = let a = o Install in let c = o Startup in let d = o Shutdown in let e = o Recover in let f = o Bootstrap in omega (arith, z, a, c, d, e, f)
-free_step Startup cs o z = let a = o Install in let b = o Run in let d = o Shutdown in let e = o Recover in let f = o Bootstrap in omega (arith, z, a, b, d, e, f)
-free_step Shutdown cs o z = let a = o Install in let b = o Run in let c = o Startup in let e = o Recover in let f = o Bootstrap in omega (arith, z, a, b, c, e, f)
-free_step Recover cs o z = let a = o Install in let b = o Run in let c = o Startup in let d = o Shutdown in let f = o Bootstrap in omega (arith, z, a, b, c, d, f)
-free_step Bootstrap cs o z = let a = o Install in let b = o Run in let c = o Startup in let d = o Shutdown in let e = o Recover in omega (arith, z, a, b, c, d, e)
+free_step Install cs o z = let b = o Run in let c = o Startup in let d = o Shutdown in let e = o Recover in let f = o Bootstrap in
+    omega (arith, z, b, c, d, e, f)
+free_step Run cs o z = let a = o Install in let c = o Startup in let d = o Shutdown in let e = o Recover in let f = o Bootstrap in
+    omega (arith, z, a, c, d, e, f)
+free_step Startup cs o z = let a = o Install in let b = o Run in let d = o Shutdown in let e = o Recover in let f = o Bootstrap in
+    omega (arith, z, a, b, d, e, f)
+free_step Shutdown cs o z = let a = o Install in let b = o Run in let c = o Startup in let e = o Recover in let f = o Bootstrap in
+    omega (arith, z, a, b, c, e, f)
+free_step Recover cs o z = let a = o Install in let b = o Run in let c = o Startup in let d = o Shutdown in let f = o Bootstrap in
+    omega (arith, z, a, b, c, d, f)
+free_step Bootstrap cs o z = let a = o Install in let b = o Run in let c = o Startup in let d = o Shutdown in let e = o Recover in
+    omega (arith, z, a, b, c, d, e)
 
 -- where none is of the step there is room
 pub few : (s : Step) (cs : List Child) → IsOnce cs → list_any (λ c. is_same_step s c.of) cs ≡ false → length cs ≤ 5
 few s cs o e = let l = by_steps cs in let f = free_step s cs o (none_counts s cs e) in omega (arith, l, f)
 
-pushed_at : (t : Step) (c : Child) (cs : List Child) (b : Bool) → is_same_step t c.of ≡ b → IsOnce cs → count_of c.of cs ≡ 0 → (if b then 1 else 0) + count_of t cs ≤ 1
+pushed_at : (t : Step) (c : Child) (cs : List Child) (b : Bool) → is_same_step t c.of ≡ b → IsOnce cs → count_of c.of cs ≡ 0 →
+    (if b then 1 else 0) + count_of t cs ≤ 1
 pushed_at t c cs true e o z = let q = same_is t c.of e in let y : count_of t cs ≡ 0 = ap (λ (s : Step). count_of s cs) q ∙ z in omega (arith, y)
 pushed_at t c cs false e o z = let a = o t in omega (arith, a)
 

@@ -1,5 +1,6 @@
 -- Items that are made ready one after another.
-use Rattle.std.proofs.Common.{◌≡◌, ◌<◌, ◌≤◌, ◌+◌, ◌++◌, ℕ, suc, zero, List, [], ◌∷◌, length, map, Some, slice_get, refl, sym, ap, ◌∙◌, arith, subst, ◌⊎◌, inl, inr, Bool, true, false, filter}
+use Rattle.std.proofs.Common.{◌≡◌, ◌<◌, ◌≤◌, ◌+◌, ◌++◌, ℕ, suc, zero, List, [], ◌∷◌, length, map, Some, slice_get, refl, sym, ap, ◌∙◌, arith, subst, ◌⊎◌, inl}
+use Rattle.std.proofs.Common.{inr, Bool, true, false, filter}
 use Rattle.std.specs.Prelude.{if◌then◌else◌}
 use Rattle.std.specs.List.{AllByRecursion}
 use Rattle.std.proofs.lemmas.List.{length-map}
@@ -44,7 +45,8 @@ fresh_last : (ps : List ComponentState) (p : ComponentState) → AreFresh ps →
 fresh_last [] p h f = (f, tt)
 fresh_last (q ∷ qs) p h f = (h.0, fresh_last qs p h.1 f)
 
-pub one_more : (origin : Origin) (items : List Item) (n : ℕ) (ps : List ComponentState) (p : ComponentState) → AreReady origin items n ps → IsFittedAt origin items n p.fitted → IsFresh p → AreReady origin items (n + 1) (ps ++ p ∷ [])
+pub one_more : (origin : Origin) (items : List Item) (n : ℕ) (ps : List ComponentState) (p : ComponentState) → AreReady origin items n ps → IsFittedAt origin
+    items n p.fitted → IsFresh p → AreReady origin items (n + 1) (ps ++ p ∷ [])
 one_more origin items n ps p r h g = record {
   many = ap length (fitted_last ps p) ∙ length_last (fitted_all ps) p.fitted ∙ ap (λ (k : ℕ). k + 1) r.many;
   each = λ j f e. elim (got_last (fitted_all ps) p.fitted j f (subst (λ (fs : List Fitted). slice_get fs j ≡ Some f) (fitted_last ps p) e)) [
@@ -54,10 +56,12 @@ one_more origin items n ps p r h g = record {
   fresh = fresh_last ps p r.fresh g;
 }
 
-pub all_ready : (origin : Origin) (items : List Item) (n : ℕ) (ps : List ComponentState) → n ≡ length items → AreReady origin items n ps → AreFitted origin items (fitted_all ps)
+pub all_ready : (origin : Origin) (items : List Item) (n : ℕ) (ps : List ComponentState) → n ≡ length items → AreReady origin items n ps → AreFitted origin
+    items (fitted_all ps)
 all_ready origin items n ps e r = record { many = r.many ∙ e; each = r.each }
 
-fitted_names : (is : List Item) (fs : List Fitted) → length fs ≡ length is → ((j : ℕ) (f : Fitted) → slice_get fs j ≡ Some f → (i : Item) × (slice_get is j ≡ Some i) × (f.item ≡ i)) → map name_of fs ≡ map item_name is
+fitted_names : (is : List Item) (fs : List Fitted) → length fs ≡ length is →
+    ((j : ℕ) (f : Fitted) → slice_get fs j ≡ Some f → (i : Item) × (slice_get is j ≡ Some i) × (f.item ≡ i)) → map name_of fs ≡ map item_name is
 fitted_names [] [] e h = refl
 fitted_names [] (f ∷ fs) e h = absurd (omega (arith, e))
 fitted_names (i ∷ is) [] e h = absurd (omega (arith, e))
@@ -65,10 +69,12 @@ fitted_names (i ∷ is) (f ∷ fs) e h =
     let g = h zero f refl in
     let s = g.1 in
     let t : i ≡ g.0 = cc in
-    ap (λ (x : Item). x.name ∷ map name_of fs) (g.2 ∙ sym t) ∙ ap (λ (ns : List (List ℕ)). i.name ∷ ns) (fitted_names is fs (omega (arith, e)) (λ j x n. h (suc j) x n))
+    ap (λ (x : Item). x.name ∷ map name_of fs) (g.2 ∙ sym t) ∙ ap (λ (ns : List (List ℕ)). i.name ∷ ns)
+    (fitted_names is fs (omega (arith, e)) (λ j x n. h (suc j) x n))
 
 -- the names of what is ready stand once
-pub ready_apart : (origin : Origin) (items : List Item) (ps : List ComponentState) → AreFitted origin items (fitted_all ps) → Rise (map item_name items) → AreNamesApart (names ps)
+pub ready_apart : (origin : Origin) (items : List Item) (ps : List ComponentState) → AreFitted origin items (fitted_all ps) → Rise (map item_name items) →
+    AreNamesApart (names ps)
 ready_apart origin items ps a r =
     let e = fitted_names items (fitted_all ps) a.many (λ j f n. let i = a.each j f n in (i.is_scope.item, i.is_scope.there, i.item)) in
     subst AreNamesApart (sym e ∙ fit_names ps) (rise_apart (map item_name items) r)
@@ -79,10 +85,12 @@ ready_few origin items ps a l =
     let e = length-map ps (λ (p : ComponentState). p.fitted) in
     omega (arith, m, e, l)
 
-pub has_scope : (origin : Origin) (items : List Item) (k : ℕ) → k < length items → AllByRecursion (λ i. HasSomeRecipe origin.platform i.recipe) items → HasScope origin items k
+pub has_scope : (origin : Origin) (items : List Item) (k : ℕ) → k < length items → AllByRecursion (λ i. HasSomeRecipe origin.platform i.recipe) items →
+    HasScope origin items k
 has_scope origin [] k l h = absurd (omega (arith, l))
 has_scope origin (i ∷ is) zero l h = record { item = i; there = refl; recipe = h.0.0; reads = h.0.1 }
-has_scope origin (i ∷ is) (suc k) l h = let r = has_scope origin is k (omega (arith, l)) h.1 in record { item = r.item; there = r.there; recipe = r.recipe; reads = r.reads }
+has_scope origin (i ∷ is) (suc k) l h = let r = has_scope origin is k (omega (arith, l)) h.1 in
+    record { item = r.item; there = r.there; recipe = r.recipe; reads = r.reads }
 
 few_at : (b : Bool) (p : ComponentState) (qs ps : List ComponentState) → length qs ≤ length ps → length (if b then p ∷ qs else qs) ≤ length (p ∷ ps)
 few_at true p qs ps l = omega (arith, l)

@@ -23,7 +23,8 @@ gone_at false o e = absurd (cc)
 pub gone_stop : (c : Life) → is_gone (under_way c) ≡ true → c.stop ≡ Some after.Gone
 gone_stop c e = gone_at (is_stopping c.state) c.stop e
 
-again_at : (b : Bool) (o : Option After) → is_gone (if b then o else None) ≡ false → (is_again (if b then o else None) || is_gone (if b then o else None)) ≡ true → o ≡ Some after.Again
+again_at : (b : Bool) (o : Option After) → is_gone (if b then o else None) ≡ false → (is_again (if b then o else None) || is_gone (if b then o else None))
+    ≡ true → o ≡ Some after.Again
 again_at true None e f = absurd (cc)
 again_at true (Some after.Restart) e f = absurd (cc)
 again_at true (Some after.Again) e f = refl
@@ -34,23 +35,28 @@ pub again_stop : (c : Life) → is_gone (under_way c) ≡ false → stops_for_go
 again_stop c e f = ap (λ (o : Option After). record c { stop = o }) (again_at (is_stopping c.state) c.stop e f)
 
 pub replacing_plain : (n : Coming) (p : ComponentState) → stops_for_good p.life ≡ false → record p { stop = Some after.Again; next = Some n } ≡ replacing n p
-replacing_plain n p e = sym (ap (λ (b : Bool). if b then record p { life = record p.life { stop = Some after.Again }; stop = None; next = Some n } else record p { stop = Some after.Again; next = Some n }) e)
+replacing_plain n p e = sym (ap (λ (b : Bool). if b then record p { life = record p.life { stop = Some after.Again }; stop = None; next = Some n }
+    else record p { stop = Some after.Again; next = Some n }) e)
 
-pub replacing_good : (n : Coming) (p : ComponentState) (d : Life) → stops_for_good p.life ≡ true → d ≡ record p.life { stop = Some after.Again } → record p { life = d; stop = None; next = Some n } ≡ replacing n p
+pub replacing_good : (n : Coming) (p : ComponentState) (d : Life) → stops_for_good p.life ≡ true → d ≡ record p.life { stop = Some after.Again } →
+    record p { life = d; stop = None; next = Some n } ≡ replacing n p
 replacing_good n p d e f =
     ap (λ (x : Life). record p { life = x; stop = None; next = Some n }) f
-    ∙ sym (ap (λ (b : Bool). if b then record p { life = record p.life { stop = Some after.Again }; stop = None; next = Some n } else record p { stop = Some after.Again; next = Some n }) e)
+    ∙ sym (ap (λ (b : Bool). if b then record p { life = record p.life { stop = Some after.Again }; stop = None; next = Some n } else record p
+    { stop = Some after.Again; next = Some n }) e)
 
 -- ---- its item as it is expanded now
 
-pub texts_same : (f : Fitted) (p : ComponentState) (o : Option Coming) → is_same_item f.item p.fitted.item ≡ true → o ≡ p.next → record p { fitted = f; next = o } ≡ with_texts f p
+pub texts_same : (f : Fitted) (p : ComponentState) (o : Option Coming) → is_same_item f.item p.fitted.item ≡ true → o ≡ p.next →
+    record p { fitted = f; next = o } ≡ with_texts f p
 texts_same f p o e n =
     ap (λ (u : Option Coming). record p { fitted = f; next = u }) n ∙ sym (ap (λ (b : Bool). if b then record p { fitted = f } else p) e)
 
 pub texts_other : (f : Fitted) (p : ComponentState) → is_same_item f.item p.fitted.item ≡ false → p ≡ with_texts f p
 texts_other f p e = sym (ap (λ (b : Bool). if b then record p { fitted = f } else p) e)
 
-pub texts_kept : (f : Fitted) (p : ComponentState) (o : Option Coming) → steps_of f ≡ steps_of p.fitted → o ≡ p.next → IsKeptPart p → IsKeptPart (record p { fitted = f; next = o })
+pub texts_kept : (f : Fitted) (p : ComponentState) (o : Option Coming) → steps_of f ≡ steps_of p.fitted → o ≡ p.next → IsKeptPart p →
+    IsKeptPart (record p { fitted = f; next = o })
 texts_kept f p o s n k = record {
   steps = k.steps ∙ sym s;
   own = k.own;
@@ -89,7 +95,8 @@ met_replacing f g k p q r e x h i =
     let b : r ≡ replacing (f, k) (with_texts f p) = subst (λ (y : ComponentState). r ≡ replacing (f, k) y) x a in
     pick_true (is_replaced f p) r (replacing (f, k) (with_texts f p)) (staying (f, k) (with_texts f p)) e b
 
-pub meets_by : (f g : Fitted) (k j : ℕ) (p r : ComponentState) → f ≡ g → k ≡ j → false ≡ p.life.gone → r ≡ (if is_replaced f p then replacing (f, k) (with_texts f p) else staying (f, k) (with_texts f p)) → r ≡ meeting (g, j) p
+pub meets_by : (f g : Fitted) (k j : ℕ) (p r : ComponentState) → f ≡ g → k ≡ j → false ≡ p.life.gone →
+    r ≡ (if is_replaced f p then replacing (f, k) (with_texts f p) else staying (f, k) (with_texts f p)) → r ≡ meeting (g, j) p
 meets_by f g k j p r e h i m =
     let a : r ≡ (if is_replaced g p then replacing (g, k) (with_texts g p) else staying (g, k) (with_texts g p))
     = subst (λ (x : Fitted). r ≡ (if is_replaced x p then replacing (x, k) (with_texts x p) else staying (x, k) (with_texts x p))) e m in

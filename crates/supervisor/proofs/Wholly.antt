@@ -2,7 +2,8 @@
 use Rattle.std.proofs.Common.{List, [], ◌∷◌, Bool, true, false, Option, Some, None, refl, map, filter}
 use Rattle.std.specs.Prelude.{not, if◌then◌else◌}
 use Rattle.lifecycle.specs.declared.kinds.After.TheVariants as after
-use Rattle.components.specs.Changes.{Coming, coming_again, coming_for, fate, fresh_part, is_replaced, is_replacing, leaving, meeting, replacing, replanned, standing, staying, with_items, with_newcomers, with_texts}
+use Rattle.components.specs.Changes.{Coming, coming_again, coming_for, fate, fresh_part, is_replaced, is_replacing, leaving, meeting, replacing, replanned}
+use Rattle.components.specs.Changes.{standing, staying, with_items, with_newcomers, with_texts}
 use Rattle.components.specs.Fitted.{Fitted, is_same_item}
 use Rattle.components.specs.Marks.{may_replan}
 use Rattle.components.specs.Whole.{AreWhole, IsWhole}
@@ -20,7 +21,8 @@ whole_texts true f p h = record { may = h.may; run = h.run }
 whole_texts false f p h = h
 
 whole_replacing : (b : Bool) (n : Coming) (p : ComponentState) → IsWhole p
-    → IsWhole (if b then record p { life = record p.life { stop = Some after.Again }; stop = None; next = Some n } else record p { stop = Some after.Again; next = Some n })
+    → IsWhole (if b then record p { life = record p.life { stop = Some after.Again }; stop = None; next = Some n } else record p
+    { stop = Some after.Again; next = Some n })
 whole_replacing true n p h = record { may = h.may; run = h.run }
 whole_replacing false n p h = record { may = h.may; run = h.run }
 
@@ -40,10 +42,12 @@ whole_by p (Some n) h = whole_meeting n p h
 
 whole_newcomers : (ns : List Coming) (ps : List ComponentState) → AreWhole ps → AreWhole (with_newcomers (map fresh_part ns) ps)
 whole_newcomers [] ps a = a
-whole_newcomers (n ∷ ns) ps a = all_placed IsWhole (fresh_part n) (with_newcomers (map fresh_part ns) ps) (record { may = refl; run = refl }) (whole_newcomers ns ps a)
+whole_newcomers (n ∷ ns) ps a = all_placed IsWhole (fresh_part n) (with_newcomers (map fresh_part ns) ps) (record { may = refl; run = refl })
+    (whole_newcomers ns ps a)
 
 pub items_whole : (ns : List Coming) (ps : List ComponentState) → AreWhole ps → AreWhole (with_items ns (standing ps))
 items_whole ns ps a =
     let qs : List ComponentState = standing ps in
     let met : AreWhole (map (fate ns) qs) = mapped_whole (fate ns) (λ p h. whole_by p (coming_for (component_name p) ns) h) qs (all_standing IsWhole ps a) in
-    whole_newcomers (filter (λ (n : Coming). not (is_held_by qs n)) ns) (replanned (map (fate ns) qs)) (flagged_whole may_replan is_replacing (map (fate ns) qs) met)
+    whole_newcomers (filter (λ (n : Coming). not (is_held_by qs n)) ns) (replanned (map (fate ns) qs))
+    (flagged_whole may_replan is_replacing (map (fate ns) qs) met)

@@ -4,7 +4,8 @@ use Rattle.std.specs.Float.{Float, nan}
 use Rattle.std.specs.Coded.{Coded, code_by, coded×, coded_ℕ, coded_ℤ, coded_list}
 use base.Stored.{coded_float}
 use mathlib.Core.Path.{ap, ◌∙◌, sym}
-use Rattle.serde_json.specs.Data.{Data, Num, Items, Members, null, boolean, number, string, array, object, no_items, item, no_members, member, unsigned, negative, float}
+use Rattle.serde_json.specs.Data.{Data, Num, Items, Members, null, boolean, number, string, array, object, no_items, item, no_members, member, unsigned}
+use Rattle.serde_json.specs.Data.{negative, float}
 
 -- a step: what it does, and the text, the numbers or the float that it brings
 abbrev Brick : Type 0
@@ -70,7 +71,8 @@ memberss_of (m ∷ ms) = ms
 abbrev do_step : Brick → Built → Built
 do_step b s =
     cond (b.0 == 0) (null ∷ s.0, s.1) (cond (b.0 == 1) (boolean true ∷ s.0, s.1) (cond (b.0 == 2) (boolean false ∷ s.0, s.1)
-    (cond (b.0 == 3) (number (unsigned b.1.1.0) ∷ s.0, s.1) (cond (b.0 == 4) (number (negative b.1.1.1.0) ∷ s.0, s.1) (cond (b.0 == 5) (number (float b.1.1.1.1) ∷ s.0, s.1)
+    (cond (b.0 == 3) (number (unsigned b.1.1.0) ∷ s.0, s.1) (cond (b.0 == 4) (number (negative b.1.1.1.0) ∷ s.0, s.1)
+    (cond (b.0 == 5) (number (float b.1.1.1.1) ∷ s.0, s.1)
     (cond (b.0 == 6) (string b.1.0 ∷ s.0, s.1)
     (cond (b.0 == 7) (array (items_of s.1.0) ∷ s.0, (itemss_of s.1.0, s.1.1))
     (cond (b.0 == 8) (object (members_of s.1.1) ∷ s.0, (s.1.0, memberss_of s.1.1))
@@ -128,4 +130,5 @@ built_again d =
     ∙ ap (λ (s : Built). data_of s.0) (runs d [] ([], ([], [])))
 
 abbrev pub data_code : Coded Data
-data_code = code_by (List Brick) (coded_list (coded× coded_ℕ (coded× (coded_list coded_ℕ) (coded× coded_ℕ (coded× coded_ℤ coded_float))))) bricks built_by built_again
+data_code = code_by (List Brick) (coded_list (coded× coded_ℕ (coded× (coded_list coded_ℕ) (coded× coded_ℕ (coded× coded_ℤ coded_float))))) bricks built_by
+    built_again

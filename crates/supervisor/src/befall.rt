@@ -97,7 +97,8 @@ fn answer(slots: &mut [Slot], flags: &mut [bool], at: u32, event: LifeEvent, ste
     requires at { at < length slots.old }
     requires many { length flags.old ≡ length slots.old }
     requires names { HaveNames slots.old }
-    ensures answered { (m : ℕ) → at_moment slots.new m steady ≡ lived_at at event (at_moment (changed_at at (λ p. record p { handed = false }) slots.old) m steady) }
+    ensures answered { (m : ℕ) → at_moment slots.new m steady ≡ lived_at at event
+        (at_moment (changed_at at (λ p. record p { handed = false }) slots.old) m steady) }
     ensures many { length flags.new ≡ length slots.new }
 {
     answer_at(slots, at);

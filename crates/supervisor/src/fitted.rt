@@ -101,9 +101,20 @@ impl Model for FittedItem {
 
     ghost coded = { Prim.hlevel (codes, data_code) };
 
-    ghost view = { λ f. record { item = item_view f.item; hard = f.needs.hard.items; soft = f.needs.soft.items; install = f.first.install; run = f.first.run; startup = f.first.startup; shutdown = f.last.shutdown; recover = f.last.recover } };
+    ghost view = { λ f. record {
+      item = item_view f.item;
+      hard = f.needs.hard.items;
+      soft = f.needs.soft.items;
+      install = f.first.install;
+      run =
+          f.first.run;
+      startup = f.first.startup;
+      shutdown = f.last.shutdown;
+      recover = f.last.recover;
+    } };
 
-    ghost invariant = { λ f. AreFit f.first.install f.first.run f.first.startup f.last.shutdown f.last.recover × (f.config ≡ compact_text (tree_view f.item.config)) };
+    ghost invariant = { λ f. AreFit f.first.install f.first.run f.first.startup f.last.shutdown f.last.recover ×
+        (f.config ≡ compact_text (tree_view f.item.config)) };
 }
 
 /// What is needed hard.
@@ -220,7 +231,17 @@ fn parts_by(alloc: Global, recipe: &Recipe, scope: &Scope) -> Result<Parts, NoMe
 
 fn fit_with(item: Item, config: Text, parts: Parts) -> Result<FittedItem, NoMemory>
     requires { config ≡ compact_text (tree_view item.config) }
-    ensures { IfOk result (λ f. f ≡ record { item = item_view item; hard = parts.needs.hard.items; soft = parts.needs.soft.items; install = parts.first.install; run = parts.first.run; startup = parts.first.startup; shutdown = parts.last.shutdown; recover = parts.last.recover }) }
+    ensures { IfOk result (λ f. f ≡ record {
+      item = item_view item;
+      hard = parts.needs.hard.items;
+      soft = parts.needs.soft.items;
+      install =
+          parts.first.install;
+      run = parts.first.run;
+      startup = parts.first.startup;
+      shutdown = parts.last.shutdown;
+      recover = parts.last.recover;
+    }) }
 {
     if !are_fit(&parts.first, &parts.last) {
         return Err(NoMemory);

@@ -2,7 +2,9 @@
 ghost use Rattle.std.specs.Prelude.{◌≡◌, ◌<◌, ◌&&◌, true, Some, if◌then◌else◌, IfSome};
 ghost use Rattle.lifecycle.specs.Life.{begun};
 ghost use Rattle.lifecycle.specs.Awaits.{is_stopping as is_in_shutdown};
-ghost use Rattle.components.specs.Components.{is_again as is_with_again, is_gone as is_with_gone, is_up as is_state_up, is_running as is_state_running, is_broken as is_state_broken, is_starting as is_state_starting, under_way as way_of, stops_for_good as is_stopped_for_good};
+ghost use Rattle.components.specs.Components.{is_again as is_with_again, is_gone as is_with_gone, is_up as is_state_up, is_running as is_state_running};
+ghost use Rattle.components.specs.Components.{is_broken as is_state_broken, is_starting as is_state_starting, under_way as way_of};
+ghost use Rattle.components.specs.Components.{stops_for_good as is_stopped_for_good};
 ghost use Rattle.components.specs.Lives.{stop_in as stop_of};
 ghost use Rattle.components.specs.Fitted.{Fitted};
 ghost use Rattle.components.specs.Rows.{succeeds_from, is_spared_by, owed_after as owed_by, stop_after as stop_by, completed_from, next_of, taken_item, Takes};

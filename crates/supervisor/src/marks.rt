@@ -6,7 +6,8 @@ ghost use Rattle.std.specs.Prelude.{List as ListOf};
 ghost use Rattle.components.specs.Flags.{with_flags, may_by, joins as joins_at, Grows, Spreads};
 ghost use Rattle.components.specs.Changes.{is_replacing, replanned};
 ghost use Rattle.components.specs.Readied.{AreNamesApart};
-ghost use Rattle.components.specs.Marks.{is_flagged as is_named_flagged, needs_flagged as are_needs_flagged, reaching, marked, restarted, flagged, flagged_at, may_restart};
+ghost use Rattle.components.specs.Marks.{is_flagged as is_named_flagged, needs_flagged as are_needs_flagged, reaching, marked, restarted, flagged};
+ghost use Rattle.components.specs.Marks.{flagged_at, may_restart};
 
 use crate::needs::{Need, User};
 use crate::places::{first_user, found_place, put_where, rest_after, user_after};

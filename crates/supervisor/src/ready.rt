@@ -37,7 +37,9 @@ impl Model for Ready {
 
     ghost view = { λ r. record { coming = map (λ (p : ComponentState). p.fitted) r.coming.items; room = vec_capacity r.room - length r.coming.items } };
 
-    ghost invariant = { λ r. (r.room.items ≡ []) × (r.flags.items ≡ []) × (length r.coming.items ≤ vec_capacity r.room) × (vec_capacity r.room ≤ vec_capacity r.flags) × (vec_capacity r.room < 2 ^ 32) × (length r.coming.items ≤ 128) × AreFresh r.coming.items × AreNamesApart (map component_name r.coming.items) };
+    ghost invariant = { λ r. (r.room.items ≡ []) × (r.flags.items ≡ []) × (length r.coming.items ≤ vec_capacity r.room) ×
+        (vec_capacity r.room ≤ vec_capacity r.flags) × (vec_capacity r.room < 2 ^ 32) × (length r.coming.items ≤ 128) × AreFresh r.coming.items ×
+        AreNamesApart (map component_name r.coming.items) };
 }
 
 /// The item at that place made ready, as a component that did not stand before.

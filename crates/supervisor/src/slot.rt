@@ -1,7 +1,8 @@
 //! One component.
 ghost use Rattle.std.specs.Prelude.{◌≡◌, ℕ, Bool, ◌<◌, ◌≤◌, ◌^◌, ◌&&◌, ◌||◌, ◌∷◌, [], not, true, false, None, Some, is_some, option_map, if◌then◌else◌, IfSome};
 ghost use Rattle.components.specs.Fitted.{prepared_of, limit_of, steps_of, is_same_item};
-ghost use Rattle.components.specs.Components.{component_name, without_child, is_orphan, is_up as is_state_up, is_running as is_state_running, is_broken as is_state_broken, is_to_stop, stands_up, is_over, has_orphan as has_an_orphan, is_spared};
+ghost use Rattle.components.specs.Components.{component_name, without_child, is_orphan, is_up as is_state_up, is_running as is_state_running};
+ghost use Rattle.components.specs.Components.{is_broken as is_state_broken, is_to_stop, stands_up, is_over, has_orphan as has_an_orphan, is_spared};
 ghost use Rattle.components.specs.Turns.{may_retry, serves_softly, is_begun, is_late, is_unstarted, is_to_start};
 ghost use Rattle.components.specs.Lives.{lived, drops};
 ghost use Rattle.components.specs.Runs.{IsShort};
@@ -61,9 +62,27 @@ impl Model for Slot {
 
     ghost coded = { Prim.hlevel (codes, data_code) };
 
-    ghost view = { λ s. record { fitted = s.fitted; life = s.life; children = s.children; handed = s.handed; owed = s.owed; stop = s.stop; next = next_of s.fitted s.next } };
+    ghost view = { λ s. record {
+      fitted = s.fitted;
+      life = s.life;
+      children = s.children;
+      handed = s.handed;
+      owed = s.owed;
+      stop = s.stop;
+      next =
+          next_of s.fitted s.next;
+    } };
 
-    ghost invariant = { λ s. IsKeptPart (record { fitted = s.fitted; life = s.life; children = s.children; handed = s.handed; owed = s.owed; stop = s.stop; next = next_of s.fitted s.next }) };
+    ghost invariant = { λ s. IsKeptPart (record {
+      fitted = s.fitted;
+      life = s.life;
+      children = s.children;
+      handed = s.handed;
+      owed = s.owed;
+      stop =
+          s.stop;
+      next = next_of s.fitted s.next;
+    }) };
 }
 
 /// Until when a step may take that is started at this moment.
@@ -579,7 +598,8 @@ impl Slot {
     fn meet_item(&mut self, item: FittedItem, failures: u8)
         requires few { failures < 3 }
         requires same { is_same_item item.item self.old.fitted.item ≡ true → steps_of item ≡ steps_of self.old.fitted }
-        ensures { self.new ≡ (if is_replaced item self.old then replacing (item, failures) (with_texts item self.old) else staying (item, failures) (with_texts item self.old)) }
+        ensures { self.new ≡ (if is_replaced item self.old then replacing (item, failures) (with_texts item self.old) else staying (item, failures)
+            (with_texts item self.old)) }
     {
         let anew = self.is_replaced(&item);
         let other = self.take_texts(item);

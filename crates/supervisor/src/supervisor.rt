@@ -54,7 +54,8 @@ impl Model for Supervisor {
 
     ghost view = { λ s. record { parts = s.slots.items; moment = s.moment; steady = s.steady } };
 
-    ghost invariant = { λ s. IsKept (record { parts = s.slots.items; moment = s.moment; steady = s.steady }) × (length s.flags.items ≡ length s.slots.items) × AreWhole s.slots.items };
+    ghost invariant = { λ s. IsKept (record { parts = s.slots.items; moment = s.moment; steady = s.steady }) × (length s.flags.items ≡ length s.slots.items) ×
+        AreWhole s.slots.items };
 }
 
 impl Supervisor {

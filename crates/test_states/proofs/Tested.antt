@@ -25,7 +25,8 @@ use Rattle.deploy_state.specs.States.{IsIn}
 pub can_begin : (d : Device) → IsSome (next_name d) → has_failed d ≡ false → CanBegin d
 can_begin d some well = by d.pending some well
   where
-    by : (o : Option Pending) → IsSome (option_and_then next_boot o) → option_map_or (λ q. q.boot_failed) o false ≡ false → IsSomeAnd o (λ q. (q.boot_failed ≡ false) × IsSome (next_boot q))
+    by : (o : Option Pending) → IsSome (option_and_then next_boot o) → option_map_or (λ q. q.boot_failed) o false ≡ false →
+        IsSomeAnd o (λ q. (q.boot_failed ≡ false) × IsSome (next_boot q))
     by None some well = absurd cc
     by (Some q) some well = (well, some)
 
@@ -42,14 +43,17 @@ can_end d e some well begun = by d.pending some well begun
 pub can_activate : (d : Device) → IsIn stages.Booting d → next_name d ≡ None → has_failed d ≡ false → Allowed d stored.Activating
 can_activate d is none well = by d.pending is none well
   where
-    by : (o : Option Pending) → IsSomeAnd o (λ q. q.stage ≡ stages.Booting) → option_and_then next_boot o ≡ None → option_map_or (λ q. q.boot_failed) o false ≡ false → IsSomeAnd o MayActivate
+    by : (o : Option Pending) → IsSomeAnd o (λ q. q.stage ≡ stages.Booting) → option_and_then next_boot o ≡ None → option_map_or (λ q. q.boot_failed) o false
+        ≡ false → IsSomeAnd o MayActivate
     by None is none well = absurd is
     by (Some q) is none well = (is, well, none)
 
-pub can_keep : (d : Device) → IsIn stages.Booting d → has_failed d ≡ true → IsSomeAnd d.pending (λ q. q.plan.policy ≡ policies.DoNothing) → Allowed d (stored.Closed outcomes.RollbackNotRequested)
+pub can_keep : (d : Device) → IsIn stages.Booting d → has_failed d ≡ true → IsSomeAnd d.pending (λ q. q.plan.policy ≡ policies.DoNothing) →
+    Allowed d (stored.Closed outcomes.RollbackNotRequested)
 can_keep d is failed policy = by d.pending is failed policy
   where
-    by : (o : Option Pending) → IsSomeAnd o (λ q. q.stage ≡ stages.Booting) → option_map_or (λ q. q.boot_failed) o false ≡ true → IsSomeAnd o (λ q. q.plan.policy ≡ policies.DoNothing)
+    by : (o : Option Pending) → IsSomeAnd o (λ q. q.stage ≡ stages.Booting) → option_map_or (λ q. q.boot_failed) o false ≡ true →
+        IsSomeAnd o (λ q. q.plan.policy ≡ policies.DoNothing)
         → IsSomeAnd o (λ q. MayClose q outcomes.RollbackNotRequested)
     by None is failed policy = absurd is
     by (Some q) is failed policy = (policy, inl (is, failed))
@@ -57,7 +61,8 @@ can_keep d is failed policy = by d.pending is failed policy
 pub can_complete : (d : Device) → IsIn stages.Activating d → IsSomeAnd d.pending (λ q. broken q ≡ None) → Allowed d (stored.Closed outcomes.Successful)
 can_complete d is whole = by d.pending is whole
   where
-    by : (o : Option Pending) → IsSomeAnd o (λ q. q.stage ≡ stages.Activating) → IsSomeAnd o (λ q. broken q ≡ None) → IsSomeAnd o (λ q. MayClose q outcomes.Successful)
+    by : (o : Option Pending) → IsSomeAnd o (λ q. q.stage ≡ stages.Activating) → IsSomeAnd o (λ q. broken q ≡ None) →
+        IsSomeAnd o (λ q. MayClose q outcomes.Successful)
     by None is whole = absurd is
     by (Some q) is whole = (is, whole)
 
@@ -66,7 +71,8 @@ plain_record r w = writable r w
 
 -- ---- a deployment that fails
 
-pub can_break : (d : Device) → IsIn stages.Booting d → IsSome (next_name d) → has_failed d ≡ true → IsSomeAnd d.pending (λ q. q.plan.policy ≡ policies.Rollback) → CanBreakOff d
+pub can_break : (d : Device) → IsIn stages.Booting d → IsSome (next_name d) → has_failed d ≡ true →
+    IsSomeAnd d.pending (λ q. q.plan.policy ≡ policies.Rollback) → CanBreakOff d
 can_break d is some failed policy = by d.pending is some failed policy
   where
     failing : (q : Pending) (b : Bool) → q.boot_failed ≡ b → b ≡ true → q.stage ≡ stages.Booting → IsSome (next_boot q) → IsSome (failing_name q)
@@ -75,7 +81,8 @@ can_break d is some failed policy = by d.pending is some failed policy
         (subst (λ (x : Bool). IsSome (if x then next_boot (record q { stage = stages.Booting }) else None)) (sym (has ∙ yes_failed))
         (subst (λ (s : Stage). IsSome (next_boot (record q { stage = s }))) stage some))
 
-    by : (o : Option Pending) → IsSomeAnd o (λ q. q.stage ≡ stages.Booting) → IsSome (option_and_then next_boot o) → option_map_or (λ q. q.boot_failed) o false ≡ true
+    by : (o : Option Pending) → IsSomeAnd o (λ q. q.stage ≡ stages.Booting) → IsSome (option_and_then next_boot o) →
+        option_map_or (λ q. q.boot_failed) o false ≡ true
         → IsSomeAnd o (λ q. q.plan.policy ≡ policies.Rollback) → IsSomeAnd o (λ q. IsSome (failing_name q) × (q.plan.policy ≡ policies.Rollback))
     by None is some failed policy = absurd is
     by (Some q) is some failed policy = (failing q q.boot_failed refl failed is some, policy)
@@ -85,22 +92,27 @@ broken_plan : (set : List Item) (q : Pending) → q.stage ≡ stages.Activating 
 broken_plan set q stage some = subst (λ (s : Stage). IsSome (broken_among set (record q { stage = s }))) stage some
 
 is_broken_by : (items : List Item) (q : Pending) (o : Option ℕ) → broken q ≡ o → IsSome (broken_name items q) → is_some (broken q) ≡ true
-is_broken_by items q None none some = absurd (let is = subst (λ (x : Option ℕ). IsSome (option_and_then (λ k. slice_get (map (λ i. i.name) items) k) x)) none some in cc)
+is_broken_by items q None none some = absurd (let is = subst (λ (x : Option ℕ). IsSome (option_and_then (λ k. slice_get (map (λ i. i.name) items) k) x)) none
+    some in cc)
 is_broken_by items q (Some k) at some = ap is_some at
 
-pub can_break_broken : (d : Device) → IsIn stages.Activating d → IsSome (broken_item d) → IsSomeAnd d.pending (λ q. q.plan.policy ≡ policies.Rollback) → CanBreakOff d
+pub can_break_broken : (d : Device) → IsIn stages.Activating d → IsSome (broken_item d) → IsSomeAnd d.pending (λ q. q.plan.policy ≡ policies.Rollback) →
+    CanBreakOff d
 can_break_broken d is some policy = by d.pending is some policy
   where
-    by : (o : Option Pending) → IsSomeAnd o (λ q. q.stage ≡ stages.Activating) → IsSome (option_and_then (broken_among d.set) o) → IsSomeAnd o (λ q. q.plan.policy ≡ policies.Rollback)
+    by : (o : Option Pending) → IsSomeAnd o (λ q. q.stage ≡ stages.Activating) → IsSome (option_and_then (broken_among d.set) o) →
+        IsSomeAnd o (λ q. q.plan.policy ≡ policies.Rollback)
         → IsSomeAnd o (λ q. IsSome (failing_name q) × (q.plan.policy ≡ policies.Rollback))
     by None is some policy = absurd is
     by (Some q) is some policy =
         (subst (λ (s : Stage). IsSome (failing_name (record q { stage = s }))) (sym is) (broken_plan d.set q is some), policy)
 
-pub can_keep_broken : (d : Device) → IsIn stages.Activating d → IsSome (broken_item d) → IsSomeAnd d.pending (λ q. q.plan.policy ≡ policies.DoNothing) → Allowed d (stored.Closed outcomes.RollbackNotRequested)
+pub can_keep_broken : (d : Device) → IsIn stages.Activating d → IsSome (broken_item d) → IsSomeAnd d.pending (λ q. q.plan.policy ≡ policies.DoNothing) →
+    Allowed d (stored.Closed outcomes.RollbackNotRequested)
 can_keep_broken d is some policy = by d.pending is some policy
   where
-    by : (o : Option Pending) → IsSomeAnd o (λ q. q.stage ≡ stages.Activating) → IsSome (option_and_then (broken_among d.set) o) → IsSomeAnd o (λ q. q.plan.policy ≡ policies.DoNothing)
+    by : (o : Option Pending) → IsSomeAnd o (λ q. q.stage ≡ stages.Activating) → IsSome (option_and_then (broken_among d.set) o) →
+        IsSomeAnd o (λ q. q.plan.policy ≡ policies.DoNothing)
         → IsSomeAnd o (λ q. MayClose q outcomes.RollbackNotRequested)
     by None is some policy = absurd is
     by (Some q) is some policy = (policy, inr (is, is_broken_by q.plan.items q (broken q) refl (broken_plan d.set q is some)))
@@ -108,7 +120,8 @@ can_keep_broken d is some policy = by d.pending is some policy
 pub can_close : (d : Device) → IsIn stages.Backing d → has_failed d ≡ true → Allowed d (stored.Closed outcomes.UnableToRollback)
 can_close d is failed = by d.pending is failed
   where
-    by : (o : Option Pending) → IsSomeAnd o (λ q. q.stage ≡ stages.Backing) → option_map_or (λ q. q.boot_failed) o false ≡ true → IsSomeAnd o (λ q. MayClose q outcomes.UnableToRollback)
+    by : (o : Option Pending) → IsSomeAnd o (λ q. q.stage ≡ stages.Backing) → option_map_or (λ q. q.boot_failed) o false ≡ true →
+        IsSomeAnd o (λ q. MayClose q outcomes.UnableToRollback)
     by None is failed = absurd is
     by (Some q) is failed = inr (is, failed)
 

@@ -6,7 +6,8 @@ ghost use Rattle.records.specs.Stored as stored;
 ghost use Rattle.device.specs.Devices.{device_view, pending_view};
 ghost use Rattle.device.specs.Lawful.{Allowed, MayCount, broken};
 ghost use Rattle.deploy_state.specs.Fields.{IsBegun, broken_item, has_failed, next_name};
-ghost use Rattle.deploy_state.specs.States.{OwnsActivating, OwnsBacking, OwnsBooting, OwnsLoaded, OwnsRolling, activating_device, backing_device, booting_device};
+ghost use Rattle.deploy_state.specs.States.{OwnsActivating, OwnsBacking, OwnsBooting, OwnsLoaded, OwnsRolling, activating_device, backing_device};
+ghost use Rattle.deploy_state.specs.States.{booting_device};
 
 use deploy_state::{Activating, Backed, Backing, Booting, BrokeOff, Loaded, Rolling, load};
 use device::{Device, Pending, broken_of, running_place};

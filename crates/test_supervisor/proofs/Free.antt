@@ -14,13 +14,16 @@ use Rattle.lifecycle.specs.declared.kinds.LifeEvent.{LifeEvent}
 use Rattle.lifecycle.specs.declared.kinds.LifeEvent.TheVariants as event
 use Rattle.components.specs.Acts.{Move, Quietly}
 use Rattle.components.specs.Answers.{has_answered}
-use Rattle.components.specs.Changes.{Coming, all_stopped, changed_to, coming_again, coming_for, counted, fate, forgetting, fresh_part, is_replaced, is_replacing, leaving, meeting, replacing, replanned, standing, staying, steadied, with_items, with_newcomers, with_texts}
+use Rattle.components.specs.Changes.{Coming, all_stopped, changed_to, coming_again, coming_for, counted, fate, forgetting, fresh_part, is_replaced}
+use Rattle.components.specs.Changes.{is_replacing, leaving, meeting, replacing, replanned, standing, staying, steadied, with_items, with_newcomers}
+use Rattle.components.specs.Changes.{with_texts}
 use Rattle.components.specs.Events.{answered_at, gone_by, is_orphan_at, kill_event_at, killed, ended, launched, refused, skipped, started, told_at, with_child}
 use Rattle.components.specs.Fitted.{Fitted, is_same_item, steps_of}
 use Rattle.components.specs.Lives.{drops_at, lived, lived_at, replaced}
 use Rattle.components.specs.Marks.{Flagged, flagged, flagged_at, grown, marked, may_replan, may_restart, reaching, restarted}
 use Rattle.components.specs.Rows.{completed_from, succeeds_from}
-use Rattle.components.specs.Components.{ComponentState, Components, changed_at, child_gone, is_again, is_gone, owner, component_name, stops_for_good, under_way, without_child}
+use Rattle.components.specs.Components.{ComponentState, Components, changed_at, child_gone, is_again, is_gone, owner, component_name, stops_for_good}
+use Rattle.components.specs.Components.{under_way, without_child}
 use Rattle.test_supervisor.specs.Stands.{AreAnswered}
 use Rattle.components.proofs.Changed.{all_placed, all_standing, is_held_by}
 use Rattle.components.proofs.Lived.{lived_none, lived_row, settled_part}
@@ -64,12 +67,14 @@ free_lived_by b e p (Some r) t h =
 free_lived : (b : Bool) (e : LifeEvent) (p : ComponentState) → IsFree p → IsFree (lived b e p)
 free_lived b e p h = free_lived_by b e p (table p.life e) refl h
 
-free_changed : (f : ComponentState → ComponentState) → ((p : ComponentState) → IsFree p → IsFree (f p)) → (k : ℕ) (ps : List ComponentState) → AreFree ps → AreFree (changed_at k f ps)
+free_changed : (f : ComponentState → ComponentState) → ((p : ComponentState) → IsFree p → IsFree (f p)) → (k : ℕ) (ps : List ComponentState) → AreFree ps →
+    AreFree (changed_at k f ps)
 free_changed f g k [] a = tt
 free_changed f g zero (p ∷ ps) a = (g p a.0, a.1)
 free_changed f g (suc k) (p ∷ ps) a = (a.0, free_changed f g k ps a.1)
 
-free_mapped : (f : ComponentState → ComponentState) → ((p : ComponentState) → IsFree p → IsFree (f p)) → (ps : List ComponentState) → AreFree ps → AreFree (map f ps)
+free_mapped : (f : ComponentState → ComponentState) → ((p : ComponentState) → IsFree p → IsFree (f p)) → (ps : List ComponentState) → AreFree ps →
+    AreFree (map f ps)
 free_mapped f g [] a = tt
 free_mapped f g (p ∷ ps) a = (g p a.0, free_mapped f g ps a.1)
 
@@ -172,7 +177,8 @@ free_quietly (m ∷ ms) w v q a = free_quietly ms (lived_at m.who m.what w) v q.
 
 -- ---- all at once
 
-free_leaving_at : (b d : Bool) (p : ComponentState) → IsFree p → IsFree (if b then p else (if d then record p { stop = None; next = None } else record p { stop = Some after.Gone; next = None }))
+free_leaving_at : (b d : Bool) (p : ComponentState) → IsFree p →
+    IsFree (if b then p else (if d then record p { stop = None; next = None } else record p { stop = Some after.Gone; next = None }))
 free_leaving_at true d p h = h
 free_leaving_at false true p h = h
 free_leaving_at false false p h = h
@@ -193,7 +199,8 @@ free_texts true f p h = h
 free_texts false f p h = h
 
 free_replacing : (b : Bool) (n : Coming) (p : ComponentState) → IsFree p
-    → IsFree (if b then record p { life = record p.life { stop = Some after.Again }; stop = None; next = Some n } else record p { stop = Some after.Again; next = Some n })
+    → IsFree (if b then record p { life = record p.life { stop = Some after.Again }; stop = None; next = Some n } else record p
+    { stop = Some after.Again; next = Some n })
 free_replacing true n p h = h
 free_replacing false n p h = h
 

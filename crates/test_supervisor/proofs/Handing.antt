@@ -19,9 +19,11 @@ use Rattle.components.proofs.Each.{at_below, length_changed}
 use Rattle.components.proofs.Handed.{refused-handed, skipped-handed, started-handed}
 use Rattle.components.proofs.Platforms.{run_change, run_next, run_steadied, run_stopped}
 use Rattle.test_supervisor.specs.Stands.{Stands}
-use Rattle.test_supervisor.proofs.Free.{AreFree, free_change, free_killed, free_quietly, free_refused, free_skipped, free_started, free_steadied, free_stopped, free_told}
+use Rattle.test_supervisor.proofs.Free.{AreFree, free_change, free_killed, free_quietly, free_refused, free_skipped, free_started, free_steadied}
+use Rattle.test_supervisor.proofs.Free.{free_stopped, free_told}
 
-at_changed : (k : ℕ) (f : ComponentState → ComponentState) (ps : List ComponentState) (P Q : ComponentState → Type 0) → ((p : ComponentState) → P p → Q (f p)) → At k P ps → At k Q (changed_at k f ps)
+at_changed : (k : ℕ) (f : ComponentState → ComponentState) (ps : List ComponentState) (P Q : ComponentState → Type 0) → ((p : ComponentState) → P p → Q (f p))
+    → At k P ps → At k Q (changed_at k f ps)
 at_changed k f [] P Q g h = absurd h
 at_changed zero f (p ∷ ps) P Q g h = g p h
 at_changed (suc k) f (p ∷ ps) P Q g h = at_changed k f ps P Q g h
@@ -52,7 +54,8 @@ free_skip k s w a = subst (λ (x : Components). AreFree x.parts) (sym (skipped-h
 
 owes_below : (k : ℕ) (s : Step) (e : Exit) (b : Bool) (u v : Components) → OwesAt u k s e b → v ≡ told_at k u → k < length v.parts
 owes_below k s e b u v owes is =
-    let below : k < length u.parts = at_below (λ p. (p.owed ≡ Some (s, e)) × (is_broken p.life.state ≡ b) × (place_of (component_name p) u.parts ≡ Some k)) u.parts k owes in
+    let below : k < length u.parts = at_below (λ p. (p.owed ≡ Some (s, e)) × (is_broken p.life.state ≡ b) × (place_of (component_name p) u.parts ≡ Some k))
+    u.parts k owes in
     let same : length v.parts ≡ length u.parts = ap (λ (x : Components). length x.parts) is ∙ length_changed k (λ p. record p { owed = None }) u.parts in
     omega (arith, below, same)
 
@@ -64,17 +67,21 @@ broke_below k s e w v n = owes_below k s e true n.seen v n.hands.0 n.hands.1
 
 -- ---- what stays
 
-pub if_stands : (o : Option Origin) (w v : Components) → ((p : Platform) → Stands p w → Stands p v) → IfSome o (λ (x : Origin). Stands x.platform w) → IfSome o (λ (x : Origin). Stands x.platform v)
+pub if_stands : (o : Option Origin) (w v : Components) → ((p : Platform) → Stands p w → Stands p v) → IfSome o (λ (x : Origin). Stands x.platform w) →
+    IfSome o (λ (x : Origin). Stands x.platform v)
 if_stands None w v f h = tt
 if_stands (Some o) w v f h = f o.platform h
 
 pub stands_stopped : (platform : Platform) (w v : Components) → v ≡ all_stopped w → Stands platform w → Stands platform v
-stands_stopped platform w v is h = subst (λ (x : Components). Stands platform x) (sym is) (record { answered = free_stopped w h.answered; ready = run_stopped platform w h.ready })
+stands_stopped platform w v is h = subst (λ (x : Components). Stands platform x) (sym is)
+    (record { answered = free_stopped w h.answered; ready = run_stopped platform w h.ready })
 
 pub stands_steadied : (platform : Platform) (w v : Components) → v ≡ steadied w → Stands platform w → Stands platform v
-stands_steadied platform w v is h = subst (λ (x : Components). Stands platform x) (sym is) (record { answered = free_steadied w h.answered; ready = run_steadied platform w h.ready })
+stands_steadied platform w v is h = subst (λ (x : Components). Stands platform x) (sym is)
+    (record { answered = free_steadied w h.answered; ready = run_steadied platform w h.ready })
 
-pub stands_changed : (platform : Platform) (fs : List Fitted) (counts : List ℕ) (steady : Bool) (w v : Components) → v ≡ changed_to fs counts steady w → AllFor platform fs → Stands platform w → Stands platform v
+pub stands_changed : (platform : Platform) (fs : List Fitted) (counts : List ℕ) (steady : Bool) (w v : Components) → v ≡ changed_to fs counts steady w →
+    AllFor platform fs → Stands platform w → Stands platform v
 stands_changed platform fs counts steady w v is all h =
     subst (λ (x : Components). Stands platform x) (sym is)
     (record { answered = free_change fs counts steady w h.answered; ready = run_change platform fs counts steady w all h.ready })

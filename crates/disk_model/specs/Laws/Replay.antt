@@ -28,7 +28,8 @@ pub put_here : (file bytes : List ℕ) (image : Image) → put file bytes image 
 put_here file bytes image = ap (λ (b : Bool). if b then bytes else image file) ((bytes_eq-Decides file file).1 refl)
 
 pub put_other : (file bytes : List ℕ) (image : Image) (name : List ℕ) → name ≢ file → put file bytes image name ≡ image name
-put_other file bytes image name ne = ap (λ (b : Bool). if b then bytes else image name) (false_from_ne_true _ (λ same. ne ((bytes_eq-Decides name file).0 same)))
+put_other file bytes image name ne = ap (λ (b : Bool). if b then bytes else image name)
+    (false_from_ne_true _ (λ same. ne ((bytes_eq-Decides name file).0 same)))
 
 -- a write and a cut that are done are among those that a crash may leave, and so are those that are not begun
 pub torn_done : (at : ℕ) (bytes old : List ℕ) → at ≤ length old → Torn at (length bytes) old (overwritten at bytes old)
@@ -37,7 +38,8 @@ torn_done at bytes old le =
     let size : length front ≡ at = length-take-le at old le in
     let sizes : length (front ++ bytes) ≡ at + length bytes = omega (arith, length-append front bytes, size) in
     record {
-      before = ap (λ (l : List ℕ). take at l) (append_assoc front bytes (drop (at + length bytes) old)) ∙ take_at front (bytes ++ drop (at + length bytes) old) at size;
+      before = ap (λ (l : List ℕ). take at l) (append_assoc front bytes (drop (at + length bytes) old)) ∙ take_at front
+          (bytes ++ drop (at + length bytes) old) at size;
       after = drop_at (front ++ bytes) (drop (at + length bytes) old) (at + length bytes) sizes;
       no_shorter = omega (arith, length-append (front ++ bytes) (drop (at + length bytes) old), sizes, length-drop (at + length bytes) old);
       no_longer = omega (arith, length-append (front ++ bytes) (drop (at + length bytes) old), sizes, length-drop (at + length bytes) old);
@@ -49,7 +51,8 @@ torn_by at bytes old = elim (cases_lt (length old) at) [
       let place : min at (length old) ≡ length old = omega arith in
       let same : overwritten at bytes old ≡ overwritten (length old) bytes old =
       ap (λ (l : List ℕ). l ++ bytes ++ drop (at + length bytes) old) (take_all at old (omega arith) ∙ sym (take_all (length old) old (omega arith)))
-      ∙ ap (λ (l : List ℕ). take (length old) old ++ bytes ++ l) (drop_all (at + length bytes) old (omega arith) ∙ sym (drop_all (length old + length bytes) old (omega arith))) in
+      ∙ ap (λ (l : List ℕ). take (length old) old ++ bytes ++ l)
+      (drop_all (at + length bytes) old (omega arith) ∙ sym (drop_all (length old + length bytes) old (omega arith))) in
       subst (λ (n : ℕ). Torn n (length bytes) old (overwritten at bytes old)) (sym place)
       (subst (λ (l : List ℕ). Torn (length old) (length bytes) old l) (sym same) (torn_done (length old) bytes old (omega arith)))
   | inr within ↦
@@ -70,7 +73,8 @@ pub cut_none : (n : ℕ) (old : List ℕ) → Cut n old old
 cut_none n old = record { no_shorter = omega arith; front = sym (take_all (length old) old (omega arith)) }
 
 -- a step that changes nothing
-pub unchanged : (images : Image → Type 0) (file : List ℕ) (change : List ℕ → List ℕ → Type 0) → ((l : List ℕ) → change l l) → (c : Image) → images c → After images (Step file change) c
+pub unchanged : (images : Image → Type 0) (file : List ℕ) (change : List ℕ → List ℕ → Type 0) → ((l : List ℕ) → change l l) → (c : Image) → images c →
+    After images (Step file change) c
 unchanged images file change none c left = (c, left, record { here = none (c file); others = λ name ne. refl })
 
 pub reads_step : (call : Call) (image : Image) (images : Image → Type 0) → images image → images_step call image images (seen_step call image)
@@ -78,7 +82,8 @@ reads_step (Written file at bytes) image images left = (
   image,
   left,
   record {
-    here = subst (λ (l : List ℕ). Torn (min at (length (image file))) (length bytes) (image file) l) (sym (put_here file _ image)) (torn_by at bytes (image file));
+    here = subst (λ (l : List ℕ). Torn (min at (length (image file))) (length bytes) (image file) l) (sym (put_here file _ image))
+        (torn_by at bytes (image file));
     others = put_other file _ image;
   },
 )
@@ -102,7 +107,13 @@ reads calls start = reads_from calls start (λ c. c ≡ start) refl
 
 -- the laws of moments
 pub counts_now : (calls : List Call) (start : Image) (t : ℕ) (c : Image) → t ≤ length calls → left_after calls start c → left_from calls start t c
-counts_now calls start t c le left = (length calls, le, omega arith, subst (λ (l : List Call). left_after l start c) (sym (take_all (length calls) calls (omega arith))) left)
+counts_now calls start t c le left = (
+  length calls,
+  le,
+  omega arith,
+  subst (λ (l : List Call). left_after l start c)
+      (sym (take_all (length calls) calls (omega arith))) left,
+)
 
 pub only_now : (calls : List Call) (start : Image) (c : Image) → left_from calls start (length calls) c → left_after calls start c
 only_now calls start c left =
@@ -122,7 +133,8 @@ module _ {D : Type 0} (calls : D → List Call) (start : D → Image) where
         later = omega (arith, ap length same_calls);
         each = λ c left. only_now (calls old) (start old) c (to (length (calls old)) c left);
         joins = λ t c le left. inl (to t c left);
-        keeps = λ t c le left. subst (λ (l : List Call). left_from l (start new) t c) (sym same_calls) (subst (λ (i : Image). left_from (calls old) i t c) (sym same_start) left);
+        keeps = λ t c le left. subst (λ (l : List Call). left_from l (start new) t c) (sym same_calls)
+            (subst (λ (i : Image). left_from (calls old) i t c) (sym same_start) left);
       }
 
   -- a call that adds itself
@@ -142,7 +154,9 @@ module _ {D : Type 0} (calls : D → List Call) (start : D → Image) where
         length (calls old) + 1,
         omega arith,
         omega (arith, length-append (calls old) (call ∷ [])),
-        subst (λ (l : List Call). left_after l (start old) c) (sym (take_all (length (calls old) + 1) (calls old ++ call ∷ []) (omega (arith, length-append (calls old) (call ∷ []))))) (push-images (calls old) call (start old) _ c now),
+        subst (λ (l : List Call). left_after l (start old) c)
+            (sym (take_all (length (calls old) + 1) (calls old ++ call ∷ []) (omega (arith, length-append (calls old) (call ∷ [])))))
+            (push-images (calls old) call (start old) _ c now),
       ))
     ];
     keeps = λ t c le left. from t c (
@@ -157,15 +171,24 @@ module _ {D : Type 0} (calls : D → List Call) (start : D → Image) where
       sizes = ap length pushed ∙ omega (arith, length-append (calls old) (call ∷ []))
 
       to : (t : ℕ) (c : Image) → left_from (calls new) (start new) t c → left_from (calls old ++ call ∷ []) (start old) t c
-      to t c left = subst (λ (i : Image). left_from (calls old ++ call ∷ []) i t c) same_start (subst (λ (l : List Call). left_from l (start new) t c) pushed left)
+      to t c left = subst (λ (i : Image). left_from (calls old ++ call ∷ []) i t c) same_start
+          (subst (λ (l : List Call). left_from l (start new) t c) pushed left)
 
       from : (t : ℕ) (c : Image) → left_from (calls old ++ call ∷ []) (start old) t c → left_from (calls new) (start new) t c
-      from t c left = subst (λ (l : List Call). left_from l (start new) t c) (sym pushed) (subst (λ (i : Image). left_from (calls old ++ call ∷ []) i t c) (sym same_start) left)
+      from t c left = subst (λ (l : List Call). left_from l (start new) t c) (sym pushed)
+          (subst (λ (i : Image). left_from (calls old ++ call ∷ []) i t c) (sym same_start) left)
 
       split : (t : ℕ) (c : Image) → left_from (calls old ++ call ∷ []) (start old) t c
           → left_from (calls old) (start old) t c ⊎ images_step call (seen_after (calls old) (start old)) (left_after (calls old) (start old)) c
       split t c left = elim (cases_lt (length (calls old)) left.0) [
-        | inr within ↦ inl (left.0, left.1, within, subst (λ (l : List Call). left_after l (start old) c) (take-append-le left.0 (calls old) (call ∷ []) within) left.3)
+        | inr within ↦ inl (
+          left.0,
+          left.1,
+          within,
+          subst (λ (l : List Call). left_after l (start old) c)
+              (take-append-le left.0 (calls old) (call ∷ []) within) left.3,
+        )
         | inl past ↦ inr (images-push (calls old) call (start old) _ c
-            (subst (λ (l : List Call). left_after l (start old) c) (take_all left.0 (calls old ++ call ∷ []) (omega (arith, past, length-append (calls old) (call ∷ [])))) left.3))
+            (subst (λ (l : List Call). left_after l (start old) c)
+            (take_all left.0 (calls old ++ call ∷ []) (omega (arith, past, length-append (calls old) (call ∷ [])))) left.3))
       ]

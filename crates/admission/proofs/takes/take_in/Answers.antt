@@ -13,7 +13,8 @@ use Rattle.artifact_store.proofs.Sparing.{still_safe}
 use Rattle.deploy_state.specs.States.{idle_device}
 use Rattle.admission.specs.Takes.{TakesIn}
 use Rattle.admission.proofs.Staying.{hand_stays}
-use Rattle.admission.proofs.Taking.{refused, unstaged, unstaged_passes, taken, none_pending, refused_disk, refused_library, library_refused, unstaged_disk, disk_unstaged, unstaged_library, library_unstaged}
+use Rattle.admission.proofs.Taking.{refused, unstaged, unstaged_passes, taken, none_pending, refused_disk, refused_library, library_refused, unstaged_disk}
+use Rattle.admission.proofs.Taking.{disk_unstaged, unstaged_library, library_unstaged}
 use Rattle.admission.proofs.takes.take_in.Goals as goal
 
 -- ---- what the checks ask of the device
@@ -22,7 +23,8 @@ pub draft_for-requires-clause-origin : goal.draft_for-requires-clause-origin
 draft_for-requires-clause-origin g c = subst (λ (d : Device). IsSome d.origin) (sym c.device-device.ensures) c.requires.held.0.origin
 
 pub draft_for-requires-clause-idle : goal.draft_for-requires-clause-idle
-draft_for-requires-clause-idle g c = none_pending c.device-device.result.now.pending (ap (λ (d : Device). d.pending) c.device-device.ensures ∙ c.requires.held.1)
+draft_for-requires-clause-idle g c = none_pending c.device-device.result.now.pending
+    (ap (λ (d : Device). d.pending) c.device-device.ensures ∙ c.requires.held.1)
 
 pub draft_for-requires-clause-sound : goal.draft_for-requires-clause-sound
 draft_for-requires-clause-sound g c = subst IsSound (sym c.device-device.ensures) c.requires.held.0.sound
@@ -38,7 +40,8 @@ returns-in_err-draft-clause-takes g c = λ o is.
     let before = g.L.Library.faults c.args.library.now in
     let after = g.L.Library.faults c.draft_for.new.library in
     subst (λ (d : Device). TakesIn d o content before after c.args.document.now c.from_residual.result) c.device-device.ensures
-    (refused (device_view c.device-device.result.now) o content before after after c.args.document.now c.in_err-draft.field-0.0 c.from_residual.result c.from_residual.ensures.1
+    (refused (device_view c.device-device.result.now) o content before after after c.args.document.now c.in_err-draft.field-0.0 c.from_residual.result
+    c.from_residual.ensures.1
     (c.in_err-draft.ensures.proposes o (ap (λ (d : Device). d.origin) c.device-device.ensures ∙ is)))
 
 pub returns-in_err-draft-clause-moments : goal.returns-in_err-draft-clause-moments
@@ -51,10 +54,12 @@ pub returns-in_err-draft-clause-disk_cause : goal.returns-in_err-draft-clause-di
 returns-in_err-draft-clause-disk_cause g c = λ failed. absurd (refused_disk c.from_residual.result c.in_err-draft.field-0.0 c.from_residual.ensures.1 failed)
 
 pub returns-in_err-draft-clause-library_cause : goal.returns-in_err-draft-clause-library_cause
-returns-in_err-draft-clause-library_cause g c = λ failed. c.in_err-draft.ensures.cause (ap Err (refused_library c.from_residual.result c.in_err-draft.field-0.0 c.from_residual.ensures.1 failed))
+returns-in_err-draft-clause-library_cause g c = λ failed. c.in_err-draft.ensures.cause
+    (ap Err (refused_library c.from_residual.result c.in_err-draft.field-0.0 c.from_residual.ensures.1 failed))
 
 pub returns-in_err-draft-clause-library_quiet : goal.returns-in_err-draft-clause-library_quiet
-returns-in_err-draft-clause-library_quiet g c = λ other. c.in_err-draft.ensures.quiet (λ is. other (library_refused c.from_residual.result c.in_err-draft.field-0.0 c.from_residual.ensures.1 (cc is)))
+returns-in_err-draft-clause-library_quiet g c = λ other. c.in_err-draft.ensures.quiet
+    (λ is. other (library_refused c.from_residual.result c.in_err-draft.field-0.0 c.from_residual.ensures.1 (cc is)))
 
 -- ---- what taking in the files asks of the draft
 
@@ -82,31 +87,38 @@ returns-in_err-plan-clause-takes g c = λ o is.
     let mid = g.L.Library.faults c.draft_for.new.library in
     let after = g.L.Library.faults c.stage.new.library in
     subst (λ (d : Device). TakesIn d o content before after c.args.document.now c.from_residual-in_err-plan.result) c.device-device.ensures
-    (unstaged (device_view c.device-device.result.now) o content before mid after c.args.document.now c.in_ok-draft.draft (map item_view c.device-device.result.now.set) c.in_err-plan.field-0.0
+    (unstaged (device_view c.device-device.result.now) o content before mid after c.args.document.now c.in_ok-draft.draft
+    (map item_view c.device-device.result.now.set) c.in_err-plan.field-0.0
     c.from_residual-in_err-plan.result c.from_residual-in_err-plan.ensures.1 refl
     (c.in_ok-draft.ensures.proposes o (ap (λ (d : Device). d.origin) c.device-device.ensures ∙ is))
     (λ l told. c.in_err-plan.ensures.staged l (c.draft_for.ensures.kept ∙ told)))
 
 pub returns-in_err-plan-clause-moments : goal.returns-in_err-plan-clause-moments
 returns-in_err-plan-clause-moments g c =
-    wider_spares g.met.D.Disk.laws (IsStaged (map item_view c.device-device.result.now.set) (draft_view c.in_ok-draft.draft)) (IsBelow artifacts) c.args.disk.now c.stage.new.disk
-    (λ name is. (c.needed_files_stay.ensures.below (map item_view c.device-device.result.now.set) (draft_view c.in_ok-draft.draft) (map item_view c.device-device.result.now.set) name).0 is) c.stage.ensures.moments
+    wider_spares g.met.D.Disk.laws (IsStaged (map item_view c.device-device.result.now.set) (draft_view c.in_ok-draft.draft)) (IsBelow artifacts)
+    c.args.disk.now c.stage.new.disk
+    (λ name is. (c.needed_files_stay.ensures.below (map item_view c.device-device.result.now.set) (draft_view c.in_ok-draft.draft)
+    (map item_view c.device-device.result.now.set) name).0 is) c.stage.ensures.moments
 
 pub returns-in_err-plan-clause-held : goal.returns-in_err-plan-clause-held
 returns-in_err-plan-clause-held g c = (
   hand_stays g.met.D.Disk.laws g.met.J.Journal.laws c.requires.apart c.args.idle.now.log (idle_device c.args.idle.now) c.args.disk.now c.stage.new.disk
-      (wider_spares g.met.D.Disk.laws (IsStaged (map item_view c.device-device.result.now.set) (draft_view c.in_ok-draft.draft)) (IsBelow artifacts) c.args.disk.now c.stage.new.disk
-      (λ name is. (c.needed_files_stay.ensures.below (map item_view c.device-device.result.now.set) (draft_view c.in_ok-draft.draft) (map item_view c.device-device.result.now.set) name).0 is) c.stage.ensures.moments)
+      (wider_spares g.met.D.Disk.laws (IsStaged (map item_view c.device-device.result.now.set) (draft_view c.in_ok-draft.draft)) (IsBelow artifacts)
+      c.args.disk.now c.stage.new.disk
+      (λ name is. (c.needed_files_stay.ensures.below (map item_view c.device-device.result.now.set) (draft_view c.in_ok-draft.draft)
+      (map item_view c.device-device.result.now.set) name).0 is) c.stage.ensures.moments)
       c.requires.held.0,
   c.requires.held.1,
 )
 
 pub returns-in_err-plan-clause-others : goal.returns-in_err-plan-clause-others
 returns-in_err-plan-clause-others g c = λ told name spared.
-    c.stage.ensures.others told name (λ is. spared ((c.needed_files_stay.ensures.below (map item_view c.device-device.result.now.set) (draft_view c.in_ok-draft.draft) (map item_view c.device-device.result.now.set) name).0 is))
+    c.stage.ensures.others told name (λ is. spared ((c.needed_files_stay.ensures.below (map item_view c.device-device.result.now.set)
+    (draft_view c.in_ok-draft.draft) (map item_view c.device-device.result.now.set) name).0 is))
 
 pub returns-in_err-plan-clause-untouched : goal.returns-in_err-plan-clause-untouched
-returns-in_err-plan-clause-untouched g c = λ is. absurd (unstaged_passes c.from_residual-in_err-plan.result c.in_err-plan.field-0.0 c.from_residual-in_err-plan.ensures.1 is)
+returns-in_err-plan-clause-untouched g c = λ is. absurd (unstaged_passes c.from_residual-in_err-plan.result c.in_err-plan.field-0.0
+    c.from_residual-in_err-plan.ensures.1 is)
 
 pub returns-in_err-plan-clause-safe : goal.returns-in_err-plan-clause-safe
 returns-in_err-plan-clause-safe g c = λ holds.
@@ -117,11 +129,13 @@ returns-in_err-plan-clause-kept g c = c.stage.ensures.kept ∙ c.draft_for.ensur
 
 pub returns-in_err-plan-clause-disk_cause : goal.returns-in_err-plan-clause-disk_cause
 returns-in_err-plan-clause-disk_cause g c = λ failed.
-    c.in_err-plan.ensures.counts.disk_cause (ap Err (unstaged_disk c.from_residual-in_err-plan.result c.in_err-plan.field-0.0 c.from_residual-in_err-plan.ensures.1 failed))
+    c.in_err-plan.ensures.counts.disk_cause (ap Err (unstaged_disk c.from_residual-in_err-plan.result c.in_err-plan.field-0.0
+    c.from_residual-in_err-plan.ensures.1 failed))
 
 pub returns-in_err-plan-clause-disk_quiet : goal.returns-in_err-plan-clause-disk_quiet
 returns-in_err-plan-clause-disk_quiet g c = λ other.
-    c.in_err-plan.ensures.counts.disk_quiet (λ is. other (disk_unstaged c.from_residual-in_err-plan.result c.in_err-plan.field-0.0 c.from_residual-in_err-plan.ensures.1 (cc is)))
+    c.in_err-plan.ensures.counts.disk_quiet (λ is. other (disk_unstaged c.from_residual-in_err-plan.result c.in_err-plan.field-0.0
+    c.from_residual-in_err-plan.ensures.1 (cc is)))
 
 pub returns-in_err-plan-clause-disk_later : goal.returns-in_err-plan-clause-disk_later
 returns-in_err-plan-clause-disk_later g c = c.in_err-plan.ensures.counts.disk_later
@@ -129,11 +143,13 @@ returns-in_err-plan-clause-disk_later g c = c.in_err-plan.ensures.counts.disk_la
 pub returns-in_err-plan-clause-library_cause : goal.returns-in_err-plan-clause-library_cause
 returns-in_err-plan-clause-library_cause g c = λ failed.
     subst (λ (n : ℕ). Rose n (g.L.Library.faults c.stage.new.library)) (c.in_ok-draft.ensures.quiet (λ is. cc is))
-    (c.in_err-plan.ensures.counts.library_cause (ap Err (unstaged_library c.from_residual-in_err-plan.result c.in_err-plan.field-0.0 c.from_residual-in_err-plan.ensures.1 failed)))
+    (c.in_err-plan.ensures.counts.library_cause (ap Err (unstaged_library c.from_residual-in_err-plan.result c.in_err-plan.field-0.0
+    c.from_residual-in_err-plan.ensures.1 failed)))
 
 pub returns-in_err-plan-clause-library_quiet : goal.returns-in_err-plan-clause-library_quiet
 returns-in_err-plan-clause-library_quiet g c = λ other.
-    c.in_err-plan.ensures.counts.library_quiet (λ is. other (library_unstaged c.from_residual-in_err-plan.result c.in_err-plan.field-0.0 c.from_residual-in_err-plan.ensures.1 (cc is)))
+    c.in_err-plan.ensures.counts.library_quiet (λ is. other (library_unstaged c.from_residual-in_err-plan.result c.in_err-plan.field-0.0
+    c.from_residual-in_err-plan.ensures.1 (cc is)))
     ∙ c.in_ok-draft.ensures.quiet (λ is. cc is)
 
 pub returns-in_err-plan-clause-library_later : goal.returns-in_err-plan-clause-library_later
@@ -151,7 +167,8 @@ returns-clause-takes g c = λ o is.
     let mid = g.L.Library.faults c.draft_for.new.library in
     let after = g.L.Library.faults c.stage.new.library in
     subst (λ (d : Device). TakesIn d o content before after c.args.document.now (Ok c.in_ok-plan.plan)) c.device-device.ensures
-    (taken (device_view c.device-device.result.now) o content before mid after c.args.document.now c.in_ok-draft.draft (map item_view c.device-device.result.now.set) c.in_ok-plan.plan refl
+    (taken (device_view c.device-device.result.now) o content before mid after c.args.document.now c.in_ok-draft.draft
+    (map item_view c.device-device.result.now.set) c.in_ok-plan.plan refl
     (c.in_ok-draft.ensures.proposes o (ap (λ (d : Device). d.origin) c.device-device.ensures ∙ is))
     (record { fills = c.in_ok-plan.ensures.fills; told = λ l told. c.in_ok-plan.ensures.staged l (c.draft_for.ensures.kept ∙ told) }))
 
@@ -164,21 +181,26 @@ returns-clause-regular g c = (c.in_ok-draft.ensures.takes (plan_view c.in_ok-pla
 
 pub returns-clause-moments : goal.returns-clause-moments
 returns-clause-moments g c =
-    wider_spares g.met.D.Disk.laws (IsStaged (map item_view c.device-device.result.now.set) (draft_view c.in_ok-draft.draft)) (IsBelow artifacts) c.args.disk.now c.stage.new.disk
-    (λ name is. (c.needed_files_stay.ensures.below (map item_view c.device-device.result.now.set) (draft_view c.in_ok-draft.draft) (map item_view c.device-device.result.now.set) name).0 is) c.stage.ensures.moments
+    wider_spares g.met.D.Disk.laws (IsStaged (map item_view c.device-device.result.now.set) (draft_view c.in_ok-draft.draft)) (IsBelow artifacts)
+    c.args.disk.now c.stage.new.disk
+    (λ name is. (c.needed_files_stay.ensures.below (map item_view c.device-device.result.now.set) (draft_view c.in_ok-draft.draft)
+    (map item_view c.device-device.result.now.set) name).0 is) c.stage.ensures.moments
 
 pub returns-clause-held : goal.returns-clause-held
 returns-clause-held g c = (
   hand_stays g.met.D.Disk.laws g.met.J.Journal.laws c.requires.apart c.args.idle.now.log (idle_device c.args.idle.now) c.args.disk.now c.stage.new.disk
-      (wider_spares g.met.D.Disk.laws (IsStaged (map item_view c.device-device.result.now.set) (draft_view c.in_ok-draft.draft)) (IsBelow artifacts) c.args.disk.now c.stage.new.disk
-      (λ name is. (c.needed_files_stay.ensures.below (map item_view c.device-device.result.now.set) (draft_view c.in_ok-draft.draft) (map item_view c.device-device.result.now.set) name).0 is) c.stage.ensures.moments)
+      (wider_spares g.met.D.Disk.laws (IsStaged (map item_view c.device-device.result.now.set) (draft_view c.in_ok-draft.draft)) (IsBelow artifacts)
+      c.args.disk.now c.stage.new.disk
+      (λ name is. (c.needed_files_stay.ensures.below (map item_view c.device-device.result.now.set) (draft_view c.in_ok-draft.draft)
+      (map item_view c.device-device.result.now.set) name).0 is) c.stage.ensures.moments)
       c.requires.held.0,
   c.requires.held.1,
 )
 
 pub returns-clause-others : goal.returns-clause-others
 returns-clause-others g c = λ told name spared.
-    c.stage.ensures.others told name (λ is. spared ((c.needed_files_stay.ensures.below (map item_view c.device-device.result.now.set) (draft_view c.in_ok-draft.draft) (map item_view c.device-device.result.now.set) name).0 is))
+    c.stage.ensures.others told name (λ is. spared ((c.needed_files_stay.ensures.below (map item_view c.device-device.result.now.set)
+    (draft_view c.in_ok-draft.draft) (map item_view c.device-device.result.now.set) name).0 is))
 
 pub returns-clause-safe : goal.returns-clause-safe
 returns-clause-safe g c = λ holds.

@@ -25,7 +25,9 @@ returns-in-None-clause-told g c = λ told.
     let said : Audits (items_lines image d.set) c.in_ok-found.field-0 =
     subst (λ (is : List Item). Audits (items_lines image (map item_view is)) c.in_ok-found.field-0) c.as_slice.ensures (c.in_ok-found.ensures.told told) in
     pending_said image d c.audit_pending.result (said_of (items_lines image d.set) c.in_ok-found.field-0 None c.in-None.is said)
-    (subst (λ (m : Image). IfOk c.audit_pending.result (Audits (items_lines m (pending_items d.pending)))) c.audit_items.ensures.seen (c.audit_pending.ensures.told told))
+    (subst (λ (m : Image). IfOk c.audit_pending.result (Audits (items_lines m (pending_items d.pending)))) c.audit_items.ensures.seen
+    (c.audit_pending.ensures.told told))
 
 pub returns-in-None-clause-moments : goal.returns-in-None-clause-moments
-returns-in-None-clause-moments g c = then_same g.met.D.Disk.laws c.args.disk.now c.audit_items.new.disk c.audit_pending.new.disk _ c.audit_items.ensures.moments c.audit_pending.ensures.moments
+returns-in-None-clause-moments g c = then_same g.met.D.Disk.laws c.args.disk.now c.audit_items.new.disk c.audit_pending.new.disk _
+    c.audit_items.ensures.moments c.audit_pending.ensures.moments

@@ -28,8 +28,10 @@ loop-held-preserved g c =
       faults = c.in_ok-digest.ensures.quiet ∙ so.faults;
       long = c.digest_of.ensures.long;
       rest = λ told r said.
-          let holds = hashed_file (g.D.Disk.seen c.loop-held.disk) c.as_str.result.now (path item.name item.version x.file) c.in_ok-digest.digest x.digest (c.as_str.ensures ∙ c.in_ok-file.ensures) (c.in_ok-digest.ensures.told told) same in
+          let holds = hashed_file (g.D.Disk.seen c.loop-held.disk) c.as_str.result.now (path item.name item.version x.file) c.in_ok-digest.digest x.digest
+          (c.as_str.ensures ∙ c.in_ok-file.ensures) (c.in_ok-digest.ensures.told told) same in
           so.rest told r
           (subst (λ (ys : List Held). Audits (each (held_line image item) ys) r) (sym next)
-          (held_next image item x (drop (i + 1) all) r (ap (λ (m : List ℕ → List ℕ). sha256 (m (path item.name item.version x.file))) (sym so.seen) ∙ holds) said));
+          (held_next image item x (drop (i + 1) all) r (ap (λ (m : List ℕ → List ℕ). sha256 (m (path item.name item.version x.file))) (sym so.seen) ∙ holds)
+          said));
     }

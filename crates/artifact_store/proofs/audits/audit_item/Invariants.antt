@@ -12,6 +12,7 @@ invariant-loop-held g l = record {
   seen : g.D.Disk.seen l.disk ≡ g.D.Disk.seen l.fn.disk;
   faults : g.D.Disk.faults l.disk ≡ g.D.Disk.faults l.fn.disk;
   long : length l.piece ≡ 65536;
-  rest : IsTrue g.D.Disk.is_modelled → (r : Option (List ℕ × List ℕ)) → Audits (each (held_line (g.D.Disk.seen l.fn.disk) (item_view l.item)) (drop l.held-index l.item.artifacts)) r
+  rest : IsTrue g.D.Disk.is_modelled → (r : Option (List ℕ × List ℕ)) →
+      Audits (each (held_line (g.D.Disk.seen l.fn.disk) (item_view l.item)) (drop l.held-index l.item.artifacts)) r
       → Audits (each (held_line (g.D.Disk.seen l.fn.disk) (item_view l.item)) l.item.artifacts) r;
 }

@@ -20,12 +20,15 @@ returns-in-Some-clause-told g c = λ told.
     let next : map item_view (drop i all) ≡ item_view x ∷ map item_view (drop (i + 1) all) = map_next item_view all i x below c.item-item.is in
     let image = g.D.Disk.seen c.args.disk.now in
     let said : Audits (item_line image (item_view x)) (Some c.in-Some.found) =
-    said_of (item_line image (item_view x)) c.in_ok-found.field-0 (Some c.in-Some.found) c.in-Some.is (subst (λ (m : Image). Audits (item_line m (item_view x)) c.in_ok-found.field-0) so.seen (c.in_ok-found.ensures.told told)) in
+    said_of (item_line image (item_view x)) c.in_ok-found.field-0 (Some c.in-Some.found) c.in-Some.is
+    (subst (λ (m : Image). Audits (item_line m (item_view x)) c.in_ok-found.field-0) so.seen (c.in_ok-found.ensures.told told)) in
     so.rest told (Some c.in-Some.found)
-    (subst (λ (ys : List stored.Item). Audits (items_lines image ys) (Some c.in-Some.found)) (sym next) (item_here image (item_view x) (map item_view (drop (i + 1) all)) c.in-Some.found said))
+    (subst (λ (ys : List stored.Item). Audits (items_lines image ys) (Some c.in-Some.found)) (sym next)
+    (item_here image (item_view x) (map item_view (drop (i + 1) all)) c.in-Some.found said))
 
 pub returns-in-Some-clause-moments : goal.returns-in-Some-clause-moments
-returns-in-Some-clause-moments g c = then_same g.met.D.Disk.laws c.args.disk.now c.loop-item.disk c.audit_item.new.disk _ c.loop-item.invariant.goes c.audit_item.ensures.moments
+returns-in-Some-clause-moments g c = then_same g.met.D.Disk.laws c.args.disk.now c.loop-item.disk c.audit_item.new.disk _ c.loop-item.invariant.goes
+    c.audit_item.ensures.moments
 
 pub loop-item-preserved : goal.loop-item-preserved
 loop-item-preserved g c =
@@ -43,6 +46,8 @@ loop-item-preserved g c =
       long = c.audit_item.ensures.long;
       rest = λ told r said.
           let held : Audits (item_line image (item_view x)) None =
-          said_of (item_line image (item_view x)) c.in_ok-found.field-0 None c.in-None.is (subst (λ (m : Image). Audits (item_line m (item_view x)) c.in_ok-found.field-0) so.seen (c.in_ok-found.ensures.told told)) in
-          so.rest told r (subst (λ (ys : List stored.Item). Audits (items_lines image ys) r) (sym next) (item_next image (item_view x) (map item_view (drop (i + 1) all)) r held said));
+          said_of (item_line image (item_view x)) c.in_ok-found.field-0 None c.in-None.is
+          (subst (λ (m : Image). Audits (item_line m (item_view x)) c.in_ok-found.field-0) so.seen (c.in_ok-found.ensures.told told)) in
+          so.rest told r (subst (λ (ys : List stored.Item). Audits (items_lines image ys) r) (sym next)
+          (item_next image (item_view x) (map item_view (drop (i + 1) all)) r held said));
     }

@@ -11,6 +11,7 @@ invariant-loop-item g l = record {
   seen : g.D.Disk.seen l.disk ≡ g.D.Disk.seen l.fn.disk;
   faults : g.D.Disk.faults l.disk ≡ g.D.Disk.faults l.fn.disk;
   long : length l.piece ≡ 65536;
-  rest : IsTrue g.D.Disk.is_modelled → (r : Option (List ℕ × List ℕ)) → Audits (items_lines (g.D.Disk.seen l.fn.disk) (map item_view (drop l.item-index l.items))) r
+  rest : IsTrue g.D.Disk.is_modelled → (r : Option (List ℕ × List ℕ)) →
+      Audits (items_lines (g.D.Disk.seen l.fn.disk) (map item_view (drop l.item-index l.items))) r
       → Audits (items_lines (g.D.Disk.seen l.fn.disk) (map item_view l.items)) r;
 }

@@ -17,12 +17,15 @@ loop-at-preserved g c =
         so.read.0 ++ take n c.read.new.into,
         c.update.ensures so.read.0 so.read.1,
         λ told.
-            read_more so.read.0 (g.D.Disk.seen c.args.disk.now c.args.file.now) c.loop-at.piece c.read.new.into c.loop-at.at n c.in_ok-end.end c.min-at.result (so.read.2 told)
-            (subst (λ (i : Image). (n ≡ min (length c.loop-at.piece) (length (drop c.loop-at.at (i c.args.file.now)))) × (c.read.new.into ≡ take n (drop c.loop-at.at (i c.args.file.now)) ++ drop n c.loop-at.piece)) so.seen
+            read_more so.read.0 (g.D.Disk.seen c.args.disk.now c.args.file.now) c.loop-at.piece c.read.new.into c.loop-at.at n c.in_ok-end.end c.min-at.result
+            (so.read.2 told)
+            (subst (λ (i : Image). (n ≡ min (length c.loop-at.piece) (length (drop c.loop-at.at (i c.args.file.now)))) ×
+            (c.read.new.into ≡ take n (drop c.loop-at.at (i c.args.file.now)) ++ drop n c.loop-at.piece)) so.seen
             (c.in_ok-count.ensures.told told))
             (c.in_ok-end.ensures.told told) c.min-at.ensures,
       );
     }
 
 pub returns-then-count-eq0-clause-moments : goal.returns-then-count-eq0-clause-moments
-returns-then-count-eq0-clause-moments g c = then_same g.met.D.Disk.laws c.args.disk.now c.loop-at.disk c.read.new.self _ c.loop-at.invariant.goes c.read.ensures.moments
+returns-then-count-eq0-clause-moments g c = then_same g.met.D.Disk.laws c.args.disk.now c.loop-at.disk c.read.new.self _ c.loop-at.invariant.goes
+    c.read.ensures.moments

@@ -6,16 +6,21 @@ use Rattle.artifact_store.specs.Filled.{IsDigestOf}
 use Rattle.artifact_store.specs.Paths.{path}
 use Rattle.artifact_store.specs.Staged.{found_lines}
 use Rattle.artifact_store.proofs.Copying.{file_step, file_seen, cut_empty, held_digest, given_fault, agreed_staged, agreed_given, agreed_held, agreed_counts}
-use Rattle.artifact_store.proofs.Counting.{counts_memory, counts_disk, counts_handed, counts_after, still_disk, still_library, stages_err, stages_memory, stages_disk}
+use Rattle.artifact_store.proofs.Counting.{counts_memory, counts_disk, counts_handed, counts_after, still_disk, still_library, stages_err, stages_memory}
+use Rattle.artifact_store.proofs.Counting.{stages_disk}
 use Rattle.artifact_store.proofs.copies.stage_file.Goals as goal
 
 pub copy_in-requires : goal.copy_in-requires
-copy_in-requires g c = record { empty = λ told. cut_empty (g.D.Disk.seen c.args.disk.now) (g.D.Disk.seen c.cut.new.self) c.as_str.result.now c.in_ok-target.target c.as_str.ensures (c.in_ok-cut.ensures.told told) }
+copy_in-requires g c = record {
+  empty = λ told. cut_empty (g.D.Disk.seen c.args.disk.now) (g.D.Disk.seen c.cut.new.self) c.as_str.result.now
+      c.in_ok-target.target c.as_str.ensures (c.in_ok-cut.ensures.told told);
+}
 
 pub returns-in_err-target-clause-moments : goal.returns-in_err-target-clause-moments
 returns-in_err-target-clause-moments g c =
     let place = path c.args.item.now.name c.args.item.now.version c.args.artifact.now.file in
-    weaker g.met.D.Disk.laws c.args.disk.now c.args.disk.now _ _ (none_spares (g.D.Disk.may_leave c.args.disk.now) (IsFile place)) (at_start g.met.D.Disk.laws c.args.disk.now)
+    weaker g.met.D.Disk.laws c.args.disk.now c.args.disk.now _ _ (none_spares (g.D.Disk.may_leave c.args.disk.now) (IsFile place))
+    (at_start g.met.D.Disk.laws c.args.disk.now)
 
 pub returns-in_err-target-clause-staged : goal.returns-in_err-target-clause-staged
 returns-in_err-target-clause-staged g c = λ l e. stages_memory _ _ _ c.from_residual.ensures.1
@@ -26,7 +31,8 @@ returns-in_err-target-clause-counts g c = counts_memory _ _ _ _ _ c.from_residua
 pub returns-in_err-check_size-clause-moments : goal.returns-in_err-check_size-clause-moments
 returns-in_err-check_size-clause-moments g c =
     let place = path c.args.item.now.name c.args.item.now.version c.args.artifact.now.file in
-    weaker g.met.D.Disk.laws c.args.disk.now c.args.disk.now _ _ (none_spares (g.D.Disk.may_leave c.args.disk.now) (IsFile place)) (at_start g.met.D.Disk.laws c.args.disk.now)
+    weaker g.met.D.Disk.laws c.args.disk.now c.args.disk.now _ _ (none_spares (g.D.Disk.may_leave c.args.disk.now) (IsFile place))
+    (at_start g.met.D.Disk.laws c.args.disk.now)
 
 pub returns-in_err-check_size-clause-staged : goal.returns-in_err-check_size-clause-staged
 returns-in_err-check_size-clause-staged g c = λ l e.
@@ -42,7 +48,8 @@ returns-in_err-check_size-clause-counts g c =
 pub returns-in_err-cut-clause-moments : goal.returns-in_err-cut-clause-moments
 returns-in_err-cut-clause-moments g c =
     let place = path c.args.item.now.name c.args.item.now.version c.args.artifact.now.file in
-    weaker g.met.D.Disk.laws c.args.disk.now c.cut.new.self _ _ (file_step _ c.as_str.result.now place _ (c.as_str.ensures ∙ c.in_ok-target.ensures)) c.cut.ensures.moments
+    weaker g.met.D.Disk.laws c.args.disk.now c.cut.new.self _ _ (file_step _ c.as_str.result.now place _ (c.as_str.ensures ∙ c.in_ok-target.ensures))
+    c.cut.ensures.moments
 
 pub returns-in_err-cut-clause-others : goal.returns-in_err-cut-clause-others
 returns-in_err-cut-clause-others g c = λ told.
@@ -53,15 +60,18 @@ pub returns-in_err-cut-clause-staged : goal.returns-in_err-cut-clause-staged
 returns-in_err-cut-clause-staged g c = λ l e. stages_disk _ _ _ c.from_residual-in_err-cut.ensures.1
 
 pub returns-in_err-cut-clause-counts : goal.returns-in_err-cut-clause-counts
-returns-in_err-cut-clause-counts g c = counts_disk _ _ _ _ _ c.in_err-cut.field-0.0 c.from_residual-in_err-cut.ensures.1 c.in_err-cut.ensures.cause (still_library _ _ _ _ _ (c.in_ok-check_size.ensures.counts 0))
+returns-in_err-cut-clause-counts g c = counts_disk _ _ _ _ _ c.in_err-cut.field-0.0 c.from_residual-in_err-cut.ensures.1 c.in_err-cut.ensures.cause
+    (still_library _ _ _ _ _ (c.in_ok-check_size.ensures.counts 0))
 
 pub returns-in_err-digest-clause-moments : goal.returns-in_err-digest-clause-moments
 returns-in_err-digest-clause-moments g c =
     let target = c.in_ok-target.target in
     let place = path c.args.item.now.name c.args.item.now.version c.args.artifact.now.file in
     then_spares g.met.D.Disk.laws (IsFile place) c.args.disk.now c.cut.new.self c.copy_in.new.disk
-    (weaker g.met.D.Disk.laws c.args.disk.now c.cut.new.self _ _ (file_step _ c.as_str.result.now place _ (c.as_str.ensures ∙ c.in_ok-target.ensures)) c.cut.ensures.moments)
-    (weaker g.met.D.Disk.laws c.cut.new.self c.copy_in.new.disk _ _ (spares_more _ (IsFile target) (IsFile place) (λ name is. is ∙ c.in_ok-target.ensures)) c.copy_in.ensures.moments)
+    (weaker g.met.D.Disk.laws c.args.disk.now c.cut.new.self _ _ (file_step _ c.as_str.result.now place _ (c.as_str.ensures ∙ c.in_ok-target.ensures))
+    c.cut.ensures.moments)
+    (weaker g.met.D.Disk.laws c.cut.new.self c.copy_in.new.disk _ _ (spares_more _ (IsFile target) (IsFile place) (λ name is. is ∙ c.in_ok-target.ensures))
+    c.copy_in.ensures.moments)
 
 pub returns-in_err-digest-clause-others : goal.returns-in_err-digest-clause-others
 returns-in_err-digest-clause-others g c = λ told name spared.
@@ -74,11 +84,13 @@ returns-in_err-digest-clause-staged g c = λ l e.
     let place = path c.args.item.now.name c.args.item.now.version c.args.artifact.now.file in
     let found = l.artifact c.args.item.now.name c.args.item.now.version c.args.artifact.now.file in
     stages_err (found_lines place c.args.artifact.now.digest found) (IsDigestOf found) _ _ c.from_residual-in_err-digest.ensures.1
-    (given_fault found c.in_ok-target.target place c.args.artifact.now.digest _ c.in_ok-target.ensures (c.in_err-digest.ensures.copied l (c.check_size.ensures.kept ∙ e)))
+    (given_fault found c.in_ok-target.target place c.args.artifact.now.digest _ c.in_ok-target.ensures
+    (c.in_err-digest.ensures.copied l (c.check_size.ensures.kept ∙ e)))
 
 pub returns-in_err-digest-clause-counts : goal.returns-in_err-digest-clause-counts
 returns-in_err-digest-clause-counts g c =
-    counts_after (g.D.Disk.faults c.args.disk.now) (g.D.Disk.faults c.cut.new.self) _ _ (g.L.Library.faults c.check_size.new.library) _ _ c.in_ok-cut.ensures.quiet (still_library _ _ _ _ _ (c.in_ok-check_size.ensures.counts 0))
+    counts_after (g.D.Disk.faults c.args.disk.now) (g.D.Disk.faults c.cut.new.self) _ _ (g.L.Library.faults c.check_size.new.library) _ _
+    c.in_ok-cut.ensures.quiet (still_library _ _ _ _ _ (c.in_ok-check_size.ensures.counts 0))
     (counts_handed _ _ _ _ _ _ c.from_residual-in_err-digest.ensures.1 c.in_err-digest.ensures.counts)
 
 pub returns-in_err-sync-clause-moments : goal.returns-in_err-sync-clause-moments
@@ -87,8 +99,10 @@ returns-in_err-sync-clause-moments g c =
     let place = path c.args.item.now.name c.args.item.now.version c.args.artifact.now.file in
     then_same g.met.D.Disk.laws c.args.disk.now c.copy_in.new.disk c.sync.new.self _
     (then_spares g.met.D.Disk.laws (IsFile place) c.args.disk.now c.cut.new.self c.copy_in.new.disk
-    (weaker g.met.D.Disk.laws c.args.disk.now c.cut.new.self _ _ (file_step _ c.as_str.result.now place _ (c.as_str.ensures ∙ c.in_ok-target.ensures)) c.cut.ensures.moments)
-    (weaker g.met.D.Disk.laws c.cut.new.self c.copy_in.new.disk _ _ (spares_more _ (IsFile target) (IsFile place) (λ name is. is ∙ c.in_ok-target.ensures)) c.copy_in.ensures.moments))
+    (weaker g.met.D.Disk.laws c.args.disk.now c.cut.new.self _ _ (file_step _ c.as_str.result.now place _ (c.as_str.ensures ∙ c.in_ok-target.ensures))
+    c.cut.ensures.moments)
+    (weaker g.met.D.Disk.laws c.cut.new.self c.copy_in.new.disk _ _ (spares_more _ (IsFile target) (IsFile place) (λ name is. is ∙ c.in_ok-target.ensures))
+    c.copy_in.ensures.moments))
     c.sync.ensures.moments
 
 pub returns-in_err-sync-clause-others : goal.returns-in_err-sync-clause-others
@@ -104,7 +118,8 @@ returns-in_err-sync-clause-staged g c = λ l e. stages_disk _ _ _ c.from_residua
 pub returns-in_err-sync-clause-counts : goal.returns-in_err-sync-clause-counts
 returns-in_err-sync-clause-counts g c =
     let counts = c.in_ok-digest.ensures.counts in
-    counts_after (g.D.Disk.faults c.args.disk.now) (g.D.Disk.faults c.copy_in.new.disk) _ _ (g.L.Library.faults c.check_size.new.library) _ _ (still_disk _ _ _ _ _ counts ∙ c.in_ok-cut.ensures.quiet) (still_library _ _ _ _ _ (c.in_ok-check_size.ensures.counts 0))
+    counts_after (g.D.Disk.faults c.args.disk.now) (g.D.Disk.faults c.copy_in.new.disk) _ _ (g.L.Library.faults c.check_size.new.library) _ _
+    (still_disk _ _ _ _ _ counts ∙ c.in_ok-cut.ensures.quiet) (still_library _ _ _ _ _ (c.in_ok-check_size.ensures.counts 0))
     (counts_disk _ _ _ _ _ c.in_err-sync.field-0.0 c.from_residual-in_err-sync.ensures.1 c.in_err-sync.ensures.cause (still_library _ _ _ _ _ counts))
 
 pub returns-clause-moments : goal.returns-clause-moments
@@ -113,8 +128,10 @@ returns-clause-moments g c =
     let place = path c.args.item.now.name c.args.item.now.version c.args.artifact.now.file in
     then_same g.met.D.Disk.laws c.args.disk.now c.copy_in.new.disk c.sync.new.self _
     (then_spares g.met.D.Disk.laws (IsFile place) c.args.disk.now c.cut.new.self c.copy_in.new.disk
-    (weaker g.met.D.Disk.laws c.args.disk.now c.cut.new.self _ _ (file_step _ c.as_str.result.now place _ (c.as_str.ensures ∙ c.in_ok-target.ensures)) c.cut.ensures.moments)
-    (weaker g.met.D.Disk.laws c.cut.new.self c.copy_in.new.disk _ _ (spares_more _ (IsFile target) (IsFile place) (λ name is. is ∙ c.in_ok-target.ensures)) c.copy_in.ensures.moments))
+    (weaker g.met.D.Disk.laws c.args.disk.now c.cut.new.self _ _ (file_step _ c.as_str.result.now place _ (c.as_str.ensures ∙ c.in_ok-target.ensures))
+    c.cut.ensures.moments)
+    (weaker g.met.D.Disk.laws c.cut.new.self c.copy_in.new.disk _ _ (spares_more _ (IsFile target) (IsFile place) (λ name is. is ∙ c.in_ok-target.ensures))
+    c.copy_in.ensures.moments))
     c.sync.ensures.moments
 
 pub returns-clause-others : goal.returns-clause-others
@@ -127,9 +144,11 @@ returns-clause-others g c = λ told name spared.
 pub returns-clause-held : goal.returns-clause-held
 returns-clause-held g c =
     let place = path c.args.item.now.name c.args.item.now.version c.args.artifact.now.file in
-    agreed_held (λ digest. (image : List ℕ → List ℕ) → g.D.Disk.may_leave c.sync.new.self image → sha256 (image place) ≡ digest) _ c.in_ok-digest.digest c.agreed.result c.agreed.ensures.agree
+    agreed_held (λ digest. (image : List ℕ → List ℕ) → g.D.Disk.may_leave c.sync.new.self image → sha256 (image place) ≡ digest) _ c.in_ok-digest.digest
+    c.agreed.result c.agreed.ensures.agree
     (λ image left.
-    held_digest image _ _ c.as_str-2.result.now c.in_ok-target.target place c.in_ok-digest.digest (c.as_str-2.ensures ∙ c.in_ok-target.ensures) c.in_ok-target.ensures (c.in_ok-sync.ensures.durable image left) c.sync.ensures.seen
+    held_digest image _ _ c.as_str-2.result.now c.in_ok-target.target place c.in_ok-digest.digest (c.as_str-2.ensures ∙ c.in_ok-target.ensures)
+    c.in_ok-target.ensures (c.in_ok-sync.ensures.durable image left) c.sync.ensures.seen
     (c.in_ok-digest.ensures.written (tells_of g.met.D.Disk.laws c.sync.new.self image left)))
 
 pub returns-clause-given : goal.returns-clause-given
@@ -139,9 +158,12 @@ pub returns-clause-staged : goal.returns-clause-staged
 returns-clause-staged g c = λ l e.
     let place = path c.args.item.now.name c.args.item.now.version c.args.artifact.now.file in
     let found = l.artifact c.args.item.now.name c.args.item.now.version c.args.artifact.now.file in
-    agreed_staged found c.in_ok-target.target place c.args.artifact.now.digest c.in_ok-digest.digest c.agreed.result c.in_ok-target.ensures (c.in_ok-digest.ensures.copied l (c.check_size.ensures.kept ∙ e)) c.agreed.ensures.agree c.agreed.ensures.differ
+    agreed_staged found c.in_ok-target.target place c.args.artifact.now.digest c.in_ok-digest.digest c.agreed.result c.in_ok-target.ensures
+    (c.in_ok-digest.ensures.copied l (c.check_size.ensures.kept ∙ e)) c.agreed.ensures.agree c.agreed.ensures.differ
 
 pub returns-clause-counts : goal.returns-clause-counts
 returns-clause-counts g c =
     let counts = c.in_ok-digest.ensures.counts in
-    agreed_counts _ _ _ _ c.in_ok-target.target c.in_ok-digest.digest _ c.agreed.result c.agreed.ensures.differ (c.in_ok-sync.ensures.quiet ∙ still_disk _ _ _ _ _ counts ∙ c.in_ok-cut.ensures.quiet) (still_library _ _ _ _ _ counts ∙ still_library _ _ _ _ _ (c.in_ok-check_size.ensures.counts 0))
+    agreed_counts _ _ _ _ c.in_ok-target.target c.in_ok-digest.digest _ c.agreed.result c.agreed.ensures.differ
+    (c.in_ok-sync.ensures.quiet ∙ still_disk _ _ _ _ _ counts ∙ c.in_ok-cut.ensures.quiet)
+    (still_library _ _ _ _ _ counts ∙ still_library _ _ _ _ _ (c.in_ok-check_size.ensures.counts 0))

@@ -16,7 +16,8 @@ given_files-requires g c =
     kept_given kept item c.requires.keeps (kept_found kept item (sym c.if-is_kept.ensures))
 
 pub returns-in_err-helds-clause-moments : goal.returns-in_err-helds-clause-moments
-returns-in_err-helds-clause-moments g c = start_spares g.met.D.Disk.laws (IsStagedOf (map item_view c.args.kept.now) (draft_item_view c.args.item.now)) c.args.disk.now
+returns-in_err-helds-clause-moments g c = start_spares g.met.D.Disk.laws (IsStagedOf (map item_view c.args.kept.now) (draft_item_view c.args.item.now))
+    c.args.disk.now
 
 pub returns-in_err-helds-clause-staged : goal.returns-in_err-helds-clause-staged
 returns-in_err-helds-clause-staged g c = λ l e. stages_memory _ _ _ c.from_residual.ensures.1
@@ -25,7 +26,8 @@ pub returns-in_err-helds-clause-counts : goal.returns-in_err-helds-clause-counts
 returns-in_err-helds-clause-counts g c = counts_memory _ _ _ _ _ c.from_residual.ensures.1 refl refl
 
 pub returns-then-is_kept-clause-moments : goal.returns-then-is_kept-clause-moments
-returns-then-is_kept-clause-moments g c = start_spares g.met.D.Disk.laws (IsStagedOf (map item_view c.args.kept.now) (draft_item_view c.args.item.now)) c.args.disk.now
+returns-then-is_kept-clause-moments g c = start_spares g.met.D.Disk.laws (IsStagedOf (map item_view c.args.kept.now) (draft_item_view c.args.item.now))
+    c.args.disk.now
 
 pub returns-then-is_kept-clause-held : goal.returns-then-is_kept-clause-held
 returns-then-is_kept-clause-held g c = λ holds image left.
@@ -41,13 +43,15 @@ returns-then-is_kept-clause-staged g c = λ l e.
     let kept = map item_view c.args.kept.now in
     let item = draft_item_view c.args.item.now in
     let all : List Artifact = c.args.item.now.artifacts in
-    kept_stages l kept item (λ (hs : List Held). AllZip (FillsFile l item) all hs) c.in_ok-helds.helds (sym c.if-is_kept.ensures) (fills_given l item all c.in_ok-helds.helds c.in_ok-helds.ensures)
+    kept_stages l kept item (λ (hs : List Held). AllZip (FillsFile l item) all hs) c.in_ok-helds.helds (sym c.if-is_kept.ensures)
+    (fills_given l item all c.in_ok-helds.helds c.in_ok-helds.ensures)
 
 pub returns-clause-moments : goal.returns-clause-moments
 returns-clause-moments g c =
     let kept = map item_view c.args.kept.now in
     let item = draft_item_view c.args.item.now in
-    wider_spares g.met.D.Disk.laws (IsFileOfDraft item) (IsStagedOf kept item) c.args.disk.now c.stage_files.new.disk (λ name is. (not_kept kept item (sym c.if-is_kept.ensures), is)) c.stage_files.ensures.moments
+    wider_spares g.met.D.Disk.laws (IsFileOfDraft item) (IsStagedOf kept item) c.args.disk.now c.stage_files.new.disk
+    (λ name is. (not_kept kept item (sym c.if-is_kept.ensures), is)) c.stage_files.ensures.moments
 
 pub returns-clause-others : goal.returns-clause-others
 returns-clause-others g c = λ told name spared.

@@ -6,11 +6,13 @@ use Rattle.artifact_store.proofs.stages.stage.Goals as goal
 
 pub returns-in_err-items-clause-safe : goal.returns-in_err-items-clause-safe
 returns-in_err-items-clause-safe g c = λ d is none holds.
-    staged_safe g.met.D.Disk.laws (map item_view c.args.kept.now) (draft_view c.args.draft) d c.args.disk.now c.stage_items.new.disk c.requires.named c.requires.drafted c.stage_items.ensures.moments is none holds
+    staged_safe g.met.D.Disk.laws (map item_view c.args.kept.now) (draft_view c.args.draft) d c.args.disk.now c.stage_items.new.disk c.requires.named
+    c.requires.drafted c.stage_items.ensures.moments is none holds
 
 pub returns-clause-safe : goal.returns-clause-safe
 returns-clause-safe g c = λ d is none holds.
-    staged_safe g.met.D.Disk.laws (map item_view c.args.kept.now) (draft_view c.args.draft) d c.args.disk.now c.stage_items.new.disk c.requires.named c.requires.drafted c.stage_items.ensures.moments is none holds
+    staged_safe g.met.D.Disk.laws (map item_view c.args.kept.now) (draft_view c.args.draft) d c.args.disk.now c.stage_items.new.disk c.requires.named
+    c.requires.drafted c.stage_items.ensures.moments is none holds
 
 pub returns-in_err-items-clause-staged : goal.returns-in_err-items-clause-staged
 returns-in_err-items-clause-staged g c = λ l e. stages_err _ _ _ _ c.from_residual.ensures.1 (c.in_err-items.ensures.staged l e)

@@ -12,7 +12,8 @@ use Rattle.artifact_store.specs.Holding.{HoldsFiles}
 use Rattle.artifact_store.specs.Paths.{path}
 use Rattle.recipe_reader.specs.Sound.{artifact_file}
 use Rattle.artifact_store.specs.Staged.{IsFileOfDraft, artifact_lines}
-use Rattle.artifact_store.proofs.Counting.{counts_good, counts_memory, counts_handed, counts_after, still_disk, still_library, stages_err, stages_memory, passes_said}
+use Rattle.artifact_store.proofs.Counting.{counts_good, counts_memory, counts_handed, counts_after, still_disk, still_library, stages_err, stages_memory}
+use Rattle.artifact_store.proofs.Counting.{passes_said}
 use Rattle.artifact_store.proofs.Staging.{Apart, Differ, apart_none, apart_more, differ_of, no_lines}
 use Rattle.artifact_store.proofs.Walking.{next_is, end_is, next_in, start_spares, more_spares, others_more, held_more, held_file, fills_file}
 use Rattle.artifact_store.proofs.stages.stage_files.Goals as goal
@@ -47,7 +48,8 @@ returns-in_err-digest-clause-moments g c =
     let below : i < length xs = omega arith in
     let next : drop i all ≡ x ∷ drop (i + 1) all = next_is xs all i x c.as_slice-artifact-items.ensures below c.artifact-item.is in
     let place = path c.args.item.now.name c.args.item.now.version x.file in
-    more_spares g.met.D.Disk.laws (IsFile place) (IsFileOfDraft (draft_item_view c.args.item.now)) c.args.disk.now c.loop-artifact.disk c.stage_file.new.disk (λ name is. (x, next_in all i x _ next, is)) so.goes c.stage_file.ensures.moments
+    more_spares g.met.D.Disk.laws (IsFile place) (IsFileOfDraft (draft_item_view c.args.item.now)) c.args.disk.now c.loop-artifact.disk c.stage_file.new.disk
+    (λ name is. (x, next_in all i x _ next, is)) so.goes c.stage_file.ensures.moments
 
 pub returns-in_err-digest-clause-others : goal.returns-in_err-digest-clause-others
 returns-in_err-digest-clause-others g c = λ told.
@@ -59,7 +61,8 @@ returns-in_err-digest-clause-others g c = λ told.
     let below : i < length xs = omega arith in
     let next : drop i all ≡ x ∷ drop (i + 1) all = next_is xs all i x c.as_slice-artifact-items.ensures below c.artifact-item.is in
     let place = path c.args.item.now.name c.args.item.now.version x.file in
-    others_more (IsFile place) (IsFileOfDraft (draft_item_view c.args.item.now)) (g.D.Disk.seen c.args.disk.now) (g.D.Disk.seen c.loop-artifact.disk) (g.D.Disk.seen c.stage_file.new.disk) (λ name is. (x, next_in all i x _ next, is)) (so.others told) (c.stage_file.ensures.others told)
+    others_more (IsFile place) (IsFileOfDraft (draft_item_view c.args.item.now)) (g.D.Disk.seen c.args.disk.now) (g.D.Disk.seen c.loop-artifact.disk)
+    (g.D.Disk.seen c.stage_file.new.disk) (λ name is. (x, next_in all i x _ next, is)) (so.others told) (c.stage_file.ensures.others told)
 
 pub returns-in_err-digest-clause-staged : goal.returns-in_err-digest-clause-staged
 returns-in_err-digest-clause-staged g c = λ l e.
@@ -74,12 +77,14 @@ returns-in_err-digest-clause-staged g c = λ l e.
     let Is = FillsFile l (draft_item_view c.args.item.now) in
     let helds : List Held = c.loop-artifact.helds.items in
     let left : Passes lines Is all (x ∷ drop (i + 1) all) helds = subst (λ (ys : List Artifact). Passes lines Is all ys helds) next (so.passes l e) in
-    stages_err (each lines all) (λ hs. AllZip Is all hs) _ _ c.from_residual.ensures.1 (passes_said lines Is all x (drop (i + 1) all) helds c.in_err-digest.field-0.0 left (c.in_err-digest.ensures.staged l (so.content ∙ e)))
+    stages_err (each lines all) (λ hs. AllZip Is all hs) _ _ c.from_residual.ensures.1
+    (passes_said lines Is all x (drop (i + 1) all) helds c.in_err-digest.field-0.0 left (c.in_err-digest.ensures.staged l (so.content ∙ e)))
 
 pub returns-in_err-digest-clause-counts : goal.returns-in_err-digest-clause-counts
 returns-in_err-digest-clause-counts g c =
     let so = c.loop-artifact.invariant in
-    counts_after (g.D.Disk.faults c.args.disk.now) (g.D.Disk.faults c.loop-artifact.disk) _ (g.L.Library.faults c.args.library.now) (g.L.Library.faults c.loop-artifact.library) _ _ so.disk_faults so.library_faults
+    counts_after (g.D.Disk.faults c.args.disk.now) (g.D.Disk.faults c.loop-artifact.disk) _ (g.L.Library.faults c.args.library.now)
+    (g.L.Library.faults c.loop-artifact.library) _ _ so.disk_faults so.library_faults
     (counts_handed _ _ _ _ _ _ c.from_residual.ensures.1 c.in_err-digest.ensures.counts)
 
 pub returns-in_err-held-clause-moments : goal.returns-in_err-held-clause-moments
@@ -92,7 +97,8 @@ returns-in_err-held-clause-moments g c =
     let below : i < length xs = omega arith in
     let next : drop i all ≡ x ∷ drop (i + 1) all = next_is xs all i x c.as_slice-artifact-items.ensures below c.artifact-item.is in
     let place = path c.args.item.now.name c.args.item.now.version x.file in
-    more_spares g.met.D.Disk.laws (IsFile place) (IsFileOfDraft (draft_item_view c.args.item.now)) c.args.disk.now c.loop-artifact.disk c.stage_file.new.disk (λ name is. (x, next_in all i x _ next, is)) so.goes c.stage_file.ensures.moments
+    more_spares g.met.D.Disk.laws (IsFile place) (IsFileOfDraft (draft_item_view c.args.item.now)) c.args.disk.now c.loop-artifact.disk c.stage_file.new.disk
+    (λ name is. (x, next_in all i x _ next, is)) so.goes c.stage_file.ensures.moments
 
 pub returns-in_err-held-clause-others : goal.returns-in_err-held-clause-others
 returns-in_err-held-clause-others g c = λ told.
@@ -104,7 +110,8 @@ returns-in_err-held-clause-others g c = λ told.
     let below : i < length xs = omega arith in
     let next : drop i all ≡ x ∷ drop (i + 1) all = next_is xs all i x c.as_slice-artifact-items.ensures below c.artifact-item.is in
     let place = path c.args.item.now.name c.args.item.now.version x.file in
-    others_more (IsFile place) (IsFileOfDraft (draft_item_view c.args.item.now)) (g.D.Disk.seen c.args.disk.now) (g.D.Disk.seen c.loop-artifact.disk) (g.D.Disk.seen c.stage_file.new.disk) (λ name is. (x, next_in all i x _ next, is)) (so.others told) (c.stage_file.ensures.others told)
+    others_more (IsFile place) (IsFileOfDraft (draft_item_view c.args.item.now)) (g.D.Disk.seen c.args.disk.now) (g.D.Disk.seen c.loop-artifact.disk)
+    (g.D.Disk.seen c.stage_file.new.disk) (λ name is. (x, next_in all i x _ next, is)) (so.others told) (c.stage_file.ensures.others told)
 
 pub returns-in_err-held-clause-staged : goal.returns-in_err-held-clause-staged
 returns-in_err-held-clause-staged g c = λ l e. stages_memory _ _ _ c.from_residual-in_err-held.ensures.1
@@ -113,7 +120,8 @@ pub returns-in_err-held-clause-counts : goal.returns-in_err-held-clause-counts
 returns-in_err-held-clause-counts g c =
     let so = c.loop-artifact.invariant in
     let counts = c.in_ok-digest.ensures.counts in
-    counts_memory _ _ _ _ _ c.from_residual-in_err-held.ensures.1 (still_disk _ _ _ _ _ counts ∙ so.disk_faults) (still_library _ _ _ _ _ counts ∙ so.library_faults)
+    counts_memory _ _ _ _ _ c.from_residual-in_err-held.ensures.1 (still_disk _ _ _ _ _ counts ∙ so.disk_faults)
+    (still_library _ _ _ _ _ counts ∙ so.library_faults)
 
 pub returns-in_err-push-clause-moments : goal.returns-in_err-push-clause-moments
 returns-in_err-push-clause-moments g c =
@@ -125,7 +133,8 @@ returns-in_err-push-clause-moments g c =
     let below : i < length xs = omega arith in
     let next : drop i all ≡ x ∷ drop (i + 1) all = next_is xs all i x c.as_slice-artifact-items.ensures below c.artifact-item.is in
     let place = path c.args.item.now.name c.args.item.now.version x.file in
-    more_spares g.met.D.Disk.laws (IsFile place) (IsFileOfDraft (draft_item_view c.args.item.now)) c.args.disk.now c.loop-artifact.disk c.stage_file.new.disk (λ name is. (x, next_in all i x _ next, is)) so.goes c.stage_file.ensures.moments
+    more_spares g.met.D.Disk.laws (IsFile place) (IsFileOfDraft (draft_item_view c.args.item.now)) c.args.disk.now c.loop-artifact.disk c.stage_file.new.disk
+    (λ name is. (x, next_in all i x _ next, is)) so.goes c.stage_file.ensures.moments
 
 pub returns-in_err-push-clause-others : goal.returns-in_err-push-clause-others
 returns-in_err-push-clause-others g c = λ told.
@@ -137,7 +146,8 @@ returns-in_err-push-clause-others g c = λ told.
     let below : i < length xs = omega arith in
     let next : drop i all ≡ x ∷ drop (i + 1) all = next_is xs all i x c.as_slice-artifact-items.ensures below c.artifact-item.is in
     let place = path c.args.item.now.name c.args.item.now.version x.file in
-    others_more (IsFile place) (IsFileOfDraft (draft_item_view c.args.item.now)) (g.D.Disk.seen c.args.disk.now) (g.D.Disk.seen c.loop-artifact.disk) (g.D.Disk.seen c.stage_file.new.disk) (λ name is. (x, next_in all i x _ next, is)) (so.others told) (c.stage_file.ensures.others told)
+    others_more (IsFile place) (IsFileOfDraft (draft_item_view c.args.item.now)) (g.D.Disk.seen c.args.disk.now) (g.D.Disk.seen c.loop-artifact.disk)
+    (g.D.Disk.seen c.stage_file.new.disk) (λ name is. (x, next_in all i x _ next, is)) (so.others told) (c.stage_file.ensures.others told)
 
 pub returns-in_err-push-clause-staged : goal.returns-in_err-push-clause-staged
 returns-in_err-push-clause-staged g c = λ l e. stages_memory _ _ _ c.from_residual-in_err-push.ensures.1
@@ -146,7 +156,8 @@ pub returns-in_err-push-clause-counts : goal.returns-in_err-push-clause-counts
 returns-in_err-push-clause-counts g c =
     let so = c.loop-artifact.invariant in
     let counts = c.in_ok-digest.ensures.counts in
-    counts_memory _ _ _ _ _ c.from_residual-in_err-push.ensures.1 (still_disk _ _ _ _ _ counts ∙ so.disk_faults) (still_library _ _ _ _ _ counts ∙ so.library_faults)
+    counts_memory _ _ _ _ _ c.from_residual-in_err-push.ensures.1 (still_disk _ _ _ _ _ counts ∙ so.disk_faults)
+    (still_library _ _ _ _ _ counts ∙ so.library_faults)
 
 pub loop-artifact-preserved : goal.loop-artifact-preserved
 loop-artifact-preserved g c =
@@ -165,27 +176,35 @@ loop-artifact-preserved g c =
     let rest = drop (i + 1) all in
     let more : helds ++ h ∷ [] ≡ c.push.new.self.items = sym c.in_ok-push.ensures.items in
     let differ : Differ (map artifact_file (x ∷ rest)) = subst (λ (ys : List Artifact). Differ (map artifact_file ys)) next so.differ in
-    let apart : Apart (λ (k : Held). k.file) artifact_file helds (x ∷ rest) = subst (λ (ys : List Artifact). Apart (λ (k : Held). k.file) artifact_file helds ys) next so.apart in
+    let apart : Apart (λ (k : Held). k.file) artifact_file helds (x ∷ rest) =
+    subst (λ (ys : List Artifact). Apart (λ (k : Held). k.file) artifact_file helds ys) next so.apart in
     let given : Passes no_lines IsHeldFor all (x ∷ rest) helds = subst (λ (ys : List Artifact). Passes no_lines IsHeldFor all ys helds) next so.given in
     record {
-      goes = more_spares g.met.D.Disk.laws (IsFile place) (IsFileOfDraft (draft_item_view c.args.item.now)) c.args.disk.now c.loop-artifact.disk c.stage_file.new.disk (λ name is. (x, next_in all i x _ next, is)) so.goes c.stage_file.ensures.moments;
-      others = λ told. others_more (IsFile place) (IsFileOfDraft (draft_item_view c.args.item.now)) (g.D.Disk.seen c.args.disk.now) (g.D.Disk.seen c.loop-artifact.disk) (g.D.Disk.seen c.stage_file.new.disk) (λ name is. (x, next_in all i x _ next, is)) (so.others told) (c.stage_file.ensures.others told);
+      goes = more_spares g.met.D.Disk.laws (IsFile place) (IsFileOfDraft (draft_item_view c.args.item.now)) c.args.disk.now c.loop-artifact.disk
+          c.stage_file.new.disk (λ name is. (x, next_in all i x _ next, is)) so.goes c.stage_file.ensures.moments;
+      others = λ told. others_more (IsFile place) (IsFileOfDraft (draft_item_view c.args.item.now)) (g.D.Disk.seen c.args.disk.now)
+          (g.D.Disk.seen c.loop-artifact.disk) (g.D.Disk.seen c.stage_file.new.disk) (λ name is. (x, next_in all i x _ next, is)) (so.others told)
+          (c.stage_file.ensures.others told);
       disk_faults = still_disk _ _ _ _ _ counts ∙ so.disk_faults;
       content = c.stage_file.ensures.kept ∙ so.content;
       library_faults = still_library _ _ _ _ _ counts ∙ so.library_faults;
       differ = differ.1;
-      apart = subst (λ (hs : List Held). Apart (λ (k : Held). k.file) artifact_file hs rest) more (apart_more (λ (k : Held). k.file) artifact_file helds h x rest apart c.in_ok-held.ensures.0 differ);
+      apart = subst (λ (hs : List Held). Apart (λ (k : Held). k.file) artifact_file hs rest) more
+          (apart_more (λ (k : Held). k.file) artifact_file helds h x rest apart c.in_ok-held.ensures.0 differ);
       held = λ image left.
           subst (λ (hs : List Held). HoldsFiles image c.args.item.now.name c.args.item.now.version hs) more
-          (held_more g.met.D.Disk.laws c.args.item.now.name c.args.item.now.version x rest helds h c.loop-artifact.disk c.stage_file.new.disk c.stage_file.ensures.moments apart c.in_ok-held.ensures.0
+          (held_more g.met.D.Disk.laws c.args.item.now.name c.args.item.now.version x rest helds h c.loop-artifact.disk c.stage_file.new.disk
+          c.stage_file.ensures.moments apart c.in_ok-held.ensures.0
           (λ found was. c.in_ok-digest.ensures.held found was ∙ sym c.in_ok-held.ensures.1) so.held image left);
-      given = subst (λ (hs : List Held). Passes no_lines IsHeldFor all rest hs) more (passes_more no_lines IsHeldFor all x rest helds h given tt (held_file x h digest c.in_ok-held.ensures c.in_ok-digest.ensures.given));
+      given = subst (λ (hs : List Held). Passes no_lines IsHeldFor all rest hs) more
+          (passes_more no_lines IsHeldFor all x rest helds h given tt (held_file x h digest c.in_ok-held.ensures c.in_ok-digest.ensures.given));
       passes = λ l e.
           let lines = artifact_lines l (draft_item_view c.args.item.now) in
           let Is = FillsFile l (draft_item_view c.args.item.now) in
           let left : Passes lines Is all (x ∷ rest) helds = subst (λ (ys : List Artifact). Passes lines Is all ys helds) next (so.passes l e) in
           let said = c.in_ok-digest.ensures.staged l (so.content ∙ e) in
-          subst (λ (hs : List Held). Passes lines Is all rest hs) more (passes_more lines Is all x rest helds h left said.0 (fills_file l (draft_item_view c.args.item.now) x h digest c.in_ok-held.ensures.1 said.1));
+          subst (λ (hs : List Held). Passes lines Is all rest hs) more
+          (passes_more lines Is all x rest helds h left said.0 (fills_file l (draft_item_view c.args.item.now) x h digest c.in_ok-held.ensures.1 said.1));
     }
 
 pub returns-clause-held : goal.returns-clause-held
@@ -199,7 +218,8 @@ returns-clause-given g c =
     let helds : List Held = c.loop-artifact.helds.items in
     let past : length xs ≤ c.loop-artifact.artifact-index = omega arith in
     let none = end_is xs all c.loop-artifact.artifact-index c.as_slice-artifact-items.ensures past in
-    let passes : Passes no_lines IsHeldFor all [] helds = subst (λ (ys : List Artifact). Passes no_lines IsHeldFor all ys helds) none c.loop-artifact.invariant.given in
+    let passes : Passes no_lines IsHeldFor all [] helds = subst (λ (ys : List Artifact). Passes no_lines IsHeldFor all ys helds) none
+    c.loop-artifact.invariant.given in
     subst (λ (hs : List Held). AllZip IsHeldFor all hs) (sym c.new.ensures) (passes_end no_lines IsHeldFor all helds passes).1
 
 pub returns-clause-staged : goal.returns-clause-staged

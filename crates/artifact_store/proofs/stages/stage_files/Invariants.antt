@@ -25,5 +25,6 @@ invariant-loop-artifact g l = record {
   held : (c : Image) → g.D.Disk.may_leave l.disk c → HoldsFiles c l.item.name l.item.version l.helds.items;
   given : Passes no_lines IsHeldFor l.item.artifacts (drop l.artifact-index l.item.artifacts) l.helds.items;
   passes : (c : Content) → g.L.Library.content l.fn.library ≡ Some c →
-      Passes (artifact_lines c (draft_item_view l.item)) (FillsFile c (draft_item_view l.item)) l.item.artifacts (drop l.artifact-index l.item.artifacts) l.helds.items;
+      Passes (artifact_lines c (draft_item_view l.item)) (FillsFile c (draft_item_view l.item)) l.item.artifacts (drop l.artifact-index l.item.artifacts)
+      l.helds.items;
 }

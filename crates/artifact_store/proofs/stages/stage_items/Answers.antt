@@ -10,7 +10,8 @@ use Rattle.artifact_store.specs.Filled.{FillsItem, FillsFiles}
 use Rattle.artifact_store.specs.Holding.{AllHoldItems, HoldsItems}
 use Rattle.artifact_store.specs.Paths.{IsNamed, IsNamedDraft}
 use Rattle.artifact_store.specs.Staged.{IsStagedOf, IsStagedAmong, HasItsFiles, KeepsFiles, draft_name, item_lines}
-use Rattle.artifact_store.proofs.Counting.{counts_good, counts_memory, counts_handed, counts_after, still_disk, still_library, stages_err, stages_memory, passes_said}
+use Rattle.artifact_store.proofs.Counting.{counts_good, counts_memory, counts_handed, counts_after, still_disk, still_library, stages_err, stages_memory}
+use Rattle.artifact_store.proofs.Counting.{passes_said}
 use Rattle.artifact_store.proofs.Staging.{Apart, Differ, apart_none, apart_more, heads_apart, push_each, differ_risen, item_named, no_lines}
 use Rattle.artifact_store.proofs.Walking.{start_spares, more_spares, others_more, kept_more, items_more, map_push, none_left, named_as}
 use Rattle.artifact_store.proofs.stages.stage_items.Goals as goal
@@ -19,8 +20,10 @@ pub loop-draft-init : goal.loop-draft-init
 loop-draft-init g c =
     let kept = map item_view c.args.kept.now in
     let all = map draft_item_view c.args.drafts in
-    let given : into_iter_items c.into_iter-draft-iterator.result ≡ c.into_vec-draft-items.result.items = c.into_iter-draft-iterator.ensures.into_iter_gives.0 in
-    let whole : all ≡ map draft_item_view (into_iter_items c.into_iter-draft-iterator.result) = ap (map draft_item_view) (sym (given ∙ c.into_vec-draft-items.ensures)) in
+    let given : into_iter_items c.into_iter-draft-iterator.result ≡ c.into_vec-draft-items.result.items =
+    c.into_iter-draft-iterator.ensures.into_iter_gives.0 in
+    let whole : all ≡ map draft_item_view (into_iter_items c.into_iter-draft-iterator.result) =
+    ap (map draft_item_view) (sym (given ∙ c.into_vec-draft-items.ensures)) in
     let none : [] ≡ map item_view c.new-items.result.items = ap (map item_view) (sym c.new-items.ensures.items) in
     record {
       can_next = tt;
@@ -43,7 +46,8 @@ loop-draft-init g c =
       filled = subst (λ (ys : List Item). Passes no_lines FillsItem all (map draft_item_view (into_iter_items c.into_iter-draft-iterator.result)) ys) none
           (subst (λ (ys : List DraftItem). Passes no_lines FillsItem all ys []) whole (passes_start no_lines FillsItem all));
       passes = λ l e.
-          subst (λ (ys : List Item). Passes (item_lines l kept) (FillsFiles l) all (map draft_item_view (into_iter_items c.into_iter-draft-iterator.result)) ys) none
+          subst (λ (ys : List Item). Passes (item_lines l kept) (FillsFiles l) all (map draft_item_view (into_iter_items c.into_iter-draft-iterator.result))
+          ys) none
           (subst (λ (ys : List DraftItem). Passes (item_lines l kept) (FillsFiles l) all ys []) whole (passes_start (item_lines l kept) (FillsFiles l) all));
     }
 
@@ -56,7 +60,8 @@ returns-in_err-item-clause-moments g c =
     let rest = map draft_item_view (into_iter_items c.next.new.self) in
     let left : map draft_item_view (into_iter_items c.loop-draft.draft-iterator) ≡ x ∷ rest = ap (map draft_item_view) c.in-Some.ensures.steps.0 in
     let inside : Contains all x = so.inside x (subst (λ (ys : List DraftItem). Contains ys x) (sym left) (in_here x rest)) in
-    more_spares g.met.D.Disk.laws (IsStagedOf kept x) (IsStagedAmong kept all) c.args.disk.now c.loop-draft.disk c.stage_item.new.disk (λ name is. (x, inside, is)) so.goes c.stage_item.ensures.moments
+    more_spares g.met.D.Disk.laws (IsStagedOf kept x) (IsStagedAmong kept all) c.args.disk.now c.loop-draft.disk c.stage_item.new.disk
+    (λ name is. (x, inside, is)) so.goes c.stage_item.ensures.moments
 
 pub returns-in_err-item-clause-others : goal.returns-in_err-item-clause-others
 returns-in_err-item-clause-others g c = λ told.
@@ -67,7 +72,8 @@ returns-in_err-item-clause-others g c = λ told.
     let rest = map draft_item_view (into_iter_items c.next.new.self) in
     let left : map draft_item_view (into_iter_items c.loop-draft.draft-iterator) ≡ x ∷ rest = ap (map draft_item_view) c.in-Some.ensures.steps.0 in
     let inside : Contains all x = so.inside x (subst (λ (ys : List DraftItem). Contains ys x) (sym left) (in_here x rest)) in
-    others_more (IsStagedOf kept x) (IsStagedAmong kept all) (g.D.Disk.seen c.args.disk.now) (g.D.Disk.seen c.loop-draft.disk) (g.D.Disk.seen c.stage_item.new.disk) (λ name is. (x, inside, is)) (so.others told) (c.stage_item.ensures.others told)
+    others_more (IsStagedOf kept x) (IsStagedAmong kept all) (g.D.Disk.seen c.args.disk.now) (g.D.Disk.seen c.loop-draft.disk)
+    (g.D.Disk.seen c.stage_item.new.disk) (λ name is. (x, inside, is)) (so.others told) (c.stage_item.ensures.others told)
 
 pub returns-in_err-item-clause-staged : goal.returns-in_err-item-clause-staged
 returns-in_err-item-clause-staged g c = λ l e.
@@ -78,14 +84,16 @@ returns-in_err-item-clause-staged g c = λ l e.
     let rest = map draft_item_view (into_iter_items c.next.new.self) in
     let left : map draft_item_view (into_iter_items c.loop-draft.draft-iterator) ≡ x ∷ rest = ap (map draft_item_view) c.in-Some.ensures.steps.0 in
     let done = map item_view c.loop-draft.items.items in
-    let passes : Passes (item_lines l kept) (FillsFiles l) all (x ∷ rest) done = subst (λ (ys : List DraftItem). Passes (item_lines l kept) (FillsFiles l) all ys done) left (so.passes l e) in
+    let passes : Passes (item_lines l kept) (FillsFiles l) all (x ∷ rest) done =
+    subst (λ (ys : List DraftItem). Passes (item_lines l kept) (FillsFiles l) all ys done) left (so.passes l e) in
     stages_err (each (item_lines l kept) all) (λ (is : List code.Item). AllZip (FillsFiles l) all (map item_view is)) _ _ c.from_residual.ensures.1
     (passes_said (item_lines l kept) (FillsFiles l) all x rest done c.in_err-item.field-0.0 passes (c.in_err-item.ensures.staged l (so.content ∙ e)))
 
 pub returns-in_err-item-clause-counts : goal.returns-in_err-item-clause-counts
 returns-in_err-item-clause-counts g c =
     let so = c.loop-draft.invariant in
-    counts_after (g.D.Disk.faults c.args.disk.now) (g.D.Disk.faults c.loop-draft.disk) _ (g.L.Library.faults c.args.library.now) (g.L.Library.faults c.loop-draft.library) _ _ so.disk_faults so.library_faults
+    counts_after (g.D.Disk.faults c.args.disk.now) (g.D.Disk.faults c.loop-draft.disk) _ (g.L.Library.faults c.args.library.now)
+    (g.L.Library.faults c.loop-draft.library) _ _ so.disk_faults so.library_faults
     (counts_handed _ _ _ _ _ _ c.from_residual.ensures.1 c.in_err-item.ensures.counts)
 
 pub returns-in_err-push-clause-moments : goal.returns-in_err-push-clause-moments
@@ -97,7 +105,8 @@ returns-in_err-push-clause-moments g c =
     let rest = map draft_item_view (into_iter_items c.next.new.self) in
     let left : map draft_item_view (into_iter_items c.loop-draft.draft-iterator) ≡ x ∷ rest = ap (map draft_item_view) c.in-Some.ensures.steps.0 in
     let inside : Contains all x = so.inside x (subst (λ (ys : List DraftItem). Contains ys x) (sym left) (in_here x rest)) in
-    more_spares g.met.D.Disk.laws (IsStagedOf kept x) (IsStagedAmong kept all) c.args.disk.now c.loop-draft.disk c.stage_item.new.disk (λ name is. (x, inside, is)) so.goes c.stage_item.ensures.moments
+    more_spares g.met.D.Disk.laws (IsStagedOf kept x) (IsStagedAmong kept all) c.args.disk.now c.loop-draft.disk c.stage_item.new.disk
+    (λ name is. (x, inside, is)) so.goes c.stage_item.ensures.moments
 
 pub returns-in_err-push-clause-others : goal.returns-in_err-push-clause-others
 returns-in_err-push-clause-others g c = λ told.
@@ -108,7 +117,8 @@ returns-in_err-push-clause-others g c = λ told.
     let rest = map draft_item_view (into_iter_items c.next.new.self) in
     let left : map draft_item_view (into_iter_items c.loop-draft.draft-iterator) ≡ x ∷ rest = ap (map draft_item_view) c.in-Some.ensures.steps.0 in
     let inside : Contains all x = so.inside x (subst (λ (ys : List DraftItem). Contains ys x) (sym left) (in_here x rest)) in
-    others_more (IsStagedOf kept x) (IsStagedAmong kept all) (g.D.Disk.seen c.args.disk.now) (g.D.Disk.seen c.loop-draft.disk) (g.D.Disk.seen c.stage_item.new.disk) (λ name is. (x, inside, is)) (so.others told) (c.stage_item.ensures.others told)
+    others_more (IsStagedOf kept x) (IsStagedAmong kept all) (g.D.Disk.seen c.args.disk.now) (g.D.Disk.seen c.loop-draft.disk)
+    (g.D.Disk.seen c.stage_item.new.disk) (λ name is. (x, inside, is)) (so.others told) (c.stage_item.ensures.others told)
 
 pub returns-in_err-push-clause-staged : goal.returns-in_err-push-clause-staged
 returns-in_err-push-clause-staged g c = λ l e. stages_memory _ _ _ c.from_residual-in_err-push.ensures.1
@@ -117,7 +127,8 @@ pub returns-in_err-push-clause-counts : goal.returns-in_err-push-clause-counts
 returns-in_err-push-clause-counts g c =
     let so = c.loop-draft.invariant in
     let counts = c.in_ok-item.ensures.counts in
-    counts_memory _ _ _ _ _ c.from_residual-in_err-push.ensures.1 (still_disk _ _ _ _ _ counts ∙ so.disk_faults) (still_library _ _ _ _ _ counts ∙ so.library_faults)
+    counts_memory _ _ _ _ _ c.from_residual-in_err-push.ensures.1 (still_disk _ _ _ _ _ counts ∙ so.disk_faults)
+    (still_library _ _ _ _ _ counts ∙ so.library_faults)
 
 pub loop-draft-preserved : goal.loop-draft-preserved
 loop-draft-preserved g c =
@@ -132,7 +143,8 @@ loop-draft-preserved g c =
     let done = map item_view c.loop-draft.items.items in
     let made = item_view c.in_ok-item.item in
     let fills : FillsItem x made = c.in_ok-item.ensures.fills in
-    let more : done ++ made ∷ [] ≡ map item_view c.push.new.self.items = sym (ap (map item_view) c.in_ok-push.ensures.items ∙ map_push item_view c.loop-draft.items.items c.in_ok-item.item) in
+    let more : done ++ made ∷ [] ≡ map item_view c.push.new.self.items =
+    sym (ap (map item_view) c.in_ok-push.ensures.items ∙ map_push item_view c.loop-draft.items.items c.in_ok-item.item) in
     let drafted : AllByRecursion IsNamedDraft (x ∷ rest) = subst (λ (ys : List DraftItem). AllByRecursion IsNamedDraft ys) left so.drafted in
     let differ : AllByRecursion HasItsFiles (x ∷ rest) = subst (λ (ys : List DraftItem). AllByRecursion HasItsFiles ys) left so.differ in
     let keeps : AllByRecursion (KeepsFiles kept) (x ∷ rest) = subst (λ (ys : List DraftItem). AllByRecursion (KeepsFiles kept) ys) left so.keeps in
@@ -142,8 +154,10 @@ loop-draft-preserved g c =
     record {
       can_next = tt;
       is_finite = tt;
-      goes = more_spares g.met.D.Disk.laws (IsStagedOf kept x) (IsStagedAmong kept all) c.args.disk.now c.loop-draft.disk c.stage_item.new.disk (λ name is. (x, inside, is)) so.goes c.stage_item.ensures.moments;
-      others = λ told. others_more (IsStagedOf kept x) (IsStagedAmong kept all) (g.D.Disk.seen c.args.disk.now) (g.D.Disk.seen c.loop-draft.disk) (g.D.Disk.seen c.stage_item.new.disk) (λ name is. (x, inside, is)) (so.others told) (c.stage_item.ensures.others told);
+      goes = more_spares g.met.D.Disk.laws (IsStagedOf kept x) (IsStagedAmong kept all) c.args.disk.now c.loop-draft.disk c.stage_item.new.disk
+          (λ name is. (x, inside, is)) so.goes c.stage_item.ensures.moments;
+      others = λ told. others_more (IsStagedOf kept x) (IsStagedAmong kept all) (g.D.Disk.seen c.args.disk.now) (g.D.Disk.seen c.loop-draft.disk)
+          (g.D.Disk.seen c.stage_item.new.disk) (λ name is. (x, inside, is)) (so.others told) (c.stage_item.ensures.others told);
       disk_faults = still_disk _ _ _ _ _ counts ∙ so.disk_faults;
       content = c.stage_item.ensures.kept ∙ so.content;
       library_faults = still_library _ _ _ _ _ counts ∙ so.library_faults;
@@ -154,16 +168,20 @@ loop-draft-preserved g c =
       names = names.1;
       apart = subst (λ (ys : List Item). Apart item_named draft_name ys rest) more (apart_more item_named draft_name done made x rest apart fills.name names);
       named = subst (λ (ys : List Item). AllByRecursion IsNamed ys) more (push_each IsNamed done made so.named (named_as x made fills drafted.0));
-      kept = λ holds. kept_more g.met.D.Disk.laws kept x c.loop-draft.disk c.stage_item.new.disk c.requires.named drafted.0 c.stage_item.ensures.moments (so.kept holds);
+      kept = λ holds. kept_more g.met.D.Disk.laws kept x c.loop-draft.disk c.stage_item.new.disk c.requires.named drafted.0 c.stage_item.ensures.moments
+          (so.kept holds);
       held = λ holds.
           subst (λ (ys : List Item). AllHoldItems (g.D.Disk.may_leave c.stage_item.new.disk) ys) more
-          (items_more g.met.D.Disk.laws kept x done made c.loop-draft.disk c.stage_item.new.disk so.named drafted.0 (heads_apart item_named draft_name done x rest apart) c.stage_item.ensures.moments
+          (items_more g.met.D.Disk.laws kept x done made c.loop-draft.disk c.stage_item.new.disk so.named drafted.0
+          (heads_apart item_named draft_name done x rest apart) c.stage_item.ensures.moments
           (c.in_ok-item.ensures.held (so.kept holds)) (so.held holds));
       filled = subst (λ (ys : List Item). Passes no_lines FillsItem all rest ys) more (passes_more no_lines FillsItem all x rest done made filled tt fills);
       passes = λ l e.
-          let passes : Passes (item_lines l kept) (FillsFiles l) all (x ∷ rest) done = subst (λ (ys : List DraftItem). Passes (item_lines l kept) (FillsFiles l) all ys done) left (so.passes l e) in
+          let passes : Passes (item_lines l kept) (FillsFiles l) all (x ∷ rest) done =
+          subst (λ (ys : List DraftItem). Passes (item_lines l kept) (FillsFiles l) all ys done) left (so.passes l e) in
           let said = c.in_ok-item.ensures.staged l (so.content ∙ e) in
-          subst (λ (ys : List Item). Passes (item_lines l kept) (FillsFiles l) all rest ys) more (passes_more (item_lines l kept) (FillsFiles l) all x rest done made passes said.0 said.1);
+          subst (λ (ys : List Item). Passes (item_lines l kept) (FillsFiles l) all rest ys) more
+          (passes_more (item_lines l kept) (FillsFiles l) all x rest done made passes said.0 said.1);
     }
 
 pub stage_item-requires : goal.stage_item-requires
@@ -186,8 +204,10 @@ pub returns-clause-fills : goal.returns-clause-fills
 returns-clause-fills g c =
     let all = map draft_item_view c.args.drafts in
     let done = map item_view c.loop-draft.items.items in
-    let none : map draft_item_view (into_iter_items c.loop-draft.draft-iterator) ≡ [] = ap (map draft_item_view) (none_left (into_iter_items c.loop-draft.draft-iterator) (omega (arith, c.in-None.ensures.steps.0))) in
-    let passes : Passes no_lines FillsItem all [] done = subst (λ (ys : List DraftItem). Passes no_lines FillsItem all ys done) none c.loop-draft.invariant.filled in
+    let none : map draft_item_view (into_iter_items c.loop-draft.draft-iterator) ≡ [] =
+    ap (map draft_item_view) (none_left (into_iter_items c.loop-draft.draft-iterator) (omega (arith, c.in-None.ensures.steps.0))) in
+    let passes : Passes no_lines FillsItem all [] done = subst (λ (ys : List DraftItem). Passes no_lines FillsItem all ys done) none
+    c.loop-draft.invariant.filled in
     subst (λ (is : List code.Item). AllZip FillsItem all (map item_view is)) (sym c.new.ensures) (passes_end no_lines FillsItem all done passes).1
 
 pub returns-clause-staged : goal.returns-clause-staged
@@ -195,8 +215,10 @@ returns-clause-staged g c = λ l e.
     let kept = map item_view c.args.kept.now in
     let all = map draft_item_view c.args.drafts in
     let done = map item_view c.loop-draft.items.items in
-    let none : map draft_item_view (into_iter_items c.loop-draft.draft-iterator) ≡ [] = ap (map draft_item_view) (none_left (into_iter_items c.loop-draft.draft-iterator) (omega (arith, c.in-None.ensures.steps.0))) in
-    let passes : Passes (item_lines l kept) (FillsFiles l) all [] done = subst (λ (ys : List DraftItem). Passes (item_lines l kept) (FillsFiles l) all ys done) none (c.loop-draft.invariant.passes l e) in
+    let none : map draft_item_view (into_iter_items c.loop-draft.draft-iterator) ≡ [] =
+    ap (map draft_item_view) (none_left (into_iter_items c.loop-draft.draft-iterator) (omega (arith, c.in-None.ensures.steps.0))) in
+    let passes : Passes (item_lines l kept) (FillsFiles l) all [] done =
+    subst (λ (ys : List DraftItem). Passes (item_lines l kept) (FillsFiles l) all ys done) none (c.loop-draft.invariant.passes l e) in
     let ended = passes_end (item_lines l kept) (FillsFiles l) all done passes in
     (ended.0, subst (λ (is : List code.Item). AllZip (FillsFiles l) all (map item_view is)) (sym c.new.ensures) ended.1)
 

@@ -17,8 +17,10 @@ abbrev pub invariant-loop-draft : goal.invariant-loop-draft
 invariant-loop-draft g l = record {
   can_next : (goal.iterator-loop-draft g).can_next l.draft-iterator;
   is_finite : (goal.iterator-loop-draft g).is_finite l.draft-iterator;
-  goes : Leaves g.D.Disk.moment g.D.Disk.left_since l.fn.disk l.disk (After (g.D.Disk.may_leave l.fn.disk) (Spares (IsStagedAmong (map item_view l.kept) (map draft_item_view l.fn.drafts))));
-  others : IsTrue g.D.Disk.is_modelled → Spares (IsStagedAmong (map item_view l.kept) (map draft_item_view l.fn.drafts)) (g.D.Disk.seen l.fn.disk) (g.D.Disk.seen l.disk);
+  goes : Leaves g.D.Disk.moment g.D.Disk.left_since l.fn.disk l.disk
+      (After (g.D.Disk.may_leave l.fn.disk) (Spares (IsStagedAmong (map item_view l.kept) (map draft_item_view l.fn.drafts))));
+  others : IsTrue g.D.Disk.is_modelled → Spares (IsStagedAmong (map item_view l.kept) (map draft_item_view l.fn.drafts)) (g.D.Disk.seen l.fn.disk)
+      (g.D.Disk.seen l.disk);
   disk_faults : g.D.Disk.faults l.disk ≡ g.D.Disk.faults l.fn.disk;
   content : g.L.Library.content l.library ≡ g.L.Library.content l.fn.library;
   library_faults : g.L.Library.faults l.library ≡ g.L.Library.faults l.fn.library;
@@ -33,5 +35,6 @@ invariant-loop-draft g l = record {
   held : AllHoldItems (g.D.Disk.may_leave l.fn.disk) (map item_view l.kept) → AllHoldItems (g.D.Disk.may_leave l.disk) (map item_view l.items.items);
   filled : Passes no_lines FillsItem (map draft_item_view l.fn.drafts) (map draft_item_view (into_iter_items l.draft-iterator)) (map item_view l.items.items);
   passes : (c : Content) → g.L.Library.content l.fn.library ≡ Some c →
-      Passes (item_lines c (map item_view l.kept)) (FillsFiles c) (map draft_item_view l.fn.drafts) (map draft_item_view (into_iter_items l.draft-iterator)) (map item_view l.items.items);
+      Passes (item_lines c (map item_view l.kept)) (FillsFiles c) (map draft_item_view l.fn.drafts) (map draft_item_view (into_iter_items l.draft-iterator))
+      (map item_view l.items.items);
 }

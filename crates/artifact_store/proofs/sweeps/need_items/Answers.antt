@@ -23,7 +23,8 @@ loop-item-preserved c = λ file.
     let Q : stored.Item → Bool = λ o. is_file_of o file in
     let was = contains (slice_cmp nat_cmp) c.args.needed.now file in
     let below : i < length all = omega arith in
-    need_also P all i x was (contains (slice_cmp nat_cmp) c.loop-item.needed file) (contains (slice_cmp nat_cmp) c.need_item.new.needed file) below c.item-item.is (c.in_ok-need_item.ensures file)
+    need_also P all i x was (contains (slice_cmp nat_cmp) c.loop-item.needed file) (contains (slice_cmp nat_cmp) c.need_item.new.needed file) below
+    c.item-item.is (c.in_ok-need_item.ensures file)
     (c.loop-item.invariant file ∙ ap (λ b. was || b) (any_map item_view Q (take i all)))
     ∙ ap (λ b. was || b) (sym (any_map item_view Q (take (i + 1) all)))
 
@@ -32,4 +33,5 @@ returns c = λ file.
     let all : List Item = c.args.items.now in
     let i = c.loop-item.item-index in
     let past : length all ≤ i = omega arith in
-    c.loop-item.invariant file ∙ ap (λ (ys : List Item). contains (slice_cmp nat_cmp) c.args.needed.now file || is_file_among (map item_view ys) file) (take_all i all past)
+    c.loop-item.invariant file ∙ ap (λ (ys : List Item). contains (slice_cmp nat_cmp) c.args.needed.now file || is_file_among (map item_view ys) file)
+    (take_all i all past)

@@ -24,8 +24,10 @@ returns-in_err-sweep_file-clause-moments g c =
     let below : i < length xs = omega arith in
     let has : Contains all x = next_in all i x _ (next_is xs all i x c.as_slice-file-items.ensures below c.file-item.is) in
     let needed : Bool = contains (slice_cmp nat_cmp) c.in_ok-needed.needed x in
-    let stray : IsTrue g.D.Disk.is_modelled → (name : List ℕ) → IsUnneeded needed x name → IsStray items name = λ told. stray_of items all (g.D.Disk.seen c.args.disk.now) x needed (c.in_ok-listed.ensures.told told) has (c.in_ok-needed.ensures x) in
-    told_spares g.met.D.Disk.laws (IsUnneeded needed x) (IsStray items) c.args.disk.now c.loop-file.disk c.sweep_file.new.disk stray so.goes c.sweep_file.ensures.moments
+    let stray : IsTrue g.D.Disk.is_modelled → (name : List ℕ) → IsUnneeded needed x name → IsStray items name =
+    λ told. stray_of items all (g.D.Disk.seen c.args.disk.now) x needed (c.in_ok-listed.ensures.told told) has (c.in_ok-needed.ensures x) in
+    told_spares g.met.D.Disk.laws (IsUnneeded needed x) (IsStray items) c.args.disk.now c.loop-file.disk c.sweep_file.new.disk stray so.goes
+    c.sweep_file.ensures.moments
 
 pub returns-in_err-sweep_file-clause-others : goal.returns-in_err-sweep_file-clause-others
 returns-in_err-sweep_file-clause-others g c = λ told.
@@ -38,8 +40,10 @@ returns-in_err-sweep_file-clause-others g c = λ told.
     let below : i < length xs = omega arith in
     let has : Contains all x = next_in all i x _ (next_is xs all i x c.as_slice-file-items.ensures below c.file-item.is) in
     let needed : Bool = contains (slice_cmp nat_cmp) c.in_ok-needed.needed x in
-    let stray : IsTrue g.D.Disk.is_modelled → (name : List ℕ) → IsUnneeded needed x name → IsStray items name = λ told. stray_of items all (g.D.Disk.seen c.args.disk.now) x needed (c.in_ok-listed.ensures.told told) has (c.in_ok-needed.ensures x) in
-    spares_told (IsTrue g.D.Disk.is_modelled) (IsUnneeded needed x) (IsStray items) (g.D.Disk.seen c.args.disk.now) (g.D.Disk.seen c.loop-file.disk) (g.D.Disk.seen c.sweep_file.new.disk) told stray (so.others told) (c.sweep_file.ensures.others told)
+    let stray : IsTrue g.D.Disk.is_modelled → (name : List ℕ) → IsUnneeded needed x name → IsStray items name =
+    λ told. stray_of items all (g.D.Disk.seen c.args.disk.now) x needed (c.in_ok-listed.ensures.told told) has (c.in_ok-needed.ensures x) in
+    spares_told (IsTrue g.D.Disk.is_modelled) (IsUnneeded needed x) (IsStray items) (g.D.Disk.seen c.args.disk.now) (g.D.Disk.seen c.loop-file.disk)
+    (g.D.Disk.seen c.sweep_file.new.disk) told stray (so.others told) (c.sweep_file.ensures.others told)
 
 pub loop-file-preserved : goal.loop-file-preserved
 loop-file-preserved g c =
@@ -52,14 +56,19 @@ loop-file-preserved g c =
     let below : i < length xs = omega arith in
     let has : Contains all x = next_in all i x _ (next_is xs all i x c.as_slice-file-items.ensures below c.file-item.is) in
     let needed : Bool = contains (slice_cmp nat_cmp) c.in_ok-needed.needed x in
-    let stray : IsTrue g.D.Disk.is_modelled → (name : List ℕ) → IsUnneeded needed x name → IsStray items name = λ told. stray_of items all (g.D.Disk.seen c.args.disk.now) x needed (c.in_ok-listed.ensures.told told) has (c.in_ok-needed.ensures x) in
+    let stray : IsTrue g.D.Disk.is_modelled → (name : List ℕ) → IsUnneeded needed x name → IsStray items name =
+    λ told. stray_of items all (g.D.Disk.seen c.args.disk.now) x needed (c.in_ok-listed.ensures.told told) has (c.in_ok-needed.ensures x) in
     record {
-      goes = told_spares g.met.D.Disk.laws (IsUnneeded needed x) (IsStray items) c.args.disk.now c.loop-file.disk c.sweep_file.new.disk stray so.goes c.sweep_file.ensures.moments;
-      others = λ told. spares_told (IsTrue g.D.Disk.is_modelled) (IsUnneeded needed x) (IsStray items) (g.D.Disk.seen c.args.disk.now) (g.D.Disk.seen c.loop-file.disk) (g.D.Disk.seen c.sweep_file.new.disk) told stray (so.others told) (c.sweep_file.ensures.others told);
+      goes = told_spares g.met.D.Disk.laws (IsUnneeded needed x) (IsStray items) c.args.disk.now c.loop-file.disk c.sweep_file.new.disk stray so.goes
+          c.sweep_file.ensures.moments;
+      others = λ told. spares_told (IsTrue g.D.Disk.is_modelled) (IsUnneeded needed x) (IsStray items) (g.D.Disk.seen c.args.disk.now)
+          (g.D.Disk.seen c.loop-file.disk) (g.D.Disk.seen c.sweep_file.new.disk) told stray (so.others told) (c.sweep_file.ensures.others told);
       faults = c.in_ok-sweep_file.ensures.quiet ∙ so.faults;
       gone = λ told.
-          gone_next items xs i x needed (g.D.Disk.seen c.loop-file.disk) (g.D.Disk.seen c.sweep_file.new.disk) below c.file-item.is (c.in_ok-needed.ensures x) (c.in_ok-sweep_file.ensures.gone told) (c.sweep_file.ensures.others told) (so.gone told);
-      less = λ told f some. so.less told f (still_less needed x (g.D.Disk.seen c.loop-file.disk) (g.D.Disk.seen c.sweep_file.new.disk) (c.in_ok-sweep_file.ensures.gone told) (c.sweep_file.ensures.others told) f some);
+          gone_next items xs i x needed (g.D.Disk.seen c.loop-file.disk) (g.D.Disk.seen c.sweep_file.new.disk) below c.file-item.is (c.in_ok-needed.ensures x)
+          (c.in_ok-sweep_file.ensures.gone told) (c.sweep_file.ensures.others told) (so.gone told);
+      less = λ told f some. so.less told f (still_less needed x (g.D.Disk.seen c.loop-file.disk) (g.D.Disk.seen c.sweep_file.new.disk)
+          (c.in_ok-sweep_file.ensures.gone told) (c.sweep_file.ensures.others told) f some);
     }
 
 pub returns-clause-swept : goal.returns-clause-swept
@@ -80,7 +89,9 @@ pub returns-in_err-listed-clause-safe : goal.returns-in_err-listed-clause-safe
 returns-in_err-listed-clause-safe g c = λ holds. weaker g.met.D.Disk.laws c.args.disk.now c.list.new.self _ _ holds c.list.ensures.moments
 
 pub returns-in_err-sweep_file-clause-safe : goal.returns-in_err-sweep_file-clause-safe
-returns-in_err-sweep_file-clause-safe g c = λ holds. swept_safe g.met.D.Disk.laws (device_view c.args.device.now) c.args.disk.now c.sweep_file.new.disk (returns-in_err-sweep_file-clause-moments g c) holds
+returns-in_err-sweep_file-clause-safe g c = λ holds. swept_safe g.met.D.Disk.laws (device_view c.args.device.now) c.args.disk.now c.sweep_file.new.disk
+    (returns-in_err-sweep_file-clause-moments g c) holds
 
 pub returns-clause-safe : goal.returns-clause-safe
-returns-clause-safe g c = λ holds. swept_safe g.met.D.Disk.laws (device_view c.args.device.now) c.args.disk.now c.loop-file.disk c.loop-file.invariant.goes holds
+returns-clause-safe g c = λ holds. swept_safe g.met.D.Disk.laws (device_view c.args.device.now) c.args.disk.now c.loop-file.disk c.loop-file.invariant.goes
+    holds

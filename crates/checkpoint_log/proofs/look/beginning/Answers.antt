@@ -1,7 +1,12 @@
 use Rattle.std.proofs.Common.{sym, arith}
 use Rattle.checkpoint_log.proofs.Looking.{cut_begins, none_begins, begins_store, begins_turn, slot_same}
 use Rattle.checkpoint_log.proofs.look.beginning.Goals as goal
-use Rattle.checkpoint_log.proofs.look.beginning.Goals.{then-len-eq0-via-then-len-eq0, then-len-eq0-via-else-len-eq0+then-len-gt-MOST_PAYLOAD, then-len-eq0-via-else-len-eq0+else-len-gt-MOST_PAYLOAD+then-size-len, else-odd-eq0-via-then-odd-eq0+else-head-eq17, else-odd-eq0-via-else-odd-eq0, then-len-lt9-via-then-len-lt9, then-len-lt9-via-else-len-lt9+then-head-ne25, then-len-lt9-via-else-len-lt9+else-head-ne25+then-number-eq0, then-len-lt9-via-else-len-lt9+else-head-ne25+else-number-eq0+then-number-odd}
+use Rattle.checkpoint_log.proofs.look.beginning.Goals.{then-len-eq0-via-then-len-eq0, then-len-eq0-via-else-len-eq0+then-len-gt-MOST_PAYLOAD}
+use Rattle.checkpoint_log.proofs.look.beginning.Goals.{then-len-eq0-via-else-len-eq0+else-len-gt-MOST_PAYLOAD+then-size-len}
+use Rattle.checkpoint_log.proofs.look.beginning.Goals.{else-odd-eq0-via-then-odd-eq0+else-head-eq17, else-odd-eq0-via-else-odd-eq0}
+use Rattle.checkpoint_log.proofs.look.beginning.Goals.{then-len-lt9-via-then-len-lt9, then-len-lt9-via-else-len-lt9+then-head-ne25}
+use Rattle.checkpoint_log.proofs.look.beginning.Goals.{then-len-lt9-via-else-len-lt9+else-head-ne25+then-number-eq0}
+use Rattle.checkpoint_log.proofs.look.beginning.Goals.{then-len-lt9-via-else-len-lt9+else-head-ne25+else-number-eq0+then-number-odd}
 
 pub returns-then-len-eq0 : goal.returns-then-len-eq0
 returns-then-len-eq0 c file size head m same =
@@ -21,7 +26,8 @@ returns-then-head-eq17 c file size head = (
 
 pub returns-then-len-lt9 : goal.returns-then-len-lt9
 returns-then-len-lt9 c file size head m =
-    none_begins c.args.head.now file c.args.odd c.length_in-len.result c.number_in-number.result m c.requires.parity head c.length_in-len.ensures.value c.number_in-number.ensures.value
+    none_begins c.args.head.now file c.args.odd c.length_in-len.result c.number_in-number.result m c.requires.parity head c.length_in-len.ensures.value
+    c.number_in-number.ensures.value
     (elim c.else-odd-eq0.branch [
       | else-odd-eq0-via-then-odd-eq0+else-head-eq17 w ↦ λ even first. w.if-head-eq17.false first
       | else-odd-eq0-via-else-odd-eq0 w ↦ λ even first. w.if-odd-eq0.false even
@@ -35,7 +41,8 @@ returns-then-len-lt9 c file size head m =
 
 pub returns : goal.returns
 returns c file size head = (
-  begins_turn c.args.head.now file c.length_in-len.result c.number_in-number.result head c.length_in-len.ensures.small c.requires.open c.length_in-len.ensures.value
+  begins_turn c.args.head.now file c.length_in-len.result c.number_in-number.result head c.length_in-len.ensures.small c.requires.open
+      c.length_in-len.ensures.value
       (omega (arith, c.if-len-lt9.false)) (omega (arith, c.if-len-gt-MOST_PAYLOAD.false)) (omega (arith, c.if-size-len.false, size)) c.if-head-ne25.false
       c.number_in-number.ensures.value (omega (arith, c.if-number-eq0.false)) c.number_in-number.type_inv,
   slot_same c.number_in-number.result c.args.odd c.requires.parity c.if-number-odd.false,

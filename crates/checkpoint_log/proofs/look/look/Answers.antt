@@ -7,10 +7,12 @@ use Rattle.checkpoint_log.proofs.Looking.{head_is, holds_some, fourteen}
 use Rattle.checkpoint_log.proofs.look.look.Goals as goal
 
 pub returns-in-Some-clause-moments : goal.returns-in-Some-clause-moments
-returns-in-Some-clause-moments g c = then_same g.met.D.Disk.laws c.args.disk.now c.read.new.self c.length.new.self _ c.read.ensures.moments c.length.ensures.moments
+returns-in-Some-clause-moments g c = then_same g.met.D.Disk.laws c.args.disk.now c.read.new.self c.length.new.self _ c.read.ensures.moments
+    c.length.ensures.moments
 
 pub returns-in-None-clause-moments : goal.returns-in-None-clause-moments
-returns-in-None-clause-moments g c = then_same g.met.D.Disk.laws c.args.disk.now c.read.new.self c.length.new.self _ c.read.ensures.moments c.length.ensures.moments
+returns-in-None-clause-moments g c = then_same g.met.D.Disk.laws c.args.disk.now c.read.new.self c.length.new.self _ c.read.ensures.moments
+    c.length.ensures.moments
 
 pub returns-in-Some-clause-told : goal.returns-in-Some-clause-told
 returns-in-Some-clause-told g c told =
@@ -19,7 +21,8 @@ returns-in-Some-clause-told g c told =
     let read = c.in_ok-_read.ensures.told told in
     let head : IsHead c.read.new.into (image name) = head_is (image name) c.read.new.into _ c.in_ok-_read._read read.0 read.1 fourteen in
     let size : c.in_ok-size.size ≡ length (image name) = c.in_ok-size.ensures.told told ∙ ap (λ (i : Image). length (i name)) c.read.ensures.seen in
-    subst (λ (l : List ℕ). IsBeginning (slot c.args.odd) l (Some c.in-Some.number)) (ap image c.slot_name-file.ensures) (c.in-Some.ensures (image name) size head)
+    subst (λ (l : List ℕ). IsBeginning (slot c.args.odd) l (Some c.in-Some.number)) (ap image c.slot_name-file.ensures)
+    (c.in-Some.ensures (image name) size head)
 
 pub returns-in-None-clause-told : goal.returns-in-None-clause-told
 returns-in-None-clause-told g c told =

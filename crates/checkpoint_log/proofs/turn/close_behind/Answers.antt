@@ -14,14 +14,17 @@ write_at-requires g c told =
     omega (arith, put_long _ _ c.args.end put.0 put.1)
 
 pub returns-in_err-write_at-clause-moments : goal.returns-in_err-write_at-clause-moments
-returns-in_err-write_at-clause-moments g c = keeps_moments g.met.D.Disk.laws c.args.file.now c.args.disk.now c.write_at.new.self c.args.end 1 c.requires.some c.write_at.ensures.moments
+returns-in_err-write_at-clause-moments g c = keeps_moments g.met.D.Disk.laws c.args.file.now c.args.disk.now c.write_at.new.self c.args.end 1 c.requires.some
+    c.write_at.ensures.moments
 
 pub returns-clause-moments : goal.returns-clause-moments
 returns-clause-moments g c =
     then_same g.met.D.Disk.laws c.args.disk.now c.write_at.new.self c.sync.new.self _
-    (keeps_moments g.met.D.Disk.laws c.args.file.now c.args.disk.now c.write_at.new.self c.args.end 1 c.requires.some c.write_at.ensures.moments) c.sync.ensures.moments
+    (keeps_moments g.met.D.Disk.laws c.args.file.now c.args.disk.now c.write_at.new.self c.args.end 1 c.requires.some c.write_at.ensures.moments)
+    c.sync.ensures.moments
 
 pub returns-clause-written : goal.returns-clause-written
 returns-clause-written g c told payloads put =
     let done = gate_on _ _ 0 c.args.end payloads (c.requires.some told) put (c.in_ok-write_at.ensures.told told).here in
-    on_ok_weaker c.sync.result (λ _. subst (λ (i : Image). IsPutWith (0 ∷ []) (i c.args.file.now) c.args.end payloads) (sym c.sync.ensures.seen) done) c.sync.ensures.durable
+    on_ok_weaker c.sync.result (λ _. subst (λ (i : Image). IsPutWith (0 ∷ []) (i c.args.file.now) c.args.end payloads) (sym c.sync.ensures.seen) done)
+    c.sync.ensures.durable

@@ -13,21 +13,26 @@ write_at-requires g c told =
 pub write_at-requires-2 : goal.write_at-requires-2
 write_at-requires-2 g c told =
     let put = c.requires.there told in
-    head_long _ _ _ c.args.end put.0 (ap length c.to_be_bytes.ensures) (c.in_ok-gate_behind.ensures.written told put.0 put.1) (c.in_ok-write_at.ensures.told told).here
+    head_long _ _ _ c.args.end put.0 (ap length c.to_be_bytes.ensures) (c.in_ok-gate_behind.ensures.written told put.0 put.1)
+    (c.in_ok-write_at.ensures.told told).here
 
 pub returns-in_err-write_at-clause-moments : goal.returns-in_err-write_at-clause-moments
 returns-in_err-write_at-clause-moments g c =
-    keeps_more g.met.D.Disk.laws c.args.file.now c.args.disk.now c.gate_behind.new.disk c.write_at.new.self (c.args.end + 1) _ (λ told. omega arith) c.gate_behind.ensures.moments c.write_at.ensures.moments
+    keeps_more g.met.D.Disk.laws c.args.file.now c.args.disk.now c.gate_behind.new.disk c.write_at.new.self (c.args.end + 1) _ (λ told. omega arith)
+    c.gate_behind.ensures.moments c.write_at.ensures.moments
 
 pub returns-clause-moments : goal.returns-clause-moments
 returns-clause-moments g c =
     keeps_more g.met.D.Disk.laws c.args.file.now c.args.disk.now c.write_at.new.self c.write_at-2.new.self (c.args.end + 5) _ (λ told. omega arith)
-    (keeps_more g.met.D.Disk.laws c.args.file.now c.args.disk.now c.gate_behind.new.disk c.write_at.new.self (c.args.end + 1) _ (λ told. omega arith) c.gate_behind.ensures.moments c.write_at.ensures.moments)
+    (keeps_more g.met.D.Disk.laws c.args.file.now c.args.disk.now c.gate_behind.new.disk c.write_at.new.self (c.args.end + 1) _ (λ told. omega arith)
+    c.gate_behind.ensures.moments c.write_at.ensures.moments)
     c.write_at-2.ensures.moments
 
 pub returns-clause-written : goal.returns-clause-written
 returns-clause-written g c told payloads put =
-    let head = (subst (λ (h : List ℕ). Step c.args.file.now (Holds (c.args.end + 1) h) (g.D.Disk.seen c.gate_behind.new.disk) (g.D.Disk.seen c.write_at.new.self)) c.to_be_bytes.ensures (c.in_ok-write_at.ensures.told told)).here in
+    let head = (subst (λ (h : List ℕ). Step c.args.file.now (Holds (c.args.end + 1) h) (g.D.Disk.seen c.gate_behind.new.disk)
+    (g.D.Disk.seen c.write_at.new.self)) c.to_be_bytes.ensures (c.in_ok-write_at.ensures.told told)).here in
     on_ok_weaker c.write_at-2.result
-    (λ body. entry_on _ _ _ c.args.end payloads c.args.payload.now c.requires.some c.requires.fits (c.in_ok-gate_behind.ensures.written told payloads put) head body)
+    (λ body. entry_on _ _ _ c.args.end payloads c.args.payload.now c.requires.some c.requires.fits (c.in_ok-gate_behind.ensures.written told payloads put)
+    head body)
     (c.write_at-2.ensures.told told).here

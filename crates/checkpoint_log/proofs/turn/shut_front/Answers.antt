@@ -22,7 +22,8 @@ returns-in_err-write_at-clause-moments g c =
       | else-n-eq1-via-then-n-eq1+else-first-eq0 w ↦ λ one shut. w.if-first-eq0.false shut
       | else-n-eq1-via-else-n-eq1 w ↦ λ one shut. w.if-n-eq1.false one
     ]) in
-    shut_moments g.met.D.Disk.laws c.args.file.now c.args.disk.now c.sync.new.self c.read.new.self c.write_at.new.self c.sync.ensures.moments c.in_ok-sync.ensures.durable c.read.ensures.moments c.write_at.ensures.moments some
+    shut_moments g.met.D.Disk.laws c.args.file.now c.args.disk.now c.sync.new.self c.read.new.self c.write_at.new.self c.sync.ensures.moments
+    c.in_ok-sync.ensures.durable c.read.ensures.moments c.write_at.ensures.moments some
 
 pub returns-clause-moments : goal.returns-clause-moments
 returns-clause-moments g c =
@@ -35,5 +36,6 @@ returns-clause-moments g c =
       | else-n-eq1-via-else-n-eq1 w ↦ λ one shut. w.if-n-eq1.false one
     ]) in
     then_same g.met.D.Disk.laws c.args.disk.now c.write_at.new.self c.sync-2.new.self _
-    (shut_moments g.met.D.Disk.laws c.args.file.now c.args.disk.now c.sync.new.self c.read.new.self c.write_at.new.self c.sync.ensures.moments c.in_ok-sync.ensures.durable c.read.ensures.moments c.write_at.ensures.moments some)
+    (shut_moments g.met.D.Disk.laws c.args.file.now c.args.disk.now c.sync.new.self c.read.new.self c.write_at.new.self c.sync.ensures.moments
+    c.in_ok-sync.ensures.durable c.read.ensures.moments c.write_at.ensures.moments some)
     c.sync-2.ensures.moments

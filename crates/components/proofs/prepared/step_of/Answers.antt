@@ -10,7 +10,8 @@ use Rattle.components.proofs.Scoped.{place_below, item_there, recipe_there, step
 use Rattle.components.proofs.prepared.step_of.Goals as goal
 
 pub bounds-items-at : goal.bounds-items-at
-bounds-items-at c = subst (λ (xs : List code.Item). c.args.at < length xs) (sym c.as_slice-items.ensures) (place_below c.args.origin.now c.args.items.now c.args.at c.requires.recipe)
+bounds-items-at c = subst (λ (xs : List code.Item). c.args.at < length xs) (sym c.as_slice-items.ensures)
+    (place_below c.args.origin.now c.args.items.now c.args.at c.requires.recipe)
 
 pub known_recipe-requires : goal.known_recipe-requires
 known_recipe-requires c =
@@ -18,7 +19,8 @@ known_recipe-requires c =
     let x = c.index-items-at.result in
     let is = subst (λ (xs : List code.Item). x ≡ get_or xs c.args.at x) c.as_slice-items.ensures c.index-items-at.is in
     let there = item_there items c.args.at x (place_below c.args.origin.now items c.args.at c.requires.recipe) is in
-    subst (λ bs. HasSomeRecipe c.args.origin.now.platform bs) (sym c.as_slice.ensures) (recipe_there c.args.origin.now items c.args.at x there c.requires.recipe)
+    subst (λ bs. HasSomeRecipe c.args.origin.now.platform bs) (sym c.as_slice.ensures)
+    (recipe_there c.args.origin.now items c.args.at x there c.requires.recipe)
 
 pub returns : goal.returns
 returns c =
@@ -29,5 +31,6 @@ returns c =
     let reads = subst (λ bs. Reads bs c.args.origin.now.platform c.in_ok-recipe.recipe) c.as_slice.ensures c.in_ok-recipe.ensures in
     let scope = c.in_ok-scope.scope in
     IfOk-weaker c.prepare_step.result _ (IsStepAt c.args.origin.now (map item_view items) c.args.at c.args.step)
-    (λ made h. step_made c.recipe_laws.ensures.one_recipe c.args.origin.now items c.args.at x there c.in_ok-recipe.recipe reads scope c.in_ok-scope.ensures c.args.step made (subst (λ (d : Option StepDef). IsPrepared scope d made) c.step.ensures h))
+    (λ made h. step_made c.recipe_laws.ensures.one_recipe c.args.origin.now items c.args.at x there c.in_ok-recipe.recipe reads scope c.in_ok-scope.ensures
+    c.args.step made (subst (λ (d : Option StepDef). IsPrepared scope d made) c.step.ensures h))
     c.prepare_step.ensures

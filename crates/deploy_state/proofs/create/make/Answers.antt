@@ -20,16 +20,19 @@ append-requires-clause-fits g c = let first = c.requires.first in (first_short c
 
 pub returns-in_err-log-clause-moments : goal.returns-in_err-log-clause-moments
 returns-in_err-log-clause-moments g c = λ o spelled.
-    more_within g.met.D.Disk.laws g.J.Journal.files c.args.disk.now c.create.new.disk g.J.Journal.holds_none (StandsForEither g.J.Journal.entries no_device (applied no_device (stored.Genesis o)))
+    more_within g.met.D.Disk.laws g.J.Journal.files c.args.disk.now c.create.new.disk g.J.Journal.holds_none
+    (StandsForEither g.J.Journal.entries no_device (applied no_device (stored.Genesis o)))
     (λ c none. inl (none_stands_for g.met.J.Journal.laws c none)) c.create.ensures.any_moment
 
 pub returns-in-Ok-clause-moments : goal.returns-in-Ok-clause-moments
 returns-in-Ok-clause-moments g c = λ o spelled.
     let first = c.requires.first in
     let new = applied no_device (stored.Genesis o) in
-    then_within g.met.D.Disk.laws g.J.Journal.files c.args.disk.now c.create.new.disk c.append.new.disk g.J.Journal.holds_none (StandsForEither g.J.Journal.entries no_device new) (StandsForEither g.J.Journal.entries no_device new)
+    then_within g.met.D.Disk.laws g.J.Journal.files c.args.disk.now c.create.new.disk c.append.new.disk g.J.Journal.holds_none
+    (StandsForEither g.J.Journal.entries no_device new) (StandsForEither g.J.Journal.entries no_device new)
     c.create.ensures.any_moment
-    (of_entry g.met.D.Disk.laws g.J.Journal.files g.J.Journal.entries c.create.new.disk c.append.new.disk [] c.args.payload.now no_device new (λ told. (inl refl, tt)) (λ told. (first_means c.args.payload.now o spelled (one_first c.args.payload.now first.0 o first.1 spelled first.2), tt))
+    (of_entry g.met.D.Disk.laws g.J.Journal.files g.J.Journal.entries c.create.new.disk c.append.new.disk [] c.args.payload.now no_device new
+    (λ told. (inl refl, tt)) (λ told. (first_means c.args.payload.now o spelled (one_first c.args.payload.now first.0 o first.1 spelled first.2), tt))
     (c.append.ensures.any_moment [] c.in_ok-log.ensures.made.1))
     (λ c none. inl (none_stands_for g.met.J.Journal.laws c none)) (λ c either. either)
 
@@ -37,16 +40,19 @@ pub returns-in-Err-clause-moments : goal.returns-in-Err-clause-moments
 returns-in-Err-clause-moments g c = λ o spelled.
     let first = c.requires.first in
     let new = applied no_device (stored.Genesis o) in
-    then_within g.met.D.Disk.laws g.J.Journal.files c.args.disk.now c.create.new.disk c.append.new.disk g.J.Journal.holds_none (StandsForEither g.J.Journal.entries no_device new) (StandsForEither g.J.Journal.entries no_device new)
+    then_within g.met.D.Disk.laws g.J.Journal.files c.args.disk.now c.create.new.disk c.append.new.disk g.J.Journal.holds_none
+    (StandsForEither g.J.Journal.entries no_device new) (StandsForEither g.J.Journal.entries no_device new)
     c.create.ensures.any_moment
-    (of_entry g.met.D.Disk.laws g.J.Journal.files g.J.Journal.entries c.create.new.disk c.append.new.disk [] c.args.payload.now no_device new (λ told. (inl refl, tt)) (λ told. (first_means c.args.payload.now o spelled (one_first c.args.payload.now first.0 o first.1 spelled first.2), tt))
+    (of_entry g.met.D.Disk.laws g.J.Journal.files g.J.Journal.entries c.create.new.disk c.append.new.disk [] c.args.payload.now no_device new
+    (λ told. (inl refl, tt)) (λ told. (first_means c.args.payload.now o spelled (one_first c.args.payload.now first.0 o first.1 spelled first.2), tt))
     (c.append.ensures.any_moment [] c.in_ok-log.ensures.made.1))
     (λ c none. inl (none_stands_for g.met.J.Journal.laws c none)) (λ c either. either)
 
 pub returns-in-Ok-clause-hand : goal.returns-in-Ok-clause-hand
 returns-in-Ok-clause-hand g c = λ o spelled.
     let first = c.requires.first in
-    begun_in_hand g.D.Disk.is_modelled g.D.Disk.may_leave g.J.Journal.stands g.J.Journal.end c.append.new.self c.append.new.disk c.args.payload.now o spelled (one_first c.args.payload.now first.0 o first.1 spelled first.2)
+    begun_in_hand g.D.Disk.is_modelled g.D.Disk.may_leave g.J.Journal.stands g.J.Journal.end c.append.new.self c.append.new.disk c.args.payload.now o spelled
+    (one_first c.args.payload.now first.0 o first.1 spelled first.2)
     (c.in-Ok.ensures.added [] c.in_ok-log.ensures.made.1)
 
 pub returns-in-Err-clause-cause : goal.returns-in-Err-clause-cause

@@ -12,9 +12,11 @@ invariant-loop-at g l = record {
   put : IsPut g.D.Disk.is_modelled g.D.Disk.seen g.J.Journal.put_there l.log l.disk (take l.at (front_payloads l.number (device_view l.device)));
   put_end : g.J.Journal.put_end l.log ≡ place_behind (take l.at (front_payloads l.number (device_view l.device)));
   spelled : AreSpelled l.number (device_view l.device) l.at;
-  stays : (payloads : List (List ℕ)) → IsBehind g.D.Disk.may_leave g.J.Journal.stands l.fn.log l.fn.disk payloads → IsBehind g.D.Disk.may_leave g.J.Journal.stands l.log l.disk payloads;
+  stays : (payloads : List (List ℕ)) → IsBehind g.D.Disk.may_leave g.J.Journal.stands l.fn.log l.fn.disk payloads →
+      IsBehind g.D.Disk.may_leave g.J.Journal.stands l.log l.disk payloads;
   moments : (payloads : List (List ℕ)) → IsBehind g.D.Disk.may_leave g.J.Journal.stands l.fn.log l.fn.disk payloads
-      → Leaves g.D.Disk.moment g.D.Disk.left_since l.fn.disk l.disk (After (g.D.Disk.may_leave l.fn.disk) (Within g.J.Journal.files (λ c. g.J.Journal.entries c payloads)));
+      → Leaves g.D.Disk.moment g.D.Disk.left_since l.fn.disk l.disk
+      (After (g.D.Disk.may_leave l.fn.disk) (Within g.J.Journal.files (λ c. g.J.Journal.entries c payloads)));
   end : g.J.Journal.end l.log ≡ g.J.Journal.end l.fn.log;
   number : g.J.Journal.number l.log ≡ g.J.Journal.number l.fn.log;
   turns : g.J.Journal.turns l.log ≡ g.J.Journal.turns l.fn.log;

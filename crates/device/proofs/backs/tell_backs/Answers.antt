@@ -28,5 +28,8 @@ returns c =
     let set = map item_view c.args.set.now in
     let xs = c.args.names.now in
     let i = c.loop-at.at in
-    let past : length xs ≤ i = omega arith in
-    (left_end (IsReadable p set) xs xs i past c.loop-at.invariant.left, told_all (goes_back p set) c.loop-at.flags xs i c.loop-at.invariant.within past c.loop-at.invariant.told)
+    let past : length xs ≤ i = omega arith in (
+      left_end (IsReadable p set) xs xs i past c.loop-at.invariant.left,
+      told_all (goes_back p set) c.loop-at.flags xs i c.loop-at.invariant.within
+          past c.loop-at.invariant.told,
+    )

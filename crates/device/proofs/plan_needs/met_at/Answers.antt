@@ -7,7 +7,8 @@ pub returns-in_default : goal.returns-in_default
 returns-in_default c = unmet c.args.items.now c.args.dependency.now c.in_default.ensures
 
 pub returns-then-holds : goal.returns-then-holds
-returns-then-holds c = meets_there c.args.items.now c.args.dependency.now c.in-Some.at c.index-items-at.result c.in-Some.ensures (c.holds.ensures.0 c.if-holds.true)
+returns-then-holds c = meets_there c.args.items.now c.args.dependency.now c.in-Some.at c.index-items-at.result c.in-Some.ensures
+    (c.holds.ensures.0 c.if-holds.true)
 
 pub returns-else-holds : goal.returns-else-holds
 returns-else-holds c =

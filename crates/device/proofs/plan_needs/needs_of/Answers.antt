@@ -10,7 +10,8 @@ loop-from-preserved c =
     let r = c.index-recipes-from.result in
     let below : i < length xs = omega arith in
     let yes : c.in_ok-are_met.are_met ≡ true = search rules in
-    let added = subst (λ b. MatchBool b (AddsNeeds c.args.items.now i r.dependencies c.loop-from.needs.items c.add_needs.new.needs.items) (AreMet c.args.items.now r → ⊥)) yes c.in_ok-are_met.ensures in
+    let added = subst (λ b. MatchBool b (AddsNeeds c.args.items.now i r.dependencies c.loop-from.needs.items c.add_needs.new.needs.items)
+    (AreMet c.args.items.now r → ⊥)) yes c.in_ok-are_met.ensures in
     rows_next c.args.items.now xs xs i r c.loop-from.needs.items c.add_needs.new.needs.items below c.index-recipes-from.is c.loop-from.invariant added
 
 pub returns : goal.returns

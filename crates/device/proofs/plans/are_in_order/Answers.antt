@@ -11,7 +11,8 @@ pub is_acyclic-requires : goal.is_acyclic-requires
 is_acyclic-requires c =
     let items = c.args.items.now in
     let recipes = c.args.recipes.now in
-    let are = subst (λ o. MatchOption o (AllByRecursion (AreMet items) recipes → ⊥) (λ needs. AreNeeds items 0 recipes needs.items)) c.in-Some.is c.in_ok-needs.ensures in
+    let are = subst (λ o. MatchOption o (AllByRecursion (AreMet items) recipes → ⊥) (λ needs. AreNeeds items 0 recipes needs.items)) c.in-Some.is
+    c.in_ok-needs.ensures in
     let count = c.requires.count in
     subst (λ l. All (λ (e : Need). (e.from < length items) × (e.to < length items)) l) (sym c.new.ensures)
     (nodes items 0 (length items) recipes c.in-Some.needs.items (omega (arith, count)) refl are)
@@ -20,9 +21,11 @@ pub returns : goal.returns
 returns c =
     let items = c.args.items.now in
     let recipes = c.args.recipes.now in
-    let are = subst (λ o. MatchOption o (AllByRecursion (AreMet items) recipes → ⊥) (λ needs. AreNeeds items 0 recipes needs.items)) c.in-Some.is c.in_ok-needs.ensures in
+    let are = subst (λ o. MatchOption o (AllByRecursion (AreMet items) recipes → ⊥) (λ needs. AreNeeds items 0 recipes needs.items)) c.in-Some.is
+    c.in_ok-needs.ensures in
     let there = subst (AreNeeds items 0 recipes) (sym c.new.ensures) are in
-    answers c.is_acyclic.result (IsAcyclic (edges items recipes c.new.result (length items) c.requires.rise c.requires.count there)) (FitsTogether items recipes)
+    answers c.is_acyclic.result (IsAcyclic (edges items recipes c.new.result (length items) c.requires.rise c.requires.count there))
+    (FitsTogether items recipes)
     (fits items recipes c.new.result (length items) c.requires.rise c.requires.count there)
     (no_cycle items recipes c.new.result (length items) c.requires.rise c.requires.count there)
     c.is_acyclic.ensures

@@ -11,7 +11,8 @@ use Rattle.device.proofs.plans.is_plan.Goals as goal
 
 pub returns-then-not-are_requirements : goal.returns-then-not-are_requirements
 returns-then-not-are_requirements c =
-    no (IsPlan c.args.platform.now (plan_view c.args.plan.now)) (λ is. absurd (false≢true (c.if-not-are_requirements.ensures.1 (subst AreRequirements (sym c.as_slice.ensures) is.requirements))))
+    no (IsPlan c.args.platform.now (plan_view c.args.plan.now))
+    (λ is. absurd (false≢true (c.if-not-are_requirements.ensures.1 (subst AreRequirements (sym c.as_slice.ensures) is.requirements))))
 
 pub recipes_together-requires : goal.recipes_together-requires
 recipes_together-requires c = subst (λ is. All IsRegularAt is) (sym c.as_slice-items.ensures) (regular_back c.args.plan.now.items c.requires)
@@ -37,7 +38,8 @@ returns-in-Some c =
     let items = c.as_slice-items.result.now in
     let w = subst (λ o. MatchOption o (AreItems p (map item_view items) → ⊥) (λ rs. AreItemsWith p items rs.items)) c.in-Some.is c.in_ok-recipes.ensures in
     let requirements = subst AreRequirements c.as_slice.ensures (c.if-not-are_requirements.ensures.0 refl) in
-    plan_answer c.recipe_laws.ensures.one_recipe p plan items c.in-Some.recipes.items c.as_slice-in-Some.result.now c.as_slice-in-Some-2.result.now c.are_boots.result (sym c.as_slice-items.ensures) c.as_slice-in-Some.ensures.value c.as_slice-in-Some-2.ensures
+    plan_answer c.recipe_laws.ensures.one_recipe p plan items c.in-Some.recipes.items c.as_slice-in-Some.result.now c.as_slice-in-Some-2.result.now
+    c.are_boots.result (sym c.as_slice-items.ensures) c.as_slice-in-Some.ensures.value c.as_slice-in-Some-2.ensures
     requirements w c.are_boots.ensures
 
 pub returns-in-None : goal.returns-in-None

@@ -8,5 +8,6 @@ use Rattle.device.proofs.plans.items_rise.Goals as goal
 
 pub returns : goal.returns
 returns c =
-    let told = c.is_sorted_by.ensures.cases (λ (a b : code.Item). is_lt (slice_cmp nat_cmp a.name b.name)) (always_returns_same _ _ _ (λ a r q k. search rules)) in
+    let told = c.is_sorted_by.ensures.cases (λ (a b : code.Item). is_lt (slice_cmp nat_cmp a.name b.name))
+    (always_returns_same _ _ _ (λ a r q k. search rules)) in
     rise_answer (λ (i : code.Item). i.name) c.args.items.now c.is_sorted_by.result told

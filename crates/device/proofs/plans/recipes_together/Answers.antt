@@ -20,7 +20,8 @@ pub are_in_order-requires-clause-count : goal.are_in_order-requires-clause-count
 are_in_order-requires-clause-count c =
     let p = c.args.platform.now in
     let items = c.args.items.now in
-    let zip = subst (λ o. MatchOption o (AllByRecursion (HasRecipeAt p) items → ⊥) (λ rs. AllZip (IsRecipeAt p) items rs.items)) c.in-Some.is c.in_ok-recipes.ensures in
+    let zip = subst (λ o. MatchOption o (AllByRecursion (HasRecipeAt p) items → ⊥) (λ rs. AllZip (IsRecipeAt p) items rs.items)) c.in-Some.is
+    c.in_ok-recipes.ensures in
     ap length c.as_slice.ensures.value ∙ long (IsRecipeAt p) items c.in-Some.recipes.items zip
 
 pub returns-then-fit : goal.returns-then-fit
@@ -28,22 +29,30 @@ returns-then-fit c =
     let p = c.args.platform.now in
     let items = c.args.items.now in
     let recipes = c.in-Some.recipes.items in
-    let zip = subst (λ o. MatchOption o (AllByRecursion (HasRecipeAt p) items → ⊥) (λ rs. AllZip (IsRecipeAt p) items rs.items)) c.in-Some.is c.in_ok-recipes.ensures in
+    let zip = subst (λ o. MatchOption o (AllByRecursion (HasRecipeAt p) items → ⊥) (λ rs. AllZip (IsRecipeAt p) items rs.items)) c.in-Some.is
+    c.in_ok-recipes.ensures in
     let here : c.in_ok-are_configured.are_configured ≡ true = search rules in
     let fits = subst (FitsTogether items) c.as_slice.ensures.value (c.in_ok-fit.ensures.0 c.if-fit.true) in
-    record { are_items = items_whole c.recipe_laws.ensures.one_recipe p items recipes zip (c.if-not-are_listed.ensures.0 refl) (c.in_ok-are_configured.ensures.0 here) fits; each = zip }
+    record {
+      are_items = items_whole c.recipe_laws.ensures.one_recipe p items recipes zip (c.if-not-are_listed.ensures.0 refl)
+          (c.in_ok-are_configured.ensures.0 here) fits;
+      each = zip;
+    }
 
 pub returns-else-fit : goal.returns-else-fit
 returns-else-fit c =
     let p = c.args.platform.now in
     let items = c.args.items.now in
     let recipes = c.in-Some.recipes.items in
-    let zip = subst (λ o. MatchOption o (AllByRecursion (HasRecipeAt p) items → ⊥) (λ rs. AllZip (IsRecipeAt p) items rs.items)) c.in-Some.is c.in_ok-recipes.ensures in
-    λ is. absurd (false≢true (sym c.if-fit.false ∙ c.in_ok-fit.ensures.1 (subst (FitsTogether items) (sym c.as_slice.ensures.value) (items_fit c.recipe_laws.ensures.one_recipe p items recipes zip is))))
+    let zip = subst (λ o. MatchOption o (AllByRecursion (HasRecipeAt p) items → ⊥) (λ rs. AllZip (IsRecipeAt p) items rs.items)) c.in-Some.is
+    c.in_ok-recipes.ensures in
+    λ is. absurd (false≢true (sym c.if-fit.false ∙ c.in_ok-fit.ensures.1
+    (subst (FitsTogether items) (sym c.as_slice.ensures.value) (items_fit c.recipe_laws.ensures.one_recipe p items recipes zip is))))
 
 pub returns-in_default : goal.returns-in_default
 returns-in_default c =
     let p = c.args.platform.now in
     let items = c.args.items.now in
-    let none = subst (λ o. MatchOption o (AllByRecursion (HasRecipeAt p) items → ⊥) (λ rs. AllZip (IsRecipeAt p) items rs.items)) c.in_default.is c.in_ok-recipes.ensures in
+    let none = subst (λ o. MatchOption o (AllByRecursion (HasRecipeAt p) items → ⊥) (λ rs. AllZip (IsRecipeAt p) items rs.items)) c.in_default.is
+    c.in_ok-recipes.ensures in
     λ is. none (all_back item_view (HasRecipe p) items is.recipes)

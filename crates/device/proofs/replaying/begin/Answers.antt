@@ -26,17 +26,20 @@ entry-requires g c = record {
       let image = g.D.Disk.seen c.args.disk.now in
       let payloads = c.requires.open.0 in
       let on = reads_behind g.met.D.Disk.laws g.J.Journal.stands c.args.log.now c.args.disk.now payloads c.requires.open.1 told in
-      let a = has_first payloads (g.J.Journal.end c.args.log.now) (g.met.J.Journal.laws.ends c.args.log.now image payloads on) (λ none. c.if-end-eq0.false (c.end.ensures ∙ none)) in
+      let a = has_first payloads (g.J.Journal.end c.args.log.now) (g.met.J.Journal.laws.ends c.args.log.now image payloads on)
+      (λ none. c.if-end-eq0.false (c.end.ensures ∙ none)) in
       (a.first, first_at g.J.Journal.stands c.args.log.now image payloads a on);
 }
 
 pub returns-in-Ok-None-clause-told : goal.returns-in-Ok-None-clause-told
 returns-in-Ok-None-clause-told g c told payloads stands =
     let image = g.D.Disk.seen c.args.disk.now in
-    let a = has_first payloads (g.J.Journal.end c.args.log.now) (g.met.J.Journal.laws.ends c.args.log.now image payloads stands) (λ none. c.if-end-eq0.false (c.end.ensures ∙ none)) in
+    let a = has_first payloads (g.J.Journal.end c.args.log.now) (g.met.J.Journal.laws.ends c.args.log.now image payloads stands)
+    (λ none. c.if-end-eq0.false (c.end.ensures ∙ none)) in
     let read = c.in_ok-payload.ensures.told told a.first (first_at g.J.Journal.stands c.args.log.now image payloads a stands) in
     let none = subst (λ (o : Option code.Record). TurnOf c.as_slice.result.now o) c.in-Ok-None.field-0-is c.in-Ok-None.ensures in
-    subst (λ (d : Device). BeginsAt payloads d 0) (sym c.empty-in-Ok-None.ensures) (begins_plain payloads a (λ turn. none (subst IsTurn (sym (c.as_slice.ensures ∙ read.0)) turn)))
+    subst (λ (d : Device). BeginsAt payloads d 0) (sym c.empty-in-Ok-None.ensures)
+    (begins_plain payloads a (λ turn. none (subst IsTurn (sym (c.as_slice.ensures ∙ read.0)) turn)))
 
 pub take_front-requires-clause-stands : goal.take_front-requires-clause-stands
 take_front-requires-clause-stands g c told =
@@ -49,29 +52,35 @@ take_front-requires-clause-walked g c told payloads stands =
     let turned = subst (λ (o : Option code.Record). TurnOf c.as_slice.result.now o) c.in-Ok-Some.field-0-is c.in-Ok-Some.ensures in
     let image = g.D.Disk.seen c.args.disk.now in
     let on = subst (λ (i : Image). g.J.Journal.stands c.args.log.now i payloads) c.entry.ensures.seen stands in
-    let a = has_first payloads (g.J.Journal.end c.args.log.now) (g.met.J.Journal.laws.ends c.args.log.now image payloads on) (λ none. c.if-end-eq0.false (c.end.ensures ∙ none)) in
+    let a = has_first payloads (g.J.Journal.end c.args.log.now) (g.met.J.Journal.laws.ends c.args.log.now image payloads on)
+    (λ none. c.if-end-eq0.false (c.end.ensures ∙ none)) in
     let read = c.in_ok-payload.ensures.told told a.first (first_at g.J.Journal.stands c.args.log.now image payloads a on) in
     let r = record_view c.in-Ok-Some.entry in
     let spelled = subst (λ (p : List ℕ). Spelled p r) (c.as_slice.ensures ∙ read.0) turned.1 in
-    walks_first payloads a.others c.in_ok-payload.next a.first r (building_view c.in-Ok.building) a.is read.1 spelled c.in-Ok.ensures.began.0 c.in-Ok.ensures.began.1
+    walks_first payloads a.others c.in_ok-payload.next a.first r (building_view c.in-Ok.building) a.is read.1 spelled c.in-Ok.ensures.began.0
+    c.in-Ok.ensures.began.1
 
 pub returns-in-Ok-clause-told : goal.returns-in-Ok-clause-told
 returns-in-Ok-clause-told g c told payloads stands =
     let turned = subst (λ (o : Option code.Record). TurnOf c.as_slice.result.now o) c.in-Ok-Some.field-0-is c.in-Ok-Some.ensures in
     let image = g.D.Disk.seen c.args.disk.now in
-    let a = has_first payloads (g.J.Journal.end c.args.log.now) (g.met.J.Journal.laws.ends c.args.log.now image payloads stands) (λ none. c.if-end-eq0.false (c.end.ensures ∙ none)) in
+    let a = has_first payloads (g.J.Journal.end c.args.log.now) (g.met.J.Journal.laws.ends c.args.log.now image payloads stands)
+    (λ none. c.if-end-eq0.false (c.end.ensures ∙ none)) in
     let read = c.in_ok-payload.ensures.told told a.first (first_at g.J.Journal.stands c.args.log.now image payloads a stands) in
     let turn = subst IsTurn (c.as_slice.ensures ∙ read.0) turned.0 in
-    begins_anew payloads a turn c.take_front.result (c.take_front.ensures.told told payloads (subst (λ (i : Image). g.J.Journal.stands c.args.log.now i payloads) (sym c.entry.ensures.seen) stands))
+    begins_anew payloads a turn c.take_front.result (c.take_front.ensures.told told payloads
+    (subst (λ (i : Image). g.J.Journal.stands c.args.log.now i payloads) (sym c.entry.ensures.seen) stands))
 
 pub returns-in-Ok-clause-moments : goal.returns-in-Ok-clause-moments
-returns-in-Ok-clause-moments g c = then_same g.met.D.Disk.laws c.args.disk.now c.entry.new.disk c.take_front.new.disk (g.D.Disk.may_leave c.args.disk.now) c.entry.ensures.moments c.take_front.ensures.moments
+returns-in-Ok-clause-moments g c = then_same g.met.D.Disk.laws c.args.disk.now c.entry.new.disk c.take_front.new.disk (g.D.Disk.may_leave c.args.disk.now)
+    c.entry.ensures.moments c.take_front.ensures.moments
 
 pub returns-in-Err-NotSound-clause-told : goal.returns-in-Err-NotSound-clause-told
 returns-in-Err-NotSound-clause-told g c told payloads stands =
     let turned = subst (λ (o : Option code.Record). TurnOf c.as_slice.result.now o) c.in-Ok-Some.field-0-is c.in-Ok-Some.ensures in
     let image = g.D.Disk.seen c.args.disk.now in
-    let a = has_first payloads (g.J.Journal.end c.args.log.now) (g.met.J.Journal.laws.ends c.args.log.now image payloads stands) (λ none. c.if-end-eq0.false (c.end.ensures ∙ none)) in
+    let a = has_first payloads (g.J.Journal.end c.args.log.now) (g.met.J.Journal.laws.ends c.args.log.now image payloads stands)
+    (λ none. c.if-end-eq0.false (c.end.ensures ∙ none)) in
     let read = c.in_ok-payload.ensures.told told a.first (first_at g.J.Journal.stands c.args.log.now image payloads a stands) in
     let same = c.as_slice.ensures ∙ read.0 in
     let r = record_view c.in-Ok-Some.entry in

@@ -27,7 +27,9 @@ loop-at-init g c =
       regular = c.in_ok-device.ensures.regular;
       sound = c.in_ok-device.ensures.sound;
       ahead = subst (λ (o : Option Pending). IfSome o (λ q. at + 256 * left_of q ≤ at + 256 * 1283)) (sym idle) tt;
-      reached = λ told payloads stands. starts payloads c.end-end.result at at (device_view device) (c.end-end.ensures ∙ g.met.J.Journal.laws.ends c.args.log.now (g.D.Disk.seen c.args.disk.now) payloads stands) idle (c.in_ok-device.ensures.told told payloads stands);
+      reached = λ told payloads stands. starts payloads c.end-end.result at at (device_view device)
+          (c.end-end.ensures ∙ g.met.J.Journal.laws.ends c.args.log.now (g.D.Disk.seen c.args.disk.now) payloads stands) idle
+          (c.in_ok-device.ensures.told told payloads stands);
     }
 
 pub take_entry-requires-clause-place : goal.take_entry-requires-clause-place
@@ -37,7 +39,8 @@ take_entry-requires-clause-place g c told =
     let n = next c.requires.open.0 c.end-end.result c.loop-at.at c.loop-at.behind (device_view c.loop-at.device) r c.loop-at-test.true in (
       n.first,
       subst (λ (i : Image). IsEntryAt g.J.Journal.stands c.args.log.now i c.loop-at.at n.first) (sym c.loop-at.invariant.seen)
-          (entry_at g.J.Journal.stands c.args.log.now (g.D.Disk.seen c.args.disk.now) c.requires.open.0 c.end-end.result c.loop-at.at c.loop-at.behind (device_view c.loop-at.device) r n on),
+          (entry_at g.J.Journal.stands c.args.log.now (g.D.Disk.seen c.args.disk.now) c.requires.open.0 c.end-end.result c.loop-at.at c.loop-at.behind
+          (device_view c.loop-at.device) r n on),
     )
 
 pub returns-in_err-next-clause-told : goal.returns-in_err-next-clause-told
@@ -48,21 +51,25 @@ returns-in_err-next-clause-told g c told payloads stands =
     let place = subst (λ (i : Image). IsEntryAt g.J.Journal.stands c.args.log.now i c.loop-at.at n.first) (sym c.loop-at.invariant.seen)
     (entry_at g.J.Journal.stands c.args.log.now (g.D.Disk.seen c.args.disk.now) payloads c.end-end.result c.loop-at.at c.loop-at.behind d r n stands) in
     let p = err_from_is_err_and c.from_residual-in_err-next.result c.from_residual-in_err-next.ensures.1 in
-    rw (p.1, p.2) (fault_told payloads c.end-end.result c.loop-at.at c.loop-at.behind d (device_view c.take_entry.new.device) r n c.in_err-next.field-0.0 (c.in_err-next.ensures.told told n.first place))
+    rw (p.1, p.2) (fault_told payloads c.end-end.result c.loop-at.at c.loop-at.behind d (device_view c.take_entry.new.device) r n c.in_err-next.field-0.0
+    (c.in_err-next.ensures.told told n.first place))
 
 pub returns-in_err-next-clause-moments : goal.returns-in_err-next-clause-moments
 returns-in_err-next-clause-moments g c =
-    then_same g.met.D.Disk.laws c.args.disk.now c.loop-at.disk c.take_entry.new.disk (g.D.Disk.may_leave c.args.disk.now) c.loop-at.invariant.goes c.take_entry.ensures.moments
+    then_same g.met.D.Disk.laws c.args.disk.now c.loop-at.disk c.take_entry.new.disk (g.D.Disk.may_leave c.args.disk.now) c.loop-at.invariant.goes
+    c.take_entry.ensures.moments
 
 pub loop-at-preserved-then-not-was_pending : goal.loop-at-preserved-then-not-was_pending
 loop-at-preserved-then-not-was_pending g c =
     record {
-      goes = then_same g.met.D.Disk.laws c.args.disk.now c.loop-at.disk c.take_entry.new.disk (g.D.Disk.may_leave c.args.disk.now) c.loop-at.invariant.goes c.take_entry.ensures.moments;
+      goes = then_same g.met.D.Disk.laws c.args.disk.now c.loop-at.disk c.take_entry.new.disk (g.D.Disk.may_leave c.args.disk.now) c.loop-at.invariant.goes
+          c.take_entry.ensures.moments;
       seen = c.take_entry.ensures.seen ∙ c.loop-at.invariant.seen;
       faults = c.in_ok-next.ensures.quiet (λ h. cc) ∙ c.loop-at.invariant.faults;
       regular = c.take_entry.ensures.regular c.loop-at.invariant.regular;
       sound = c.take_entry.ensures.sound c.loop-at.invariant.sound;
-      ahead = first_ahead c.loop-at.at c.in_ok-next.next c.loop-at.device (device_view c.take_entry.new.device) (sym c.is_some-was_pending.ensures ∙ c.if-not-was_pending.true) (c.in_ok-next.ensures.room c.loop-at.invariant.sound);
+      ahead = first_ahead c.loop-at.at c.in_ok-next.next c.loop-at.device (device_view c.take_entry.new.device)
+          (sym c.is_some-was_pending.ensures ∙ c.if-not-was_pending.true) (c.in_ok-next.ensures.room c.loop-at.invariant.sound);
       reached = λ told payloads stands.
           let d = device_view c.loop-at.device in
           let r = c.loop-at.invariant.reached told payloads stands in
@@ -70,19 +77,22 @@ loop-at-preserved-then-not-was_pending g c =
           let place = subst (λ (i : Image). IsEntryAt g.J.Journal.stands c.args.log.now i c.loop-at.at n.first) (sym c.loop-at.invariant.seen)
           (entry_at g.J.Journal.stands c.args.log.now (g.D.Disk.seen c.args.disk.now) payloads c.end-end.result c.loop-at.at c.loop-at.behind d r n stands) in
           let took = c.in_ok-next.ensures.told told n.first place in
-          first_on payloads c.end-end.result c.loop-at.at c.loop-at.behind c.in_ok-next.next c.loop-at.device (device_view c.take_entry.new.device) r n took.1 took.0
+          first_on payloads c.end-end.result c.loop-at.at c.loop-at.behind c.in_ok-next.next c.loop-at.device (device_view c.take_entry.new.device) r n took.1
+          took.0
           (sym c.is_some-was_pending.ensures ∙ c.if-not-was_pending.true);
     }
 
 pub loop-at-preserved : goal.loop-at-preserved
 loop-at-preserved g c =
     record {
-      goes = then_same g.met.D.Disk.laws c.args.disk.now c.loop-at.disk c.take_entry.new.disk (g.D.Disk.may_leave c.args.disk.now) c.loop-at.invariant.goes c.take_entry.ensures.moments;
+      goes = then_same g.met.D.Disk.laws c.args.disk.now c.loop-at.disk c.take_entry.new.disk (g.D.Disk.may_leave c.args.disk.now) c.loop-at.invariant.goes
+          c.take_entry.ensures.moments;
       seen = c.take_entry.ensures.seen ∙ c.loop-at.invariant.seen;
       faults = c.in_ok-next.ensures.quiet (λ h. cc) ∙ c.loop-at.invariant.faults;
       regular = c.take_entry.ensures.regular c.loop-at.invariant.regular;
       sound = c.take_entry.ensures.sound c.loop-at.invariant.sound;
-      ahead = later_ahead c.loop-at.at c.in_ok-next.next c.loop-at.behind c.loop-at.device (device_view c.take_entry.new.device) (sym c.is_some-was_pending.ensures ∙ c.if-not-was_pending.false) c.loop-at.invariant.ahead (c.in_ok-next.ensures.room c.loop-at.invariant.sound);
+      ahead = later_ahead c.loop-at.at c.in_ok-next.next c.loop-at.behind c.loop-at.device (device_view c.take_entry.new.device)
+          (sym c.is_some-was_pending.ensures ∙ c.if-not-was_pending.false) c.loop-at.invariant.ahead (c.in_ok-next.ensures.room c.loop-at.invariant.sound);
       reached = λ told payloads stands.
           let d = device_view c.loop-at.device in
           let r = c.loop-at.invariant.reached told payloads stands in
@@ -90,7 +100,8 @@ loop-at-preserved g c =
           let place = subst (λ (i : Image). IsEntryAt g.J.Journal.stands c.args.log.now i c.loop-at.at n.first) (sym c.loop-at.invariant.seen)
           (entry_at g.J.Journal.stands c.args.log.now (g.D.Disk.seen c.args.disk.now) payloads c.end-end.result c.loop-at.at c.loop-at.behind d r n stands) in
           let took = c.in_ok-next.ensures.told told n.first place in
-          later_on payloads c.end-end.result c.loop-at.at c.loop-at.behind c.in_ok-next.next c.loop-at.device (device_view c.take_entry.new.device) r n took.1 took.0
+          later_on payloads c.end-end.result c.loop-at.at c.loop-at.behind c.in_ok-next.next c.loop-at.device (device_view c.take_entry.new.device) r n took.1
+          took.0
           (sym c.is_some-was_pending.ensures ∙ c.if-not-was_pending.false);
     }
 
@@ -108,4 +119,5 @@ pub returns-clause-room : goal.returns-clause-room
 returns-clause-room g c =
     let past = c.loop-at-test.false in
     let same = c.end-end.ensures in
-    ends_ahead (g.J.Journal.end c.args.log.now) c.loop-at.at c.loop-at.behind c.loop-at.device (omega (arith, past, same)) (sym c.lacks_room.ensures ∙ c.if-lacks_room.false) c.loop-at.invariant.ahead
+    ends_ahead (g.J.Journal.end c.args.log.now) c.loop-at.at c.loop-at.behind c.loop-at.device (omega (arith, past, same))
+    (sym c.lacks_room.ensures ∙ c.if-lacks_room.false) c.loop-at.invariant.ahead

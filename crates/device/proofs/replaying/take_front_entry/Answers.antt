@@ -7,7 +7,8 @@ use Rattle.device.proofs.replaying.take_front_entry.Goals as goal
 pub returns-in-Err-NotSound-clause-told : goal.returns-in-Err-NotSound-clause-told
 returns-in-Err-NotSound-clause-told g c told payload place =
     let read = c.in_ok-payload.ensures.told told payload place in
-    let refused = subst (λ f. CamePayload (building_view c.args.building.now) c.as_slice.result.now (building_view c.take_payload.new.self) (Err f)) c.in-Err-NotSound.field-0-is c.in-Err-NotSound.ensures.came in
+    let refused = subst (λ f. CamePayload (building_view c.args.building.now) c.as_slice.result.now (building_view c.take_payload.new.self) (Err f))
+    c.in-Err-NotSound.field-0-is c.in-Err-NotSound.ensures.came in
     (refl, λ r spelled may. refused r (subst (λ (p : List ℕ). Spelled p r) (sym (c.as_slice.ensures ∙ read.0)) spelled) may)
 
 pub returns-in-Ok-clause-told : goal.returns-in-Ok-clause-told

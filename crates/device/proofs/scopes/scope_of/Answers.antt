@@ -25,5 +25,6 @@ returns c =
     let is = subst (λ xs. x ≡ get_or xs at x) c.as_slice-items.ensures c.index-items-at.is in
     let there = there_is origin items at x c.requires.recipe is in
     IfOk-weaker c.scope_by.result (IsScopeBy origin recipe x c.as_slice-items.result.now) (IsScopeOf origin (map item_view items) at)
-    (λ scope s. scope_whole origin items at x recipe scope there c.requires.regular c.in_ok-recipe.ensures (subst (λ xs. IsScopeBy origin recipe x xs scope) c.as_slice-items.ensures s))
+    (λ scope s. scope_whole origin items at x recipe scope there c.requires.regular c.in_ok-recipe.ensures
+    (subst (λ xs. IsScopeBy origin recipe x xs scope) c.as_slice-items.ensures s))
     c.scope_by.ensures

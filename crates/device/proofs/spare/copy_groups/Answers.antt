@@ -11,6 +11,8 @@ loop-at-preserved c =
     let gs = c.args.groups.now.list in
     let i = c.loop-at.at in
     let g = c.in_ok-group.group in
-    let there : slice_get gs i ≡ Some g = sym c.nth.ensures ∙ ap (option_map (λ x. x.now)) c.unwrap.ensures ∙ ap (λ (x : Group). Some x) (sym c.in_ok-group.ensures) in
+    let there : slice_get gs i ≡ Some g = sym c.nth.ensures ∙ ap (option_map (λ x. x.now)) c.unwrap.ensures ∙ ap (λ (x : Group). Some x)
+    (sym c.in_ok-group.ensures) in
     let here = got gs i g there in
-    c.in_ok-join.ensures ∙ ap (λ (l : List Group). put_group l g) c.loop-at.invariant ∙ next_joins gs i g here.0 here.1 c.requires ∙ ap (λ (x : Group). take i gs ++ x ∷ []) here.1 ∙ sym (take_more gs i g here.0)
+    c.in_ok-join.ensures ∙ ap (λ (l : List Group). put_group l g) c.loop-at.invariant ∙ next_joins gs i g here.0 here.1 c.requires ∙ ap
+    (λ (x : Group). take i gs ++ x ∷ []) here.1 ∙ sym (take_more gs i g here.0)

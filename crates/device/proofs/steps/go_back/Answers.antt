@@ -21,8 +21,11 @@ returns-then-not-has_flag c =
     let names = c.as_slice.result.now in
     let flags = c.tell_backs.new.flags in
     let here : c.in_ok-is_modelled.is_modelled ≡ true = search rules in
-    let told = subst (TellBacks o.platform set names flags) here c.in_ok-is_modelled.ensures in
-    (no_backs c.args.origin.now o set (pending_view c.args.pending.now) c.args.name.now flags names c.in-Some.is c.as_slice.ensures told (λ some. false≢true (c.if-not-has_flag.ensures.1 some)), refl)
+    let told = subst (TellBacks o.platform set names flags) here c.in_ok-is_modelled.ensures in (
+      no_backs c.args.origin.now o set (pending_view c.args.pending.now) c.args.name.now flags names c.in-Some.is c.as_slice.ensures told
+          (λ some. false≢true (c.if-not-has_flag.ensures.1 some)),
+      refl,
+    )
 
 pub returns : goal.returns
 returns c =
@@ -32,5 +35,6 @@ returns c =
     let flags = c.tell_backs.new.flags in
     let here : c.in_ok-is_modelled.is_modelled ≡ true = search rules in
     let told = subst (TellBacks o.platform set names flags) here c.in_ok-is_modelled.ensures in
-    went_back c.args.origin.now o set (pending_view c.args.pending.now) (pending_view c.turn_back.new.pending) c.args.name.now flags names c.in-Some.is c.as_slice.ensures
+    went_back c.args.origin.now o set (pending_view c.args.pending.now) (pending_view c.turn_back.new.pending) c.args.name.now flags names c.in-Some.is
+    c.as_slice.ensures
     (c.if-not-may_break.ensures.0 refl) told (c.if-not-has_flag.ensures.0 refl) c.turn_back.ensures

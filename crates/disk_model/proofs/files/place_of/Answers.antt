@@ -16,8 +16,10 @@ returns-in_ok-push-clause-found c =
     let files = c.args.files.now.items in
     let named : file.name ≡ c.args.name.now = search rules in
     let end : c.find_place-i.result ≡ length files = omega arith in
-    let none : NoneBefore c.args.name.now c.find_place-i.result files = subst (λ (l : List File). NoneBefore c.args.name.now c.find_place-i.result l) c.deref.ensures.value c.find_place-i.ensures.before in
-    let first : IsFirst c.args.name.now c.find_place-i.result (files ++ file ∷ []) = first_push c.args.name.now c.find_place-i.result files file none end named in (
+    let none : NoneBefore c.args.name.now c.find_place-i.result files = subst (λ (l : List File). NoneBefore c.args.name.now c.find_place-i.result l)
+    c.deref.ensures.value c.find_place-i.ensures.before in
+    let first : IsFirst c.args.name.now c.find_place-i.result (files ++ file ∷ []) = first_push c.args.name.now c.find_place-i.result files file none end
+    named in (
       subst (λ (l : List File). IsFirst c.args.name.now c.find_place-i.result l) (sym c.in_ok-push.ensures.items) first,
       omega (arith, ap length c.in_ok-push.ensures.items, length-append files (file ∷ []), end),
     )

@@ -16,11 +16,13 @@ loop-call-preserved c =
     let fill = c.args.fill in
     let at = c.loop-call.call-index in
     let call : Call = c.call-item.result in
-    let more : take (at + 1) calls ≡ take at calls ++ call ∷ [] = take_more calls at call (omega arith) ∙ ap (λ (k : Call). take at calls ++ k ∷ []) (sym c.call-item.is) in
+    let more : take (at + 1) calls ≡ take at calls ++ call ∷ [] = take_more calls at call (omega arith) ∙ ap (λ (k : Call). take at calls ++ k ∷ [])
+    (sym c.call-item.is) in
     let seen : image_of c.loop-call.seen ≡ seen_after (take at calls) start = λ k n. (c.loop-call.invariant.reads n) k in
     let image : image_of c.loop-call.image ≡ picked_after fill (take at calls) start start = λ k n. (c.loop-call.invariant.picks n) k in
     record {
-      reads = λ n. c.in_ok-step_on.ensures n ∙ ap (λ (i : Image). seen_step call i n) seen ∙ ap (λ (i : Image). i n) (sym (seen-push (take at calls) call start))
+      reads = λ n. c.in_ok-step_on.ensures n ∙ ap (λ (i : Image). seen_step call i n) seen ∙ ap (λ (i : Image). i n)
+          (sym (seen-push (take at calls) call start))
           ∙ ap (λ (l : List Call). seen_after l start n) (sym more);
       picks = λ n. c.in_ok-pick_on.ensures n ∙ ap (λ (i : Image). picked_step fill call i (image_of c.loop-call.image) n) seen
           ∙ ap (λ (i : Image). picked_step fill call (seen_after (take at calls) start) i n) image
@@ -31,4 +33,5 @@ loop-call-preserved c =
 pub returns : goal.returns
 returns c n =
     c.loop-call.invariant.picks n
-    ∙ ap (λ (l : List Call). picked_after c.args.fill l (image_of c.args.start.now) (image_of c.args.start.now) n) (take_all c.loop-call.call-index c.args.calls.now (omega arith))
+    ∙ ap (λ (l : List Call). picked_after c.args.fill l (image_of c.args.start.now) (image_of c.args.start.now) n)
+    (take_all c.loop-call.call-index c.args.calls.now (omega arith))

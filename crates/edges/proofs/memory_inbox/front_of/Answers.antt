@@ -8,8 +8,10 @@ is_short (Ok front) bytes most is = subst (λ (l : List ℕ). length l ≤ most)
 is_short (Err e) bytes most is = tt
 
 pub returns-clause-front : goal.returns-clause-front
-returns-clause-front c = subst (λ (l : List ℕ). IfOk c.from_slice.result (λ front. front ≡ l)) (front_given c.args.bytes.now c.min-count.result _ c.min-count.ensures) c.from_slice.ensures
+returns-clause-front c = subst (λ (l : List ℕ). IfOk c.from_slice.result (λ front. front ≡ l))
+    (front_given c.args.bytes.now c.min-count.result _ c.min-count.ensures) c.from_slice.ensures
 
 pub returns-clause-short : goal.returns-clause-short
 returns-clause-short c =
-    is_short c.from_slice.result c.args.bytes.now _ (subst (λ (l : List ℕ). IfOk c.from_slice.result (λ front. front ≡ l)) (front_given c.args.bytes.now c.min-count.result _ c.min-count.ensures) c.from_slice.ensures)
+    is_short c.from_slice.result c.args.bytes.now _ (subst (λ (l : List ℕ). IfOk c.from_slice.result (λ front. front ≡ l))
+    (front_given c.args.bytes.now c.min-count.result _ c.min-count.ensures) c.from_slice.ensures)

@@ -5,19 +5,23 @@ use Rattle.histories.specs.Follows.{MayRun, MayBooted, MaySleep}
 use Rattle.histories.proofs.laws.causes.Goals as goal
 
 pub returns-clause-starts : goal.returns-clause-starts
-returns-clause-starts c = λ p h e k s n command is proper. (subst (λ x. MayRun (duty_of (state_after p h).device) (state_after p h) x k s) is proper.0.0.0).0.told
+returns-clause-starts c = λ p h e k s n command is proper. (subst (λ x. MayRun (duty_of (state_after p h).device) (state_after p h) x k s) is
+    proper.0.0.0).0.told
 
 pub returns-clause-boot_starts : goal.returns-clause-boot_starts
-returns-clause-boot_starts c = λ p h e m n command is proper. (subst (λ x. MayBooted (duty_of (state_after p h).device) (state_after p h) x m) is proper.0.0.0).0.told
+returns-clause-boot_starts c = λ p h e m n command is proper. (subst (λ x. MayBooted (duty_of (state_after p h).device) (state_after p h) x m) is
+    proper.0.0.0).0.told
 
 pub returns-clause-sleeps : goal.returns-clause-sleeps
 returns-clause-sleeps c = λ p h e limit is proper. (subst (λ x. MaySleep (duty_of (state_after p h).device) (state_after p h) x) is proper.0.0.0).quiet.told
 
 pub returns-clause-child_ends : goal.returns-clause-child_ends
-returns-clause-child_ends c = λ p h e k s n x limit is proper. (subst (λ y. MayRun (duty_of (state_after p h).device) (state_after p h) y k s) is proper.0.0.0).0.quiet.told
+returns-clause-child_ends c = λ p h e k s n x limit is proper. (subst (λ y. MayRun (duty_of (state_after p h).device) (state_after p h) y k s) is
+    proper.0.0.0).0.quiet.told
 
 pub returns-clause-boot_ends : goal.returns-clause-boot_ends
-returns-clause-boot_ends c = λ p h e m n x limit is proper. (subst (λ y. MayBooted (duty_of (state_after p h).device) (state_after p h) y m) is proper.0.0.0).0.quiet.told
+returns-clause-boot_ends c = λ p h e m n x limit is proper. (subst (λ y. MayBooted (duty_of (state_after p h).device) (state_after p h) y m) is
+    proper.0.0.0).0.quiet.told
 
 pub returns-clause-records : goal.returns-clause-records
 returns-clause-records c = λ p h name s e proper. proper.0.0

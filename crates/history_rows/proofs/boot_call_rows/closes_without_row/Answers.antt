@@ -3,4 +3,32 @@ use Rattle.history_rows.specs.BootCallRows.{item_b}
 use Rattle.history_rows.proofs.boot_call_rows.closes_without_row.Goals as goal
 
 pub returns-clause-boots : goal.returns-clause-boots
-returns-clause-boots c = λ o r command s. ((((record { phase = refl; begun = refl; origin = o; of_device = refl; at = 1; item = record item_b { recipe = r item_b }; there = refl; turn = refl; prepared = s; stopped = refl; told = refl; alone = refl; no_end = refl }, (refl, inl refl)), search rules), search rules, search rules), tt)
+returns-clause-boots c = λ o r command s. (
+  (
+    (
+      (
+        record {
+          phase = refl;
+          begun = refl;
+          origin = o;
+          of_device = refl;
+          at = 1;
+          item =
+              record item_b { recipe = r item_b };
+          there = refl;
+          turn = refl;
+          prepared = s;
+          stopped = refl;
+          told = refl;
+          alone = refl;
+          no_end = refl;
+        },
+        (refl, inl refl),
+      ),
+      search rules,
+    ),
+    search rules,
+    search rules,
+  ),
+  tt,
+)

@@ -3,4 +3,32 @@ use Rattle.history_rows.specs.BootCallRows.{item_a}
 use Rattle.history_rows.proofs.boot_call_rows.long_boot_row.Goals as goal
 
 pub returns-clause-starts : goal.returns-clause-starts
-returns-clause-starts c = λ o r command s. ((((record { phase = refl; begun = refl; origin = o; of_device = refl; at = 0; item = record item_a { recipe = r item_a }; there = refl; turn = refl; prepared = s; stopped = refl; told = refl; alone = refl; no_end = refl }, (refl, inl refl)), search rules), search rules, search rules), (search rules, tt))
+returns-clause-starts c = λ o r command s. (
+  (
+    (
+      (
+        record {
+          phase = refl;
+          begun = refl;
+          origin = o;
+          of_device = refl;
+          at = 0;
+          item =
+              record item_a { recipe = r item_a };
+          there = refl;
+          turn = refl;
+          prepared = s;
+          stopped = refl;
+          told = refl;
+          alone = refl;
+          no_end = refl;
+        },
+        (refl, inl refl),
+      ),
+      search rules,
+    ),
+    search rules,
+    search rules,
+  ),
+  (search rules, tt),
+)

@@ -19,7 +19,8 @@ returns-in_err-gathered-clause-gathered g c = λ l e.
     let few : length l.recipes ≤ most = omega arith in
     let so = c.loop-at.invariant.4 l e in
     let bytes = c.in_ok-bytes.ensures.told l (c.loop-at.invariant.0 ∙ e) in
-    stopped_gathered c.args.origin.now (map item_view c.args.kept.now) l.recipes i c.in_err-gathered.field-0.0 _ c.from_residual-in_err-gathered.ensures.1 few below so.0
+    stopped_gathered c.args.origin.now (map item_view c.args.kept.now) l.recipes i c.in_err-gathered.field-0.0 _ c.from_residual-in_err-gathered.ensures.1 few
+    below so.0
     (c.in_err-gathered.ensures.next (get_or l.recipes i []) (take i l.recipes) bytes so.1)
 
 pub loop-at-preserved : goal.loop-at-preserved
@@ -40,7 +41,8 @@ loop-at-preserved g c = (
       ),
   (
     c.loop-at.invariant.5.0 ++ c.in_ok-bytes.bytes ∷ [],
-    (c.in_ok-gathered.ensures.next c.in_ok-bytes.bytes c.loop-at.invariant.5.0 (sym (take_all most_given c.in_ok-bytes.bytes c.in_ok-bytes.ensures.short)) c.loop-at.invariant.5.1).1,
+    (c.in_ok-gathered.ensures.next c.in_ok-bytes.bytes c.loop-at.invariant.5.0 (sym (take_all most_given c.in_ok-bytes.bytes c.in_ok-bytes.ensures.short))
+        c.loop-at.invariant.5.1).1,
   ),
 )
 
@@ -79,7 +81,8 @@ returns-in_err-count-clause-quiet g c = λ other.
 
 pub returns-in_err-bytes-clause-quiet : goal.returns-in_err-bytes-clause-quiet
 returns-in_err-bytes-clause-quiet g c = λ other.
-    c.in_err-bytes.ensures.quiet (handed_quiet c.from_residual-in_err-bytes.result c.in_err-bytes.field-0.0 c.from_residual-in_err-bytes.ensures.1 other) ∙ c.loop-at.invariant.1
+    c.in_err-bytes.ensures.quiet (handed_quiet c.from_residual-in_err-bytes.result c.in_err-bytes.field-0.0 c.from_residual-in_err-bytes.ensures.1 other) ∙
+    c.loop-at.invariant.1
 
 pub returns-in_err-gathered-clause-quiet : goal.returns-in_err-gathered-clause-quiet
 returns-in_err-gathered-clause-quiet g c = λ other. c.in_ok-bytes.ensures.quiet (λ e. cc e) ∙ c.loop-at.invariant.1

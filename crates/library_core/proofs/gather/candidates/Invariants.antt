@@ -13,5 +13,6 @@ invariant-loop-at g l =
     × (g.L.Library.faults l.library ≡ g.L.Library.faults l.fn.library)
     × IfOk l.gathered (λ cs. length cs ≤ 129 + l.at)
     × IfErr l.gathered (λ f. f ≢ Library)
-    × ((c : Content) → g.L.Library.content l.fn.library ≡ Some c → All (Passes l.origin.platform) (take l.at c.recipes) × IsSoFar (own l.origin (map item_view l.kept)) l.origin.platform (take l.at c.recipes) l.gathered)
+    × ((c : Content) → g.L.Library.content l.fn.library ≡ Some c → All (Passes l.origin.platform) (take l.at c.recipes) ×
+    IsSoFar (own l.origin (map item_view l.kept)) l.origin.platform (take l.at c.recipes) l.gathered)
     × ((given : List (List ℕ)) × IsSoFar (own l.origin (map item_view l.kept)) l.origin.platform given l.gathered)

@@ -15,7 +15,8 @@ candidate_of-requires c =
     let items : List Item = c.as_slice-item-items.result.now in
     let i = c.loop-item.item-index in
     let below : i < length items = omega arith in
-    kept_at c.args.origin.now.platform (map item_view c.args.kept.now) (map item_view items) i (item_view c.item-item.result) (ap (map item_view) c.as_slice-item-items.ensures)
+    kept_at c.args.origin.now.platform (map item_view c.args.kept.now) (map item_view items) i (item_view c.item-item.result)
+    (ap (map item_view) c.as_slice-item-items.ensures)
     (seen_below items i below) (seen_at items i c.item-item.result below c.item-item.is) c.requires.read
 
 pub returns-in_err-keep-clause-so_far : goal.returns-in_err-keep-clause-so_far
@@ -26,8 +27,10 @@ returns-in_err-keep-clause-so_far c =
     let below : i < length items = omega arith in
     let f = c.in_err-keep.field-0.0 in
     handed_so (own o (map item_view c.args.kept.now)) o.platform [] _ f c.from_residual-in_err-keep.ensures.1
-    (own_clash o (map item_view c.args.kept.now) (map item_view items) i (item_view c.item-item.result) c.loop-item.candidates c.in_ok-candidate.candidate f (ap (map item_view) c.as_slice-item-items.ensures)
-    (seen_below items i below) (seen_at items i c.item-item.result below c.item-item.is) c.loop-item.invariant c.in_ok-candidate.ensures.source c.in_err-keep.ensures.refused)
+    (own_clash o (map item_view c.args.kept.now) (map item_view items) i (item_view c.item-item.result) c.loop-item.candidates c.in_ok-candidate.candidate f
+    (ap (map item_view) c.as_slice-item-items.ensures)
+    (seen_below items i below) (seen_at items i c.item-item.result below c.item-item.is) c.loop-item.invariant c.in_ok-candidate.ensures.source
+    c.in_err-keep.ensures.refused)
 
 pub loop-item-preserved : goal.loop-item-preserved
 loop-item-preserved c =
@@ -35,12 +38,15 @@ loop-item-preserved c =
     let items : List Item = c.as_slice-item-items.result.now in
     let i = c.loop-item.item-index in
     let below : i < length items = omega arith in
-    own_next o.nucleus o.platform (map item_view items) i (item_view c.item-item.result) c.loop-item.candidates c.keep.new.candidates c.in_ok-candidate.candidate
-    (seen_below items i below) (seen_at items i c.item-item.result below c.item-item.is) c.loop-item.invariant c.in_ok-keep.ensures.added c.in_ok-keep.ensures.rising c.in_ok-candidate.ensures.read c.in_ok-candidate.ensures.source
+    own_next o.nucleus o.platform (map item_view items) i (item_view c.item-item.result) c.loop-item.candidates c.keep.new.candidates
+    c.in_ok-candidate.candidate
+    (seen_below items i below) (seen_at items i c.item-item.result below c.item-item.is) c.loop-item.invariant c.in_ok-keep.ensures.added
+    c.in_ok-keep.ensures.rising c.in_ok-candidate.ensures.read c.in_ok-candidate.ensures.source
 
 pub returns-clause-so_far : goal.returns-clause-so_far
 returns-clause-so_far c =
     let o = c.args.origin.now in
     let items : List Item = c.as_slice-item-items.result.now in
     let past : length items ≤ c.loop-item.item-index = omega arith in
-    own_end o (map item_view c.args.kept.now) (map item_view items) c.loop-item.item-index c.loop-item.candidates (ap (map item_view) c.as_slice-item-items.ensures) (seen_past items c.loop-item.item-index past) c.loop-item.invariant
+    own_end o (map item_view c.args.kept.now) (map item_view items) c.loop-item.item-index c.loop-item.candidates
+    (ap (map item_view) c.as_slice-item-items.ensures) (seen_past items c.loop-item.item-index past) c.loop-item.invariant

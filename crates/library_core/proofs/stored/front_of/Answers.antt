@@ -14,5 +14,6 @@ pub returns-in-Ok-clause-told : goal.returns-in-Ok-clause-told
 returns-in-Ok-clause-told c =
     let r = c.index-recipes-at.result in
     let s = c.as_slice-bytes.result.now in
-    let there : s ≡ get_or c.args.recipes.now c.args.at [] = c.as_slice-bytes.ensures ∙ c.index-recipes-at.is ∙ get_or_default c.args.recipes.now c.args.at r [] c.requires in
+    let there : s ≡ get_or c.args.recipes.now c.args.at [] = c.as_slice-bytes.ensures ∙ c.index-recipes-at.is ∙ get_or_default c.args.recipes.now c.args.at
+    r [] c.requires in
     c.in-Ok.ensures ∙ front_given s c.min-count.result c.min-count.ensures ∙ ap (take most_given) there

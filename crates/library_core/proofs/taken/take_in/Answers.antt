@@ -20,10 +20,12 @@ returns-in-Ok-Some-clause-next c =
     )
 
 pub returns-in-Ok-Some-clause-few : goal.returns-in-Ok-Some-clause-few
-returns-in-Ok-Some-clause-few c = λ n few. joined_length (map item_view c.as_slice.result.now) c.in-Ok-Some.candidate c.args.gathered c.join.result n c.join.ensures few
+returns-in-Ok-Some-clause-few c = λ n few. joined_length (map item_view c.as_slice.result.now) c.in-Ok-Some.candidate c.args.gathered c.join.result n
+    c.join.ensures few
 
 pub returns-in-Ok-Some-clause-held : goal.returns-in-Ok-Some-clause-held
-returns-in-Ok-Some-clause-held c = λ held. joined_other (map item_view c.as_slice.result.now) c.in-Ok-Some.candidate c.args.gathered c.join.result c.join.ensures held
+returns-in-Ok-Some-clause-held c = λ held. joined_other (map item_view c.as_slice.result.now) c.in-Ok-Some.candidate c.args.gathered c.join.result
+    c.join.ensures held
 
 pub returns-in-Ok-None-clause-next : goal.returns-in-Ok-None-clause-next
 returns-in-Ok-None-clause-next c =

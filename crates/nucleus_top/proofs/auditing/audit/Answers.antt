@@ -16,18 +16,22 @@ pub returns-in-Ok-clause-comes : goal.returns-in-Ok-clause-comes
 returns-in-Ok-clause-comes g c =
     let store : Store = store_of g.D.Disk.is_modelled g.D.Disk.seen g.D.Disk.faults c.args.disk.now c.compare_stored.new.disk in
     let d = loaded_device c.in-Ok.state in
-    found_audits store d c.compare_stored.result (subst (λ (s : Image). Compares g.D.Disk.is_modelled s d c.compare_stored.result) c.open.ensures.seen c.compare_stored.ensures.comes)
+    found_audits store d c.compare_stored.result (subst (λ (s : Image). Compares g.D.Disk.is_modelled s d c.compare_stored.result) c.open.ensures.seen
+    c.compare_stored.ensures.comes)
     (c.compare_stored.ensures.seen ∙ c.open.ensures.seen)
-    (λ is. let rose : Rose (g.D.Disk.faults c.args.disk.now) (g.D.Disk.faults c.compare_stored.new.disk) = omega (arith, c.compare_stored.ensures.cause is, c.open.ensures.later) in rose)
+    (λ is. let rose : Rose (g.D.Disk.faults c.args.disk.now) (g.D.Disk.faults c.compare_stored.new.disk) =
+    omega (arith, c.compare_stored.ensures.cause is, c.open.ensures.later) in rose)
     c.in-Ok.ensures.told
 
 pub returns-in-Ok-clause-moments : goal.returns-in-Ok-clause-moments
 returns-in-Ok-clause-moments g c =
-    then_same g.met.D.Disk.laws c.args.disk.now c.open.new.disk c.compare_stored.new.disk (g.D.Disk.may_leave c.args.disk.now) c.open.ensures.moments c.compare_stored.ensures.moments
+    then_same g.met.D.Disk.laws c.args.disk.now c.open.new.disk c.compare_stored.new.disk (g.D.Disk.may_leave c.args.disk.now) c.open.ensures.moments
+    c.compare_stored.ensures.moments
 
 pub returns-in-Ok-clause-keeps : goal.returns-in-Ok-clause-keeps
 returns-in-Ok-clause-keeps g c = λ done.
-    settled_on g.met.D.Disk.laws slots_files c.open.new.disk c.compare_stored.new.disk c.compare_stored.ensures.moments c.compare_stored.ensures.seen (c.in-Ok.ensures.settled (λ is. cc))
+    settled_on g.met.D.Disk.laws slots_files c.open.new.disk c.compare_stored.new.disk c.compare_stored.ensures.moments c.compare_stored.ensures.seen
+    (c.in-Ok.ensures.settled (λ is. cc))
 
 pub returns-in-Ok-clause-seen : goal.returns-in-Ok-clause-seen
 returns-in-Ok-clause-seen g c = c.compare_stored.ensures.seen ∙ c.open.ensures.seen
@@ -41,7 +45,8 @@ returns-in-Ok-clause-later g c = omega (arith, c.open.ensures.later, c.compare_s
 pub returns-in-Err-clause-comes : goal.returns-in-Err-clause-comes
 returns-in-Err-clause-comes g c =
     let store : Store = store_of g.D.Disk.is_modelled g.D.Disk.seen g.D.Disk.faults c.args.disk.now c.open.new.disk in
-    refused_audits store c.refused.result (refuses store c.in-Err.fault c.refused.result c.refused.ensures c.open.ensures.seen c.in-Err.ensures.told (λ is. c.in-Err.ensures.cause (ap Err is)))
+    refused_audits store c.refused.result (refuses store c.in-Err.fault c.refused.result c.refused.ensures c.open.ensures.seen c.in-Err.ensures.told
+    (λ is. c.in-Err.ensures.cause (ap Err is)))
 
 pub returns-in-Err-clause-moments : goal.returns-in-Err-clause-moments
 returns-in-Err-clause-moments g c = c.open.ensures.moments

@@ -33,11 +33,13 @@ pub returns-in-Ok-clause-none : goal.returns-in-Ok-clause-none
 returns-in-Ok-clause-none g c = c.deploy_read.ensures.none
 
 pub returns-in-Ok-clause-others : goal.returns-in-Ok-clause-others
-returns-in-Ok-clause-others g c = λ told name apart outside. c.deploy_read.ensures.others told name apart outside ∙ c.open_idle.ensures.others told name apart outside
+returns-in-Ok-clause-others g c = λ told name apart outside. c.deploy_read.ensures.others told name apart outside ∙ c.open_idle.ensures.others told name apart
+    outside
 
 pub returns-in-Ok-clause-disk : goal.returns-in-Ok-clause-disk
 returns-in-Ok-clause-disk g c = λ is.
-    let rose : Rose (g.D.Disk.faults c.args.disk.now) (g.D.Disk.faults c.deploy_read.new.disk) = omega (arith, c.deploy_read.ensures.disk is, c.open_idle.ensures.later) in rose
+    let rose : Rose (g.D.Disk.faults c.args.disk.now) (g.D.Disk.faults c.deploy_read.new.disk) =
+    omega (arith, c.deploy_read.ensures.disk is, c.open_idle.ensures.later) in rose
 
 pub returns-in-Ok-clause-quiet_disk : goal.returns-in-Ok-clause-quiet_disk
 returns-in-Ok-clause-quiet_disk g c = λ other more. c.deploy_read.ensures.quiet_disk other more ∙ c.in-Ok.ensures.quiet (λ is. cc)
@@ -46,8 +48,11 @@ pub returns-in-Ok-clause-quiet_sink : goal.returns-in-Ok-clause-quiet_sink
 returns-in-Ok-clause-quiet_sink g c = c.deploy_read.ensures.quiet_sink
 
 pub returns-in-Ok-clause-later : goal.returns-in-Ok-clause-later
-returns-in-Ok-clause-later g c =
-    (stays_on (g.D.Disk.faults c.args.disk.now) (g.D.Disk.faults c.open_idle.new.disk) (g.D.Disk.faults c.deploy_read.new.disk) c.open_idle.ensures.later c.deploy_read.ensures.later.0, c.deploy_read.ensures.later.1)
+returns-in-Ok-clause-later g c = (
+  stays_on (g.D.Disk.faults c.args.disk.now) (g.D.Disk.faults c.open_idle.new.disk) (g.D.Disk.faults c.deploy_read.new.disk) c.open_idle.ensures.later
+      c.deploy_read.ensures.later.0,
+  c.deploy_read.ensures.later.1,
+)
 
 pub returns-in-Ok-clause-library : goal.returns-in-Ok-clause-library
 returns-in-Ok-clause-library g c = c.deploy_read.ensures.library
@@ -87,31 +92,43 @@ returns-in-Err-clause-others g c = c.open_idle.ensures.others
 pub returns-in-Err-clause-disk : goal.returns-in-Err-clause-disk
 returns-in-Err-clause-disk g c = λ is.
     let printed : Printed = printed_of g.K.Sink.held g.K.Sink.faults c.args.sink.now c.tell-status.new.sink in
-    c.in-Err.ensures.disk (ap Err ((is_modelled printed c.tell-status.result c.in-Err.answer (idle_refusal (store_of g.D.Disk.is_modelled g.D.Disk.seen g.D.Disk.faults c.args.disk.now c.open_idle.new.disk) c.in-Err.answer c.in-Err.ensures.answers) c.tell-status.ensures.told).disk is))
+    c.in-Err.ensures.disk (ap Err ((is_modelled printed c.tell-status.result c.in-Err.answer
+    (idle_refusal (store_of g.D.Disk.is_modelled g.D.Disk.seen g.D.Disk.faults c.args.disk.now c.open_idle.new.disk) c.in-Err.answer
+    c.in-Err.ensures.answers) c.tell-status.ensures.told).disk is))
 
 pub returns-in-Err-clause-quiet_disk : goal.returns-in-Err-clause-quiet_disk
 returns-in-Err-clause-quiet_disk g c = λ other more.
     let printed : Printed = printed_of g.K.Sink.held g.K.Sink.faults c.args.sink.now c.tell-status.new.sink in
-    c.in-Err.ensures.quiet (λ is. (is_modelled printed c.tell-status.result c.in-Err.answer (idle_refusal (store_of g.D.Disk.is_modelled g.D.Disk.seen g.D.Disk.faults c.args.disk.now c.open_idle.new.disk) c.in-Err.answer c.in-Err.ensures.answers) c.tell-status.ensures.told).quiet other more (cc))
+    c.in-Err.ensures.quiet (λ is. (is_modelled printed c.tell-status.result c.in-Err.answer
+    (idle_refusal (store_of g.D.Disk.is_modelled g.D.Disk.seen g.D.Disk.faults c.args.disk.now c.open_idle.new.disk) c.in-Err.answer
+    c.in-Err.ensures.answers) c.tell-status.ensures.told).quiet other more (cc))
 
 pub returns-in-Err-clause-quiet_sink : goal.returns-in-Err-clause-quiet_sink
 returns-in-Err-clause-quiet_sink g c =
     let printed : Printed = printed_of g.K.Sink.held g.K.Sink.faults c.args.sink.now c.tell-status.new.sink in
-    (is_modelled printed c.tell-status.result c.in-Err.answer (idle_refusal (store_of g.D.Disk.is_modelled g.D.Disk.seen g.D.Disk.faults c.args.disk.now c.open_idle.new.disk) c.in-Err.answer c.in-Err.ensures.answers) c.tell-status.ensures.told).quiet_sink
+    (is_modelled printed c.tell-status.result c.in-Err.answer
+    (idle_refusal (store_of g.D.Disk.is_modelled g.D.Disk.seen g.D.Disk.faults c.args.disk.now c.open_idle.new.disk) c.in-Err.answer
+    c.in-Err.ensures.answers) c.tell-status.ensures.told).quiet_sink
 
 pub returns-in-Err-clause-library : goal.returns-in-Err-clause-library
 returns-in-Err-clause-library g c = λ is.
     let printed : Printed = printed_of g.K.Sink.held g.K.Sink.faults c.args.sink.now c.tell-status.new.sink in
-    absurd ((is_modelled printed c.tell-status.result c.in-Err.answer (idle_refusal (store_of g.D.Disk.is_modelled g.D.Disk.seen g.D.Disk.faults c.args.disk.now c.open_idle.new.disk) c.in-Err.answer c.in-Err.ensures.answers) c.tell-status.ensures.told).library is)
+    absurd ((is_modelled printed c.tell-status.result c.in-Err.answer
+    (idle_refusal (store_of g.D.Disk.is_modelled g.D.Disk.seen g.D.Disk.faults c.args.disk.now c.open_idle.new.disk) c.in-Err.answer
+    c.in-Err.ensures.answers) c.tell-status.ensures.told).library is)
 
 pub returns-in-Err-clause-edge : goal.returns-in-Err-clause-edge
 returns-in-Err-clause-edge g c = λ is.
     let printed : Printed = printed_of g.K.Sink.held g.K.Sink.faults c.args.sink.now c.tell-status.new.sink in
-    inr ((is_modelled printed c.tell-status.result c.in-Err.answer (idle_refusal (store_of g.D.Disk.is_modelled g.D.Disk.seen g.D.Disk.faults c.args.disk.now c.open_idle.new.disk) c.in-Err.answer c.in-Err.ensures.answers) c.tell-status.ensures.told).edge is)
+    inr ((is_modelled printed c.tell-status.result c.in-Err.answer
+    (idle_refusal (store_of g.D.Disk.is_modelled g.D.Disk.seen g.D.Disk.faults c.args.disk.now c.open_idle.new.disk) c.in-Err.answer
+    c.in-Err.ensures.answers) c.tell-status.ensures.told).edge is)
 
 pub returns-in-Err-clause-later : goal.returns-in-Err-clause-later
-returns-in-Err-clause-later g c =
-    (stays (g.D.Disk.faults c.args.disk.now) (g.D.Disk.faults c.open_idle.new.disk) c.open_idle.ensures.later, stays (g.K.Sink.faults c.args.sink.now) (g.K.Sink.faults c.tell-status.new.sink) c.tell-status.ensures.later)
+returns-in-Err-clause-later g c = (
+  stays (g.D.Disk.faults c.args.disk.now) (g.D.Disk.faults c.open_idle.new.disk) c.open_idle.ensures.later,
+  stays (g.K.Sink.faults c.args.sink.now) (g.K.Sink.faults c.tell-status.new.sink) c.tell-status.ensures.later,
+)
 
 -- ---- no stray file is left behind a close
 
@@ -122,7 +139,8 @@ pub returns-in-Err-clause-swept : goal.returns-in-Err-clause-swept
 returns-in-Err-clause-swept g c =
     let printed : Printed = printed_of g.K.Sink.held g.K.Sink.faults c.args.sink.now c.tell-status.new.sink in
     told_sweeps g.D.Disk.is_modelled printed c.tell-status.result (g.D.Disk.seen c.open_idle.new.disk) c.in-Err.answer
-    (idle_refusal (store_of g.D.Disk.is_modelled g.D.Disk.seen g.D.Disk.faults c.args.disk.now c.open_idle.new.disk) c.in-Err.answer c.in-Err.ensures.answers) c.tell-status.ensures.told
+    (idle_refusal (store_of g.D.Disk.is_modelled g.D.Disk.seen g.D.Disk.faults c.args.disk.now c.open_idle.new.disk) c.in-Err.answer c.in-Err.ensures.answers)
+    c.tell-status.ensures.told
 
 -- ---- what is read of the source
 

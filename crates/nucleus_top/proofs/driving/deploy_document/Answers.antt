@@ -24,15 +24,20 @@ run_document-requires-clause-empty g c = ap (λ (w : Components). w.parts) c.new
 
 pub run_document-requires-clause-placed : goal.run_document-requires-clause-placed
 run_document-requires-clause-placed g c =
-    let told = Listed g.R.Runner.list g.R.Runner.told g.R.Runner.asked c.args.runner.now in
-    (begun (idle_device c.args.idle) told, open_begun (idle_device c.args.idle) c.new-supervisor.result told (g.R.Runner.living c.args.runner.now) c.new-supervisor.ensures c.requires.none c.requires.held.1, refl)
+    let told = Listed g.R.Runner.list g.R.Runner.told g.R.Runner.asked c.args.runner.now in (
+      begun (idle_device c.args.idle) told,
+      open_begun (idle_device c.args.idle) c.new-supervisor.result told (g.R.Runner.living c.args.runner.now)
+          c.new-supervisor.ensures c.requires.none c.requires.held.1,
+      refl,
+    )
 
 pub returns-clause-driven : goal.returns-clause-driven
 returns-clause-driven g c =
     let told = Listed g.R.Runner.list g.R.Runner.told g.R.Runner.asked c.args.runner.now in
     let d = idle_device c.args.idle in
     let place = begun d told in
-    let run = c.run_document.ensures.call place (open_begun d c.new-supervisor.result told (g.R.Runner.living c.args.runner.now) c.new-supervisor.ensures c.requires.none c.requires.held.1) refl in
+    let run = c.run_document.ensures.call place (open_begun d c.new-supervisor.result told (g.R.Runner.living c.args.runner.now) c.new-supervisor.ensures
+    c.requires.none c.requires.held.1) refl in
     let origin = some_of d.origin c.requires.held.0.origin in
     record {
       place = place;
@@ -50,14 +55,19 @@ returns-clause-driven g c =
       disk_cause = run.5;
       library_cause = run.6;
       images = kept_fronts g.met.D.Disk.laws (slots_elsewhere c.needed_files_stay.ensures.journals) c.args.disk.now c.run_document.new.disk
-          (g.R.Runner.list c.args.runner.now) (g.R.Runner.list c.run_document.new.runner) (g.K.Sink.held c.args.sink.now) (g.K.Sink.held c.run_document.new.sink) place c.run_document.result
+          (g.R.Runner.list c.args.runner.now) (g.R.Runner.list c.run_document.new.runner) (g.K.Sink.held c.args.sink.now)
+          (g.K.Sink.held c.run_document.new.sink) place c.run_document.result
           (held_stands g.met.D.Disk.laws c.args.idle.log c.args.disk.now d c.requires.held.0) run.2.0;
-      whole = held_whole g.met.D.Disk.laws c.args.disk.now c.run_document.new.disk d (records_of run.2.0.history) (held_stands g.met.D.Disk.laws c.args.idle.log c.args.disk.now d c.requires.held.0) run.3;
+      whole = held_whole g.met.D.Disk.laws c.args.disk.now c.run_document.new.disk d (records_of run.2.0.history)
+          (held_stands g.met.D.Disk.laws c.args.idle.log c.args.disk.now d c.requires.held.0) run.3;
       met = brought_stay_met d (records_of run.2.0.history)
-          (deployed_brings c.plans_are_met.ensures d origin.0 (g.L.Library.content c.args.library.now) (g.L.Library.faults c.args.library.now) (g.L.Library.faults c.run_document.new.library)
-          c.args.document.now c.requires.held.0.sound (slots_start c.args.idle.log d) run.2.0.ending (records_of run.2.0.history) run.0 (run.1 origin.0 origin.1) run.2.1);
+          (deployed_brings c.plans_are_met.ensures d origin.0 (g.L.Library.content c.args.library.now) (g.L.Library.faults c.args.library.now)
+          (g.L.Library.faults c.run_document.new.library)
+          c.args.document.now c.requires.held.0.sound (slots_start c.args.idle.log d) run.2.0.ending (records_of run.2.0.history) run.0
+          (run.1 origin.0 origin.1) run.2.1);
       lasts = call_lasts g.D.Disk.may_leave g.D.Disk.moment g.D.Disk.left_since c.args.disk.now c.run_document.new.disk
-          (g.R.Runner.list c.args.runner.now) (g.R.Runner.list c.run_document.new.runner) (g.K.Sink.held c.args.sink.now) (g.K.Sink.held c.run_document.new.sink) place c.run_document.result run.2.0;
+          (g.R.Runner.list c.args.runner.now) (g.R.Runner.list c.run_document.new.runner) (g.K.Sink.held c.args.sink.now)
+          (g.K.Sink.held c.run_document.new.sink) place c.run_document.result run.2.0;
     }
 
 pub returns-clause-none : goal.returns-clause-none

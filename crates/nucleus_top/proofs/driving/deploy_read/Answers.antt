@@ -28,7 +28,8 @@ returns-in-Ok-clause-ran g c =
     (g.R.Runner.list c.args.runner.now) (g.R.Runner.list c.deploy_document.new.runner) printed c.deploy_document.result d start input library
     (c.in-Ok.ensures.quiet (λ is. cc)) c.in-Ok.bytes c.in-Ok.ensures.bytes
     (subst (λ (bytes : List ℕ). IsDeployedOn g.D.Disk.may_leave g.D.Disk.moment g.D.Disk.left_since g.D.Disk.faults c.args.disk.now c.deploy_document.new.disk
-    (g.R.Runner.list c.args.runner.now) (g.R.Runner.list c.deploy_document.new.runner) printed c.deploy_document.result d start library bytes) c.as_slice.ensures c.deploy_document.ensures.driven))
+    (g.R.Runner.list c.args.runner.now) (g.R.Runner.list c.deploy_document.new.runner) printed c.deploy_document.result d start library bytes)
+    c.as_slice.ensures c.deploy_document.ensures.driven))
 
 pub returns-in-Ok-clause-none : goal.returns-in-Ok-clause-none
 returns-in-Ok-clause-none g c = c.deploy_document.ensures.none
@@ -96,16 +97,20 @@ returns-in-Err-clause-library g c = λ is.
 pub returns-in-Err-clause-edge : goal.returns-in-Err-clause-edge
 returns-in-Err-clause-edge g c = λ is.
     let printed : Printed = printed_of g.K.Sink.held g.K.Sink.faults c.args.sink.now c.tell-status.new.sink in
-    first_by (λ same. c.in-Err.ensures.cause (ap Err same)) ((tells_none printed c.tell-status.result c.in-Err.fault c.unread-answer.result c.unread-answer.ensures c.tell-status.ensures.told).edge is)
+    first_by (λ same. c.in-Err.ensures.cause (ap Err same)) ((tells_none printed c.tell-status.result c.in-Err.fault c.unread-answer.result
+    c.unread-answer.ensures c.tell-status.ensures.told).edge is)
 
 pub returns-in-Err-clause-quiet_source : goal.returns-in-Err-clause-quiet_source
 returns-in-Err-clause-quiet_source g c = λ other.
     let printed : Printed = printed_of g.K.Sink.held g.K.Sink.faults c.args.sink.now c.tell-status.new.sink in
-    c.in-Err.ensures.quiet (λ is. (tells_none printed c.tell-status.result c.in-Err.fault c.unread-answer.result c.unread-answer.ensures c.tell-status.ensures.told).quiet other (cc))
+    c.in-Err.ensures.quiet (λ is. (tells_none printed c.tell-status.result c.in-Err.fault c.unread-answer.result c.unread-answer.ensures
+    c.tell-status.ensures.told).quiet other (cc))
 
 pub returns-in-Err-clause-later : goal.returns-in-Err-clause-later
-returns-in-Err-clause-later g c =
-    (stays (g.D.Disk.faults c.args.disk.now) (g.D.Disk.faults c.args.disk.now) (omega arith), stays (g.K.Sink.faults c.args.sink.now) (g.K.Sink.faults c.tell-status.new.sink) c.tell-status.ensures.later)
+returns-in-Err-clause-later g c = (
+  stays (g.D.Disk.faults c.args.disk.now) (g.D.Disk.faults c.args.disk.now) (omega arith),
+  stays (g.K.Sink.faults c.args.sink.now) (g.K.Sink.faults c.tell-status.new.sink) c.tell-status.ensures.later,
+)
 
 -- ---- no stray file is left behind a close
 
@@ -115,4 +120,5 @@ returns-in-Ok-clause-swept g c = c.deploy_document.ensures.swept
 pub returns-in-Err-clause-swept : goal.returns-in-Err-clause-swept
 returns-in-Err-clause-swept g c =
     let d = idle_device c.args.idle in
-    none_closes g.met.D.Disk.laws slots_laws c.args.disk.now d c.tell-status.result (held_stands g.met.D.Disk.laws c.args.idle.log c.args.disk.now d c.requires.held.0)
+    none_closes g.met.D.Disk.laws slots_laws c.args.disk.now d c.tell-status.result
+    (held_stands g.met.D.Disk.laws c.args.idle.log c.args.disk.now d c.requires.held.0)

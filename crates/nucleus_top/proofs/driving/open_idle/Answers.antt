@@ -16,16 +16,19 @@ use Rattle.nucleus_top.proofs.driving.open_idle.Goals as goal
 
 pub returns-in-Ok-clause-opened : goal.returns-in-Ok-clause-opened
 returns-in-Ok-clause-opened g c = λ told.
-    idle_ok (λ (s : Loaded Slots). HasEntry (g.D.Disk.seen c.args.disk.now) × Stands (g.D.Disk.seen c.args.disk.now) (loaded_device s)) (λ (s : Idle Slots). loaded.Idle s) c.in-Ok.state c.idle_of.result c.idle_of.ensures.idle (c.in-Ok.ensures.opened told)
+    idle_ok (λ (s : Loaded Slots). HasEntry (g.D.Disk.seen c.args.disk.now) × Stands (g.D.Disk.seen c.args.disk.now) (loaded_device s))
+    (λ (s : Idle Slots). loaded.Idle s) c.in-Ok.state c.idle_of.result c.idle_of.ensures.idle (c.in-Ok.ensures.opened told)
 
 pub returns-in-Ok-clause-start : goal.returns-in-Ok-clause-start
 returns-in-Ok-clause-start g c = λ told.
-    ok_by (λ (s : Idle Slots). c.in-Ok.state ≡ loaded.Idle s) (λ (s : Idle Slots). StartsFrom (g.D.Disk.seen c.args.disk.now) (idle_device s) (slots_start s.log (idle_device s))) c.idle_of.result
+    ok_by (λ (s : Idle Slots). c.in-Ok.state ≡ loaded.Idle s) (λ (s : Idle Slots). StartsFrom (g.D.Disk.seen c.args.disk.now) (idle_device s)
+    (slots_start s.log (idle_device s))) c.idle_of.result
     c.idle_of.ensures.idle (λ s is. c.in-Ok.ensures.start told s is)
 
 pub returns-in-Ok-clause-held : goal.returns-in-Ok-clause-held
 returns-in-Ok-clause-held g c =
-    idle_ok (λ (s : Loaded Slots). OwnsLoaded g.D.Disk.is_modelled g.D.Disk.may_leave slots_stands (λ (log : Slots). log.live.end) s c.open_swept.new.disk) (λ (s : Idle Slots). loaded.Idle s) c.in-Ok.state c.idle_of.result
+    idle_ok (λ (s : Loaded Slots). OwnsLoaded g.D.Disk.is_modelled g.D.Disk.may_leave slots_stands (λ (log : Slots). log.live.end) s c.open_swept.new.disk)
+    (λ (s : Idle Slots). loaded.Idle s) c.in-Ok.state c.idle_of.result
     c.idle_of.ensures.idle c.in-Ok.ensures.held
 
 pub returns-in-Ok-clause-images : goal.returns-in-Ok-clause-images
@@ -48,7 +51,8 @@ returns-in-Ok-clause-others g c = c.open_swept.ensures.others
 
 pub returns-in-Ok-clause-clean : goal.returns-in-Ok-clause-clean
 returns-in-Ok-clause-clean g c = λ told.
-    idle_ok (λ (s : Loaded Slots). IsSwept (items_of (loaded_device s)) (g.D.Disk.seen c.open_swept.new.disk)) (λ (s : Idle Slots). loaded.Idle s) c.in-Ok.state c.idle_of.result c.idle_of.ensures.idle (c.in-Ok.ensures.clean told)
+    idle_ok (λ (s : Loaded Slots). IsSwept (items_of (loaded_device s)) (g.D.Disk.seen c.open_swept.new.disk)) (λ (s : Idle Slots). loaded.Idle s)
+    c.in-Ok.state c.idle_of.result c.idle_of.ensures.idle (c.in-Ok.ensures.clean told)
 
 pub returns-in-Ok-clause-disk : goal.returns-in-Ok-clause-disk
 returns-in-Ok-clause-disk g c = λ is. absurd (pending_no_disk (loaded_device c.in-Ok.state) c.idle_of.result c.idle_of.ensures.answers is)

@@ -13,28 +13,34 @@ use Rattle.nucleus_top.specs.Answers.{Store, store_of}
 use Rattle.nucleus_top.specs.Drives.{StartsFrom, slots_start}
 use Rattle.nucleus_top.specs.Opening.{HasEntry, Stands}
 use Rattle.nucleus_top.proofs.Crashes.{opened_same, opened_says, same_left}
-use Rattle.nucleus_top.proofs.Driven.{disk_of, kept_ok, loaded_stays, refused_withholds, same_spared, slots_elsewhere, start_spared, starts_from, then_spared, unswept_withholds}
+use Rattle.nucleus_top.proofs.Driven.{disk_of, kept_ok, loaded_stays, refused_withholds, same_spared, slots_elsewhere, start_spared, starts_from, then_spared}
+use Rattle.nucleus_top.proofs.Driven.{unswept_withholds}
 use Rattle.nucleus_top.proofs.Faults.{other_fault, refuses}
 use Rattle.nucleus_top.proofs.Whole.{opened_whole, same_kept}
 use Rattle.nucleus_top.proofs.driving.open_swept.Goals as goal
 
 pub returns-in-Ok-clause-opened : goal.returns-in-Ok-clause-opened
 returns-in-Ok-clause-opened g c = λ told.
-    kept_ok (λ (s : Loaded Slots). HasEntry (g.D.Disk.seen c.args.disk.now) × Stands (g.D.Disk.seen c.args.disk.now) (loaded_device s)) c.in-Ok.state c.swept.result c.swept.ensures.kept (c.in-Ok.ensures.told told)
+    kept_ok (λ (s : Loaded Slots). HasEntry (g.D.Disk.seen c.args.disk.now) × Stands (g.D.Disk.seen c.args.disk.now) (loaded_device s)) c.in-Ok.state
+    c.swept.result c.swept.ensures.kept (c.in-Ok.ensures.told told)
 
 pub returns-in-Ok-clause-start : goal.returns-in-Ok-clause-start
 returns-in-Ok-clause-start g c = λ told.
-    kept_ok (λ (s : Loaded Slots). (idle : Idle Slots) → s ≡ loaded.Idle idle → StartsFrom (g.D.Disk.seen c.args.disk.now) (idle_device idle) (slots_start idle.log (idle_device idle))) c.in-Ok.state c.swept.result c.swept.ensures.kept
+    kept_ok (λ (s : Loaded Slots). (idle : Idle Slots) → s ≡ loaded.Idle idle → StartsFrom (g.D.Disk.seen c.args.disk.now) (idle_device idle)
+    (slots_start idle.log (idle_device idle))) c.in-Ok.state c.swept.result c.swept.ensures.kept
     (λ idle is. subst (λ (image : Image). StartsFrom image (idle_device idle) (slots_start idle.log (idle_device idle))) c.open.ensures.seen
     (starts_from idle c.open.new.disk (g.D.Disk.seen c.open.new.disk)
-    (subst (λ (s : Loaded Slots). OwnsLoaded g.D.Disk.is_modelled g.D.Disk.may_leave slots_stands (λ (log : Slots). log.live.end) s c.open.new.disk) is c.in-Ok.ensures.held)
+    (subst (λ (s : Loaded Slots). OwnsLoaded g.D.Disk.is_modelled g.D.Disk.may_leave slots_stands (λ (log : Slots). log.live.end) s c.open.new.disk) is
+    c.in-Ok.ensures.held)
     (g.met.D.Disk.laws.reads c.open.new.disk told)
     (subst HasEntry (sym c.open.ensures.seen) (c.in-Ok.ensures.told told).0)))
 
 pub returns-in-Ok-clause-held : goal.returns-in-Ok-clause-held
 returns-in-Ok-clause-held g c =
-    kept_ok (λ (s : Loaded Slots). OwnsLoaded g.D.Disk.is_modelled g.D.Disk.may_leave slots_stands (λ (log : Slots). log.live.end) s c.swept.new.disk) c.in-Ok.state c.swept.result c.swept.ensures.kept
-    (loaded_stays g.met.D.Disk.laws slots_laws (slots_elsewhere c.needed_files_stay.ensures.journals) c.in-Ok.state c.open.new.disk c.swept.new.disk c.swept.ensures.spared c.in-Ok.ensures.held)
+    kept_ok (λ (s : Loaded Slots). OwnsLoaded g.D.Disk.is_modelled g.D.Disk.may_leave slots_stands (λ (log : Slots). log.live.end) s c.swept.new.disk)
+    c.in-Ok.state c.swept.result c.swept.ensures.kept
+    (loaded_stays g.met.D.Disk.laws slots_laws (slots_elsewhere c.needed_files_stay.ensures.journals) c.in-Ok.state c.open.new.disk c.swept.new.disk
+    c.swept.ensures.spared c.in-Ok.ensures.held)
 
 pub returns-in-Ok-clause-images : goal.returns-in-Ok-clause-images
 returns-in-Ok-clause-images g c =
@@ -58,7 +64,8 @@ returns-in-Ok-clause-reads g c =
 
 pub returns-in-Ok-clause-spared : goal.returns-in-Ok-clause-spared
 returns-in-Ok-clause-spared g c =
-    then_spared g.met.D.Disk.laws c.args.disk.now c.open.new.disk c.swept.new.disk (same_spared g.met.D.Disk.laws c.args.disk.now c.open.new.disk c.open.ensures.moments) c.swept.ensures.spared
+    then_spared g.met.D.Disk.laws c.args.disk.now c.open.new.disk c.swept.new.disk
+    (same_spared g.met.D.Disk.laws c.args.disk.now c.open.new.disk c.open.ensures.moments) c.swept.ensures.spared
 
 pub returns-in-Ok-clause-others : goal.returns-in-Ok-clause-others
 returns-in-Ok-clause-others g c = λ told name apart outside. c.swept.ensures.others told name apart outside ∙ ap (λ (i : Image). i name) c.open.ensures.seen
@@ -98,13 +105,15 @@ pub returns-in-Err-clause-disk : goal.returns-in-Err-clause-disk
 returns-in-Err-clause-disk g c = λ is. c.in-Err.ensures.cause (ap Err (disk_of c.in-Err.fault c.refused.result c.refused.ensures (cc)))
 
 pub returns-in-Err-clause-quiet : goal.returns-in-Err-clause-quiet
-returns-in-Err-clause-quiet g c = λ other. c.in-Err.ensures.quiet (λ is. other_fault c.in-Err.fault c.refused.result c.refused.ensures (λ same. other (ap Err same)) (cc))
+returns-in-Err-clause-quiet g c = λ other. c.in-Err.ensures.quiet
+    (λ is. other_fault c.in-Err.fault c.refused.result c.refused.ensures (λ same. other (ap Err same)) (cc))
 
 pub returns-in-Ok-clause-answers : goal.returns-in-Ok-clause-answers
 returns-in-Ok-clause-answers g c =
     let store : Store = store_of g.D.Disk.is_modelled g.D.Disk.seen g.D.Disk.faults c.args.disk.now c.swept.new.disk in
     unswept_withholds store (loaded_device c.in-Ok.state) c.in-Ok.ensures.told c.swept.result c.swept.ensures.answers
-    (λ is. let rose : Rose (g.D.Disk.faults c.args.disk.now) (g.D.Disk.faults c.swept.new.disk) = omega (arith, c.swept.ensures.disk is, c.open.ensures.later) in rose)
+    (λ is. let rose : Rose (g.D.Disk.faults c.args.disk.now) (g.D.Disk.faults c.swept.new.disk) = omega (arith, c.swept.ensures.disk is, c.open.ensures.later)
+    in rose)
 
 pub returns-in-Err-clause-answers : goal.returns-in-Err-clause-answers
 returns-in-Err-clause-answers g c =

@@ -35,13 +35,15 @@ returns-in-Ok-clause-ran g c =
     let told = Listed g.R.Runner.list g.R.Runner.told g.R.Runner.asked c.args.runner.now in
     let d = loaded_device c.in-Ok.state in
     let printed : Printed = printed_of g.K.Sink.held g.K.Sink.faults c.args.sink.now c.resume.new.sink in
-    let call = c.resume.ensures.call (begun d told) (front_begun d c.new-supervisor.result told (g.R.Runner.living c.args.runner.now) c.new-supervisor.ensures c.requires.none) refl refl in
+    let call = c.resume.ensures.call (begun d told) (front_begun d c.new-supervisor.result told (g.R.Runner.living c.args.runner.now) c.new-supervisor.ensures
+    c.requires.none) refl refl in
     inr (
       d,
       c.in-Ok.ensures.opened,
       resumed_on g.met.D.Disk.laws c.args.disk.now c.open_swept.new.disk c.resume.new.disk c.open_swept.ensures.spared
           (g.R.Runner.list c.args.runner.now) (g.R.Runner.list c.resume.new.runner) printed c.resume.result g.D.Disk.faults c.open_swept.ensures.later d
-          (same_fronts g.met.D.Disk.laws c.args.disk.now c.open_swept.new.disk d (λ is_modelled. (c.in-Ok.ensures.opened is_modelled).1) c.open_swept.ensures.images)
+          (same_fronts g.met.D.Disk.laws c.args.disk.now c.open_swept.new.disk d (λ is_modelled. (c.in-Ok.ensures.opened is_modelled).1)
+          c.open_swept.ensures.images)
           (λ is_modelled. (c.in-Ok.ensures.opened is_modelled).1) c.open_swept.ensures.whole
           (record {
             place = begun d told;
@@ -53,9 +55,11 @@ returns-in-Ok-clause-ran g c =
             history = record { start = refl; proper = call.0.trace.proper; run = call.0.trace.run };
             failed = call.3;
             images = kept_fronts g.met.D.Disk.laws (slots_elsewhere c.needed_files_stay.ensures.journals) c.open_swept.new.disk c.resume.new.disk
-                (g.R.Runner.list c.args.runner.now) (g.R.Runner.list c.resume.new.runner) (g.K.Sink.held c.args.sink.now) (g.K.Sink.held c.resume.new.sink) (begun d told) c.resume.result
+                (g.R.Runner.list c.args.runner.now) (g.R.Runner.list c.resume.new.runner) (g.K.Sink.held c.args.sink.now) (g.K.Sink.held c.resume.new.sink)
+                (begun d told) c.resume.result
                 (loaded_stands g.met.D.Disk.laws c.in-Ok.state c.open_swept.new.disk c.in-Ok.ensures.held) call.0;
-            whole = held_whole g.met.D.Disk.laws c.open_swept.new.disk c.resume.new.disk d (records_of call.0.history) (loaded_stands g.met.D.Disk.laws c.in-Ok.state c.open_swept.new.disk c.in-Ok.ensures.held) call.2;
+            whole = held_whole g.met.D.Disk.laws c.open_swept.new.disk c.resume.new.disk d (records_of call.0.history)
+                (loaded_stands g.met.D.Disk.laws c.in-Ok.state c.open_swept.new.disk c.in-Ok.ensures.held) call.2;
             met = brought_stay_met d (records_of call.0.history)
                 (resumed_brings d d.pending call.0.ending call.0.history (state_after (begun d told) call.0.history) call.1 call.0.ends call.0.once);
           }),
@@ -65,11 +69,13 @@ pub returns-in-Ok-clause-none : goal.returns-in-Ok-clause-none
 returns-in-Ok-clause-none g c = c.resume.ensures.none
 
 pub returns-in-Ok-clause-others : goal.returns-in-Ok-clause-others
-returns-in-Ok-clause-others g c = λ told name apart outside. c.resume.ensures.others told name apart outside ∙ c.open_swept.ensures.others told name apart outside
+returns-in-Ok-clause-others g c = λ told name apart outside. c.resume.ensures.others told name apart outside ∙ c.open_swept.ensures.others told name apart
+    outside
 
 pub returns-in-Ok-clause-disk : goal.returns-in-Ok-clause-disk
 returns-in-Ok-clause-disk g c = λ is.
-    let rose : Rose (g.D.Disk.faults c.args.disk.now) (g.D.Disk.faults c.resume.new.disk) = omega (arith, c.resume.ensures.disk is, c.open_swept.ensures.later) in rose
+    let rose : Rose (g.D.Disk.faults c.args.disk.now) (g.D.Disk.faults c.resume.new.disk) =
+    omega (arith, c.resume.ensures.disk is, c.open_swept.ensures.later) in rose
 
 pub returns-in-Ok-clause-edge : goal.returns-in-Ok-clause-edge
 returns-in-Ok-clause-edge g c = c.resume.ensures.edge
@@ -84,8 +90,11 @@ pub returns-in-Ok-clause-quiet_sink : goal.returns-in-Ok-clause-quiet_sink
 returns-in-Ok-clause-quiet_sink g c = c.resume.ensures.quiet_sink
 
 pub returns-in-Ok-clause-later : goal.returns-in-Ok-clause-later
-returns-in-Ok-clause-later g c =
-    (stays_on (g.D.Disk.faults c.args.disk.now) (g.D.Disk.faults c.open_swept.new.disk) (g.D.Disk.faults c.resume.new.disk) c.open_swept.ensures.later c.resume.ensures.later.0, c.resume.ensures.later.1)
+returns-in-Ok-clause-later g c = (
+  stays_on (g.D.Disk.faults c.args.disk.now) (g.D.Disk.faults c.open_swept.new.disk) (g.D.Disk.faults c.resume.new.disk) c.open_swept.ensures.later
+      c.resume.ensures.later.0,
+  c.resume.ensures.later.1,
+)
 
 -- ---- the journal gives no device
 
@@ -111,31 +120,43 @@ returns-in-Err-clause-others g c = c.open_swept.ensures.others
 pub returns-in-Err-clause-disk : goal.returns-in-Err-clause-disk
 returns-in-Err-clause-disk g c = λ is.
     let printed : Printed = printed_of g.K.Sink.held g.K.Sink.faults c.args.sink.now c.tell-status.new.sink in
-    c.in-Err.ensures.disk (ap Err ((is_modelled printed c.tell-status.result c.in-Err.answer (inl (withheld_first (store_of g.D.Disk.is_modelled g.D.Disk.seen g.D.Disk.faults c.args.disk.now c.open_swept.new.disk) c.in-Err.answer c.in-Err.ensures.answers)) c.tell-status.ensures.told).disk is))
+    c.in-Err.ensures.disk (ap Err ((is_modelled printed c.tell-status.result c.in-Err.answer
+    (inl (withheld_first (store_of g.D.Disk.is_modelled g.D.Disk.seen g.D.Disk.faults c.args.disk.now c.open_swept.new.disk) c.in-Err.answer
+    c.in-Err.ensures.answers)) c.tell-status.ensures.told).disk is))
 
 pub returns-in-Err-clause-edge : goal.returns-in-Err-clause-edge
 returns-in-Err-clause-edge g c =
     let printed : Printed = printed_of g.K.Sink.held g.K.Sink.faults c.args.sink.now c.tell-status.new.sink in
-    (is_modelled printed c.tell-status.result c.in-Err.answer (inl (withheld_first (store_of g.D.Disk.is_modelled g.D.Disk.seen g.D.Disk.faults c.args.disk.now c.open_swept.new.disk) c.in-Err.answer c.in-Err.ensures.answers)) c.tell-status.ensures.told).edge
+    (is_modelled printed c.tell-status.result c.in-Err.answer
+    (inl (withheld_first (store_of g.D.Disk.is_modelled g.D.Disk.seen g.D.Disk.faults c.args.disk.now c.open_swept.new.disk) c.in-Err.answer
+    c.in-Err.ensures.answers)) c.tell-status.ensures.told).edge
 
 pub returns-in-Err-clause-quiet_disk : goal.returns-in-Err-clause-quiet_disk
 returns-in-Err-clause-quiet_disk g c = λ other more.
     let printed : Printed = printed_of g.K.Sink.held g.K.Sink.faults c.args.sink.now c.tell-status.new.sink in
-    c.in-Err.ensures.quiet (λ is. (is_modelled printed c.tell-status.result c.in-Err.answer (inl (withheld_first (store_of g.D.Disk.is_modelled g.D.Disk.seen g.D.Disk.faults c.args.disk.now c.open_swept.new.disk) c.in-Err.answer c.in-Err.ensures.answers)) c.tell-status.ensures.told).quiet other more (cc))
+    c.in-Err.ensures.quiet (λ is. (is_modelled printed c.tell-status.result c.in-Err.answer
+    (inl (withheld_first (store_of g.D.Disk.is_modelled g.D.Disk.seen g.D.Disk.faults c.args.disk.now c.open_swept.new.disk) c.in-Err.answer
+    c.in-Err.ensures.answers)) c.tell-status.ensures.told).quiet other more (cc))
 
 pub returns-in-Err-clause-quiet_sink : goal.returns-in-Err-clause-quiet_sink
 returns-in-Err-clause-quiet_sink g c =
     let printed : Printed = printed_of g.K.Sink.held g.K.Sink.faults c.args.sink.now c.tell-status.new.sink in
-    (is_modelled printed c.tell-status.result c.in-Err.answer (inl (withheld_first (store_of g.D.Disk.is_modelled g.D.Disk.seen g.D.Disk.faults c.args.disk.now c.open_swept.new.disk) c.in-Err.answer c.in-Err.ensures.answers)) c.tell-status.ensures.told).quiet_sink
+    (is_modelled printed c.tell-status.result c.in-Err.answer
+    (inl (withheld_first (store_of g.D.Disk.is_modelled g.D.Disk.seen g.D.Disk.faults c.args.disk.now c.open_swept.new.disk) c.in-Err.answer
+    c.in-Err.ensures.answers)) c.tell-status.ensures.told).quiet_sink
 
 pub returns-in-Err-clause-own : goal.returns-in-Err-clause-own
 returns-in-Err-clause-own g c =
     let printed : Printed = printed_of g.K.Sink.held g.K.Sink.faults c.args.sink.now c.tell-status.new.sink in
-    (is_modelled printed c.tell-status.result c.in-Err.answer (inl (withheld_first (store_of g.D.Disk.is_modelled g.D.Disk.seen g.D.Disk.faults c.args.disk.now c.open_swept.new.disk) c.in-Err.answer c.in-Err.ensures.answers)) c.tell-status.ensures.told).library
+    (is_modelled printed c.tell-status.result c.in-Err.answer
+    (inl (withheld_first (store_of g.D.Disk.is_modelled g.D.Disk.seen g.D.Disk.faults c.args.disk.now c.open_swept.new.disk) c.in-Err.answer
+    c.in-Err.ensures.answers)) c.tell-status.ensures.told).library
 
 pub returns-in-Err-clause-later : goal.returns-in-Err-clause-later
-returns-in-Err-clause-later g c =
-    (stays (g.D.Disk.faults c.args.disk.now) (g.D.Disk.faults c.open_swept.new.disk) c.open_swept.ensures.later, stays (g.K.Sink.faults c.args.sink.now) (g.K.Sink.faults c.tell-status.new.sink) c.tell-status.ensures.later)
+returns-in-Err-clause-later g c = (
+  stays (g.D.Disk.faults c.args.disk.now) (g.D.Disk.faults c.open_swept.new.disk) c.open_swept.ensures.later,
+  stays (g.K.Sink.faults c.args.sink.now) (g.K.Sink.faults c.tell-status.new.sink) c.tell-status.ensures.later,
+)
 
 -- ---- no stray file is left behind a close
 
@@ -146,4 +167,5 @@ pub returns-in-Err-clause-swept : goal.returns-in-Err-clause-swept
 returns-in-Err-clause-swept g c =
     let printed : Printed = printed_of g.K.Sink.held g.K.Sink.faults c.args.sink.now c.tell-status.new.sink in
     told_sweeps g.D.Disk.is_modelled printed c.tell-status.result (g.D.Disk.seen c.open_swept.new.disk) c.in-Err.answer
-    (inl (withheld_first (store_of g.D.Disk.is_modelled g.D.Disk.seen g.D.Disk.faults c.args.disk.now c.open_swept.new.disk) c.in-Err.answer c.in-Err.ensures.answers)) c.tell-status.ensures.told
+    (inl (withheld_first (store_of g.D.Disk.is_modelled g.D.Disk.seen g.D.Disk.faults c.args.disk.now c.open_swept.new.disk) c.in-Err.answer
+    c.in-Err.ensures.answers)) c.tell-status.ensures.told

@@ -14,7 +14,8 @@ returns-in-Ok-made-clause-comes g c =
       λ is_modelled. record {
         none = c.requires.none is_modelled;
         stands = subst (λ (d : Device). Stands image d) c.in-Ok-made.ensures.made
-            (held_stands g.met.D.Disk.laws s.log c.create-made.new.disk (idle_device s) c.in-Ok-made.ensures.held.0 image (g.met.D.Disk.laws.reads c.create-made.new.disk is_modelled));
+            (held_stands g.met.D.Disk.laws s.log c.create-made.new.disk (idle_device s) c.in-Ok-made.ensures.held.0 image
+            (g.met.D.Disk.laws.reads c.create-made.new.disk is_modelled));
         others = c.create-made.ensures.others is_modelled;
       },
     )
@@ -32,9 +33,11 @@ returns-in-Ok-made-clause-keeps g c = λ done image left.
 pub returns-in-Disk-clause-comes : goal.returns-in-Disk-clause-comes
 returns-in-Disk-clause-comes g c =
     let origin = c.args.origin in
-    let moments = created g.met.D.Disk.laws origin c.args.disk.now c.requires.none c.requires.settled c.create-made.new.disk (c.in-Err.ensures.moments (λ is. cc)) in (
+    let moments = created g.met.D.Disk.laws origin c.args.disk.now c.requires.none c.requires.settled c.create-made.new.disk
+    (c.in-Err.ensures.moments (λ is. cc)) in (
       c.in-Err.ensures.cause (ap Err c.in-Disk.is),
-      λ is_modelled. inr (begun g.met.D.Disk.laws origin c.args.disk.now c.requires.none c.requires.settled c.create-made.new.disk moments is_modelled (c.create-made.ensures.others is_modelled)),
+      λ is_modelled. inr (begun g.met.D.Disk.laws origin c.args.disk.now c.requires.none c.requires.settled c.create-made.new.disk moments is_modelled
+          (c.create-made.ensures.others is_modelled)),
     )
 
 pub returns-in-Disk-clause-moments : goal.returns-in-Disk-clause-moments

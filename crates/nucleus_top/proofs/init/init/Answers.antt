@@ -27,14 +27,16 @@ begin-requires-clause-settled g c = c.in-Err.ensures.settled (λ is. cc)
 pub returns-in-Ok-clause-comes : goal.returns-in-Ok-clause-comes
 returns-in-Ok-clause-comes g c =
     let store : Store = store_of g.D.Disk.is_modelled g.D.Disk.seen g.D.Disk.faults c.args.disk.now c.open.new.disk in
-    names_comes c.args.origin store (loaded_device c.in-Ok.state) c.initialised_stored.result c.initialised_stored.ensures c.open.ensures.seen c.in-Ok.ensures.told
+    names_comes c.args.origin store (loaded_device c.in-Ok.state) c.initialised_stored.result c.initialised_stored.ensures c.open.ensures.seen
+    c.in-Ok.ensures.told
 
 pub returns-in-Ok-clause-moments : goal.returns-in-Ok-clause-moments
 returns-in-Ok-clause-moments g c = only_allowed g.met.D.Disk.laws (Init c.args.origin) c.args.disk.now c.open.new.disk c.open.ensures.moments
 
 pub returns-in-Ok-clause-keeps : goal.returns-in-Ok-clause-keeps
 returns-in-Ok-clause-keeps g c =
-    names_keeps (Init c.args.origin) (g.D.Disk.may_leave c.open.new.disk) (g.D.Disk.seen c.open.new.disk) (loaded_device c.in-Ok.state) c.initialised_stored.result c.initialised_stored.ensures
+    names_keeps (Init c.args.origin) (g.D.Disk.may_leave c.open.new.disk) (g.D.Disk.seen c.open.new.disk) (loaded_device c.in-Ok.state)
+    c.initialised_stored.result c.initialised_stored.ensures
 
 pub returns-in-Ok-clause-others : goal.returns-in-Ok-clause-others
 returns-in-Ok-clause-others g c = λ is_modelled name other. ap (λ (s : Image). s name) c.open.ensures.seen
@@ -45,7 +47,8 @@ returns-in-Ok-clause-quiet g c = λ other. c.in-Ok.ensures.quiet (λ is. cc)
 pub returns-in-NotInitialised-clause-comes : goal.returns-in-NotInitialised-clause-comes
 returns-in-NotInitialised-clause-comes g c =
     subst (λ (s : Store). Inits c.args.origin s c.begin.result)
-    (store_after g.D.Disk.is_modelled g.D.Disk.seen g.D.Disk.faults c.args.disk.now c.open.new.disk c.begin.new.disk c.open.ensures.seen (c.in-Err.ensures.quiet (λ is. cc)))
+    (store_after g.D.Disk.is_modelled g.D.Disk.seen g.D.Disk.faults c.args.disk.now c.open.new.disk c.begin.new.disk c.open.ensures.seen
+    (c.in-Err.ensures.quiet (λ is. cc)))
     c.begin.ensures.comes
 
 pub returns-in-NotInitialised-clause-moments : goal.returns-in-NotInitialised-clause-moments
@@ -56,7 +59,8 @@ pub returns-in-NotInitialised-clause-keeps : goal.returns-in-NotInitialised-clau
 returns-in-NotInitialised-clause-keeps g c = c.begin.ensures.keeps
 
 pub returns-in-NotInitialised-clause-others : goal.returns-in-NotInitialised-clause-others
-returns-in-NotInitialised-clause-others g c = λ is_modelled name other. c.begin.ensures.others is_modelled name other ∙ ap (λ (s : Image). s name) c.open.ensures.seen
+returns-in-NotInitialised-clause-others g c = λ is_modelled name other. c.begin.ensures.others is_modelled name other ∙ ap (λ (s : Image). s name)
+    c.open.ensures.seen
 
 pub returns-in-NotInitialised-clause-quiet : goal.returns-in-NotInitialised-clause-quiet
 returns-in-NotInitialised-clause-quiet g c = λ other. c.begin.ensures.quiet other ∙ c.in-Err.ensures.quiet (λ is. cc)

@@ -15,7 +15,8 @@ pub returns-in-Init-clause-keeps : goal.returns-in-Init-clause-keeps
 returns-in-Init-clause-keeps g c = λ other asks done.
     let words : List (List ℕ) = map string_bytes c.args.words.now.items in
     let was : IsOrder words c.in-Ok._root (order.Init c.in-Init.origin) = grind (arith, c.in-Ok.ensures, c.in-Ok._root-is, c.in-Ok.order-is, c.in-Init.is) in
-    let same : other ≡ order.Init c.in-Init.origin = (c.words_ask_one_thing.ensures words asks.root c.in-Ok._root other (order.Init c.in-Init.origin) asks.is_order was).1 in
+    let same : other ≡ order.Init c.in-Init.origin = (c.words_ask_one_thing.ensures words asks.root c.in-Ok._root other (order.Init c.in-Init.origin)
+    asks.is_order was).1 in
     subst (λ (o : Order). IsDurable o (g.D.Disk.may_leave c.init.new.disk) (g.D.Disk.seen c.init.new.disk)) (sym same) (c.init.ensures.keeps done)
 
 pub returns-clause-read : goal.returns-clause-read

@@ -36,7 +36,8 @@ returns-in-Err-clause-comes g c =
     let store : Store = store_of g.D.Disk.is_modelled g.D.Disk.seen g.D.Disk.faults c.args.disk.now c.open.new.disk in
     let input : Input = input_of g.S.Source.left g.S.Source.faults c.args.source.now c.args.source.now in
     let library : Shelf = shelf_of g.L.Library.content g.L.Library.faults c.args.library.now c.args.library.now in
-    refused_plans store input library c.refused.result (refuses store c.in-Err.fault c.refused.result c.refused.ensures c.open.ensures.seen c.in-Err.ensures.told (λ is. c.in-Err.ensures.cause (ap Err is)))
+    refused_plans store input library c.refused.result (refuses store c.in-Err.fault c.refused.result c.refused.ensures c.open.ensures.seen
+    c.in-Err.ensures.told (λ is. c.in-Err.ensures.cause (ap Err is)))
 
 pub returns-in-Err-clause-quiet : goal.returns-in-Err-clause-quiet
 returns-in-Err-clause-quiet g c = record {

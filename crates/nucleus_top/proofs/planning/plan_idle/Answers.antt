@@ -14,7 +14,8 @@ returns-clause-comes g c =
     told_on d input library result c.told.result
     (proposed d input library c.in-Ok.bytes result c.requires.origin (ap (option_map pending_view) c.requires.idle)
     c.in-Ok.ensures.bytes
-    (λ o is. subst (λ (bytes : List ℕ). ProposesRead d o library.content library.faults_before library.faults_after bytes result) c.as_slice.ensures (c.propose_read-proposal.ensures.proposes o is)))
+    (λ o is. subst (λ (bytes : List ℕ). ProposesRead d o library.content library.faults_before library.faults_after bytes result) c.as_slice.ensures
+    (c.propose_read-proposal.ensures.proposes o is)))
     c.propose_read-proposal.ensures.cause c.told.ensures
 
 pub returns-clause-still : goal.returns-clause-still

@@ -32,14 +32,16 @@ returns-in-Ok-clause-later g c = c.open.ensures.later
 pub returns-in-Err-clause-comes : goal.returns-in-Err-clause-comes
 returns-in-Err-clause-comes g c =
     let store : Store = store_of g.D.Disk.is_modelled g.D.Disk.seen g.D.Disk.faults c.args.disk.now c.open.new.disk in
-    refused_shows c.args.json store c.refused.result (refuses store c.in-Err.fault c.refused.result c.refused.ensures c.open.ensures.seen c.in-Err.ensures.told (λ is. c.in-Err.ensures.cause (ap Err is)))
+    refused_shows c.args.json store c.refused.result (refuses store c.in-Err.fault c.refused.result c.refused.ensures c.open.ensures.seen
+    c.in-Err.ensures.told (λ is. c.in-Err.ensures.cause (ap Err is)))
 
 pub returns-in-Err-clause-moments : goal.returns-in-Err-clause-moments
 returns-in-Err-clause-moments g c = c.open.ensures.moments
 
 pub returns-in-Err-clause-keeps : goal.returns-in-Err-clause-keeps
 returns-in-Err-clause-keeps g c =
-    refused_keeps (order.Status c.args.json) (g.D.Disk.may_leave c.open.new.disk) (g.D.Disk.seen c.open.new.disk) c.in-Err.fault c.refused.result c.refused.ensures
+    refused_keeps (order.Status c.args.json) (g.D.Disk.may_leave c.open.new.disk) (g.D.Disk.seen c.open.new.disk) c.in-Err.fault c.refused.result
+    c.refused.ensures
 
 pub returns-in-Err-clause-seen : goal.returns-in-Err-clause-seen
 returns-in-Err-clause-seen g c = c.open.ensures.seen

@@ -27,7 +27,8 @@ returns-in-NoMemory-clause-parts g c = λ other.
     unread_parts words store input library printed refl refl refl refl refl c.words_ask_one_thing.ensures (Appends-nil (g.K.Sink.held c.args.sink.now))
 
 pub returns-in-NoMemory-clause-moments : goal.returns-in-NoMemory-clause-moments
-returns-in-NoMemory-clause-moments g c = λ other. by_none g.met.D.Disk.laws (map string_bytes c.args.words.now.items) c.args.disk.now c.args.disk.now (at_start g.met.D.Disk.laws c.args.disk.now)
+returns-in-NoMemory-clause-moments g c = λ other. by_none g.met.D.Disk.laws (map string_bytes c.args.words.now.items) c.args.disk.now c.args.disk.now
+    (at_start g.met.D.Disk.laws c.args.disk.now)
 
 pub returns-in-NoMemory-clause-durable : goal.returns-in-NoMemory-clause-durable
 returns-in-NoMemory-clause-durable g c = λ order asks is. cc
@@ -297,14 +298,16 @@ returns-in-NoMemory-clause-refused g c = λ drives.
     let store : Store = store_of g.D.Disk.is_modelled g.D.Disk.seen g.D.Disk.faults c.args.disk.now c.args.disk.now in
     let input : Input = input_of g.S.Source.left g.S.Source.faults c.args.source.now c.args.source.now in
     let printed : Printed = printed_of g.K.Sink.held g.K.Sink.faults c.args.sink.now c.args.sink.now in
-    refused_parts store input printed status.Memory (inl (starved store input printed (inl refl) (inl (refl, Appends-nil (g.K.Sink.held c.args.sink.now), refl))))
+    refused_parts store input printed status.Memory (inl (starved store input printed (inl refl)
+    (inl (refl, Appends-nil (g.K.Sink.held c.args.sink.now), refl))))
 
 pub returns-in-NoMemory-clause-pending : goal.returns-in-NoMemory-clause-pending
 returns-in-NoMemory-clause-pending g c = λ root is.
     let store : Store = store_of g.D.Disk.is_modelled g.D.Disk.seen g.D.Disk.faults c.args.disk.now c.args.disk.now in
     let input : Input = input_of g.S.Source.left g.S.Source.faults c.args.source.now c.args.source.now in
     let printed : Printed = printed_of g.K.Sink.held g.K.Sink.faults c.args.sink.now c.args.sink.now in
-    pending_parts store input printed status.Memory (inl (starved store input printed (inl refl) (inl (refl, Appends-nil (g.K.Sink.held c.args.sink.now), refl))))
+    pending_parts store input printed status.Memory (inl (starved store input printed (inl refl)
+    (inl (refl, Appends-nil (g.K.Sink.held c.args.sink.now), refl))))
 
 pub returns-in-Deploy-clause-refused : goal.returns-in-Deploy-clause-refused
 returns-in-Deploy-clause-refused g c = λ drives.
@@ -313,7 +316,8 @@ returns-in-Deploy-clause-refused g c = λ drives.
     let library : Shelf = shelf_of g.L.Library.content g.L.Library.faults c.args.library.now c.deploy.new.library in
     let printed : Printed = printed_of g.K.Sink.held g.K.Sink.faults c.args.sink.now c.deploy.new.sink in
     refused_parts store input printed c.deploy.result
-    (⊎_elim (λ away. inl (away.0.answer, away.0.why, away.0.told)) (λ trace. inr (deployed_is_on g.D.Disk.may_leave g.D.Disk.moment g.D.Disk.left_since g.D.Disk.faults c.args.disk.now c.deploy.new.disk
+    (⊎_elim (λ away. inl (away.0.answer, away.0.why, away.0.told))
+    (λ trace. inr (deployed_is_on g.D.Disk.may_leave g.D.Disk.moment g.D.Disk.left_since g.D.Disk.faults c.args.disk.now c.deploy.new.disk
     (g.R.Runner.list c.args.runner.now) (g.R.Runner.list c.deploy.new.runner) printed c.deploy.result store input library trace).0) c.deploy.ensures.ran)
 
 pub returns-in-Deploy-clause-pending : goal.returns-in-Deploy-clause-pending
@@ -323,7 +327,8 @@ returns-in-Deploy-clause-pending g c = λ root is.
     let library : Shelf = shelf_of g.L.Library.content g.L.Library.faults c.args.library.now c.deploy.new.library in
     let printed : Printed = printed_of g.K.Sink.held g.K.Sink.faults c.args.sink.now c.deploy.new.sink in
     pending_parts store input printed c.deploy.result
-    (⊎_elim (λ away. inl (away.0.answer, away.0.why, away.0.told)) (λ trace. inr (deployed_is_on g.D.Disk.may_leave g.D.Disk.moment g.D.Disk.left_since g.D.Disk.faults c.args.disk.now c.deploy.new.disk
+    (⊎_elim (λ away. inl (away.0.answer, away.0.why, away.0.told))
+    (λ trace. inr (deployed_is_on g.D.Disk.may_leave g.D.Disk.moment g.D.Disk.left_since g.D.Disk.faults c.args.disk.now c.deploy.new.disk
     (g.R.Runner.list c.args.runner.now) (g.R.Runner.list c.deploy.new.runner) printed c.deploy.result store input library trace)) c.deploy.ensures.ran)
 
 pub returns-in-Resume-clause-refused : goal.returns-in-Resume-clause-refused
@@ -332,7 +337,8 @@ returns-in-Resume-clause-refused g c = λ drives.
     let input : Input = input_of g.S.Source.left g.S.Source.faults c.args.source.now c.args.source.now in
     let printed : Printed = printed_of g.K.Sink.held g.K.Sink.faults c.args.sink.now c.resume.new.sink in
     refused_parts store input printed c.resume.result
-    (⊎_elim (λ away. inl (away.0.answer, withholds_turns store input away.0.answer away.0.why, away.0.told)) (λ trace. inr (resumed_is_on g.D.Disk.may_leave g.D.Disk.moment g.D.Disk.left_since g.D.Disk.faults c.args.disk.now c.resume.new.disk
+    (⊎_elim (λ away. inl (away.0.answer, withholds_turns store input away.0.answer away.0.why, away.0.told))
+    (λ trace. inr (resumed_is_on g.D.Disk.may_leave g.D.Disk.moment g.D.Disk.left_since g.D.Disk.faults c.args.disk.now c.resume.new.disk
     (g.R.Runner.list c.args.runner.now) (g.R.Runner.list c.resume.new.runner) printed c.resume.result store trace)) c.resume.ensures.ran)
 
 pub returns-in-Resume-clause-pending : goal.returns-in-Resume-clause-pending

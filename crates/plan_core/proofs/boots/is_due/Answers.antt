@@ -18,28 +18,34 @@ is_changed-requires-clause-kept c =
     λ i x among one.
     let b = c.index-choice-at.result in
     let same = in_one b.now x one in
-    c.requires.kept i x among (subst (Contains (candidates_of c.args.choice.now)) same (in_map (λ (y : Bor Candidate). y.now) c.args.choice.now b (c.args.at, c.requires.place, sym c.index-choice-at.is)))
+    c.requires.kept i x among (subst (Contains (candidates_of c.args.choice.now)) same
+    (in_map (λ (y : Bor Candidate). y.now) c.args.choice.now b (c.args.at, c.requires.place, sym c.index-choice-at.is)))
 
 pub is_changed-requires-clause-scope : goal.is_changed-requires-clause-scope
 is_changed-requires-clause-scope c =
     let b = c.index-choice-at.result in
     let cs = candidates_of c.args.choice.now in
-    let read = All-contains (IsReadFor c.args.origin.now.platform) cs b.now c.requires.read (in_map (λ (y : Bor Candidate). y.now) c.args.choice.now b (c.args.at, c.requires.place, sym c.index-choice-at.is)) in
-    let r = reads_beside c.args.origin.now cs (map item_view c.args.items.now) c.args.at b.now c.requires.items (chosen_there c.args.choice.now c.args.at b c.requires.place c.index-choice-at.is) read in
+    let read = All-contains (IsReadFor c.args.origin.now.platform) cs b.now c.requires.read
+    (in_map (λ (y : Bor Candidate). y.now) c.args.choice.now b (c.args.at, c.requires.place, sym c.index-choice-at.is)) in
+    let r = reads_beside c.args.origin.now cs (map item_view c.args.items.now) c.args.at b.now c.requires.items
+    (chosen_there c.args.choice.now c.args.at b c.requires.place c.index-choice-at.is) read in
     record { item = r.0; there = r.1; recipe = b.now.recipe; reads = r.2 }
 
 pub is_changed-requires-clause-step : goal.is_changed-requires-clause-step
 is_changed-requires-clause-step c =
     let b = c.index-choice-at.result in
     let cs = candidates_of c.args.choice.now in
-    let read = All-contains (IsReadFor c.args.origin.now.platform) cs b.now c.requires.read (in_map (λ (y : Bor Candidate). y.now) c.args.choice.now b (c.args.at, c.requires.place, sym c.index-choice-at.is)) in
-    let r = reads_beside c.args.origin.now cs (map item_view c.args.items.now) c.args.at b.now c.requires.items (chosen_there c.args.choice.now c.args.at b c.requires.place c.index-choice-at.is) read in
+    let read = All-contains (IsReadFor c.args.origin.now.platform) cs b.now c.requires.read
+    (in_map (λ (y : Bor Candidate). y.now) c.args.choice.now b (c.args.at, c.requires.place, sym c.index-choice-at.is)) in
+    let r = reads_beside c.args.origin.now cs (map item_view c.args.items.now) c.args.at b.now c.requires.items
+    (chosen_there c.args.choice.now c.args.at b c.requires.place c.index-choice-at.is) read in
     record { item = r.0; there = r.1; reads = r.2; is_step = c.in-Some.is }
 
 pub is_changed-requires-clause-read : goal.is_changed-requires-clause-read
 is_changed-requires-clause-read c =
     let b = c.index-choice-at.result in
-    All-contains (IsReadFor c.args.origin.now.platform) (candidates_of c.args.choice.now) b.now c.requires.read (in_map (λ (y : Bor Candidate). y.now) c.args.choice.now b (c.args.at, c.requires.place, sym c.index-choice-at.is))
+    All-contains (IsReadFor c.args.origin.now.platform) (candidates_of c.args.choice.now) b.now c.requires.read
+    (in_map (λ (y : Bor Candidate). y.now) c.args.choice.now b (c.args.at, c.requires.place, sym c.index-choice-at.is))
 
 pub returns-in-Some : goal.returns-in-Some
 returns-in-Some c =
@@ -51,7 +57,8 @@ returns-in-Some c =
     if_ok c.is_changed.result
     (λ r. IsTrue r ↔ IsChanged origin set items c.args.at b.now.recipe.version (place b.now.recipe.name set))
     (λ r. IsTrue r ↔ IsDue origin set cs items c.args.at)
-    (λ r is_modelled. due origin set cs items c.args.at b.now c.in-Some.step r (chosen_there c.args.choice.now c.args.at b c.requires.place c.index-choice-at.is) c.in-Some.is is_modelled)
+    (λ r is_modelled. due origin set cs items c.args.at b.now c.in-Some.step r
+    (chosen_there c.args.choice.now c.args.at b c.requires.place c.index-choice-at.is) c.in-Some.is is_modelled)
     c.is_changed.ensures
 
 pub returns-in-None : goal.returns-in-None

@@ -29,14 +29,17 @@ loop-candidate-preserved c =
     ∙ ap (λ (l : List (Bor Candidate)). map bare (items_of set roots (candidates_of l))) (next cs i x below c.candidate-item.is) in
     record {
       count = omega (arith, long, count);
-      left = λ roots is. tails (item_view new) (bare (item_of set roots x.now)) (map item_view more) (map bare (items_of set roots (candidates_of (drop (i + 1) cs)))) (both roots is);
+      left = λ roots is. tails (item_view new) (bare (item_of set roots x.now)) (map item_view more)
+          (map bare (items_of set roots (candidates_of (drop (i + 1) cs)))) (both roots is);
       made = λ roots is.
-          let one : item_view new ≡ bare (item_of set roots x.now) = heads (item_view new) (bare (item_of set roots x.now)) (map item_view more) (map bare (items_of set roots (candidates_of (drop (i + 1) cs)))) (both roots is) in
+          let one : item_view new ≡ bare (item_of set roots x.now) = heads (item_view new) (bare (item_of set roots x.now)) (map item_view more)
+          (map bare (items_of set roots (candidates_of (drop (i + 1) cs)))) (both roots is) in
           let left = items_of set roots (candidates_of (drop i cs)) in
           let last = items_of set roots (candidates_of (drop (i + 1) cs)) in
           let all = items_of set roots (candidates_of cs) in
           let made = c.in_ok-drafted.field-0 in
-          let here : left ≡ draft_item_view made ∷ last = ap (λ (l : List (Bor Candidate)). items_of set roots (candidates_of l)) (next cs i x below c.candidate-item.is)
+          let here : left ≡ draft_item_view made ∷ last = ap (λ (l : List (Bor Candidate)). items_of set roots (candidates_of l))
+          (next cs i x below c.candidate-item.is)
           ∙ ap (λ (y : DraftItem). y ∷ last) (sym (c.in_ok-drafted.ensures roots one)) in
           subst (λ (l : List code_draft.DraftItem). map draft_item_view l ++ last ≡ all) (sym c.in_ok-push.ensures.items)
           (pushed draft_item_view c.loop-candidate.list.items made left last all (c.loop-candidate.invariant.made roots is) here);

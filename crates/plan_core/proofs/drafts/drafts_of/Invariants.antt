@@ -11,5 +11,6 @@ invariant-loop-candidate l = record {
   left : (roots : List Root) → map item_view l.fn.items ≡ map bare (items_of (map item_view l.set) roots (candidates_of l.choice))
       → map item_view l.rest.items ≡ map bare (items_of (map item_view l.set) roots (candidates_of (drop l.candidate-index l.choice)));
   made : (roots : List Root) → map item_view l.fn.items ≡ map bare (items_of (map item_view l.set) roots (candidates_of l.choice))
-      → map draft_item_view l.list.items ++ items_of (map item_view l.set) roots (candidates_of (drop l.candidate-index l.choice)) ≡ items_of (map item_view l.set) roots (candidates_of l.choice);
+      → map draft_item_view l.list.items ++ items_of (map item_view l.set) roots (candidates_of (drop l.candidate-index l.choice)) ≡ items_of
+      (map item_view l.set) roots (candidates_of l.choice);
 }

@@ -23,7 +23,8 @@ loop-candidate-preserved c =
     let rest = map bare (items_of set roots (candidates_of (drop (i + 1) cs))) in
     let all = map bare (items_of set roots (candidates_of cs)) in
     let new = c.in_ok-bare_item.field-0 in
-    let is : left ≡ item_view new ∷ rest = ap (λ (l : List (Bor Candidate)). map bare (items_of set roots (candidates_of l))) (next cs i c.candidate-item.result c.loop-candidate-test.true c.candidate-item.is)
+    let is : left ≡ item_view new ∷ rest = ap (λ (l : List (Bor Candidate)). map bare (items_of set roots (candidates_of l)))
+    (next cs i c.candidate-item.result c.loop-candidate-test.true c.candidate-item.is)
     ∙ ap (λ (y : Item). y ∷ rest) (sym c.in_ok-bare_item.ensures.value) in
     record {
       value = subst (λ (l : List code.Item). map item_view l ++ rest ≡ all) (sym c.in_ok-push.ensures.items)

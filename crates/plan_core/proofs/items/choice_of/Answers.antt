@@ -12,5 +12,6 @@ loop-place-preserved c =
     let set = c.args.set.now in
     let i = c.loop-place.place-index in
     subst (λ (l : List (Bor Candidate)). candidates_of l ++ chosen cs (drop (i + 1) set) ≡ chosen cs set) (sym c.in_ok-push.ensures.items)
-    (pushed (λ (x : Bor Candidate). x.now) c.loop-place.choice.items _ (chosen cs (drop i set)) (chosen cs (drop (i + 1) set)) (chosen cs set) c.loop-place.invariant
+    (pushed (λ (x : Bor Candidate). x.now) c.loop-place.choice.items _ (chosen cs (drop i set)) (chosen cs (drop (i + 1) set))
+    (chosen cs set) c.loop-place.invariant
     (chosen_next cs set i c.index-candidates-place.result c.loop-place-test.true c.requires c.index-candidates-place.is))

@@ -11,12 +11,15 @@ use Rattle.plan_core.proofs.plan.choose.Goals as goal
 
 pub check_count-requires : goal.check_count-requires
 check_count-requires c =
-    let few = few_places c.args.candidates.now (wanted_of (device_view c.args.device.now).groups c.args.document.now) c.in_ok-set.set c.in_ok-set.ensures.valid in
+    let few = few_places c.args.candidates.now (wanted_of (device_view c.args.device.now).groups c.args.document.now) c.in_ok-set.set
+    c.in_ok-set.ensures.valid in
     omega (arith, few, c.list.ensures.rule.count, c.len.ensures)
 
 pub returns-in_err-check_count : goal.returns-in_err-check_count
 returns-in_err-check_count c =
-    too_many (λ choice. IsFewChoice (device_view c.args.device.now) c.args.candidates.now c.args.document.now (candidates_of choice.items)) (device_view c.args.device.now) c.args.candidates.now c.args.document.now c.in_ok-set.set c.len.result c.in_err-check_count.field-0.0 c.from_residual-in_err-check_count.result
+    too_many (λ choice. IsFewChoice (device_view c.args.device.now) c.args.candidates.now c.args.document.now (candidates_of choice.items))
+    (device_view c.args.device.now) c.args.candidates.now c.args.document.now c.in_ok-set.set c.len.result c.in_err-check_count.field-0.0
+    c.from_residual-in_err-check_count.result
     c.in_ok-set.ensures c.len.ensures c.in_err-check_count.ensures c.from_residual-in_err-check_count.ensures.1
 
 pub returns : goal.returns

@@ -16,4 +16,5 @@ bare_items-requires-clause-recipes c =
 
 pub boots_of-requires-clause-items : goal.boots_of-requires-clause-items
 boots_of-requires-clause-items c =
-    subst (AreOf (candidates_of c.args.choice.now)) (sym c.in_ok-items.ensures.value) (are_of (map item_view c.as_slice.result.now) c.as_slice-2.result.now (candidates_of c.args.choice.now))
+    subst (AreOf (candidates_of c.args.choice.now)) (sym c.in_ok-items.ensures.value)
+    (are_of (map item_view c.as_slice.result.now) c.as_slice-2.result.now (candidates_of c.args.choice.now))

@@ -10,12 +10,14 @@ use Rattle.plan_core.proofs.proposals.propose.Goals as goal
 
 pub returns-in_err-open-clause-proposes : goal.returns-in_err-open-clause-proposes
 returns-in_err-open-clause-proposes g c = λ o is.
-    not_open (device_view c.args.device.now) o (g.L.Library.content c.args.library.now) (g.L.Library.faults c.args.library.now) (g.L.Library.faults c.args.library.now) c.args.document.now
+    not_open (device_view c.args.device.now) o (g.L.Library.content c.args.library.now) (g.L.Library.faults c.args.library.now)
+    (g.L.Library.faults c.args.library.now) c.args.document.now
     c.in_err-open.field-0.0 c.from_residual.result c.from_residual.ensures.1 c.in_err-open.ensures
 
 pub candidates-requires-clause-read : goal.candidates-requires-clause-read
 candidates-requires-clause-read g c =
-    kept_read c.in-Some.origin.platform (map item_view c.args.device.now.set) (items_of_sound (device_view c.args.device.now) c.in-Some.origin c.requires.sound c.in-Some.is).recipes
+    kept_read c.in-Some.origin.platform (map item_view c.args.device.now.set) (items_of_sound (device_view c.args.device.now) c.in-Some.origin
+    c.requires.sound c.in-Some.is).recipes
 
 pub returns-in_err-candidates-clause-proposes : goal.returns-in_err-candidates-clause-proposes
 returns-in_err-candidates-clause-proposes g c = λ o is.
@@ -24,7 +26,8 @@ returns-in_err-candidates-clause-proposes g c = λ o is.
     let before = g.L.Library.faults c.args.library.now in
     let after = g.L.Library.faults c.candidates.new.library in
     let same : c.in-Some.origin ≡ o = cc in
-    let here = not_gathered d c.in-Some.origin content before after c.args.document.now c.in_err-candidates.field-0.0 c.from_residual-in_err-candidates.result c.from_residual-in_err-candidates.ensures.1
+    let here = not_gathered d c.in-Some.origin content before after c.args.document.now c.in_err-candidates.field-0.0 c.from_residual-in_err-candidates.result
+    c.from_residual-in_err-candidates.ensures.1
     c.in_ok-open.ensures.0 c.in_ok-open.ensures.1 (λ e. c.in_err-candidates.ensures.cause (ap Err e)) c.in_err-candidates.ensures.gathered in
     subst (λ (p : Origin). Proposes d p content before after c.args.document.now c.from_residual-in_err-candidates.result) same here
 
@@ -38,7 +41,8 @@ returns-in_err-draft-clause-proposes g c = λ o is.
     let same : c.in-Some.origin ≡ o = cc in
     let gathered : AreCandidatesOf (facts d c.in-Some.origin content before after c.args.document.now cs no_draft) =
     record { gathered = c.in_ok-candidates.ensures.read; kept = c.in_ok-candidates.ensures.kept_bytes; told = c.in_ok-candidates.ensures.gathered } in
-    let here = not_planned d c.in-Some.origin content before after c.args.document.now cs c.in_err-draft.field-0.0 c.from_residual-in_err-draft.result c.from_residual-in_err-draft.ensures.1
+    let here = not_planned d c.in-Some.origin content before after c.args.document.now cs c.in_err-draft.field-0.0 c.from_residual-in_err-draft.result
+    c.from_residual-in_err-draft.ensures.1
     c.in_ok-open.ensures.0 c.in_ok-open.ensures.1 gathered (c.in_err-draft.ensures c.in-Some.origin c.in-Some.is) in
     subst (λ (p : Origin). Proposes d p content before after c.args.document.now c.from_residual-in_err-draft.result) same here
 
@@ -56,5 +60,17 @@ returns-clause-proposes g c = λ o is.
     let planned = c.in_ok-draft.ensures o is in (
       cs,
       draft,
-      (refl, (c.in_ok-open.ensures.0, (c.in_ok-open.ensures.1, (subst (λ (p : Origin). AreCandidatesOf (facts d p content before after c.args.document.now cs draft)) same gathered, (planned.room, (planned, tt)))))),
+      (
+        refl,
+        (
+          c.in_ok-open.ensures.0,
+          (
+            c.in_ok-open.ensures.1,
+            (
+              subst (λ (p : Origin). AreCandidatesOf (facts d p content before after c.args.document.now cs draft)) same gathered,
+              (planned.room, (planned, tt)),
+            ),
+          ),
+        ),
+      ),
     )

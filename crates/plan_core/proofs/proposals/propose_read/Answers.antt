@@ -4,10 +4,12 @@ use Rattle.plan_core.proofs.proposals.propose_read.Goals as goal
 
 pub returns-in_err-document-clause-proposes : goal.returns-in_err-document-clause-proposes
 returns-in_err-document-clause-proposes g c = λ o is.
-    not_read (device_view c.args.device.now) o (g.L.Library.content c.args.library.now) (g.L.Library.faults c.args.library.now) (g.L.Library.faults c.args.library.now) c.args.bytes.now
+    not_read (device_view c.args.device.now) o (g.L.Library.content c.args.library.now) (g.L.Library.faults c.args.library.now)
+    (g.L.Library.faults c.args.library.now) c.args.bytes.now
     c.in_err-document.field-0.0 c.from_residual.result c.from_residual.ensures.1 c.in_err-document.ensures.exact
 
 pub returns-clause-proposes : goal.returns-clause-proposes
 returns-clause-proposes g c = λ o is.
-    read_first (device_view c.args.device.now) o (g.L.Library.content c.args.library.now) (g.L.Library.faults c.args.library.now) (g.L.Library.faults c.propose.new.library) c.in_ok-document.document
+    read_first (device_view c.args.device.now) o (g.L.Library.content c.args.library.now) (g.L.Library.faults c.args.library.now)
+    (g.L.Library.faults c.propose.new.library) c.in_ok-document.document
     c.args.bytes.now c.propose.result c.in_ok-document.ensures.exact (c.propose.ensures.proposes o is)

@@ -19,7 +19,8 @@ returns-in_err-check_config c =
     let rest = map item_view (drop (i + 1) xs) in
     let f = c.in_err-check_config.field-0.0 in
     handed (λ _. AllHold (each config_lines all)) (Faults fault.NoMemory (each config_lines all)) c.from_residual.result f c.from_residual.ensures.1
-    (checked_fault all rest (item_view x) f (subst (Checked all) (map_next item_view xs i x c.loop-item-test.true c.item-item.is) c.loop-item.invariant) c.in_err-check_config.ensures)
+    (checked_fault all rest (item_view x) f (subst (Checked all) (map_next item_view xs i x c.loop-item-test.true c.item-item.is) c.loop-item.invariant)
+    c.in_err-check_config.ensures)
 
 pub loop-item-preserved : goal.loop-item-preserved
 loop-item-preserved c =
@@ -27,7 +28,8 @@ loop-item-preserved c =
     let i = c.loop-item.item-index in
     let x = c.item-item.result in
     let all = map item_view xs in
-    checked_more all (map item_view (drop (i + 1) xs)) (item_view x) (subst (Checked all) (map_next item_view xs i x c.loop-item-test.true c.item-item.is) c.loop-item.invariant) c.in_ok-check_config.ensures
+    checked_more all (map item_view (drop (i + 1) xs)) (item_view x)
+    (subst (Checked all) (map_next item_view xs i x c.loop-item-test.true c.item-item.is) c.loop-item.invariant) c.in_ok-check_config.ensures
 
 pub returns : goal.returns
 returns c =

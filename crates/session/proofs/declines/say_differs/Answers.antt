@@ -9,9 +9,17 @@ pub returns-clause-says : goal.returns-clause-says
 returns-clause-says g c =
     let shown = c.shown.result.now in
     let digits = c.as_str.result.now in
-    let spelled : digits ≡ encode_lower c.args.digest.now = grind (arith, c.as_str.ensures.value, c.in-Ok.ensures, c.in-Ok.is, c.as_slice.ensures, c.encode.ensures) in
+    let spelled : digits ≡ encode_lower c.args.digest.now = grind (
+      arith,
+      c.as_str.ensures.value,
+      c.in-Ok.ensures,
+      c.in-Ok.is,
+      c.as_slice.ensures,
+      c.encode.ensures,
+    ) in
     inl (
-      says_as (g.K.Sink.held c.args.sink.now) (g.K.Sink.held c.say.new.sink) c.say.result (codes "refused 13 Mismatch " ++ (shown ++ (codes " " ++ (digits ++ codes "\n")))) (mismatch_line c.args.file.now c.args.digest.now)
+      says_as (g.K.Sink.held c.args.sink.now) (g.K.Sink.held c.say.new.sink) c.say.result
+          (codes "refused 13 Mismatch " ++ (shown ++ (codes " " ++ (digits ++ codes "\n")))) (mismatch_line c.args.file.now c.args.digest.now)
           (ap (λ (l : List ℕ). codes "refused 13 Mismatch " ++ (l ++ (codes " " ++ (digits ++ codes "\n")))) c.shown.ensures
           ∙ ap (λ (l : List ℕ). codes "refused 13 Mismatch " ++ (file_text c.args.file.now ++ (codes " " ++ (l ++ codes "\n")))) spelled) c.say.ensures.says,
       c.say.ensures.answers,

@@ -40,7 +40,8 @@ returns-in-Ok-clause-edge g c = λ is. inr (c.end_driven.ensures.edge is)
 pub returns-in-Ok-clause-ends : goal.returns-in-Ok-clause-ends
 returns-in-Ok-clause-ends g c =
     let s = c.end_driven.ensures.ends in
-    ends_ok c.end_driven.result (g.K.Sink.held c.args.sink.now) (g.K.Sink.held c.end_driven.new.sink) c.args.driven c.in-Ok.driven c.in-Ok.driven c.in-Ok.is refl (s.0, (s.1.0, λ fails. inr (s.1.1 fails)), s.2, s.3)
+    ends_ok c.end_driven.result (g.K.Sink.held c.args.sink.now) (g.K.Sink.held c.end_driven.new.sink) c.args.driven c.in-Ok.driven c.in-Ok.driven c.in-Ok.is
+    refl (s.0, (s.1.0, λ fails. inr (s.1.1 fails)), s.2, s.3)
 
 pub returns-in-Ok-clause-unswept : goal.returns-in-Ok-clause-unswept
 returns-in-Ok-clause-unswept g c = ok_on _ c.args.driven c.in-Ok.driven c.in-Ok.is
@@ -60,18 +61,21 @@ pub returns-in-Err-Disk-clause-spared : goal.returns-in-Err-Disk-clause-spared
 returns-in-Err-Disk-clause-spared g c = start_spares g.met.D.Disk.laws (IsBelow artifacts) c.args.disk.now
 
 pub returns-in-Err-Disk-clause-silent : goal.returns-in-Err-Disk-clause-silent
-returns-in-Err-Disk-clause-silent g c = λ is. absurd (not_edge c.args.driven c.in-Err-Disk.field-0 c.in-Err-Disk.is (rw c.in-Err-Disk.is at c.in-Err-Disk.field-0-is) is)
+returns-in-Err-Disk-clause-silent g c = λ is. absurd (not_edge c.args.driven c.in-Err-Disk.field-0 c.in-Err-Disk.is
+    (rw c.in-Err-Disk.is at c.in-Err-Disk.field-0-is) is)
 
 pub returns-in-Err-Disk-clause-safe : goal.returns-in-Err-Disk-clause-safe
 returns-in-Err-Disk-clause-safe g c =
     err_if _ c.args.driven c.in-Err-Disk.field-0 c.in-Err-Disk.is
 
 pub returns-in-Err-Disk-clause-answers : goal.returns-in-Err-Disk-clause-answers
-returns-in-Err-Disk-clause-answers g c = answers_err c.say_disk.result c.args.driven c.in-Err-Disk.field-0 over.Disk c.in-Err-Disk.is (rw c.in-Err-Disk.is at c.in-Err-Disk.field-0-is) c.say_disk.ensures.answers
+returns-in-Err-Disk-clause-answers g c = answers_err c.say_disk.result c.args.driven c.in-Err-Disk.field-0 over.Disk c.in-Err-Disk.is
+    (rw c.in-Err-Disk.is at c.in-Err-Disk.field-0-is) c.say_disk.ensures.answers
 
 pub returns-in-Err-Disk-clause-ends : goal.returns-in-Err-Disk-clause-ends
 returns-in-Err-Disk-clause-ends g c =
-    ends_err c.say_disk.result (g.K.Sink.held c.args.sink.now) (g.K.Sink.held c.say_disk.new.sink) c.args.driven c.in-Err-Disk.field-0 over.Disk c.in-Err-Disk.is (rw c.in-Err-Disk.is at c.in-Err-Disk.field-0-is)
+    ends_err c.say_disk.result (g.K.Sink.held c.args.sink.now) (g.K.Sink.held c.say_disk.new.sink) c.args.driven c.in-Err-Disk.field-0 over.Disk
+    c.in-Err-Disk.is (rw c.in-Err-Disk.is at c.in-Err-Disk.field-0-is)
     (Fails, (refl, λ fails. inl refl), c.say_disk.ensures.says, c.say_disk.ensures.answers)
 
 pub returns-in-Err-Disk-clause-unswept : goal.returns-in-Err-Disk-clause-unswept
@@ -82,7 +86,8 @@ returns-in-Err-Disk-clause-unswept g c = err_on _ c.args.driven c.in-Err-Disk.fi
 pub returns-clause-ends : goal.returns-clause-ends
 returns-clause-ends g c =
     let held = g.K.Sink.held c.args.sink.now in
-    ends_err statuses.Edge held held c.args.driven c.in-Err-Edge.field-0 over.Edge c.in-Err-Edge.is (rw c.in-Err-Edge.is at c.in-Err-Edge.field-0-is) (Breaks, (refl, λ fails. absurd cc), says_none held held statuses.Edge refl, inl refl)
+    ends_err statuses.Edge held held c.args.driven c.in-Err-Edge.field-0 over.Edge c.in-Err-Edge.is (rw c.in-Err-Edge.is at c.in-Err-Edge.field-0-is)
+    (Breaks, (refl, λ fails. absurd cc), says_none held held statuses.Edge refl, inl refl)
 
 -- ---- no stray file is left behind a close
 

@@ -31,18 +31,21 @@ pub end_closed-requires-clause-placed : goal.end_closed-requires-clause-placed
 end_closed-requires-clause-placed g c =
     let q = c.requires.placed in
     let told = Listed g.R.Runner.list g.R.Runner.told g.R.Runner.asked c.args.runner.now in
-    let l = subst (λ (x : Driven _). DrivenLeft x q.1 q.0 (g.S.Supervise.world c.args.supervisor.now) told (g.R.Runner.living c.args.runner.now)) c.in-Closed.is q.2 in
+    let l = subst (λ (x : Driven _). DrivenLeft x q.1 q.0 (g.S.Supervise.world c.args.supervisor.now) told (g.R.Runner.living c.args.runner.now))
+    c.in-Closed.is q.2 in
     (q.0, records_of q.1, l, q.3)
 
 pub returns-in-Closed-clause-trace : goal.returns-in-Closed-clause-trace
 returns-in-Closed-clause-trace g c = λ p h left serves.
     let told = Listed g.R.Runner.list g.R.Runner.told g.R.Runner.asked c.args.runner.now in
-    let l = subst (λ (x : Driven _). DrivenLeft x h p (g.S.Supervise.world c.args.supervisor.now) told (g.R.Runner.living c.args.runner.now)) c.in-Closed.is left in
+    let l = subst (λ (x : Driven _). DrivenLeft x h p (g.S.Supervise.world c.args.supervisor.now) told (g.R.Runner.living c.args.runner.now)) c.in-Closed.is
+    left in
     c.end_closed.ensures.trace p (records_of h) l serves
 
 pub returns-in-Closed-clause-safe : goal.returns-in-Closed-clause-safe
 returns-in-Closed-clause-safe g c =
-    subst (λ (x : Driven _). AllHoldDevice (g.D.Disk.may_leave c.args.disk.now) (driven_device x) → Leaves g.D.Disk.moment g.D.Disk.left_since c.args.disk.now c.end_closed.new.disk (λ i. HoldsDevice i (driven_device x))) (sym c.in-Closed.is)
+    subst (λ (x : Driven _). AllHoldDevice (g.D.Disk.may_leave c.args.disk.now) (driven_device x) →
+    Leaves g.D.Disk.moment g.D.Disk.left_since c.args.disk.now c.end_closed.new.disk (λ i. HoldsDevice i (driven_device x))) (sym c.in-Closed.is)
     c.end_closed.ensures.safe
 
 pub returns-in-Closed-clause-answers : goal.returns-in-Closed-clause-answers
@@ -50,7 +53,8 @@ returns-in-Closed-clause-answers g c = subst (λ (x : Driven _). AnswersFor (Ok 
 
 pub returns-in-Closed-clause-ends : goal.returns-in-Closed-clause-ends
 returns-in-Closed-clause-ends g c =
-    subst (λ (x : Driven _). SaysEnding (g.K.Sink.held c.args.sink.now) (g.K.Sink.held c.end_closed.new.sink) c.end_closed.result (λ e. EndsFor (Ok x) e × (e ≡ Fails → Rose (g.D.Disk.faults c.args.disk.now) (g.D.Disk.faults c.end_closed.new.disk)))) (sym c.in-Closed.is)
+    subst (λ (x : Driven _). SaysEnding (g.K.Sink.held c.args.sink.now) (g.K.Sink.held c.end_closed.new.sink) c.end_closed.result
+    (λ e. EndsFor (Ok x) e × (e ≡ Fails → Rose (g.D.Disk.faults c.args.disk.now) (g.D.Disk.faults c.end_closed.new.disk)))) (sym c.in-Closed.is)
     c.end_closed.ensures.ends
 
 -- ---- it ends for a restart
@@ -61,8 +65,12 @@ returns-in-Restart-clause-trace g c = λ p h left serves.
     let told = Listed g.R.Runner.list g.R.Runner.told g.R.Runner.asked c.args.runner.now in
     let world = g.S.Supervise.world c.args.supervisor.now in
     let living = g.R.Runner.living c.args.runner.now in
-    let l = subst (λ (x : Driven _). DrivenLeft x h p world told living) c.in-Restart.is left in
-    ([], acts_none p list list refl, restart_ends p (loaded_device c.in-Restart.state) world told living c.say_again.result statuses.Restart l.0 l.1 refl c.say_again.ensures.answers)
+    let l = subst (λ (x : Driven _). DrivenLeft x h p world told living) c.in-Restart.is left in (
+      [],
+      acts_none p list list refl,
+      restart_ends p (loaded_device c.in-Restart.state) world told living c.say_again.result statuses.Restart l.0 l.1 refl
+          c.say_again.ensures.answers,
+    )
 
 pub returns-in-Restart-clause-none : goal.returns-in-Restart-clause-none
 returns-in-Restart-clause-none g c =
@@ -79,7 +87,8 @@ returns-in-Restart-clause-spared g c = start_spares g.met.D.Disk.laws (IsBelow a
 
 pub returns-in-Restart-clause-safe : goal.returns-in-Restart-clause-safe
 returns-in-Restart-clause-safe g c =
-    subst (λ (x : Driven _). AllHoldDevice (g.D.Disk.may_leave c.args.disk.now) (driven_device x) → Leaves g.D.Disk.moment g.D.Disk.left_since c.args.disk.now c.args.disk.now (λ i. HoldsDevice i (driven_device x))) (sym c.in-Restart.is)
+    subst (λ (x : Driven _). AllHoldDevice (g.D.Disk.may_leave c.args.disk.now) (driven_device x) →
+    Leaves g.D.Disk.moment g.D.Disk.left_since c.args.disk.now c.args.disk.now (λ i. HoldsDevice i (driven_device x))) (sym c.in-Restart.is)
     (still_safe g.met.D.Disk.laws (loaded_device c.in-Restart.state) c.args.disk.now)
 
 pub returns-in-Restart-clause-answers : goal.returns-in-Restart-clause-answers
@@ -87,11 +96,13 @@ returns-in-Restart-clause-answers g c = subst (λ (x : Driven _). AnswersFor (Ok
 
 pub returns-in-Restart-clause-ends : goal.returns-in-Restart-clause-ends
 returns-in-Restart-clause-ends g c =
-    subst (λ (x : Driven _). SaysEnding (g.K.Sink.held c.args.sink.now) (g.K.Sink.held c.say_again.new.sink) c.say_again.result (λ e. EndsFor (Ok x) e × (e ≡ Fails → Rose (g.D.Disk.faults c.args.disk.now) (g.D.Disk.faults c.args.disk.now)))) (sym c.in-Restart.is)
+    subst (λ (x : Driven _). SaysEnding (g.K.Sink.held c.args.sink.now) (g.K.Sink.held c.say_again.new.sink) c.say_again.result
+    (λ e. EndsFor (Ok x) e × (e ≡ Fails → Rose (g.D.Disk.faults c.args.disk.now) (g.D.Disk.faults c.args.disk.now)))) (sym c.in-Restart.is)
     (Restarts (id_of (loaded_device c.in-Restart.state)), (refl, λ fails. absurd cc), c.say_again.ensures.says, c.say_again.ensures.answers)
 
 pub returns-in-Restart-clause-disk : goal.returns-in-Restart-clause-disk
-returns-in-Restart-clause-disk g c = λ is. absurd (two_never c.say_again.result statuses.Restart statuses.Edge statuses.Disk c.say_again.ensures.answers (λ e. cc) (λ e. cc) is)
+returns-in-Restart-clause-disk g c = λ is. absurd (two_never c.say_again.result statuses.Restart statuses.Edge statuses.Disk c.say_again.ensures.answers
+    (λ e. cc) (λ e. cc) is)
 
 -- ---- for a reboot
 
@@ -101,8 +112,12 @@ returns-in-Reboot-clause-trace g c = λ p h left serves.
     let told = Listed g.R.Runner.list g.R.Runner.told g.R.Runner.asked c.args.runner.now in
     let world = g.S.Supervise.world c.args.supervisor.now in
     let living = g.R.Runner.living c.args.runner.now in
-    let l = subst (λ (x : Driven _). DrivenLeft x h p world told living) c.in-Reboot.is left in
-    ([], acts_none p list list refl, restart_ends p (loaded_device c.in-Reboot.state) world told living c.say_again-in-Reboot.result statuses.Reboot l.0 l.1 refl c.say_again-in-Reboot.ensures.answers)
+    let l = subst (λ (x : Driven _). DrivenLeft x h p world told living) c.in-Reboot.is left in (
+      [],
+      acts_none p list list refl,
+      restart_ends p (loaded_device c.in-Reboot.state) world told living c.say_again-in-Reboot.result statuses.Reboot l.0 l.1
+          refl c.say_again-in-Reboot.ensures.answers,
+    )
 
 pub returns-in-Reboot-clause-none : goal.returns-in-Reboot-clause-none
 returns-in-Reboot-clause-none g c =
@@ -119,19 +134,23 @@ returns-in-Reboot-clause-spared g c = start_spares g.met.D.Disk.laws (IsBelow ar
 
 pub returns-in-Reboot-clause-safe : goal.returns-in-Reboot-clause-safe
 returns-in-Reboot-clause-safe g c =
-    subst (λ (x : Driven _). AllHoldDevice (g.D.Disk.may_leave c.args.disk.now) (driven_device x) → Leaves g.D.Disk.moment g.D.Disk.left_since c.args.disk.now c.args.disk.now (λ i. HoldsDevice i (driven_device x))) (sym c.in-Reboot.is)
+    subst (λ (x : Driven _). AllHoldDevice (g.D.Disk.may_leave c.args.disk.now) (driven_device x) →
+    Leaves g.D.Disk.moment g.D.Disk.left_since c.args.disk.now c.args.disk.now (λ i. HoldsDevice i (driven_device x))) (sym c.in-Reboot.is)
     (still_safe g.met.D.Disk.laws (loaded_device c.in-Reboot.state) c.args.disk.now)
 
 pub returns-in-Reboot-clause-answers : goal.returns-in-Reboot-clause-answers
-returns-in-Reboot-clause-answers g c = subst (λ (x : Driven _). AnswersFor (Ok x) c.say_again-in-Reboot.result) (sym c.in-Reboot.is) c.say_again-in-Reboot.ensures.answers
+returns-in-Reboot-clause-answers g c = subst (λ (x : Driven _). AnswersFor (Ok x) c.say_again-in-Reboot.result) (sym c.in-Reboot.is)
+    c.say_again-in-Reboot.ensures.answers
 
 pub returns-in-Reboot-clause-ends : goal.returns-in-Reboot-clause-ends
 returns-in-Reboot-clause-ends g c =
-    subst (λ (x : Driven _). SaysEnding (g.K.Sink.held c.args.sink.now) (g.K.Sink.held c.say_again-in-Reboot.new.sink) c.say_again-in-Reboot.result (λ e. EndsFor (Ok x) e × (e ≡ Fails → Rose (g.D.Disk.faults c.args.disk.now) (g.D.Disk.faults c.args.disk.now)))) (sym c.in-Reboot.is)
+    subst (λ (x : Driven _). SaysEnding (g.K.Sink.held c.args.sink.now) (g.K.Sink.held c.say_again-in-Reboot.new.sink) c.say_again-in-Reboot.result
+    (λ e. EndsFor (Ok x) e × (e ≡ Fails → Rose (g.D.Disk.faults c.args.disk.now) (g.D.Disk.faults c.args.disk.now)))) (sym c.in-Reboot.is)
     (Reboots (id_of (loaded_device c.in-Reboot.state)), (refl, λ fails. absurd cc), c.say_again-in-Reboot.ensures.says, c.say_again-in-Reboot.ensures.answers)
 
 pub returns-in-Reboot-clause-disk : goal.returns-in-Reboot-clause-disk
-returns-in-Reboot-clause-disk g c = λ is. absurd (two_never c.say_again-in-Reboot.result statuses.Reboot statuses.Edge statuses.Disk c.say_again-in-Reboot.ensures.answers (λ e. cc) (λ e. cc) is)
+returns-in-Reboot-clause-disk g c = λ is. absurd (two_never c.say_again-in-Reboot.result statuses.Reboot statuses.Edge statuses.Disk
+    c.say_again-in-Reboot.ensures.answers (λ e. cc) (λ e. cc) is)
 
 -- ---- no stray file is left behind a close
 

@@ -8,5 +8,6 @@ use Rattle.session.proofs.ends.say_again.Goals as goal
 pub returns-clause-says : goal.returns-clause-says
 returns-clause-says g c =
     let word = c.args.word.now in
-    says_as (g.K.Sink.held c.args.sink.now) (g.K.Sink.held c.say.new.sink) c.say.result (word ++ (c.pending_id.result.now ++ codes "\n")) (word ++ (id_of (loaded_device c.args.state.now) ++ codes "\n"))
+    says_as (g.K.Sink.held c.args.sink.now) (g.K.Sink.held c.say.new.sink) c.say.result (word ++ (c.pending_id.result.now ++ codes "\n"))
+    (word ++ (id_of (loaded_device c.args.state.now) ++ codes "\n"))
     (ap (λ (l : List ℕ). word ++ (l ++ codes "\n")) c.pending_id.ensures) c.say.ensures.says

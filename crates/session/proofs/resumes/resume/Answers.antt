@@ -38,10 +38,12 @@ returns-in-Idle-clause-call g c = λ p front serves taken.
     let d = loaded_device c.args.state in
     let stands = loaded_stands g.met.D.Disk.laws g.met.J.Journal.laws c.args.state c.args.disk.now c.requires.held p.device front.between.stands.device_is in
     let told = Listed g.R.Runner.list g.R.Runner.told g.R.Runner.asked c.args.runner.now in
-    let none = loaded_idle g.D.Disk.is_modelled g.D.Disk.may_leave g.J.Journal.stands g.J.Journal.end c.args.state _ c.args.disk.now c.in-Idle.is c.requires.held in
+    let none = loaded_idle g.D.Disk.is_modelled g.D.Disk.may_leave g.J.Journal.stands g.J.Journal.end c.args.state _ c.args.disk.now c.in-Idle.is
+    c.requires.held in
     let before = ap (λ (e : Device). e.pending) front.between.stands.device_is ∙ none in
     let held = g.K.Sink.held c.args.sink.now in (
-      nothing_called g.J.Journal.entries g.J.Journal.files g.met.D.Disk.laws c.args.disk.now c.args.disk.now told.list held (g.K.Sink.held c.say.new.sink) p Idle c.say.result
+      nothing_called g.J.Journal.entries g.J.Journal.files g.met.D.Disk.laws c.args.disk.now c.args.disk.now told.list held (g.K.Sink.held c.say.new.sink) p
+          Idle c.say.result
           (start_spares g.met.D.Disk.laws (IsBelow artifacts) c.args.disk.now)
           stands
           (front_shut p d (g.S.Supervise.world c.args.supervisor.now) told (g.R.Runner.living c.args.runner.now) front)
@@ -76,11 +78,13 @@ returns-in-Idle-clause-later g c = (
 
 pub ready_again-requires-clause-sound : goal.ready_again-requires-clause-sound
 ready_again-requires-clause-sound g c =
-    subst IsSound (sym c.device.ensures) (loaded_hand g.D.Disk.is_modelled g.D.Disk.may_leave g.J.Journal.stands g.J.Journal.end c.args.state c.args.disk.now c.requires.held).1.sound
+    subst IsSound (sym c.device.ensures) (loaded_hand g.D.Disk.is_modelled g.D.Disk.may_leave g.J.Journal.stands g.J.Journal.end c.args.state c.args.disk.now
+    c.requires.held).1.sound
 
 pub ready_again-requires-clause-regular : goal.ready_again-requires-clause-regular
 ready_again-requires-clause-regular g c =
-    subst IsRegularDevice (sym c.device.ensures) (loaded_hand g.D.Disk.is_modelled g.D.Disk.may_leave g.J.Journal.stands g.J.Journal.end c.args.state c.args.disk.now c.requires.held).1.regular
+    subst IsRegularDevice (sym c.device.ensures) (loaded_hand g.D.Disk.is_modelled g.D.Disk.may_leave g.J.Journal.stands g.J.Journal.end c.args.state
+    c.args.disk.now c.requires.held).1.regular
 
 -- ---- there is no memory for it
 
@@ -98,7 +102,8 @@ returns-in_default-ready_again-clause-call g c = λ p front serves taken.
           (starved_prints _ held held p.device statuses.Memory stands refl)
           refl
           refl,
-      resumes_some d Starves (loaded_pending g.D.Disk.is_modelled g.D.Disk.may_leave g.J.Journal.stands g.J.Journal.end c.args.state c.args.disk.now c.requires.held c.in_default.not-Idle) (inr refl),
+      resumes_some d Starves (loaded_pending g.D.Disk.is_modelled g.D.Disk.may_leave g.J.Journal.stands g.J.Journal.end c.args.state c.args.disk.now
+          c.requires.held c.in_default.not-Idle) (inr refl),
       (λ holds. still_whole g.J.Journal.entries g.J.Journal.files g.met.D.Disk.laws c.args.disk.now p stands holds),
       (λ fails. absurd cc),
     )
@@ -122,7 +127,8 @@ returns-in_default-say_resumed-clause-call g c = λ p front serves taken.
     let d = loaded_device c.args.state in
     let stands = loaded_stands g.met.D.Disk.laws g.met.J.Journal.laws c.args.state c.args.disk.now c.requires.held p.device front.between.stands.device_is in
     let told = Listed g.R.Runner.list g.R.Runner.told g.R.Runner.asked c.args.runner.now in
-    let pending = loaded_pending g.D.Disk.is_modelled g.D.Disk.may_leave g.J.Journal.stands g.J.Journal.end c.args.state c.args.disk.now c.requires.held c.in_default.not-Idle in
+    let pending = loaded_pending g.D.Disk.is_modelled g.D.Disk.may_leave g.J.Journal.stands g.J.Journal.end c.args.state c.args.disk.now c.requires.held
+    c.in_default.not-Idle in
     let opening = opening_at p.device d front.between.stands.device_is pending in
     let edge = not_done c.say_resumed.result c.say_resumed.ensures.answers c.in_default-say_resumed.not-Done in
     let held = g.K.Sink.held c.args.sink.now in
@@ -132,7 +138,8 @@ returns-in_default-say_resumed-clause-call g c = λ p front serves taken.
           stands
           (front_shut p d (g.S.Supervise.world c.args.supervisor.now) told (g.R.Runner.living c.args.runner.now) front)
           (inr edge)
-          (unopened_prints _ held last p.device c.say_resumed.result stands (subst (λ (l : List ℕ). AppendsPrefix held last l) opening c.say_resumed.ensures.says.0) edge)
+          (unopened_prints _ held last p.device c.say_resumed.result stands
+          (subst (λ (l : List ℕ). AppendsPrefix held last l) opening c.say_resumed.ensures.says.0) edge)
           tt
           refl,
       resumes_some d Breaks pending (inl tt),
@@ -141,7 +148,8 @@ returns-in_default-say_resumed-clause-call g c = λ p front serves taken.
     )
 
 pub returns-in_default-say_resumed-clause-own : goal.returns-in_default-say_resumed-clause-own
-returns-in_default-say_resumed-clause-own g c = two_never c.say_resumed.result statuses.Done statuses.Edge statuses.Library c.say_resumed.ensures.answers (λ e. cc) (λ e. cc)
+returns-in_default-say_resumed-clause-own g c = two_never c.say_resumed.result statuses.Done statuses.Edge statuses.Library c.say_resumed.ensures.answers
+    (λ e. cc) (λ e. cc)
 
 pub returns-in_default-say_resumed-clause-none : goal.returns-in_default-say_resumed-clause-none
 returns-in_default-say_resumed-clause-none g c =
@@ -150,7 +158,8 @@ returns-in_default-say_resumed-clause-none g c =
     no_living q.0 (loaded_device c.args.state) (g.S.Supervise.world c.args.supervisor.now) told (g.R.Runner.living c.args.runner.now) q.1
 
 pub returns-in_default-say_resumed-clause-disk : goal.returns-in_default-say_resumed-clause-disk
-returns-in_default-say_resumed-clause-disk g c = λ is. absurd (two_never c.say_resumed.result statuses.Done statuses.Edge statuses.Disk c.say_resumed.ensures.answers (λ e. cc) (λ e. cc) is)
+returns-in_default-say_resumed-clause-disk g c = λ is. absurd
+    (two_never c.say_resumed.result statuses.Done statuses.Edge statuses.Disk c.say_resumed.ensures.answers (λ e. cc) (λ e. cc) is)
 
 pub returns-in_default-say_resumed-clause-later : goal.returns-in_default-say_resumed-clause-later
 returns-in_default-say_resumed-clause-later g c = (
@@ -174,7 +183,8 @@ end_call-requires-clause-placed g c =
     let q = c.requires.placed in
     let told = Listed g.R.Runner.list g.R.Runner.told g.R.Runner.asked c.args.runner.now in
     let last = Listed g.R.Runner.list g.R.Runner.told g.R.Runner.asked c.drive-driven.new.runner in
-    placed_at g.met.D.Disk.laws g.met.J.Journal.laws c.requires.apart (g.S.Supervise.world c.drive-driven.new.supervisor) last (g.R.Runner.living c.drive-driven.new.runner) c.args.disk.now c.drive-driven.new.disk told.list last.list
+    placed_at g.met.D.Disk.laws g.met.J.Journal.laws c.requires.apart (g.S.Supervise.world c.drive-driven.new.supervisor) last
+    (g.R.Runner.living c.drive-driven.new.runner) c.args.disk.now c.drive-driven.new.disk told.list last.list
     (g.K.Sink.held c.say_resumed.new.sink) (g.K.Sink.held c.drive-driven.new.sink) q.0 c.drive-driven.result (c.drive-driven.ensures.course q.0 q.1) q.2
 
 pub returns-in-Done-clause-call : goal.returns-in-Done-clause-call
@@ -182,24 +192,29 @@ returns-in-Done-clause-call g c = λ p front serves taken.
     let d = loaded_device c.args.state in
     let told = Listed g.R.Runner.list g.R.Runner.told g.R.Runner.asked c.args.runner.now in
     let last = Listed g.R.Runner.list g.R.Runner.told g.R.Runner.asked c.drive-driven.new.runner in
-    let pending = loaded_pending g.D.Disk.is_modelled g.D.Disk.may_leave g.J.Journal.stands g.J.Journal.end c.args.state c.args.disk.now c.requires.held c.in_default.not-Idle in
+    let pending = loaded_pending g.D.Disk.is_modelled g.D.Disk.may_leave g.J.Journal.stands g.J.Journal.end c.args.state c.args.disk.now c.requires.held
+    c.in_default.not-Idle in
     let opening = opening_at p.device d front.between.stands.device_is pending in
     let held = g.K.Sink.held c.args.sink.now in
     let mid = g.K.Sink.held c.say_resumed.new.sink in
-    let call = called g.met.D.Disk.laws g.met.J.Journal.laws c.requires.apart (g.S.Supervise.world c.drive-driven.new.supervisor) last (g.R.Runner.living c.drive-driven.new.runner)
+    let call = called g.met.D.Disk.laws g.met.J.Journal.laws c.requires.apart (g.S.Supervise.world c.drive-driven.new.supervisor) last
+    (g.R.Runner.living c.drive-driven.new.runner)
     c.args.disk.now c.drive-driven.new.disk c.end_call.new.disk told.list last.list (g.R.Runner.list c.end_call.new.runner)
     held mid (g.K.Sink.held c.drive-driven.new.sink) (g.K.Sink.held c.end_call.new.sink) p c.drive-driven.result c.end_call.result
     (λ e. e ≡ Fails → (IsErrOf c.drive-driven.result over.Disk) ⊎ Rose (g.D.Disk.faults c.drive-driven.new.disk) (g.D.Disk.faults c.end_call.new.disk))
     (subst (λ (l : List ℕ). Appends held mid l) opening (c.say_resumed.ensures.says.1 (done_no_edge c.say_resumed.result c.in-Done.is)))
     (c.drive-driven.ensures.course p front)
-    serves c.drive-driven.ensures.held c.end_call.ensures.trace c.end_call.ensures.still c.end_call.ensures.spared c.end_call.ensures.safe c.end_call.ensures.unswept c.end_call.ensures.ends c.end_call.ensures.silent c.end_call.ensures.answers in
+    serves c.drive-driven.ensures.held c.end_call.ensures.trace c.end_call.ensures.still c.end_call.ensures.spared c.end_call.ensures.safe
+    c.end_call.ensures.unswept c.end_call.ensures.ends c.end_call.ensures.silent c.end_call.ensures.answers in
     let course = c.drive-driven.ensures.course p front in
-    let once = subst (λ (b : Bool). TakesOnce b (records_of course.history)) (taken ∙ some_is p.device d front.between.stands.device_is pending) (takes_once p course.history serves course.trace.proper) in (
+    let once = subst (λ (b : Bool). TakesOnce b (records_of course.history)) (taken ∙ some_is p.device d front.between.stands.device_is pending)
+    (takes_once p course.history serves course.trace.proper) in (
       call.0,
       resumes_some d call.0.ending pending (inl call.1),
       (λ holds. call.3 (none_before (g.D.Disk.may_leave c.args.disk.now) p.device (records_of course.history) once holds)),
       (λ fails.
-          rose_by c.drive-driven.result over.Disk (g.D.Disk.faults c.args.disk.now) (g.D.Disk.faults c.drive-driven.new.disk) (g.D.Disk.faults c.end_call.new.disk) c.drive-driven.ensures.disk c.drive-driven.ensures.quiet_disk c.end_call.ensures.later.0 (call.4 fails)),
+          rose_by c.drive-driven.result over.Disk (g.D.Disk.faults c.args.disk.now) (g.D.Disk.faults c.drive-driven.new.disk)
+          (g.D.Disk.faults c.end_call.new.disk) c.drive-driven.ensures.disk c.drive-driven.ensures.quiet_disk c.end_call.ensures.later.0 (call.4 fails)),
     )
 
 pub returns-in-Done-clause-own : goal.returns-in-Done-clause-own
@@ -210,27 +225,37 @@ returns-in-Done-clause-others g c = λ told name apart below. c.end_call.ensures
 
 pub returns-in-Done-clause-disk : goal.returns-in-Done-clause-disk
 returns-in-Done-clause-disk g c = λ is.
-    rose_by c.drive-driven.result over.Disk (g.D.Disk.faults c.args.disk.now) (g.D.Disk.faults c.drive-driven.new.disk) (g.D.Disk.faults c.end_call.new.disk) c.drive-driven.ensures.disk c.drive-driven.ensures.quiet_disk c.end_call.ensures.later.0 (c.end_call.ensures.disk is)
+    rose_by c.drive-driven.result over.Disk (g.D.Disk.faults c.args.disk.now) (g.D.Disk.faults c.drive-driven.new.disk) (g.D.Disk.faults c.end_call.new.disk)
+    c.drive-driven.ensures.disk c.drive-driven.ensures.quiet_disk c.end_call.ensures.later.0 (c.end_call.ensures.disk is)
 
 pub returns-in-Done-clause-edge : goal.returns-in-Done-clause-edge
 returns-in-Done-clause-edge g c = λ is.
     rose_on (g.K.Sink.faults c.args.sink.now) (g.K.Sink.faults c.say_resumed.new.sink) (g.K.Sink.faults c.end_call.new.sink) c.say_resumed.ensures.later
-    (rose_by c.drive-driven.result over.Edge (g.K.Sink.faults c.say_resumed.new.sink) (g.K.Sink.faults c.drive-driven.new.sink) (g.K.Sink.faults c.end_call.new.sink) c.drive-driven.ensures.edge c.drive-driven.ensures.quiet_sink c.end_call.ensures.later.1 (c.end_call.ensures.edge is))
+    (rose_by c.drive-driven.result over.Edge (g.K.Sink.faults c.say_resumed.new.sink) (g.K.Sink.faults c.drive-driven.new.sink)
+    (g.K.Sink.faults c.end_call.new.sink) c.drive-driven.ensures.edge c.drive-driven.ensures.quiet_sink c.end_call.ensures.later.1
+    (c.end_call.ensures.edge is))
 
 pub returns-in-Done-clause-quiet_disk : goal.returns-in-Done-clause-quiet_disk
 returns-in-Done-clause-quiet_disk g c = λ disk edge.
-    c.end_call.ensures.quiet_disk disk edge ∙ c.drive-driven.ensures.quiet_disk (answers_disk c.end_call.result c.drive-driven.result c.end_call.ensures.answers disk edge)
+    c.end_call.ensures.quiet_disk disk edge ∙ c.drive-driven.ensures.quiet_disk
+    (answers_disk c.end_call.result c.drive-driven.result c.end_call.ensures.answers disk edge)
 
 pub returns-in-Done-clause-quiet_sink : goal.returns-in-Done-clause-quiet_sink
 returns-in-Done-clause-quiet_sink g c = λ edge.
-    c.end_call.ensures.quiet_sink edge ∙ c.drive-driven.ensures.quiet_sink (answers_edge c.end_call.result c.drive-driven.result c.end_call.ensures.answers edge) ∙ c.say_resumed.ensures.quiet (done_no_edge c.say_resumed.result c.in-Done.is)
+    c.end_call.ensures.quiet_sink edge ∙ c.drive-driven.ensures.quiet_sink
+    (answers_edge c.end_call.result c.drive-driven.result c.end_call.ensures.answers edge) ∙ c.say_resumed.ensures.quiet
+    (done_no_edge c.say_resumed.result c.in-Done.is)
 
 pub returns-in-Done-clause-later : goal.returns-in-Done-clause-later
 returns-in-Done-clause-later g c = (
-  stays_on (g.D.Disk.faults c.args.disk.now) (g.D.Disk.faults c.args.disk.now) (g.D.Disk.faults c.drive-driven.new.disk) (g.D.Disk.faults c.end_call.new.disk) (omega arith)
-      (stays_by c.drive-driven.result over.Disk (g.D.Disk.faults c.args.disk.now) (g.D.Disk.faults c.drive-driven.new.disk) c.drive-driven.ensures.disk c.drive-driven.ensures.quiet_disk) c.end_call.ensures.later.0,
-  stays_on (g.K.Sink.faults c.args.sink.now) (g.K.Sink.faults c.say_resumed.new.sink) (g.K.Sink.faults c.drive-driven.new.sink) (g.K.Sink.faults c.end_call.new.sink) c.say_resumed.ensures.later
-      (stays_by c.drive-driven.result over.Edge (g.K.Sink.faults c.say_resumed.new.sink) (g.K.Sink.faults c.drive-driven.new.sink) c.drive-driven.ensures.edge c.drive-driven.ensures.quiet_sink) c.end_call.ensures.later.1,
+  stays_on (g.D.Disk.faults c.args.disk.now) (g.D.Disk.faults c.args.disk.now) (g.D.Disk.faults c.drive-driven.new.disk) (g.D.Disk.faults c.end_call.new.disk)
+      (omega arith)
+      (stays_by c.drive-driven.result over.Disk (g.D.Disk.faults c.args.disk.now) (g.D.Disk.faults c.drive-driven.new.disk) c.drive-driven.ensures.disk
+      c.drive-driven.ensures.quiet_disk) c.end_call.ensures.later.0,
+  stays_on (g.K.Sink.faults c.args.sink.now) (g.K.Sink.faults c.say_resumed.new.sink) (g.K.Sink.faults c.drive-driven.new.sink)
+      (g.K.Sink.faults c.end_call.new.sink) c.say_resumed.ensures.later
+      (stays_by c.drive-driven.result over.Edge (g.K.Sink.faults c.say_resumed.new.sink) (g.K.Sink.faults c.drive-driven.new.sink) c.drive-driven.ensures.edge
+      c.drive-driven.ensures.quiet_sink) c.end_call.ensures.later.1,
 )
 
 -- ---- no stray file is left behind a close
@@ -241,7 +266,8 @@ returns-in-Idle-clause-swept g c =
     (loaded_stands g.met.D.Disk.laws g.met.J.Journal.laws c.args.state c.args.disk.now c.requires.held (loaded_device c.args.state) refl)
 
 pub returns-in_default-ready_again-clause-swept : goal.returns-in_default-ready_again-clause-swept
-returns-in_default-ready_again-clause-swept g c = λ clean. never_closes g.D.Disk.is_modelled g.J.Journal.entries statuses.Memory statuses.Memory (g.D.Disk.seen c.args.disk.now) refl (inl refl)
+returns-in_default-ready_again-clause-swept g c = λ clean. never_closes g.D.Disk.is_modelled g.J.Journal.entries statuses.Memory statuses.Memory
+    (g.D.Disk.seen c.args.disk.now) refl (inl refl)
 
 pub returns-in_default-say_resumed-clause-swept : goal.returns-in_default-say_resumed-clause-swept
 returns-in_default-say_resumed-clause-swept g c =

@@ -30,18 +30,26 @@ pub returns-in-Err-clause-call : goal.returns-in-Err-clause-call
 returns-in-Err-clause-call g c = λ p opens serves.
     let d = idle_device c.args.idle in
     let told = Listed g.R.Runner.list g.R.Runner.told g.R.Runner.asked c.args.runner.now in
-    let stands : (i : Image) → g.D.Disk.may_leave c.args.disk.now i → StandsFor g.J.Journal.entries i p.device = λ i left. subst (λ (e : Device). StandsFor g.J.Journal.entries i e) (sym opens.stands.device_is) (in_hand_stands g.met.D.Disk.laws g.met.J.Journal.laws c.args.idle.log c.args.disk.now d c.requires.held.0 i left) in
+    let stands : (i : Image) → g.D.Disk.may_leave c.args.disk.now i → StandsFor g.J.Journal.entries i p.device =
+    λ i left. subst (λ (e : Device). StandsFor g.J.Journal.entries i e) (sym opens.stands.device_is)
+    (in_hand_stands g.met.D.Disk.laws g.met.J.Journal.laws c.args.idle.log c.args.disk.now d c.requires.held.0 i left) in
     let declined = Refused (document_refusal c.in-Err.fault) in
-    let t = declined_called g.J.Journal.entries g.J.Journal.files g.met.D.Disk.laws (start_of g.J.Journal.end g.J.Journal.number g.J.Journal.turns (idle_log c.args.idle) (idle_device c.args.idle)) c.args.disk.now c.args.disk.now told.list (g.K.Sink.held c.args.sink.now) (g.K.Sink.held c.say_refusal-status.new.sink) p declined c.say_refusal-status.result
+    let t = declined_called g.J.Journal.entries g.J.Journal.files g.met.D.Disk.laws
+    (start_of g.J.Journal.end g.J.Journal.number g.J.Journal.turns (idle_log c.args.idle) (idle_device c.args.idle)) c.args.disk.now c.args.disk.now
+    told.list (g.K.Sink.held c.args.sink.now) (g.K.Sink.held c.say_refusal-status.new.sink) p declined c.say_refusal-status.result
     (start_spares g.met.D.Disk.laws (IsBelow artifacts) c.args.disk.now)
     stands
     (open_shut p d (g.S.Supervise.world c.args.supervisor.now) told (g.R.Runner.living c.args.runner.now) c.requires.empty opens)
     (ap (λ (e : Device). e.pending) opens.stands.device_is ∙ c.requires.held.1)
-    (subst (λ (r : Refusal). SaysRefusal (g.K.Sink.held c.args.sink.now) (g.K.Sink.held c.say_refusal-status.new.sink) c.say_refusal-status.result (status_of_refusal r) (refusal_line r)) c.from-refusal.ensures c.say_refusal-status.ensures.says) in (
+    (subst (λ (r : Refusal). SaysRefusal (g.K.Sink.held c.args.sink.now) (g.K.Sink.held c.say_refusal-status.new.sink) c.say_refusal-status.result
+    (status_of_refusal r) (refusal_line r)) c.from-refusal.ensures c.say_refusal-status.ensures.says) in (
       Err declined,
-      (λ o is. unread_taken d o (g.L.Library.content c.args.library.now) (g.L.Library.faults c.args.library.now) (g.L.Library.faults c.args.library.now) c.args.document.now c.in-Err.fault c.in-Err.ensures.exact),
+      (λ o is. unread_taken d o (g.L.Library.content c.args.library.now) (g.L.Library.faults c.args.library.now) (g.L.Library.faults c.args.library.now)
+          c.args.document.now c.in-Err.fault c.in-Err.ensures.exact),
       t.0,
-      (λ holds. subst (λ (l : List Record). Leaves g.D.Disk.moment g.D.Disk.left_since c.args.disk.now c.args.disk.now (StandsWhole g.J.Journal.entries p.device l)) (sym t.1) (still_whole g.J.Journal.entries g.J.Journal.files g.met.D.Disk.laws c.args.disk.now p stands holds)),
+      (λ holds. subst (λ (l : List Record). Leaves g.D.Disk.moment g.D.Disk.left_since c.args.disk.now c.args.disk.now
+          (StandsWhole g.J.Journal.entries p.device l)) (sym t.1)
+          (still_whole g.J.Journal.entries g.J.Journal.files g.met.D.Disk.laws c.args.disk.now p stands holds)),
       (λ fails. absurd (t.2 fails)),
       (λ failed. absurd failed),
       (λ failed. absurd (unread_library c.in-Err.fault (ap status_of_refusal failed))),
@@ -71,7 +79,8 @@ returns-in-Err-clause-disk g c = λ is. absurd (refusal_never _ c.say_refusal-st
 pub returns-in-Err-clause-library : goal.returns-in-Err-clause-library
 returns-in-Err-clause-library g c = λ is.
     absurd (unread_never c.in-Err.fault c.say_refusal-status.result
-    (subst (λ (r : Refusal). (c.say_refusal-status.result ≡ status_of_refusal r) ⊎ (c.say_refusal-status.result ≡ statuses.Memory) ⊎ (c.say_refusal-status.result ≡ statuses.Edge)) c.from-refusal.ensures c.say_refusal-status.ensures.answers) is)
+    (subst (λ (r : Refusal). (c.say_refusal-status.result ≡ status_of_refusal r) ⊎ (c.say_refusal-status.result ≡ statuses.Memory) ⊎
+    (c.say_refusal-status.result ≡ statuses.Edge)) c.from-refusal.ensures c.say_refusal-status.ensures.answers) is)
 
 pub returns-in-Err-clause-later : goal.returns-in-Err-clause-later
 returns-in-Err-clause-later g c = (

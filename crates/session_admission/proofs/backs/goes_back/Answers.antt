@@ -20,4 +20,5 @@ returns-in-Ok c =
     let below = place_below c.args.name.now c.args.set.now c.in-Some.at there in
     let reads = subst (λ (b : List ℕ). Reads b p recipe) c.as_slice.ensures c.in-Ok.ensures.exact in
     c.recipe_laws.ensures.boot_back item.recipe p recipe reads
-    ∙ back_some p c.args.name.now (map item_view c.args.set.now) (item_view item) (item_read c.args.name.now c.args.set.now c.in-Some.at item there below c.index-set-at.is)
+    ∙ back_some p c.args.name.now (map item_view c.args.set.now) (item_view item)
+    (item_read c.args.name.now c.args.set.now c.in-Some.at item there below c.index-set-at.is)

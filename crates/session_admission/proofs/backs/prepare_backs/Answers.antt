@@ -31,7 +31,8 @@ loop-name-preserved c =
     let long = ap length c.as_slice-name-items.ensures in
     let below : i < length names = omega (arith, long) in
     let is : x ≡ get_or names i x = subst (λ (l : List (List ℕ)). x ≡ get_or l i x) c.as_slice-name-items.ensures c.name-item.is in
-    let told : c.in_ok-back.back ≡ p x = subst (λ (xs : List code.Item). c.in_ok-back.back ≡ goes_back origin.platform (map item_view xs) x) c.as_slice.ensures c.in_ok-back.ensures in
+    let told : c.in_ok-back.back ≡ p x = subst (λ (xs : List code.Item). c.in_ok-back.back ≡ goes_back origin.platform (map item_view xs) x)
+    c.as_slice.ensures c.in_ok-back.ensures in
     elim c.if-back.branch [
       | then-back+in_ok-prepare_boot+in_ok-push w ↦
           rw (w.made-is, w.in_ok-push.ensures.items)
@@ -48,5 +49,7 @@ returns c =
     let long = ap length c.as_slice-name-items.ensures in
     let past : length names ≤ c.loop-name.name-index = omega (arith, long) in
     let zip : AllZip (IsBootOf origin set) (filter p names) c.loop-name.made.items =
-    subst (λ (l : List (List ℕ)). AllZip (IsBootOf origin set) (filter p l) c.loop-name.made.items) (take_all c.loop-name.name-index names past) c.loop-name.invariant in
-    subst (λ (made : List Prepared). AreBootsOf origin set (filter p names) made) (sym c.new.ensures) (listed origin set (filter p names) c.loop-name.made.items zip)
+    subst (λ (l : List (List ℕ)). AllZip (IsBootOf origin set) (filter p l) c.loop-name.made.items) (take_all c.loop-name.name-index names past)
+    c.loop-name.invariant in
+    subst (λ (made : List Prepared). AreBootsOf origin set (filter p names) made) (sym c.new.ensures)
+    (listed origin set (filter p names) c.loop-name.made.items zip)

@@ -22,10 +22,12 @@ pub unreachable-requires-in_default-2 : goal.unreachable-requires-in_default-2
 unreachable-requires-in_default-2 c =
     is_made c.recipe_laws.ensures.one_recipe c.args.origin.now (map item_view c.args.items.now) c.args.name.now c.in-Some.at c.requires.items c.requires.boot
     (subst (λ (xs : List code.Item). place c.args.name.now (map item_view xs) ≡ Some c.in-Some.at) c.as_slice.ensures (sym c.place_of.ensures ∙ c.in-Some.is))
-    (subst (λ (m : Option Prepared). IsStepAt c.args.origin.now (map item_view c.args.items.now) c.in-Some.at step.Bootstrap m) c.in_default-2.is c.in_ok-made.ensures)
+    (subst (λ (m : Option Prepared). IsStepAt c.args.origin.now (map item_view c.args.items.now) c.in-Some.at step.Bootstrap m) c.in_default-2.is
+    c.in_ok-made.ensures)
 
 pub returns : goal.returns
 returns c =
     boot_of c.args.origin.now (map item_view c.args.items.now) c.args.name.now c.in-Some.at c.in-Some-2.made
     (subst (λ (xs : List code.Item). place c.args.name.now (map item_view xs) ≡ Some c.in-Some.at) c.as_slice.ensures (sym c.place_of.ensures ∙ c.in-Some.is))
-    (subst (λ (m : Option Prepared). IsStepAt c.args.origin.now (map item_view c.args.items.now) c.in-Some.at step.Bootstrap m) c.in-Some-2.is c.in_ok-made.ensures)
+    (subst (λ (m : Option Prepared). IsStepAt c.args.origin.now (map item_view c.args.items.now) c.in-Some.at step.Bootstrap m) c.in-Some-2.is
+    c.in_ok-made.ensures)

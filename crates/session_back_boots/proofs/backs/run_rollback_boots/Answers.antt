@@ -33,7 +33,8 @@ steps-init g c = record {
   quiet_sink = refl;
   none =
       let q = c.requires.placed in
-      no_living q.0 (backing_device c.args.state) q.1 (Listed g.R.Runner.list g.R.Runner.told g.R.Runner.asked c.args.runner.now) (g.R.Runner.living c.args.runner.now) q.2;
+      no_living q.0 (backing_device c.args.state) q.1 (Listed g.R.Runner.list g.R.Runner.told g.R.Runner.asked c.args.runner.now)
+      (g.R.Runner.living c.args.runner.now) q.2;
   trace = λ p world front. (
     [],
     acted g.J.Journal.entries g.J.Journal.files g.met.D.Disk.laws c.args.disk.now (g.R.Runner.list c.args.runner.now) (g.R.Runner.list c.args.runner.now) p []
@@ -64,7 +65,8 @@ returns-in-Err-clause-trace g c = λ p world front.
     )
 
 pub is_last-requires : goal.is_last-requires
-is_last-requires g c = staged g.D.Disk.is_modelled g.D.Disk.may_leave g.J.Journal.stands g.J.Journal.end c.run_turn.new.disk c.in-Ok.turned.0 c.in-Ok.ensures.held
+is_last-requires g c = staged g.D.Disk.is_modelled g.D.Disk.may_leave g.J.Journal.stands g.J.Journal.end c.run_turn.new.disk c.in-Ok.turned.0
+    c.in-Ok.ensures.held
 
 pub steps-preserved : goal.steps-preserved
 steps-preserved g c =
@@ -74,7 +76,8 @@ steps-preserved g c =
     let same : backed_device c.in-Ok.turned.0 ≡ e = ap (λ (s : Backed _). backed_device s) c.in-Backing.is in
     let turns : Turns d x e = subst (λ (y : Device). Turns d x y) same c.in-Ok.ensures.turns in
     record {
-      held = subst (λ (s : Backed _). OwnsBacked g.D.Disk.is_modelled g.D.Disk.may_leave g.J.Journal.stands g.J.Journal.end s c.run_turn.new.disk) c.in-Backing.is c.in-Ok.ensures.held;
+      held = subst (λ (s : Backed _). OwnsBacked g.D.Disk.is_modelled g.D.Disk.may_leave g.J.Journal.stands g.J.Journal.end s c.run_turn.new.disk)
+          c.in-Backing.is c.in-Ok.ensures.held;
       made = made_on d e x c.args.made.now turns c.steps.invariant.made;
       others = λ is_modelled name other. c.run_turn.ensures.others is_modelled name other ∙ c.steps.invariant.others is_modelled name other;
       quiet_disk = c.in-Ok.ensures.quiet_disk (not_err c.in-Ok.turned over.Disk) ∙ c.steps.invariant.quiet_disk;
@@ -89,10 +92,12 @@ steps-preserved g c =
                 (g.R.Runner.list c.args.runner.now) (g.R.Runner.list c.steps.runner) (g.R.Runner.list c.run_turn.new.runner) p w.0 t.0 w.1 t.1,
             all_told (g.K.Sink.held c.args.sink.now) (g.K.Sink.held c.steps.sink) (g.K.Sink.held c.run_turn.new.sink) p w.0 t.0 w.1.run w.2 t.2,
             subst (λ (y : Device). IsAtBootStage (state_after p (t.0 ++ w.0)) y world told (g.R.Runner.living c.run_turn.new.runner)) same (
-                subst (λ (q : SessionState). IsAtBootStage q (backed_device c.in-Ok.turned.0) world told (g.R.Runner.living c.run_turn.new.runner)) (sym (left-append p t.0 w.0))
+                subst (λ (q : SessionState). IsAtBootStage q (backed_device c.in-Ok.turned.0) world told (g.R.Runner.living c.run_turn.new.runner))
+                (sym (left-append p t.0 w.0))
                 (record {
                   between = t.3.0;
-                  over = goes_on (state_after (state_after p w.0) t.0).over x c.is_last.result (is_none (duty_of (backed_device c.in-Ok.turned.0)).turn) c.restart_of.result t.3.1 c.restart_of.ensures c.is_last.ensures (none_is c.restart_of.result c.in_default-restart_of.not-Some);
+                  over = goes_on (state_after (state_after p w.0) t.0).over x c.is_last.result (is_none (duty_of (backed_device c.in-Ok.turned.0)).turn)
+                      c.restart_of.result t.3.1 c.restart_of.ensures c.is_last.ensures (none_is c.restart_of.result c.in_default-restart_of.not-Some);
                 })),
           );
     }
@@ -101,10 +106,12 @@ pub steps-smaller : goal.steps-smaller
 steps-smaller g c =
     let d = backing_device c.steps.state in
     let x = c.in-Ok.turned.1 in
-    fewer d (backing_device c.in-Backing.next) x c.steps.invariant.held.1 (subst (λ (y : Device). Turns d x y) (ap (λ (s : Backed _). backed_device s) c.in-Backing.is) c.in-Ok.ensures.turns)
+    fewer d (backing_device c.in-Backing.next) x c.steps.invariant.held.1
+    (subst (λ (y : Device). Turns d x y) (ap (λ (s : Backed _). backed_device s) c.in-Backing.is) c.in-Ok.ensures.turns)
 
 pub returns-in-Rolling-clause-held : goal.returns-in-Rolling-clause-held
-returns-in-Rolling-clause-held g c = subst (λ (s : Backed _). OwnsBacked g.D.Disk.is_modelled g.D.Disk.may_leave g.J.Journal.stands g.J.Journal.end s c.run_turn.new.disk) c.in-Rolling.is c.in-Ok.ensures.held
+returns-in-Rolling-clause-held g c = subst (λ (s : Backed _). OwnsBacked g.D.Disk.is_modelled g.D.Disk.may_leave g.J.Journal.stands g.J.Journal.end s
+    c.run_turn.new.disk) c.in-Rolling.is c.in-Ok.ensures.held
 
 pub returns-in-Rolling-clause-trace : goal.returns-in-Rolling-clause-trace
 returns-in-Rolling-clause-trace g c = λ p world front.
@@ -114,7 +121,8 @@ returns-in-Rolling-clause-trace g c = λ p world front.
     let e = rolling_device c.in-Rolling.next in
     let x = c.in-Ok.turned.1 in
     let same : backed_device c.in-Ok.turned.0 ≡ e = ap (λ (s : Backed _). backed_device s) c.in-Rolling.is in
-    let held = subst (λ (s : Backed _). OwnsBacked g.D.Disk.is_modelled g.D.Disk.may_leave g.J.Journal.stands g.J.Journal.end s c.run_turn.new.disk) c.in-Rolling.is c.in-Ok.ensures.held in
+    let held = subst (λ (s : Backed _). OwnsBacked g.D.Disk.is_modelled g.D.Disk.may_leave g.J.Journal.stands g.J.Journal.end s c.run_turn.new.disk)
+    c.in-Rolling.is c.in-Ok.ensures.held in
     let told = Listed g.R.Runner.list g.R.Runner.told g.R.Runner.asked c.run_turn.new.runner in
     let living = g.R.Runner.living c.run_turn.new.runner in (
       t.0 ++ w.0,
@@ -126,7 +134,8 @@ returns-in-Rolling-clause-trace g c = λ p world front.
             subst (λ (q : SessionState). IsAtBootStage q (backed_device c.in-Ok.turned.0) world told living) (sym (left-append p t.0 w.0))
             (record {
               between = t.3.0;
-              over = goes_on (state_after (state_after p w.0) t.0).over x c.is_last.result (is_none (duty_of (backed_device c.in-Ok.turned.0)).turn) c.restart_of.result t.3.1 c.restart_of.ensures c.is_last.ensures (none_is c.restart_of.result c.in_default-restart_of.not-Some);
+              over = goes_on (state_after (state_after p w.0) t.0).over x c.is_last.result (is_none (duty_of (backed_device c.in-Ok.turned.0)).turn)
+                  c.restart_of.result t.3.1 c.restart_of.ensures c.is_last.ensures (none_is c.restart_of.result c.in_default-restart_of.not-Some);
             })),
         none_left e held.1,
         none_failed d e x c.steps.invariant.held.1 (subst (λ (y : Device). Turns d x y) same c.in-Ok.ensures.turns) held.1,
@@ -148,7 +157,8 @@ returns-in-Some-restart_of-clause-trace g c = λ p world front.
           (g.R.Runner.list c.args.runner.now) (g.R.Runner.list c.steps.runner) (g.R.Runner.list c.run_turn.new.runner) p w.0 t.0 w.1 t.1,
       all_told (g.K.Sink.held c.args.sink.now) (g.K.Sink.held c.steps.sink) (g.K.Sink.held c.run_turn.new.sink) p w.0 t.0 w.1.run w.2 t.2,
       subst (λ (q : SessionState). BootsLeft end (records_of (t.0 ++ w.0)) q d world told living) (sym (left-append p t.0 w.0))
-          (ends_call end (records_of (t.0 ++ w.0)) (state_after (state_after p w.0) t.0) d world told living x c.is_last.result c.restart_of.result t.3.0 t.3.1 (ends_on x w.0 t.0 t.3.2) c.restart_of.ensures c.is_last.ensures c.in-Some-restart_of.is),
+          (ends_call end (records_of (t.0 ++ w.0)) (state_after (state_after p w.0) t.0) d world told living x c.is_last.result c.restart_of.result t.3.0
+          t.3.1 (ends_on x w.0 t.0 t.3.2) c.restart_of.ensures c.is_last.ensures c.in-Some-restart_of.is),
       tt,
     )
 

@@ -35,7 +35,8 @@ returns-in-Ok-tell_end-clause-trace g c = λ p world told living h.
     let mark = mark_ended d n.0 x t in
     let same = c.in-Ok.ensures.taken r mark in (
       Recorded r ∷ [],
-      end_went g.J.Journal.entries g.J.Journal.files g.met.D.Disk.laws c.args.disk.now c.ended.new.disk told.list p d x world told living n.0 h (allowed_ended d n.0 x t c.requires.begun) (c.ended.ensures.moments r mark),
+      end_went g.J.Journal.entries g.J.Journal.files g.met.D.Disk.laws c.args.disk.now c.ended.new.disk told.list p d x world told living n.0 h
+          (allowed_ended d n.0 x t c.requires.begun) (c.ended.ensures.moments r mark),
       subst (λ (l : List ℕ). Appends (g.K.Sink.held c.args.sink.now) (g.K.Sink.held c.tell_end.new.sink) l) (line_ended p d e n.0 x h.stands.device_is same)
           (c.in-Ok-tell_end.ensures.line n.0 (λ fails. ap next_name same ∙ still_named d n.0 x t fails)),
       (between_ended p d e x world told living n.0 h same, over_ended p d e x n.0 h.stands.device_is same, ([], n.0, refl)),
@@ -61,8 +62,10 @@ returns-in-Err-tell_end-clause-trace g c = λ p world told living h.
     let same = c.in-Ok.ensures.taken r mark in
     let back : e ≡ applied p.device r = same ∙ ap (λ (y : Device). applied y r) (sym h.stands.device_is) in (
       Recorded r ∷ [],
-      end_went g.J.Journal.entries g.J.Journal.files g.met.D.Disk.laws c.args.disk.now c.ended.new.disk told.list p d x world told living n.0 h (allowed_ended d n.0 x t c.requires.begun) (c.ended.ensures.moments r mark),
-      subst (λ (l : List ℕ). AppendsPrefix (g.K.Sink.held c.args.sink.now) (g.K.Sink.held c.tell_end.new.sink) l) (line_ended p d e n.0 x h.stands.device_is same)
+      end_went g.J.Journal.entries g.J.Journal.files g.met.D.Disk.laws c.args.disk.now c.ended.new.disk told.list p d x world told living n.0 h
+          (allowed_ended d n.0 x t c.requires.begun) (c.ended.ensures.moments r mark),
+      subst (λ (l : List ℕ). AppendsPrefix (g.K.Sink.held c.args.sink.now) (g.K.Sink.held c.tell_end.new.sink) l)
+          (line_ended p d e n.0 x h.stands.device_is same)
           (c.in-Err-tell_end.ensures.line n.0 (λ fails. ap next_name same ∙ still_named d n.0 x t fails)),
       (
         refl,

@@ -34,12 +34,14 @@ returns-in-Err-clause-trace g c = λ p world front.
 pub returns-in-Err-clause-none : goal.returns-in-Err-clause-none
 returns-in-Err-clause-none g c =
     let q = c.requires.placed in
-    no_living q.0 (backing_device c.args.state) q.1 (Listed g.R.Runner.list g.R.Runner.told g.R.Runner.asked c.args.runner.now) (g.R.Runner.living c.args.runner.now) q.2
+    no_living q.0 (backing_device c.args.state) q.1 (Listed g.R.Runner.list g.R.Runner.told g.R.Runner.asked c.args.runner.now)
+    (g.R.Runner.living c.args.runner.now) q.2
 
 pub run_step-exit-requires-clause-none : goal.run_step-exit-requires-clause-none
 run_step-exit-requires-clause-none g c =
     let q = c.requires.placed in
-    no_living q.0 (backing_device c.args.state) q.1 (Listed g.R.Runner.list g.R.Runner.told g.R.Runner.asked c.args.runner.now) (g.R.Runner.living c.args.runner.now) q.2
+    no_living q.0 (backing_device c.args.state) q.1 (Listed g.R.Runner.list g.R.Runner.told g.R.Runner.asked c.args.runner.now)
+    (g.R.Runner.living c.args.runner.now) q.2
 
 pub run_step-exit-requires-clause-limit : goal.run_step-exit-requires-clause-limit
 run_step-exit-requires-clause-limit g c = boot_limit c.recipe_laws.ensures.sound _ _ _ c.args.step.now c.requires.turn.of.prepared
@@ -72,15 +74,22 @@ returns-in-Ok-end-clause-trace g c = λ p world front.
     let one = c.in-Ok.ensures.trace p world told living front in
     let turn = turn_begun d b c.args.step.now begins.0 c.requires.held.1 begins.2 c.requires.turn in
     let begun = begun_told d b begins.0 c.requires.held.1 begins.2 in
-    let two = c.run_step-exit.ensures.trace (state_after p one.0) (may_step (state_after p one.0) b world told living c.args.step.now one.3 held.1 turn begun) in
-    let r = ran g.J.Journal.entries g.J.Journal.files g.D.Disk.may_leave g.D.Disk.moment g.D.Disk.left_since g.met.D.Disk.laws c.args.disk.now c.begin.new.disk p b x world told new living next one.0 two.0 one.1 one.2 one.3
-    (in_hand_stands g.met.D.Disk.laws g.met.J.Journal.laws _ c.begin.new.disk b held.0.0) two.1 two.2 c.run_step-exit.ensures.later c.run_step-exit.ensures.none in
+    let two = c.run_step-exit.ensures.trace (state_after p one.0) (may_step (state_after p one.0) b world told living c.args.step.now one.3 held.1 turn begun)
+    in
+    let r = ran g.J.Journal.entries g.J.Journal.files g.D.Disk.may_leave g.D.Disk.moment g.D.Disk.left_since g.met.D.Disk.laws c.args.disk.now
+    c.begin.new.disk p b x world told new living next one.0 two.0 one.1 one.2 one.3
+    (in_hand_stands g.met.D.Disk.laws g.met.J.Journal.laws _ c.begin.new.disk b held.0.0) two.1 two.2 c.run_step-exit.ensures.later
+    c.run_step-exit.ensures.none in
     let h = two.0 ++ one.0 in
     let three = c.in-Ok-end.ensures.trace (state_after p h) world new next r.end in (
       three.0 ++ h,
-      went_on g.J.Journal.entries g.J.Journal.files g.met.D.Disk.laws c.args.disk.now c.begin.new.disk c.end.new.disk told.list new.list new.list p h three.0 r.trace three.1,
-      all_told (g.K.Sink.held c.args.sink.now) (g.K.Sink.held c.args.sink.now) (g.K.Sink.held c.end.new.sink) p h three.0 r.trace.run (nothing_told (g.K.Sink.held c.args.sink.now) (lines_of p.device (records_of h)) r.none) three.2,
-      subst (λ (q : SessionState). IsBetween q (backed_device c.in-Ok-end.next) world new next × (q.over ≡ is_some (restart_of x (is_none (duty_of (backed_device c.in-Ok-end.next)).turn))) × EndsWith x (records_of (three.0 ++ h))) (sym (left-append p three.0 h))
+      went_on g.J.Journal.entries g.J.Journal.files g.met.D.Disk.laws c.args.disk.now c.begin.new.disk c.end.new.disk told.list new.list new.list p h three.0
+          r.trace three.1,
+      all_told (g.K.Sink.held c.args.sink.now) (g.K.Sink.held c.args.sink.now) (g.K.Sink.held c.end.new.sink) p h three.0 r.trace.run
+          (nothing_told (g.K.Sink.held c.args.sink.now) (lines_of p.device (records_of h)) r.none) three.2,
+      subst (λ (q : SessionState). IsBetween q (backed_device c.in-Ok-end.next) world new next ×
+          (q.over ≡ is_some (restart_of x (is_none (duty_of (backed_device c.in-Ok-end.next)).turn))) × EndsWith x (records_of (three.0 ++ h)))
+          (sym (left-append p three.0 h))
           (three.3.0, three.3.1, ends_on x h three.0 three.3.2),
       tt,
     )
@@ -99,14 +108,19 @@ returns-in-Err-end-clause-trace g c = λ p world front.
     let one = c.in-Ok.ensures.trace p world told living front in
     let turn = turn_begun d b c.args.step.now begins.0 c.requires.held.1 begins.2 c.requires.turn in
     let begun = begun_told d b begins.0 c.requires.held.1 begins.2 in
-    let two = c.run_step-exit.ensures.trace (state_after p one.0) (may_step (state_after p one.0) b world told living c.args.step.now one.3 held.1 turn begun) in
-    let r = ran g.J.Journal.entries g.J.Journal.files g.D.Disk.may_leave g.D.Disk.moment g.D.Disk.left_since g.met.D.Disk.laws c.args.disk.now c.begin.new.disk p b x world told new living next one.0 two.0 one.1 one.2 one.3
-    (in_hand_stands g.met.D.Disk.laws g.met.J.Journal.laws _ c.begin.new.disk b held.0.0) two.1 two.2 c.run_step-exit.ensures.later c.run_step-exit.ensures.none in
+    let two = c.run_step-exit.ensures.trace (state_after p one.0) (may_step (state_after p one.0) b world told living c.args.step.now one.3 held.1 turn begun)
+    in
+    let r = ran g.J.Journal.entries g.J.Journal.files g.D.Disk.may_leave g.D.Disk.moment g.D.Disk.left_since g.met.D.Disk.laws c.args.disk.now
+    c.begin.new.disk p b x world told new living next one.0 two.0 one.1 one.2 one.3
+    (in_hand_stands g.met.D.Disk.laws g.met.J.Journal.laws _ c.begin.new.disk b held.0.0) two.1 two.2 c.run_step-exit.ensures.later
+    c.run_step-exit.ensures.none in
     let h = two.0 ++ one.0 in
     let three = c.in-Err-end.ensures.trace (state_after p h) world new next r.end in (
       three.0 ++ h,
-      went_on g.J.Journal.entries g.J.Journal.files g.met.D.Disk.laws c.args.disk.now c.begin.new.disk c.end.new.disk told.list new.list new.list p h three.0 r.trace three.1,
-      lines_at_joined (g.K.Sink.held c.args.sink.now) (g.K.Sink.held c.args.sink.now) (g.K.Sink.held c.end.new.sink) p h three.0 c.in-Err-end.over r.trace.run (nothing_told (g.K.Sink.held c.args.sink.now) (lines_of p.device (records_of h)) r.none) three.2,
+      went_on g.J.Journal.entries g.J.Journal.files g.met.D.Disk.laws c.args.disk.now c.begin.new.disk c.end.new.disk told.list new.list new.list p h three.0
+          r.trace three.1,
+      lines_at_joined (g.K.Sink.held c.args.sink.now) (g.K.Sink.held c.args.sink.now) (g.K.Sink.held c.end.new.sink) p h three.0 c.in-Err-end.over r.trace.run
+          (nothing_told (g.K.Sink.held c.args.sink.now) (lines_of p.device (records_of h)) r.none) three.2,
       left_joined g.J.Journal.entries g.D.Disk.may_leave c.end.new.disk p h three.0 c.in-Err-end.over r.trace.run three.3,
       subst IsBare (sym (left-append p three.0 h)) three.4,
     )

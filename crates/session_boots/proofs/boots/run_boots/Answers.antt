@@ -30,7 +30,8 @@ steps-init g c = record {
   quiet_sink = refl;
   none =
       let q = c.requires.placed in
-      no_living q.0 (booting_device c.args.state) q.1 (Listed g.R.Runner.list g.R.Runner.told g.R.Runner.asked c.args.runner.now) (g.R.Runner.living c.args.runner.now) q.2;
+      no_living q.0 (booting_device c.args.state) q.1 (Listed g.R.Runner.list g.R.Runner.told g.R.Runner.asked c.args.runner.now)
+      (g.R.Runner.living c.args.runner.now) q.2;
   trace = λ p world front. (
     [],
     acted g.J.Journal.entries g.J.Journal.files g.met.D.Disk.laws c.args.disk.now (g.R.Runner.list c.args.runner.now) (g.R.Runner.list c.args.runner.now) p []
@@ -63,7 +64,8 @@ returns-in-Err-clause-trace g c = λ p world front.
 pub steps-preserved : goal.steps-preserved
 steps-preserved g c = record {
   held = c.in-Ok.ensures.held;
-  made = made_on (booting_device c.steps.state) (booting_device c.in-Ok.turned.0) c.in-Ok.turned.1 c.args.made.now c.steps.invariant.held.1 c.in-Ok.ensures.turns c.steps.invariant.made;
+  made = made_on (booting_device c.steps.state) (booting_device c.in-Ok.turned.0) c.in-Ok.turned.1 c.args.made.now c.steps.invariant.held.1
+      c.in-Ok.ensures.turns c.steps.invariant.made;
   others = λ is_modelled name other. c.run_turn.ensures.others is_modelled name other ∙ c.steps.invariant.others is_modelled name other;
   quiet_disk = c.in-Ok.ensures.quiet_disk (not_err c.in-Ok.turned over.Disk) ∙ c.steps.invariant.quiet_disk;
   quiet_sink = c.in-Ok.ensures.quiet_sink (not_err c.in-Ok.turned over.Edge) ∙ c.steps.invariant.quiet_sink;
@@ -76,10 +78,13 @@ steps-preserved g c = record {
         went_on g.J.Journal.entries g.J.Journal.files g.met.D.Disk.laws c.args.disk.now c.steps.disk c.run_turn.new.disk
             (g.R.Runner.list c.args.runner.now) (g.R.Runner.list c.steps.runner) (g.R.Runner.list c.run_turn.new.runner) p w.0 t.0 w.1 t.1,
         all_told (g.K.Sink.held c.args.sink.now) (g.K.Sink.held c.steps.sink) (g.K.Sink.held c.run_turn.new.sink) p w.0 t.0 w.1.run w.2 t.2,
-        subst (λ (q : SessionState). IsAtBootStage q (booting_device c.in-Ok.turned.0) world told (g.R.Runner.living c.run_turn.new.runner)) (sym (left-append p t.0 w.0))
+        subst (λ (q : SessionState). IsAtBootStage q (booting_device c.in-Ok.turned.0) world told (g.R.Runner.living c.run_turn.new.runner))
+            (sym (left-append p t.0 w.0))
             (record {
               between = t.3.0;
-              over = goes_on (state_after (state_after p w.0) t.0).over c.in-Ok.turned.1 c.is_through.result (is_none (duty_of (booting_device c.in-Ok.turned.0)).turn) c.restart_of.result t.3.1 c.restart_of.ensures c.is_through.ensures (none_is c.restart_of.result c.in_default-restart_of.not-Some);
+              over = goes_on (state_after (state_after p w.0) t.0).over c.in-Ok.turned.1 c.is_through.result
+                  (is_none (duty_of (booting_device c.in-Ok.turned.0)).turn) c.restart_of.result t.3.1 c.restart_of.ensures c.is_through.ensures
+                  (none_is c.restart_of.result c.in_default-restart_of.not-Some);
             }),
       );
 }
@@ -101,7 +106,8 @@ returns-in-Some-restart_of-clause-trace g c = λ p world front.
           (g.R.Runner.list c.args.runner.now) (g.R.Runner.list c.steps.runner) (g.R.Runner.list c.run_turn.new.runner) p w.0 t.0 w.1 t.1,
       all_told (g.K.Sink.held c.args.sink.now) (g.K.Sink.held c.steps.sink) (g.K.Sink.held c.run_turn.new.sink) p w.0 t.0 w.1.run w.2 t.2,
       subst (λ (q : SessionState). BootsLeft end (records_of (t.0 ++ w.0)) q d world told living) (sym (left-append p t.0 w.0))
-          (ends_call end (records_of (t.0 ++ w.0)) (state_after (state_after p w.0) t.0) d world told living x c.is_through.result c.restart_of.result t.3.0 t.3.1 (ends_on x w.0 t.0 t.3.2) c.restart_of.ensures c.is_through.ensures c.in-Some-restart_of.is),
+          (ends_call end (records_of (t.0 ++ w.0)) (state_after (state_after p w.0) t.0) d world told living x c.is_through.result c.restart_of.result t.3.0
+          t.3.1 (ends_on x w.0 t.0 t.3.2) c.restart_of.ensures c.is_through.ensures c.in-Some-restart_of.is),
       tt,
     )
 

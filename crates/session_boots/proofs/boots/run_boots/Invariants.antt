@@ -20,10 +20,13 @@ invariant-steps g l = record {
   quiet_disk : g.D.Disk.faults l.disk ≡ g.D.Disk.faults l.fn.disk;
   quiet_sink : g.K.Sink.faults l.sink ≡ g.K.Sink.faults l.fn.sink;
   none : g.R.Runner.living l.runner ≡ [];
-  trace : (p : SessionState) → (world : Components) → IsAtBootStage p (booting_device l.fn.state) world (Listed g.R.Runner.list g.R.Runner.told g.R.Runner.asked l.fn.runner) (g.R.Runner.living l.fn.runner) →
-      (h : List TraceEvent) × IsTrace g.J.Journal.entries g.J.Journal.files g.D.Disk.may_leave g.D.Disk.moment g.D.Disk.left_since l.fn.disk l.disk (g.R.Runner.list l.fn.runner) (g.R.Runner.list l.runner) p h
+  trace : (p : SessionState) → (world : Components) → IsAtBootStage p (booting_device l.fn.state) world
+      (Listed g.R.Runner.list g.R.Runner.told g.R.Runner.asked l.fn.runner) (g.R.Runner.living l.fn.runner) →
+      (h : List TraceEvent) × IsTrace g.J.Journal.entries g.J.Journal.files g.D.Disk.may_leave g.D.Disk.moment g.D.Disk.left_since l.fn.disk l.disk
+      (g.R.Runner.list l.fn.runner) (g.R.Runner.list l.runner) p h
       × Appends (g.K.Sink.held l.fn.sink) (g.K.Sink.held l.sink) (lines_of p.device (records_of h))
-      × IsAtBootStage (state_after p h) (booting_device l.state) world (Listed g.R.Runner.list g.R.Runner.told g.R.Runner.asked l.runner) (g.R.Runner.living l.runner);
+      × IsAtBootStage (state_after p h) (booting_device l.state) world (Listed g.R.Runner.list g.R.Runner.told g.R.Runner.asked l.runner)
+      (g.R.Runner.living l.runner);
 }
 
 abbrev pub decreases-steps : goal.decreases-steps

@@ -11,8 +11,10 @@ pub returns-in-Code-clause-line : goal.returns-in-Code-clause-line
 returns-in-Code-clause-line g c =
     let fits : SFits w32 c.in-Code.code = search rules in
     let text : c.format.result.now ≡ signed_decimal c.in-Code.code = c.format.ensures.text ∙ ap signed_decimal (to_z-of_z w32 c.in-Code.code fits) in
-    let line = ap (λ (l : List ℕ). codes "code " ++ (l ++ (codes "\n" ++ []))) text ∙ code_joined c.in-Code.code ∙ ap (λ (e : Exit). exit_text e ++ codes "\n") (sym c.in-Code.is) in
-    subst (λ (l : List ℕ). Writes (g.K.Sink.held c.args.sink.now) (g.K.Sink.held c.write_pieces.new.sink) l c.write_pieces.result) line c.write_pieces.ensures.bytes
+    let line = ap (λ (l : List ℕ). codes "code " ++ (l ++ (codes "\n" ++ []))) text ∙ code_joined c.in-Code.code ∙ ap
+    (λ (e : Exit). exit_text e ++ codes "\n") (sym c.in-Code.is) in
+    subst (λ (l : List ℕ). Writes (g.K.Sink.held c.args.sink.now) (g.K.Sink.held c.write_pieces.new.sink) l c.write_pieces.result) line
+    c.write_pieces.ensures.bytes
 
 pub returns-in-Signal-clause-line : goal.returns-in-Signal-clause-line
 returns-in-Signal-clause-line g c = rw c.in-Signal.is c.write_pieces-in-Signal.ensures.bytes

@@ -44,18 +44,23 @@ returns-in-Elapsed-clause-trace g c = λ p made alive.
     let at = c.requires.now in
     let lt : old.moment < c.args.deadline = omega (arith, c.if-deadline-now.false, at) in
     let past = g.met.R.Runner.past c.args.runner.now in
-    let waited = subst (λ (n : ℕ). WaitTime (g.R.Runner.clock c.args.runner.now) (g.R.Runner.clock c.wait.new.self) (c.args.deadline - n) Elapsed) (sym at) c.in-Elapsed.ensures.time in
-    let late = late_after (2 ^ 62) old.moment (g.R.Runner.clock c.args.runner.now) (g.R.Runner.clock c.wait.new.self) now c.args.deadline past lt c.requires.in_time waited c.moment-now.ensures.later in
+    let waited = subst (λ (n : ℕ). WaitTime (g.R.Runner.clock c.args.runner.now) (g.R.Runner.clock c.wait.new.self) (c.args.deadline - n) Elapsed)
+    (sym at) c.in-Elapsed.ensures.time in
+    let late = late_after (2 ^ 62) old.moment (g.R.Runner.clock c.args.runner.now) (g.R.Runner.clock c.wait.new.self) now c.args.deadline past lt
+    c.requires.in_time waited c.moment-now.ensures.later in
     let notes = subst (λ (n : ℕ). Notes old slept (seen.Elapsed (c.args.deadline - n))) (sym at) c.in-Elapsed.ensures.notes in
     let first = Asked now ∷ WaitElapsed (entry old (seen.Elapsed (c.args.deadline - old.moment))) ∷ [] in
-    let acts = slept_acts p c.args.child c.args.deadline old slept now mid.list alive lt notes (omega (arith, at, past, c.in-Elapsed.ensures.time.0, c.moment-now.ensures.later)) c.moment-now.ensures.list in
+    let acts = slept_acts p c.args.child c.args.deadline old slept now mid.list alive lt notes
+    (omega (arith, at, past, c.in-Elapsed.ensures.time.0, c.moment-now.ensures.later)) c.moment-now.ensures.list in
     let again = slept_alive p c.args.child c.args.deadline old mid now alive c.moment-now.ensures.told c.moment-now.ensures.asked in
-    let e = killed (state_after p first) made c.args.child c.args.deadline mid new again (subst (λ (n : ℕ). c.args.deadline ≤ n) (sym c.moment-now.ensures.told) late) c.kill-in-Elapsed.ensures.notes in
+    let e = killed (state_after p first) made c.args.child c.args.deadline mid new again
+    (subst (λ (n : ℕ). c.args.deadline ≤ n) (sym c.moment-now.ensures.told) late) c.kill-in-Elapsed.ensures.notes in
     let all = ended_on p first (Booted (entry mid (seen.Killed c.args.child)) made ∷ []) old mid new exits.TimedOut now acts refl refl e in
     (Booted (entry mid (seen.Killed c.args.child)) made ∷ first, all.acts, all.ended)
 
 pub kill-requires-in-Elapsed : goal.kill-requires-in-Elapsed
-kill-requires-in-Elapsed g c = is_alone c.args.child (g.R.Runner.living c.moment-now.new.self) (c.moment-now.ensures.lives ∙ c.in-Elapsed.ensures.lives ∙ c.requires.alone)
+kill-requires-in-Elapsed g c = is_alone c.args.child (g.R.Runner.living c.moment-now.new.self)
+    (c.moment-now.ensures.lives ∙ c.in-Elapsed.ensures.lives ∙ c.requires.alone)
 
 pub returns-then-deadline-now-clause-none : goal.returns-then-deadline-now-clause-none
 returns-then-deadline-now-clause-none g c = c.kill.ensures.lives ∙ none_after c.args.child (g.R.Runner.living c.args.runner.now) c.requires.alone
@@ -63,7 +68,8 @@ returns-then-deadline-now-clause-none g c = c.kill.ensures.lives ∙ none_after 
 pub returns-in-Ended-clause-none : goal.returns-in-Ended-clause-none
 returns-in-Ended-clause-none g c =
     let same = the_only c.args.child c.in-Ended.field-0 (g.R.Runner.living c.args.runner.now) c.requires.alone c.in-Ended.ensures.lives.0 in
-    c.in-Ended.ensures.lives.1 ∙ ap (λ (n : ℕ). without n (g.R.Runner.living c.args.runner.now)) same ∙ none_after c.args.child (g.R.Runner.living c.args.runner.now) c.requires.alone
+    c.in-Ended.ensures.lives.1 ∙ ap (λ (n : ℕ). without n (g.R.Runner.living c.args.runner.now)) same ∙ none_after c.args.child
+    (g.R.Runner.living c.args.runner.now) c.requires.alone
 
 pub returns-in-Elapsed-clause-none : goal.returns-in-Elapsed-clause-none
 returns-in-Elapsed-clause-none g c =

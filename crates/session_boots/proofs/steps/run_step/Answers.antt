@@ -10,7 +10,8 @@ use Rattle.session_boots.proofs.Entries.{ended_on, entry, now_world, pass_acts, 
 use Rattle.session_boots.proofs.steps.run_step.Goals as goal
 
 pub await_end-requires-clause-alone : goal.await_end-requires-clause-alone
-await_end-requires-clause-alone g c = c.in-Ok.ensures.lives ∙ ap (λ (l : List ℕ). c.in-Ok.child ∷ l) (c.is_skipped.ensures.lives ∙ c.moment-now.ensures.lives ∙ c.requires.none)
+await_end-requires-clause-alone g c = c.in-Ok.ensures.lives ∙ ap (λ (l : List ℕ). c.in-Ok.child ∷ l)
+    (c.is_skipped.ensures.lives ∙ c.moment-now.ensures.lives ∙ c.requires.none)
 
 pub returns-then-is_skipped-clause-trace : goal.returns-then-is_skipped-clause-trace
 returns-then-is_skipped-clause-trace g c = λ p may.
@@ -21,7 +22,8 @@ returns-then-is_skipped-clause-trace g c = λ p may.
     let now = c.moment-now.result in
     let past = g.met.R.Runner.past c.args.runner.now in
     let passes = pass_acts p m old now old.list mid.list may (omega (arith, past, c.moment-now.ensures.later)) c.moment-now.ensures.list in
-    let e = c.is_skipped.ensures.skipped c.if-is_skipped.true (leaves p (Asked now)) (pass_probe p m old mid now may c.moment-now.ensures.told c.moment-now.ensures.asked) in
+    let e = c.is_skipped.ensures.skipped c.if-is_skipped.true (leaves p (Asked now))
+    (pass_probe p m old mid now may c.moment-now.ensures.told c.moment-now.ensures.asked) in
     let all = ended_on p (Asked now ∷ []) e.0 old mid new (exits.Code (pos 0)) now passes refl refl (record { acts = e.1; ended = e.2 }) in
     (e.0 ++ Asked now ∷ [], all.acts, all.ended)
 

@@ -13,7 +13,8 @@ returns-in-Ok-clause-trace g c = λ p world told living front.
     let n = turn_told d is c.requires.may in
     let t = in_turn d n.0 is n.1 in
     let mark = mark_begun d n.0 t in
-    let b = begun_went g.J.Journal.entries g.J.Journal.files g.met.D.Disk.laws c.args.disk.now c.begin.new.disk told.list p d (booting_device c.in-Ok.next) world told living n.0 t front
+    let b = begun_went g.J.Journal.entries g.J.Journal.files g.met.D.Disk.laws c.args.disk.now c.begin.new.disk told.list p d (booting_device c.in-Ok.next)
+    world told living n.0 t front
     (in_hand_stands g.met.D.Disk.laws g.met.J.Journal.laws _ c.args.disk.now d c.requires.held.0.0)
     (λ begun. (c.in-Ok.ensures.silent begun).0) (λ begun. ap booting_device (c.in-Ok.ensures.silent begun).1)
     (c.begin.ensures.moments (stored.BootBegun n.0) mark) (c.in-Ok.ensures.taken (stored.BootBegun n.0) mark) in

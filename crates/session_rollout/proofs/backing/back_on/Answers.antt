@@ -17,7 +17,8 @@ use Rattle.session_rollout.proofs.backing.back_on.Goals as goal
 -- ---- the bootstraps run
 
 pub run_rollback_boots-requires-clause-made : goal.run_rollback_boots-requires-clause-made
-run_rollback_boots-requires-clause-made g c = backs_ready c.args.backs.now (g.S.Supervise.coming c.args.ready) (backing_device c.args.state) c.requires.held.0.0.sound c.requires.held.1 c.requires.ready
+run_rollback_boots-requires-clause-made g c = backs_ready c.args.backs.now (g.S.Supervise.coming c.args.ready) (backing_device c.args.state)
+    c.requires.held.0.0.sound c.requires.held.1 c.requires.ready
 
 pub run_rollback_boots-requires-clause-placed : goal.run_rollback_boots-requires-clause-placed
 run_rollback_boots-requires-clause-placed g c =
@@ -32,14 +33,17 @@ returns-in-Restart-clause-course g c = λ p front.
     let new = Listed g.R.Runner.list g.R.Runner.told g.R.Runner.asked c.run_rollback_boots.new.runner in
     let living = g.R.Runner.living c.run_rollback_boots.new.runner in
     let t = c.in-Ok.ensures.trace p world front in
-    let left = boots_as c.in-Ok.booted booted.Restart (records_of t.0) (state_after p t.0) (backed_device c.in-Ok.backed) world new living c.in-Restart.is t.3 in
+    let left = boots_as c.in-Ok.booted booted.Restart (records_of t.0) (state_after p t.0) (backed_device c.in-Ok.backed) world new living c.in-Restart.is t.3
+    in
     ended g.J.Journal.entries g.J.Journal.files c.args.disk.now c.run_rollback_boots.new.disk (g.R.Runner.list c.args.runner.now) new.list
-    (g.K.Sink.held c.args.sink.now) (g.K.Sink.held c.run_rollback_boots.new.sink) p t.0 (driven.Restart c.paused.result) (λ x h q. DrivenLeft x h q world new living)
+    (g.K.Sink.held c.args.sink.now) (g.K.Sink.held c.run_rollback_boots.new.sink) p t.0 (driven.Restart c.paused.result)
+    (λ x h q. DrivenLeft x h q world new living)
     t.1 t.2 (paused_left booted.Restart c.in-Ok.backed c.paused.result (records_of t.0) (state_after p t.0) world new living c.paused.ensures left)
 
 pub returns-in-Restart-clause-held : goal.returns-in-Restart-clause-held
 returns-in-Restart-clause-held g c =
-    subst (λ (x : Loaded _). OwnsLoaded g.D.Disk.is_modelled g.D.Disk.may_leave g.J.Journal.stands g.J.Journal.end x c.run_rollback_boots.new.disk) (sym c.paused.ensures)
+    subst (λ (x : Loaded _). OwnsLoaded g.D.Disk.is_modelled g.D.Disk.may_leave g.J.Journal.stands g.J.Journal.end x c.run_rollback_boots.new.disk)
+    (sym c.paused.ensures)
     (paused_held g.D.Disk.is_modelled g.D.Disk.may_leave g.J.Journal.stands g.J.Journal.end c.in-Ok.backed c.run_rollback_boots.new.disk c.in-Ok.ensures.held)
 
 pub returns-in-Reboot-clause-course : goal.returns-in-Reboot-clause-course
@@ -50,12 +54,15 @@ returns-in-Reboot-clause-course g c = λ p front.
     let t = c.in-Ok.ensures.trace p world front in
     let left = boots_as c.in-Ok.booted booted.Reboot (records_of t.0) (state_after p t.0) (backed_device c.in-Ok.backed) world new living c.in-Reboot.is t.3 in
     ended g.J.Journal.entries g.J.Journal.files c.args.disk.now c.run_rollback_boots.new.disk (g.R.Runner.list c.args.runner.now) new.list
-    (g.K.Sink.held c.args.sink.now) (g.K.Sink.held c.run_rollback_boots.new.sink) p t.0 (driven.Reboot c.paused-in-Reboot.result) (λ x h q. DrivenLeft x h q world new living)
-    t.1 t.2 (paused_left booted.Reboot c.in-Ok.backed c.paused-in-Reboot.result (records_of t.0) (state_after p t.0) world new living c.paused-in-Reboot.ensures left)
+    (g.K.Sink.held c.args.sink.now) (g.K.Sink.held c.run_rollback_boots.new.sink) p t.0 (driven.Reboot c.paused-in-Reboot.result)
+    (λ x h q. DrivenLeft x h q world new living)
+    t.1 t.2 (paused_left booted.Reboot c.in-Ok.backed c.paused-in-Reboot.result (records_of t.0) (state_after p t.0) world new living
+    c.paused-in-Reboot.ensures left)
 
 pub returns-in-Reboot-clause-held : goal.returns-in-Reboot-clause-held
 returns-in-Reboot-clause-held g c =
-    subst (λ (x : Loaded _). OwnsLoaded g.D.Disk.is_modelled g.D.Disk.may_leave g.J.Journal.stands g.J.Journal.end x c.run_rollback_boots.new.disk) (sym c.paused-in-Reboot.ensures)
+    subst (λ (x : Loaded _). OwnsLoaded g.D.Disk.is_modelled g.D.Disk.may_leave g.J.Journal.stands g.J.Journal.end x c.run_rollback_boots.new.disk)
+    (sym c.paused-in-Reboot.ensures)
     (paused_held g.D.Disk.is_modelled g.D.Disk.may_leave g.J.Journal.stands g.J.Journal.end c.in-Ok.backed c.run_rollback_boots.new.disk c.in-Ok.ensures.held)
 
 -- ---- they are through
@@ -68,7 +75,9 @@ end_backs-requires-clause-failed g c =
     let q = c.requires.placed in
     let world = g.S.Supervise.world c.args.supervisor.now in
     let t = c.in-Ok.ensures.trace q.0 world q.1 in
-    still_failed g.D.Disk.is_modelled g.D.Disk.may_leave g.J.Journal.stands g.J.Journal.end c.in-Ok.backed c.run_rollback_boots.new.disk c.in-Ok.booted (records_of t.0) (state_after q.0 t.0) world (Listed g.R.Runner.list g.R.Runner.told g.R.Runner.asked c.run_rollback_boots.new.runner) (g.R.Runner.living c.run_rollback_boots.new.runner)
+    still_failed g.D.Disk.is_modelled g.D.Disk.may_leave g.J.Journal.stands g.J.Journal.end c.in-Ok.backed c.run_rollback_boots.new.disk c.in-Ok.booted
+    (records_of t.0) (state_after q.0 t.0) world (Listed g.R.Runner.list g.R.Runner.told g.R.Runner.asked c.run_rollback_boots.new.runner)
+    (g.R.Runner.living c.run_rollback_boots.new.runner)
     c.in-Ok.ensures.held (inl c.in-Through.is) t.3
 
 pub end_backs-requires-clause-ready : goal.end_backs-requires-clause-ready
@@ -83,16 +92,23 @@ end_backs-requires-clause-ready g c =
     let earlier = g.S.Supervise.coming c.args.ready in
     let p = shut q.0 in
     let t = c.in-Ok.ensures.trace p world (shut_front q.0 d world told (g.R.Runner.living c.args.runner.now) q.1) in
-    let front = boots_front c.in-Ok.booted (records_of t.0) (state_after p t.0) e world new (g.R.Runner.living c.run_rollback_boots.new.runner) (inl c.in-Through.is) t.3 in
-    ends_ready g.D.Disk.is_modelled g.D.Disk.may_leave g.J.Journal.stands g.J.Journal.end way.0 c.args.backs.now way.1 earlier c.in-Ok.backed c.run_rollback_boots.new.disk c.in-Ok.ensures.held
-    (ready_behind way.0 c.args.backs.now way.1 earlier p t.0 d e (shut_takes q.0) t.1.proper t.1.run q.1.between.stands.device_is front.between.stands.device_is way.2)
+    let front = boots_front c.in-Ok.booted (records_of t.0) (state_after p t.0) e world new (g.R.Runner.living c.run_rollback_boots.new.runner)
+    (inl c.in-Through.is) t.3 in
+    ends_ready g.D.Disk.is_modelled g.D.Disk.may_leave g.J.Journal.stands g.J.Journal.end way.0 c.args.backs.now way.1 earlier c.in-Ok.backed
+    c.run_rollback_boots.new.disk c.in-Ok.ensures.held
+    (ready_behind way.0 c.args.backs.now way.1 earlier p t.0 d e (shut_takes q.0) t.1.proper t.1.run q.1.between.stands.device_is
+    front.between.stands.device_is way.2)
 
 pub end_backs-requires-clause-placed : goal.end_backs-requires-clause-placed
 end_backs-requires-clause-placed g c =
     let q = c.requires.placed in
     let world = g.S.Supervise.world c.args.supervisor.now in
-    let t = c.in-Ok.ensures.trace q.0 world q.1 in
-    (state_after q.0 t.0, boots_front c.in-Ok.booted (records_of t.0) (state_after q.0 t.0) (backed_device c.in-Ok.backed) world (Listed g.R.Runner.list g.R.Runner.told g.R.Runner.asked c.run_rollback_boots.new.runner) (g.R.Runner.living c.run_rollback_boots.new.runner) (inl c.in-Through.is) t.3)
+    let t = c.in-Ok.ensures.trace q.0 world q.1 in (
+      state_after q.0 t.0,
+      boots_front c.in-Ok.booted (records_of t.0) (state_after q.0 t.0) (backed_device c.in-Ok.backed) world
+          (Listed g.R.Runner.list g.R.Runner.told g.R.Runner.asked c.run_rollback_boots.new.runner) (g.R.Runner.living c.run_rollback_boots.new.runner)
+          (inl c.in-Through.is) t.3,
+    )
 
 pub returns-in-Through-clause-course : goal.returns-in-Through-clause-course
 returns-in-Through-clause-course g c = λ p front.
@@ -102,9 +118,12 @@ returns-in-Through-clause-course g c = λ p front.
     let end = g.S.Supervise.world c.end_backs.new.supervisor in
     let living = g.R.Runner.living c.end_backs.new.runner in
     let t = c.in-Ok.ensures.trace p world front in
-    let next = boots_front c.in-Ok.booted (records_of t.0) (state_after p t.0) (backed_device c.in-Ok.backed) world new (g.R.Runner.living c.run_rollback_boots.new.runner) (inl c.in-Through.is) t.3 in
-    joined g.J.Journal.entries g.J.Journal.files g.met.D.Disk.laws c.args.disk.now c.run_rollback_boots.new.disk c.end_backs.new.disk (g.R.Runner.list c.args.runner.now) new.list last.list
-    (g.K.Sink.held c.args.sink.now) (g.K.Sink.held c.run_rollback_boots.new.sink) (g.K.Sink.held c.end_backs.new.sink) p t.0 c.end_backs.result (λ x h q. DrivenLeft x h q end last living)
+    let next = boots_front c.in-Ok.booted (records_of t.0) (state_after p t.0) (backed_device c.in-Ok.backed) world new
+    (g.R.Runner.living c.run_rollback_boots.new.runner) (inl c.in-Through.is) t.3 in
+    joined g.J.Journal.entries g.J.Journal.files g.met.D.Disk.laws c.args.disk.now c.run_rollback_boots.new.disk c.end_backs.new.disk
+    (g.R.Runner.list c.args.runner.now) new.list last.list
+    (g.K.Sink.held c.args.sink.now) (g.K.Sink.held c.run_rollback_boots.new.sink) (g.K.Sink.held c.end_backs.new.sink) p t.0 c.end_backs.result
+    (λ x h q. DrivenLeft x h q end last living)
     t.1 t.2
     (driven_on end last living t.0)
     (c.end_backs.ensures.course (state_after p t.0) next)
@@ -119,7 +138,9 @@ end_backs-requires-in-Failed-clause-failed g c =
     let q = c.requires.placed in
     let world = g.S.Supervise.world c.args.supervisor.now in
     let t = c.in-Ok.ensures.trace q.0 world q.1 in
-    still_failed g.D.Disk.is_modelled g.D.Disk.may_leave g.J.Journal.stands g.J.Journal.end c.in-Ok.backed c.run_rollback_boots.new.disk c.in-Ok.booted (records_of t.0) (state_after q.0 t.0) world (Listed g.R.Runner.list g.R.Runner.told g.R.Runner.asked c.run_rollback_boots.new.runner) (g.R.Runner.living c.run_rollback_boots.new.runner)
+    still_failed g.D.Disk.is_modelled g.D.Disk.may_leave g.J.Journal.stands g.J.Journal.end c.in-Ok.backed c.run_rollback_boots.new.disk c.in-Ok.booted
+    (records_of t.0) (state_after q.0 t.0) world (Listed g.R.Runner.list g.R.Runner.told g.R.Runner.asked c.run_rollback_boots.new.runner)
+    (g.R.Runner.living c.run_rollback_boots.new.runner)
     c.in-Ok.ensures.held (inr c.in-Failed.is) t.3
 
 pub end_backs-requires-in-Failed-clause-ready : goal.end_backs-requires-in-Failed-clause-ready
@@ -134,16 +155,23 @@ end_backs-requires-in-Failed-clause-ready g c =
     let earlier = g.S.Supervise.coming c.args.ready in
     let p = shut q.0 in
     let t = c.in-Ok.ensures.trace p world (shut_front q.0 d world told (g.R.Runner.living c.args.runner.now) q.1) in
-    let front = boots_front c.in-Ok.booted (records_of t.0) (state_after p t.0) e world new (g.R.Runner.living c.run_rollback_boots.new.runner) (inr c.in-Failed.is) t.3 in
-    ends_ready g.D.Disk.is_modelled g.D.Disk.may_leave g.J.Journal.stands g.J.Journal.end way.0 c.args.backs.now way.1 earlier c.in-Ok.backed c.run_rollback_boots.new.disk c.in-Ok.ensures.held
-    (ready_behind way.0 c.args.backs.now way.1 earlier p t.0 d e (shut_takes q.0) t.1.proper t.1.run q.1.between.stands.device_is front.between.stands.device_is way.2)
+    let front = boots_front c.in-Ok.booted (records_of t.0) (state_after p t.0) e world new (g.R.Runner.living c.run_rollback_boots.new.runner)
+    (inr c.in-Failed.is) t.3 in
+    ends_ready g.D.Disk.is_modelled g.D.Disk.may_leave g.J.Journal.stands g.J.Journal.end way.0 c.args.backs.now way.1 earlier c.in-Ok.backed
+    c.run_rollback_boots.new.disk c.in-Ok.ensures.held
+    (ready_behind way.0 c.args.backs.now way.1 earlier p t.0 d e (shut_takes q.0) t.1.proper t.1.run q.1.between.stands.device_is
+    front.between.stands.device_is way.2)
 
 pub end_backs-requires-in-Failed-clause-placed : goal.end_backs-requires-in-Failed-clause-placed
 end_backs-requires-in-Failed-clause-placed g c =
     let q = c.requires.placed in
     let world = g.S.Supervise.world c.args.supervisor.now in
-    let t = c.in-Ok.ensures.trace q.0 world q.1 in
-    (state_after q.0 t.0, boots_front c.in-Ok.booted (records_of t.0) (state_after q.0 t.0) (backed_device c.in-Ok.backed) world (Listed g.R.Runner.list g.R.Runner.told g.R.Runner.asked c.run_rollback_boots.new.runner) (g.R.Runner.living c.run_rollback_boots.new.runner) (inr c.in-Failed.is) t.3)
+    let t = c.in-Ok.ensures.trace q.0 world q.1 in (
+      state_after q.0 t.0,
+      boots_front c.in-Ok.booted (records_of t.0) (state_after q.0 t.0) (backed_device c.in-Ok.backed) world
+          (Listed g.R.Runner.list g.R.Runner.told g.R.Runner.asked c.run_rollback_boots.new.runner) (g.R.Runner.living c.run_rollback_boots.new.runner)
+          (inr c.in-Failed.is) t.3,
+    )
 
 pub returns-in-Failed-clause-course : goal.returns-in-Failed-clause-course
 returns-in-Failed-clause-course g c = λ p front.
@@ -153,9 +181,12 @@ returns-in-Failed-clause-course g c = λ p front.
     let end = g.S.Supervise.world c.end_backs-in-Failed.new.supervisor in
     let living = g.R.Runner.living c.end_backs-in-Failed.new.runner in
     let t = c.in-Ok.ensures.trace p world front in
-    let next = boots_front c.in-Ok.booted (records_of t.0) (state_after p t.0) (backed_device c.in-Ok.backed) world new (g.R.Runner.living c.run_rollback_boots.new.runner) (inr c.in-Failed.is) t.3 in
-    joined g.J.Journal.entries g.J.Journal.files g.met.D.Disk.laws c.args.disk.now c.run_rollback_boots.new.disk c.end_backs-in-Failed.new.disk (g.R.Runner.list c.args.runner.now) new.list last.list
-    (g.K.Sink.held c.args.sink.now) (g.K.Sink.held c.run_rollback_boots.new.sink) (g.K.Sink.held c.end_backs-in-Failed.new.sink) p t.0 c.end_backs-in-Failed.result (λ x h q. DrivenLeft x h q end last living)
+    let next = boots_front c.in-Ok.booted (records_of t.0) (state_after p t.0) (backed_device c.in-Ok.backed) world new
+    (g.R.Runner.living c.run_rollback_boots.new.runner) (inr c.in-Failed.is) t.3 in
+    joined g.J.Journal.entries g.J.Journal.files g.met.D.Disk.laws c.args.disk.now c.run_rollback_boots.new.disk c.end_backs-in-Failed.new.disk
+    (g.R.Runner.list c.args.runner.now) new.list last.list
+    (g.K.Sink.held c.args.sink.now) (g.K.Sink.held c.run_rollback_boots.new.sink) (g.K.Sink.held c.end_backs-in-Failed.new.sink) p t.0
+    c.end_backs-in-Failed.result (λ x h q. DrivenLeft x h q end last living)
     t.1 t.2
     (driven_on end last living t.0)
     (c.end_backs-in-Failed.ensures.course (state_after p t.0) next)

@@ -18,27 +18,34 @@ use Rattle.session_rollout.proofs.backing.end_backs.Goals as goal
 -- ---- the items of the set come up
 
 pub roll_on-requires-clause-held : goal.roll_on-requires-clause-held
-roll_on-requires-clause-held g c = subst (λ (b : Backed _). OwnsBacked g.D.Disk.is_modelled g.D.Disk.may_leave g.J.Journal.stands g.J.Journal.end b c.args.disk.now) c.in-Rolling.is c.requires.held
+roll_on-requires-clause-held g c = subst (λ (b : Backed _). OwnsBacked g.D.Disk.is_modelled g.D.Disk.may_leave g.J.Journal.stands g.J.Journal.end b
+    c.args.disk.now) c.in-Rolling.is c.requires.held
 
 pub roll_on-requires-clause-ready : goal.roll_on-requires-clause-ready
 roll_on-requires-clause-ready g c = subst (λ (b : Backed _). EndsBacks b (g.S.Supervise.coming c.args.ready)) c.in-Rolling.is c.requires.ready
 
 pub roll_on-requires-clause-placed : goal.roll_on-requires-clause-placed
 roll_on-requires-clause-placed g c =
-    let q = c.requires.placed in
-    (q.0, subst (λ (b : Backed _). IsAtBootStage q.0 (backed_device b) (g.S.Supervise.world c.args.supervisor.now) (Listed g.R.Runner.list g.R.Runner.told g.R.Runner.asked c.args.runner.now) (g.R.Runner.living c.args.runner.now)) c.in-Rolling.is q.1)
+    let q = c.requires.placed in (
+      q.0,
+      subst (λ (b : Backed _). IsAtBootStage q.0 (backed_device b) (g.S.Supervise.world c.args.supervisor.now)
+          (Listed g.R.Runner.list g.R.Runner.told g.R.Runner.asked c.args.runner.now) (g.R.Runner.living c.args.runner.now)) c.in-Rolling.is q.1,
+    )
 
 pub returns-in-Rolling-clause-course : goal.returns-in-Rolling-clause-course
 returns-in-Rolling-clause-course g c = λ p front.
-    c.roll_on.ensures.course p (subst (λ (b : Backed _). IsAtBootStage p (backed_device b) (g.S.Supervise.world c.args.supervisor.now) (Listed g.R.Runner.list g.R.Runner.told g.R.Runner.asked c.args.runner.now) (g.R.Runner.living c.args.runner.now)) c.in-Rolling.is front)
+    c.roll_on.ensures.course p (subst (λ (b : Backed _). IsAtBootStage p (backed_device b) (g.S.Supervise.world c.args.supervisor.now)
+    (Listed g.R.Runner.list g.R.Runner.told g.R.Runner.asked c.args.runner.now) (g.R.Runner.living c.args.runner.now)) c.in-Rolling.is front)
 
 -- ---- one of the bootstraps failed
 
 pub close_failed_backing-requires-clause-held : goal.close_failed_backing-requires-clause-held
-close_failed_backing-requires-clause-held g c = subst (λ (b : Backed _). OwnsBacked g.D.Disk.is_modelled g.D.Disk.may_leave g.J.Journal.stands g.J.Journal.end b c.args.disk.now) c.in-Backing.is c.requires.held
+close_failed_backing-requires-clause-held g c = subst (λ (b : Backed _). OwnsBacked g.D.Disk.is_modelled g.D.Disk.may_leave g.J.Journal.stands g.J.Journal.end
+    b c.args.disk.now) c.in-Backing.is c.requires.held
 
 pub close_failed_backing-requires-clause-failed : goal.close_failed_backing-requires-clause-failed
-close_failed_backing-requires-clause-failed g c = subst (λ (b : Backed _). IsStillBacking b → has_failed (backed_device b) ≡ true) c.in-Backing.is c.requires.failed tt
+close_failed_backing-requires-clause-failed g c = subst (λ (b : Backed _). IsStillBacking b → has_failed (backed_device b) ≡ true) c.in-Backing.is
+    c.requires.failed tt
 
 pub returns-in-Ok-clause-course : goal.returns-in-Ok-clause-course
 returns-in-Ok-clause-course g c = λ p from.
@@ -49,7 +56,8 @@ returns-in-Ok-clause-course g c = λ p from.
     let front = subst (λ (b : Backed _). IsAtBootStage p (backed_device b) world told living) c.in-Backing.is from in
     let t = c.in-Ok.ensures.trace p told living front (orderly_at p d world told living front c.requires.orderly) in
     ended g.J.Journal.entries g.J.Journal.files c.args.disk.now c.close_failed_backing.new.disk told.list told.list
-    (g.K.Sink.held c.args.sink.now) (g.K.Sink.held c.close_failed_backing.new.sink) p t.0 (driven.Closed c.in-Ok.idle outcomes.UnableToRollback) (λ x h q. DrivenLeft x h q (g.S.Supervise.world c.close_failed_backing.new.supervisor) told living)
+    (g.K.Sink.held c.args.sink.now) (g.K.Sink.held c.close_failed_backing.new.sink) p t.0 (driven.Closed c.in-Ok.idle outcomes.UnableToRollback)
+    (λ x h q. DrivenLeft x h q (g.S.Supervise.world c.close_failed_backing.new.supervisor) told living)
     t.1 t.2 t.3
 
 pub returns-in-Err-clause-course : goal.returns-in-Err-clause-course
@@ -61,10 +69,12 @@ returns-in-Err-clause-course g c = λ p from.
     let front = subst (λ (b : Backed _). IsAtBootStage p (backed_device b) world told living) c.in-Backing.is from in
     let t = c.in-Err.ensures.trace p told living front (orderly_at p d world told living front c.requires.orderly) in
     given_up g.J.Journal.entries g.J.Journal.files c.args.disk.now c.close_failed_backing.new.disk told.list told.list
-    (g.K.Sink.held c.args.sink.now) (g.K.Sink.held c.close_failed_backing.new.sink) p t.0 c.in-Err.over (λ x h q. DrivenLeft x h q (g.S.Supervise.world c.close_failed_backing.new.supervisor) told living)
+    (g.K.Sink.held c.args.sink.now) (g.K.Sink.held c.close_failed_backing.new.sink) p t.0 c.in-Err.over
+    (λ x h q. DrivenLeft x h q (g.S.Supervise.world c.close_failed_backing.new.supervisor) told living)
     t.1 t.2 t.3 t.4
 
 pub returns-in-Err-clause-none : goal.returns-in-Err-clause-none
 returns-in-Err-clause-none g c =
     let q = c.requires.placed in
-    no_living q.0 (backed_device c.args.backed) (g.S.Supervise.world c.args.supervisor.now) (Listed g.R.Runner.list g.R.Runner.told g.R.Runner.asked c.args.runner.now) (g.R.Runner.living c.args.runner.now) q.1
+    no_living q.0 (backed_device c.args.backed) (g.S.Supervise.world c.args.supervisor.now)
+    (Listed g.R.Runner.list g.R.Runner.told g.R.Runner.asked c.args.runner.now) (g.R.Runner.living c.args.runner.now) q.1

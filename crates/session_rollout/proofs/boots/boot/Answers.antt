@@ -29,7 +29,8 @@ end_boots-requires-clause-items g c =
     let front = boots_front _ (records_of t.0) (state_after p t.0) e world new living (inl c.in-Ok-default-Through.field-0-1-is) t.3 in
     let items = g.S.Supervise.coming c.args.ready.items in
     let earlier = g.S.Supervise.coming c.args.ready.earlier in
-    let ready = ready_behind c.args.ready.boots c.args.ready.backs items earlier p t.0 d e (shut_takes q.0) t.1.proper t.1.run q.1.between.stands.device_is front.between.stands.device_is c.requires.ready in
+    let ready = ready_behind c.args.ready.boots c.args.ready.backs items earlier p t.0 d e (shut_takes q.0) t.1.proper t.1.run q.1.between.stands.device_is
+    front.between.stands.device_is c.requires.ready in
     plan_ready c.args.ready.boots c.args.ready.backs items earlier e c.in-Ok-default-Through.ensures.held.1 ready
 
 pub end_boots-requires-clause-ready : goal.end_boots-requires-clause-ready
@@ -46,15 +47,20 @@ end_boots-requires-clause-ready g c =
     let front = boots_front _ (records_of t.0) (state_after p t.0) e world new living (inl c.in-Ok-default-Through.field-0-1-is) t.3 in
     let items = g.S.Supervise.coming c.args.ready.items in
     let earlier = g.S.Supervise.coming c.args.ready.earlier in
-    let ready = ready_behind c.args.ready.boots c.args.ready.backs items earlier p t.0 d e (shut_takes q.0) t.1.proper t.1.run q.1.between.stands.device_is front.between.stands.device_is c.requires.ready in
+    let ready = ready_behind c.args.ready.boots c.args.ready.backs items earlier p t.0 d e (shut_takes q.0) t.1.proper t.1.run q.1.between.stands.device_is
+    front.between.stands.device_is c.requires.ready in
     subst (λ (l : List Prepared). HasWayBack e l earlier) (sym c.as_slice-in-Ok-default-Through.ensures) (c.args.ready.boots, items, ready)
 
 pub end_boots-requires-clause-placed : goal.end_boots-requires-clause-placed
 end_boots-requires-clause-placed g c =
     let q = c.requires.placed in
     let world = g.S.Supervise.world c.args.supervisor.now in
-    let t = c.in-Ok-default-Through.ensures.trace q.0 world q.1 in
-    (state_after q.0 t.0, boots_front _ (records_of t.0) (state_after q.0 t.0) (booting_device c.in-Ok-default-Through.state) world (Listed g.R.Runner.list g.R.Runner.told g.R.Runner.asked c.run_boots.new.runner) (g.R.Runner.living c.run_boots.new.runner) (inl c.in-Ok-default-Through.field-0-1-is) t.3)
+    let t = c.in-Ok-default-Through.ensures.trace q.0 world q.1 in (
+      state_after q.0 t.0,
+      boots_front _ (records_of t.0) (state_after q.0 t.0) (booting_device c.in-Ok-default-Through.state) world
+          (Listed g.R.Runner.list g.R.Runner.told g.R.Runner.asked c.run_boots.new.runner) (g.R.Runner.living c.run_boots.new.runner)
+          (inl c.in-Ok-default-Through.field-0-1-is) t.3,
+    )
 
 pub returns-in-Ok-default-Through-clause-course : goal.returns-in-Ok-default-Through-clause-course
 returns-in-Ok-default-Through-clause-course g c = λ p front.
@@ -63,7 +69,8 @@ returns-in-Ok-default-Through-clause-course g c = λ p front.
     let new = Listed g.R.Runner.list g.R.Runner.told g.R.Runner.asked c.run_boots.new.runner in
     let last = Listed g.R.Runner.list g.R.Runner.told g.R.Runner.asked c.end_boots.new.runner in
     let t = c.in-Ok-default-Through.ensures.trace p world front in
-    let next = boots_front _ (records_of t.0) (state_after p t.0) (booting_device c.in-Ok-default-Through.state) world new (g.R.Runner.living c.run_boots.new.runner) (inl c.in-Ok-default-Through.field-0-1-is) t.3 in
+    let next = boots_front _ (records_of t.0) (state_after p t.0) (booting_device c.in-Ok-default-Through.state) world new
+    (g.R.Runner.living c.run_boots.new.runner) (inl c.in-Ok-default-Through.field-0-1-is) t.3 in
     joined g.J.Journal.entries g.J.Journal.files g.met.D.Disk.laws c.args.disk.now c.run_boots.new.disk c.end_boots.new.disk told.list new.list last.list
     (g.K.Sink.held c.args.sink.now) (g.K.Sink.held c.run_boots.new.sink) (g.K.Sink.held c.end_boots.new.sink) p t.0 c.end_boots.result _
     t.1 t.2
@@ -86,15 +93,20 @@ fail_boots-requires-clause-ready g c =
     let front = boots_front _ (records_of t.0) (state_after p t.0) e world new living (inr c.in-Ok-default-Failed.field-0-1-is) t.3 in
     let items = g.S.Supervise.coming c.args.ready.items in
     let earlier = g.S.Supervise.coming c.args.ready.earlier in
-    let ready = ready_behind c.args.ready.boots c.args.ready.backs items earlier p t.0 d e (shut_takes q.0) t.1.proper t.1.run q.1.between.stands.device_is front.between.stands.device_is c.requires.ready in
+    let ready = ready_behind c.args.ready.boots c.args.ready.backs items earlier p t.0 d e (shut_takes q.0) t.1.proper t.1.run q.1.between.stands.device_is
+    front.between.stands.device_is c.requires.ready in
     subst (λ (l : List Prepared). HasWayBack e l earlier) (sym c.as_slice-in-Ok-default-Failed.ensures) (c.args.ready.boots, items, ready)
 
 pub fail_boots-requires-clause-placed : goal.fail_boots-requires-clause-placed
 fail_boots-requires-clause-placed g c =
     let q = c.requires.placed in
     let world = g.S.Supervise.world c.args.supervisor.now in
-    let t = c.in-Ok-default-Failed.ensures.trace q.0 world q.1 in
-    (state_after q.0 t.0, boots_front _ (records_of t.0) (state_after q.0 t.0) (booting_device c.in-Ok-default-Failed.state) world (Listed g.R.Runner.list g.R.Runner.told g.R.Runner.asked c.run_boots.new.runner) (g.R.Runner.living c.run_boots.new.runner) (inr c.in-Ok-default-Failed.field-0-1-is) t.3)
+    let t = c.in-Ok-default-Failed.ensures.trace q.0 world q.1 in (
+      state_after q.0 t.0,
+      boots_front _ (records_of t.0) (state_after q.0 t.0) (booting_device c.in-Ok-default-Failed.state) world
+          (Listed g.R.Runner.list g.R.Runner.told g.R.Runner.asked c.run_boots.new.runner) (g.R.Runner.living c.run_boots.new.runner)
+          (inr c.in-Ok-default-Failed.field-0-1-is) t.3,
+    )
 
 pub returns-in-Ok-default-Failed-clause-course : goal.returns-in-Ok-default-Failed-clause-course
 returns-in-Ok-default-Failed-clause-course g c = λ p front.
@@ -103,7 +115,8 @@ returns-in-Ok-default-Failed-clause-course g c = λ p front.
     let new = Listed g.R.Runner.list g.R.Runner.told g.R.Runner.asked c.run_boots.new.runner in
     let last = Listed g.R.Runner.list g.R.Runner.told g.R.Runner.asked c.fail_boots.new.runner in
     let t = c.in-Ok-default-Failed.ensures.trace p world front in
-    let next = boots_front _ (records_of t.0) (state_after p t.0) (booting_device c.in-Ok-default-Failed.state) world new (g.R.Runner.living c.run_boots.new.runner) (inr c.in-Ok-default-Failed.field-0-1-is) t.3 in
+    let next = boots_front _ (records_of t.0) (state_after p t.0) (booting_device c.in-Ok-default-Failed.state) world new
+    (g.R.Runner.living c.run_boots.new.runner) (inr c.in-Ok-default-Failed.field-0-1-is) t.3 in
     joined g.J.Journal.entries g.J.Journal.files g.met.D.Disk.laws c.args.disk.now c.run_boots.new.disk c.fail_boots.new.disk told.list new.list last.list
     (g.K.Sink.held c.args.sink.now) (g.K.Sink.held c.run_boots.new.sink) (g.K.Sink.held c.fail_boots.new.sink) p t.0 c.fail_boots.result _
     t.1 t.2

@@ -12,7 +12,8 @@ use Rattle.session_rollout.proofs.boots.break_off.Goals as goal
 
 pub roll_back-requires-clause-ready : goal.roll_back-requires-clause-ready
 roll_back-requires-clause-ready g c =
-    way_broken c.args.backs.now (g.S.Supervise.coming c.args.ready) (booting_device c.args.state) (broken_device c.in-Ok.broke) c.in-Ok.ensures.breaks c.requires.ready
+    way_broken c.args.backs.now (g.S.Supervise.coming c.args.ready) (booting_device c.args.state) (broken_device c.in-Ok.broke) c.in-Ok.ensures.breaks
+    c.requires.ready
 
 pub roll_back-requires-clause-placed : goal.roll_back-requires-clause-placed
 roll_back-requires-clause-placed g c =
@@ -26,7 +27,8 @@ returns-in-Ok-clause-course g c = λ p front.
     let told = Listed g.R.Runner.list g.R.Runner.told g.R.Runner.asked c.args.runner.now in
     let last = Listed g.R.Runner.list g.R.Runner.told g.R.Runner.asked c.roll_back.new.runner in
     let t = c.in-Ok.ensures.trace p (g.S.Supervise.world c.args.supervisor.now) told (g.R.Runner.living c.args.runner.now) front in
-    joined g.J.Journal.entries g.J.Journal.files g.met.D.Disk.laws c.args.disk.now c.begin_rollback_of_booting.new.disk c.roll_back.new.disk told.list told.list last.list
+    joined g.J.Journal.entries g.J.Journal.files g.met.D.Disk.laws c.args.disk.now c.begin_rollback_of_booting.new.disk c.roll_back.new.disk told.list
+    told.list last.list
     (g.K.Sink.held c.args.sink.now) (g.K.Sink.held c.args.sink.now) (g.K.Sink.held c.roll_back.new.sink) p t.0 c.roll_back.result _
     t.1
     (nothing_told (g.K.Sink.held c.args.sink.now) (lines_of p.device (records_of t.0)) t.2)
@@ -44,4 +46,5 @@ returns-in-Err-clause-course g c = λ p front.
 pub returns-in-Err-clause-none : goal.returns-in-Err-clause-none
 returns-in-Err-clause-none g c =
     let q = c.requires.placed in
-    no_living q.0 (booting_device c.args.state) (g.S.Supervise.world c.args.supervisor.now) (Listed g.R.Runner.list g.R.Runner.told g.R.Runner.asked c.args.runner.now) (g.R.Runner.living c.args.runner.now) q.1
+    no_living q.0 (booting_device c.args.state) (g.S.Supervise.world c.args.supervisor.now)
+    (Listed g.R.Runner.list g.R.Runner.told g.R.Runner.asked c.args.runner.now) (g.R.Runner.living c.args.runner.now) q.1

@@ -54,4 +54,5 @@ returns-in-Err-clause-course g c = λ p front.
 pub returns-in-Err-clause-none : goal.returns-in-Err-clause-none
 returns-in-Err-clause-none g c =
     let q = c.requires.placed in
-    no_living q.0 (booting_device c.args.state) (g.S.Supervise.world c.args.supervisor.now) (Listed g.R.Runner.list g.R.Runner.told g.R.Runner.asked c.args.runner.now) (g.R.Runner.living c.args.runner.now) q.1
+    no_living q.0 (booting_device c.args.state) (g.S.Supervise.world c.args.supervisor.now)
+    (Listed g.R.Runner.list g.R.Runner.told g.R.Runner.asked c.args.runner.now) (g.R.Runner.living c.args.runner.now) q.1

@@ -23,7 +23,8 @@ begin_rollback_again-requires-clause-policy g c = ap is_to_roll_back (sym c.devi
 
 pub roll_back-requires-clause-ready : goal.roll_back-requires-clause-ready
 roll_back-requires-clause-ready g c =
-    way_broken c.args.backs.now (g.S.Supervise.coming c.args.ready) (activating_device c.args.state) (broken_device c.in-Ok.broke) c.in-Ok.ensures.breaks c.requires.ready
+    way_broken c.args.backs.now (g.S.Supervise.coming c.args.ready) (activating_device c.args.state) (broken_device c.in-Ok.broke) c.in-Ok.ensures.breaks
+    c.requires.ready
 
 pub roll_back-requires-clause-placed : goal.roll_back-requires-clause-placed
 roll_back-requires-clause-placed g c =
@@ -37,7 +38,8 @@ returns-in-Ok-clause-course g c = λ p front.
     let told = Listed g.R.Runner.list g.R.Runner.told g.R.Runner.asked c.args.runner.now in
     let last = Listed g.R.Runner.list g.R.Runner.told g.R.Runner.asked c.roll_back.new.runner in
     let t = c.in-Ok.ensures.trace p (g.S.Supervise.world c.args.supervisor.now) told (g.R.Runner.living c.args.runner.now) front in
-    joined g.J.Journal.entries g.J.Journal.files g.met.D.Disk.laws c.args.disk.now c.begin_rollback_again.new.disk c.roll_back.new.disk told.list told.list last.list
+    joined g.J.Journal.entries g.J.Journal.files g.met.D.Disk.laws c.args.disk.now c.begin_rollback_again.new.disk c.roll_back.new.disk told.list told.list
+    last.list
     (g.K.Sink.held c.args.sink.now) (g.K.Sink.held c.args.sink.now) (g.K.Sink.held c.roll_back.new.sink) p t.0 c.roll_back.result _
     t.1
     (nothing_told (g.K.Sink.held c.args.sink.now) (lines_of p.device (records_of t.0)) t.2)
@@ -55,7 +57,8 @@ returns-in-Err-clause-course g c = λ p front.
 pub returns-in-Err-clause-none : goal.returns-in-Err-clause-none
 returns-in-Err-clause-none g c =
     let q = c.requires.placed in
-    no_living q.0 (activating_device c.args.state) (g.S.Supervise.world c.args.supervisor.now) (Listed g.R.Runner.list g.R.Runner.told g.R.Runner.asked c.args.runner.now) (g.R.Runner.living c.args.runner.now) q.1
+    no_living q.0 (activating_device c.args.state) (g.S.Supervise.world c.args.supervisor.now)
+    (Listed g.R.Runner.list g.R.Runner.told g.R.Runner.asked c.args.runner.now) (g.R.Runner.living c.args.runner.now) q.1
 
 -- ---- it stays as it is
 
@@ -70,7 +73,8 @@ returns-in-Ok-close_failed_again-clause-course g c = λ p front.
     let living = g.R.Runner.living c.args.runner.now in
     let t = c.in-Ok-close_failed_again.ensures.trace p told living front (orderly_at p d world told living front c.requires.orderly) in
     ended g.J.Journal.entries g.J.Journal.files c.args.disk.now c.close_failed_again.new.disk told.list told.list
-    (g.K.Sink.held c.args.sink.now) (g.K.Sink.held c.close_failed_again.new.sink) p t.0 (driven.Closed c.in-Ok-close_failed_again.idle outcomes.RollbackNotRequested) _
+    (g.K.Sink.held c.args.sink.now) (g.K.Sink.held c.close_failed_again.new.sink) p t.0
+    (driven.Closed c.in-Ok-close_failed_again.idle outcomes.RollbackNotRequested) _
     t.1 t.2 t.3
 
 pub returns-in-Err-close_failed_again-clause-course : goal.returns-in-Err-close_failed_again-clause-course
@@ -87,4 +91,5 @@ returns-in-Err-close_failed_again-clause-course g c = λ p front.
 pub returns-in-Err-close_failed_again-clause-none : goal.returns-in-Err-close_failed_again-clause-none
 returns-in-Err-close_failed_again-clause-none g c =
     let q = c.requires.placed in
-    no_living q.0 (activating_device c.args.state) (g.S.Supervise.world c.args.supervisor.now) (Listed g.R.Runner.list g.R.Runner.told g.R.Runner.asked c.args.runner.now) (g.R.Runner.living c.args.runner.now) q.1
+    no_living q.0 (activating_device c.args.state) (g.S.Supervise.world c.args.supervisor.now)
+    (Listed g.R.Runner.list g.R.Runner.told g.R.Runner.asked c.args.runner.now) (g.R.Runner.living c.args.runner.now) q.1

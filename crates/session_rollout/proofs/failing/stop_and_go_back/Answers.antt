@@ -26,7 +26,8 @@ roll_back-requires-clause-orderly g c =
     let new = Listed g.R.Runner.list g.R.Runner.told g.R.Runner.asked c.stop_all_components.new.runner in
     let world = g.S.Supervise.world c.stop_all_components.new.supervisor in
     let living = g.R.Runner.living c.stop_all_components.new.runner in
-    let t = c.stop_all_components.ensures.trace q.0 d (turned_stops q.0 d (g.S.Supervise.world c.args.supervisor.now) told (g.R.Runner.living c.args.runner.now) q.1) in
+    let t = c.stop_all_components.ensures.trace q.0 d (turned_stops q.0 d (g.S.Supervise.world c.args.supervisor.now) told
+    (g.R.Runner.living c.args.runner.now) q.1) in
     stopped_orderly (state_after q.0 t.0) d world new living t.2
 
 pub roll_back-requires-clause-placed : goal.roll_back-requires-clause-placed
@@ -38,7 +39,8 @@ roll_back-requires-clause-placed g c =
     let world = g.S.Supervise.world c.stop_all_components.new.supervisor in
     let living = g.R.Runner.living c.stop_all_components.new.runner in
     let busy = broken_busy g.D.Disk.is_modelled g.D.Disk.may_leave g.J.Journal.stands g.J.Journal.end c.args.broke c.args.disk.now c.requires.held in
-    let t = c.stop_all_components.ensures.trace q.0 d (turned_stops q.0 d (g.S.Supervise.world c.args.supervisor.now) told (g.R.Runner.living c.args.runner.now) q.1) in
+    let t = c.stop_all_components.ensures.trace q.0 d (turned_stops q.0 d (g.S.Supervise.world c.args.supervisor.now) told
+    (g.R.Runner.living c.args.runner.now) q.1) in
     (state_after q.0 t.0, stopped_front (state_after q.0 t.0) d world new living busy t.2)
 
 pub returns-clause-course : goal.returns-clause-course
@@ -51,7 +53,8 @@ returns-clause-course g c = λ p turned.
     let last = Listed g.R.Runner.list g.R.Runner.told g.R.Runner.asked c.roll_back.new.runner in
     let busy = broken_busy g.D.Disk.is_modelled g.D.Disk.may_leave g.J.Journal.stands g.J.Journal.end c.args.broke c.args.disk.now c.requires.held in
     let held = broken_held g.D.Disk.is_modelled g.D.Disk.may_leave g.J.Journal.stands g.J.Journal.end c.args.broke c.args.disk.now c.requires.held in
-    let t = c.stop_all_components.ensures.trace p d (turned_stops p d (g.S.Supervise.world c.args.supervisor.now) told (g.R.Runner.living c.args.runner.now) turned) in
+    let t = c.stop_all_components.ensures.trace p d (turned_stops p d (g.S.Supervise.world c.args.supervisor.now) told (g.R.Runner.living c.args.runner.now)
+    turned) in
     let front = stopped_front (state_after p t.0) d world new living busy t.2 in
     joined g.J.Journal.entries g.J.Journal.files g.met.D.Disk.laws c.args.disk.now c.args.disk.now c.roll_back.new.disk told.list new.list last.list
     (g.K.Sink.held c.args.sink.now) (g.K.Sink.held c.args.sink.now) (g.K.Sink.held c.roll_back.new.sink) p t.0 c.roll_back.result _

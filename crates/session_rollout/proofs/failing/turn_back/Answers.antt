@@ -20,7 +20,8 @@ begin_rollback_of_activating-requires-clause-failed g c =
 
 pub stop_and_go_back-requires-clause-ready : goal.stop_and_go_back-requires-clause-ready
 stop_and_go_back-requires-clause-ready g c =
-    way_broken c.args.backs.now (g.S.Supervise.coming c.args.ready) (activating_device c.args.state) (broken_device c.in-Ok.broke) c.in-Ok.ensures.breaks c.requires.ready
+    way_broken c.args.backs.now (g.S.Supervise.coming c.args.ready) (activating_device c.args.state) (broken_device c.in-Ok.broke) c.in-Ok.ensures.breaks
+    c.requires.ready
 
 pub stop_and_go_back-requires-clause-placed : goal.stop_and_go_back-requires-clause-placed
 stop_and_go_back-requires-clause-placed g c =
@@ -34,7 +35,8 @@ returns-in-Ok-clause-course g c = λ p from.
     let told = Listed g.R.Runner.list g.R.Runner.told g.R.Runner.asked c.args.runner.now in
     let last = Listed g.R.Runner.list g.R.Runner.told g.R.Runner.asked c.stop_and_go_back.new.runner in
     let t = c.in-Ok.ensures.trace p (g.S.Supervise.world c.args.supervisor.now) told (g.R.Runner.living c.args.runner.now) from in
-    joined g.J.Journal.entries g.J.Journal.files g.met.D.Disk.laws c.args.disk.now c.begin_rollback_of_activating.new.disk c.stop_and_go_back.new.disk told.list told.list last.list
+    joined g.J.Journal.entries g.J.Journal.files g.met.D.Disk.laws c.args.disk.now c.begin_rollback_of_activating.new.disk c.stop_and_go_back.new.disk
+    told.list told.list last.list
     (g.K.Sink.held c.args.sink.now) (g.K.Sink.held c.args.sink.now) (g.K.Sink.held c.stop_and_go_back.new.sink) p t.0 c.stop_and_go_back.result _
     t.1
     (nothing_told (g.K.Sink.held c.args.sink.now) (lines_of p.device (records_of t.0)) t.2)
@@ -53,6 +55,7 @@ returns-in-Err-clause-course g c = λ p from.
     let told = Listed g.R.Runner.list g.R.Runner.told g.R.Runner.asked c.args.runner.now in
     let t = c.in-Err.ensures.trace p (g.S.Supervise.world c.args.supervisor.now) told (g.R.Runner.living c.args.runner.now) from in
     let k = c.kill_all.ensures.trace (state_after p t.0) t.4 in
-    cut_off g.J.Journal.entries g.J.Journal.files c.args.disk.now c.begin_rollback_of_activating.new.disk told.list told.list (g.R.Runner.list c.kill_all.new.runner)
+    cut_off g.J.Journal.entries g.J.Journal.files c.args.disk.now c.begin_rollback_of_activating.new.disk told.list told.list
+    (g.R.Runner.list c.kill_all.new.runner)
     (g.K.Sink.held c.args.sink.now) (g.K.Sink.held c.args.sink.now) p t.0 k.0 c.in-Err.over _
     t.1 (none_at (g.K.Sink.held c.args.sink.now) p.device (records_of t.0) c.in-Err.over t.5) t.3 k.1 k.2 k.3 k.4

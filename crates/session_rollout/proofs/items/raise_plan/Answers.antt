@@ -19,7 +19,8 @@ use Rattle.session_rollout.proofs.items.raise_plan.Goals as goal
 -- ---- what the change of the items asks
 
 pub change_items-requires-clause-stage : goal.change_items-requires-clause-stage
-change_items-requires-clause-stage g c = subst (λ (x : Device). rises (duty_of x).phase ≡ true) (sym c.device.ensures) (rises_in (activating_device c.args.state) (inl c.requires.held.1))
+change_items-requires-clause-stage g c = subst (λ (x : Device). rises (duty_of x).phase ≡ true) (sym c.device.ensures)
+    (rises_in (activating_device c.args.state) (inl c.requires.held.1))
 
 pub change_items-requires-clause-ready : goal.change_items-requires-clause-ready
 change_items-requires-clause-ready g c = subst (λ (x : Device). AreReady x (g.S.Supervise.coming c.args.items)) (sym c.device.ensures) c.requires.items
@@ -28,7 +29,8 @@ pub change_items-requires-clause-room : goal.change_items-requires-clause-room
 change_items-requires-clause-room g c =
     let q = c.requires.placed in
     let world = g.S.Supervise.world c.args.supervisor.now in
-    room_for_none world (g.S.Supervise.room c.args.items) (stopped_in q.0 (activating_device c.args.state) world (Listed g.R.Runner.list g.R.Runner.told g.R.Runner.asked c.args.runner.now) (g.R.Runner.living c.args.runner.now) q.1)
+    room_for_none world (g.S.Supervise.room c.args.items) (stopped_in q.0 (activating_device c.args.state) world
+    (Listed g.R.Runner.list g.R.Runner.told g.R.Runner.asked c.args.runner.now) (g.R.Runner.living c.args.runner.now) q.1)
 
 pub change_items-requires-clause-few : goal.change_items-requires-clause-few
 change_items-requires-clause-few g c = subst (λ (x : Device). has_three (duty_of x).counts ≡ false) (sym c.device.ensures) c.requires.few
@@ -43,12 +45,14 @@ pub change_items-requires-clause-same : goal.change_items-requires-clause-same
 change_items-requires-clause-same g c =
     let q = c.requires.placed in
     let world = g.S.Supervise.world c.args.supervisor.now in
-    keeps_none (g.S.Supervise.coming c.args.items) world (stopped_in q.0 (activating_device c.args.state) world (Listed g.R.Runner.list g.R.Runner.told g.R.Runner.asked c.args.runner.now) (g.R.Runner.living c.args.runner.now) q.1)
+    keeps_none (g.S.Supervise.coming c.args.items) world (stopped_in q.0 (activating_device c.args.state) world
+    (Listed g.R.Runner.list g.R.Runner.told g.R.Runner.asked c.args.runner.now) (g.R.Runner.living c.args.runner.now) q.1)
 
 pub change_items-requires-clause-none : goal.change_items-requires-clause-none
 change_items-requires-clause-none g c =
     let q = c.requires.placed in
-    stopped_in q.0 (activating_device c.args.state) (g.S.Supervise.world c.args.supervisor.now) (Listed g.R.Runner.list g.R.Runner.told g.R.Runner.asked c.args.runner.now) (g.R.Runner.living c.args.runner.now) q.1
+    stopped_in q.0 (activating_device c.args.state) (g.S.Supervise.world c.args.supervisor.now)
+    (Listed g.R.Runner.list g.R.Runner.told g.R.Runner.asked c.args.runner.now) (g.R.Runner.living c.args.runner.now) q.1
 
 -- ---- they come up
 
@@ -56,7 +60,8 @@ pub bring_up-requires-clause-placed : goal.bring_up-requires-clause-placed
 bring_up-requires-clause-placed g c =
     let q = c.requires.placed in
     let told = Listed g.R.Runner.list g.R.Runner.told g.R.Runner.asked c.args.runner.now in
-    let t = entered q.0 (activating_device c.args.state) (device_view c.device.result.now) (g.S.Supervise.world c.args.supervisor.now) (g.S.Supervise.world c.change_items.new.supervisor) told (g.R.Runner.living c.args.runner.now)
+    let t = entered q.0 (activating_device c.args.state) (device_view c.device.result.now) (g.S.Supervise.world c.args.supervisor.now)
+    (g.S.Supervise.world c.change_items.new.supervisor) told (g.R.Runner.living c.args.runner.now)
     c.device.ensures q.1 c.requires.orderly (inl c.requires.held.1) c.change_items.ensures.trace in
     (state_after q.0 t.0, t.2)
 
@@ -65,7 +70,8 @@ returns-clause-course g c = λ p front.
     let d = activating_device c.args.state in
     let told = Listed g.R.Runner.list g.R.Runner.told g.R.Runner.asked c.args.runner.now in
     let last = Listed g.R.Runner.list g.R.Runner.told g.R.Runner.asked c.bring_up.new.runner in
-    let t = entered p d (device_view c.device.result.now) (g.S.Supervise.world c.args.supervisor.now) (g.S.Supervise.world c.change_items.new.supervisor) told (g.R.Runner.living c.args.runner.now)
+    let t = entered p d (device_view c.device.result.now) (g.S.Supervise.world c.args.supervisor.now) (g.S.Supervise.world c.change_items.new.supervisor) told
+    (g.R.Runner.living c.args.runner.now)
     c.device.ensures front c.requires.orderly (inl c.requires.held.1) c.change_items.ensures.trace in
     joined g.J.Journal.entries g.J.Journal.files g.met.D.Disk.laws c.args.disk.now c.args.disk.now c.bring_up.new.disk told.list told.list last.list
     (g.K.Sink.held c.args.sink.now) (g.K.Sink.held c.args.sink.now) (g.K.Sink.held c.bring_up.new.sink) p t.0 c.bring_up.result _

@@ -24,7 +24,8 @@ use Rattle.session_rollout.proofs.rolling.raise_set.Goals as goal
 -- ---- what the change of the items asks
 
 pub change_items-requires-clause-stage : goal.change_items-requires-clause-stage
-change_items-requires-clause-stage g c = subst (λ (x : Device). rises (duty_of x).phase ≡ true) (sym c.device.ensures) (rises_in (rolling_device c.args.state) (inr c.requires.held.1))
+change_items-requires-clause-stage g c = subst (λ (x : Device). rises (duty_of x).phase ≡ true) (sym c.device.ensures)
+    (rises_in (rolling_device c.args.state) (inr c.requires.held.1))
 
 pub change_items-requires-clause-ready : goal.change_items-requires-clause-ready
 change_items-requires-clause-ready g c = subst (λ (x : Device). AreReady x (g.S.Supervise.coming c.args.ready)) (sym c.device.ensures) c.requires.ready
@@ -33,7 +34,9 @@ pub change_items-requires-clause-room : goal.change_items-requires-clause-room
 change_items-requires-clause-room g c =
     let q = c.requires.placed in
     let world = g.S.Supervise.world c.args.supervisor.now in
-    room_for_none world (g.S.Supervise.room c.args.ready) (stopped_in q.0 (rolling_device c.args.state) world (Listed g.R.Runner.list g.R.Runner.told g.R.Runner.asked c.args.runner.now) (g.R.Runner.living c.args.runner.now) q.1)
+    room_for_none world (g.S.Supervise.room c.args.ready) (stopped_in
+    q.0 (rolling_device c.args.state) world (Listed g.R.Runner.list g.R.Runner.told g.R.Runner.asked c.args.runner.now)
+    (g.R.Runner.living c.args.runner.now) q.1)
 
 pub change_items-requires-clause-few : goal.change_items-requires-clause-few
 change_items-requires-clause-few g c = subst (λ (x : Device). has_three (duty_of x).counts ≡ false) (sym c.device.ensures) c.requires.few
@@ -48,12 +51,15 @@ pub change_items-requires-clause-same : goal.change_items-requires-clause-same
 change_items-requires-clause-same g c =
     let q = c.requires.placed in
     let world = g.S.Supervise.world c.args.supervisor.now in
-    keeps_none (g.S.Supervise.coming c.args.ready) world (stopped_in q.0 (rolling_device c.args.state) world (Listed g.R.Runner.list g.R.Runner.told g.R.Runner.asked c.args.runner.now) (g.R.Runner.living c.args.runner.now) q.1)
+    keeps_none (g.S.Supervise.coming c.args.ready) world (stopped_in
+    q.0 (rolling_device c.args.state) world (Listed g.R.Runner.list g.R.Runner.told g.R.Runner.asked c.args.runner.now)
+    (g.R.Runner.living c.args.runner.now) q.1)
 
 pub change_items-requires-clause-none : goal.change_items-requires-clause-none
 change_items-requires-clause-none g c =
     let q = c.requires.placed in
-    stopped_in q.0 (rolling_device c.args.state) (g.S.Supervise.world c.args.supervisor.now) (Listed g.R.Runner.list g.R.Runner.told g.R.Runner.asked c.args.runner.now) (g.R.Runner.living c.args.runner.now) q.1
+    stopped_in q.0 (rolling_device c.args.state) (g.S.Supervise.world c.args.supervisor.now)
+    (Listed g.R.Runner.list g.R.Runner.told g.R.Runner.asked c.args.runner.now) (g.R.Runner.living c.args.runner.now) q.1
 
 -- ---- they come up
 
@@ -61,7 +67,8 @@ pub roll-requires-clause-placed : goal.roll-requires-clause-placed
 roll-requires-clause-placed g c =
     let q = c.requires.placed in
     let told = Listed g.R.Runner.list g.R.Runner.told g.R.Runner.asked c.args.runner.now in
-    let t = entered q.0 (rolling_device c.args.state) (device_view c.device.result.now) (g.S.Supervise.world c.args.supervisor.now) (g.S.Supervise.world c.change_items.new.supervisor) told (g.R.Runner.living c.args.runner.now)
+    let t = entered q.0 (rolling_device c.args.state) (device_view c.device.result.now) (g.S.Supervise.world c.args.supervisor.now)
+    (g.S.Supervise.world c.change_items.new.supervisor) told (g.R.Runner.living c.args.runner.now)
     c.device.ensures q.1 c.requires.orderly (inr c.requires.held.1) c.change_items.ensures.trace in
     (state_after q.0 t.0, t.2)
 
@@ -73,7 +80,8 @@ returns-in-Ok-clause-course g c = λ p front.
     let living = g.R.Runner.living c.args.runner.now in
     let world = g.S.Supervise.world c.roll.new.supervisor in
     let next = g.R.Runner.living c.roll.new.runner in
-    let t = entered p d (device_view c.device.result.now) (g.S.Supervise.world c.args.supervisor.now) (g.S.Supervise.world c.change_items.new.supervisor) told living
+    let t = entered p d (device_view c.device.result.now) (g.S.Supervise.world c.args.supervisor.now) (g.S.Supervise.world c.change_items.new.supervisor) told
+    living
     c.device.ensures front c.requires.orderly (inr c.requires.held.1) c.change_items.ensures.trace in
     let u = c.in-Ok.ensures.trace (state_after p t.0) t.2 in
     let x = driven.Closed c.in-Ok.idle c.in-Ok.outcome in
@@ -82,7 +90,8 @@ returns-in-Ok-clause-course g c = λ p front.
     (acted_held g.met.D.Disk.laws g.met.J.Journal.laws _ c.args.disk.now told.list told.list p d t.0 front.between.stands.device_is c.requires.held.0.0 t.1)
     (no_lines (g.K.Sink.held c.args.sink.now) p.device t.0 t.1.none)
     (driven_on world last next t.0)
-    (ended g.J.Journal.entries g.J.Journal.files c.args.disk.now c.roll.new.disk told.list last.list (g.K.Sink.held c.args.sink.now) (g.K.Sink.held c.roll.new.sink) (state_after p t.0) u.0 x (λ y h r. DrivenLeft y h r world last next)
+    (ended g.J.Journal.entries g.J.Journal.files c.args.disk.now c.roll.new.disk told.list last.list (g.K.Sink.held c.args.sink.now)
+    (g.K.Sink.held c.roll.new.sink) (state_after p t.0) u.0 x (λ y h r. DrivenLeft y h r world last next)
     u.1 u.2 u.3)
 
 pub roll-requires-clause-rises : goal.roll-requires-clause-rises
@@ -98,7 +107,8 @@ kill_all-requires g c =
     let q = c.requires.placed in
     let told = Listed g.R.Runner.list g.R.Runner.told g.R.Runner.asked c.args.runner.now in
     let new = Listed g.R.Runner.list g.R.Runner.told g.R.Runner.asked c.roll.new.runner in
-    let t = entered q.0 (rolling_device c.args.state) (device_view c.device.result.now) (g.S.Supervise.world c.args.supervisor.now) (g.S.Supervise.world c.change_items.new.supervisor) told (g.R.Runner.living c.args.runner.now)
+    let t = entered q.0 (rolling_device c.args.state) (device_view c.device.result.now) (g.S.Supervise.world c.args.supervisor.now)
+    (g.S.Supervise.world c.change_items.new.supervisor) told (g.R.Runner.living c.args.runner.now)
     c.device.ensures q.1 c.requires.orderly (inr c.requires.held.1) c.change_items.ensures.trace in
     let u = c.in-Err.ensures.trace (state_after q.0 t.0) t.2 in
     let end = state_after (state_after q.0 t.0) u.0 in
@@ -111,15 +121,19 @@ returns-in-Err-clause-course g c = λ p front.
     let new = Listed g.R.Runner.list g.R.Runner.told g.R.Runner.asked c.roll.new.runner in
     let last = Listed g.R.Runner.list g.R.Runner.told g.R.Runner.asked c.kill_all.new.runner in
     let world = g.S.Supervise.world c.roll.new.supervisor in
-    let t = entered p d (device_view c.device.result.now) (g.S.Supervise.world c.args.supervisor.now) (g.S.Supervise.world c.change_items.new.supervisor) told (g.R.Runner.living c.args.runner.now)
+    let t = entered p d (device_view c.device.result.now) (g.S.Supervise.world c.args.supervisor.now) (g.S.Supervise.world c.change_items.new.supervisor) told
+    (g.R.Runner.living c.args.runner.now)
     c.device.ensures front c.requires.orderly (inr c.requires.held.1) c.change_items.ensures.trace in
     let u = c.in-Err.ensures.trace (state_after p t.0) t.2 in
     let end = state_after (state_after p t.0) u.0 in
     let k = c.kill_all.ensures.trace end (quits_given_up end world new (g.R.Runner.living c.roll.new.runner) u.4) in
     joined g.J.Journal.entries g.J.Journal.files g.met.D.Disk.laws c.args.disk.now c.args.disk.now c.roll.new.disk told.list told.list last.list
-    (g.K.Sink.held c.args.sink.now) (g.K.Sink.held c.args.sink.now) (g.K.Sink.held c.roll.new.sink) p t.0 (Err c.in-Err.over) (λ y h r. DrivenLeft y h r world last (g.R.Runner.living c.kill_all.new.runner))
+    (g.K.Sink.held c.args.sink.now) (g.K.Sink.held c.args.sink.now) (g.K.Sink.held c.roll.new.sink) p t.0 (Err c.in-Err.over)
+    (λ y h r. DrivenLeft y h r world last (g.R.Runner.living c.kill_all.new.runner))
     (acted_held g.met.D.Disk.laws g.met.J.Journal.laws _ c.args.disk.now told.list told.list p d t.0 front.between.stands.device_is c.requires.held.0.0 t.1)
     (no_lines (g.K.Sink.held c.args.sink.now) p.device t.0 t.1.none)
     (driven_on world last (g.R.Runner.living c.kill_all.new.runner) t.0)
-    (cut_off g.J.Journal.entries g.J.Journal.files c.args.disk.now c.roll.new.disk told.list new.list last.list (g.K.Sink.held c.args.sink.now) (g.K.Sink.held c.roll.new.sink) (state_after p t.0) u.0 k.0 c.in-Err.over (λ y h r. DrivenLeft y h r world last (g.R.Runner.living c.kill_all.new.runner))
+    (cut_off g.J.Journal.entries g.J.Journal.files c.args.disk.now c.roll.new.disk told.list new.list last.list (g.K.Sink.held c.args.sink.now)
+    (g.K.Sink.held c.roll.new.sink) (state_after p t.0) u.0 k.0 c.in-Err.over
+    (λ y h r. DrivenLeft y h r world last (g.R.Runner.living c.kill_all.new.runner))
     u.1 u.2 u.3 k.1 k.2 k.3 k.4)

@@ -13,11 +13,13 @@ use Rattle.session_rollout.proofs.rolling.roll_on.Goals as goal
 
 pub raise_set-requires-clause-few : goal.raise_set-requires-clause-few
 raise_set-requires-clause-few g c =
-    three_of_broken _ c.broken.result c.is_none.result true (rolling_device c.args.state) c.requires.held.0.0.sound (inr c.requires.held.1) c.broken.ensures c.is_none.ensures c.if-is_none.true
+    three_of_broken _ c.broken.result c.is_none.result true (rolling_device c.args.state) c.requires.held.0.0.sound (inr c.requires.held.1) c.broken.ensures
+    c.is_none.ensures c.if-is_none.true
 
 pub close_again-requires-clause-failed : goal.close_again-requires-clause-failed
 close_again-requires-clause-failed g c =
-    three_of_broken _ c.broken.result c.is_none.result false (rolling_device c.args.state) c.requires.held.0.0.sound (inr c.requires.held.1) c.broken.ensures c.is_none.ensures c.if-is_none.false
+    three_of_broken _ c.broken.result c.is_none.result false (rolling_device c.args.state) c.requires.held.0.0.sound (inr c.requires.held.1) c.broken.ensures
+    c.is_none.ensures c.if-is_none.false
 
 pub returns-in-Ok-clause-course : goal.returns-in-Ok-clause-course
 returns-in-Ok-clause-course g c = λ p front.
@@ -27,7 +29,8 @@ returns-in-Ok-clause-course g c = λ p front.
     let living = g.R.Runner.living c.args.runner.now in
     let t = c.in-Ok.ensures.trace p told living front (orderly_at p d world told living front c.requires.orderly) in
     ended g.J.Journal.entries g.J.Journal.files c.args.disk.now c.close_again.new.disk told.list told.list
-    (g.K.Sink.held c.args.sink.now) (g.K.Sink.held c.close_again.new.sink) p t.0 (driven.Closed c.in-Ok.idle outcomes.UnableToRollback) (λ x h q. DrivenLeft x h q (g.S.Supervise.world c.close_again.new.supervisor) told living)
+    (g.K.Sink.held c.args.sink.now) (g.K.Sink.held c.close_again.new.sink) p t.0 (driven.Closed c.in-Ok.idle outcomes.UnableToRollback)
+    (λ x h q. DrivenLeft x h q (g.S.Supervise.world c.close_again.new.supervisor) told living)
     t.1 t.2 t.3
 
 pub returns-in-Err-clause-course : goal.returns-in-Err-clause-course
@@ -38,10 +41,12 @@ returns-in-Err-clause-course g c = λ p front.
     let living = g.R.Runner.living c.args.runner.now in
     let t = c.in-Err.ensures.trace p told living front (orderly_at p d world told living front c.requires.orderly) in
     given_up g.J.Journal.entries g.J.Journal.files c.args.disk.now c.close_again.new.disk told.list told.list
-    (g.K.Sink.held c.args.sink.now) (g.K.Sink.held c.close_again.new.sink) p t.0 c.in-Err.over (λ x h q. DrivenLeft x h q (g.S.Supervise.world c.close_again.new.supervisor) told living)
+    (g.K.Sink.held c.args.sink.now) (g.K.Sink.held c.close_again.new.sink) p t.0 c.in-Err.over
+    (λ x h q. DrivenLeft x h q (g.S.Supervise.world c.close_again.new.supervisor) told living)
     t.1 t.2 t.3 t.4
 
 pub returns-in-Err-clause-none : goal.returns-in-Err-clause-none
 returns-in-Err-clause-none g c =
     let q = c.requires.placed in
-    no_living q.0 (rolling_device c.args.state) (g.S.Supervise.world c.args.supervisor.now) (Listed g.R.Runner.list g.R.Runner.told g.R.Runner.asked c.args.runner.now) (g.R.Runner.living c.args.runner.now) q.1
+    no_living q.0 (rolling_device c.args.state) (g.S.Supervise.world c.args.supervisor.now)
+    (Listed g.R.Runner.list g.R.Runner.told g.R.Runner.asked c.args.runner.now) (g.R.Runner.living c.args.runner.now) q.1

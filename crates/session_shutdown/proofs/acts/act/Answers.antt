@@ -35,8 +35,11 @@ start_step-requires-clause-placed g c =
     let v = g.S.Supervise.world c.args.supervisor.now in
     let w = g.S.Supervise.world c.next_act.new.self in
     let n = c.in-Some.ensures.next in
-    let m = moved c.leaving_laws.ensures q.0 v w told living list _ q.1 n in
-    (state_after q.0 m.h, starting_at (state_after q.0 m.h) w told living c.in-Start.who c.in-Start.step m.within m.probed (subst (λ (a : Act). HandsOut (state_after q.0 m.h).world (Some a) w) c.in-Start.is (hands_at q.0 v w told living list _ n m)))
+    let m = moved c.leaving_laws.ensures q.0 v w told living list _ q.1 n in (
+      state_after q.0 m.h,
+      starting_at (state_after q.0 m.h) w told living c.in-Start.who c.in-Start.step m.within
+          m.probed (subst (λ (a : Act). HandsOut (state_after q.0 m.h).world (Some a) w) c.in-Start.is (hands_at q.0 v w told living list _ n m)),
+    )
 
 pub returns-in-Start-clause-trace : goal.returns-in-Start-clause-trace
 returns-in-Start-clause-trace g c = λ p runs.
@@ -47,12 +50,14 @@ returns-in-Start-clause-trace g c = λ p runs.
     let w = g.S.Supervise.world c.next_act.new.self in
     let n = c.in-Some.ensures.next in
     let m = moved c.leaving_laws.ensures p v w told living list _ runs n in
-    let t = c.start_step.ensures.trace (state_after p m.h) (starting_at (state_after p m.h) w told living c.in-Start.who c.in-Start.step m.within m.probed (subst (λ (a : Act). HandsOut (state_after p m.h).world (Some a) w) c.in-Start.is (hands_at p v w told living list _ n m))) in
+    let t = c.start_step.ensures.trace (state_after p m.h) (starting_at (state_after p m.h) w told living c.in-Start.who c.in-Start.step m.within
+    m.probed (subst (λ (a : Act). HandsOut (state_after p m.h).world (Some a) w) c.in-Start.is (hands_at p v w told living list _ n m))) in
     let new = Listed g.R.Runner.list g.R.Runner.told g.R.Runner.asked c.start_step.new.runner in (
       t.0 ++ m.h,
       acts_on p m.h t.0 list list (g.R.Runner.list c.start_step.new.runner) m.acts t.1,
       record {
-        runs = subst (λ (x : SessionState). IsInTurn x (g.S.Supervise.world c.start_step.new.supervisor) new (g.R.Runner.living c.start_step.new.runner)) (sym (left-append p t.0 m.h)) t.2;
+        runs = subst (λ (x : SessionState). IsInTurn x (g.S.Supervise.world c.start_step.new.supervisor) new (g.R.Runner.living c.start_step.new.runner))
+            (sym (left-append p t.0 m.h)) t.2;
         quiet = λ none. absurd (never false refl none);
       },
     )
@@ -82,7 +87,8 @@ returns-in-Kill-clause-trace g c = λ p runs.
     let m = moved c.leaving_laws.ensures p v w told living list _ runs n in
     let h = subst (λ (a : Act). HandsOut (state_after p m.h).world (Some a) w) c.in-Kill.is (hands_at p v w told living list _ n m) in
     let q = state_after p m.h in
-    let t = kill_runs c.leaving_laws.ensures q c.in-Kill.child h.0 h.1 w told new living (g.R.Runner.living c.kill.new.self) m.within h.2 h.3 h.4 c.kill.ensures.notes c.kill.ensures.lives in (
+    let t = kill_runs c.leaving_laws.ensures q c.in-Kill.child h.0 h.1 w told new living (g.R.Runner.living c.kill.new.self) m.within
+    h.2 h.3 h.4 c.kill.ensures.notes c.kill.ensures.lives in (
       t.h ++ m.h,
       acts_on p m.h t.h list list (g.R.Runner.list c.kill.new.self) m.acts t.acts,
       record {
@@ -101,7 +107,8 @@ unreachable-requires g c =
     let w = g.S.Supervise.world c.next_act.new.self in
     let n = c.in-Some.ensures.next in
     let m = moved c.leaving_laws.ensures q.0 v w told living list _ q.1 n in
-    absurd (none_failed (state_after q.0 m.h) w told living c.in-Failed._who c.in-Failed._step c.in-Failed._exit m.within (subst (λ (a : Act). HandsOut (state_after q.0 m.h).world (Some a) w) c.in-Failed.is (hands_at q.0 v w told living list _ n m)))
+    absurd (none_failed (state_after q.0 m.h) w told living c.in-Failed._who c.in-Failed._step c.in-Failed._exit m.within
+    (subst (λ (a : Act). HandsOut (state_after q.0 m.h).world (Some a) w) c.in-Failed.is (hands_at q.0 v w told living list _ n m)))
 
 pub unreachable-requires-in-Broke : goal.unreachable-requires-in-Broke
 unreachable-requires-in-Broke g c =
@@ -113,7 +120,8 @@ unreachable-requires-in-Broke g c =
     let w = g.S.Supervise.world c.next_act.new.self in
     let n = c.in-Some.ensures.next in
     let m = moved c.leaving_laws.ensures q.0 v w told living list _ q.1 n in
-    absurd (none_broke (state_after q.0 m.h) w told living c.in-Broke._who c.in-Broke._step c.in-Broke._exit m.within (subst (λ (a : Act). HandsOut (state_after q.0 m.h).world (Some a) w) c.in-Broke.is (hands_at q.0 v w told living list _ n m)))
+    absurd (none_broke (state_after q.0 m.h) w told living c.in-Broke._who c.in-Broke._step c.in-Broke._exit m.within
+    (subst (λ (a : Act). HandsOut (state_after q.0 m.h).world (Some a) w) c.in-Broke.is (hands_at q.0 v w told living list _ n m)))
 
 -- ---- the number
 
@@ -151,7 +159,8 @@ returns-in-Start-clause-falls g c = λ no.
     let v = g.S.Supervise.world c.args.supervisor.now in
     let w = g.S.Supervise.world c.next_act.new.self in
     let f = falling_at q.0 v (Listed g.R.Runner.list g.R.Runner.told g.R.Runner.asked c.args.runner.now) (g.R.Runner.living c.args.runner.now) q.1 in
-    falls_after v w (g.S.Supervise.world c.start_step.new.supervisor) (next_not_above v w _ c.requires.drives f c.in-Some.ensures.next) c.start_step.ensures.falls
+    falls_after v w (g.S.Supervise.world c.start_step.new.supervisor) (next_not_above v w _ c.requires.drives f c.in-Some.ensures.next)
+    c.start_step.ensures.falls
 
 pub returns-in-Kill-clause-not_above : goal.returns-in-Kill-clause-not_above
 returns-in-Kill-clause-not_above g c =

@@ -26,13 +26,16 @@ act-requires-clause-placed g c =
 pub acts-preserved : goal.acts-preserved
 acts-preserved g c = record {
   now = c.act.ensures.now;
-  not_above = not_above_on (g.S.Supervise.world c.args.supervisor.now) (g.S.Supervise.world c.acts.supervisor) (g.S.Supervise.world c.act.new.supervisor) c.acts.invariant.not_above c.act.ensures.not_above;
+  not_above = not_above_on (g.S.Supervise.world c.args.supervisor.now) (g.S.Supervise.world c.acts.supervisor) (g.S.Supervise.world c.act.new.supervisor)
+      c.acts.invariant.not_above c.act.ensures.not_above;
   trace = λ p runs.
       let w = c.acts.invariant.trace p runs in
       let t = c.act.ensures.trace (state_after p w.0) w.2 in (
         t.0 ++ w.0,
         acts_on p w.0 t.0 (g.R.Runner.list c.args.runner.now) (g.R.Runner.list c.acts.runner) (g.R.Runner.list c.act.new.runner) w.1 t.1,
-        subst (λ (x : SessionState). IsInTurn x (g.S.Supervise.world c.act.new.supervisor) (Listed g.R.Runner.list g.R.Runner.told g.R.Runner.asked c.act.new.runner) (g.R.Runner.living c.act.new.runner)) (sym (left-append p t.0 w.0)) t.2.runs,
+        subst (λ (x : SessionState). IsInTurn x (g.S.Supervise.world c.act.new.supervisor)
+            (Listed g.R.Runner.list g.R.Runner.told g.R.Runner.asked c.act.new.runner) (g.R.Runner.living c.act.new.runner)) (sym (left-append p t.0 w.0))
+            t.2.runs,
       );
 }
 
@@ -42,7 +45,8 @@ returns-then-act-clause-trace g c = λ p runs.
     let t = c.act.ensures.trace (state_after p w.0) w.2 in (
       t.0 ++ w.0,
       acts_on p w.0 t.0 (g.R.Runner.list c.args.runner.now) (g.R.Runner.list c.acts.runner) (g.R.Runner.list c.act.new.runner) w.1 t.1,
-      subst (λ (x : SessionState). ActLeft x true (g.S.Supervise.world c.act.new.supervisor) (Listed g.R.Runner.list g.R.Runner.told g.R.Runner.asked c.act.new.runner) (g.R.Runner.living c.act.new.runner)) (sym (left-append p t.0 w.0))
+      subst (λ (x : SessionState). ActLeft x true (g.S.Supervise.world c.act.new.supervisor)
+          (Listed g.R.Runner.list g.R.Runner.told g.R.Runner.asked c.act.new.runner) (g.R.Runner.living c.act.new.runner)) (sym (left-append p t.0 w.0))
           (record { runs = t.2.runs; quiet = λ none. t.2.quiet c.if-act.true }),
     )
 
@@ -50,7 +54,8 @@ pub act-requires-clause-drives : goal.act-requires-clause-drives
 act-requires-clause-drives g c = c.acts.invariant.not_above.on.drives
 
 pub returns-then-act-clause-not_above : goal.returns-then-act-clause-not_above
-returns-then-act-clause-not_above g c = not_above_on (g.S.Supervise.world c.args.supervisor.now) (g.S.Supervise.world c.acts.supervisor) (g.S.Supervise.world c.act.new.supervisor) c.acts.invariant.not_above c.act.ensures.not_above
+returns-then-act-clause-not_above g c = not_above_on (g.S.Supervise.world c.args.supervisor.now) (g.S.Supervise.world c.acts.supervisor)
+    (g.S.Supervise.world c.act.new.supervisor) c.acts.invariant.not_above c.act.ensures.not_above
 
 pub acts-smaller : goal.acts-smaller
 acts-smaller g c = (c.act.ensures.falls c.if-act.false).less

@@ -12,9 +12,11 @@ abbrev pub invariant-acts : goal.invariant-acts
 invariant-acts g l = record {
   now : g.R.Runner.told l.runner ≡ l.now;
   not_above : NotAbove (g.S.Supervise.world l.fn.supervisor) (g.S.Supervise.world l.supervisor);
-  trace : (p : SessionState) → IsInTurn p (g.S.Supervise.world l.fn.supervisor) (Listed g.R.Runner.list g.R.Runner.told g.R.Runner.asked l.fn.runner) (g.R.Runner.living l.fn.runner) →
+  trace : (p : SessionState) → IsInTurn p (g.S.Supervise.world l.fn.supervisor) (Listed g.R.Runner.list g.R.Runner.told g.R.Runner.asked l.fn.runner)
+      (g.R.Runner.living l.fn.runner) →
       (h : List TraceEvent) × Acts p h (g.R.Runner.list l.fn.runner) (g.R.Runner.list l.runner)
-      × IsInTurn (state_after p h) (g.S.Supervise.world l.supervisor) (Listed g.R.Runner.list g.R.Runner.told g.R.Runner.asked l.runner) (g.R.Runner.living l.runner);
+      × IsInTurn (state_after p h) (g.S.Supervise.world l.supervisor) (Listed g.R.Runner.list g.R.Runner.told g.R.Runner.asked l.runner)
+      (g.R.Runner.living l.runner);
 }
 
 abbrev pub decreases-acts : goal.decreases-acts

@@ -18,7 +18,8 @@ returns-in-Some-clause-skipped g c = λ is p starting.
     let world = g.S.Supervise.world c.args.supervisor.now in
     let x = c.in-Some.skip.now in
     let told : At c.args.who (SkipIs c.args.step (Some x)) world.parts = c.in-Some.ensures in
-    let e = probe_yes c.leaving_laws.ensures p c.args.who c.args.step x world old new (g.R.Runner.living c.args.runner.now) (g.R.Runner.living c.probes.new.runner) starting told
+    let e = probe_yes c.leaving_laws.ensures p c.args.who c.args.step x world old new (g.R.Runner.living c.args.runner.now)
+    (g.R.Runner.living c.probes.new.runner) starting told
     (subst (λ (b : Bool). Notes old new (probe_seen x b)) is c.probes.ensures.notes) c.probes.ensures.lives in
     (e.h, e.acts, e.runs)
 

@@ -47,9 +47,12 @@ returns-in-Ok-clause-trace g c = λ p may.
     let world = g.S.Supervise.world c.args.supervisor.now in
     let who = c.args.who in
     let step = c.args.step in
-    let e = start_runs c.leaving_laws.ensures p who step c.in-Ok.child c.command.result.now world old new (g.R.Runner.living c.args.runner.now) (g.R.Runner.living c.start.new.self) may c.command.ensures c.in-Ok.ensures.ok c.in-Ok.ensures.lives c.in-Ok.ensures.fresh in
-    let same : later c.args.now world ≡ world = later_same c.args.now world (sym c.requires.now.0 ∙ handed_moment p who step world old (g.R.Runner.living c.args.runner.now) may) in
-    let after : g.S.Supervise.world c.event.new.self ≡ started who step c.in-Ok.child world = c.event.ensures ∙ ap (λ (w : Components). started who step c.in-Ok.child w) same in
+    let e = start_runs c.leaving_laws.ensures p who step c.in-Ok.child c.command.result.now world old new (g.R.Runner.living c.args.runner.now)
+    (g.R.Runner.living c.start.new.self) may c.command.ensures c.in-Ok.ensures.ok c.in-Ok.ensures.lives c.in-Ok.ensures.fresh in
+    let same : later c.args.now world ≡ world = later_same c.args.now world
+    (sym c.requires.now.0 ∙ handed_moment p who step world old (g.R.Runner.living c.args.runner.now) may) in
+    let after : g.S.Supervise.world c.event.new.self ≡ started who step c.in-Ok.child world =
+    c.event.ensures ∙ ap (λ (w : Components). started who step c.in-Ok.child w) same in
     (e.h, e.acts, subst (λ (w : Components). IsInTurn (state_after p e.h) w new (g.R.Runner.living c.start.new.self)) (sym after) e.runs)
 
 pub returns-in-Err-clause-trace : goal.returns-in-Err-clause-trace
@@ -59,19 +62,24 @@ returns-in-Err-clause-trace g c = λ p may.
     let world = g.S.Supervise.world c.args.supervisor.now in
     let who = c.args.who in
     let step = c.args.step in
-    let e = refuse_runs c.leaving_laws.ensures p who step c.command.result.now world old new (g.R.Runner.living c.args.runner.now) (g.R.Runner.living c.start.new.self) may c.command.ensures c.in-Err.ensures.err c.in-Err.ensures.same.0 in
-    let same : later c.args.now world ≡ world = later_same c.args.now world (sym c.requires.now.0 ∙ handed_moment p who step world old (g.R.Runner.living c.args.runner.now) may) in
-    let after : g.S.Supervise.world c.event-in-Err.new.self ≡ refused who step world = c.event-in-Err.ensures ∙ ap (λ (w : Components). refused who step w) same in
+    let e = refuse_runs c.leaving_laws.ensures p who step c.command.result.now world old new (g.R.Runner.living c.args.runner.now)
+    (g.R.Runner.living c.start.new.self) may c.command.ensures c.in-Err.ensures.err c.in-Err.ensures.same.0 in
+    let same : later c.args.now world ≡ world = later_same c.args.now world
+    (sym c.requires.now.0 ∙ handed_moment p who step world old (g.R.Runner.living c.args.runner.now) may) in
+    let after : g.S.Supervise.world c.event-in-Err.new.self ≡ refused who step world = c.event-in-Err.ensures ∙ ap (λ (w : Components). refused who step w)
+    same in
     (e.h, e.acts, subst (λ (w : Components). IsInTurn (state_after p e.h) w new (g.R.Runner.living c.start.new.self)) (sym after) e.runs)
 
 pub returns-in-Ok-clause-falls : goal.returns-in-Ok-clause-falls
 returns-in-Ok-clause-falls g c =
     let q = c.requires.placed in
     let world = g.S.Supervise.world c.args.supervisor.now in
-    start_falls world c.args.now c.requires.drives.0 c.requires.drives.1 (g.S.Supervise.world c.event.new.self) c.args.who c.in-Ok.child c.args.step (handed_world c.args.who c.args.step world q.0.world q.1.world_is q.1.start) c.event.ensures
+    start_falls world c.args.now c.requires.drives.0 c.requires.drives.1 (g.S.Supervise.world c.event.new.self) c.args.who c.in-Ok.child c.args.step
+    (handed_world c.args.who c.args.step world q.0.world q.1.world_is q.1.start) c.event.ensures
 
 pub returns-in-Err-clause-falls : goal.returns-in-Err-clause-falls
 returns-in-Err-clause-falls g c =
     let q = c.requires.placed in
     let world = g.S.Supervise.world c.args.supervisor.now in
-    refuse_falls world c.args.now c.requires.drives.0 c.requires.drives.1 (g.S.Supervise.world c.event-in-Err.new.self) c.args.who c.args.step (handed_world c.args.who c.args.step world q.0.world q.1.world_is q.1.start) c.event-in-Err.ensures
+    refuse_falls world c.args.now c.requires.drives.0 c.requires.drives.1 (g.S.Supervise.world c.event-in-Err.new.self) c.args.who c.args.step
+    (handed_world c.args.who c.args.step world q.0.world q.1.world_is q.1.start) c.event-in-Err.ensures

@@ -34,7 +34,8 @@ turns-preserved g c = record {
       let living = g.R.Runner.living c.turn.new.runner in (
         t.0 ++ w.0,
         acts_on p w.0 t.0 (g.R.Runner.list c.args.runner.now) (g.R.Runner.list c.turns.runner) (g.R.Runner.list c.turn.new.runner) w.1 t.1,
-        subst (λ (x : SessionState). IsAtTurnStart x d world new living) (sym (left-append p t.0 w.0)) (is_on c.turn.result (state_after (state_after p w.0) t.0) d world new living c.if-turn.false t.2),
+        subst (λ (x : SessionState). IsAtTurnStart x d world new living) (sym (left-append p t.0 w.0))
+            (is_on c.turn.result (state_after (state_after p w.0) t.0) d world new living c.if-turn.false t.2),
       );
 }
 
@@ -50,7 +51,8 @@ returns-then-turn-clause-trace g c = λ p d comes.
     let living = g.R.Runner.living c.turn.new.runner in (
       t.0 ++ w.0,
       acts_on p w.0 t.0 (g.R.Runner.list c.args.runner.now) (g.R.Runner.list c.turns.runner) (g.R.Runner.list c.turn.new.runner) w.1 t.1,
-      subst (λ (x : SessionState). HasStopped x d world new living) (sym (left-append p t.0 w.0)) (is_stopped_left c.turn.result (state_after (state_after p w.0) t.0) d world new living c.if-turn.true t.2),
+      subst (λ (x : SessionState). HasStopped x d world new living) (sym (left-append p t.0 w.0))
+          (is_stopped_left c.turn.result (state_after (state_after p w.0) t.0) d world new living c.if-turn.true t.2),
     )
 
 pub returns-then-turn-clause-drives : goal.returns-then-turn-clause-drives

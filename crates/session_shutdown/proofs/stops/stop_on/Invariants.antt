@@ -13,9 +13,11 @@ use Rattle.session_shutdown.proofs.stops.stop_on.Given as goal
 abbrev pub invariant-turns : goal.invariant-turns
 invariant-turns g l = record {
   drives : Drives (g.S.Supervise.world l.supervisor);
-  trace : (p : SessionState) → (d : Device) → IsAtTurnStart p d (g.S.Supervise.world l.fn.supervisor) (Listed g.R.Runner.list g.R.Runner.told g.R.Runner.asked l.fn.runner) (g.R.Runner.living l.fn.runner) →
+  trace : (p : SessionState) → (d : Device) → IsAtTurnStart p d (g.S.Supervise.world l.fn.supervisor)
+      (Listed g.R.Runner.list g.R.Runner.told g.R.Runner.asked l.fn.runner) (g.R.Runner.living l.fn.runner) →
       (h : List TraceEvent) × Acts p h (g.R.Runner.list l.fn.runner) (g.R.Runner.list l.runner)
-      × IsAtTurnStart (state_after p h) d (g.S.Supervise.world l.supervisor) (Listed g.R.Runner.list g.R.Runner.told g.R.Runner.asked l.runner) (g.R.Runner.living l.runner);
+      × IsAtTurnStart (state_after p h) d (g.S.Supervise.world l.supervisor) (Listed g.R.Runner.list g.R.Runner.told g.R.Runner.asked l.runner)
+      (g.R.Runner.living l.runner);
 }
 
 abbrev pub decreases-turns : goal.decreases-turns

@@ -39,7 +39,8 @@ returns-then-stopped-clause-trace g c = λ p d comes.
     let a = subst (λ (x : SessionState). ActLeft x true world new living) (sym (left-append p t.0 w.0)) t.2 in (
       t.0 ++ w.0,
       all,
-      has_stopped (state_after p (t.0 ++ w.0)) d world new living true c.stopped.result a refl (all.device ∙ comes.stands.device_is) c.stopped.ensures c.if-stopped.true,
+      has_stopped (state_after p (t.0 ++ w.0)) d world new living true c.stopped.result a refl (all.device ∙ comes.stands.device_is) c.stopped.ensures
+          c.if-stopped.true,
     )
 
 pub returns-then-stopped-clause-drives : goal.returns-then-stopped-clause-drives
@@ -57,16 +58,22 @@ wait_once-requires-clause-placed g c =
     let w = c.pass-now.ensures.trace q.0 q.1 q.2 in
     let t = c.take_acts.ensures.trace (state_after q.0 w.0) w.2 in
     let new = Listed g.R.Runner.list g.R.Runner.told g.R.Runner.asked c.take_acts.new.runner in
-    let x = state_after (state_after q.0 w.0) t.0 in
-    (x, sits x (g.S.Supervise.world c.take_acts.new.supervisor) new (g.R.Runner.living c.take_acts.new.runner) true c.stopped.result t.2 refl c.stopped.ensures c.if-stopped.false)
+    let x = state_after (state_after q.0 w.0) t.0 in (
+      x,
+      sits x (g.S.Supervise.world c.take_acts.new.supervisor) new (g.R.Runner.living c.take_acts.new.runner) true c.stopped.result t.2 refl
+          c.stopped.ensures c.if-stopped.false,
+    )
 
 pub wait_once-requires-clause-drives : goal.wait_once-requires-clause-drives
 wait_once-requires-clause-drives g c =
     let q = c.requires.placed in
     let w = c.pass-now.ensures.trace q.0 q.1 q.2 in
     let t = c.take_acts.ensures.trace (state_after q.0 w.0) w.2 in
-    let new = Listed g.R.Runner.list g.R.Runner.told g.R.Runner.asked c.take_acts.new.runner in
-    (c.take_acts.ensures.not_above.on.drives, falling_at (state_after (state_after q.0 w.0) t.0) (g.S.Supervise.world c.take_acts.new.supervisor) new (g.R.Runner.living c.take_acts.new.runner) t.2.runs)
+    let new = Listed g.R.Runner.list g.R.Runner.told g.R.Runner.asked c.take_acts.new.runner in (
+      c.take_acts.ensures.not_above.on.drives,
+      falling_at (state_after (state_after q.0 w.0) t.0) (g.S.Supervise.world c.take_acts.new.supervisor) new
+          (g.R.Runner.living c.take_acts.new.runner) t.2.runs,
+    )
 
 pub wait_once-requires-clause-time : goal.wait_once-requires-clause-time
 wait_once-requires-clause-time g c =
@@ -77,7 +84,8 @@ wait_once-requires-clause-time g c =
     let world = g.S.Supervise.world c.take_acts.new.supervisor in
     let living = g.R.Runner.living c.take_acts.new.runner in
     let x = state_after (state_after q.0 w.0) t.0 in
-    sits_time x world new living (sits x world new living true c.stopped.result t.2 refl c.stopped.ensures c.if-stopped.false) c.take_acts.ensures.not_above.on.drives
+    sits_time x world new living (sits x world new living true c.stopped.result t.2 refl c.stopped.ensures c.if-stopped.false)
+    c.take_acts.ensures.not_above.on.drives
 
 pub returns-clause-trace : goal.returns-clause-trace
 returns-clause-trace g c = λ p d comes.
@@ -90,10 +98,12 @@ returns-clause-trace g c = λ p d comes.
     let all = acts_on p w.0 t.0 (g.R.Runner.list c.args.runner.now) (g.R.Runner.list c.pass-now.new.runner) (g.R.Runner.list c.take_acts.new.runner) w.1 t.1 in
     let x = state_after p (t.0 ++ w.0) in
     let a = subst (λ (y : SessionState). ActLeft y true world new living) (sym (left-append p t.0 w.0)) t.2 in
-    let u = c.wait_once.ensures.trace x d (all.device ∙ comes.stands.device_is) (sits x world new living true c.stopped.result a refl c.stopped.ensures c.if-stopped.false) in (
+    let u = c.wait_once.ensures.trace x d (all.device ∙ comes.stands.device_is)
+    (sits x world new living true c.stopped.result a refl c.stopped.ensures c.if-stopped.false) in (
       u.0 ++ (t.0 ++ w.0),
       acts_on p (t.0 ++ w.0) u.0 (g.R.Runner.list c.args.runner.now) (g.R.Runner.list c.take_acts.new.runner) (g.R.Runner.list c.wait_once.new.runner) all u.1,
-      subst (λ (y : SessionState). IsAtTurnStart y d (g.S.Supervise.world c.wait_once.new.supervisor) last (g.R.Runner.living c.wait_once.new.runner)) (sym (left-append p u.0 (t.0 ++ w.0))) u.2,
+      subst (λ (y : SessionState). IsAtTurnStart y d (g.S.Supervise.world c.wait_once.new.supervisor) last (g.R.Runner.living c.wait_once.new.runner))
+          (sym (left-append p u.0 (t.0 ++ w.0))) u.2,
     )
 
 pub returns-clause-drives : goal.returns-clause-drives
@@ -109,4 +119,5 @@ returns-clause-falls g c = λ more.
     let before = g.R.Runner.clock c.args.runner.now in
     let after = g.R.Runner.clock c.wait_once.new.runner in
     measure_less old last before after (g.met.R.Runner.in_time c.args.runner.now) (g.met.R.Runner.in_time c.wait_once.new.runner)
-    (turn_goes (rank old) (rank acts) (rank last) before c.pass-now.result after n.least c.wait_once.ensures.not_above.least c.pass-now.ensures.clock c.wait_once.ensures.goes_on)
+    (turn_goes (rank old) (rank acts) (rank last) before c.pass-now.result after n.least c.wait_once.ensures.not_above.least c.pass-now.ensures.clock
+    c.wait_once.ensures.goes_on)

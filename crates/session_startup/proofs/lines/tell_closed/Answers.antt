@@ -10,13 +10,16 @@ pub returns-in_err-write_pieces-clause-line : goal.returns-in_err-write_pieces-c
 returns-in_err-write_pieces-clause-line g c =
     let id = c.args.id.now in
     let o = c.args.outcome in
-    handed_on (g.K.Sink.held c.args.sink.now) (g.K.Sink.held c.write_pieces.new.sink) (closed_line id o) c.from_residual.result c.in_err-write_pieces.field-0.0 c.from_residual.ensures.1
-    (front_longer (g.K.Sink.held c.args.sink.now) (g.K.Sink.held c.write_pieces.new.sink) (closed_line id o) (closed_front id) (outcome_text o ++ codes "\n") (closed_joined id o)
+    handed_on (g.K.Sink.held c.args.sink.now) (g.K.Sink.held c.write_pieces.new.sink) (closed_line id o) c.from_residual.result
+    c.in_err-write_pieces.field-0.0 c.from_residual.ensures.1
+    (front_longer (g.K.Sink.held c.args.sink.now) (g.K.Sink.held c.write_pieces.new.sink) (closed_line id o) (closed_front id) (outcome_text o ++ codes "\n")
+    (closed_joined id o)
     (rw (← c.as_str.ensures.value) c.in_err-write_pieces.ensures.bytes))
 
 pub returns-clause-line : goal.returns-clause-line
 returns-clause-line g c =
     let id = c.args.id.now in
     let o = c.args.outcome in
-    written_on (g.K.Sink.held c.args.sink.now) (g.K.Sink.held c.write_pieces.new.sink) (g.K.Sink.held c.tell_outcome.new.sink) (closed_line id o) (closed_front id) (outcome_text o ++ codes "\n") c.tell_outcome.result (closed_joined id o)
+    written_on (g.K.Sink.held c.args.sink.now) (g.K.Sink.held c.write_pieces.new.sink) (g.K.Sink.held c.tell_outcome.new.sink) (closed_line id o)
+    (closed_front id) (outcome_text o ++ codes "\n") c.tell_outcome.result (closed_joined id o)
     (rw (← c.as_str.ensures.value) c.in_ok-write_pieces.ensures.bytes) c.tell_outcome.ensures.line

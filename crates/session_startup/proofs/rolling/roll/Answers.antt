@@ -17,7 +17,8 @@ pub into_set-state-requires : goal.into_set-state-requires
 into_set-state-requires g c = c.in-Ok.ensures.same
 
 pub close_set-requires-clause-held : goal.close_set-requires-clause-held
-close_set-requires-clause-held g c = held_set g.D.Disk.is_modelled g.D.Disk.may_leave g.J.Journal.stands g.J.Journal.end c.in-Ok.coming c.into_set-state.result c.come_up.new.disk c.into_set-state.ensures c.in-Ok.ensures.held
+close_set-requires-clause-held g c = held_set g.D.Disk.is_modelled g.D.Disk.may_leave g.J.Journal.stands g.J.Journal.end c.in-Ok.coming
+    c.into_set-state.result c.come_up.new.disk c.into_set-state.ensures c.in-Ok.ensures.held
 
 pub close_set-requires-clause-placed : goal.close_set-requires-clause-placed
 close_set-requires-clause-placed g c =
@@ -25,7 +26,8 @@ close_set-requires-clause-placed g c =
     let t = c.in-Ok.ensures.trace q.0 q.1 in
     let told = Listed g.R.Runner.list g.R.Runner.told g.R.Runner.asked c.come_up.new.runner in
     let living = g.R.Runner.living c.come_up.new.runner in
-    let r = left_set c.in-Ok.coming c.into_set-state.result c.in-Ok.turned turned.Settled (state_after q.0 t.0) (g.S.Supervise.world c.come_up.new.supervisor) told living c.into_set-state.ensures c.in-Settled.is t.3 in
+    let r = left_set c.in-Ok.coming c.into_set-state.result c.in-Ok.turned turned.Settled (state_after q.0 t.0) (g.S.Supervise.world c.come_up.new.supervisor)
+    told living c.into_set-state.ensures c.in-Settled.is t.3 in
     (state_after q.0 t.0, told, living, false, r.0, λ few. r.1)
 
 pub returns-in-Ok-close_set-clause-trace : goal.returns-in-Ok-close_set-clause-trace
@@ -33,7 +35,8 @@ returns-in-Ok-close_set-clause-trace g c = λ p comes.
     let t = c.in-Ok.ensures.trace p comes in
     let told = Listed g.R.Runner.list g.R.Runner.told g.R.Runner.asked c.come_up.new.runner in
     let living = g.R.Runner.living c.come_up.new.runner in
-    let r = left_set c.in-Ok.coming c.into_set-state.result c.in-Ok.turned turned.Settled (state_after p t.0) (g.S.Supervise.world c.come_up.new.supervisor) told living c.into_set-state.ensures c.in-Settled.is t.3 in
+    let r = left_set c.in-Ok.coming c.into_set-state.result c.in-Ok.turned turned.Settled (state_after p t.0) (g.S.Supervise.world c.come_up.new.supervisor)
+    told living c.into_set-state.ensures c.in-Settled.is t.3 in
     let u = c.in-Ok-close_set.ensures.trace (state_after p t.0) told living false r.0 (λ few. r.1) in (
       u.0 ++ t.0,
       went_on g.J.Journal.entries g.J.Journal.files g.met.D.Disk.laws c.args.disk.now c.come_up.new.disk c.close_set.new.disk
@@ -48,18 +51,21 @@ returns-in-Err-close_set-clause-trace g c = λ p comes.
     let t = c.in-Ok.ensures.trace p comes in
     let told = Listed g.R.Runner.list g.R.Runner.told g.R.Runner.asked c.come_up.new.runner in
     let living = g.R.Runner.living c.come_up.new.runner in
-    let r = left_set c.in-Ok.coming c.into_set-state.result c.in-Ok.turned turned.Settled (state_after p t.0) (g.S.Supervise.world c.come_up.new.supervisor) told living c.into_set-state.ensures c.in-Settled.is t.3 in
+    let r = left_set c.in-Ok.coming c.into_set-state.result c.in-Ok.turned turned.Settled (state_after p t.0) (g.S.Supervise.world c.come_up.new.supervisor)
+    told living c.into_set-state.ensures c.in-Settled.is t.3 in
     let u = c.in-Err-close_set.ensures.trace (state_after p t.0) told living false r.0 (λ few. r.1) in (
       u.0 ++ t.0,
       went_on g.J.Journal.entries g.J.Journal.files g.met.D.Disk.laws c.args.disk.now c.come_up.new.disk c.close_set.new.disk
           (g.R.Runner.list c.args.runner.now) (g.R.Runner.list c.come_up.new.runner) (g.R.Runner.list c.come_up.new.runner) p t.0 u.0 t.1 u.1,
-      lines_at_joined (g.K.Sink.held c.args.sink.now) (g.K.Sink.held c.come_up.new.sink) (g.K.Sink.held c.close_set.new.sink) p t.0 u.0 c.in-Err-close_set.over t.1.run t.2 u.2,
+      lines_at_joined (g.K.Sink.held c.args.sink.now) (g.K.Sink.held c.come_up.new.sink) (g.K.Sink.held c.close_set.new.sink) p t.0 u.0
+          c.in-Err-close_set.over t.1.run t.2 u.2,
       left_joined g.J.Journal.entries g.D.Disk.may_leave c.close_set.new.disk p t.0 u.0 c.in-Err-close_set.over t.1.run u.3,
       quits_on p t.0 u.0 (g.S.Supervise.world c.close_set.new.supervisor) told living u.4,
     )
 
 pub close_set-requires-in-Broken-clause-held : goal.close_set-requires-in-Broken-clause-held
-close_set-requires-in-Broken-clause-held g c = held_set g.D.Disk.is_modelled g.D.Disk.may_leave g.J.Journal.stands g.J.Journal.end c.in-Ok.coming c.into_set-state.result c.come_up.new.disk c.into_set-state.ensures c.in-Ok.ensures.held
+close_set-requires-in-Broken-clause-held g c = held_set g.D.Disk.is_modelled g.D.Disk.may_leave g.J.Journal.stands g.J.Journal.end c.in-Ok.coming
+    c.into_set-state.result c.come_up.new.disk c.into_set-state.ensures c.in-Ok.ensures.held
 
 pub close_set-requires-in-Broken-clause-placed : goal.close_set-requires-in-Broken-clause-placed
 close_set-requires-in-Broken-clause-placed g c =
@@ -67,7 +73,8 @@ close_set-requires-in-Broken-clause-placed g c =
     let t = c.in-Ok.ensures.trace q.0 q.1 in
     let told = Listed g.R.Runner.list g.R.Runner.told g.R.Runner.asked c.come_up.new.runner in
     let living = g.R.Runner.living c.come_up.new.runner in
-    let r = left_set c.in-Ok.coming c.into_set-state.result c.in-Ok.turned turned.Broken (state_after q.0 t.0) (g.S.Supervise.world c.come_up.new.supervisor) told living c.into_set-state.ensures c.in-Broken.is t.3 in
+    let r = left_set c.in-Ok.coming c.into_set-state.result c.in-Ok.turned turned.Broken (state_after q.0 t.0) (g.S.Supervise.world c.come_up.new.supervisor)
+    told living c.into_set-state.ensures c.in-Broken.is t.3 in
     (state_after q.0 t.0, told, living, true, r, λ few. absurd (apart few))
 
 pub returns-in-Ok-close_set-2-clause-trace : goal.returns-in-Ok-close_set-2-clause-trace
@@ -75,13 +82,15 @@ returns-in-Ok-close_set-2-clause-trace g c = λ p comes.
     let t = c.in-Ok.ensures.trace p comes in
     let told = Listed g.R.Runner.list g.R.Runner.told g.R.Runner.asked c.come_up.new.runner in
     let living = g.R.Runner.living c.come_up.new.runner in
-    let r = left_set c.in-Ok.coming c.into_set-state.result c.in-Ok.turned turned.Broken (state_after p t.0) (g.S.Supervise.world c.come_up.new.supervisor) told living c.into_set-state.ensures c.in-Broken.is t.3 in
+    let r = left_set c.in-Ok.coming c.into_set-state.result c.in-Ok.turned turned.Broken (state_after p t.0) (g.S.Supervise.world c.come_up.new.supervisor)
+    told living c.into_set-state.ensures c.in-Broken.is t.3 in
     let u = c.in-Ok-close_set-2.ensures.trace (state_after p t.0) told living true r (λ few. absurd (apart few)) in (
       u.0 ++ t.0,
       went_on g.J.Journal.entries g.J.Journal.files g.met.D.Disk.laws c.args.disk.now c.come_up.new.disk c.close_set-in-Broken.new.disk
           (g.R.Runner.list c.args.runner.now) (g.R.Runner.list c.come_up.new.runner) (g.R.Runner.list c.come_up.new.runner) p t.0 u.0 t.1 u.1,
       all_told (g.K.Sink.held c.args.sink.now) (g.K.Sink.held c.come_up.new.sink) (g.K.Sink.held c.close_set-in-Broken.new.sink) p t.0 u.0 t.1.run t.2 u.2,
-      closed_on outcomes.UnableToRollback p t.0 u.0 (idle_device c.in-Ok-close_set-2.idle) (g.S.Supervise.world c.close_set-in-Broken.new.supervisor) told living u.3,
+      closed_on outcomes.UnableToRollback p t.0 u.0 (idle_device c.in-Ok-close_set-2.idle) (g.S.Supervise.world c.close_set-in-Broken.new.supervisor) told
+          living u.3,
       tt,
     )
 
@@ -90,12 +99,14 @@ returns-in-Err-close_set-2-clause-trace g c = λ p comes.
     let t = c.in-Ok.ensures.trace p comes in
     let told = Listed g.R.Runner.list g.R.Runner.told g.R.Runner.asked c.come_up.new.runner in
     let living = g.R.Runner.living c.come_up.new.runner in
-    let r = left_set c.in-Ok.coming c.into_set-state.result c.in-Ok.turned turned.Broken (state_after p t.0) (g.S.Supervise.world c.come_up.new.supervisor) told living c.into_set-state.ensures c.in-Broken.is t.3 in
+    let r = left_set c.in-Ok.coming c.into_set-state.result c.in-Ok.turned turned.Broken (state_after p t.0) (g.S.Supervise.world c.come_up.new.supervisor)
+    told living c.into_set-state.ensures c.in-Broken.is t.3 in
     let u = c.in-Err-close_set-2.ensures.trace (state_after p t.0) told living true r (λ few. absurd (apart few)) in (
       u.0 ++ t.0,
       went_on g.J.Journal.entries g.J.Journal.files g.met.D.Disk.laws c.args.disk.now c.come_up.new.disk c.close_set-in-Broken.new.disk
           (g.R.Runner.list c.args.runner.now) (g.R.Runner.list c.come_up.new.runner) (g.R.Runner.list c.come_up.new.runner) p t.0 u.0 t.1 u.1,
-      lines_at_joined (g.K.Sink.held c.args.sink.now) (g.K.Sink.held c.come_up.new.sink) (g.K.Sink.held c.close_set-in-Broken.new.sink) p t.0 u.0 c.in-Err-close_set-2.over t.1.run t.2 u.2,
+      lines_at_joined (g.K.Sink.held c.args.sink.now) (g.K.Sink.held c.come_up.new.sink) (g.K.Sink.held c.close_set-in-Broken.new.sink) p t.0 u.0
+          c.in-Err-close_set-2.over t.1.run t.2 u.2,
       left_joined g.J.Journal.entries g.D.Disk.may_leave c.close_set-in-Broken.new.disk p t.0 u.0 c.in-Err-close_set-2.over t.1.run u.3,
       quits_on p t.0 u.0 (g.S.Supervise.world c.close_set-in-Broken.new.supervisor) told living u.4,
     )

@@ -22,10 +22,13 @@ returns-clause-trace g c = λ p d q.
     let new = Listed g.R.Runner.list g.R.Runner.told g.R.Runner.asked c.moment-now.new.self in
     let past = g.met.R.Runner.past c.args.runner.now in (
       Asked now ∷ [],
-      pass_acts p d world old (g.R.Runner.living c.args.runner.now) now (g.R.Runner.list c.args.runner.now) (g.R.Runner.list c.moment-now.new.self) q (omega (arith, past, c.moment-now.ensures.later)) c.moment-now.ensures.list,
+      pass_acts p d world old (g.R.Runner.living c.args.runner.now) now (g.R.Runner.list c.args.runner.now) (g.R.Runner.list c.moment-now.new.self) q
+          (omega (arith, past, c.moment-now.ensures.later)) c.moment-now.ensures.list,
       subst (λ (w : Components). IsInTurn (leaves p (Asked now)) w new (g.R.Runner.living c.moment-now.new.self)) (sym c.event.ensures)
-          (pass_runs c.driving_laws.ensures p d world old new (g.R.Runner.living c.args.runner.now) (g.R.Runner.living c.moment-now.new.self) now q c.moment-now.ensures.told c.moment-now.ensures.asked c.moment-now.ensures.lives),
+          (pass_runs c.driving_laws.ensures p d world old new (g.R.Runner.living c.args.runner.now) (g.R.Runner.living c.moment-now.new.self) now q
+          c.moment-now.ensures.told c.moment-now.ensures.asked c.moment-now.ensures.lives),
     )
 
 pub returns-clause-not_above : goal.returns-clause-not_above
-returns-clause-not_above g c = pass_not_above (g.S.Supervise.world c.args.supervisor.now) (g.S.Supervise.world c.event.new.self) c.moment-now.result c.requires.drives c.event.ensures
+returns-clause-not_above g c = pass_not_above (g.S.Supervise.world c.args.supervisor.now) (g.S.Supervise.world c.event.new.self) c.moment-now.result
+    c.requires.drives c.event.ensures

@@ -40,7 +40,8 @@ returns-then-is_skipped-clause-trace g c = λ p starting.
     let world = g.S.Supervise.world c.args.supervisor.now in
     let who = c.args.who in
     let e = c.is_skipped.ensures.skipped c.if-is_skipped.true p starting in
-    let same : later c.args.now world ≡ world = later_same c.args.now world (sym c.requires.now.0 ∙ starting_moment p who c.args.step world old (g.R.Runner.living c.args.runner.now) starting) in
+    let same : later c.args.now world ≡ world = later_same c.args.now world
+    (sym c.requires.now.0 ∙ starting_moment p who c.args.step world old (g.R.Runner.living c.args.runner.now) starting) in
     let after : g.S.Supervise.world c.event.new.self ≡ skipped who world = c.event.ensures ∙ ap (λ (w : Components). skipped who w) same in
     (e.0, e.1, subst (λ (w : Components). IsInTurn (state_after p e.0) w new (g.R.Runner.living c.is_skipped.new.runner)) (sym after) e.2)
 
@@ -52,7 +53,8 @@ returns-clause-trace g c = λ p starting.
     let new = Listed g.R.Runner.list g.R.Runner.told g.R.Runner.asked c.launch.new.runner in (
       l.0 ++ s.0,
       acts_on p s.0 l.0 (g.R.Runner.list c.args.runner.now) (g.R.Runner.list c.is_skipped.new.runner) (g.R.Runner.list c.launch.new.runner) s.1 l.1,
-      subst (λ (x : SessionState). IsInTurn x (g.S.Supervise.world c.launch.new.supervisor) new (g.R.Runner.living c.launch.new.runner)) (sym (left-append p l.0 s.0)) l.2,
+      subst (λ (x : SessionState). IsInTurn x (g.S.Supervise.world c.launch.new.supervisor) new (g.R.Runner.living c.launch.new.runner))
+          (sym (left-append p l.0 s.0)) l.2,
     )
 
 pub launch-requires-clause-drives : goal.launch-requires-clause-drives
@@ -62,4 +64,5 @@ pub returns-then-is_skipped-clause-falls : goal.returns-then-is_skipped-clause-f
 returns-then-is_skipped-clause-falls g c =
     let q = c.requires.placed in
     let world = g.S.Supervise.world c.args.supervisor.now in
-    skip_falls world c.args.now c.requires.drives.0 c.requires.drives.1 (g.S.Supervise.world c.event.new.self) c.args.who c.args.step (handed_world c.args.who c.args.step world q.0.world q.1.world_is q.1.start) c.event.ensures
+    skip_falls world c.args.now c.requires.drives.0 c.requires.drives.1 (g.S.Supervise.world c.event.new.self) c.args.who c.args.step
+    (handed_world c.args.who c.args.step world q.0.world q.1.world_is q.1.start) c.event.ensures

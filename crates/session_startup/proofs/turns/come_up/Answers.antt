@@ -31,7 +31,8 @@ turns-init g c = record {
   trace = λ p comes. (
     [],
     acted g.J.Journal.entries g.J.Journal.files g.met.D.Disk.laws c.args.disk.now (g.R.Runner.list c.args.runner.now) (g.R.Runner.list c.args.runner.now) p []
-        (λ i left. subst (λ (d : Device). StandsFor g.J.Journal.entries i d) (sym comes.stands.device_is) (coming_stands g.met.D.Disk.laws g.met.J.Journal.laws c.args.state c.args.disk.now c.requires.held i left))
+        (λ i left. subst (λ (d : Device). StandsFor g.J.Journal.entries i d) (sym comes.stands.device_is)
+        (coming_stands g.met.D.Disk.laws g.met.J.Journal.laws c.args.state c.args.disk.now c.requires.held i left))
         (acts_none p (g.R.Runner.list c.args.runner.now) (g.R.Runner.list c.args.runner.now) refl),
     Appends-nil (g.K.Sink.held c.args.sink.now),
     comes,
@@ -51,7 +52,8 @@ pub turns-preserved : goal.turns-preserved
 turns-preserved g c = record {
   held = c.in-Ok.ensures.held;
   same = c.in-Ok.ensures.same ∙ c.turns.invariant.same;
-  deployment = same_trans (coming_device c.args.state) (coming_device c.turns.state) (coming_device c.in-Ok.next) c.turns.invariant.deployment c.in-Ok.ensures.deployment;
+  deployment = same_trans (coming_device c.args.state) (coming_device c.turns.state) (coming_device c.in-Ok.next) c.turns.invariant.deployment
+      c.in-Ok.ensures.deployment;
   others = λ is_modelled name other. c.turn.ensures.others is_modelled name other ∙ c.turns.invariant.others is_modelled name other;
   quiet_disk = c.in-Ok.ensures.quiet_disk (not_err (c.in-Ok.next, c.in-Ok.turned) over.Disk) ∙ c.turns.invariant.quiet_disk;
   quiet_sink = c.in-Ok.ensures.quiet_sink (not_err (c.in-Ok.next, c.in-Ok.turned) over.Edge) ∙ c.turns.invariant.quiet_sink;
@@ -67,7 +69,8 @@ turns-preserved g c = record {
         went_on g.J.Journal.entries g.J.Journal.files g.met.D.Disk.laws c.args.disk.now c.turns.disk c.turn.new.disk
             (g.R.Runner.list c.args.runner.now) (g.R.Runner.list c.turns.runner) (g.R.Runner.list c.turn.new.runner) p w.0 t.0 w.1 t.1,
         all_told (g.K.Sink.held c.args.sink.now) (g.K.Sink.held c.turns.sink) (g.K.Sink.held c.turn.new.sink) p w.0 t.0 w.1.run w.2 t.2,
-        subst (λ (x : SessionState). TurnLeft None x e world new living) (sym (left-append p t.0 w.0)) (subst (λ (k : Option Turned). TurnLeft k (state_after (state_after p w.0) t.0) e world new living) c.in-None.is t.3),
+        subst (λ (x : SessionState). TurnLeft None x e world new living) (sym (left-append p t.0 w.0))
+            (subst (λ (k : Option Turned). TurnLeft k (state_after (state_after p w.0) t.0) e world new living) c.in-None.is t.3),
       );
 }
 
@@ -83,12 +86,14 @@ returns-in-Some-clause-trace g c = λ p comes.
       went_on g.J.Journal.entries g.J.Journal.files g.met.D.Disk.laws c.args.disk.now c.turns.disk c.turn.new.disk
           (g.R.Runner.list c.args.runner.now) (g.R.Runner.list c.turns.runner) (g.R.Runner.list c.turn.new.runner) p w.0 t.0 w.1 t.1,
       all_told (g.K.Sink.held c.args.sink.now) (g.K.Sink.held c.turns.sink) (g.K.Sink.held c.turn.new.sink) p w.0 t.0 w.1.run w.2 t.2,
-      subst (λ (x : SessionState). TurnLeft (Some c.in-Some.turned) x e world new living) (sym (left-append p t.0 w.0)) (subst (λ (k : Option Turned). TurnLeft k (state_after (state_after p w.0) t.0) e world new living) c.in-Some.is t.3),
+      subst (λ (x : SessionState). TurnLeft (Some c.in-Some.turned) x e world new living) (sym (left-append p t.0 w.0))
+          (subst (λ (k : Option Turned). TurnLeft k (state_after (state_after p w.0) t.0) e world new living) c.in-Some.is t.3),
       tt,
     )
 
 pub returns-in-Some-clause-deployment : goal.returns-in-Some-clause-deployment
-returns-in-Some-clause-deployment g c = same_trans (coming_device c.args.state) (coming_device c.turns.state) (coming_device c.in-Ok.next) c.turns.invariant.deployment c.in-Ok.ensures.deployment
+returns-in-Some-clause-deployment g c = same_trans (coming_device c.args.state) (coming_device c.turns.state) (coming_device c.in-Ok.next)
+    c.turns.invariant.deployment c.in-Ok.ensures.deployment
 
 pub returns-in-Err-clause-trace : goal.returns-in-Err-clause-trace
 returns-in-Err-clause-trace g c = λ p comes.
@@ -99,7 +104,8 @@ returns-in-Err-clause-trace g c = λ p comes.
           (g.R.Runner.list c.args.runner.now) (g.R.Runner.list c.turns.runner) (g.R.Runner.list c.turn.new.runner) p w.0 t.0 w.1 t.1,
       lines_at_joined (g.K.Sink.held c.args.sink.now) (g.K.Sink.held c.turns.sink) (g.K.Sink.held c.turn.new.sink) p w.0 t.0 c.in-Err.over w.1.run w.2 t.2,
       left_joined g.J.Journal.entries g.D.Disk.may_leave c.turn.new.disk p w.0 t.0 c.in-Err.over w.1.run t.3,
-      quits_on p w.0 t.0 (g.S.Supervise.world c.turn.new.supervisor) (Listed g.R.Runner.list g.R.Runner.told g.R.Runner.asked c.turn.new.runner) (g.R.Runner.living c.turn.new.runner) t.4,
+      quits_on p w.0 t.0 (g.S.Supervise.world c.turn.new.supervisor) (Listed g.R.Runner.list g.R.Runner.told g.R.Runner.asked c.turn.new.runner)
+          (g.R.Runner.living c.turn.new.runner) t.4,
     )
 
 pub returns-in-Err-clause-disk : goal.returns-in-Err-clause-disk

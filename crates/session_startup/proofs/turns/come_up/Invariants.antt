@@ -22,10 +22,13 @@ invariant-turns g l = record {
   quiet_disk : g.D.Disk.faults l.disk ≡ g.D.Disk.faults l.fn.disk;
   quiet_sink : g.K.Sink.faults l.sink ≡ g.K.Sink.faults l.fn.sink;
   rises : Rises (g.S.Supervise.world l.supervisor);
-  trace : (p : SessionState) → IsAtTurnStart p (coming_device l.fn.state) (g.S.Supervise.world l.fn.supervisor) (Listed g.R.Runner.list g.R.Runner.told g.R.Runner.asked l.fn.runner) (g.R.Runner.living l.fn.runner) →
-      (h : List TraceEvent) × IsTrace g.J.Journal.entries g.J.Journal.files g.D.Disk.may_leave g.D.Disk.moment g.D.Disk.left_since l.fn.disk l.disk (g.R.Runner.list l.fn.runner) (g.R.Runner.list l.runner) p h
+  trace : (p : SessionState) → IsAtTurnStart p (coming_device l.fn.state) (g.S.Supervise.world l.fn.supervisor)
+      (Listed g.R.Runner.list g.R.Runner.told g.R.Runner.asked l.fn.runner) (g.R.Runner.living l.fn.runner) →
+      (h : List TraceEvent) × IsTrace g.J.Journal.entries g.J.Journal.files g.D.Disk.may_leave g.D.Disk.moment g.D.Disk.left_since l.fn.disk l.disk
+      (g.R.Runner.list l.fn.runner) (g.R.Runner.list l.runner) p h
       × Appends (g.K.Sink.held l.fn.sink) (g.K.Sink.held l.sink) (lines_of p.device (records_of h))
-      × IsAtTurnStart (state_after p h) (coming_device l.state) (g.S.Supervise.world l.supervisor) (Listed g.R.Runner.list g.R.Runner.told g.R.Runner.asked l.runner) (g.R.Runner.living l.runner);
+      × IsAtTurnStart (state_after p h) (coming_device l.state) (g.S.Supervise.world l.supervisor)
+      (Listed g.R.Runner.list g.R.Runner.told g.R.Runner.asked l.runner) (g.R.Runner.living l.runner);
 }
 
 abbrev pub decreases-turns : goal.decreases-turns

@@ -30,7 +30,8 @@ returns-in-Nothing-clause-trace g c = λ p runs device.
     let w = c.in-Nothing.ensures.trace p runs in (
       w.0,
       acted g.J.Journal.entries g.J.Journal.files g.met.D.Disk.laws c.args.disk.now (g.R.Runner.list c.args.runner.now) (g.R.Runner.list c.act.new.runner) p w.0
-          (λ i left. subst (λ (d : Device). StandsFor g.J.Journal.entries i d) (sym device) (coming_stands g.met.D.Disk.laws g.met.J.Journal.laws c.args.state c.args.disk.now c.requires.held i left)) w.1,
+          (λ i left. subst (λ (d : Device). StandsFor g.J.Journal.entries i d) (sym device)
+          (coming_stands g.met.D.Disk.laws g.met.J.Journal.laws c.args.state c.args.disk.now c.requires.held i left)) w.1,
       no_lines (g.K.Sink.held c.args.sink.now) p.device w.0 w.1.none,
       record { runs = w.2.0; device_is = w.1.device ∙ device; quiet = λ none. w.2.1 },
       tt,
@@ -44,7 +45,8 @@ returns-in-Something-clause-trace g c = λ p runs device.
     let w = c.in-Something.ensures.trace p runs in (
       w.0,
       acted g.J.Journal.entries g.J.Journal.files g.met.D.Disk.laws c.args.disk.now (g.R.Runner.list c.args.runner.now) (g.R.Runner.list c.act.new.runner) p w.0
-          (λ i left. subst (λ (d : Device). StandsFor g.J.Journal.entries i d) (sym device) (coming_stands g.met.D.Disk.laws g.met.J.Journal.laws c.args.state c.args.disk.now c.requires.held i left)) w.1,
+          (λ i left. subst (λ (d : Device). StandsFor g.J.Journal.entries i d) (sym device)
+          (coming_stands g.met.D.Disk.laws g.met.J.Journal.laws c.args.state c.args.disk.now c.requires.held i left)) w.1,
       no_lines (g.K.Sink.held c.args.sink.now) p.device w.0 w.1.none,
       record { runs = w.2; device_is = w.1.device ∙ device; quiet = λ none. absurd (never false refl none) },
       tt,
@@ -59,13 +61,17 @@ returns-in-Ok-clause-trace g c = λ p runs device.
     let told = Listed g.R.Runner.list g.R.Runner.told g.R.Runner.asked c.act.new.runner in
     let living = g.R.Runner.living c.act.new.runner in
     let t = c.in-Ok.ensures.trace (state_after p w.0) told living w.2 (w.1.device ∙ device) in
-    let one = acted g.J.Journal.entries g.J.Journal.files g.met.D.Disk.laws c.args.disk.now (g.R.Runner.list c.args.runner.now) (g.R.Runner.list c.act.new.runner) p w.0
-    (λ i left. subst (λ (d : Device). StandsFor g.J.Journal.entries i d) (sym device) (coming_stands g.met.D.Disk.laws g.met.J.Journal.laws c.args.state c.args.disk.now c.requires.held i left)) w.1 in (
+    let one = acted g.J.Journal.entries g.J.Journal.files g.met.D.Disk.laws c.args.disk.now (g.R.Runner.list c.args.runner.now)
+    (g.R.Runner.list c.act.new.runner) p w.0
+    (λ i left. subst (λ (d : Device). StandsFor g.J.Journal.entries i d) (sym device)
+    (coming_stands g.met.D.Disk.laws g.met.J.Journal.laws c.args.state c.args.disk.now c.requires.held i left)) w.1 in (
       t.0 ++ w.0,
       went_on g.J.Journal.entries g.J.Journal.files g.met.D.Disk.laws c.args.disk.now c.args.disk.now c.note_failure.new.disk
           (g.R.Runner.list c.args.runner.now) (g.R.Runner.list c.act.new.runner) (g.R.Runner.list c.act.new.runner) p w.0 t.0 one t.1,
-      all_told (g.K.Sink.held c.args.sink.now) (g.K.Sink.held c.args.sink.now) (g.K.Sink.held c.note_failure.new.sink) p w.0 t.0 one.run (no_lines (g.K.Sink.held c.args.sink.now) p.device w.0 w.1.none) t.2,
-      subst (λ (x : SessionState). ActLeft x (coming_device c.in-Ok.next) false (g.S.Supervise.world c.act.new.supervisor) told living) (sym (left-append p t.0 w.0))
+      all_told (g.K.Sink.held c.args.sink.now) (g.K.Sink.held c.args.sink.now) (g.K.Sink.held c.note_failure.new.sink) p w.0 t.0 one.run
+          (no_lines (g.K.Sink.held c.args.sink.now) p.device w.0 w.1.none) t.2,
+      subst (λ (x : SessionState). ActLeft x (coming_device c.in-Ok.next) false (g.S.Supervise.world c.act.new.supervisor) told living)
+          (sym (left-append p t.0 w.0))
           (record { runs = t.3.0; device_is = t.3.1; quiet = λ none. absurd (never false refl none) }),
       tt,
     )
@@ -76,12 +82,15 @@ returns-in-Err-clause-trace g c = λ p runs device.
     let told = Listed g.R.Runner.list g.R.Runner.told g.R.Runner.asked c.act.new.runner in
     let living = g.R.Runner.living c.act.new.runner in
     let t = c.in-Err.ensures.trace (state_after p w.0) told living w.2 (w.1.device ∙ device) in
-    let one = acted g.J.Journal.entries g.J.Journal.files g.met.D.Disk.laws c.args.disk.now (g.R.Runner.list c.args.runner.now) (g.R.Runner.list c.act.new.runner) p w.0
-    (λ i left. subst (λ (d : Device). StandsFor g.J.Journal.entries i d) (sym device) (coming_stands g.met.D.Disk.laws g.met.J.Journal.laws c.args.state c.args.disk.now c.requires.held i left)) w.1 in (
+    let one = acted g.J.Journal.entries g.J.Journal.files g.met.D.Disk.laws c.args.disk.now (g.R.Runner.list c.args.runner.now)
+    (g.R.Runner.list c.act.new.runner) p w.0
+    (λ i left. subst (λ (d : Device). StandsFor g.J.Journal.entries i d) (sym device)
+    (coming_stands g.met.D.Disk.laws g.met.J.Journal.laws c.args.state c.args.disk.now c.requires.held i left)) w.1 in (
       t.0 ++ w.0,
       went_on g.J.Journal.entries g.J.Journal.files g.met.D.Disk.laws c.args.disk.now c.args.disk.now c.note_failure.new.disk
           (g.R.Runner.list c.args.runner.now) (g.R.Runner.list c.act.new.runner) (g.R.Runner.list c.act.new.runner) p w.0 t.0 one t.1,
-      lines_at_joined (g.K.Sink.held c.args.sink.now) (g.K.Sink.held c.args.sink.now) (g.K.Sink.held c.note_failure.new.sink) p w.0 t.0 c.in-Err.over one.run (no_lines (g.K.Sink.held c.args.sink.now) p.device w.0 w.1.none) t.2,
+      lines_at_joined (g.K.Sink.held c.args.sink.now) (g.K.Sink.held c.args.sink.now) (g.K.Sink.held c.note_failure.new.sink) p w.0 t.0 c.in-Err.over one.run
+          (no_lines (g.K.Sink.held c.args.sink.now) p.device w.0 w.1.none) t.2,
       left_joined g.J.Journal.entries g.D.Disk.may_leave c.note_failure.new.disk p w.0 t.0 c.in-Err.over one.run t.3,
       quits_on p w.0 t.0 (g.S.Supervise.world c.act.new.supervisor) told living t.4,
     )

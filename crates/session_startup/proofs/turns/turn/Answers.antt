@@ -35,14 +35,18 @@ returns-in-Err-clause-trace g c = λ p comes.
     let w = c.pass-now.ensures.trace p d comes in
     let device = comes.stands.device_is in
     let t = c.in-Err.ensures.trace (state_after p w.0) w.2 (w.1.device ∙ device) in
-    let one = acted g.J.Journal.entries g.J.Journal.files g.met.D.Disk.laws c.args.disk.now (g.R.Runner.list c.args.runner.now) (g.R.Runner.list c.pass-now.new.runner) p w.0
-    (λ i left. subst (λ (x : Device). StandsFor g.J.Journal.entries i x) (sym device) (coming_stands g.met.D.Disk.laws g.met.J.Journal.laws c.args.state c.args.disk.now c.requires.held i left)) w.1 in (
+    let one = acted g.J.Journal.entries g.J.Journal.files g.met.D.Disk.laws c.args.disk.now (g.R.Runner.list c.args.runner.now)
+    (g.R.Runner.list c.pass-now.new.runner) p w.0
+    (λ i left. subst (λ (x : Device). StandsFor g.J.Journal.entries i x) (sym device)
+    (coming_stands g.met.D.Disk.laws g.met.J.Journal.laws c.args.state c.args.disk.now c.requires.held i left)) w.1 in (
       t.0 ++ w.0,
       went_on g.J.Journal.entries g.J.Journal.files g.met.D.Disk.laws c.args.disk.now c.args.disk.now c.take_acts.new.disk
           (g.R.Runner.list c.args.runner.now) (g.R.Runner.list c.pass-now.new.runner) (g.R.Runner.list c.take_acts.new.runner) p w.0 t.0 one t.1,
-      lines_at_joined (g.K.Sink.held c.args.sink.now) (g.K.Sink.held c.args.sink.now) (g.K.Sink.held c.take_acts.new.sink) p w.0 t.0 c.in-Err.over one.run (no_lines (g.K.Sink.held c.args.sink.now) p.device w.0 w.1.none) t.2,
+      lines_at_joined (g.K.Sink.held c.args.sink.now) (g.K.Sink.held c.args.sink.now) (g.K.Sink.held c.take_acts.new.sink) p w.0 t.0 c.in-Err.over one.run
+          (no_lines (g.K.Sink.held c.args.sink.now) p.device w.0 w.1.none) t.2,
       left_joined g.J.Journal.entries g.D.Disk.may_leave c.take_acts.new.disk p w.0 t.0 c.in-Err.over one.run t.3,
-      quits_on p w.0 t.0 (g.S.Supervise.world c.take_acts.new.supervisor) (Listed g.R.Runner.list g.R.Runner.told g.R.Runner.asked c.take_acts.new.runner) (g.R.Runner.living c.take_acts.new.runner) t.4,
+      quits_on p w.0 t.0 (g.S.Supervise.world c.take_acts.new.supervisor) (Listed g.R.Runner.list g.R.Runner.told g.R.Runner.asked c.take_acts.new.runner)
+          (g.R.Runner.living c.take_acts.new.runner) t.4,
     )
 
 pub returns-then-is_broken-clause-trace : goal.returns-then-is_broken-clause-trace
@@ -52,8 +56,10 @@ returns-then-is_broken-clause-trace g c = λ p comes.
     let w = c.pass-now.ensures.trace p d comes in
     let device = comes.stands.device_is in
     let t = c.in-Ok.ensures.trace (state_after p w.0) w.2 (w.1.device ∙ device) in
-    let one = acted g.J.Journal.entries g.J.Journal.files g.met.D.Disk.laws c.args.disk.now (g.R.Runner.list c.args.runner.now) (g.R.Runner.list c.pass-now.new.runner) p w.0
-    (λ i left. subst (λ (x : Device). StandsFor g.J.Journal.entries i x) (sym device) (coming_stands g.met.D.Disk.laws g.met.J.Journal.laws c.args.state c.args.disk.now c.requires.held i left)) w.1 in
+    let one = acted g.J.Journal.entries g.J.Journal.files g.met.D.Disk.laws c.args.disk.now (g.R.Runner.list c.args.runner.now)
+    (g.R.Runner.list c.pass-now.new.runner) p w.0
+    (λ i left. subst (λ (x : Device). StandsFor g.J.Journal.entries i x) (sym device)
+    (coming_stands g.met.D.Disk.laws g.met.J.Journal.laws c.args.state c.args.disk.now c.requires.held i left)) w.1 in
     let new = Listed g.R.Runner.list g.R.Runner.told g.R.Runner.asked c.take_acts.new.runner in
     let world = g.S.Supervise.world c.take_acts.new.supervisor in
     let living = g.R.Runner.living c.take_acts.new.runner in
@@ -61,7 +67,8 @@ returns-then-is_broken-clause-trace g c = λ p comes.
       t.0 ++ w.0,
       went_on g.J.Journal.entries g.J.Journal.files g.met.D.Disk.laws c.args.disk.now c.args.disk.now c.take_acts.new.disk
           (g.R.Runner.list c.args.runner.now) (g.R.Runner.list c.pass-now.new.runner) (g.R.Runner.list c.take_acts.new.runner) p w.0 t.0 one t.1,
-      all_told (g.K.Sink.held c.args.sink.now) (g.K.Sink.held c.args.sink.now) (g.K.Sink.held c.take_acts.new.sink) p w.0 t.0 one.run (no_lines (g.K.Sink.held c.args.sink.now) p.device w.0 w.1.none) t.2,
+      all_told (g.K.Sink.held c.args.sink.now) (g.K.Sink.held c.args.sink.now) (g.K.Sink.held c.take_acts.new.sink) p w.0 t.0 one.run
+          (no_lines (g.K.Sink.held c.args.sink.now) p.device w.0 w.1.none) t.2,
       rests (state_after p (t.0 ++ w.0)) e world new living true c.is_broken.result true a refl c.is_broken.ensures c.if-is_broken.true,
       tt,
     )
@@ -73,8 +80,10 @@ returns-then-settled-clause-trace g c = λ p comes.
     let w = c.pass-now.ensures.trace p d comes in
     let device = comes.stands.device_is in
     let t = c.in-Ok.ensures.trace (state_after p w.0) w.2 (w.1.device ∙ device) in
-    let one = acted g.J.Journal.entries g.J.Journal.files g.met.D.Disk.laws c.args.disk.now (g.R.Runner.list c.args.runner.now) (g.R.Runner.list c.pass-now.new.runner) p w.0
-    (λ i left. subst (λ (x : Device). StandsFor g.J.Journal.entries i x) (sym device) (coming_stands g.met.D.Disk.laws g.met.J.Journal.laws c.args.state c.args.disk.now c.requires.held i left)) w.1 in
+    let one = acted g.J.Journal.entries g.J.Journal.files g.met.D.Disk.laws c.args.disk.now (g.R.Runner.list c.args.runner.now)
+    (g.R.Runner.list c.pass-now.new.runner) p w.0
+    (λ i left. subst (λ (x : Device). StandsFor g.J.Journal.entries i x) (sym device)
+    (coming_stands g.met.D.Disk.laws g.met.J.Journal.laws c.args.state c.args.disk.now c.requires.held i left)) w.1 in
     let new = Listed g.R.Runner.list g.R.Runner.told g.R.Runner.asked c.take_acts.new.runner in
     let world = g.S.Supervise.world c.take_acts.new.supervisor in
     let living = g.R.Runner.living c.take_acts.new.runner in
@@ -84,7 +93,8 @@ returns-then-settled-clause-trace g c = λ p comes.
       t.0 ++ w.0,
       went_on g.J.Journal.entries g.J.Journal.files g.met.D.Disk.laws c.args.disk.now c.args.disk.now c.take_acts.new.disk
           (g.R.Runner.list c.args.runner.now) (g.R.Runner.list c.pass-now.new.runner) (g.R.Runner.list c.take_acts.new.runner) p w.0 t.0 one t.1,
-      all_told (g.K.Sink.held c.args.sink.now) (g.K.Sink.held c.args.sink.now) (g.K.Sink.held c.take_acts.new.sink) p w.0 t.0 one.run (no_lines (g.K.Sink.held c.args.sink.now) p.device w.0 w.1.none) t.2,
+      all_told (g.K.Sink.held c.args.sink.now) (g.K.Sink.held c.args.sink.now) (g.K.Sink.held c.take_acts.new.sink) p w.0 t.0 one.run
+          (no_lines (g.K.Sink.held c.args.sink.now) p.device w.0 w.1.none) t.2,
       (r, settled_is q e false world new living c.settled.result true r c.settled.ensures c.if-settled.true),
       tt,
     )
@@ -114,26 +124,33 @@ returns-else-settled-clause-trace g c = λ p comes.
     let w = c.pass-now.ensures.trace p d comes in
     let device = comes.stands.device_is in
     let t = c.in-Ok.ensures.trace (state_after p w.0) w.2 (w.1.device ∙ device) in
-    let one = acted g.J.Journal.entries g.J.Journal.files g.met.D.Disk.laws c.args.disk.now (g.R.Runner.list c.args.runner.now) (g.R.Runner.list c.pass-now.new.runner) p w.0
-    (λ i left. subst (λ (x : Device). StandsFor g.J.Journal.entries i x) (sym device) (coming_stands g.met.D.Disk.laws g.met.J.Journal.laws c.args.state c.args.disk.now c.requires.held i left)) w.1 in
+    let one = acted g.J.Journal.entries g.J.Journal.files g.met.D.Disk.laws c.args.disk.now (g.R.Runner.list c.args.runner.now)
+    (g.R.Runner.list c.pass-now.new.runner) p w.0
+    (λ i left. subst (λ (x : Device). StandsFor g.J.Journal.entries i x) (sym device)
+    (coming_stands g.met.D.Disk.laws g.met.J.Journal.laws c.args.state c.args.disk.now c.requires.held i left)) w.1 in
     let new = Listed g.R.Runner.list g.R.Runner.told g.R.Runner.asked c.take_acts.new.runner in
     let last = Listed g.R.Runner.list g.R.Runner.told g.R.Runner.asked c.wait_once.new.runner in
     let world = g.S.Supervise.world c.take_acts.new.supervisor in
     let living = g.R.Runner.living c.take_acts.new.runner in
     let both = went_on g.J.Journal.entries g.J.Journal.files g.met.D.Disk.laws c.args.disk.now c.args.disk.now c.take_acts.new.disk
     (g.R.Runner.list c.args.runner.now) (g.R.Runner.list c.pass-now.new.runner) (g.R.Runner.list c.take_acts.new.runner) p w.0 t.0 one t.1 in
-    let lines = all_told (g.K.Sink.held c.args.sink.now) (g.K.Sink.held c.args.sink.now) (g.K.Sink.held c.take_acts.new.sink) p w.0 t.0 one.run (no_lines (g.K.Sink.held c.args.sink.now) p.device w.0 w.1.none) t.2 in
+    let lines = all_told (g.K.Sink.held c.args.sink.now) (g.K.Sink.held c.args.sink.now) (g.K.Sink.held c.take_acts.new.sink) p w.0 t.0 one.run
+    (no_lines (g.K.Sink.held c.args.sink.now) p.device w.0 w.1.none) t.2 in
     let x = state_after p (t.0 ++ w.0) in
     let a = subst (λ (y : SessionState). ActLeft y e true world new living) (sym (left-append p t.0 w.0)) t.3 in
     let r = rests x e world new living true c.is_broken.result false a refl c.is_broken.ensures c.if-is_broken.false in
     let u = c.wait_once.ensures.trace x e a.device_is (sits x e world new living c.settled.result r c.settled.ensures c.if-settled.false) in
-    let slept = acted g.J.Journal.entries g.J.Journal.files g.met.D.Disk.laws c.take_acts.new.disk (g.R.Runner.list c.take_acts.new.runner) (g.R.Runner.list c.wait_once.new.runner) x u.0
-    (λ i left. subst (λ (y : Device). StandsFor g.J.Journal.entries i y) (sym a.device_is) (coming_stands g.met.D.Disk.laws g.met.J.Journal.laws c.in-Ok.next c.take_acts.new.disk c.in-Ok.ensures.held i left)) u.1 in (
+    let slept = acted g.J.Journal.entries g.J.Journal.files g.met.D.Disk.laws c.take_acts.new.disk (g.R.Runner.list c.take_acts.new.runner)
+    (g.R.Runner.list c.wait_once.new.runner) x u.0
+    (λ i left. subst (λ (y : Device). StandsFor g.J.Journal.entries i y) (sym a.device_is)
+    (coming_stands g.met.D.Disk.laws g.met.J.Journal.laws c.in-Ok.next c.take_acts.new.disk c.in-Ok.ensures.held i left)) u.1 in (
       u.0 ++ (t.0 ++ w.0),
       went_on g.J.Journal.entries g.J.Journal.files g.met.D.Disk.laws c.args.disk.now c.take_acts.new.disk c.take_acts.new.disk
           (g.R.Runner.list c.args.runner.now) (g.R.Runner.list c.take_acts.new.runner) (g.R.Runner.list c.wait_once.new.runner) p (t.0 ++ w.0) u.0 both slept,
-      all_told (g.K.Sink.held c.args.sink.now) (g.K.Sink.held c.take_acts.new.sink) (g.K.Sink.held c.take_acts.new.sink) p (t.0 ++ w.0) u.0 both.run lines (no_lines (g.K.Sink.held c.take_acts.new.sink) x.device u.0 u.1.none),
-      subst (λ (y : SessionState). IsAtTurnStart y e (g.S.Supervise.world c.wait_once.new.supervisor) last (g.R.Runner.living c.wait_once.new.runner)) (sym (left-append p u.0 (t.0 ++ w.0))) u.2,
+      all_told (g.K.Sink.held c.args.sink.now) (g.K.Sink.held c.take_acts.new.sink) (g.K.Sink.held c.take_acts.new.sink) p (t.0 ++ w.0) u.0 both.run lines
+          (no_lines (g.K.Sink.held c.take_acts.new.sink) x.device u.0 u.1.none),
+      subst (λ (y : SessionState). IsAtTurnStart y e (g.S.Supervise.world c.wait_once.new.supervisor) last (g.R.Runner.living c.wait_once.new.runner))
+          (sym (left-append p u.0 (t.0 ++ w.0))) u.2,
       tt,
     )
 
@@ -150,8 +167,11 @@ wait_once-requires-clause-drives g c =
     let q = c.requires.placed in
     let w = c.pass-now.ensures.trace q.0 (coming_device c.args.state) q.1 in
     let t = c.in-Ok.ensures.trace (state_after q.0 w.0) w.2 (w.1.device ∙ q.1.stands.device_is) in
-    let new = Listed g.R.Runner.list g.R.Runner.told g.R.Runner.asked c.take_acts.new.runner in
-    (c.take_acts.ensures.not_above.on.drives, falling_at (state_after (state_after q.0 w.0) t.0) (g.S.Supervise.world c.take_acts.new.supervisor) new (g.R.Runner.living c.take_acts.new.runner) t.3.runs)
+    let new = Listed g.R.Runner.list g.R.Runner.told g.R.Runner.asked c.take_acts.new.runner in (
+      c.take_acts.ensures.not_above.on.drives,
+      falling_at (state_after (state_after q.0 w.0) t.0) (g.S.Supervise.world c.take_acts.new.supervisor) new
+          (g.R.Runner.living c.take_acts.new.runner) t.3.runs,
+    )
 
 pub wait_once-requires-clause-time : goal.wait_once-requires-clause-time
 wait_once-requires-clause-time g c =
@@ -221,4 +241,5 @@ returns-else-settled-clause-falls g c = λ none.
     let before = g.R.Runner.clock c.args.runner.now in
     let after = g.R.Runner.clock c.wait_once.new.runner in
     measure_less old last before after (g.met.R.Runner.in_time c.args.runner.now) (g.met.R.Runner.in_time c.wait_once.new.runner)
-    (turn_goes (rank old) (rank acts) (rank last) before c.pass-now.result after n.least c.wait_once.ensures.not_above.least c.pass-now.ensures.clock c.wait_once.ensures.goes_on)
+    (turn_goes (rank old) (rank acts) (rank last) before c.pass-now.result after n.least c.wait_once.ensures.not_above.least c.pass-now.ensures.clock
+    c.wait_once.ensures.goes_on)

@@ -20,9 +20,11 @@ kills-init g c = record {
       let living = g.R.Runner.living c.args.runner.now in
       let past = g.met.R.Runner.past c.args.runner.now in (
         Asked now ∷ [],
-        ask_acts p world old living given now (g.R.Runner.list c.args.runner.now) (g.R.Runner.list c.moment-now.new.self) (omega (arith, past, c.moment-now.ensures.later)) c.moment-now.ensures.list,
+        ask_acts p world old living given now (g.R.Runner.list c.args.runner.now) (g.R.Runner.list c.moment-now.new.self)
+            (omega (arith, past, c.moment-now.ensures.later)) c.moment-now.ensures.list,
         ask_keeps p now,
-        ask_kills p world old living given now new (g.R.Runner.living c.moment-now.new.self) c.moment-now.ensures.told c.moment-now.ensures.asked c.moment-now.ensures.lives,
+        ask_kills p world old living given now new (g.R.Runner.living c.moment-now.new.self) c.moment-now.ensures.told c.moment-now.ensures.asked
+            c.moment-now.ensures.lives,
         (tt, tt),
       );
 }
@@ -32,7 +34,8 @@ kill-requires g c =
     let q = c.requires.placed in
     let w = c.kills.invariant.trace q.0 q.1 in
     let old = Listed g.R.Runner.list g.R.Runner.told g.R.Runner.asked c.kills.runner in
-    kill_lives (state_after q.0 w.0) c.kills.last (g.S.Supervise.world c.args.supervisor.now) old (g.R.Runner.living c.kills.runner) w.3 c.in-Some.child c.in-Some.ensures
+    kill_lives (state_after q.0 w.0) c.kills.last (g.S.Supervise.world c.args.supervisor.now) old (g.R.Runner.living c.kills.runner) w.3 c.in-Some.child
+    c.in-Some.ensures
 
 pub kills-preserved : goal.kills-preserved
 kills-preserved g c = record {
@@ -48,7 +51,8 @@ kills-preserved g c = record {
         acts_on p w.0 (cut ∷ []) (g.R.Runner.list c.args.runner.now) (g.R.Runner.list c.kills.runner) (g.R.Runner.list c.kill.new.self) w.1
             (kill_acts (state_after p w.0) c.kills.last world old living w.3 child c.in-Some.ensures new c.kill.ensures.notes),
         kill_keeps p (state_after p w.0) old child w.2,
-        kill_kills (state_after p w.0) c.kills.last world old living w.3 child c.in-Some.ensures new (g.R.Runner.living c.kill.new.self) c.kill.ensures.notes c.kill.ensures.lives,
+        kill_kills (state_after p w.0) c.kills.last world old living w.3 child c.in-Some.ensures new (g.R.Runner.living c.kill.new.self) c.kill.ensures.notes
+            c.kill.ensures.lives,
         (tt, w.4),
       );
 }
@@ -60,7 +64,8 @@ kills-smaller g c =
     let world = g.S.Supervise.world c.args.supervisor.now in
     let old = Listed g.R.Runner.list g.R.Runner.told g.R.Runner.asked c.kills.runner in
     let living = g.R.Runner.living c.kills.runner in
-    fewer_live c.in-Some.child living (g.R.Runner.living c.kill.new.self) (kill_lives (state_after q.0 w.0) c.kills.last world old living w.3 c.in-Some.child c.in-Some.ensures) c.kill.ensures.lives
+    fewer_live c.in-Some.child living (g.R.Runner.living c.kill.new.self)
+    (kill_lives (state_after q.0 w.0) c.kills.last world old living w.3 c.in-Some.child c.in-Some.ensures) c.kill.ensures.lives
 
 pub returns : goal.returns
 returns g c =

@@ -12,9 +12,11 @@ use Rattle.session_transitions.proofs.abort.kill_all.Given as goal
 
 abbrev pub invariant-kills : goal.invariant-kills
 invariant-kills g l = record {
-  trace : (p : SessionState) → IsGivenUp p (g.S.Supervise.world l.supervisor) (Listed g.R.Runner.list g.R.Runner.told g.R.Runner.asked l.fn.runner) (g.R.Runner.living l.fn.runner) →
+  trace : (p : SessionState) → IsGivenUp p (g.S.Supervise.world l.supervisor) (Listed g.R.Runner.list g.R.Runner.told g.R.Runner.asked l.fn.runner)
+      (g.R.Runner.living l.fn.runner) →
       (h : List TraceEvent) × Acts p h (g.R.Runner.list l.fn.runner) (g.R.Runner.list l.runner) × KeepsRest p (state_after p h)
-      × IsKilling (state_after p h) l.last (g.S.Supervise.world l.supervisor) (Listed g.R.Runner.list g.R.Runner.told g.R.Runner.asked l.runner) (g.R.Runner.living l.runner)
+      × IsKilling (state_after p h) l.last (g.S.Supervise.world l.supervisor) (Listed g.R.Runner.list g.R.Runner.told g.R.Runner.asked l.runner)
+      (g.R.Runner.living l.runner)
       × AllByRecursion IsLast h;
 }
 

@@ -36,13 +36,16 @@ returns-in-Ok-tell_close-clause-trace g c = λ p told living from orderly.
     let pending = pends_in stages.Rolling d c.requires.held.1 in
     let same = outcome_of d true c.requires.held.1 c.requires.failed in
     let allowed = roll_allowed d true c.requires.held.1 same in
-    let notes = subst (λ (x : Outcome). Notes g.J.Journal.entries g.J.Journal.files g.met.D.Disk.laws c.args.disk.now c.close.new.disk d x) same c.close.ensures.moments in
+    let notes = subst (λ (x : Outcome). Notes g.J.Journal.entries g.J.Journal.files g.met.D.Disk.laws c.args.disk.now c.close.new.disk d x) same
+    c.close.ensures.moments in
     let taken : e ≡ applied d (stored.Closed o) = c.in-Ok.ensures.taken ∙ ap (λ (x : Outcome). applied d (stored.Closed x)) same in (
       Recorded (stored.Closed o) ∷ [],
-      boot_went g.J.Journal.entries g.J.Journal.files g.met.D.Disk.laws c.args.disk.now c.close.new.disk told.list p d o world told living from tt allowed notes,
+      boot_went g.J.Journal.entries g.J.Journal.files g.met.D.Disk.laws c.args.disk.now c.close.new.disk told.list p d o world told living from tt allowed
+          notes,
       subst (λ (l : List ℕ). Appends (g.K.Sink.held c.args.sink.now) (g.K.Sink.held c.tell_close.new.sink) l) (line_closed p d o from.between.stands.device_is)
           (c.in-Ok-tell_close.ensures.line d.closed (id_of d) o (ap (λ (x : Device). x.closed) c.device.ensures ∙ last_closed d e o pending taken)),
-      subst (λ (w : Components). HasClosed o (records_of (Recorded (stored.Closed o) ∷ [])) (leaves p (Recorded (stored.Closed o))) e w told living) (sym c.steady.ensures) (boot_closed p d o world told living from e orderly pending taken),
+      subst (λ (w : Components). HasClosed o (records_of (Recorded (stored.Closed o) ∷ [])) (leaves p (Recorded (stored.Closed o))) e w told living)
+          (sym c.steady.ensures) (boot_closed p d o world told living from e orderly pending taken),
       tt,
     )
 
@@ -55,14 +58,21 @@ returns-in-Err-tell_close-clause-trace g c = λ p told living from orderly.
     let pending = pends_in stages.Rolling d c.requires.held.1 in
     let same = outcome_of d true c.requires.held.1 c.requires.failed in
     let allowed = roll_allowed d true c.requires.held.1 same in
-    let notes = subst (λ (x : Outcome). Notes g.J.Journal.entries g.J.Journal.files g.met.D.Disk.laws c.args.disk.now c.close.new.disk d x) same c.close.ensures.moments in
+    let notes = subst (λ (x : Outcome). Notes g.J.Journal.entries g.J.Journal.files g.met.D.Disk.laws c.args.disk.now c.close.new.disk d x) same
+    c.close.ensures.moments in
     let taken : e ≡ applied d (stored.Closed o) = c.in-Ok.ensures.taken ∙ ap (λ (x : Outcome). applied d (stored.Closed x)) same in
     let back : e ≡ applied p.device (stored.Closed o) = taken ∙ ap (λ (y : Device). applied y (stored.Closed o)) (sym from.between.stands.device_is) in (
       Recorded (stored.Closed o) ∷ [],
-      boot_went g.J.Journal.entries g.J.Journal.files g.met.D.Disk.laws c.args.disk.now c.close.new.disk told.list p d o world told living from tt allowed notes,
-      subst (λ (l : List ℕ). AppendsPrefix (g.K.Sink.held c.args.sink.now) (g.K.Sink.held c.tell_close.new.sink) l) (line_closed p d o from.between.stands.device_is)
+      boot_went g.J.Journal.entries g.J.Journal.files g.met.D.Disk.laws c.args.disk.now c.close.new.disk told.list p d o world told living from tt allowed
+          notes,
+      subst (λ (l : List ℕ). AppendsPrefix (g.K.Sink.held c.args.sink.now) (g.K.Sink.held c.tell_close.new.sink) l)
+          (line_closed p d o from.between.stands.device_is)
           (c.in-Err-tell_close.ensures.line d.closed (id_of d) o (ap (λ (x : Device). x.closed) c.device.ensures ∙ last_closed d e o pending taken)),
-      (from.between.boot_end, λ i left. subst (λ (y : Device). StandsFor g.J.Journal.entries i y) back (in_hand_stands g.met.D.Disk.laws g.met.J.Journal.laws _ c.close.new.disk e c.in-Ok.ensures.held.0 i left)),
+      (
+        from.between.boot_end,
+        λ i left. subst (λ (y : Device). StandsFor g.J.Journal.entries i y) back
+            (in_hand_stands g.met.D.Disk.laws g.met.J.Journal.laws _ c.close.new.disk e c.in-Ok.ensures.held.0 i left),
+      ),
       boot_bare p d o world told living from,
     )
 
@@ -73,16 +83,20 @@ returns-in-Err-clause-trace g c = λ p told living from orderly.
     let world = g.S.Supervise.world c.args.supervisor.now in
     let same = outcome_of d true c.requires.held.1 c.requires.failed in
     let allowed = roll_allowed d true c.requires.held.1 same in
-    let notes = subst (λ (x : Outcome). Notes g.J.Journal.entries g.J.Journal.files g.met.D.Disk.laws c.args.disk.now c.close.new.disk d x) same c.close.ensures.moments in (
+    let notes = subst (λ (x : Outcome). Notes g.J.Journal.entries g.J.Journal.files g.met.D.Disk.laws c.args.disk.now c.close.new.disk d x) same
+    c.close.ensures.moments in (
       Recorded (stored.Closed o) ∷ [],
-      boot_went g.J.Journal.entries g.J.Journal.files g.met.D.Disk.laws c.args.disk.now c.close.new.disk told.list p d o world told living from tt allowed notes,
+      boot_went g.J.Journal.entries g.J.Journal.files g.met.D.Disk.laws c.args.disk.now c.close.new.disk told.list p d o world told living from tt allowed
+          notes,
       last_untold (g.K.Sink.held c.args.sink.now) p.device (stored.Closed o),
       close_doubt g.J.Journal.entries g.J.Journal.files g.met.D.Disk.laws c.args.disk.now c.close.new.disk p d o from.between.stands.device_is allowed notes,
       boot_bare p d o world told living from,
     )
 
 pub returns-in-Ok-tell_close-clause-drives : goal.returns-in-Ok-tell_close-clause-drives
-returns-in-Ok-tell_close-clause-drives g c = subst (λ (w : Components). Drives w) (sym c.steady.ensures) (steady_on (g.S.Supervise.world c.args.supervisor.now) c.requires.drives).drives
+returns-in-Ok-tell_close-clause-drives g c = subst (λ (w : Components). Drives w) (sym c.steady.ensures)
+    (steady_on (g.S.Supervise.world c.args.supervisor.now) c.requires.drives).drives
 
 pub returns-in-Err-tell_close-clause-drives : goal.returns-in-Err-tell_close-clause-drives
-returns-in-Err-tell_close-clause-drives g c = subst (λ (w : Components). Drives w) (sym c.steady.ensures) (steady_on (g.S.Supervise.world c.args.supervisor.now) c.requires.drives).drives
+returns-in-Err-tell_close-clause-drives g c = subst (λ (w : Components). Drives w) (sym c.steady.ensures)
+    (steady_on (g.S.Supervise.world c.args.supervisor.now) c.requires.drives).drives

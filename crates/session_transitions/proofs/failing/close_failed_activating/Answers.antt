@@ -35,10 +35,12 @@ returns-in-Ok-tell_close-clause-trace g c = λ p told living from.
     let allowed = keeps_activating d c.requires.held.1 c.requires.failed c.requires.policy in
     let taken = c.in-Ok.ensures.taken in (
       Recorded (stored.Closed o) ∷ [],
-      items_went g.J.Journal.entries g.J.Journal.files g.met.D.Disk.laws c.args.disk.now c.keep.new.disk told.list p d world told living from allowed c.keep.ensures.moments,
+      items_went g.J.Journal.entries g.J.Journal.files g.met.D.Disk.laws c.args.disk.now c.keep.new.disk told.list p d world told living from allowed
+          c.keep.ensures.moments,
       subst (λ (l : List ℕ). Appends (g.K.Sink.held c.args.sink.now) (g.K.Sink.held c.tell_close.new.sink) l) (line_closed p d o from.comes.stands.device_is)
           (c.in-Ok-tell_close.ensures.line d.closed (id_of d) o (ap (λ (x : Device). x.closed) c.device.ensures ∙ last_closed d e o pending taken)),
-      subst (λ (w : Components). HasClosed o (records_of (Recorded (stored.Closed o) ∷ [])) (leaves p (Recorded (stored.Closed o))) e w told living) (sym c.steady.ensures) (items_closed p d world told living from e pending taken),
+      subst (λ (w : Components). HasClosed o (records_of (Recorded (stored.Closed o) ∷ [])) (leaves p (Recorded (stored.Closed o))) e w told living)
+          (sym c.steady.ensures) (items_closed p d world told living from e pending taken),
       tt,
     )
 
@@ -53,11 +55,18 @@ returns-in-Err-tell_close-clause-trace g c = λ p told living from.
     let taken = c.in-Ok.ensures.taken in
     let back : e ≡ applied p.device (stored.Closed o) = taken ∙ ap (λ (y : Device). applied y (stored.Closed o)) (sym from.comes.stands.device_is) in (
       Recorded (stored.Closed o) ∷ [],
-      items_went g.J.Journal.entries g.J.Journal.files g.met.D.Disk.laws c.args.disk.now c.keep.new.disk told.list p d world told living from allowed c.keep.ensures.moments,
-      subst (λ (l : List ℕ). AppendsPrefix (g.K.Sink.held c.args.sink.now) (g.K.Sink.held c.tell_close.new.sink) l) (line_closed p d o from.comes.stands.device_is)
+      items_went g.J.Journal.entries g.J.Journal.files g.met.D.Disk.laws c.args.disk.now c.keep.new.disk told.list p d world told living from allowed
+          c.keep.ensures.moments,
+      subst (λ (l : List ℕ). AppendsPrefix (g.K.Sink.held c.args.sink.now) (g.K.Sink.held c.tell_close.new.sink) l)
+          (line_closed p d o from.comes.stands.device_is)
           (c.in-Err-tell_close.ensures.line d.closed (id_of d) o (ap (λ (x : Device). x.closed) c.device.ensures ∙ last_closed d e o pending taken)),
-      (from.comes.on.boot_end, λ i left. subst (λ (y : Device). StandsFor g.J.Journal.entries i y) back (in_hand_stands g.met.D.Disk.laws g.met.J.Journal.laws _ c.keep.new.disk e c.in-Ok.ensures.held.0 i left)),
-      items_given_up p d world told living from (g.S.Supervise.world c.steady.new.self) (owners_steadied world (g.S.Supervise.world c.steady.new.self) c.steady.ensures),
+      (
+        from.comes.on.boot_end,
+        λ i left. subst (λ (y : Device). StandsFor g.J.Journal.entries i y) back
+            (in_hand_stands g.met.D.Disk.laws g.met.J.Journal.laws _ c.keep.new.disk e c.in-Ok.ensures.held.0 i left),
+      ),
+      items_given_up p d world told living from (g.S.Supervise.world c.steady.new.self)
+          (owners_steadied world (g.S.Supervise.world c.steady.new.self) c.steady.ensures),
     )
 
 pub returns-in-Err-clause-trace : goal.returns-in-Err-clause-trace
@@ -67,14 +76,18 @@ returns-in-Err-clause-trace g c = λ p told living from.
     let world = g.S.Supervise.world c.args.supervisor.now in
     let allowed = keeps_activating d c.requires.held.1 c.requires.failed c.requires.policy in (
       Recorded (stored.Closed o) ∷ [],
-      items_went g.J.Journal.entries g.J.Journal.files g.met.D.Disk.laws c.args.disk.now c.keep.new.disk told.list p d world told living from allowed c.keep.ensures.moments,
+      items_went g.J.Journal.entries g.J.Journal.files g.met.D.Disk.laws c.args.disk.now c.keep.new.disk told.list p d world told living from allowed
+          c.keep.ensures.moments,
       last_untold (g.K.Sink.held c.args.sink.now) p.device (stored.Closed o),
-      close_doubt g.J.Journal.entries g.J.Journal.files g.met.D.Disk.laws c.args.disk.now c.keep.new.disk p d o from.comes.stands.device_is allowed c.keep.ensures.moments,
+      close_doubt g.J.Journal.entries g.J.Journal.files g.met.D.Disk.laws c.args.disk.now c.keep.new.disk p d o from.comes.stands.device_is allowed
+          c.keep.ensures.moments,
       items_given_up p d world told living from world (λ n. refl),
     )
 
 pub returns-in-Ok-tell_close-clause-drives : goal.returns-in-Ok-tell_close-clause-drives
-returns-in-Ok-tell_close-clause-drives g c = subst (λ (w : Components). Drives w) (sym c.steady.ensures) (steady_on (g.S.Supervise.world c.args.supervisor.now) c.requires.drives).drives
+returns-in-Ok-tell_close-clause-drives g c = subst (λ (w : Components). Drives w) (sym c.steady.ensures)
+    (steady_on (g.S.Supervise.world c.args.supervisor.now) c.requires.drives).drives
 
 pub returns-in-Err-tell_close-clause-drives : goal.returns-in-Err-tell_close-clause-drives
-returns-in-Err-tell_close-clause-drives g c = subst (λ (w : Components). Drives w) (sym c.steady.ensures) (steady_on (g.S.Supervise.world c.args.supervisor.now) c.requires.drives).drives
+returns-in-Err-tell_close-clause-drives g c = subst (λ (w : Components). Drives w) (sym c.steady.ensures)
+    (steady_on (g.S.Supervise.world c.args.supervisor.now) c.requires.drives).drives

@@ -15,7 +15,8 @@ pub returns-in-Ok-clause-trace : goal.returns-in-Ok-clause-trace
 returns-in-Ok-clause-trace g c = λ p world told living from.
     let d = booting_device c.args.state in (
       Begin ∷ [],
-      begin_went g.J.Journal.entries g.J.Journal.files g.met.D.Disk.laws c.args.disk.now c.activate.new.disk told.list p d world told living from (can_activate d c.requires.held.1 c.requires.through.0 c.requires.through.1) c.activate.ensures.moments,
+      begin_went g.J.Journal.entries g.J.Journal.files g.met.D.Disk.laws c.args.disk.now c.activate.new.disk told.list p d world told living from
+          (can_activate d c.requires.held.1 c.requires.through.0 c.requires.through.1) c.activate.ensures.moments,
       refl,
       front_turned p d (activating_device c.in-Ok.next) world told living from stored.Activating c.in-Ok.ensures.taken,
       tt,
@@ -28,9 +29,11 @@ returns-in-Err-clause-trace g c = λ p world told living from.
     let e = applied d stored.Activating in
     let allowed = can_activate d c.requires.held.1 c.requires.through.0 c.requires.through.1 in (
       Begin ∷ [],
-      begin_went g.J.Journal.entries g.J.Journal.files g.met.D.Disk.laws c.args.disk.now c.activate.new.disk told.list p d world told living from allowed c.activate.ensures.moments,
+      begin_went g.J.Journal.entries g.J.Journal.files g.met.D.Disk.laws c.args.disk.now c.activate.new.disk told.list p d world told living from allowed
+          c.activate.ensures.moments,
       refl,
-      turn_doubt g.J.Journal.entries g.J.Journal.files g.met.D.Disk.laws c.args.disk.now c.activate.new.disk p d stored.Activating from.between.stands.device_is allowed c.activate.ensures.moments,
+      turn_doubt g.J.Journal.entries g.J.Journal.files g.met.D.Disk.laws c.args.disk.now c.activate.new.disk p d stored.Activating
+          from.between.stands.device_is allowed c.activate.ensures.moments,
       front_bare (leaves p Begin) e world told living (front_turned p d e world told living from stored.Activating refl),
       (stored.Activating, refl),
     )

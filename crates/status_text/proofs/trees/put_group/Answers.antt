@@ -12,6 +12,8 @@ returns-clause-text c =
     let g = c.args.group.now in
     rw (← group_text g.arn (list_tree requirement_tree g.requirements) g.revision, ← c.as_str.ensures.value, ← c.as_slice.ensures)
     (subst (λ (t : List ℕ). OnOk c.push_str-4.result (c.push_str-4.new.self ≡ t))
-    (joined7 c.args.out.now (codes "{\"arn\":") (quoted c.as_str.result.now) (codes ",\"components\":") (compact_text (list_tree requirement_tree c.as_slice.result.now)) (codes ",\"revision\":") (decimal g.revision) (codes "}")
-    _ _ _ _ _ _ c.in_ok-push_str.ensures.ok c.in_ok-put_text.ensures c.in_ok-push_str-2.ensures.ok c.in_ok-put_list.ensures c.in_ok-push_str-3.ensures.ok c.in_ok-put_number.ensures)
+    (joined7 c.args.out.now (codes "{\"arn\":") (quoted c.as_str.result.now) (codes ",\"components\":")
+    (compact_text (list_tree requirement_tree c.as_slice.result.now)) (codes ",\"revision\":") (decimal g.revision) (codes "}")
+    _ _ _ _ _ _ c.in_ok-push_str.ensures.ok c.in_ok-put_text.ensures c.in_ok-push_str-2.ensures.ok c.in_ok-put_list.ensures c.in_ok-push_str-3.ensures.ok
+    c.in_ok-put_number.ensures)
     c.push_str-4.ensures.ok)

@@ -17,4 +17,5 @@ returns-clause-text c =
 pub returns-clause-reads_back : goal.returns-clause-reads_back
 returns-clause-reads_back c =
     let d = device_view c.args.device.now in
-    rw (returns-clause-text c) (reads_back (status_tree d) (status_orderly d c.requires.regular c.in_ok-put_lists.ensures.numbers) (status_shallow d c.requires.regular))
+    rw (returns-clause-text c) (reads_back (status_tree d) (status_orderly d c.requires.regular c.in_ok-put_lists.ensures.numbers)
+    (status_shallow d c.requires.regular))

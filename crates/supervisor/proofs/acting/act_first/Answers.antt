@@ -5,7 +5,11 @@ use Rattle.supervisor.proofs.Deeds.{do_below, first_in_any, no_turns, none_in_an
 use Rattle.supervisor.proofs.acting.act_first.Goals as goal
 
 pub turns-init : goal.turns-init
-turns-init c = record { many = c.requires.many; so_far = no_turns (at_moment c.args.slots.now c.args.moment c.args.steady) c.requires.kept c.requires.whole c.requires.told }
+turns-init c = record {
+  many = c.requires.many;
+  so_far = no_turns (at_moment c.args.slots.now c.args.moment c.args.steady) c.requires.kept c.requires.whole
+      c.requires.told;
+}
 
 pub first_deed-requires-clause-few : goal.first_deed-requires-clause-few
 first_deed-requires-clause-few c = c.turns.invariant.so_far.sound.kept.few
@@ -59,7 +63,8 @@ returns-then-is_some-clause-kept c =
     let v : Components = at_moment c.turns.slots m c.args.steady in
     let u : Components = at_moment c.perform-act.new.slots m c.args.steady in
     let f = first_in_any c.turns.slots m c.in-Some.at true c.args.steady c.in-Some.deed c.in-Some.ensures in
-    let s = (turn_last w v u c.in-Some.at c.in-Some.deed c.perform-act.result c.turns.invariant.so_far f c.perform-act.ensures.done (sym c.if-is_some.ensures)).1 in
+    let s = (turn_last w v u c.in-Some.at c.in-Some.deed c.perform-act.result c.turns.invariant.so_far f c.perform-act.ensures.done
+    (sym c.if-is_some.ensures)).1 in
     s.kept
 
 pub returns-then-is_some-clause-whole : goal.returns-then-is_some-clause-whole
@@ -69,7 +74,8 @@ returns-then-is_some-clause-whole c =
     let v : Components = at_moment c.turns.slots m c.args.steady in
     let u : Components = at_moment c.perform-act.new.slots m c.args.steady in
     let f = first_in_any c.turns.slots m c.in-Some.at true c.args.steady c.in-Some.deed c.in-Some.ensures in
-    let s = (turn_last w v u c.in-Some.at c.in-Some.deed c.perform-act.result c.turns.invariant.so_far f c.perform-act.ensures.done (sym c.if-is_some.ensures)).1 in
+    let s = (turn_last w v u c.in-Some.at c.in-Some.deed c.perform-act.result c.turns.invariant.so_far f c.perform-act.ensures.done
+    (sym c.if-is_some.ensures)).1 in
     s.whole
 
 pub turns-preserved : goal.turns-preserved
@@ -81,7 +87,8 @@ turns-preserved c =
     let f = first_in_any c.turns.slots m c.in-Some.at true c.args.steady c.in-Some.deed c.in-Some.ensures in
     record {
       many = c.perform-act.ensures.many;
-      so_far = (turn_more w v u c.in-Some.at c.in-Some.deed c.perform-act.result c.turns.invariant.so_far f c.perform-act.ensures.done (sym c.if-is_some.ensures)).0;
+      so_far = (turn_more w v u c.in-Some.at c.in-Some.deed c.perform-act.result c.turns.invariant.so_far f c.perform-act.ensures.done
+          (sym c.if-is_some.ensures)).0;
     }
 
 pub turns-smaller : goal.turns-smaller

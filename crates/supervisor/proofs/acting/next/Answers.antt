@@ -18,20 +18,23 @@ tell_first-requires-clause-names c = c.requires.kept.names
 pub returns-in-Some-clause-next : goal.returns-in-Some-clause-next
 returns-in-Some-clause-next c =
     let m = c.args.moment in
-    next_told (at_moment c.args.slots.now m c.args.steady) (at_moment c.tell_first.new.slots m c.args.steady) c.in-Some.act (c.in-Some.ensures.some m c.args.steady)
+    next_told (at_moment c.args.slots.now m c.args.steady) (at_moment c.tell_first.new.slots m c.args.steady) c.in-Some.act
+    (c.in-Some.ensures.some m c.args.steady)
 
 pub returns-in-Some-clause-kept : goal.returns-in-Some-clause-kept
 returns-in-Some-clause-kept c =
     let m = c.args.moment in
     let t = c.in-Some.ensures.told in
-    let s = told_sound t.0 (at_moment c.args.slots.now m c.args.steady) (at_moment c.tell_first.new.slots m c.args.steady) (ap (λ (ps : List ComponentState). at_moment ps m c.args.steady) t.1) (record { kept = c.requires.kept; whole = c.requires.whole }) in
+    let s = told_sound t.0 (at_moment c.args.slots.now m c.args.steady) (at_moment c.tell_first.new.slots m c.args.steady)
+    (ap (λ (ps : List ComponentState). at_moment ps m c.args.steady) t.1) (record { kept = c.requires.kept; whole = c.requires.whole }) in
     s.kept
 
 pub returns-in-Some-clause-whole : goal.returns-in-Some-clause-whole
 returns-in-Some-clause-whole c =
     let m = c.args.moment in
     let t = c.in-Some.ensures.told in
-    let s = told_sound t.0 (at_moment c.args.slots.now m c.args.steady) (at_moment c.tell_first.new.slots m c.args.steady) (ap (λ (ps : List ComponentState). at_moment ps m c.args.steady) t.1) (record { kept = c.requires.kept; whole = c.requires.whole }) in
+    let s = told_sound t.0 (at_moment c.args.slots.now m c.args.steady) (at_moment c.tell_first.new.slots m c.args.steady)
+    (ap (λ (ps : List ComponentState). at_moment ps m c.args.steady) t.1) (record { kept = c.requires.kept; whole = c.requires.whole }) in
     s.whole
 
 pub returns-in-Some-clause-many : goal.returns-in-Some-clause-many
@@ -41,7 +44,8 @@ pub act_first-requires-clause-many : goal.act_first-requires-clause-many
 act_first-requires-clause-many c = let n = c.in-None.ensures.none refl in c.requires.many ∙ sym (ap length n.1)
 
 pub act_first-requires-clause-kept : goal.act_first-requires-clause-kept
-act_first-requires-clause-kept c = let n = c.in-None.ensures.none refl in subst (λ (ps : List ComponentState). IsKept (at_moment ps c.args.moment c.args.steady)) (sym n.1) c.requires.kept
+act_first-requires-clause-kept c = let n = c.in-None.ensures.none refl in
+    subst (λ (ps : List ComponentState). IsKept (at_moment ps c.args.moment c.args.steady)) (sym n.1) c.requires.kept
 
 pub act_first-requires-clause-whole : goal.act_first-requires-clause-whole
 act_first-requires-clause-whole c = let n = c.in-None.ensures.none refl in subst AreWhole (sym n.1) c.requires.whole
@@ -53,4 +57,5 @@ pub returns-in-None-clause-next : goal.returns-in-None-clause-next
 returns-in-None-clause-next c =
     let n = c.in-None.ensures.none refl in
     let m = c.args.moment in
-    subst (λ (ps : List ComponentState). NextAct (at_moment ps m c.args.steady) c.act_first.result (at_moment c.act_first.new.slots m c.args.steady)) n.1 c.act_first.ensures.next
+    subst (λ (ps : List ComponentState). NextAct (at_moment ps m c.args.steady) c.act_first.result (at_moment c.act_first.new.slots m c.args.steady)) n.1
+    c.act_first.ensures.next

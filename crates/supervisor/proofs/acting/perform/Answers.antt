@@ -17,10 +17,12 @@ pub returns-in-Starts-clause-done : goal.returns-in-Starts-clause-done
 returns-in-Starts-clause-done c =
     let w : Components = at_moment c.args.slots.now c.args.moment c.args.steady in
     let v : Components = at_moment c.hand_at.new.slots c.args.moment c.args.steady in
-    subst (λ (d : Deed). IsDone w c.args.at d (Some (acts.Start c.args.at c.in-Starts.step)) v) (sym c.in-Starts.is) (refl, ap (λ (ps : List ComponentState). at_moment ps c.args.moment c.args.steady) c.hand_at.ensures)
+    subst (λ (d : Deed). IsDone w c.args.at d (Some (acts.Start c.args.at c.in-Starts.step)) v) (sym c.in-Starts.is)
+    (refl, ap (λ (ps : List ComponentState). at_moment ps c.args.moment c.args.steady) c.hand_at.ensures)
 
 pub returns-in-Starts-clause-many : goal.returns-in-Starts-clause-many
-returns-in-Starts-clause-many c = c.requires.many ∙ sym (ap length c.hand_at.ensures ∙ length_changed c.args.at (λ p. record p { handed = true }) c.args.slots.now)
+returns-in-Starts-clause-many c = c.requires.many ∙ sym (ap length c.hand_at.ensures ∙ length_changed c.args.at (λ p. record p { handed = true })
+    c.args.slots.now)
 
 pub returns-in-Kills-clause-done : goal.returns-in-Kills-clause-done
 returns-in-Kills-clause-done c =

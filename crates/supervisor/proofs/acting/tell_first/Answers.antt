@@ -12,7 +12,8 @@ returns-in-None-clause-none c = λ e. (c.in-None.ensures, refl)
 
 pub returns-in-Some-clause-some : goal.returns-in-Some-clause-some
 returns-in-Some-clause-some c = λ m s.
-    is_modelled (at_moment c.args.slots.now m s) (at_moment c.tell_at.new.slots m s) c.in-Some.at c.in-Some.act c.requires.names c.in-Some.ensures (ap (λ (ps : List ComponentState). at_moment ps m s) c.tell_at.ensures)
+    is_modelled (at_moment c.args.slots.now m s) (at_moment c.tell_at.new.slots m s) c.in-Some.at c.in-Some.act c.requires.names c.in-Some.ensures
+    (ap (λ (ps : List ComponentState). at_moment ps m s) c.tell_at.ensures)
 
 pub returns-in-Some-clause-told : goal.returns-in-Some-clause-told
 returns-in-Some-clause-told c = (c.in-Some.at, c.tell_at.ensures)

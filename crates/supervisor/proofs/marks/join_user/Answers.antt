@@ -10,7 +10,8 @@ returns-then-not-joins_as c = grows_none c.args.slots.now c.args.flags.now
 
 pub bounds-flags-at : goal.bounds-flags-at
 bounds-flags-at c =
-    let l = at_below (λ p. needs_flagged p.fitted.hard (with_flags c.args.slots.now c.args.flags.now) ≡ true) c.args.slots.now c.args.user.component (c.if-not-joins_as.ensures refl) in
+    let l = at_below (λ p. needs_flagged p.fitted.hard (with_flags c.args.slots.now c.args.flags.now) ≡ true) c.args.slots.now c.args.user.component
+    (c.if-not-joins_as.ensures refl) in
     omega (arith, l, c.requires.many)
 
 pub returns : goal.returns

@@ -9,4 +9,5 @@ pub join_users-first-requires-clause-many : goal.join_users-first-requires-claus
 join_users-first-requires-clause-many c = c.loop-turn.invariant.many ∙ c.requires.many
 
 pub loop-turn-preserved : goal.loop-turn-preserved
-loop-turn-preserved c = grows_more c.args.slots.now c.args.flags.now c.loop-turn.flags c.join_users-first.new.flags c.loop-turn.invariant c.join_users-first.ensures
+loop-turn-preserved c = grows_more c.args.slots.now c.args.flags.now c.loop-turn.flags c.join_users-first.new.flags c.loop-turn.invariant
+    c.join_users-first.ensures

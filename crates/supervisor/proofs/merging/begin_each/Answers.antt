@@ -14,15 +14,18 @@ begin_with-requires-clause-fresh c =
     let l : c.loop-at.at < length c.args.coming.now = omega (arith, c.loop-at.auto.coming, c.loop-at-test.true) in
     let x : ComponentState = c.index-coming-at.result in
     let e = got_same c.args.coming.now c.loop-at.coming c.loop-at.at x l (omega (arith, c.loop-at-test.true)) c.loop-at.invariant.rest in
-    subst IsFresh (sym e) (all_in IsFresh c.args.coming.now (get_or c.args.coming.now c.loop-at.at x) c.requires.fresh (in_got c.args.coming.now c.loop-at.at x l))
+    subst IsFresh (sym e) (all_in IsFresh c.args.coming.now (get_or c.args.coming.now c.loop-at.at x) c.requires.fresh
+    (in_got c.args.coming.now c.loop-at.at x l))
 
 pub loop-at-preserved : goal.loop-at-preserved
 loop-at-preserved c =
     let l : c.loop-at.at < length c.args.coming.now = omega (arith, c.loop-at.auto.coming, c.loop-at-test.true) in
     let x : ComponentState = c.index-coming-at.result in
     let e = got_same c.args.coming.now c.loop-at.coming c.loop-at.at x l (omega (arith, c.loop-at-test.true)) c.loop-at.invariant.rest in
-    let t = c.begin_with.ensures ∙ ap (λ (p : ComponentState). fresh_part (p.fitted, get_or c.args.failures.now c.loop-at.at 0)) e ∙ sym (began_got c.args.failures.now c.args.coming.now c.loop-at.at x l) in
-    let a = set_more (began 0 c.args.failures.now (fits c.args.coming.now)) c.args.coming.now c.loop-at.coming c.loop-at.at x c.begin_with.new.self (began_length 0 c.args.failures.now c.args.coming.now) l c.loop-at.auto.coming t c.loop-at.invariant.done c.loop-at.invariant.rest in
+    let t = c.begin_with.ensures ∙ ap (λ (p : ComponentState). fresh_part (p.fitted, get_or c.args.failures.now c.loop-at.at 0)) e ∙ sym
+    (began_got c.args.failures.now c.args.coming.now c.loop-at.at x l) in
+    let a = set_more (began 0 c.args.failures.now (fits c.args.coming.now)) c.args.coming.now c.loop-at.coming c.loop-at.at x c.begin_with.new.self
+    (began_length 0 c.args.failures.now c.args.coming.now) l c.loop-at.auto.coming t c.loop-at.invariant.done c.loop-at.invariant.rest in
     record { done = a.0; rest = a.1 }
 
 pub returns : goal.returns

@@ -16,7 +16,8 @@ pub begin_all-requires-clause-fresh : goal.begin_all-requires-clause-fresh
 begin_all-requires-clause-fresh c = c.ready.invariant.6
 
 pub meet_all-requires-clause-fresh : goal.meet_all-requires-clause-fresh
-meet_all-requires-clause-fresh c = subst AreFresh (sym c.begin_all.ensures) (began_fresh 0 c.args.failures.now (fits c.ready.inside.coming.items) c.requires.few)
+meet_all-requires-clause-fresh c = subst AreFresh (sym c.begin_all.ensures)
+    (began_fresh 0 c.args.failures.now (fits c.ready.inside.coming.items) c.requires.few)
 
 pub meet_all-requires-clause-coming_apart : goal.meet_all-requires-clause-coming_apart
 meet_all-requires-clause-coming_apart c =
@@ -27,7 +28,8 @@ meet_all-requires-clause-coming_apart c =
 pub meet_all-requires-clause-same : goal.meet_all-requires-clause-same
 meet_all-requires-clause-same c =
     let cs : List ComponentState = c.ready.inside.coming.items in
-    let e = ap (λ (ps : List ComponentState). fits ps) c.begin_all.ensures ∙ began_fits 0 c.args.failures.now (fits cs) ∙ ap (λ (r : Readied). r.coming) c.ready.view_is in
+    let e = ap (λ (ps : List ComponentState). fits ps) c.begin_all.ensures ∙ began_fits 0 c.args.failures.now (fits cs) ∙ ap (λ (r : Readied). r.coming)
+    c.ready.view_is in
     subst (λ (fs : List Fitted). KeepSteps fs (standing c.args.slots.now.items)) (sym e) c.requires.same
 
 pub meet_all-requires-clause-empty : goal.meet_all-requires-clause-empty
@@ -83,7 +85,8 @@ pub returns-clause-changed : goal.returns-clause-changed
 returns-clause-changed c =
     let fs : List Fitted = fits c.ready.inside.coming.items in
     let ps : List ComponentState = standing c.args.slots.now.items in
-    rw c.swap.ensures.x_after (all_changed (counted 0 c.args.failures.now fs) ps c.begin_all.new.coming.items c.meet_all.new.coming.items c.meet_all.new.slots.items c.place_all.new.room.items c.begin_all.ensures c.meet_all.ensures.rest c.meet_all.ensures.met
+    rw c.swap.ensures.x_after (all_changed (counted 0 c.args.failures.now fs) ps c.begin_all.new.coming.items c.meet_all.new.coming.items
+    c.meet_all.new.slots.items c.place_all.new.room.items c.begin_all.ensures c.meet_all.ensures.rest c.meet_all.ensures.met
     (c.place_all.ensures.placed ∙ ap (λ (xs : List ComponentState). with_newcomers c.meet_all.new.coming.items xs) c.move_all.ensures.moved)
     ∙ ap (λ (r : Readied). with_items (counted 0 c.args.failures.now r.coming) ps) c.ready.view_is)
 

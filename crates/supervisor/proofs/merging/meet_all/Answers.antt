@@ -10,7 +10,8 @@ use Rattle.components.proofs.Names.{names}
 use Rattle.supervisor.proofs.merging.meet_all.Goals as goal
 
 pub meet_in-requires-clause-apart : goal.meet_in-requires-clause-apart
-meet_in-requires-clause-apart c = subst (λ (ps : List ComponentState). AreNamesApart (names ps)) (sym c.drop_over.ensures) (apart_filter (λ (p : ComponentState). not (is_over p)) c.args.slots.now.items c.requires.names.apart)
+meet_in-requires-clause-apart c = subst (λ (ps : List ComponentState). AreNamesApart (names ps)) (sym c.drop_over.ensures)
+    (apart_filter (λ (p : ComponentState). not (is_over p)) c.args.slots.now.items c.requires.names.apart)
 
 pub meet_in-requires-clause-same : goal.meet_in-requires-clause-same
 meet_in-requires-clause-same c =
@@ -26,7 +27,9 @@ restart_all-requires-clause-room c =
 pub restart_all-requires-clause-names : goal.restart_all-requires-clause-names
 restart_all-requires-clause-names c =
     let f = fate (map coming_of c.args.coming.now.items) in
-    subst (λ (ps : List ComponentState). AreNamesApart (names ps)) (sym (c.meet_in.ensures.met ∙ ap (λ (ps : List ComponentState). map f ps) c.drop_over.ensures)) (fated_names (map coming_of c.args.coming.now.items) c.args.slots.now.items c.requires.names)
+    subst (λ (ps : List ComponentState). AreNamesApart (names ps))
+    (sym (c.meet_in.ensures.met ∙ ap (λ (ps : List ComponentState). map f ps) c.drop_over.ensures))
+    (fated_names (map coming_of c.args.coming.now.items) c.args.slots.now.items c.requires.names)
 
 pub returns-clause-met : goal.returns-clause-met
 returns-clause-met c =
@@ -39,7 +42,8 @@ returns-clause-rest c = c.meet_in.ensures.rest ∙ ap (λ (ps : List ComponentSt
 pub returns-clause-parts : goal.returns-clause-parts
 returns-clause-parts c =
     let f = fate (map coming_of c.args.coming.now.items) in
-    ap length c.restart_all.ensures.replanned ∙ replanned_length c.meet_in.new.slots.items ∙ ap length c.meet_in.ensures.met ∙ length-map c.drop_over.new.slots.items f ∙ ap length c.drop_over.ensures
+    ap length c.restart_all.ensures.replanned ∙ replanned_length c.meet_in.new.slots.items ∙ ap length c.meet_in.ensures.met ∙ length-map
+    c.drop_over.new.slots.items f ∙ ap length c.drop_over.ensures
 
 pub returns-clause-many : goal.returns-clause-many
 returns-clause-many c =

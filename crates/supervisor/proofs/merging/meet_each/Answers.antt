@@ -14,7 +14,8 @@ loop-slot-init c = record { done = refl; rest = refl; left = unmet_none c.args.c
 
 pub meet_one-requires-clause-fresh : goal.meet_one-requires-clause-fresh
 meet_one-requires-clause-fresh c =
-    subst AreFresh (sym c.loop-slot.invariant.left) (all_filter IsFresh (λ (q : ComponentState). not (is_among (take c.loop-slot.slot-index c.args.slots.now) q)) c.args.coming.now.items c.requires.fresh)
+    subst AreFresh (sym c.loop-slot.invariant.left) (all_filter IsFresh
+    (λ (q : ComponentState). not (is_among (take c.loop-slot.slot-index c.args.slots.now) q)) c.args.coming.now.items c.requires.fresh)
 
 pub meet_one-requires-clause-same : goal.meet_one-requires-clause-same
 meet_one-requires-clause-same c =
@@ -39,9 +40,11 @@ loop-slot-preserved c =
     let e : x ≡ get_or ps k d = got_same ps c.loop-slot.slots k d l (omega (arith, c.loop-slot-test.true)) c.loop-slot.invariant.rest in
     let n = subst (λ (p : ComponentState). is_among (take k ps) p ≡ false) (sym e) (among_before ps k d l c.requires.apart) in
     let f = c.meet_one.ensures.met ∙ ap (λ (rs : List ComponentState). fate (map coming_of rs) x) c.loop-slot.invariant.left ∙ fate_unmet (take k ps) x qs n in
-    let a = more_done (fate (map coming_of qs)) c.loop-slot.slots ps k d c.meet_one.new.slot (omega (arith, c.loop-slot-test.true)) f c.loop-slot.invariant.done c.loop-slot.invariant.rest in
+    let a = more_done (fate (map coming_of qs)) c.loop-slot.slots ps k d c.meet_one.new.slot (omega (arith, c.loop-slot-test.true)) f
+    c.loop-slot.invariant.done c.loop-slot.invariant.rest in
     let r = c.meet_one.ensures.rest ∙ ap (without (component_name x)) c.loop-slot.invariant.left in
     record { done = a.0; rest = a.1; left = unmet_more ps k d x qs c.meet_one.new.coming.items l e c.requires.coming_apart r }
 
 pub returns-clause-rest : goal.returns-clause-rest
-returns-clause-rest c = c.loop-slot.invariant.left ∙ ap (λ (ps : List ComponentState). unmet ps c.args.coming.now.items) (take_all c.loop-slot.slot-index c.args.slots.now (omega (arith, c.loop-slot.auto.slots, c.loop-slot-test.false)))
+returns-clause-rest c = c.loop-slot.invariant.left ∙ ap (λ (ps : List ComponentState). unmet ps c.args.coming.now.items)
+    (take_all c.loop-slot.slot-index c.args.slots.now (omega (arith, c.loop-slot.auto.slots, c.loop-slot-test.false)))

@@ -10,4 +10,5 @@ insert_at-requires-clause-within c = let w = c.place_among-at.ensures.within in 
 pub returns-clause-placed : goal.returns-clause-placed
 returns-clause-placed c =
     let at = c.place_among-at.result in
-    c.insert_at.ensures.items ∙ ap (λ (ps : List ComponentState). insert ps at c.args.slot) (sym c.as_slice.ensures.value) ∙ c.place_among-at.ensures.placed c.args.slot (sym c.name.ensures) ∙ ap (placed c.args.slot) c.as_slice.ensures.value
+    c.insert_at.ensures.items ∙ ap (λ (ps : List ComponentState). insert ps at c.args.slot) (sym c.as_slice.ensures.value) ∙ c.place_among-at.ensures.placed
+    c.args.slot (sym c.name.ensures) ∙ ap (placed c.args.slot) c.as_slice.ensures.value

@@ -52,5 +52,6 @@ rest-preserved c =
 
 pub returns-clause-placed : goal.returns-clause-placed
 returns-clause-placed c =
-    let empty = c.in_default.ensures.items ∙ ap (λ (xs : List ComponentState). xs ++ []) (c.in_default.ensures.rest ∙ ap (λ (n : ℕ). take (n - 1) c.rest.coming.items) c.in_default.ensures.cases.0) in
+    let empty = c.in_default.ensures.items ∙ ap (λ (xs : List ComponentState). xs ++ [])
+    (c.in_default.ensures.rest ∙ ap (λ (n : ℕ). take (n - 1) c.rest.coming.items) c.in_default.ensures.cases.0) in
     ap (λ (ns : List ComponentState). with_newcomers ns c.rest.room.items) (sym empty) ∙ c.rest.invariant.placed

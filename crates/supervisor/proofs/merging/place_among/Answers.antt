@@ -9,12 +9,14 @@ loop-at-init c = λ p e. refl
 
 pub loop-at-preserved : goal.loop-at-preserved
 loop-at-preserved c = λ p e.
-    let h = subst (λ (n : List ℕ). At c.loop-at.at (λ (q : ComponentState). false ≡ is_before n (component_name q)) c.args.slots.now) (sym e) c.if-is_before_at.ensures in
+    let h = subst (λ (n : List ℕ). At c.loop-at.at (λ (q : ComponentState). false ≡ is_before n (component_name q)) c.args.slots.now)
+    (sym e) c.if-is_before_at.ensures in
     c.loop-at.invariant p e ∙ placed_skip p c.args.slots.now c.loop-at.at h
 
 pub returns-then-is_before_at-clause-placed : goal.returns-then-is_before_at-clause-placed
 returns-then-is_before_at-clause-placed c = λ p e.
-    let h = subst (λ (n : List ℕ). At c.loop-at.at (λ (q : ComponentState). true ≡ is_before n (component_name q)) c.args.slots.now) (sym e) c.if-is_before_at.ensures in
+    let h = subst (λ (n : List ℕ). At c.loop-at.at (λ (q : ComponentState). true ≡ is_before n (component_name q)) c.args.slots.now)
+    (sym e) c.if-is_before_at.ensures in
     placed_here p c.args.slots.now c.loop-at.at h ∙ sym (c.loop-at.invariant p e)
 
 pub returns-clause-placed : goal.returns-clause-placed

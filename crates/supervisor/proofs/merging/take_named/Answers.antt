@@ -20,7 +20,9 @@ returns-clause-rest c =
     c.remove.ensures.items ∙ sym f.rest
 
 pub returns-in_default-clause-found : goal.returns-in_default-clause-found
-returns-in_default-clause-found c = let l = lacks_place c.args.name.now c.args.coming.now.items (c.in_default.ensures ∙ ap (place_of c.args.name.now) c.as_slice.ensures.value) in sym l.found
+returns-in_default-clause-found c = let l = lacks_place c.args.name.now c.args.coming.now.items
+    (c.in_default.ensures ∙ ap (place_of c.args.name.now) c.as_slice.ensures.value) in sym l.found
 
 pub returns-in_default-clause-rest : goal.returns-in_default-clause-rest
-returns-in_default-clause-rest c = let l = lacks_place c.args.name.now c.args.coming.now.items (c.in_default.ensures ∙ ap (place_of c.args.name.now) c.as_slice.ensures.value) in sym l.rest
+returns-in_default-clause-rest c = let l = lacks_place c.args.name.now c.args.coming.now.items
+    (c.in_default.ensures ∙ ap (place_of c.args.name.now) c.as_slice.ensures.value) in sym l.rest

@@ -17,5 +17,6 @@ pub returns-clause-differ : goal.returns-clause-differ
 returns-clause-differ c =
     let a = c.in_ok-artifact.field-0 in
     let b = c.in_ok-artifact-2.field-0 in
-    let both : c.push-2.new.self ≡ a ∷ b ∷ [] = c.in_ok-push-2.ensures.ok ∙ ap (λ (xs : List Artifact). xs ++ b ∷ []) (c.in_ok-push.ensures.ok ∙ ap (λ (xs : List Artifact). xs ++ a ∷ []) c.empty-artifacts.ensures) in
+    let both : c.push-2.new.self ≡ a ∷ b ∷ [] = c.in_ok-push-2.ensures.ok ∙ ap (λ (xs : List Artifact). xs ++ b ∷ [])
+    (c.in_ok-push.ensures.ok ∙ ap (λ (xs : List Artifact). xs ++ a ∷ []) c.empty-artifacts.ensures) in
     subst (λ (xs : List Artifact). IsDistinct bytes_eq (map artifact_file xs)) (sym both) (two_files a b c.in_ok-artifact.ensures c.in_ok-artifact-2.ensures)

@@ -11,8 +11,12 @@ use Rattle.test_devices.proofs.marks.close.Goals as goal
 
 pub write_mark-size-requires : goal.write_mark-size-requires
 write_mark-size-requires c =
-    let d = device_view c.args.device.now in
-    (stored.Closed outcomes.Successful, subst (λ (o : Option Pending). IsSomeAnd o (λ q. IsMarkOf d.set q (marks.Closed outcomes.Successful) (stored.Closed outcomes.Successful))) (sym (ap (option_map pending_view) c.in-Some.is)) refl)
+    let d = device_view c.args.device.now in (
+      stored.Closed outcomes.Successful,
+      subst (λ (o : Option Pending). IsSomeAnd o
+          (λ q. IsMarkOf d.set q (marks.Closed outcomes.Successful) (stored.Closed outcomes.Successful))) (sym (ap (option_map pending_view) c.in-Some.is))
+              refl,
+    )
 
 pub apply_mark-requires-clause-lawful : goal.apply_mark-requires-clause-lawful
 apply_mark-requires-clause-lawful c =

@@ -7,5 +7,8 @@ use Rattle.deploy_state.proofs.state.Activating.failed.Goals as goal
 
 pub returns-in-Ok-clause-held : goal.returns-in-Ok-clause-held
 returns-in-Ok-clause-held g c =
-    let held = c.in-Ok.ensures.held in
-    (held, subst (λ (e : Device). IsIn stages.Activating e) (sym c.in-Ok.ensures.taken) (in_counted (device_of c.args.self.hand) stages.Activating c.args.name.now c.args.step c.args.exit c.requires.held.1))
+    let held = c.in-Ok.ensures.held in (
+      held,
+      subst (λ (e : Device). IsIn stages.Activating e) (sym c.in-Ok.ensures.taken)
+          (in_counted (device_of c.args.self.hand) stages.Activating c.args.name.now c.args.step c.args.exit c.requires.held.1),
+    )

@@ -13,5 +13,6 @@ returns-else-is_rolling-clause-held g c =
       held,
       subst (λ (e : Device). IsIn stages.Backing e) (sym taken)
           (in_back (device_of c.args.self.hand) c.args.exit may.0 c.requires.held.1 may.1
-          (λ rolling. let is = c.if-is_rolling.ensures.1 (subst (λ (e : Device). IsIn stages.Rolling e) (sym taken) rolling) in let none = c.if-is_rolling.false in cc)),
+          (λ rolling. let is = c.if-is_rolling.ensures.1 (subst (λ (e : Device). IsIn stages.Rolling e) (sym taken) rolling) in let none =
+          c.if-is_rolling.false in cc)),
     )

@@ -13,4 +13,5 @@ returns-then-is_begun-clause-moments g c = λ r mark.
     (λ image left. inl (in_hand_stands g.met.D.Disk.laws g.met.J.Journal.laws c.args.self.log c.args.disk.now d c.requires.held.0 image left))
 
 pub step-requires-clause-may : goal.step-requires-clause-may
-step-requires-clause-may g c = may_begin (device_of c.args.self) c.requires.may (λ begun. let yes_begun = c.if-is_begun.ensures.1 begun in let none = c.if-is_begun.false in cc)
+step-requires-clause-may g c = may_begin (device_of c.args.self) c.requires.may (λ begun. let yes_begun = c.if-is_begun.ensures.1 begun in let none =
+    c.if-is_begun.false in cc)

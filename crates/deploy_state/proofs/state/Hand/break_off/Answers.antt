@@ -12,13 +12,16 @@ pub step-requires-else-has_backs-clause-may : goal.step-requires-else-has_backs-
 step-requires-else-has_backs-clause-may g c = may_roll_back (device_of c.args.self) c.requires.may
 
 pub returns-in-Ok-clause-moments : goal.returns-in-Ok-clause-moments
-returns-in-Ok-clause-moments g c = λ r is. c.step.ensures.moments r (back_mark (device_of c.args.self) c.has_backs.result r c.if-has_backs.true c.has_backs.ensures.told is)
+returns-in-Ok-clause-moments g c = λ r is. c.step.ensures.moments r
+    (back_mark (device_of c.args.self) c.has_backs.result r c.if-has_backs.true c.has_backs.ensures.told is)
 
 pub returns-in-Err-clause-moments : goal.returns-in-Err-clause-moments
-returns-in-Err-clause-moments g c = λ r is. c.step.ensures.moments r (back_mark (device_of c.args.self) c.has_backs.result r c.if-has_backs.true c.has_backs.ensures.told is)
+returns-in-Err-clause-moments g c = λ r is. c.step.ensures.moments r
+    (back_mark (device_of c.args.self) c.has_backs.result r c.if-has_backs.true c.has_backs.ensures.told is)
 
 pub returns-in-Ok-clause-taken : goal.returns-in-Ok-clause-taken
-returns-in-Ok-clause-taken g c = λ r is. c.in-Ok.ensures.taken r (back_mark (device_of c.args.self) c.has_backs.result r c.if-has_backs.true c.has_backs.ensures.told is)
+returns-in-Ok-clause-taken g c = λ r is. c.in-Ok.ensures.taken r
+    (back_mark (device_of c.args.self) c.has_backs.result r c.if-has_backs.true c.has_backs.ensures.told is)
 
 pub returns-in-Ok-clause-held : goal.returns-in-Ok-clause-held
 returns-in-Ok-clause-held g c =
@@ -28,13 +31,16 @@ returns-in-Ok-clause-held g c =
     (held, subst (λ (e : Device). IsIn stages.Backing e) (sym (c.in-Ok.ensures.taken may.0 may.1)) (in_turned d may.0 may.1))
 
 pub returns-in-Ok-step-clause-moments : goal.returns-in-Ok-step-clause-moments
-returns-in-Ok-step-clause-moments g c = λ r is. c.step-else-has_backs.ensures.moments r (roll_mark (device_of c.args.self) c.has_backs.result r c.if-has_backs.false c.has_backs.ensures.told is)
+returns-in-Ok-step-clause-moments g c = λ r is. c.step-else-has_backs.ensures.moments r
+    (roll_mark (device_of c.args.self) c.has_backs.result r c.if-has_backs.false c.has_backs.ensures.told is)
 
 pub returns-in-Err-step-clause-moments : goal.returns-in-Err-step-clause-moments
-returns-in-Err-step-clause-moments g c = λ r is. c.step-else-has_backs.ensures.moments r (roll_mark (device_of c.args.self) c.has_backs.result r c.if-has_backs.false c.has_backs.ensures.told is)
+returns-in-Err-step-clause-moments g c = λ r is. c.step-else-has_backs.ensures.moments r
+    (roll_mark (device_of c.args.self) c.has_backs.result r c.if-has_backs.false c.has_backs.ensures.told is)
 
 pub returns-in-Ok-step-clause-taken : goal.returns-in-Ok-step-clause-taken
-returns-in-Ok-step-clause-taken g c = λ r is. c.in-Ok-step.ensures.taken r (roll_mark (device_of c.args.self) c.has_backs.result r c.if-has_backs.false c.has_backs.ensures.told is)
+returns-in-Ok-step-clause-taken g c = λ r is. c.in-Ok-step.ensures.taken r
+    (roll_mark (device_of c.args.self) c.has_backs.result r c.if-has_backs.false c.has_backs.ensures.told is)
 
 pub returns-in-Ok-step-clause-held : goal.returns-in-Ok-step-clause-held
 returns-in-Ok-step-clause-held g c =

@@ -33,7 +33,11 @@ returns-in-Ok-clause-moments g c = λ r mark.
     let spelled = w.ensures.spelled r mark in
     let allowed = may_as d c.args.mark may.0 r may.1 mark may.2 in
     of_entry g.met.D.Disk.laws g.J.Journal.files g.J.Journal.entries c.args.disk.now c.append.new.disk h.payloads p d (applied d r) h.means
-    (λ told. (means_more h.payloads p d (applied d r) (h.means told).0 (takes_of d p r spelled allowed), room_more h.payloads p d c.args.mark r spelled mark (h.means told).1))
+    (λ told. (
+      means_more h.payloads p d (applied d r) (h.means told).0 (takes_of d p r spelled allowed),
+      room_more h.payloads p d c.args.mark r spelled mark
+          (h.means told).1,
+    ))
     (c.append.ensures.any_moment h.payloads h.behind)
 
 pub returns-in-Err-clause-moments : goal.returns-in-Err-clause-moments
@@ -46,7 +50,11 @@ returns-in-Err-clause-moments g c = λ r mark.
     let spelled = w.ensures.spelled r mark in
     let allowed = may_as d c.args.mark may.0 r may.1 mark may.2 in
     of_entry g.met.D.Disk.laws g.J.Journal.files g.J.Journal.entries c.args.disk.now c.append.new.disk h.payloads p d (applied d r) h.means
-    (λ told. (means_more h.payloads p d (applied d r) (h.means told).0 (takes_of d p r spelled allowed), room_more h.payloads p d c.args.mark r spelled mark (h.means told).1))
+    (λ told. (
+      means_more h.payloads p d (applied d r) (h.means told).0 (takes_of d p r spelled allowed),
+      room_more h.payloads p d c.args.mark r spelled mark
+          (h.means told).1,
+    ))
     (c.append.ensures.any_moment h.payloads h.behind)
 
 pub returns-in-Ok-clause-hand : goal.returns-in-Ok-clause-hand
@@ -54,8 +62,10 @@ returns-in-Ok-clause-hand g c =
     let w = c.write_mark-size in
     let h = c.requires.hand in
     let may = c.requires.may in
-    handed (g.D.Disk.is_modelled) (g.D.Disk.may_leave) (g.J.Journal.stands) (g.J.Journal.end) c.args.self.now.log c.append.new.self c.args.disk.now c.append.new.disk
-    (device_of c.args.self.now) _ c.args.mark may.0 (take w.result w.new.into) h may.1 may.2 (w.ensures.spelled may.0 may.1) (c.apply_mark.ensures.applied may.0 may.1)
+    handed (g.D.Disk.is_modelled) (g.D.Disk.may_leave) (g.J.Journal.stands) (g.J.Journal.end) c.args.self.now.log c.append.new.self c.args.disk.now
+    c.append.new.disk
+    (device_of c.args.self.now) _ c.args.mark may.0 (take w.result w.new.into) h may.1 may.2 (w.ensures.spelled may.0 may.1)
+    (c.apply_mark.ensures.applied may.0 may.1)
     (c.in-Ok.ensures.added h.payloads h.behind) c.in-Ok.ensures.place
 
 pub returns-in-Ok-clause-spare : goal.returns-in-Ok-clause-spare
@@ -63,7 +73,8 @@ returns-in-Ok-clause-spare g c = λ kept.
     let d = device_of c.args.self.now in
     let may = c.requires.may in
     subst (λ (s : Spare). IsSpareOf s (device_view c.apply_mark.new.self)) (sym (c.apply_mark.ensures.kept kept))
-    (subst (λ (e : Device). IsSpareOf c.args.self.now.spare e) (sym (c.apply_mark.ensures.applied may.0 may.1)) (spare_stays c.args.self.now.spare d c.args.mark may.0 kept may.1 c.requires.spare))
+    (subst (λ (e : Device). IsSpareOf c.args.self.now.spare e) (sym (c.apply_mark.ensures.applied may.0 may.1))
+    (spare_stays c.args.self.now.spare d c.args.mark may.0 kept may.1 c.requires.spare))
 
 pub returns-in-Err-clause-cause : goal.returns-in-Err-clause-cause
 returns-in-Err-clause-cause g c =

@@ -17,7 +17,8 @@ use Rattle.deploy_state.proofs.state.Idle.accept.Goals as goal
 pub returns-in_default-clause-moments : goal.returns-in_default-clause-moments
 returns-in_default-clause-moments g c =
     let d = idle_device c.args.self in
-    start_within g.met.D.Disk.laws g.J.Journal.files c.args.disk.now (StandsForEither g.J.Journal.entries d (applied d (stored.Accepted (plan_view c.args.plan))))
+    start_within g.met.D.Disk.laws g.J.Journal.files c.args.disk.now
+    (StandsForEither g.J.Journal.entries d (applied d (stored.Accepted (plan_view c.args.plan))))
     (λ image left. inl (in_hand_stands g.met.D.Disk.laws g.met.J.Journal.laws c.args.self.log c.args.disk.now d c.requires.held.0 image left))
 
 pub site_of-requires-clause-small : goal.site_of-requires-clause-small
@@ -29,17 +30,20 @@ site_of-requires-clause-small g c =
 pub returns-in_default-site_of-clause-moments : goal.returns-in_default-site_of-clause-moments
 returns-in_default-site_of-clause-moments g c =
     let d = idle_device c.args.self in
-    start_within g.met.D.Disk.laws g.J.Journal.files c.args.disk.now (StandsForEither g.J.Journal.entries d (applied d (stored.Accepted (plan_view c.args.plan))))
+    start_within g.met.D.Disk.laws g.J.Journal.files c.args.disk.now
+    (StandsForEither g.J.Journal.entries d (applied d (stored.Accepted (plan_view c.args.plan))))
     (λ image left. inl (in_hand_stands g.met.D.Disk.laws g.met.J.Journal.laws c.args.self.log c.args.disk.now d c.requires.held.0 image left))
 
 pub returns-then-saturating_add-gt-MOST_FILE-clause-moments : goal.returns-then-saturating_add-gt-MOST_FILE-clause-moments
 returns-then-saturating_add-gt-MOST_FILE-clause-moments g c =
     let d = idle_device c.args.self in
-    start_within g.met.D.Disk.laws g.J.Journal.files c.args.disk.now (StandsForEither g.J.Journal.entries d (applied d (stored.Accepted (plan_view c.args.plan))))
+    start_within g.met.D.Disk.laws g.J.Journal.files c.args.disk.now
+    (StandsForEither g.J.Journal.entries d (applied d (stored.Accepted (plan_view c.args.plan))))
     (λ image left. inl (in_hand_stands g.met.D.Disk.laws g.met.J.Journal.laws c.args.self.log c.args.disk.now d c.requires.held.0 image left))
 
 pub enter_at-requires-clause-payload : goal.enter_at-requires-clause-payload
-enter_at-requires-clause-payload g c = subst (λ x. Spelled c.in-Ok.kit.payload (stored.Accepted (plan_view x))) (sym c.in-Ok.ensures.plan) c.in-Ok.ensures.payload
+enter_at-requires-clause-payload g c = subst (λ x. Spelled c.in-Ok.kit.payload (stored.Accepted (plan_view x))) (sym c.in-Ok.ensures.plan)
+    c.in-Ok.ensures.payload
 
 pub returns-clause-bound : goal.returns-clause-bound
 returns-clause-bound g c = λ can.
@@ -53,8 +57,10 @@ returns-clause-bound g c = λ can.
     let start : c.in-Ok-site_of.site.start ≡ starts_at turns end front size =
     c.in-Ok-site_of.ensures.start ∙ ap (λ (n : ℕ). starts_at turns end front n) (c.len-size.ensures ∙ same) in
     let most = stays_bounded turns end front size can in
-    let within : c.in-Ok-site_of.site.start + 5 + length c.in-Ok.kit.payload ≤ max (2 * front + 1048576) (front + 6 + size) = omega (arith, start, same, most) in
-    ok_within c.enter_at.result (λ r. g.J.Journal.end (booting_log r.0)) (c.in-Ok-site_of.site.start + 5 + length c.in-Ok.kit.payload) (max (2 * front + 1048576) (front + 6 + size)) c.enter_at.ensures.end within
+    let within : c.in-Ok-site_of.site.start + 5 + length c.in-Ok.kit.payload ≤ max (2 * front + 1048576) (front + 6 + size) =
+    omega (arith, start, same, most) in
+    ok_within c.enter_at.result (λ r. g.J.Journal.end (booting_log r.0)) (c.in-Ok-site_of.site.start + 5 + length c.in-Ok.kit.payload)
+    (max (2 * front + 1048576) (front + 6 + size)) c.enter_at.ensures.end within
 
 pub returns-in_default-clause-unmade : goal.returns-in_default-clause-unmade
 returns-in_default-clause-unmade g c = λ back.

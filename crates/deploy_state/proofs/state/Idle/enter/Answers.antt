@@ -25,7 +25,8 @@ pub append-requires-clause-some : goal.append-requires-clause-some
 append-requires-clause-some g c = rw c.as_slice.ensures (plan_some c.args.kit.payload (plan_view c.args.kit.plan) c.requires.payload)
 
 pub append-requires-clause-fits : goal.append-requires-clause-fits
-append-requires-clause-fits g c = rw c.as_slice.ensures (plan_short (idle_device c.args.self) c.args.kit.payload (plan_view c.args.kit.plan) c.requires.lawful c.requires.payload)
+append-requires-clause-fits g c = rw c.as_slice.ensures (plan_short (idle_device c.args.self) c.args.kit.payload (plan_view c.args.kit.plan) c.requires.lawful
+    c.requires.payload)
 
 pub returns-in-Ok-clause-moments : goal.returns-in-Ok-clause-moments
 returns-in-Ok-clause-moments g c =
@@ -64,16 +65,20 @@ returns-in-Ok-clause-held g c =
     let is = c.take_plan.ensures in
     let place = c.in-Ok.ensures.place in
     let same = ap length c.as_slice.ensures in
-    let behind = subst (λ (b : List ℕ). IsBehind g.D.Disk.may_leave g.J.Journal.stands c.append.new.self c.append.new.disk (h.payloads ++ b ∷ [])) c.as_slice.ensures (c.in-Ok.ensures.added h.payloads h.behind) in
-    let hand = plan_in_hand g.D.Disk.is_modelled g.D.Disk.may_leave g.J.Journal.stands g.J.Journal.end c.args.self.log c.append.new.self c.args.disk.now c.append.new.disk d (device_view c.take_plan.new.self) plan p h
+    let behind = subst (λ (b : List ℕ). IsBehind g.D.Disk.may_leave g.J.Journal.stands c.append.new.self c.append.new.disk (h.payloads ++ b ∷ []))
+    c.as_slice.ensures (c.in-Ok.ensures.added h.payloads h.behind) in
+    let hand = plan_in_hand g.D.Disk.is_modelled g.D.Disk.may_leave g.J.Journal.stands g.J.Journal.end c.args.self.log c.append.new.self c.args.disk.now
+    c.append.new.disk d (device_view c.take_plan.new.self) plan p h
     c.requires.held.1 c.requires.lawful c.requires.regular c.requires.payload is behind
     (λ told.
     let on = reads_behind g.met.D.Disk.laws g.J.Journal.stands c.args.self.log c.args.disk.now h.payloads h.behind told in
     let ends = g.met.J.Journal.laws.ends c.args.self.log (g.D.Disk.seen c.args.disk.now) h.payloads on in
     let more = place_more h.payloads p in
     omega (arith, ends, more, c.requires.room))
-    (omega (arith, place, c.requires.room, same)) in
-    ((hand, subst (λ (e : Device). IsSpareOf c.args.kit.spare e) (sym is) (spare_taken c.args.kit.spare d plan c.requires.spare)), subst (λ (e : Device). IsIn stages.Booting e) (sym is) refl)
+    (omega (arith, place, c.requires.room, same)) in (
+      (hand, subst (λ (e : Device). IsSpareOf c.args.kit.spare e) (sym is) (spare_taken c.args.kit.spare d plan c.requires.spare)),
+      subst (λ (e : Device). IsIn stages.Booting e) (sym is) refl,
+    )
 
 pub returns-in-Err-clause-cause : goal.returns-in-Err-clause-cause
 returns-in-Err-clause-cause g c = record {

@@ -13,7 +13,8 @@ returns-in-Ok-enter-clause-moments g c =
     let d = idle_device c.args.self in
     let e = applied d (stored.Accepted (plan_view c.args.kit.plan)) in
     let entries = g.J.Journal.entries in
-    then_within g.met.D.Disk.laws g.J.Journal.files c.args.disk.now c.turn.new.disk c.enter.new.disk (λ i. StandsFor entries i d) (StandsForEither entries d e) (StandsForEither entries d e)
+    then_within g.met.D.Disk.laws g.J.Journal.files c.args.disk.now c.turn.new.disk c.enter.new.disk (λ i. StandsFor entries i d)
+    (StandsForEither entries d e) (StandsForEither entries d e)
     c.turn.ensures.moments c.enter.ensures.moments (λ i h. inl h) (λ i h. h)
 
 pub returns-in-Ok-clause-moments : goal.returns-in-Ok-clause-moments
@@ -21,5 +22,6 @@ returns-in-Ok-clause-moments g c =
     let d = idle_device c.args.self in
     let e = applied d (stored.Accepted (plan_view c.args.kit.plan)) in
     let entries = g.J.Journal.entries in
-    then_within g.met.D.Disk.laws g.J.Journal.files c.args.disk.now c.turn.new.disk c.enter.new.disk (λ i. StandsFor entries i d) (StandsForEither entries d e) (StandsForEither entries d e)
+    then_within g.met.D.Disk.laws g.J.Journal.files c.args.disk.now c.turn.new.disk c.enter.new.disk (λ i. StandsFor entries i d)
+    (StandsForEither entries d e) (StandsForEither entries d e)
     c.turn.ensures.moments c.enter.ensures.moments (λ i h. inl h) (λ i h. h)

@@ -14,7 +14,8 @@ close-requires-clause-may g c = rw c.outcome_in-outcome.ensures (may_roll (devic
 pub returns-clause-moments : goal.returns-clause-moments
 returns-clause-moments g c =
     let d = device_of c.args.self.hand in
-    subst (λ (o : Outcome). Leaves g.D.Disk.moment g.D.Disk.left_since c.args.disk.now c.close.new.disk (LeavesEither g.D.Disk.may_leave g.J.Journal.files g.J.Journal.entries c.args.disk.now d (applied d (stored.Closed o))))
+    subst (λ (o : Outcome). Leaves g.D.Disk.moment g.D.Disk.left_since c.args.disk.now c.close.new.disk
+    (LeavesEither g.D.Disk.may_leave g.J.Journal.files g.J.Journal.entries c.args.disk.now d (applied d (stored.Closed o))))
     c.outcome_in-outcome.ensures c.close.ensures.moments
 
 pub returns-clause-taken : goal.returns-clause-taken

@@ -11,11 +11,14 @@ invariant_of-self c =
     let id = c.requires.1 in
     let e = c.requires.2 in
     let is : items ≡ closed ++ (id, e.outcome) ∷ [] = c.self.view_is ∙ e.is in
-    let anew = ends_anew items closed id e.outcome c.args.outcome c.index_mut.result.now c.len-last.result is (c.len-last.ensures ∙ c.self.inside.list.ok.0) c.index_mut.ensures.value in
+    let anew = ends_anew items closed id e.outcome c.args.outcome c.index_mut.result.now c.len-last.result is (c.len-last.ensures ∙ c.self.inside.list.ok.0)
+    c.index_mut.ensures.value in
     subst (λ (l : List Entry). IsIndexed l c.self.inside.places) (sym anew)
-    (indexed_so id c.args.outcome closed e.outcome c.self.inside.places e.fresh (subst (λ (l : List Entry). IsIndexed l c.self.inside.places) is c.self.invariant))
+    (indexed_so id c.args.outcome closed e.outcome c.self.inside.places e.fresh
+    (subst (λ (l : List Entry). IsIndexed l c.self.inside.places) is c.self.invariant))
 
 pub returns : goal.returns
 returns c closed id e =
     let items = c.self.inside.list.items in
-    ends_anew items closed id e.outcome c.args.outcome c.index_mut.result.now c.len-last.result (c.self.view_is ∙ e.is) (c.len-last.ensures ∙ c.self.inside.list.ok.0) c.index_mut.ensures.value
+    ends_anew items closed id e.outcome c.args.outcome c.index_mut.result.now c.len-last.result (c.self.view_is ∙ e.is)
+    (c.len-last.ensures ∙ c.self.inside.list.ok.0) c.index_mut.ensures.value

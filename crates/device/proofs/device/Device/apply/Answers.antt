@@ -6,7 +6,8 @@ use Rattle.device.proofs.device.Device.apply.Goals as goal
 
 pub returns-clause-regular : goal.returns-clause-regular
 returns-clause-regular c =
-    after (device_view c.args.self.now) (device_view c.take_record.new.self) (record_view c.args.entry) c.take_record.result c.requires.regular c.take_record.ensures
+    after (device_view c.args.self.now) (device_view c.take_record.new.self) (record_view c.args.entry) c.take_record.result c.requires.regular
+    c.take_record.ensures
 
 pub returns-clause-sound : goal.returns-clause-sound
 returns-clause-sound c =

@@ -13,6 +13,7 @@ returns-in-Some c =
     let is : d.pending ≡ Some q = ap (option_map pending_view) c.in-Some.is in
     let spare = subst (λ (o : Option Pending). IfSome o (λ q. IsSpareFor c.args.spare.now d q.plan)) is c.requires.spare in
     record {
-      applied = λ r mark. mark_step d q (pending_view c.mark_pending.new.pending) c.args.mark r c.args.spare.now.back_flags is (closes_not c.args.mark c.in_default.not-Closed) c.requires.lawful spare.backs c.mark_pending.ensures mark;
+      applied = λ r mark. mark_step d q (pending_view c.mark_pending.new.pending) c.args.mark r c.args.spare.now.back_flags is
+          (closes_not c.args.mark c.in_default.not-Closed) c.requires.lawful spare.backs c.mark_pending.ensures mark;
       kept = λ _. refl;
     }

@@ -29,6 +29,7 @@ returns-in-None c =
     let past = ltb-false _ _ (sym c.in-None.ensures.lookup.0) in
     let le : length records ≤ c.args.at = omega (arith, long, slice, past) in
     let place : c.args.at - length records ≡ c.args.at - c.len.result = let count = c.len.ensures in omega (arith, long, count) in
-    moved_to c.ended_at.result (map Kept (map item_view set) ++ map ended c.args.self.now.closed) (map ended c.args.self.now.closed) c.args.at (c.args.at - c.len.result)
+    moved_to c.ended_at.result (map Kept (map item_view set) ++ map ended c.args.self.now.closed) (map ended c.args.self.now.closed) c.args.at
+    (c.args.at - c.len.result)
     (behind_at records (map ended c.args.self.now.closed) c.args.at le ∙ ap (λ (k : ℕ). slice_get (map ended c.args.self.now.closed) k) place)
     c.ended_at.ensures

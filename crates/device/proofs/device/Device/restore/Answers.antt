@@ -22,7 +22,8 @@ loop-entry-init c =
 pub loop-entry-preserved : goal.loop-entry-preserved
 loop-entry-preserved c =
     let rest = into_iter_items c.next-in-loop-entry.new.self in
-    let taken = subst (λ (l : List code.Record). Taken c.args.front l (building_view c.loop-entry.building)) c.in-Some-entry.ensures.steps.0 c.loop-entry.invariant.taken in
+    let taken = subst (λ (l : List code.Record). Taken c.args.front l (building_view c.loop-entry.building)) c.in-Some-entry.ensures.steps.0
+    c.loop-entry.invariant.taken in
     let came = c.in_ok-take.ensures.came in
     record {
       can_next = tt;
@@ -34,10 +35,12 @@ loop-entry-preserved c =
 pub returns-in_err-take-clause-restored : goal.returns-in_err-take-clause-restored
 returns-in_err-take-clause-restored c =
     let rest = into_iter_items c.next-in-loop-entry.new.self in
-    let taken = subst (λ (l : List code.Record). Taken c.args.front l (building_view c.loop-entry.building)) c.in-Some-entry.ensures.steps.0 c.loop-entry.invariant.taken in
+    let taken = subst (λ (l : List code.Record). Taken c.args.front l (building_view c.loop-entry.building)) c.in-Some-entry.ensures.steps.0
+    c.loop-entry.invariant.taken in
     let p = err_from_is_err_and c.from_residual-in_err-take.result c.from_residual-in_err-take.ensures.1 in
     rw (p.1, p.2)
-    (take_fault c.args.front rest c.in-Some-entry.entry (building_view c.loop-entry.building) (building_view c.take.new.self) c.in_err-take.field-0.0 taken c.in_err-take.ensures.came)
+    (take_fault c.args.front rest c.in-Some-entry.entry (building_view c.loop-entry.building) (building_view c.take.new.self) c.in_err-take.field-0.0 taken
+    c.in_err-take.ensures.came)
 
 pub returns-clause-restored : goal.returns-clause-restored
 returns-clause-restored c =

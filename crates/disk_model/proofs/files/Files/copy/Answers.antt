@@ -13,7 +13,8 @@ loop-file-preserved c =
     let named : c.in_ok-copy.field-0 ≡ file.name = c.in_ok-copy.ensures in
     let copied : c.in_ok-to_vec.field-0.items ≡ file.bytes.items = search rules in
     let here : file ≡ get_or items at file = c.file-item.is ∙ ap (λ (l : List File). get_or l at file) c.deref-file-items.ensures.value in
-    let more : take (at + 1) items ≡ take at items ++ file ∷ [] = take_more items at file (omega arith) ∙ ap (λ (f : File). take at items ++ f ∷ []) (sym here) in
+    let more : take (at + 1) items ≡ take at items ++ file ∷ [] = take_more items at file (omega arith) ∙ ap (λ (f : File). take at items ++ f ∷ [])
+    (sym here) in
     subst (λ (l : List File). AreSame l (take (at + 1) items)) (sym c.in_ok-push.ensures.items)
     (subst (λ (l : List File). AreSame (c.loop-file.files.items ++ record { name = c.in_ok-copy.field-0; bytes = c.in_ok-to_vec.field-0 } ∷ []) l) (sym more)
     (same_push c.loop-file.files.items (take at items) _ file c.loop-file.invariant named copied))

@@ -10,6 +10,8 @@ use Rattle.disk_model.proofs.files.Files.listed.Goals as goal
 pub returns : goal.returns
 returns c =
     let ordered = c.sort.new.self.items in
-    let is : c.new.result ≡ dedup (pointwise nat_eq) ordered = c.new.ensures ∙ dedup_is (pointwise nat_eq) ordered c.dedup.new.self.items c.dedup.ensures.filtered in
+    let is : c.new.result ≡ dedup (pointwise nat_eq) ordered = c.new.ensures ∙ dedup_is (pointwise nat_eq) ordered c.dedup.new.self.items
+    c.dedup.ensures.filtered in
     subst (λ (l : List (List ℕ)). IsListing c.args.folder.now (image_of c.args.self.now) l) (sym is)
-    (sorted_listing c.args.folder.now (image_of c.args.self.now) c.in_ok-names.names.items ordered c.in_ok-names.ensures c.in_ok-sort.ensures.permutation c.in_ok-sort.ensures.sorted)
+    (sorted_listing c.args.folder.now (image_of c.args.self.now) c.in_ok-names.names.items ordered c.in_ok-names.ensures c.in_ok-sort.ensures.permutation
+    c.in_ok-sort.ensures.sorted)

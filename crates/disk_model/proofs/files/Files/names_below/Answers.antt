@@ -17,8 +17,10 @@ loop-file-preserved c =
     let at = c.loop-file.file-index in
     let file : File = c.file-item.result in
     let here : file ≡ get_or items at file = c.file-item.is ∙ ap (λ (l : List File). get_or l at file) c.deref-file-items.ensures.value in
-    let more : take (at + 1) items ≡ take at items ++ file ∷ [] = take_more items at file (omega arith) ∙ ap (λ (f : File). take at items ++ f ∷ []) (sym here) in
-    let step : (n : List ℕ) → IsNamed n (take (at + 1) items) → IsNamed n (take at items) ⊎ (file.name ≡ n) = λ n named. named_push n (take at items) file (subst (λ (l : List File). IsNamed n l) more named) in
+    let more : take (at + 1) items ≡ take at items ++ file ∷ [] = take_more items at file (omega arith) ∙ ap (λ (f : File). take at items ++ f ∷ [])
+    (sym here) in
+    let step : (n : List ℕ) → IsNamed n (take (at + 1) items) → IsNamed n (take at items) ⊎ (file.name ≡ n) = λ n named. named_push n (take at items) file
+    (subst (λ (l : List File). IsNamed n l) more named) in
     let name : c.as_str.result.now ≡ file.name = c.as_str.ensures in
     let test = c.is_listed.ensures in
     elim c.if-is_listed.branch [

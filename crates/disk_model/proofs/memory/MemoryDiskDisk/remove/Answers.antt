@@ -10,12 +10,14 @@ use Rattle.disk_model.proofs.memory.MemoryDiskDisk.remove.Goals as goal
 pub invariant_of-self : goal.invariant_of-self
 invariant_of-self c =
     record {
-      cached = cached c.cut-done.result (CutTo c.args.file.now 0) (image_of c.args.self.now.files) (image_of c.cut-done.new.files) c.args.self.now.calls.items c.cut-done.new.calls.items (image_of c.args.self.now.start)
+      cached = cached c.cut-done.result (CutTo c.args.file.now 0) (image_of c.args.self.now.files) (image_of c.cut-done.new.files) c.args.self.now.calls.items
+          c.cut-done.new.calls.items (image_of c.args.self.now.start)
           c.args.self.now.cached c.cut-done.ensures.ok c.cut-done.ensures.err;
     }
 
 pub returns-clause-err : goal.returns-clause-err
-returns-clause-err c = as_err c.cut-done.result c.counted.result c.counted.ensures.variant c.cut-done.ensures.err (λ none. is_same c.args.self.now _ refl none.calls)
+returns-clause-err c = as_err c.cut-done.result c.counted.result c.counted.ensures.variant c.cut-done.ensures.err
+    (λ none. is_same c.args.self.now _ refl none.calls)
 
 pub returns-clause-ok : goal.returns-clause-ok
 returns-clause-ok c = as_ok c.cut-done.result c.counted.result c.counted.ensures.variant c.cut-done.ensures.ok

@@ -11,12 +11,14 @@ use Rattle.disk_model.proofs.memory.MemoryDiskDisk.write_at.Goals as goal
 pub invariant_of-self : goal.invariant_of-self
 invariant_of-self c =
     record {
-      cached = cached c.write-done.result (Written c.args.file.now c.args.at c.args.bytes.now) (image_of c.args.self.now.files) (image_of c.write-done.new.files) c.args.self.now.calls.items c.write-done.new.calls.items (image_of c.args.self.now.start)
+      cached = cached c.write-done.result (Written c.args.file.now c.args.at c.args.bytes.now) (image_of c.args.self.now.files)
+          (image_of c.write-done.new.files) c.args.self.now.calls.items c.write-done.new.calls.items (image_of c.args.self.now.start)
           c.args.self.now.cached c.write-done.ensures.ok c.write-done.ensures.err;
     }
 
 pub returns-clause-err : goal.returns-clause-err
-returns-clause-err c = as_err c.write-done.result c.counted.result c.counted.ensures.variant c.write-done.ensures.err (λ none. is_same c.args.self.now _ refl none.calls)
+returns-clause-err c = as_err c.write-done.result c.counted.result c.counted.ensures.variant c.write-done.ensures.err
+    (λ none. is_same c.args.self.now _ refl none.calls)
 
 pub returns-clause-ok : goal.returns-clause-ok
 returns-clause-ok c = as_ok c.write-done.result c.counted.result c.counted.ensures.variant c.write-done.ensures.ok
@@ -30,4 +32,5 @@ returns-clause-moments c =
     moments c.args.self.now _ refl c.write-done.result (Written file c.args.at c.args.bytes.now) _
     (unchanged _ file (Torn c.args.at n) (torn_none c.args.at n))
     (λ i was. subst (λ (k : ℕ). After (left_by c.args.self.now) (Step file (Torn k n)) i) place was)
-    (on_ok_weaker c.write-done.result (λ done. done.calls) c.write-done.ensures.ok) (on_err_weaker c.write-done.result (λ none. none.calls) c.write-done.ensures.err)
+    (on_ok_weaker c.write-done.result (λ done. done.calls) c.write-done.ensures.ok)
+    (on_err_weaker c.write-done.result (λ none. none.calls) c.write-done.ensures.err)

@@ -9,7 +9,8 @@ use Rattle.gate_log.proofs.Gates.{kept, staged_is, torn_gate, opened}
 use Rattle.gate_log.proofs.Whole.{as_within}
 use Rattle.gate_log.proofs.log.Log.append_in.Goals as goal
 
-all_closed : (images : Image → Type 0) (file bytes : List ℕ) (place : ℕ) (payloads : List (List ℕ)) → Settled images file bytes → ClosedAt bytes place payloads → (i : Image) → images i → ClosedAt (i file) place payloads
+all_closed : (images : Image → Type 0) (file bytes : List ℕ) (place : ℕ) (payloads : List (List ℕ)) → Settled images file bytes →
+    ClosedAt bytes place payloads → (i : Image) → images i → ClosedAt (i file) place payloads
 all_closed images file bytes place payloads settled closed i left = subst (λ (l : List ℕ). ClosedAt l place payloads) (sym (settled i left)) closed
 
 reaches : (file front rest : List ℕ) (end : ℕ) → file ≡ front ++ 0 ∷ rest → end ≡ length front → end ≤ length file
@@ -41,7 +42,8 @@ opened_moments {seen = seen} laws file log old mid new payloads payload behind s
 
 pub stage-requires-clause-within : goal.stage-requires-clause-within
 stage-requires-clause-within g c told =
-    has_gate _ c.args.self.now.end c.requires.open.0 (reads_behind g.met.D.Disk.laws (stands_in c.args.file.now) c.args.self.now c.args.disk.now c.requires.open.0 c.requires.open.1 told)
+    has_gate _ c.args.self.now.end c.requires.open.0 (reads_behind g.met.D.Disk.laws (stands_in c.args.file.now) c.args.self.now c.args.disk.now
+    c.requires.open.0 c.requires.open.1 told)
 
 pub open_gate-requires : goal.open_gate-requires
 open_gate-requires g c = record {
@@ -57,18 +59,21 @@ pub returns-in_err-stage-clause-any_moment : goal.returns-in_err-stage-clause-an
 returns-in_err-stage-clause-any_moment g c payloads is_open =
     let end = c.args.self.now.end in
     as_within g.met.D.Disk.laws c.args.file.now c.args.disk.now c.stage.new.disk (BeforeOrAfter Entries payloads c.args.payload.now)
-    (step_as g.met.D.Disk.laws c.args.file.now c.args.disk.now c.stage.new.disk _ (λ _ new. BeforeOrAfter Entries payloads c.args.payload.now new) (λ a. ClosedAt a end payloads)
+    (step_as g.met.D.Disk.laws c.args.file.now c.args.disk.now c.stage.new.disk _ (λ _ new. BeforeOrAfter Entries payloads c.args.payload.now new)
+    (λ a. ClosedAt a end payloads)
     c.stage.ensures.moments is_open.each
     (λ told a b closed is. inl (inr (end, kept a end payloads closed b is))))
 
 pub returns-in_err-open_gate-clause-any_moment : goal.returns-in_err-open_gate-clause-any_moment
 returns-in_err-open_gate-clause-any_moment g c payloads is_open =
-    opened_moments g.met.D.Disk.laws c.args.file.now c.args.self.now c.args.disk.now c.stage.new.disk c.open_gate.new.disk payloads c.args.payload.now is_open c.requires.some c.requires.fits
+    opened_moments g.met.D.Disk.laws c.args.file.now c.args.self.now c.args.disk.now c.stage.new.disk c.open_gate.new.disk payloads c.args.payload.now is_open
+    c.requires.some c.requires.fits
     c.stage.ensures.moments c.in_ok-stage.ensures.durable (λ told. (c.in_ok-stage.ensures.written told).here) c.open_gate.ensures.moments
 
 pub returns-clause-any_moment : goal.returns-clause-any_moment
 returns-clause-any_moment g c payloads is_open =
-    opened_moments g.met.D.Disk.laws c.args.file.now c.args.self.now c.args.disk.now c.stage.new.disk c.open_gate.new.disk payloads c.args.payload.now is_open c.requires.some c.requires.fits
+    opened_moments g.met.D.Disk.laws c.args.file.now c.args.self.now c.args.disk.now c.stage.new.disk c.open_gate.new.disk payloads c.args.payload.now is_open
+    c.requires.some c.requires.fits
     c.stage.ensures.moments c.in_ok-stage.ensures.durable (λ told. (c.in_ok-stage.ensures.written told).here) c.open_gate.ensures.moments
 
 pub returns-clause-added : goal.returns-clause-added

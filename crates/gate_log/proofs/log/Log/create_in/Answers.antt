@@ -11,7 +11,14 @@ returns-clause-made g c = (
   refl,
   settled_behind g.met.D.Disk.laws c.args.file.now _ c.sync.new.self [] c.in_ok-sync.ensures.durable (λ told.
       let first = c.in_ok-close_first.ensures.told told in
-      record { entries = []; tail = first.0; good = tt; payloads_are = refl; file_is = ap (λ (i : Image). i c.args.file.now) c.sync.ensures.seen ∙ first.1; end_is = refl }),
+      record {
+        entries = [];
+        tail = first.0;
+        good = tt;
+        payloads_are = refl;
+        file_is = ap (λ (i : Image). i c.args.file.now) c.sync.ensures.seen ∙ first.1;
+        end_is = refl;
+      }),
 )
 
 pub returns-in_err-close_first-clause-any_moment : goal.returns-in_err-close_first-clause-any_moment

@@ -8,7 +8,8 @@ use Rattle.gate_log.proofs.log.Log.entry_in.Goals as goal
 
 pub returns-clause-moments : goal.returns-clause-moments
 returns-clause-moments g c =
-    then_same g.met.D.Disk.laws c.args.disk.now c.read.new.self c.read-2.new.self (g.D.Disk.may_leave c.args.disk.now) c.read.ensures.moments c.read-2.ensures.moments
+    then_same g.met.D.Disk.laws c.args.disk.now c.read.new.self c.read-2.new.self (g.D.Disk.may_leave c.args.disk.now) c.read.ensures.moments
+    c.read-2.ensures.moments
 
 pub returns-clause-told : goal.returns-clause-told
 returns-clause-told g c told e place =
@@ -25,6 +26,7 @@ returns-clause-told g c told e place =
     (λ (k : ℕ). (c.in_ok-_filled._filled ≡ min (length c.deref_mut.result.now) (length (drop k mid)))
     × (c.read-2.new.into ≡ take c.in_ok-_filled._filled (drop k mid) ++ drop c.in_ok-_filled._filled c.deref_mut.result.now))
     behind (c.in_ok-_filled.ensures.told told) in
-    let body : c.read-2.new.into ≡ e.1 = entry_body mid c.args.at c.in_ok-_filled._filled c.deref_mut.result.now c.read-2.new.into e place.more there room second.0 second.1 in
+    let body : c.read-2.new.into ≡ e.1 = entry_body mid c.args.at c.in_ok-_filled._filled c.deref_mut.result.now c.read-2.new.into e place.more there room
+    second.0 second.1 in
     let len : length c.read-2.new.into ≡ c.in_ok-payload.payload.len = omega (arith, ap length body, size, c.in_ok-payload.ensures.len) in
     (c.new.ensures ∙ take_at c.read-2.new.into _ c.in_ok-payload.payload.len len ∙ body, omega (arith, size, place.within))

@@ -20,10 +20,13 @@ pub returns-in-Made-clause-lines : goal.returns-in-Made-clause-lines
 returns-in-Made-clause-lines g c = rw (c.in-Made.is, ← made_joined c.in-Made.thing, ← c.as_str.ensures.value) c.write_pieces.ensures.bytes
 
 pub returns-in-Pending-clause-lines : goal.returns-in-Pending-clause-lines
-returns-in-Pending-clause-lines g c = rw (c.in-Pending.is, ← pending_joined c.in-Pending.id, ← c.as_str-in-Pending.ensures.value) c.write_pieces-in-Pending.ensures.bytes
+returns-in-Pending-clause-lines g c = rw (c.in-Pending.is, ← pending_joined c.in-Pending.id, ← c.as_str-in-Pending.ensures.value)
+    c.write_pieces-in-Pending.ensures.bytes
 
 pub returns-in-Damaged-clause-lines : goal.returns-in-Damaged-clause-lines
-returns-in-Damaged-clause-lines g c = rw (c.in-Damaged.is, ← damaged_joined c.in-Damaged.place, ← c.as_str-in-Damaged.ensures) c.write_pieces-in-Damaged.ensures.bytes
+returns-in-Damaged-clause-lines g c = rw (c.in-Damaged.is, ← damaged_joined c.in-Damaged.place, ← c.as_str-in-Damaged.ensures)
+    c.write_pieces-in-Damaged.ensures.bytes
 
 pub returns-in-Initialised-clause-lines : goal.returns-in-Initialised-clause-lines
-returns-in-Initialised-clause-lines g c = rw (c.in-Initialised.is, ← initialised_joined c.in-Initialised.thing, ← c.as_str-in-Initialised.ensures.value) c.write_pieces-in-Initialised.ensures.bytes
+returns-in-Initialised-clause-lines g c = rw (c.in-Initialised.is, ← initialised_joined c.in-Initialised.thing, ← c.as_str-in-Initialised.ensures.value)
+    c.write_pieces-in-Initialised.ensures.bytes

@@ -12,8 +12,15 @@ returns c =
     let name = c.as_str-2.result.now in
     let version = c.as_str-3.result.now in
     let config : c.as_str.result.now ≡ compact_text (view c.args.self.now.config) = c.as_str.ensures ∙ c.in_ok-config.ensures.text in
-    rw (← component_text (view c.args.self.now.config) c.args.self.now.name c.args.self.now.version, ← config, ← c.as_str-2.ensures.value, ← c.text-version.ensures.value, ← c.as_str-3.ensures)
+    rw (
+      ← component_text (view c.args.self.now.config) c.args.self.now.name c.args.self.now.version,
+      ← config,
+      ← c.as_str-2.ensures.value,
+      ← c.text-version.ensures.value,
+      ← c.as_str-3.ensures,
+    )
     (subst (λ (t : List ℕ). OnOk c.put_pair.result (c.put_pair.new.out ≡ t))
-    (joined3 c.args.out.now (codes "{\"config\":") c.as_str.result.now (codes ",\"name\":" ++ (quoted name ++ (codes ",\"version\":" ++ (quoted version ++ codes "}"))))
+    (joined3 c.args.out.now (codes "{\"config\":") c.as_str.result.now
+    (codes ",\"name\":" ++ (quoted name ++ (codes ",\"version\":" ++ (quoted version ++ codes "}"))))
     _ _ c.in_ok-push_str.ensures.ok c.in_ok-push_str-2.ensures.ok)
     c.put_pair.ensures)

@@ -16,5 +16,6 @@ invariant_of-self c =
     let q = rw (← c.self.view_is) at c.requires in
     let r = c.self.invariant.0 in
     let k = c.insert.ensures.capacity in
-    let items = c.insert.ensures.items ∙ ap (λ (b : Bool). if b then c.args.child ∷ c.self.inside.list.items else c.self.inside.list.items) c.if-is_err.ensures.negation in
+    let items = c.insert.ensures.items ∙ ap (λ (b : Bool). if b then c.args.child ∷ c.self.inside.list.items else c.self.inside.list.items)
+    c.if-is_err.ensures.negation in
     (omega (arith, r, k), rw items (once_pushed c.args.child c.self.inside.list.items c.self.invariant.1 q))

@@ -9,5 +9,9 @@ returns c = rw (← c.self.view_is) (filter_same _ (λ (d : Child). not (d.numbe
 
 pub invariant_of-self : goal.invariant_of-self
 invariant_of-self c =
-    let e : c.retain.new.self.items ≡ filter (λ (d : Child). not (d.number == c.args.number)) c.self.inside.list.items = filter_same _ (λ (d : Child). not (d.number == c.args.number)) _ (λ x b f' k. search rules) _ _ c.retain.ensures.filtered in
-    (rw c.retain.ensures.capacity c.self.invariant.0, rw e (once_filtered (λ (d : Child). not (d.number == c.args.number)) c.self.inside.list.items c.self.invariant.1))
+    let e : c.retain.new.self.items ≡ filter (λ (d : Child). not (d.number == c.args.number)) c.self.inside.list.items =
+    filter_same _ (λ (d : Child). not (d.number == c.args.number)) _ (λ x b f' k. search rules) _ _ c.retain.ensures.filtered in (
+      rw c.retain.ensures.capacity c.self.invariant.0,
+      rw e (once_filtered (λ (d : Child). not (d.number == c.args.number)) c.self.inside.list.items
+          c.self.invariant.1),
+    )

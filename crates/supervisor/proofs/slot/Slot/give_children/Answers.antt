@@ -12,5 +12,15 @@ invariant_of-other c = record { steps = c.other.invariant.steps; own = c.other.i
 pub returns : goal.returns
 returns c =
     let i = c.other.inside in
-    let p : ComponentState = record { fitted = i.fitted; life = i.life; children = i.children; handed = i.handed; owed = i.owed; stop = i.stop; next = next_of i.fitted i.next } in
-    ap (λ (cs : List Child). record p { children = cs }) (c.swap.ensures.y_after ∙ ap (λ (q : ComponentState). q.children) c.self.view_is) ∙ ap (λ (q : ComponentState). record q { children = c.args.self.now.children }) c.other.view_is
+    let p : ComponentState = record {
+      fitted = i.fitted;
+      life = i.life;
+      children = i.children;
+      handed = i.handed;
+      owed = i.owed;
+      stop = i.stop;
+      next =
+          next_of i.fitted i.next;
+    } in
+    ap (λ (cs : List Child). record p { children = cs }) (c.swap.ensures.y_after ∙ ap (λ (q : ComponentState). q.children) c.self.view_is) ∙ ap
+    (λ (q : ComponentState). record q { children = c.args.self.now.children }) c.other.view_is

@@ -16,9 +16,11 @@ replace-requires c = c.requires.few
 pub returns-else-anew : goal.returns-else-anew
 returns-else-anew c =
     let q : ComponentState = c.take_texts-other.new.self in
-    met_staying c.args.item c.args.failures c.args.self.now q c.stay.new.self (sym c.if-anew.false ∙ c.is_replaced-anew.ensures) c.take_texts-other.ensures.texts c.stay.ensures
+    met_staying c.args.item c.args.failures c.args.self.now q c.stay.new.self (sym c.if-anew.false ∙ c.is_replaced-anew.ensures)
+    c.take_texts-other.ensures.texts c.stay.ensures
 
 pub returns-then-anew : goal.returns-then-anew
 returns-then-anew c =
     let q : ComponentState = c.take_texts-other.new.self in
-    met_replacing c.args.item (taken_item q.fitted c.take_texts-other.result) c.args.failures c.args.self.now q c.replace.new.self (sym c.if-anew.true ∙ c.is_replaced-anew.ensures) c.take_texts-other.ensures.texts c.take_texts-other.ensures.other c.replace.ensures
+    met_replacing c.args.item (taken_item q.fitted c.take_texts-other.result) c.args.failures c.args.self.now q c.replace.new.self
+    (sym c.if-anew.true ∙ c.is_replaced-anew.ensures) c.take_texts-other.ensures.texts c.take_texts-other.ensures.other c.replace.ensures

@@ -12,7 +12,16 @@ use Rattle.supervisor.proofs.slot.Slot.overdue.Goals as goal
 pub returns-in-None-clause-is_some : goal.returns-in-None-clause-is_some
 returns-in-None-clause-is_some c =
     let i = c.self.inside in
-    let p : ComponentState = record { fitted = i.fitted; life = i.life; children = i.children; handed = i.handed; owed = i.owed; stop = i.stop; next = next_of i.fitted i.next } in
+    let p : ComponentState = record {
+      fitted = i.fitted;
+      life = i.life;
+      children = i.children;
+      handed = i.handed;
+      owed = i.owed;
+      stop = i.stop;
+      next =
+          next_of i.fitted i.next;
+    } in
     let m = c.args.moment in
     let e = c.in-None.ensures ∙ ap (λ (cs : List Child). find (λ (d : Child). has_passed m d.deadline || is_orphan i.life d.of) cs) c.as_slice.ensures in
     overdue_some m p None e ∙ ap (λ (q : ComponentState). is_late m q || has_orphan q) c.self.view_is
@@ -20,7 +29,16 @@ returns-in-None-clause-is_some c =
 pub returns-in-Some-clause-is_some : goal.returns-in-Some-clause-is_some
 returns-in-Some-clause-is_some c =
     let i = c.self.inside in
-    let p : ComponentState = record { fitted = i.fitted; life = i.life; children = i.children; handed = i.handed; owed = i.owed; stop = i.stop; next = next_of i.fitted i.next } in
+    let p : ComponentState = record {
+      fitted = i.fitted;
+      life = i.life;
+      children = i.children;
+      handed = i.handed;
+      owed = i.owed;
+      stop = i.stop;
+      next =
+          next_of i.fitted i.next;
+    } in
     let m = c.args.moment in
     let e = c.in-Some.ensures ∙ ap (λ (cs : List Child). find (λ (d : Child). has_passed m d.deadline || is_orphan i.life d.of) cs) c.as_slice.ensures in
     overdue_some m p (Some c.in-Some.child.now) e ∙ ap (λ (q : ComponentState). is_late m q || has_orphan q) c.self.view_is
@@ -28,7 +46,17 @@ returns-in-Some-clause-is_some c =
 pub returns-in-Some-clause-child : goal.returns-in-Some-clause-child
 returns-in-Some-clause-child c =
     let i = c.self.inside in
-    let p : ComponentState = record { fitted = i.fitted; life = i.life; children = i.children; handed = i.handed; owed = i.owed; stop = i.stop; next = next_of i.fitted i.next } in
+    let p : ComponentState = record {
+      fitted = i.fitted;
+      life = i.life;
+      children = i.children;
+      handed = i.handed;
+      owed = i.owed;
+      stop = i.stop;
+      next =
+          next_of i.fitted i.next;
+    } in
     let m = c.args.moment in
     let e = c.in-Some.ensures ∙ ap (λ (cs : List Child). find (λ (d : Child). has_passed m d.deadline || is_orphan i.life d.of) cs) c.as_slice.ensures in
-    subst (λ (q : ComponentState). HasChild (λ (d : Child). has_passed m d.deadline || is_orphan q.life d.of) c.in-Some.child.now.number q) c.self.view_is (overdue_child m p c.in-Some.child.now e)
+    subst (λ (q : ComponentState). HasChild (λ (d : Child). has_passed m d.deadline || is_orphan q.life d.of) c.in-Some.child.now.number q) c.self.view_is
+    (overdue_child m p c.in-Some.child.now e)

@@ -11,7 +11,9 @@ pub returns-then-not-stop_kills : goal.returns-then-not-stop_kills
 returns-then-not-stop_kills c = λ m b. stop_moves c.args.self.now c.args.after c.requires.asked c.requires.ready (sym c.if-not-stop_kills.ensures) m b
 
 pub returns : goal.returns
-returns c = λ m b. stop_first c.args.self.now c.args.after c.in-Some.child.now (sym c.if-not-stop_kills.ensures) (c.in-Some.ensures.value ∙ ap (λ (cs : List Child). slice_get cs 0) c.children.ensures) m b
+returns c = λ m b. stop_first c.args.self.now c.args.after c.in-Some.child.now (sym c.if-not-stop_kills.ensures)
+    (c.in-Some.ensures.value ∙ ap (λ (cs : List Child). slice_get cs 0) c.children.ensures) m b
 
 pub unreachable-requires : goal.unreachable-requires
-unreachable-requires c = stop_none c.args.self.now c.args.after c.requires.whole c.requires.asked c.requires.ready (sym c.if-not-stop_kills.ensures) (c.in-None.ensures.value ∙ ap (λ (cs : List Child). slice_get cs 0) c.children.ensures)
+unreachable-requires c = stop_none c.args.self.now c.args.after c.requires.whole c.requires.asked c.requires.ready (sym c.if-not-stop_kills.ensures)
+    (c.in-None.ensures.value ∙ ap (λ (cs : List Child). slice_get cs 0) c.children.ensures)

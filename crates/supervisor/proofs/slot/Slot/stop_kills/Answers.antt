@@ -11,4 +11,5 @@ returns-then-not-shuts_down c =
 pub returns-else-not-shuts_down : goal.returns-else-not-shuts_down
 returns-else-not-shuts_down c =
     let d = c.args.self.now.life in
-    ap not c.shuts_down.ensures ∙ ap not (sym c.if-not-shuts_down.ensures) ∙ ap (λ (b : Bool). not b && (d.runs || is_some d.busy)) c.if-not-shuts_down.ensures ∙ sym (kills_stop d c.args.after c.requires)
+    ap not c.shuts_down.ensures ∙ ap not (sym c.if-not-shuts_down.ensures) ∙ ap (λ (b : Bool). not b && (d.runs || is_some d.busy))
+    c.if-not-shuts_down.ensures ∙ sym (kills_stop d c.args.after c.requires)

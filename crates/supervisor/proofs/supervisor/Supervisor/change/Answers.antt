@@ -24,8 +24,12 @@ invariant_of-self c =
     let w : Components = record { parts = i.slots.items; moment = i.moment; steady = i.steady } in
     let s : Bool = c.is_steady-self-inside.result in
     let e = c.change_in.ensures.changed in
-    let few = subst (λ (ps : List ComponentState). length ps < 2 ^ 32) e c.change_in.ensures.few in
-    (subst (λ (ps : List ComponentState). IsKept (record w { parts = ps; steady = s })) (sym e) (changed_kept w c.args.ready.coming c.args.failures.now s c.self.invariant.0 c.change_in.ensures.coming_apart few), c.change_in.ensures.many, subst AreWhole (sym e) (items_whole (counted 0 c.args.failures.now c.args.ready.coming) i.slots.items c.self.invariant.2))
+    let few = subst (λ (ps : List ComponentState). length ps < 2 ^ 32) e c.change_in.ensures.few in (
+      subst (λ (ps : List ComponentState). IsKept (record w { parts = ps; steady = s })) (sym e)
+          (changed_kept w c.args.ready.coming c.args.failures.now s c.self.invariant.0 c.change_in.ensures.coming_apart few),
+      c.change_in.ensures.many,
+      subst AreWhole (sym e) (items_whole (counted 0 c.args.failures.now c.args.ready.coming) i.slots.items c.self.invariant.2),
+    )
 
 pub returns : goal.returns
 returns c =

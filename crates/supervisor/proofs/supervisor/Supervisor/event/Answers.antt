@@ -21,5 +21,10 @@ invariant_of-self c =
     let i = c.self.inside in
     let w : Components = record { parts = i.slots.items; moment = i.moment; steady = i.steady } in
     let q = rw (← c.self.view_is) at c.requires.answers in
-    let l = rw (← c.self.view_is) at c.requires.late in
-    (subst IsKept (sym c.befall_in.ensures.noticed) (event_kept w c.args.event c.args.moment c.self.invariant.0 l c.requires.in_time q c.befall_in.ensures.short), c.befall_in.ensures.many, subst (λ (v : Components). AreWhole v.parts) (sym c.befall_in.ensures.noticed) (event_whole w c.args.event c.args.moment c.self.invariant.0.apart c.self.invariant.2))
+    let l = rw (← c.self.view_is) at c.requires.late in (
+      subst IsKept (sym c.befall_in.ensures.noticed) (event_kept w c.args.event c.args.moment c.self.invariant.0 l c.requires.in_time q
+          c.befall_in.ensures.short),
+      c.befall_in.ensures.many,
+      subst (λ (v : Components). AreWhole v.parts) (sym c.befall_in.ensures.noticed)
+          (event_whole w c.args.event c.args.moment c.self.invariant.0.apart c.self.invariant.2),
+    )

@@ -13,4 +13,5 @@ pub returns : goal.returns
 returns c =
     let i = c.self.inside in
     let w : Components = record { parts = i.slots.items; moment = i.moment; steady = i.steady } in
-    rw (← c.self.view_is) (living_is w c.args.at c.living_at.result (subst (λ (ps : List ComponentState). IsNumberAt (living_numbers ps) c.args.at c.living_at.result) c.as_slice.ensures.value c.living_at.ensures))
+    rw (← c.self.view_is) (living_is w c.args.at c.living_at.result
+    (subst (λ (ps : List ComponentState). IsNumberAt (living_numbers ps) c.args.at c.living_at.result) c.as_slice.ensures.value c.living_at.ensures))

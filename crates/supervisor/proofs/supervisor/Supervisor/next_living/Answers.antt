@@ -9,4 +9,5 @@ pub returns : goal.returns
 returns c =
     let i = c.self.inside in
     let w : Components = record { parts = i.slots.items; moment = i.moment; steady = i.steady } in
-    rw (← c.self.view_is) (next_living w c.args.last c.next_number.result (c.next_number.ensures ∙ ap (λ (ps : List ComponentState). least_above c.args.last (living_numbers ps)) c.as_slice.ensures.value))
+    rw (← c.self.view_is) (next_living w c.args.last c.next_number.result
+    (c.next_number.ensures ∙ ap (λ (ps : List ComponentState). least_above c.args.last (living_numbers ps)) c.as_slice.ensures.value))
