@@ -1,9 +1,10 @@
 //! Recipes: which are read and which faults the others have, worked out by hand from the lines of the format, and recipes
 //! in the forms that the developer guide of AWS IoT Greengrass V2 shows.
-use nuc_base::{Label, Step, Text};
+use nuc_base::{Step, Text};
 use recipe_reader::{Dependency, Platform, Recipe, RecipeFault, Skip, StepDef};
 use std::alloc::Global;
 use std::test::Fail;
+use test_support::linux;
 use tree_core::Tree;
 
 /// Whole recipes. Each line is what is answered, `Ok`, or `Back` where the bootstrap runs again on the way back, with the script of the run step, a bar and the text.
@@ -214,13 +215,6 @@ Ok|[{"Uri":"s3://b/f"},{"Uri":"s3://b/g"}]"#;
 
 const HEAD: &str =
     r#"{"RecipeFormatVersion":"2020-01-25","ComponentName":"com.x","ComponentVersion":"1.0.0","#;
-
-fn linux(alloc: Global) -> Result<Platform, Fail> {
-    Ok(Platform {
-        os: Label::read(alloc, b"linux")?,
-        architecture: Label::read(alloc, b"amd64")?,
-    })
-}
 
 fn script_of(recipe: &Recipe) -> &str {
     match recipe.step(Step::Run) {

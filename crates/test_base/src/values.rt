@@ -1,11 +1,12 @@
 // Rows of names, labels and pointers, and one copy and one printed text of each kind of value.
 use nuc_base::{
-    Artifact, Bytes, Copied, Exit, Label, List, Name, NameFault, NoMemory, Outcome, Platform,
-    Pointer, PointerFault, Policy, Step, Text,
+    Artifact, Bytes, Copied, Exit, Label, List, Name, NameFault, NoMemory, Outcome, Pointer,
+    PointerFault, Policy, Step, Text,
 };
 use std::alloc::Global;
 use std::fmt::{Debug, Display};
 use std::test::Fail;
+use test_support::linux;
 
 /// Whether the copy is the value.
 fn is_copied<T: Copied + PartialEq + Drop>(alloc: Global, value: &T) -> Result<bool, NoMemory> {
@@ -187,14 +188,6 @@ fn is_artifact_copied(alloc: Global) -> Result<bool, NameFault> {
     let file = Label::read(alloc, b"hello.py")?;
     let digest = Some([7; 32]);
     Ok(is_copied(alloc, &Artifact { file, digest })?)
-}
-
-fn linux(alloc: Global) -> Result<Platform, NameFault> {
-    let os = Label::read(alloc, b"linux")?;
-    match Label::read(alloc, b"amd64") {
-        Ok(architecture) => Ok(Platform { os, architecture }),
-        Err(fault) => Err(fault),
-    }
 }
 
 fn is_platform_copied(alloc: Global) -> Result<bool, NameFault> {

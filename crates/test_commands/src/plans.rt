@@ -1,11 +1,12 @@
 // Plans by the top call, over stores, libraries and documents in memory.
 use crate::calls;
-use disk_model::{Disk, DiskFault, MemoryDisk};
+use disk_model::{DiskFault, MemoryDisk};
 use edges::MemorySource;
 use library_core::MemoryLibrary;
 use nuc_base::{Bytes, List};
 use std::alloc::{AllocError, Global};
 use std::test::Fail;
+use test_support::journal_of;
 
 const PLAN: &str = "nucleus --root /gg plan";
 
@@ -61,34 +62,6 @@ genesis|A 1.0.0 65536|{"deploymentId":"d1","targetArn":"g","components":{"A":{"c
 genesis|A 1.0.0 65537|{"deploymentId":"d1","targetArn":"g","components":{"A":{"componentVersion":"*"}}}|2|refused 2 recipe 0 TooLarge;
 genesis ga activate close|X 1.2.9 Y *|{"deploymentId":"d1","targetArn":"g","components":{}}|2|refused 2 RecipeDiffers X 1.2.9;
 genesis|{"RecipeFormatVersion":"2020-01-25","ComponentName":"A","ComponentVersion":"1.0.0","ComponentDependencies":{"B":{"VersionRequirement":"*"}},"Manifests":[{"Lifecycle":{"bootstrap":"s"}}]};{"RecipeFormatVersion":"2020-01-25","ComponentName":"B","ComponentVersion":"1.0.0","Manifests":[{"Lifecycle":{"bootstrap":"s"}}]}|{"deploymentId":"d1","targetArn":"g","components":{"A":{"componentVersion":"*"}}}|0|plan A 1.0.0;plan B 1.0.0;boot B;boot A;"#;
-
-fn record_named(name: &str) -> &'static [u8] {
-    for (other, bytes) in RECORDS {
-        if *other == name {
-            return bytes;
-        }
-    }
-    b""
-}
-
-/// Adds an entry of a short payload to the journal.
-fn push_entry(journal: &mut Vec<u8>, payload: &[u8]) -> Result<(), Fail> {
-    let len = payload.len().min(1_000_000) as u32;
-    journal.push(1)?;
-    journal.extend_from_slice(&len.to_be_bytes())?;
-    journal.extend_from_slice(payload)?;
-    Ok(())
-}
-
-/// The bytes of a journal with these records.
-fn journal_of(alloc: Global, history: &str) -> Result<Vec<u8>, Fail> {
-    let mut journal = Vec::new(alloc);
-    for name in history.split_whitespace() {
-        push_entry(&mut journal, record_named(name))?;
-    }
-    journal.push(0)?;
-    Ok(journal)
-}
 
 /// The end of a recipe: what it needs, or the blanks up to a length.
 fn recipe_with(alloc: Global, head: &str, needed: &str, range: &str) -> Result<String, AllocError> {
@@ -214,7 +187,7 @@ fn answers_over(
     source: &mut MemorySource,
     want: &str,
 ) -> Result<bool, Fail> {
-    let journal = journal_of(alloc, history)?;
+    let journal = journal_of(alloc, RECORDS, history)?;
     let is_right = leaves(alloc, &journal, library, source, want);
     drop(journal);
     is_right

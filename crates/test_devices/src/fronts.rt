@@ -4,12 +4,13 @@ ghost use Rattle.std.specs.List.{AllByRecursion};
 ghost use Rattle.device.specs.Devices.{IsRegularDevice, device_view};
 ghost use Rattle.device.specs.Fronts.{HasFront, IsRegularEntry};
 
-use crate::histories::{Found, found_in, push_entry, record_named};
+use crate::histories::{Found, found_in, record_named};
 use device::{ApplyFault, Device, RestoreFault};
 use nuc_base::List;
 use records::Record;
 use std::alloc::Global;
 use std::test::Fail;
+use test_support::push_entry;
 
 /// The front, in turn 2, of a device behind the closes of d4 with revision 4 and of d0 with one item.
 const FRONT: [&[u8]; 5] = [

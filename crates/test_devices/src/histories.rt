@@ -4,10 +4,11 @@ ghost use Rattle.device.specs.Sound.{IsSound};
 
 use device::{ApplyFault, Device, ReplayFault, replay};
 use disk_model::{Disk, MemoryDisk};
-use gate_log::{FindFault, Journal, Log};
+use gate_log::{FindFault, Log};
 use records::Record;
 use std::alloc::Global;
 use std::test::Fail;
+use test_support::push_entry;
 
 /// Records by names for the tables below, each as the bytes that the journal holds of it.
 const RECORDS: &[(&str, &[u8])] = &[
@@ -318,18 +319,9 @@ const UNLAWFUL: &[(&str, &str)] = &[
     ("genesis", "ended"),
 ];
 
-fn records() -> &'static [(&'static str, &'static [u8])] {
-    RECORDS
-}
-
 /// The bytes of the record with this name, or none.
 pub(crate) fn record_named(name: &str) -> &'static [u8] {
-    for (other, bytes) in records() {
-        if *other == name {
-            return bytes;
-        }
-    }
-    b""
+    test_support::record_named(RECORDS, name)
 }
 
 /// Whether the record that the payload spells is lawful and is taken.
@@ -492,15 +484,6 @@ fn a_journal_stands_for_its_device(rt: HostRuntime) -> Result<(), Fail> {
     Ok(())
 }
 
-/// Adds an entry of a short payload to the journal.
-pub(crate) fn push_entry(journal: &mut Vec<u8>, payload: &[u8]) -> Result<(), Fail> {
-    let len = payload.len().min(1_000_000) as u32;
-    journal.push(1)?;
-    journal.extend_from_slice(&len.to_be_bytes())?;
-    journal.extend_from_slice(payload)?;
-    Ok(())
-}
-
 /// Adds a deployment of nothing to the group `g`, from its acceptance to its end.
 fn push_closing(alloc: Global, journal: &mut Vec<u8>, id: &str) -> Result<(), Fail> {
     let len = id.len().min(256) as u32;
@@ -511,7 +494,7 @@ fn push_closing(alloc: Global, journal: &mut Vec<u8>, id: &str) -> Result<(), Fa
     payload.extend_from_slice(b"\0\0\0\x01g\0\0\0\0\0\0\0\0\0\0\0\0\0")?;
     push_entry(journal, &payload)?;
     push_entry(journal, b"\x15")?;
-    push_entry(journal, b"\x18\x01")
+    Ok(push_entry(journal, b"\x18\x01")?)
 }
 
 /// A journal of so many closed deployments, and then of one with this id again.

@@ -4,11 +4,12 @@ ghost use Rattle.library_core.specs.Sources.{IsKept};
 
 use library_core::{Library, MemoryLibrary, Stored, candidates, gathered_are_one};
 use npm_ranges::Version;
-use nuc_base::{Bytes, Copied, Label, List, Name, NameFault, NoMemory, Platform, Text};
+use nuc_base::{Bytes, Label, List, Name, NoMemory, Platform, Text};
 use recipe_reader::{Candidates, Recipe};
 use records::{Item, Origin};
 use std::alloc::Global;
 use std::test::Fail;
+use test_support::linux;
 use tree_core::Tree;
 
 /// The letters that stand for recipes in the tables below.
@@ -88,14 +89,6 @@ F9||2|Recipe(0, FormatVersion)
 |N|-|N
 |9B8|-|RecipeDiffers("A", "1.9.0")
 |8B9|-|RecipeDiffers("A", "1.9.0")"#;
-
-fn linux(alloc: Global) -> Result<Platform, NameFault> {
-    let os = Label::read(alloc, b"linux")?;
-    match Label::read(alloc, b"amd64") {
-        Ok(architecture) => Ok(Platform { os, architecture }),
-        Err(fault) => Err(fault),
-    }
-}
 
 fn origin(alloc: Global) -> Result<Origin, Fail> {
     Ok(Origin {

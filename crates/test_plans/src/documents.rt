@@ -3,14 +3,15 @@ ghost use Rattle.device.specs.Devices.{device_view, IsRegularDevice};
 ghost use Rattle.device.specs.Sound.{IsSound};
 
 use device::{Device, replay};
-use disk_model::{Disk, MemoryDisk};
-use gate_log::{Journal, Log};
+use disk_model::MemoryDisk;
+use gate_log::Log;
 use library_core::MemoryLibrary;
 use nuc_base::{Bytes, List};
 use plan_core::{Refusal, propose_read};
 use records::Draft;
 use std::alloc::Global;
 use std::test::Fail;
+use test_support::journal_of;
 
 /// Records by names for the table below, each as the bytes that a journal holds of it: a start; a deployment `r5` of
 /// nothing to the group `g`, with revision 5; one to the group `ga`, which wants `X` from 1.0.0 on and before 2.0.0 and
@@ -47,39 +48,6 @@ genesis|X 1.0.0|{"deploymentId":"d1","targetArn":"g","revision":0,"components":{
 genesis|{"RecipeFormatVersion":"2020-01-25","ComponentName":"A","ComponentVersion":"1.0.0","Manifests":[{"Artifacts":[{"URI":"s3://b/f","Unarchive":"ZIP"}]}]}|{"deploymentId":"d1","targetArn":"g","components":{}}|Candidates(Recipe(0, ZipArtifact))
 genesis|{"RecipeFormatVersion":"2020-01-25","ComponentName":"A","ComponentVersion":"1.0.0","ComponentDependencies":{"B":{"VersionRequirement":"*"}},"Manifests":[{"Lifecycle":{"bootstrap":"s"}}]};{"RecipeFormatVersion":"2020-01-25","ComponentName":"B","ComponentVersion":"1.0.0","Manifests":[{"Lifecycle":{"bootstrap":"s"}}]}|{"deploymentId":"d1","targetArn":"g","components":{"A":{"componentVersion":"*"}}}|A 1.0.0,B 1.0.0,boot B,boot A"#;
 
-fn record_named(name: &str) -> &'static [u8] {
-    for (other, bytes) in RECORDS {
-        if *other == name {
-            return bytes;
-        }
-    }
-    b""
-}
-
-/// Adds an entry of a short payload to the journal.
-fn push_entry(journal: &mut Vec<u8>, payload: &[u8]) -> Result<(), Fail> {
-    let len = payload.len().min(1_000_000) as u32;
-    journal.push(1)?;
-    journal.extend_from_slice(&len.to_be_bytes())?;
-    journal.extend_from_slice(payload)?;
-    Ok(())
-}
-
-fn push_entries(journal: &mut Vec<u8>, history: &str) -> Result<(), Fail> {
-    for name in history.split_whitespace() {
-        push_entry(journal, record_named(name))?;
-    }
-    journal.push(0)?;
-    Ok(())
-}
-
-/// A journal with these records.
-fn journal_of(alloc: Global, history: &str) -> Result<Vec<u8>, Fail> {
-    let mut journal = Vec::new(alloc);
-    push_entries(&mut journal, history)?;
-    Ok(journal)
-}
-
 fn replayed(alloc: Global, disk: &mut MemoryDisk) -> Result<Device, Fail>
     ensures regular { IfOk result (λ d. IsRegularDevice (device_view d)) }
     ensures sound { IfOk result (λ d. IsSound (device_view d)) }
@@ -105,7 +73,7 @@ fn device_of(alloc: Global, history: &str) -> Result<Device, Fail>
     ensures regular { IfOk result (λ d. IsRegularDevice (device_view d)) }
     ensures sound { IfOk result (λ d. IsSound (device_view d)) }
 {
-    let journal = journal_of(alloc, history)?;
+    let journal = journal_of(alloc, RECORDS, history)?;
     let device = device_from(alloc, &journal);
     drop(journal);
     device

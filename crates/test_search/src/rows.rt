@@ -5,10 +5,11 @@ ghost use Rattle.std.specs.Prelude.{IfOk};
 ghost use Rattle.recipe_reader.specs.Candidates.{IsRead};
 
 use npm_ranges::{Range, Version};
-use nuc_base::{Bytes, Label, List, Name, NameFault, NoMemory};
+use nuc_base::{Bytes, List, Name, NoMemory};
 use recipe_reader::{Candidate, Candidates, Platform, Recipe, Wanted};
 use std::alloc::{AllocError, Global};
 use std::test::Fail;
+use test_support::linux;
 
 /// The word's byte so far from its end.
 fn digit(word: &str, from_end: usize) -> u8 {
@@ -117,14 +118,6 @@ fn row_text(alloc: Global, row: &str) -> Result<String, AllocError> {
     push_needs(&mut text, needs)?;
     text.push_str("}}")?;
     Ok(text)
-}
-
-fn linux(alloc: Global) -> Result<Platform, NameFault> {
-    let os = Label::read(alloc, b"linux")?;
-    match Label::read(alloc, b"amd64") {
-        Ok(architecture) => Ok(Platform { os, architecture }),
-        Err(fault) => Err(fault),
-    }
 }
 
 /// The bytes of the recipe of a row.

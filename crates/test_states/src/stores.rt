@@ -1,7 +1,8 @@
 // Stores whose journals hold records that are named.
-use disk_model::{Disk, DiskFault, MemoryDisk};
+use disk_model::{DiskFault, MemoryDisk};
 use std::alloc::Global;
 use std::test::Fail;
+use test_support::journal_of;
 
 /// Records by names, each as the bytes that the journal holds of it.
 const RECORDS: &[(&str, &[u8])] = &[
@@ -56,37 +57,9 @@ const RECORDS: &[(&str, &[u8])] = &[
     ("close", b"\x18\x01"),
 ];
 
-fn records() -> &'static [(&'static str, &'static [u8])] {
-    RECORDS
-}
-
 /// The bytes of the record with this name, or none.
 pub(crate) fn record_named(name: &str) -> &'static [u8] {
-    for (other, bytes) in records() {
-        if *other == name {
-            return bytes;
-        }
-    }
-    b""
-}
-
-/// Adds an entry.
-fn push_entry(journal: &mut Vec<u8>, payload: &[u8]) -> Result<(), Fail> {
-    let len = payload.len().min(1_000_000) as u32;
-    journal.push(1)?;
-    journal.extend_from_slice(&len.to_be_bytes())?;
-    journal.extend_from_slice(payload)?;
-    Ok(())
-}
-
-/// The bytes of a journal of these records.
-fn journal_of(alloc: Global, history: &str) -> Result<Vec<u8>, Fail> {
-    let mut journal = Vec::new(alloc);
-    for name in history.split_whitespace() {
-        push_entry(&mut journal, record_named(name))?;
-    }
-    journal.push(0)?;
-    Ok(journal)
+    test_support::record_named(RECORDS, name)
 }
 
 /// Writes a journal of these bytes.
@@ -97,7 +70,7 @@ fn hold(disk: &mut MemoryDisk, journal: &[u8]) -> Result<(), DiskFault> {
 
 /// A disk with a journal of these records, all stable.
 pub(crate) fn disk_of(alloc: Global, history: &str) -> Result<MemoryDisk, Fail> {
-    let journal = journal_of(alloc, history)?;
+    let journal = journal_of(alloc, RECORDS, history)?;
     let mut disk = MemoryDisk::new(alloc);
     let held = hold(&mut disk, &journal);
     drop(journal);

@@ -15,7 +15,7 @@ write_mark-size-requires c =
       stored.Closed outcomes.Successful,
       subst (λ (o : Option Pending). IsSomeAnd o
           (λ q. IsMarkOf d.set q (marks.Closed outcomes.Successful) (stored.Closed outcomes.Successful))) (sym (ap (option_map pending_view) c.in-Some.is))
-              refl,
+          refl,
     )
 
 pub apply_mark-requires-clause-lawful : goal.apply_mark-requires-clause-lawful
