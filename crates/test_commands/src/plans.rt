@@ -1,6 +1,6 @@
 // Plans by the top call, over stores, libraries and documents in memory.
 use crate::calls;
-use disk_model::{DiskFault, MemoryDisk};
+use disk_model::{Disk, DiskFault, MemoryDisk};
 use edges::MemorySource;
 use library_core::MemoryLibrary;
 use nuc_base::{Bytes, List};

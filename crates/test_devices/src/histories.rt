@@ -4,7 +4,7 @@ ghost use Rattle.device.specs.Sound.{IsSound};
 
 use device::{ApplyFault, Device, ReplayFault, replay};
 use disk_model::{Disk, MemoryDisk};
-use gate_log::{FindFault, Log};
+use gate_log::{FindFault, Journal, Log};
 use records::Record;
 use std::alloc::Global;
 use std::test::Fail;

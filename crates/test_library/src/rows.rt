@@ -4,7 +4,7 @@ ghost use Rattle.library_core.specs.Sources.{IsKept};
 
 use library_core::{Library, MemoryLibrary, Stored, candidates, gathered_are_one};
 use npm_ranges::Version;
-use nuc_base::{Bytes, Label, List, Name, NoMemory, Platform, Text};
+use nuc_base::{Bytes, Copied, Label, List, Name, NoMemory, Platform, Text};
 use recipe_reader::{Candidates, Recipe};
 use records::{Item, Origin};
 use std::alloc::Global;

@@ -3,8 +3,8 @@ ghost use Rattle.device.specs.Devices.{device_view, IsRegularDevice};
 ghost use Rattle.device.specs.Sound.{IsSound};
 
 use device::{Device, replay};
-use disk_model::MemoryDisk;
-use gate_log::Log;
+use disk_model::{Disk, MemoryDisk};
+use gate_log::{Journal, Log};
 use library_core::MemoryLibrary;
 use nuc_base::{Bytes, List};
 use plan_core::{Refusal, propose_read};

@@ -1,5 +1,5 @@
 // Stores whose journals hold records that are named.
-use disk_model::{DiskFault, MemoryDisk};
+use disk_model::{Disk, DiskFault, MemoryDisk};
 use std::alloc::Global;
 use std::test::Fail;
 use test_support::journal_of;
