@@ -22,6 +22,9 @@ function has_name(crate, name) {
 }
 
 function check(span,    pieces, count, head, last, owner, crate) {
+    if (span in others) {
+        return
+    }
     if (span ~ /^(crates|docs|examples|contrib)\/[A-Za-z0-9_.\/-]+$/) {
         if (system("test -e '" root "/" span "'") != 0) {
             missing(span)
@@ -34,7 +37,7 @@ function check(span,    pieces, count, head, last, owner, crate) {
         }
         return
     }
-    if (span !~ /^[A-Za-z_][A-Za-z_0-9]*((::|\.)[A-Za-z_][A-Za-z_0-9]*)*$/ || (span in others)) {
+    if (span !~ /^[A-Za-z_][A-Za-z_0-9]*((::|\.)[A-Za-z_][A-Za-z_0-9]*)*$/) {
         return
     }
     count = split(span, pieces, /::|\./)
