@@ -67,9 +67,9 @@ pub data Generation : Type 0 where
   shutting_down : Generation  -- all are being stopped for the end of the call
 
 abbrev pub is_current : Generation → Bool
-is_current present = true
+is_current current = true
 is_current c = false
 
 abbrev pub is_shutting_down : Generation → Bool
-is_shutting_down closing = true
+is_shutting_down shutting_down = true
 is_shutting_down c = false
