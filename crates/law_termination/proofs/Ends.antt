@@ -69,7 +69,7 @@ gone_kept k n e w i a h = record {
         (lived w.steady e) (changed_at k (without_child n) w.parts)) ≡ map view w.parts) [
           | true ↦ marked_view (reaching (length (flagged_at k (changed_at k (lived w.steady e) (changed_at k (without_child n) w.parts))))
               (flagged_at k (changed_at k (lived w.steady e) (changed_at k (without_child n) w.parts)))) ∙ ap (λ (ps : List ComponentState). map view ps) back
-                  ∙ one
+              ∙ one
           | false ↦ one
         ]
 

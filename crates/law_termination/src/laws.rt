@@ -33,7 +33,7 @@ pub fn stopping()
 pub fn rank_falls()
     ensures moves { (w : Components) → AreKept w → IsFalling w → (k : ℕ) (e : LifeEvent) → MayMove w k e → rank (lived_at k e w) < rank w }
     ensures kills { (w : Components) → AreKept w → IsFalling w → (n k : ℕ) (s : Step) → MayKill w n k s → rank (killed n w) < rank w }
-    ensures is_modelled { (w : Components) → AreKept w → IsFalling w → (k : ℕ) (s : Step) (x : Exit) (breaks : Bool) → OwesAt w k s x breaks →
+    ensures tells { (w : Components) → AreKept w → IsFalling w → (k : ℕ) (s : Step) (x : Exit) (breaks : Bool) → OwesAt w k s x breaks →
         rank (told_at k w) < rank w }
     ensures starts { (w : Components) → AreKept w → IsFalling w → (k n : ℕ) (s : Step) → At k (λ p. is_begun s p ≡ true) w.parts →
         rank (started k s n w) < rank w }
@@ -49,7 +49,7 @@ pub fn rank_falls()
 pub fn each_keeps()
     ensures moves { (w : Components) → AreKept w → (k : ℕ) (e : LifeEvent) → MayMove w k e → StaysKept w (lived_at k e w) }
     ensures kills { (w : Components) → AreKept w → (n k : ℕ) (s : Step) → MayKill w n k s → StaysKept w (killed n w) }
-    ensures is_modelled { (w : Components) → AreKept w → (k : ℕ) (s : Step) (x : Exit) (breaks : Bool) → OwesAt w k s x breaks → StaysKept w (told_at k w) }
+    ensures tells { (w : Components) → AreKept w → (k : ℕ) (s : Step) (x : Exit) (breaks : Bool) → OwesAt w k s x breaks → StaysKept w (told_at k w) }
     ensures starts { (w : Components) → AreKept w → (k n : ℕ) (s : Step) → At k (λ p. is_begun s p ≡ true) w.parts → StaysKept w (started k s n w) }
     ensures refuses { (w : Components) → AreKept w → (k : ℕ) (s : Step) → At k (λ p. is_begun s p ≡ true) w.parts → StaysKept w (refused k s w) }
     ensures skips { (w : Components) → AreKept w → (k : ℕ) (s : Step) → At k (λ p. is_begun s p ≡ true) w.parts → StaysKept w (skipped k w) }

@@ -25,6 +25,7 @@ use Rattle.checkpoint_log.specs.declared.slots.Slots.{Slots}
 use Rattle.library_core.specs.Library.{Content}
 use Rattle.records.specs.declared.record.Origin.{Origin}
 use Rattle.records.specs.declared.record.Plan as code
+use Rattle.artifact_store.specs.Swept.{IsSwept, items_of}
 use Rattle.device.specs.Devices.{Device, Pending as PendingPlan}
 use Rattle.deploy_state.specs.States.{OwnsIdle, OwnsLoaded, activating_device, backing_device, booting_device, idle_device, rolling_device}
 use Rattle.deploy_state.specs.declared.fault.LoadFault.{LoadFault}
@@ -124,11 +125,12 @@ module _ (store : Store) where
     unswept_withholds (Err NoMemory) is rose = inr (d, found)
     unswept_withholds (Err a) is rose = absurd is
 
-    pub pending_withholds : {S : Type 0} (result : Result S Answer) → IfErr result (λ a. NamesPendingOf d a) → IfErr result (λ a. MayNotOpenIdle store a)
-    pending_withholds (Ok s) names = tt
-    pending_withholds (Err (Pending id)) names = (d, found, names)
-    pending_withholds (Err NoMemory) names = inr (d, found)
-    pending_withholds (Err a) names = absurd names
+    pub pending_withholds : {S : Type 0} (result : Result S Answer) → IfErr result (λ a. NamesPendingOf d a) →
+        (IsTrue store.is_modelled → IsSwept (items_of d) store.after) → IfErr result (λ a. MayNotOpenIdle store a)
+    pending_withholds (Ok s) names swept = tt
+    pending_withholds (Err (Pending id)) names swept = (d, found, names, swept)
+    pending_withholds (Err NoMemory) names swept = inr (d, found)
+    pending_withholds (Err a) names swept = absurd names
 
     pub unread_turns : (input : Input) (a : Answer) → d.pending ≡ None → GoesUnread input a → TurnsAway store input a
     unread_turns input SourceFailed idle why = ((d, found, idle), why)
@@ -143,31 +145,31 @@ names_pending d q a is names = absurd names
 
 pub unread_goes : (input : Input) (f : ReadFault) (a : Answer) → TellsUnread f a → (f ≡ reading.Edge → Rose input.faults_before input.faults_after) →
     GoesUnread input a
-unread_goes input reading.Edge SourceFailed is_modelled rose = rose refl
-unread_goes input reading.NoMemory NoMemory is_modelled rose = tt
-unread_goes input f a is_modelled rose = absurd is_modelled
+unread_goes input reading.Edge SourceFailed tells rose = rose refl
+unread_goes input reading.NoMemory NoMemory tells rose = tt
+unread_goes input f a tells rose = absurd tells
 
 -- a disk that failed
 pub disk_of : (fault : LoadFault) (a : Answer) → TellsFault fault a → a ≡ DiskFailed → fault ≡ load.Disk
-disk_of load.Disk a is_modelled is = refl
-disk_of load.NotInitialised a is_modelled is = absurd (subst (TellsFault load.NotInitialised) is is_modelled)
-disk_of (load.Damaged at) a is_modelled is = absurd (subst (TellsFault (load.Damaged at)) is is_modelled)
-disk_of load.NoMemory a is_modelled is = absurd (subst (TellsFault load.NoMemory) is is_modelled)
+disk_of load.Disk a tells is = refl
+disk_of load.NotInitialised a tells is = absurd (subst (TellsFault load.NotInitialised) is tells)
+disk_of (load.Damaged at) a tells is = absurd (subst (TellsFault (load.Damaged at)) is tells)
+disk_of load.NoMemory a tells is = absurd (subst (TellsFault load.NoMemory) is tells)
 
 -- stray files that are not swept
 pub swept_unswept : (fault : SweepFault) (a : Answer) → TellsSweep fault a → IsUnswept a
-swept_unswept sweep.Disk DiskFailed is_modelled = tt
-swept_unswept sweep.NoMemory NoMemory is_modelled = tt
-swept_unswept fault a is_modelled = absurd is_modelled
+swept_unswept sweep.Disk DiskFailed tells = tt
+swept_unswept sweep.NoMemory NoMemory tells = tt
+swept_unswept fault a tells = absurd tells
 
 pub swept_disk : (fault : SweepFault) (a : Answer) → TellsSweep fault a → a ≡ DiskFailed → fault ≡ sweep.Disk
-swept_disk sweep.Disk a is_modelled is = refl
-swept_disk sweep.NoMemory a is_modelled is = absurd (subst (TellsSweep sweep.NoMemory) is is_modelled)
+swept_disk sweep.Disk a tells is = refl
+swept_disk sweep.NoMemory a tells is = absurd (subst (TellsSweep sweep.NoMemory) is tells)
 
 pub disk_swept : (fault : SweepFault) (a : Answer) → TellsSweep fault a → fault ≡ sweep.Disk → a ≡ DiskFailed
-disk_swept sweep.Disk DiskFailed is_modelled is = refl
-disk_swept sweep.NoMemory a is_modelled is = cc
-disk_swept sweep.Disk a is_modelled is = absurd is_modelled
+disk_swept sweep.Disk DiskFailed tells is = refl
+disk_swept sweep.NoMemory a tells is = cc
+disk_swept sweep.Disk a tells is = absurd tells
 
 -- a pending deployment
 pub pending_no_disk : {S : Type 0} (d : Device) (result : Result S Answer) → IfErr result (λ a. NamesPendingOf d a) → IsErrOf result DiskFailed → ⊥
@@ -225,15 +227,15 @@ pub record Tells (printed : Printed) (result : Status) (a : Answer) : Type 0 whe
   pub quiet : result ≢ status.Disk → result ≢ status.Edge → a ≢ DiskFailed
   pub quiet_sink : result ≢ status.Edge → printed.faults_after ≡ printed.faults_before
 
-pub is_modelled : (printed : Printed) (result : Status) (a : Answer) → IsFirst a ⊎ IsPending a → Told printed result a → Tells printed result a
-is_modelled printed result a is (inl told) = record {
+pub tells : (printed : Printed) (result : Status) (a : Answer) → IsFirst a ⊎ IsPending a → Told printed result a → Tells printed result a
+tells printed result a is (inl told) = record {
   disk = λ same. refusal_disk a is (sym told.0 ∙ same);
   edge = λ same. absurd (refusal_edge a is (sym told.0 ∙ same));
   library = λ same. refusal_library a is (sym told.0 ∙ same);
   quiet = λ other more fails. other (told.0 ∙ ap status_of fails);
   quiet_sink = λ other. told.2;
 }
-is_modelled printed result a is (inr told) = record {
+tells printed result a is (inr told) = record {
   disk = λ same. cc;
   edge = λ same. told.1.rose;
   library = λ same. cc;

@@ -11,6 +11,7 @@ use Rattle.command_words.specs.Words.{IsOrder}
 use Rattle.command_words.specs.declared.order.Order.TheVariants.{Deploy, Resume}
 use Rattle.records.specs.declared.record.Origin.{Origin}
 use Rattle.records.specs.declared.record.Plan as code
+use Rattle.artifact_store.specs.Swept.{IsSwept, items_of}
 use Rattle.device.specs.Devices.{Device, Pending as PendingPlan}
 use Rattle.device.specs.Sound.{IsSound}
 use Rattle.deploy_state.specs.Turning.{can_turn, front_bytes, start_of, starts_at}
@@ -61,9 +62,10 @@ MayNotOpen store (Damaged place) = Refuses store (Damaged place)
 MayNotOpen store NoMemory = Refuses store NoMemory ⊎ IsThere store
 MayNotOpen store _ = ⊥
 
--- Why there is none without a pending deployment: there is none, or the deployment of this id is pending.
+-- Why there is none without a pending deployment: there is none, or the deployment of this id is pending, and stray files
+-- are swept.
 abbrev pub MayNotOpenIdle : Store → Answer → Type 0
-MayNotOpenIdle store (Pending id) = (d : Device) × IsFound store d × IsPendingAs id d
+MayNotOpenIdle store (Pending id) = (d : Device) × IsFound store d × IsPendingAs id d × (IsTrue store.is_modelled → IsSwept (items_of d) store.after)
 MayNotOpenIdle store answer = MayNotOpen store answer
 
 -- Why `deploy` is turned away: there is none, and where one is pending the source is left as it was; or the source failed.

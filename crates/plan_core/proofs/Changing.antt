@@ -81,11 +81,11 @@ changed_version origin set items at before version i there other = inl (subst (�
 pub changed_script : (origin : Origin) (set items : List Item) (at before : ℕ) (version : List ℕ) (i : Item) (b : Bool) → slice_get set before ≡ Some i →
     i.version ≡ version
     → IsTrue b ↔ ScriptsDiffer origin set items before at → IsTrue b ↔ IsChanged origin set items at version (Some before)
-changed_script origin set items at before version i b there same is_modelled = (
-  λ t. inr (is_modelled.0 t),
+changed_script origin set items at before version i b there same tells = (
+  λ t. inr (tells.0 t),
   λ changed. elim changed [
     | inl other ↦ absurd ((subst (λ o. IsOtherVersion o version) there other) same)
-    | inr differ ↦ is_modelled.1 differ
+    | inr differ ↦ tells.1 differ
   ],
 )
 
@@ -118,11 +118,11 @@ pub due : (origin : Origin) (set : List Item) (cs : List Candidate) (items : Lis
     slice_get cs at ≡ Some c
     → c.recipe.bootstrap ≡ Some step → IsTrue b ↔ IsChanged origin set items at c.recipe.version (place c.recipe.name set) → IsTrue b ↔ IsDue origin
     set cs items at
-due origin set cs items at c step b there has is_modelled = (
-  λ t. record { candidate = c; there = there; step = subst IsSome (sym has) refl; changed = is_modelled.0 t },
+due origin set cs items at c step b there has tells = (
+  λ t. record { candidate = c; there = there; step = subst IsSome (sym has) refl; changed = tells.0 t },
   λ d. let both : Some d.candidate ≡ Some c = sym d.there ∙ there in
       let same : d.candidate ≡ c = cc in
-      is_modelled.1 (subst (λ (x : Candidate). IsChanged origin set items at x.recipe.version (place x.recipe.name set)) same d.changed),
+      tells.1 (subst (λ (x : Candidate). IsChanged origin set items at x.recipe.version (place x.recipe.name set)) same d.changed),
 )
 
 pub not_due : (origin : Origin) (set : List Item) (cs : List Candidate) (items : List Item) (at : ℕ) (c : Candidate) → slice_get cs at ≡ Some c

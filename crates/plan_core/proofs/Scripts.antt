@@ -64,7 +64,7 @@ one_script one alike origin items at a b first second =
 -- so two texts of it tell whether it says something else elsewhere
 pub scripts_decide : IsOneRecipe → ExpandAlike → (origin : Origin) (set items : List Item) (before at : ℕ) (old new : List ℕ) (b : Bool)
     → IsBootScript origin set before old → IsBootScript origin items at new → IsTrue b ↔ (old ≢ new) → IsTrue b ↔ ScriptsDiffer origin set items before at
-scripts_decide one alike origin set items before at old new b was is is_modelled = (
-  λ h. record { old = old; new = new; was = was; is = is; differ = is_modelled.0 h },
-  λ d. is_modelled.1 (λ e. d.differ (one_script one alike origin set before d.old old d.was was ∙ e ∙ one_script one alike origin items at new d.new is d.is)),
+scripts_decide one alike origin set items before at old new b was is tells = (
+  λ h. record { old = old; new = new; was = was; is = is; differ = tells.0 h },
+  λ d. tells.1 (λ e. d.differ (one_script one alike origin set before d.old old d.was was ∙ e ∙ one_script one alike origin items at new d.new is d.is)),
 )

@@ -297,16 +297,16 @@ owes_at w k s e b u h =
     at_from (λ p. (p.owed ≡ Some (s, e)) × (is_broken p.life.state ≡ b) × (place_of (component_name p) w.parts ≡ Some k)) k w.parts x.0 x.1
     (y.0, y.1, place_is 0 k x.0 w.parts x.1 u ∙ ap (λ (n : ℕ). Some n) (let z : 0 + k ≡ k = omega arith in z))
 
-pub is_modelled : (w v : Components) (k : ℕ) (act : Act) → AreNamesApart (map component_name w.parts) → IsOwed k w.parts act → v ≡ told_at k w →
+pub tells : (w v : Components) (k : ℕ) (act : Act) → AreNamesApart (map component_name w.parts) → IsOwed k w.parts act → v ≡ told_at k w →
     HandsOut w (Some act) v
-is_modelled w v k (acts.Start i t) u o h = absurd o
-is_modelled w v k (acts.Kill n) u o h = absurd o
-is_modelled w v k (acts.Failed i t e) u o h = (
+tells w v k (acts.Start i t) u o h = absurd o
+tells w v k (acts.Kill n) u o h = absurd o
+tells w v k (acts.Failed i t e) u o h = (
   owes_at w i t e false u
       (subst (λ (j : ℕ). At j (λ p. (p.owed ≡ Some (t, e)) × (is_broken p.life.state ≡ false)) w.parts) (sym o.0) o.1),
   h ∙ ap (λ (j : ℕ). told_at j w) (sym o.0),
 )
-is_modelled w v k (acts.Broke i t e) u o h = (
+tells w v k (acts.Broke i t e) u o h = (
   owes_at w i t e true u
       (subst (λ (j : ℕ). At j (λ p. (p.owed ≡ Some (t, e)) × (is_broken p.life.state ≡ true)) w.parts) (sym o.0) o.1),
   h ∙ ap (λ (j : ℕ). told_at j w) (sym o.0),

@@ -7,8 +7,8 @@ returns-clause-moves c = λ w a f. move_lowers w a.parts a.few f
 pub returns-clause-kills : goal.returns-clause-kills
 returns-clause-kills c = λ w a f. killed_lowers w a.parts a.few f
 
-pub returns-clause-is_modelled : goal.returns-clause-is_modelled
-returns-clause-is_modelled c = λ w a f. told_lowers w a.parts a.few f
+pub returns-clause-tells : goal.returns-clause-tells
+returns-clause-tells c = λ w a f. told_lowers w a.parts a.few f
 
 pub returns-clause-starts : goal.returns-clause-starts
 returns-clause-starts c = λ w a f. started_lowers w a.parts a.few f

@@ -64,6 +64,7 @@ pub returns-in-Ok-clause-answers : goal.returns-in-Ok-clause-answers
 returns-in-Ok-clause-answers g c =
     let store : Store = store_of g.D.Disk.is_modelled g.D.Disk.seen g.D.Disk.faults c.args.disk.now c.open_swept.new.disk in
     pending_withholds store (loaded_device c.in-Ok.state) c.in-Ok.ensures.opened c.idle_of.result c.idle_of.ensures.answers
+    c.in-Ok.ensures.clean
 
 pub returns-in-Err-clause-images : goal.returns-in-Err-clause-images
 returns-in-Err-clause-images g c = c.open_swept.ensures.images

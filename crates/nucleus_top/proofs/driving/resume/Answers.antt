@@ -8,7 +8,7 @@ use Rattle.histories.specs.TraceEvents.{records_of}
 use Rattle.histories.specs.States.{state_after}
 use Rattle.nucleus_top.specs.Answers.{Printed, printed_of, store_of}
 use Rattle.nucleus_top.proofs.Crashes.{kept_fronts, loaded_sound, loaded_stands, same_fronts}
-use Rattle.nucleus_top.proofs.Driven.{begun, front_begun, resumed_on, slots_elsewhere, stays, stays_on, is_modelled, told_sweeps, withheld_first}
+use Rattle.nucleus_top.proofs.Driven.{begun, front_begun, resumed_on, slots_elsewhere, stays, stays_on, tells, told_sweeps, withheld_first}
 use Rattle.nucleus_top.proofs.Meeting.{brought_stay_met, resumed_brings}
 use Rattle.nucleus_top.proofs.Whole.{held_whole}
 use Rattle.nucleus_top.proofs.driving.resume.Goals as goal
@@ -120,35 +120,35 @@ returns-in-Err-clause-others g c = c.open_swept.ensures.others
 pub returns-in-Err-clause-disk : goal.returns-in-Err-clause-disk
 returns-in-Err-clause-disk g c = λ is.
     let printed : Printed = printed_of g.K.Sink.held g.K.Sink.faults c.args.sink.now c.tell-status.new.sink in
-    c.in-Err.ensures.disk (ap Err ((is_modelled printed c.tell-status.result c.in-Err.answer
+    c.in-Err.ensures.disk (ap Err ((tells printed c.tell-status.result c.in-Err.answer
     (inl (withheld_first (store_of g.D.Disk.is_modelled g.D.Disk.seen g.D.Disk.faults c.args.disk.now c.open_swept.new.disk) c.in-Err.answer
     c.in-Err.ensures.answers)) c.tell-status.ensures.told).disk is))
 
 pub returns-in-Err-clause-edge : goal.returns-in-Err-clause-edge
 returns-in-Err-clause-edge g c =
     let printed : Printed = printed_of g.K.Sink.held g.K.Sink.faults c.args.sink.now c.tell-status.new.sink in
-    (is_modelled printed c.tell-status.result c.in-Err.answer
+    (tells printed c.tell-status.result c.in-Err.answer
     (inl (withheld_first (store_of g.D.Disk.is_modelled g.D.Disk.seen g.D.Disk.faults c.args.disk.now c.open_swept.new.disk) c.in-Err.answer
     c.in-Err.ensures.answers)) c.tell-status.ensures.told).edge
 
 pub returns-in-Err-clause-quiet_disk : goal.returns-in-Err-clause-quiet_disk
 returns-in-Err-clause-quiet_disk g c = λ other more.
     let printed : Printed = printed_of g.K.Sink.held g.K.Sink.faults c.args.sink.now c.tell-status.new.sink in
-    c.in-Err.ensures.quiet (λ is. (is_modelled printed c.tell-status.result c.in-Err.answer
+    c.in-Err.ensures.quiet (λ is. (tells printed c.tell-status.result c.in-Err.answer
     (inl (withheld_first (store_of g.D.Disk.is_modelled g.D.Disk.seen g.D.Disk.faults c.args.disk.now c.open_swept.new.disk) c.in-Err.answer
     c.in-Err.ensures.answers)) c.tell-status.ensures.told).quiet other more (cc))
 
 pub returns-in-Err-clause-quiet_sink : goal.returns-in-Err-clause-quiet_sink
 returns-in-Err-clause-quiet_sink g c =
     let printed : Printed = printed_of g.K.Sink.held g.K.Sink.faults c.args.sink.now c.tell-status.new.sink in
-    (is_modelled printed c.tell-status.result c.in-Err.answer
+    (tells printed c.tell-status.result c.in-Err.answer
     (inl (withheld_first (store_of g.D.Disk.is_modelled g.D.Disk.seen g.D.Disk.faults c.args.disk.now c.open_swept.new.disk) c.in-Err.answer
     c.in-Err.ensures.answers)) c.tell-status.ensures.told).quiet_sink
 
 pub returns-in-Err-clause-own : goal.returns-in-Err-clause-own
 returns-in-Err-clause-own g c =
     let printed : Printed = printed_of g.K.Sink.held g.K.Sink.faults c.args.sink.now c.tell-status.new.sink in
-    (is_modelled printed c.tell-status.result c.in-Err.answer
+    (tells printed c.tell-status.result c.in-Err.answer
     (inl (withheld_first (store_of g.D.Disk.is_modelled g.D.Disk.seen g.D.Disk.faults c.args.disk.now c.open_swept.new.disk) c.in-Err.answer
     c.in-Err.ensures.answers)) c.tell-status.ensures.told).library
 

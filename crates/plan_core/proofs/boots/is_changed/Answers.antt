@@ -91,6 +91,6 @@ returns c =
     if_ok c.scripts_differ.result
     (λ b. IsTrue b ↔ ScriptsDiffer origin set items c.in-Some.before c.args.at)
     (λ b. IsTrue b ↔ IsChanged origin set items c.args.at candidate.recipe.version (place candidate.recipe.name set))
-    (λ b is_modelled. subst (λ o. IsTrue b ↔ IsChanged origin set items c.args.at candidate.recipe.version o) found
-    (changed_script origin set items c.args.at c.in-Some.before candidate.recipe.version (item_view x) b there version is_modelled))
+    (λ b tells. subst (λ o. IsTrue b ↔ IsChanged origin set items c.args.at candidate.recipe.version o) found
+    (changed_script origin set items c.args.at c.in-Some.before candidate.recipe.version (item_view x) b there version tells))
     c.scripts_differ.ensures

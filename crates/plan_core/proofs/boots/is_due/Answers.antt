@@ -57,8 +57,8 @@ returns-in-Some c =
     if_ok c.is_changed.result
     (λ r. IsTrue r ↔ IsChanged origin set items c.args.at b.now.recipe.version (place b.now.recipe.name set))
     (λ r. IsTrue r ↔ IsDue origin set cs items c.args.at)
-    (λ r is_modelled. due origin set cs items c.args.at b.now c.in-Some.step r
-    (chosen_there c.args.choice.now c.args.at b c.requires.place c.index-choice-at.is) c.in-Some.is is_modelled)
+    (λ r tells. due origin set cs items c.args.at b.now c.in-Some.step r
+    (chosen_there c.args.choice.now c.args.at b c.requires.place c.index-choice-at.is) c.in-Some.is tells)
     c.is_changed.ensures
 
 pub returns-in-None : goal.returns-in-None

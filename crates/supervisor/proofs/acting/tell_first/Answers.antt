@@ -1,7 +1,7 @@
 use Rattle.std.proofs.Common.{List, ap, refl}
 use Rattle.components.specs.Flags.{at_moment}
 use Rattle.components.specs.Components.{ComponentState}
-use Rattle.supervisor.proofs.Deeds.{owed_below, is_modelled}
+use Rattle.supervisor.proofs.Deeds.{owed_below, tells}
 use Rattle.supervisor.proofs.acting.tell_first.Goals as goal
 
 pub tell_at-requires : goal.tell_at-requires
@@ -12,7 +12,7 @@ returns-in-None-clause-none c = λ e. (c.in-None.ensures, refl)
 
 pub returns-in-Some-clause-some : goal.returns-in-Some-clause-some
 returns-in-Some-clause-some c = λ m s.
-    is_modelled (at_moment c.args.slots.now m s) (at_moment c.tell_at.new.slots m s) c.in-Some.at c.in-Some.act c.requires.names c.in-Some.ensures
+    tells (at_moment c.args.slots.now m s) (at_moment c.tell_at.new.slots m s) c.in-Some.at c.in-Some.act c.requires.names c.in-Some.ensures
     (ap (λ (ps : List ComponentState). at_moment ps m s) c.tell_at.ensures)
 
 pub returns-in-Some-clause-told : goal.returns-in-Some-clause-told
