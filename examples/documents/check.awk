@@ -3,6 +3,7 @@
 #
 #   `crate::function.clause`, `Type::function.clause`, `function.clause`, `Definition.field`   exactly so
 #   `.clause` behind one of these on its line                                                   of the same function or definition
+#   `name` of `crate`, the crate behind it on its line                                          a name of that crate
 #   `crate::name`, `name`                                                                       a name of that crate, of the tree
 #   `crates/..`, `docs/..`, `examples/..`, `contrib/..`                                         a file or a folder
 
@@ -14,6 +15,16 @@ function missing(span) {
 # A clause of a function, or a field of a definition, in this crate or, where that is empty, in any.
 function has_part(crate, owner, part) {
     return ((crate SUBSEP owner SUBSEP part) in parts)
+}
+
+# Whether the name is that of a clause of the crate's function of the crate's name, as `nucleus` of `nucleus` is.
+function has_clause(crate, name) {
+    return (("" SUBSEP crate SUBSEP name) in parts)
+}
+
+# Whether it is that of a file of the crate's definitions.
+function has_file(crate, name) {
+    return system("test -e '" root "/crates/" crate "/specs/" name ".antt'") == 0
 }
 
 # Whether the name stands in the crate, as code or as a definition.
@@ -104,8 +115,15 @@ fenced || /^    [^ -]/ {
     said_owner = ""
     line = $0
     while (match(line, /`[^`]+`/)) {
-        check(substr(line, RSTART + 1, RLENGTH - 2))
+        span = substr(line, RSTART + 1, RLENGTH - 2)
+        check(span)
         line = substr(line, RSTART + RLENGTH)
+        if (span ~ /^[A-Za-z_][A-Za-z_0-9]*$/ && match(line, /^ of `[a-z_0-9]+`/)) {
+            crate = substr(line, 6, RLENGTH - 6)
+            if (crate in crates && !has_name(crate, span) && !has_clause(crate, span) && !has_file(crate, span)) {
+                missing(span "` of `" crate)
+            }
+        }
     }
 }
 END {
