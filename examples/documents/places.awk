@@ -41,6 +41,8 @@ FNR == 1 {
                 tell()
             }
             token = substr(token, 2, length(token) - 2)
+            # A function of a type.
+            sub(/^[A-Z][A-Za-z_0-9]*::/, "", token)
             if (!is_row && between !~ /^(, | and )$/) {
                 names = ""
             }
