@@ -1,4 +1,4 @@
-//! What a session is: the definitions of its history.
+//! What a session may do: the definitions of its history, which is the specification of all session crates.
 //!
 //! It promises that histories join, and what follows of failures and bootstraps from a history alone. `history_rows` has the
 //! worked rows and the wrong bodies.

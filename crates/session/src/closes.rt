@@ -31,7 +31,7 @@ use edges::Sink;
 use gate_log::Journal;
 use nuc_base::{Outcome, Status};
 use refusal_lines::outcome_status;
-use session_shutdown::stop_all_components;
+use session_shutdown::stop_components;
 use session_transitions::kill_all;
 use std::alloc::Global;
 use step_runner::Runner;
@@ -45,7 +45,7 @@ fn stop<R: Runner, S: Supervise>(outcome: Outcome, runner: &mut R, supervisor: &
     ensures answers { result ≡ status_of_outcome outcome }
     ensures none { R.living runner.new ≡ [] }
 {
-    stop_all_components(runner, supervisor);
+    stop_components(runner, supervisor);
     outcome_status(outcome)
 }
 

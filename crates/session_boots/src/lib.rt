@@ -1,7 +1,7 @@
-//! How a deployment is driven: the calls that run its steps, keep their records and print their lines.
+//! The bootstraps of a plan, one after another: the calls that run them, keep their records and print their lines.
 //!
 //! It promises that what happens in each of its calls is a history that `histories` allows, that at every moment each image
-//! that a crash may leave stands for the device that a front of its records gives, and that the lines are those of the
+//! that a crash may leave stands for the device that a prefix of its records gives, and that the lines are those of the
 //! records. It stands on `deploy_state` for the records, on `step_runner` for children, and on `histories` for what a
 //! history is.
 #![tactic(auto)]

@@ -23,7 +23,7 @@ use edges::Sink;
 use gate_log::Journal;
 use nuc_base::Outcome;
 use session_boots::SessionFault;
-use session_shutdown::stop_all_components;
+use session_shutdown::stop_components;
 use session_transitions::{
     begin_rollback_again, begin_rollback_of_activating, close_failed_activating,
     close_failed_again, is_to_roll_back, kill_all,
@@ -58,7 +58,7 @@ where
     ensures quiet_disk { ¬ (IsErrOf result SessionFault.Disk) → D.faults disk.new ≡ D.faults disk.old }
     ensures quiet_sink { ¬ (IsErrOf result SessionFault.Edge) → K.faults sink.new ≡ K.faults sink.old }
 {
-    stop_all_components(runner, supervisor);
+    stop_components(runner, supervisor);
     roll_back(broke, backs, ready, disk, sink, runner, supervisor)
 }
 

@@ -13,4 +13,4 @@ mod stops;
 mod turns;
 mod waits;
 
-pub use stops::stop_all_components;
+pub use stops::stop_components;

@@ -32,7 +32,7 @@ fn stop_on<R: Runner, S: Supervise>(runner: &mut R, supervisor: &mut S)
 
 /// Stops all components, each with its shutdown step where it has one, until none stands and no child lives. No disk sees
 /// it: nothing is recorded.
-pub fn stop_all_components<R: Runner, S: Supervise>(runner: &mut R, supervisor: &mut S)
+pub fn stop_components<R: Runner, S: Supervise>(runner: &mut R, supervisor: &mut S)
     requires drives { Drives (S.world supervisor.old) }
     requires placed { (p : SessionState) × (d : Device) × AsTold R.Runner runner.old (MayStop p d (S.world supervisor.old)) }
     ensures trace { (p : SessionState) → (d : Device) → AsTold R.Runner runner.old (MayStop p d (S.world supervisor.old)) →

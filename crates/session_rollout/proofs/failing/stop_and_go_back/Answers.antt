@@ -8,11 +8,11 @@ use Rattle.session_rollout.proofs.Leaving.{driven_on}
 use Rattle.session_rollout.proofs.Stopping.{broken_busy, stopped_front, stopped_orderly, turned_stops}
 use Rattle.session_rollout.proofs.failing.stop_and_go_back.Goals as goal
 
-pub stop_all_components-requires-clause-drives : goal.stop_all_components-requires-clause-drives
-stop_all_components-requires-clause-drives g c = c.requires.drives
+pub stop_components-requires-clause-drives : goal.stop_components-requires-clause-drives
+stop_components-requires-clause-drives g c = c.requires.drives
 
-pub stop_all_components-requires-clause-placed : goal.stop_all_components-requires-clause-placed
-stop_all_components-requires-clause-placed g c =
+pub stop_components-requires-clause-placed : goal.stop_components-requires-clause-placed
+stop_components-requires-clause-placed g c =
     let q = c.requires.placed in
     let d = broken_device c.args.broke in
     let told = Listed g.R.Runner.list g.R.Runner.told g.R.Runner.asked c.args.runner.now in
@@ -23,10 +23,10 @@ roll_back-requires-clause-orderly g c =
     let q = c.requires.placed in
     let d = broken_device c.args.broke in
     let told = Listed g.R.Runner.list g.R.Runner.told g.R.Runner.asked c.args.runner.now in
-    let new = Listed g.R.Runner.list g.R.Runner.told g.R.Runner.asked c.stop_all_components.new.runner in
-    let world = g.S.Supervise.world c.stop_all_components.new.supervisor in
-    let living = g.R.Runner.living c.stop_all_components.new.runner in
-    let t = c.stop_all_components.ensures.trace q.0 d (turned_stops q.0 d (g.S.Supervise.world c.args.supervisor.now) told
+    let new = Listed g.R.Runner.list g.R.Runner.told g.R.Runner.asked c.stop_components.new.runner in
+    let world = g.S.Supervise.world c.stop_components.new.supervisor in
+    let living = g.R.Runner.living c.stop_components.new.runner in
+    let t = c.stop_components.ensures.trace q.0 d (turned_stops q.0 d (g.S.Supervise.world c.args.supervisor.now) told
     (g.R.Runner.living c.args.runner.now) q.1) in
     stopped_orderly (state_after q.0 t.0) d world new living t.2
 
@@ -35,11 +35,11 @@ roll_back-requires-clause-placed g c =
     let q = c.requires.placed in
     let d = broken_device c.args.broke in
     let told = Listed g.R.Runner.list g.R.Runner.told g.R.Runner.asked c.args.runner.now in
-    let new = Listed g.R.Runner.list g.R.Runner.told g.R.Runner.asked c.stop_all_components.new.runner in
-    let world = g.S.Supervise.world c.stop_all_components.new.supervisor in
-    let living = g.R.Runner.living c.stop_all_components.new.runner in
+    let new = Listed g.R.Runner.list g.R.Runner.told g.R.Runner.asked c.stop_components.new.runner in
+    let world = g.S.Supervise.world c.stop_components.new.supervisor in
+    let living = g.R.Runner.living c.stop_components.new.runner in
     let busy = broken_busy g.D.Disk.is_modelled g.D.Disk.may_leave g.J.Journal.stands g.J.Journal.end c.args.broke c.args.disk.now c.requires.held in
-    let t = c.stop_all_components.ensures.trace q.0 d (turned_stops q.0 d (g.S.Supervise.world c.args.supervisor.now) told
+    let t = c.stop_components.ensures.trace q.0 d (turned_stops q.0 d (g.S.Supervise.world c.args.supervisor.now) told
     (g.R.Runner.living c.args.runner.now) q.1) in
     (state_after q.0 t.0, stopped_front (state_after q.0 t.0) d world new living busy t.2)
 
@@ -47,13 +47,13 @@ pub returns-clause-course : goal.returns-clause-course
 returns-clause-course g c = λ p turned.
     let d = broken_device c.args.broke in
     let told = Listed g.R.Runner.list g.R.Runner.told g.R.Runner.asked c.args.runner.now in
-    let new = Listed g.R.Runner.list g.R.Runner.told g.R.Runner.asked c.stop_all_components.new.runner in
-    let world = g.S.Supervise.world c.stop_all_components.new.supervisor in
-    let living = g.R.Runner.living c.stop_all_components.new.runner in
+    let new = Listed g.R.Runner.list g.R.Runner.told g.R.Runner.asked c.stop_components.new.runner in
+    let world = g.S.Supervise.world c.stop_components.new.supervisor in
+    let living = g.R.Runner.living c.stop_components.new.runner in
     let last = Listed g.R.Runner.list g.R.Runner.told g.R.Runner.asked c.roll_back.new.runner in
     let busy = broken_busy g.D.Disk.is_modelled g.D.Disk.may_leave g.J.Journal.stands g.J.Journal.end c.args.broke c.args.disk.now c.requires.held in
     let held = broken_held g.D.Disk.is_modelled g.D.Disk.may_leave g.J.Journal.stands g.J.Journal.end c.args.broke c.args.disk.now c.requires.held in
-    let t = c.stop_all_components.ensures.trace p d (turned_stops p d (g.S.Supervise.world c.args.supervisor.now) told (g.R.Runner.living c.args.runner.now)
+    let t = c.stop_components.ensures.trace p d (turned_stops p d (g.S.Supervise.world c.args.supervisor.now) told (g.R.Runner.living c.args.runner.now)
     turned) in
     let front = stopped_front (state_after p t.0) d world new living busy t.2 in
     joined g.J.Journal.entries g.J.Journal.files g.met.D.Disk.laws c.args.disk.now c.args.disk.now c.roll_back.new.disk told.list new.list last.list
@@ -64,4 +64,4 @@ returns-clause-course g c = λ p turned.
     (c.roll_back.ensures.course (state_after p t.0) front)
 
 pub roll_back-requires-clause-drives : goal.roll_back-requires-clause-drives
-roll_back-requires-clause-drives g c = c.stop_all_components.ensures.drives
+roll_back-requires-clause-drives g c = c.stop_components.ensures.drives

@@ -10,7 +10,7 @@ use Rattle.session_boots.proofs.Acting.{acts_on}
 use Rattle.session_shutdown.specs.Runs.{IsAtTurnStart}
 use Rattle.session_shutdown.specs.Stops.{HasStopped}
 use Rattle.session_shutdown.proofs.Ended.{stop_acts, stop_comes}
-use Rattle.session_shutdown.proofs.stops.stop_all_components.Goals as goal
+use Rattle.session_shutdown.proofs.stops.stop_components.Goals as goal
 
 pub stop_on-requires-clause-drives : goal.stop_on-requires-clause-drives
 stop_on-requires-clause-drives g c = subst (λ (w : Components). Drives w) (sym c.stop_all.ensures)
