@@ -28,14 +28,15 @@ enum Kept {
     Synced,
 }
 
-/// A file that stays open from its first use on, so that the descriptor that wrote is the one that is synced.
+/// A file that stays open up to its sync, so that the descriptor that wrote is the one that is synced.
 #[derive(Drop)]
 struct Opened {
     file: File,
     kept: Kept,
+    access: Access,
 }
 
-/// One of the files that are kept open.
+/// A file that is kept open.
 #[derive(Drop)]
 pub(crate) struct Slot {
     opened: Option<Opened>,
@@ -69,7 +70,7 @@ impl Slot {
         }
     }
 
-    /// Opens the file where it is there and not open yet.
+    /// Opens the file where it is there and not open yet for what is done with it.
     pub fn open<R: Files<File = File>>(
         &mut self,
         files: &R,
@@ -77,13 +78,13 @@ impl Slot {
         paths: &mut Paths<'_>,
         name: &str,
     ) -> io::Result<()> {
-        if self.opened.is_some() {
+        if self.is_open_for(access) {
             return Ok(());
         }
         let path = paths.plain_file(files, name)?;
         match options(access).open(files, path) {
             Ok(file) => {
-                self.keep(file);
+                self.keep(file, access);
                 Ok(())
             }
             Err(error) if error.kind() == ErrorKind::NotFound => Ok(()),
@@ -91,8 +92,12 @@ impl Slot {
         }
     }
 
-    pub fn is_open(&self) -> bool {
-        self.opened.is_some()
+    /// Whether the file is open, and may be written where that is what is done with it.
+    pub fn is_open_for(&self, access: Access) -> bool {
+        match &self.opened {
+            Some(opened) => access == Access::Read || opened.access == Access::Write,
+            None => false,
+        }
     }
 
     /// Makes and opens the file, which is not there.
@@ -105,14 +110,15 @@ impl Slot {
     ) -> io::Result<()> {
         let path = paths.plain_file(files, name)?;
         let file = options(access).create_new(true).open(files, path)?;
-        self.keep(file);
+        self.keep(file, access);
         Ok(())
     }
 
-    fn keep(&mut self, file: File) {
+    fn keep(&mut self, file: File, access: Access) {
         self.opened = Some(Opened {
             file,
             kept: Kept::Unknown,
+            access,
         });
         self.window.forget();
     }
