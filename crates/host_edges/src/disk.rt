@@ -19,7 +19,8 @@ use std::io::ErrorKind;
 /// later calls fail, since the system may have dropped what was not written. No symbolic link below the folder is followed,
 /// and nothing but plain files is opened. Whatever is no folder is listed, also what is empty or no plain file, and can be
 /// removed. A cut to nothing makes a file that is not there. Folders of artifacts that are empty go with the last file in
-/// them, or where the artifacts are listed.
+/// them, or where the artifacts are listed. A payload that accepts a deployment is written once the journal's file has room
+/// for all records up to its close: the file is longer then than what was written, by zeros.
 #[derive(Drop)]
 pub struct FileDisk<'a, R: Files<File = File>> {
     store: Store<'a, R>,
