@@ -297,15 +297,13 @@ impl<'a, R: Files<File = File> + AllocGlobal> Store<'a, R> {
         self.change_folder(folder_of(folder))?;
         Ok(fs::remove_dir(self.files, self.paths.below(folder)?).is_ok())
     }
-}
 
-impl<'a, R: Files<File = File> + AllocGlobal + Clone + Drop> Store<'a, R> {
     /// The names of all that stands below the folder of the artifacts and is no folder, rising by their bytes. Of a program
-    /// that may write, empty folders there are removed.
+    /// that may write, empty folders there are removed, and what has a name that no artifact can have.
     pub fn list(&mut self) -> io::Result<List<FileName>> {
         self.begin()?;
         self.paths.check_folder(self.files, ARTIFACTS)?;
-        let found = list_files(self.files, &mut self.paths, ARTIFACTS)?;
+        let found = list_files(self.files, self.access, &mut self.paths, ARTIFACTS)?;
         if self.access == Access::Write {
             self.remove_all(found.empty.as_slice())?;
         }

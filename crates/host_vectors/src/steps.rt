@@ -1,4 +1,4 @@
-use crate::objects::{FILE, ended, reads};
+use crate::objects::{FILE, ended, lists, reads};
 use disk_model::{Disk, DiskFault};
 use host_edges::{Access, FileDisk, ShellRunner};
 use nuc_base::Exit;
@@ -73,5 +73,32 @@ fn an_accepted_deployment_has_room(rt: HostRuntime) -> Result<(), Fail> {
     let is_held = metadata.blocks().saturating_mul(512) >= metadata.len();
     fs::remove_dir_all(&rt, root)?;
     assert!(rt; plain == 10 && is_kept && is_held);
+    Ok(())
+}
+
+/// Makes names that are no text, a link and a file by them, a folder of such a name with others in it, and folders in one
+/// another whose path no call of the system takes.
+const STRAYS: &str =
+    "cd packages/artifacts/A/1.0.0 && name=$(printf 'n\\344me') && echo x > \"$name\" \
+    && ln -s ../../../../kept \"$name.link\" && mkdir -p \"$name.folder/$name/plain\" && echo x > \"$name.folder/$name/$name\" \
+    && long=$(printf '%0200d' 0) && chain=$long/$long/$long/$long/$long/$long/$long/$long/$long/$long \
+    && mkdir -p a/$chain b/$chain c/$chain && echo x > c/$chain/f && mv c b/$chain && mv b a/$chain && mv a ../..";
+
+#[test]
+fn a_disk_removes_what_it_cannot_name(rt: HostRuntime) -> Result<(), Fail> {
+    let alloc = rt.alloc();
+    let root = "names-of-a-test";
+    fs::create_dir_all(&rt, root)?;
+    fs::write(&rt, "names-of-a-test/kept", "x")?;
+    let mut disk = FileDisk::new(&rt, root, Access::Write)?;
+    let mut runner = ShellRunner::new(&rt);
+    write_file(&mut disk, FILE, b"xyz")?;
+    let made = ended(alloc, &mut runner, root, STRAYS)?;
+    let are_removed = lists(alloc, &mut disk, &[FILE]) && lists(alloc, &mut disk, &[FILE]);
+    let left =
+        "cat kept && test \"$(ls -A packages/artifacts)\" = A && test \"$(ls -A packages/artifacts/A/1.0.0)\" = f";
+    let left = ended(alloc, &mut runner, root, left)?;
+    fs::remove_dir_all(&rt, root)?;
+    assert!(rt; made == Some(Exit::Code(0)) && are_removed && left == Some(Exit::Code(0)));
     Ok(())
 }
