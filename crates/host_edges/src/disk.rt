@@ -19,7 +19,9 @@ use std::io::ErrorKind;
 /// later calls fail, since the system may have dropped what was not written. No symbolic link below the folder is followed,
 /// and nothing but plain files is opened. Whatever is no folder is listed, also what is empty or no plain file, and can be
 /// removed. A cut to nothing makes a file that is not there. Folders of artifacts that are empty go with the last file in
-/// them, or where the artifacts are listed.
+/// them, or where the artifacts are listed; what has a name that no artifact can have is removed there, and a listing fails
+/// where that fails. A payload that accepts a deployment is written once the journal's file has room for all records up to
+/// its close: the file is longer then than what was written, by zeros.
 #[derive(Drop)]
 pub struct FileDisk<'a, R: Files<File = File>> {
     store: Store<'a, R>,
@@ -59,7 +61,7 @@ impl<'a, R: Files<File = File> + AllocGlobal> FileDisk<'a, R> {
     }
 }
 
-impl<'a, R: Files<File = File> + AllocGlobal + Clone + Drop> Disk for FileDisk<'a, R> {
+impl<'a, R: Files<File = File> + AllocGlobal> Disk for FileDisk<'a, R> {
     ghost is_modelled = { false };
 
     ghost seen = { λ disk name. [] };

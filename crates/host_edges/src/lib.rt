@@ -10,10 +10,12 @@ mod documents;
 mod inbox;
 mod library;
 mod listing;
+mod names;
 mod paths;
 mod runner;
 mod slot;
 mod store;
+mod strays;
 mod streams;
 mod window;
 

@@ -1,7 +1,12 @@
-use crate::paths::Paths;
+ghost use Rattle.std.specs.Prelude.{◌≤◌, length, IfOk};
+
+use crate::access::Access;
+use crate::names::{NAMES, is_entry};
+use crate::paths::{LONGEST_NAME, Paths};
+use crate::strays::Remover;
 use nuc_base::FileName;
-use std::fs::{DirEntry, File, Files};
-use std::io::ErrorKind;
+use std::fs::{File, Files};
+use std::io::{ErrorKind, Read};
 use std::{fs, io};
 
 /// What a walk below a folder found.
@@ -13,12 +18,16 @@ pub struct Found {
     pub empty: Vec<String>,
     /// Whatever is no folder, rising by the bytes.
     pub files: Vec<FileName>,
+    /// Removes what no artifact can be, of a program that may write.
+    remover: Option<Remover>,
 }
 
 /// The names of all that stands below a folder: files, and links, pipes and the like too, which are not followed. A name
-/// that is no UTF-8 is an error.
-pub fn list_files<R: Files<File = File> + AllocGlobal + Clone + Drop>(
+/// that no artifact can have, as it is no UTF-8 or too long, is none of them: a program that may write removes what has it,
+/// with all that stands below it.
+pub fn list_files<R: Files<File = File> + AllocGlobal>(
     files: &R,
+    access: Access,
     paths: &mut Paths<'_>,
     folder: &str,
 ) -> io::Result<Found> {
@@ -27,13 +36,24 @@ pub fn list_files<R: Files<File = File> + AllocGlobal + Clone + Drop>(
         folders: Vec::new(alloc),
         empty: Vec::new(alloc),
         files: Vec::new(alloc),
+        remover: None,
     };
+    if access == Access::Write {
+        found.remover = Some(Remover::new(alloc, paths.below(folder)?)?);
+    }
     found.folders.push(String::from_str(alloc, folder)?)?;
+    let mut names = vec![in alloc; 0; NAMES]?;
     for _ in 0..u64::MAX {
         let Some(name) = found.folders.pop() else {
             break;
         };
-        if list_folder(files, paths, name.as_str(), &mut found)? {
+        if list_folder(
+            files,
+            paths,
+            name.as_str(),
+            names.as_mut_slice(),
+            &mut found,
+        )? {
             found.empty.push(name)?;
         }
     }
@@ -42,40 +62,85 @@ pub fn list_files<R: Files<File = File> + AllocGlobal + Clone + Drop>(
 }
 
 /// Adds what stands in one folder. Answers whether it is there and nothing stands in it.
-fn list_folder<R: Files<File = File> + AllocGlobal + Clone + Drop>(
+fn list_folder<R: Files<File = File> + AllocGlobal>(
     files: &R,
     paths: &mut Paths<'_>,
     folder: &str,
+    names: &mut [u8],
     found: &mut Found,
 ) -> io::Result<bool> {
-    let entries = match fs::read_dir(files, paths.below(folder)?) {
-        Ok(entries) => entries,
+    let mut listing = match files.open_dir(paths.below(folder)?) {
+        Ok(listing) => listing,
         Err(error) if error.kind() == ErrorKind::NotFound => return Ok(false),
         Err(error) => return Err(error),
     };
     let mut is_empty = true;
-    for entry in entries {
-        add_entry(files, folder, &entry?, found)?;
-        is_empty = false;
+    for _ in 0..u64::MAX {
+        let count = listing.read(names)?;
+        if count == 0 {
+            break;
+        }
+        if add_entries(files, paths, folder, &names[..count], found)? {
+            is_empty = false;
+        }
     }
     Ok(is_empty)
 }
 
-/// Adds what has that name in the folder. What is gone by now, as where a component cleans up, is passed over.
-fn add_entry<R: Files<File = File> + AllocGlobal + Clone + Drop>(
+/// Adds what has one of these names, each with a zero behind it, in the folder. Answers whether something has.
+fn add_entries<R: Files<File = File> + AllocGlobal>(
     files: &R,
+    paths: &mut Paths<'_>,
     folder: &str,
-    entry: &DirEntry<R>,
+    names: &[u8],
     found: &mut Found,
-) -> io::Result<()> {
-    let alloc = files.alloc();
-    let name = entry.file_name();
-    let path = format!(in alloc; "{folder}/{name}")?;
-    match entry.metadata() {
+) -> io::Result<bool> {
+    let mut is_there = false;
+    for name in names.split(|byte| *byte == 0) {
+        if is_entry(name) && add_entry(files, paths, folder, name, found)? {
+            is_there = true;
+        }
+    }
+    Ok(is_there)
+}
+
+/// Adds what has that name in the folder, or removes it. Answers whether it is there still. What is gone by now, as where a
+/// component cleans up, is passed over.
+fn add_entry<R: Files<File = File> + AllocGlobal>(
+    files: &R,
+    paths: &mut Paths<'_>,
+    folder: &str,
+    name: &[u8],
+    found: &mut Found,
+) -> io::Result<bool> {
+    match str::from_utf8(name) {
+        Ok(text) if folder.len().saturating_add(text.len()) < LONGEST_NAME => {
+            add_named(files, paths, folder, text, found)
+        }
+        _ => match &mut found.remover {
+            Some(remover) => {
+                remover.remove(files, paths.below(folder)?, name)?;
+                Ok(false)
+            }
+            None => Ok(true),
+        },
+    }
+}
+
+fn add_named<R: Files<File = File> + AllocGlobal>(
+    files: &R,
+    paths: &mut Paths<'_>,
+    folder: &str,
+    name: &str,
+    found: &mut Found,
+) -> io::Result<bool> {
+    let kind = fs::symlink_metadata(files, paths.entry(folder, name)?);
+    let path = format!(in files.alloc(); "{folder}/{name}")?;
+    match kind {
         Ok(metadata) if metadata.is_dir() => found.folders.push(path)?,
         Ok(_) => found.files.push(FileName::new(path))?,
-        Err(error) if error.kind() == ErrorKind::NotFound => {}
+        Err(error) if error.kind() == ErrorKind::NotFound => return Ok(false),
         Err(error) => return Err(error),
     }
-    Ok(())
+    Ok(true)
 }

@@ -17,6 +17,15 @@ const FRONT: usize = 14;
 /// An open gate, with which an entry begins.
 const OPEN_GATE: u8 = 1;
 
+/// With which byte the payload of an entry begins that accepts a deployment, without a revision and with one.
+const ACCEPTED: u8 = 0x12;
+
+const ACCEPTED_REVISED: u8 = 0x1d;
+
+/// How many bytes stand ready behind such an entry: at most 1,283 entries follow it up to the close, none of more than 266
+/// bytes, and whole blocks are taken.
+const ROOM: u64 = 344_064;
+
 /// How an open file stands to what the medium keeps.
 #[derive(Clone, Copy, Debug, PartialEq, Eq)]
 enum Kept {
@@ -28,14 +37,15 @@ enum Kept {
     Synced,
 }
 
-/// A file that stays open from its first use on, so that the descriptor that wrote is the one that is synced.
+/// A file that stays open up to its sync, so that the descriptor that wrote is the one that is synced.
 #[derive(Drop)]
 struct Opened {
     file: File,
     kept: Kept,
+    access: Access,
 }
 
-/// One of the files that are kept open.
+/// A file that is kept open.
 #[derive(Drop)]
 pub(crate) struct Slot {
     opened: Option<Opened>,
@@ -69,7 +79,7 @@ impl Slot {
         }
     }
 
-    /// Opens the file where it is there and not open yet.
+    /// Opens the file where it is there and not open yet for what is done with it.
     pub fn open<R: Files<File = File>>(
         &mut self,
         files: &R,
@@ -77,13 +87,13 @@ impl Slot {
         paths: &mut Paths<'_>,
         name: &str,
     ) -> io::Result<()> {
-        if self.opened.is_some() {
+        if self.is_open_for(access) {
             return Ok(());
         }
         let path = paths.plain_file(files, name)?;
         match options(access).open(files, path) {
             Ok(file) => {
-                self.keep(file);
+                self.keep(file, access);
                 Ok(())
             }
             Err(error) if error.kind() == ErrorKind::NotFound => Ok(()),
@@ -91,8 +101,12 @@ impl Slot {
         }
     }
 
-    pub fn is_open(&self) -> bool {
-        self.opened.is_some()
+    /// Whether the file is open, and may be written where that is what is done with it.
+    pub fn is_open_for(&self, access: Access) -> bool {
+        match &self.opened {
+            Some(opened) => access == Access::Read || opened.access == Access::Write,
+            None => false,
+        }
     }
 
     /// Makes and opens the file, which is not there.
@@ -105,14 +119,15 @@ impl Slot {
     ) -> io::Result<()> {
         let path = paths.plain_file(files, name)?;
         let file = options(access).create_new(true).open(files, path)?;
-        self.keep(file);
+        self.keep(file, access);
         Ok(())
     }
 
-    fn keep(&mut self, file: File) {
+    fn keep(&mut self, file: File, access: Access) {
         self.opened = Some(Opened {
             file,
             kept: Kept::Unknown,
+            access,
         });
         self.window.forget();
     }
@@ -141,14 +156,19 @@ impl Slot {
         count
     }
 
-    /// Writes all of it at that place.
+    /// Writes all of it at that place. Before a journal takes the entry that accepts a deployment, room is made for all
+    /// entries that may follow up to its close.
     pub fn write(&mut self, at: u64, bytes: &[u8]) -> io::Result<()> {
         self.window.forget();
         self.change()?;
-        match &self.opened {
-            Some(opened) => opened.file.write_all_at(bytes, at),
-            None => Err(io::Error::from(ErrorKind::NotFound)),
+        let Some(opened) = &self.opened else {
+            return Err(io::Error::from(ErrorKind::NotFound));
+        };
+        if self.is_shared && accepts(bytes) {
+            let end = at.saturating_add(bytes.len() as u64);
+            make_room(&opened.file, self.window.zeros(), end)?;
         }
+        opened.file.write_all_at(bytes, at)
     }
 
     /// Keeps so many bytes of the file, which is open.
@@ -188,6 +208,56 @@ impl Slot {
         opened.kept = Kept::Synced;
         Ok(())
     }
+}
+
+/// Whether a write to a journal's file is the payload of an entry that accepts a deployment. The other writes are a gate of
+/// 0 or 1, a length, which begins with at most 2, and payloads of other records.
+fn accepts(bytes: &[u8]) -> bool {
+    match bytes.first() {
+        Some(first) => *first == ACCEPTED || *first == ACCEPTED_REVISED,
+        None => false,
+    }
+}
+
+/// Sees to it that the file goes on behind this place for as long as the entries up to a close may, by zeros, which mean
+/// nothing there. Where it does, nothing is written. As much again is taken where that is to be had, so that the next
+/// deployments find it. Where there is no room, the file is as before.
+fn make_room(file: &File, zeros: &[u8], end: u64) -> io::Result<()> {
+    let length = file.metadata()?.len();
+    let least = end.saturating_add(ROOM);
+    if length >= least {
+        return Ok(());
+    }
+    lengthen(file, zeros, length, least)?;
+    let _more = lengthen(file, zeros, least, least.saturating_add(ROOM));
+    Ok(())
+}
+
+/// Lengthens the file by zeros that are written, so that the system keeps room for them. Where it has none, the file is
+/// cut back.
+fn lengthen(file: &File, zeros: &[u8], from: u64, to: u64) -> io::Result<()> {
+    match write_zeros(file, zeros, from, to) {
+        Ok(()) => Ok(()),
+        Err(error) => {
+            file.set_len(from)?;
+            Err(error)
+        }
+    }
+}
+
+/// Writes zeros from one place up to another, as many at a time as are given.
+fn write_zeros(file: &File, zeros: &[u8], from: u64, to: u64) -> io::Result<()> {
+    let mut at = from;
+    for _ in 0..u64::MAX {
+        let left = usize::try_from(to.saturating_sub(at)).unwrap_or(usize::MAX);
+        let count = left.min(zeros.len());
+        if count == 0 {
+            break;
+        }
+        file.write_all_at(&zeros[..count], at)?;
+        at = at.saturating_add(count as u64);
+    }
+    Ok(())
 }
 
 fn options(access: Access) -> OpenOptions {

@@ -11,10 +11,15 @@ use std::io::ErrorKind;
 use std::os::unix::fs::OpenOptionsExt;
 use std::{fs, io};
 
-/// The two files of the journal, which stay open from their first use on.
+/// The two files of the journal, which stay open from their first use on. Any other is closed behind its sync, and open for
+/// writing only from its first change up to there, so that a child may run it as a program.
 const FIRST_JOURNAL: &str = "journal";
 
 const SECOND_JOURNAL: &str = "journal.b";
+
+fn is_journal(file: &str) -> bool {
+    file == FIRST_JOURNAL || file == SECOND_JOURNAL
+}
 
 /// The file on which a program that may write holds a lock, to its end.
 const LOCK: &str = "lock";
@@ -96,8 +101,7 @@ impl<'a, R: Files<File = File> + AllocGlobal> Store<'a, R> {
     /// Makes `other` the slot of this file, where it is none of the journal's. What it held before is made stable first.
     fn turn_to(&mut self, file: &str) -> io::Result<()> {
         self.begin()?;
-        let is_journal = file == FIRST_JOURNAL || file == SECOND_JOURNAL;
-        if is_journal || self.named.as_str() == file {
+        if is_journal(file) || self.named.as_str() == file {
             return Ok(());
         }
         self.settle_other()?;
@@ -118,11 +122,19 @@ impl<'a, R: Files<File = File> + AllocGlobal> Store<'a, R> {
         Ok(())
     }
 
-    /// Opens the file where it is there.
+    /// Opens the file where it is there, to read it. A journal's is opened for all that this program may do with it.
     fn open(&mut self, file: &str) -> io::Result<()> {
+        let access = if is_journal(file) {
+            self.access
+        } else {
+            Access::Read
+        };
+        self.open_for(file, access)
+    }
+
+    fn open_for(&mut self, file: &str, access: Access) -> io::Result<()> {
         self.turn_to(file)?;
         let files = self.files;
-        let access = self.access;
         if file == FIRST_JOURNAL {
             self.journal.open(files, access, &mut self.paths, file)
         } else if file == SECOND_JOURNAL {
@@ -132,16 +144,16 @@ impl<'a, R: Files<File = File> + AllocGlobal> Store<'a, R> {
         }
     }
 
-    /// Opens the file, and makes it with its folders where it is not there.
+    /// Opens the file to change it, and makes it with its folders where it is not there.
     fn make(&mut self, file: &str) -> io::Result<()> {
-        self.open(file)?;
-        if self.slot(file).is_open() {
+        let access = self.access;
+        self.open_for(file, access)?;
+        if self.slot(file).is_open_for(access) {
             return Ok(());
         }
         self.make_folders(file)?;
         self.change_folder(folder_of(file))?;
         let files = self.files;
-        let access = self.access;
         if file == FIRST_JOURNAL {
             self.journal.create(files, access, &mut self.paths, file)
         } else if file == SECOND_JOURNAL {
@@ -208,7 +220,7 @@ impl<'a, R: Files<File = File> + AllocGlobal> Store<'a, R> {
         if len == 0 {
             self.make(file)?;
         } else {
-            self.open(file)?;
+            self.open_for(file, self.access)?;
         }
         self.slot(file).cut(len)
     }
@@ -218,6 +230,9 @@ impl<'a, R: Files<File = File> + AllocGlobal> Store<'a, R> {
         self.open(file)?;
         self.failed = true;
         self.slot(file).sync()?;
+        if !is_journal(file) {
+            self.other.close();
+        }
         let folder = folder_of(file);
         if !self.is_synced(folder) {
             self.sync_way(folder)?;
@@ -282,15 +297,13 @@ impl<'a, R: Files<File = File> + AllocGlobal> Store<'a, R> {
         self.change_folder(folder_of(folder))?;
         Ok(fs::remove_dir(self.files, self.paths.below(folder)?).is_ok())
     }
-}
 
-impl<'a, R: Files<File = File> + AllocGlobal + Clone + Drop> Store<'a, R> {
     /// The names of all that stands below the folder of the artifacts and is no folder, rising by their bytes. Of a program
-    /// that may write, empty folders there are removed.
+    /// that may write, empty folders there are removed, and what has a name that no artifact can have.
     pub fn list(&mut self) -> io::Result<List<FileName>> {
         self.begin()?;
         self.paths.check_folder(self.files, ARTIFACTS)?;
-        let found = list_files(self.files, &mut self.paths, ARTIFACTS)?;
+        let found = list_files(self.files, self.access, &mut self.paths, ARTIFACTS)?;
         if self.access == Access::Write {
             self.remove_all(found.empty.as_slice())?;
         }

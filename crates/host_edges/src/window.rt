@@ -33,6 +33,13 @@ impl Window {
         self.filled = 0;
     }
 
+    /// As many zeros as are read ahead, in place of what was read.
+    pub fn zeros(&mut self) -> &[u8] {
+        self.filled = 0;
+        self.bytes.fill(0);
+        self.bytes.as_slice()
+    }
+
     /// Reads as many bytes as there are from that place on, up to the slice. What was read ahead serves only where it
     /// has all that is asked for, since the file may have grown.
     pub fn read(&mut self, file: &File, at: u64, into: &mut [u8]) -> io::Result<usize>

@@ -6,3 +6,5 @@
 
 #[cfg(test)]
 mod objects;
+#[cfg(test)]
+mod steps;

@@ -11,10 +11,10 @@ use std::time::Duration;
 use std::{env, fs, thread};
 use step_runner::{Command, Runner, Waited};
 
-const FILE: &str = "packages/artifacts/A/1.0.0/f";
+pub const FILE: &str = "packages/artifacts/A/1.0.0/f";
 
 /// Whether it lists these names and no other.
-fn lists<D: Disk>(alloc: Global, disk: &mut D, files: &[&str]) -> bool {
+pub fn lists<D: Disk>(alloc: Global, disk: &mut D, files: &[&str]) -> bool {
     match disk.list(alloc) {
         Ok(names) => names.len() == files.len()
             && names
@@ -27,7 +27,7 @@ fn lists<D: Disk>(alloc: Global, disk: &mut D, files: &[&str]) -> bool {
 }
 
 /// Whether the file has these bytes from that place on.
-fn reads<D: Disk>(disk: &mut D, file: &str, at: u64, bytes: &[u8]) -> Result<bool, DiskFault> {
+pub fn reads<D: Disk>(disk: &mut D, file: &str, at: u64, bytes: &[u8]) -> Result<bool, DiskFault> {
     let mut seen = [0; 8];
     let count = disk.read(file, at, &mut seen)?;
     Ok(seen.get(..count) == Some(bytes))
@@ -205,7 +205,7 @@ fn end_of<R: Runner>(runner: &mut R, command: &Command) -> Option<Exit> {
 }
 
 /// What a child with this script ends with.
-fn ended<R: Runner>(
+pub fn ended<R: Runner>(
     alloc: Global,
     runner: &mut R,
     folder: &str,

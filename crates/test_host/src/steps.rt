@@ -1,0 +1,104 @@
+use crate::objects::{FILE, ended, lists, reads};
+use disk_model::{Disk, DiskFault};
+use host_edges::{Access, FileDisk, ShellRunner};
+use nuc_base::Exit;
+use std::fs;
+use std::os::unix::fs::MetadataExt;
+use std::test::Fail;
+
+/// Writes a whole file and makes it stable.
+fn write_file(
+    disk: &mut FileDisk<'_, HostRuntime>,
+    file: &str,
+    bytes: &[u8],
+) -> Result<(), DiskFault> {
+    disk.write_at(file, 0, bytes)?;
+    disk.sync(file)
+}
+
+#[test]
+fn a_child_runs_what_was_written(rt: HostRuntime) -> Result<(), Fail> {
+    let root = "program-of-a-test";
+    fs::create_dir_all(&rt, root)?;
+    let mut disk = FileDisk::new(&rt, root, Access::Write)?;
+    let mut runner = ShellRunner::new(&rt);
+    write_file(&mut disk, FILE, b"#!/bin/sh\nexit 3\n")?;
+    let script = "chmod 700 packages/artifacts/A/1.0.0/f && packages/artifacts/A/1.0.0/f";
+    let written = ended(rt.alloc(), &mut runner, root, script)?;
+    let is_read = reads(&mut disk, FILE, 10, b"exit 3\n")?;
+    let read = ended(rt.alloc(), &mut runner, root, script)?;
+    fs::remove_dir_all(&rt, root)?;
+    assert!(rt; is_read && written == Some(Exit::Code(3)) && read == Some(Exit::Code(3)));
+    Ok(())
+}
+
+/// Writes a payload behind a closed gate and a length, and answers how long the journal's file is then.
+fn length_with(disk: &mut FileDisk<'_, HostRuntime>, payload: &[u8]) -> Result<u64, DiskFault> {
+    disk.write_at("journal", 0, &[0])?;
+    disk.write_at("journal", 1, &[0, 0, 0, 5])?;
+    disk.write_at("journal", 5, payload)?;
+    disk.sync("journal")?;
+    disk.length("journal")
+}
+
+/// Whether payloads of these two kinds, the later one far behind the earlier one, make the file longer where less than
+/// 344,064 bytes are behind them, and not where that is there.
+fn keeps_room(disk: &mut FileDisk<'_, HostRuntime>) -> Result<bool, DiskFault> {
+    let first = length_with(disk, b"\x12plan")?;
+    let again = length_with(disk, b"\x12plan")?;
+    let last = first.saturating_sub(344_064 + 5);
+    disk.write_at("journal", last, b"\x1dplan")?;
+    let at_last = disk.length("journal")?;
+    disk.write_at("journal", last + 1, b"\x1dplan")?;
+    let behind = disk.length("journal")?;
+    let is_blank = reads(disk, "journal", first, &[0; 8])?;
+    Ok(
+        first >= 10 + 344_064
+            && again == first
+            && at_last == first
+            && behind >= last + 6 + 344_064
+            && is_blank,
+    )
+}
+
+#[test]
+fn an_accepted_deployment_has_room(rt: HostRuntime) -> Result<(), Fail> {
+    let root = "room-of-a-test";
+    fs::create_dir_all(&rt, root)?;
+    let mut disk = FileDisk::new(&rt, root, Access::Write)?;
+    let plain = length_with(&mut disk, b"\x11made")?;
+    let is_kept = keeps_room(&mut disk)?;
+    disk.sync("journal")?;
+    let metadata = fs::metadata(&rt, "room-of-a-test/journal")?;
+    let is_held = metadata.blocks().saturating_mul(512) >= metadata.len();
+    fs::remove_dir_all(&rt, root)?;
+    assert!(rt; plain == 10 && is_kept && is_held);
+    Ok(())
+}
+
+/// Makes names that are no text, a link and a file by them, a folder of such a name with others in it, and folders in one
+/// another whose path no call of the system takes.
+const STRAYS: &str =
+    "cd packages/artifacts/A/1.0.0 && name=$(printf 'n\\344me') && echo x > \"$name\" \
+    && ln -s ../../../../kept \"$name.link\" && mkdir -p \"$name.folder/$name/plain\" && echo x > \"$name.folder/$name/$name\" \
+    && long=$(printf '%0200d' 0) && chain=$long/$long/$long/$long/$long/$long/$long/$long/$long/$long \
+    && mkdir -p a/$chain b/$chain c/$chain && echo x > c/$chain/f && mv c b/$chain && mv b a/$chain && mv a ../..";
+
+#[test]
+fn a_disk_removes_what_it_cannot_name(rt: HostRuntime) -> Result<(), Fail> {
+    let alloc = rt.alloc();
+    let root = "names-of-a-test";
+    fs::create_dir_all(&rt, root)?;
+    fs::write(&rt, "names-of-a-test/kept", "x")?;
+    let mut disk = FileDisk::new(&rt, root, Access::Write)?;
+    let mut runner = ShellRunner::new(&rt);
+    write_file(&mut disk, FILE, b"xyz")?;
+    let made = ended(alloc, &mut runner, root, STRAYS)?;
+    let are_removed = lists(alloc, &mut disk, &[FILE]) && lists(alloc, &mut disk, &[FILE]);
+    let left =
+        "cat kept && test \"$(ls -A packages/artifacts)\" = A && test \"$(ls -A packages/artifacts/A/1.0.0)\" = f";
+    let left = ended(alloc, &mut runner, root, left)?;
+    fs::remove_dir_all(&rt, root)?;
+    assert!(rt; made == Some(Exit::Code(0)) && are_removed && left == Some(Exit::Code(0)));
+    Ok(())
+}
