@@ -5,20 +5,26 @@
 #![tactic(auto)]
 
 mod access;
+mod children;
+mod clock;
 mod disk;
 mod documents;
 mod inbox;
 mod library;
 mod listing;
+mod output;
 mod paths;
+mod programs;
 mod runner;
 mod slot;
 mod store;
 mod streams;
 mod window;
+mod words;
 
 pub use access::Access;
 pub use disk::FileDisk;
 pub use inbox::FolderInbox;
 pub use library::FolderLibrary;
 pub use runner::ShellRunner;
+pub use words::absolute_words;

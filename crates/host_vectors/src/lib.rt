@@ -5,4 +5,10 @@
 #![tactic(auto)]
 
 #[cfg(test)]
+mod artifacts;
+#[cfg(test)]
+mod children;
+#[cfg(test)]
 mod objects;
+#[cfg(test)]
+mod words;
