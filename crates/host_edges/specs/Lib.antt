@@ -1,4 +1,3 @@
 pub mod Ends
 pub mod Real
-pub mod Started
 pub mod Untold

@@ -2,6 +2,7 @@
 ghost use Rattle.std.specs.Prelude.{◌≡◌, ◌⊎◌, ◌==◌, ◌<◌, ℕ, true, not, All, Contains, map, filter, length, IfSome, IfNone, Option, Some, None};
 ghost use Rattle.std.specs.Process.{child_status, exit_code};
 ghost use Rattle.std.specs.declared.process.status.ExitStatus.{ExitStatus};
+ghost use Rattle.step_runner.specs.Entries.{without};
 ghost use Rattle.step_runner.specs.Waits.{is_own};
 ghost use Rattle.host_edges.specs.Ends.{ended_as, is_own_or_none};
 
@@ -82,6 +83,7 @@ impl<P: OpenProcess> Running<P> {
 }
 
 /// Looks at each child.
+#[tactic(auto, using(crate::proofs::Children::numbers_set))]
 pub(crate) fn look_at<P: OpenProcess>(children: &mut [Running<P>])
     ensures { map (λ c. c.number) children.new ≡ map (λ c. c.number) children.old }
 {
@@ -104,6 +106,7 @@ pub(crate) fn first_ended<P: OpenProcess>(children: &[Running<P>]) -> Option<(u6
 }
 
 /// Ends the child with this number, with its group where that is asked for, and no other.
+#[tactic(auto, using(crate::proofs::Children::others_set))]
 pub(crate) fn end_numbered<R: Processes>(
     rt: &R,
     alloc: Global,
@@ -118,6 +121,15 @@ pub(crate) fn end_numbered<R: Processes>(
             child.end(rt, alloc, with_group);
         }
     }
+}
+
+/// Drops the child with this number, and no other.
+#[tactic(auto, using(crate::proofs::Children::map_without))]
+pub(crate) fn forget_numbered<P: OpenProcess + Drop>(children: &mut Vec<Running<P>>, number: u64)
+    ensures left { children.new.items ≡ filter (λ c. not (c.number == number)) children.old.items }
+    ensures numbers { map (λ c. c.number) children.new.items ≡ without number (map (λ c. c.number) children.old.items) }
+{
+    children.retain(|child| child.number != number);
 }
 
 /// Ends what lives in the group that this process leads. It was not waited for, so its number is still its own.

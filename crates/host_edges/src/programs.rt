@@ -1,8 +1,4 @@
 //! What the system is given to start.
-ghost use Rattle.std.specs.Prelude.{◌≡◌, ℕ, List, [], IfOk, OnOk, Some, false};
-ghost use Rattle.std.specs.Process.{clears_env, command_args, command_dir, command_program, command_var, SameProgramAndArgs, SameDir};
-ghost use Rattle.host_edges.specs.Started.{IsStart, first_word, other_words, said_after, shell_word_of};
-
 use crate::documents::is_file;
 use nuc_base::Text;
 use std::alloc::{AllocError, Global};
@@ -82,9 +78,7 @@ fn find_program<R: Files + Env + AllocGlobal>(rt: &R, word: &str) -> Option<Stri
 }
 
 /// What the shell is started as. A word without a path would be looked for in the command's own PATH.
-fn shell_word(shell: &Option<String>) -> &str
-    ensures { result.now ≡ shell_word_of shell.now }
-{
+fn shell_word(shell: &Option<String>) -> &str {
     match shell {
         Some(path) => path.as_str(),
         None => "sh",
@@ -92,12 +86,7 @@ fn shell_word(shell: &Option<String>) -> &str
 }
 
 /// A program that reads nothing and whose output is dropped.
-pub(crate) fn silent(alloc: Global, program: &str) -> Result<process::Command, AllocError>
-    ensures program { IfOk result (λ c. command_program c ≡ program.now) }
-    ensures args { IfOk result (λ c. command_args c ≡ []) }
-    ensures vars { IfOk result (λ c. (name : List ℕ) → command_var c name ≡ None) }
-    ensures inherits { IfOk result (λ c. clears_env c ≡ false) }
-{
+pub(crate) fn silent(alloc: Global, program: &str) -> Result<process::Command, AllocError> {
     let mut child = process::Command::new(alloc, program)?;
     child.stdin(Stdio::null());
     child.stdout(Stdio::null());
@@ -110,9 +99,7 @@ pub(crate) fn prepared(
     alloc: Global,
     shell: &Shell,
     command: &Command,
-) -> Result<process::Command, AllocError>
-    ensures { IfOk result (IsStart shell.now command.now) }
-{
+) -> Result<process::Command, AllocError> {
     let sh = shell_word(&shell.shell);
     let program = match &shell.setsid {
         Some(setsid) => setsid.as_str(),
@@ -140,9 +127,10 @@ fn add_command(child: &mut process::Command, command: &Command) -> Result<(), Al
 }
 
 /// Adds the variables, of two with one name the later one.
-fn add_variables(child: &mut process::Command, variables: &[(Text, Text)]) -> Result<(), AllocError>
-    ensures said { OnOk result ((name : List ℕ) → command_var child.new name ≡ said_after variables.now name (command_var child.old name)) }
-{
+fn add_variables(
+    child: &mut process::Command,
+    variables: &[(Text, Text)],
+) -> Result<(), AllocError> {
     for (name, value) in variables {
         child.env(name.as_str(), value.as_str())?;
     }

@@ -2,7 +2,7 @@ ghost use Rattle.std.specs.Prelude.{◌≡◌, ◌<◌, ◌≤◌, ◌+◌, ◌^
 ghost use Rattle.step_runner.specs.Entries.{without};
 ghost use Rattle.step_runner.specs.Waits.{RoseAtLost, is_own};
 
-use crate::children::{Running, end_numbered, first_ended, look_at};
+use crate::children::{Running, end_numbered, first_ended, forget_numbered, look_at};
 use crate::clock::{LAST_MOMENT, millis_since, moment_at, pause_after};
 use crate::output::direct_output;
 use crate::programs::{Shell, is_on_path, prepared};
@@ -145,6 +145,7 @@ impl<'a, R: Processes + Clock + Files<File = File> + Env + AllocGlobal> ShellRun
 
     /// Ends a child where it has not ended, with its group where that is asked for, and drops it. Each other child stays as
     /// it is, with its number.
+    #[tactic(auto, using(crate::proofs::Children::numbers_left))]
     fn end_child(&mut self, child: u64, with_group: bool)
         ensures left { self.new.children.items ≡ filter (λ c. not (c.number == child)) self.old.children.items }
         ensures living { runner_living self.new ≡ without child (runner_living self.old) }
@@ -157,7 +158,7 @@ impl<'a, R: Processes + Clock + Files<File = File> + Env + AllocGlobal> ShellRun
             child,
             with_group,
         );
-        self.children.retain(|running| running.number != child);
+        forget_numbered(&mut self.children, child);
     }
 
     /// The first end that is still to be told. Where there is none it looks at all children, and where none has ended the

@@ -40,24 +40,26 @@ fn path_in(alloc: Global, folder: &str, name: &str) -> Result<String, AllocError
 /// The words with this value of the option for DIR, which stands behind it or in the same word.
 fn with_root(alloc: Global, words: &[String], root: &str) -> Result<Vec<String>, AllocError> {
     let mut replaced = Vec::with_capacity(alloc, words.len())?;
-    let mut before = "";
     for (at, word) in words.iter().enumerate() {
-        let word = word.as_str();
-        let next = if before == ROOT {
-            String::from_str(alloc, root)?
-        } else {
-            word_with_root(alloc, word, root)?
-        };
+        let is_value = at > 1 && words[at - 1].as_str() == ROOT;
+        let next = word_with_root(alloc, word.as_str(), is_value, root)?;
         replaced.push(next)?;
-        before = if at == 0 { "" } else { word };
     }
     Ok(replaced)
 }
 
-/// A word in which the option for DIR stands before its value gets this value. Each other one stays.
-fn word_with_root(alloc: Global, word: &str, root: &str) -> Result<String, AllocError> {
+/// The value of the option for DIR, or a word in which it stands behind that option, becomes this one. Each other word stays.
+fn word_with_root(
+    alloc: Global,
+    word: &str,
+    is_value: bool,
+    root: &str,
+) -> Result<String, AllocError> {
+    if is_value {
+        return String::from_str(alloc, root);
+    }
     match word.split_once('=') {
-        Some((ROOT, _)) => format!(in alloc; "{ROOT}={root}"),
+        Some((option, _)) if option == ROOT => format!(in alloc; "{option}={root}"),
         _ => String::from_str(alloc, word),
     }
 }

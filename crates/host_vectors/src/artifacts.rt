@@ -15,6 +15,7 @@ use step_runner::{Command, Runner, Waited};
 const PIECE: usize = 65_536;
 
 /// What the name of an artifact consists of.
+#[derive(Drop)]
 struct Parts {
     name: Name,
     version: Version,
@@ -22,7 +23,7 @@ struct Parts {
 }
 
 /// The parts of the artifact `f` of `A` in version 1.0.0.
-fn parts(alloc: Global) -> Result<Parts, Fail> {
+fn parts_of_f(alloc: Global) -> Result<Parts, Fail> {
     Ok(Parts {
         name: Name::read(alloc, b"A")?,
         version: Version::read(alloc, b"1.0.0")?,
@@ -74,7 +75,7 @@ fn an_artifact_of_four_pieces_is_given_whole(rt: HostRuntime) -> Result<(), Fail
         "pieces-of-a-test/library/artifacts/A/1.0.0/f",
         bytes.as_slice(),
     )?;
-    let parts = parts(alloc)?;
+    let parts = parts_of_f(alloc)?;
     let mut library = FolderLibrary::new(&rt, root)?;
     let given = whole(alloc, &mut library, &parts)?;
     fs::remove_dir_all(&rt, root)?;
