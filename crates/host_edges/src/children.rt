@@ -83,7 +83,7 @@ impl<P: OpenProcess> Running<P> {
 }
 
 /// Looks at each child.
-#[tactic(auto, using(crate::proofs::Children::numbers_set))]
+#[tactic(auto, using(crate::proofs::Numbers::numbers_set))]
 pub(crate) fn look_at<P: OpenProcess>(children: &mut [Running<P>])
     ensures { map (λ c. c.number) children.new ≡ map (λ c. c.number) children.old }
 {
@@ -106,7 +106,7 @@ pub(crate) fn first_ended<P: OpenProcess>(children: &[Running<P>]) -> Option<(u6
 }
 
 /// Ends the child with this number, with its group where that is asked for, and no other.
-#[tactic(auto, using(crate::proofs::Children::others_set))]
+#[tactic(auto, using(crate::proofs::Numbers::others_set))]
 pub(crate) fn end_numbered<R: Processes>(
     rt: &R,
     alloc: Global,
@@ -124,7 +124,7 @@ pub(crate) fn end_numbered<R: Processes>(
 }
 
 /// Drops the child with this number, and no other.
-#[tactic(auto, using(crate::proofs::Children::map_without))]
+#[tactic(auto, using(crate::proofs::Numbers::map_without))]
 pub(crate) fn forget_numbered<P: OpenProcess + Drop>(children: &mut Vec<Running<P>>, number: u64)
     ensures left { children.new.items ≡ filter (λ c. not (c.number == number)) children.old.items }
     ensures numbers { map (λ c. c.number) children.new.items ≡ without number (map (λ c. c.number) children.old.items) }

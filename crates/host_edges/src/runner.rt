@@ -145,7 +145,7 @@ impl<'a, R: Processes + Clock + Files<File = File> + Env + AllocGlobal> ShellRun
 
     /// Ends a child where it has not ended, with its group where that is asked for, and drops it. Each other child stays as
     /// it is, with its number.
-    #[tactic(auto, using(crate::proofs::Children::numbers_left))]
+    #[tactic(auto, using(crate::proofs::Numbers::numbers_left))]
     fn end_child(&mut self, child: u64, with_group: bool)
         ensures left { self.new.children.items ≡ filter (λ c. not (c.number == child)) self.old.children.items }
         ensures living { runner_living self.new ≡ without child (runner_living self.old) }
