@@ -1,5 +1,5 @@
 -- What the real objects count and tell.
-use Rattle.std.specs.Prelude.{ℕ, Bool, List}
+use Rattle.std.specs.Prelude.{ℕ, Bool, List, map}
 use Rattle.std.specs.declared.io.traits.Read as reads
 use Rattle.std.specs.declared.io.traits.Write as writes
 use Rattle.edges.specs.declared.answered.Answered.{Answered}
@@ -25,7 +25,7 @@ runner_faults r = r.faults
 
 -- the numbers of the children that live
 abbrev pub runner_living : {R P I O E : Type 0} {i : writes.Ghosts I} {o : reads.Ghosts O} {e : reads.Ghosts E} → ShellRunner R P I O E i o e → List ℕ
-runner_living r = r.living.items
+runner_living r = map (λ c. c.number) r.children.items
 
 -- how many were started
 abbrev pub runner_started : {R P I O E : Type 0} {i : writes.Ghosts I} {o : reads.Ghosts O} {e : reads.Ghosts E} → ShellRunner R P I O E i o e → ℕ

@@ -5,22 +5,28 @@
 #![tactic(auto)]
 
 mod access;
+mod children;
+mod clock;
 mod disk;
 mod documents;
 mod inbox;
 mod library;
 mod listing;
 mod names;
+mod output;
 mod paths;
+mod programs;
 mod runner;
 mod slot;
 mod store;
 mod strays;
 mod streams;
 mod window;
+mod words;
 
 pub use access::Access;
 pub use disk::FileDisk;
 pub use inbox::FolderInbox;
 pub use library::FolderLibrary;
 pub use runner::ShellRunner;
+pub use words::absolute_words;

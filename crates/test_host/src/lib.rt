@@ -5,6 +5,12 @@
 #![tactic(auto)]
 
 #[cfg(test)]
+mod artifacts;
+#[cfg(test)]
+mod children;
+#[cfg(test)]
 mod objects;
 #[cfg(test)]
 mod steps;
+#[cfg(test)]
+mod words;

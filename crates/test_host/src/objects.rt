@@ -1,15 +1,13 @@
 use disk_model::{Disk, DiskFault};
 use edges::{Inbox, Incoming};
-use host_edges::{Access, FileDisk, FolderInbox, FolderLibrary, ShellRunner};
+use host_edges::{Access, FileDisk, FolderInbox, FolderLibrary};
 use library_core::{Library, LibraryFault, Piece};
 use npm_ranges::Version;
-use nuc_base::{Exit, Label, List, Name, NoMemory, Text};
+use nuc_base::{Label, Name};
 use std::alloc::Global;
+use std::fs;
 use std::os::unix::fs::symlink;
 use std::test::Fail;
-use std::time::Duration;
-use std::{env, fs, thread};
-use step_runner::{Command, Runner, Waited};
 
 pub const FILE: &str = "packages/artifacts/A/1.0.0/f";
 
@@ -175,140 +173,6 @@ fn a_reader_sees_one_turn(rt: HostRuntime) -> Result<(), Fail> {
     let is_seen = sees_one_turn(&mut writer, &mut reader, bytes.as_slice())?;
     fs::remove_dir_all(&rt, root)?;
     assert!(rt; is_seen);
-    Ok(())
-}
-
-fn text(alloc: Global, text: &str) -> Result<Text, NoMemory> {
-    Text::from_str(alloc, text)
-}
-
-/// A command in that folder, with a variable.
-fn command(alloc: Global, folder: &str, script: &str) -> Result<Command, NoMemory> {
-    let mut env = List::empty(alloc);
-    env.push((text(alloc, "END")?, text(alloc, "3")?))?;
-    Ok(Command {
-        script: text(alloc, script)?,
-        env,
-        folder: text(alloc, folder)?,
-    })
-}
-
-/// What a child of this command ends with, where that is within ten seconds.
-fn end_of<R: Runner>(runner: &mut R, command: &Command) -> Option<Exit> {
-    let Ok(child) = runner.start(command) else {
-        return None;
-    };
-    match runner.wait(10_000) {
-        Waited::Ended(which, exit) if which == child => Some(exit),
-        _ => None,
-    }
-}
-
-/// What a child with this script ends with.
-pub fn ended<R: Runner>(
-    alloc: Global,
-    runner: &mut R,
-    folder: &str,
-    script: &str,
-) -> Result<Option<Exit>, NoMemory> {
-    let command = command(alloc, folder, script)?;
-    Ok(end_of(runner, &command))
-}
-
-/// What a child ends with that is given a PATH without any program.
-fn ended_off_path<R: Runner>(
-    alloc: Global,
-    runner: &mut R,
-    folder: &str,
-) -> Result<Option<Exit>, NoMemory> {
-    let mut command = command(alloc, folder, "exit $END")?;
-    let path = (text(alloc, "PATH")?, text(alloc, "/no-such")?);
-    command.env.push(path)?;
-    Ok(end_of(runner, &command))
-}
-
-/// Whether a child is ended before its time, and no end of it is told.
-fn is_killed<R: Runner>(alloc: Global, runner: &mut R, folder: &str) -> Result<bool, NoMemory> {
-    let command = command(alloc, folder, "exec sleep 30")?;
-    let Ok(child) = runner.start(&command) else {
-        return Ok(false);
-    };
-    let begun = runner.moment();
-    runner.kill(child);
-    Ok(runner.wait(50) == Waited::Elapsed && runner.moment().saturating_sub(begun) < 10_000)
-}
-
-/// Whether an end is told that came while nobody waited, by waits that last no time.
-fn is_told_late<R: Runner>(
-    rt: &HostRuntime,
-    runner: &mut R,
-    folder: &str,
-) -> Result<bool, NoMemory> {
-    let command = command(rt.alloc(), folder, "exit $END")?;
-    if runner.start(&command).is_err() {
-        return Ok(false);
-    }
-    for _ in 0..200 {
-        thread::sleep(rt, Duration::from_millis(50));
-        if let Waited::Ended(_, exit) = runner.wait(0) {
-            return Ok(exit == Exit::Code(3));
-        }
-    }
-    Ok(false)
-}
-
-/// Whether the file is there within ten seconds.
-fn comes(rt: &HostRuntime, path: &str) -> bool {
-    for _ in 0..200 {
-        if fs::exists(rt, path).unwrap_or(false) {
-            return true;
-        }
-        thread::sleep(rt, Duration::from_millis(50));
-    }
-    false
-}
-
-/// Whether a kill ends what the child started too, where there is `setsid`.
-fn ends_group<R: Runner>(rt: &HostRuntime, runner: &mut R, folder: &str) -> Result<bool, NoMemory> {
-    let alloc = rt.alloc();
-    let script = "(sleep 2; echo x > late) & echo x > begun; wait";
-    let command = command(alloc, folder, script)?;
-    let Ok(child) = runner.start(&command) else {
-        return Ok(false);
-    };
-    let is_begun = comes(rt, "runner-of-a-test/begun");
-    runner.kill(child);
-    thread::sleep(rt, Duration::from_millis(3_000));
-    let is_late = runner.exists(&text(alloc, "runner-of-a-test/late")?);
-    Ok(is_begun && is_late != runner.on_path(&text(alloc, "setsid")?))
-}
-
-#[test]
-fn children_run_in_their_folder_and_end(rt: HostRuntime) -> Result<(), Fail> {
-    let alloc = rt.alloc();
-    let root = "runner-of-a-test";
-    let mut runner = ShellRunner::new(&rt);
-    let code = ended(
-        alloc,
-        &mut runner,
-        "runner-of-a-test/a",
-        "echo x > made; exit $END",
-    )?;
-    let is_made = runner.exists(&text(alloc, "runner-of-a-test/a/made")?);
-    let signal = ended(alloc, &mut runner, root, "kill -9 $$")?;
-    let is_killed = is_killed(alloc, &mut runner, root)?;
-    let is_told_late = is_told_late(&rt, &mut runner, root)?;
-    let ends_group = ends_group(&rt, &mut runner, root)?;
-    let off_path = ended_off_path(alloc, &mut runner, root)?;
-    fs::remove_dir_all(&rt, root)?;
-    assert!(rt;
-        is_made && is_killed && code == Some(Exit::Code(3)) && signal == Some(Exit::Signal)
-    );
-    assert!(rt; is_told_late && ends_group);
-    let has_path = env::var(&rt, "PATH").is_ok();
-    assert!(rt; off_path == Some(Exit::Code(3)) || !has_path);
-    let is_found = runner.on_path(&text(alloc, "sh")?) == has_path;
-    assert!(rt; is_found && !runner.on_path(&text(alloc, "no-such")?));
     Ok(())
 }
 

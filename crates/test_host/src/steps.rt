@@ -1,4 +1,5 @@
-use crate::objects::{FILE, ended, lists, reads};
+use crate::children::ended;
+use crate::objects::{FILE, lists, reads};
 use disk_model::{Disk, DiskFault};
 use host_edges::{Access, FileDisk, ShellRunner};
 use nuc_base::Exit;

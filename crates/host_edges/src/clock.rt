@@ -1,0 +1,44 @@
+//! The moments of the runner, and how long it sleeps between two looks.
+ghost use Rattle.std.specs.Prelude.{◌≡◌, ◌≤◌, ◌<◌, ◌-◌, ◌/◌, ◌^◌, ℕ, min, max, MatchOption};
+
+use std::time::{Clock, Instant};
+
+/// No moment is later.
+pub(crate) const LAST_MOMENT: u64 = (1 << 62) - 1;
+
+/// How long the runner sleeps at least and at most before it looks at the children again.
+const SHORT_PAUSE_MS: u64 = 5;
+
+const LONG_PAUSE_MS: u64 = 40;
+
+/// Milliseconds since then, where the clock can be read.
+pub(crate) fn millis_since<C: Clock>(clock: &C, start: &Option<Instant>) -> Option<u64> {
+    let Some(start) = start else {
+        return None;
+    };
+    match start.elapsed(clock) {
+        Ok(elapsed) => u64::try_from(elapsed.as_millis()).ok(),
+        Err(_) => None,
+    }
+}
+
+/// The moment so many milliseconds after the beginning, of which `stood` do not count. It is not before `least`, and is
+/// that where the clock cannot be read.
+pub(crate) fn moment_at(millis: Option<u64>, stood: u64, least: u64) -> u64
+    requires { least < 2 ^ 62 }
+    ensures exact { MatchOption millis (result ≡ least) (λ m. result ≡ max least (min (m - stood) (2 ^ 62 - 1))) }
+    ensures later { least ≤ result }
+    ensures bound { result < 2 ^ 62 }
+{
+    match millis {
+        Some(millis) => least.max(millis.saturating_sub(stood).min(LAST_MOMENT)),
+        None => least,
+    }
+}
+
+/// How long to sleep where nothing has stirred for so long: an end is noticed late by a small part of that at most.
+pub(crate) fn pause_after(quiet: u64) -> u64
+    ensures { result ≡ min 40 (max 5 (quiet / 16)) }
+{
+    (quiet / 16).max(SHORT_PAUSE_MS).min(LONG_PAUSE_MS)
+}

@@ -1,0 +1,311 @@
+use host_edges::ShellRunner;
+use nuc_base::{Exit, List, NoMemory, Text};
+use std::alloc::Global;
+use std::os::unix::fs::{PermissionsExt, symlink};
+use std::test::Fail;
+use std::time::Duration;
+use std::{env, fs, thread};
+use step_runner::{Command, Runner, Waited};
+
+fn text(alloc: Global, text: &str) -> Result<Text, NoMemory> {
+    Text::from_str(alloc, text)
+}
+
+/// A command in that folder, with two variables.
+fn command(alloc: Global, folder: &str, script: &str) -> Result<Command, NoMemory> {
+    let mut env = List::empty(alloc);
+    env.push((text(alloc, "END")?, text(alloc, "3")?))?;
+    env.push((text(alloc, "WORD")?, text(alloc, "two words")?))?;
+    Ok(Command {
+        script: text(alloc, script)?,
+        env,
+        folder: text(alloc, folder)?,
+    })
+}
+
+/// What a child of this command ends with, where that is within ten seconds.
+fn end_of<R: Runner>(runner: &mut R, command: &Command) -> Option<Exit> {
+    let Ok(child) = runner.start(command) else {
+        return None;
+    };
+    match runner.wait(10_000) {
+        Waited::Ended(which, exit) if which == child => Some(exit),
+        _ => None,
+    }
+}
+
+/// What a child with this script ends with.
+pub fn ended<R: Runner>(
+    alloc: Global,
+    runner: &mut R,
+    folder: &str,
+    script: &str,
+) -> Result<Option<Exit>, NoMemory> {
+    let command = command(alloc, folder, script)?;
+    Ok(end_of(runner, &command))
+}
+
+/// What a child ends with that is given a PATH without any program.
+fn ended_off_path<R: Runner>(
+    alloc: Global,
+    runner: &mut R,
+    folder: &str,
+) -> Result<Option<Exit>, NoMemory> {
+    let mut command = command(alloc, folder, "exit $END")?;
+    let path = (text(alloc, "PATH")?, text(alloc, "/no-such")?);
+    command.env.push(path)?;
+    Ok(end_of(runner, &command))
+}
+
+/// Whether a child is ended before its time, and no end of it is told.
+fn is_killed<R: Runner>(alloc: Global, runner: &mut R, folder: &str) -> Result<bool, NoMemory> {
+    let command = command(alloc, folder, "exec sleep 30")?;
+    let Ok(child) = runner.start(&command) else {
+        return Ok(false);
+    };
+    let begun = runner.moment();
+    runner.kill(child);
+    Ok(runner.wait(50) == Waited::Elapsed && runner.moment().saturating_sub(begun) < 10_000)
+}
+
+/// Whether an end is told that came while nobody waited, by waits that last no time.
+fn is_told_late<R: Runner>(
+    rt: &HostRuntime,
+    runner: &mut R,
+    folder: &str,
+) -> Result<bool, NoMemory> {
+    let command = command(rt.alloc(), folder, "exit $END")?;
+    if runner.start(&command).is_err() {
+        return Ok(false);
+    }
+    for _ in 0..200 {
+        thread::sleep(rt, Duration::from_millis(50));
+        if let Waited::Ended(_, exit) = runner.wait(0) {
+            return Ok(exit == Exit::Code(3));
+        }
+    }
+    Ok(false)
+}
+
+/// Whether the file is there within ten seconds.
+fn comes(rt: &HostRuntime, path: &str) -> bool {
+    for _ in 0..200 {
+        if fs::exists(rt, path).unwrap_or(false) {
+            return true;
+        }
+        thread::sleep(rt, Duration::from_millis(50));
+    }
+    false
+}
+
+/// Whether a kill ends what the child started too, where there is `setsid`.
+fn ends_group<R: Runner>(rt: &HostRuntime, runner: &mut R, folder: &str) -> Result<bool, NoMemory> {
+    let alloc = rt.alloc();
+    let script = "(sleep 2; echo x > late) & echo x > begun; wait";
+    let command = command(alloc, folder, script)?;
+    let Ok(child) = runner.start(&command) else {
+        return Ok(false);
+    };
+    let is_begun = comes(rt, "runner-of-a-test/begun");
+    runner.kill(child);
+    thread::sleep(rt, Duration::from_millis(3_000));
+    let is_late = runner.exists(&text(alloc, "runner-of-a-test/late")?);
+    Ok(is_begun && is_late != runner.on_path(&text(alloc, "setsid")?))
+}
+
+#[test]
+fn children_run_in_their_folder_and_end(rt: HostRuntime) -> Result<(), Fail> {
+    let alloc = rt.alloc();
+    let root = "runner-of-a-test";
+    let mut runner = ShellRunner::new(&rt, root);
+    let code = ended(
+        alloc,
+        &mut runner,
+        "runner-of-a-test/a",
+        "echo x > made; exit $END",
+    )?;
+    let is_made = runner.exists(&text(alloc, "runner-of-a-test/a/made")?);
+    let signal = ended(alloc, &mut runner, root, "kill -9 $$")?;
+    let is_killed = is_killed(alloc, &mut runner, root)?;
+    let is_told_late = is_told_late(&rt, &mut runner, root)?;
+    let ends_group = ends_group(&rt, &mut runner, root)?;
+    let off_path = ended_off_path(alloc, &mut runner, root)?;
+    fs::remove_dir_all(&rt, root)?;
+    assert!(rt;
+        is_made && is_killed && code == Some(Exit::Code(3)) && signal == Some(Exit::Signal)
+    );
+    assert!(rt; is_told_late && ends_group);
+    let has_path = env::var(&rt, "PATH").is_ok();
+    assert!(rt; off_path == Some(Exit::Code(3)) || !has_path);
+    let is_found = runner.on_path(&text(alloc, "sh")?) == has_path;
+    assert!(rt; is_found && !runner.on_path(&text(alloc, "no-such")?));
+    Ok(())
+}
+
+#[test]
+fn ends_are_told_as_they_are(rt: HostRuntime) -> Result<(), Fail> {
+    let alloc = rt.alloc();
+    let root = "ends-of-a-test";
+    let mut runner = ShellRunner::new(&rt, root);
+    let seen = ended(
+        alloc,
+        &mut runner,
+        root,
+        "[ \"$WORD\" = 'two words' ] && exit $END",
+    )?;
+    let above = ended(alloc, &mut runner, root, "exit 128")?;
+    let last = ended(alloc, &mut runner, root, "exit 255")?;
+    fs::remove_dir_all(&rt, root)?;
+    assert!(rt; seen == Some(Exit::Code(3)));
+    assert!(rt; above == Some(Exit::Code(128)) && last == Some(Exit::Code(255)));
+    Ok(())
+}
+
+/// The numbers of two children, of which the second ends by itself.
+fn started_pair<R: Runner>(
+    alloc: Global,
+    runner: &mut R,
+    folder: &str,
+) -> Result<Option<(u64, u64)>, NoMemory> {
+    let older = command(alloc, folder, "exec sleep 30")?;
+    let newer = command(alloc, folder, "sleep 0.3; exit $END")?;
+    let Ok(first) = runner.start(&older) else {
+        return Ok(None);
+    };
+    let Ok(second) = runner.start(&newer) else {
+        return Ok(None);
+    };
+    Ok(Some((first, second)))
+}
+
+#[test]
+fn a_kill_ends_its_child_alone(rt: HostRuntime) -> Result<(), Fail> {
+    let root = "pair-of-a-test";
+    let mut runner = ShellRunner::new(&rt, root);
+    let pair = started_pair(rt.alloc(), &mut runner, root)?;
+    let mut told = Waited::Elapsed;
+    if let Some((older, _)) = pair {
+        runner.kill(older);
+        told = runner.wait(10_000);
+    }
+    let is_over = runner.wait(50) == Waited::Elapsed;
+    fs::remove_dir_all(&rt, root)?;
+    let newer = pair.map_or(0, |pair| pair.1);
+    assert!(rt; told == Waited::Ended(newer, Exit::Code(3)) && is_over);
+    Ok(())
+}
+
+/// How many of eight children that end by themselves are started.
+fn started_eight<R: Runner>(
+    alloc: Global,
+    runner: &mut R,
+    folder: &str,
+) -> Result<usize, NoMemory> {
+    let command = command(alloc, folder, "sleep 0.2; exit $END")?;
+    let mut count = 0;
+    for _ in 0..8 {
+        if runner.start(&command).is_ok() {
+            count += 1;
+        }
+    }
+    Ok(count)
+}
+
+/// How many of eight ends are told at that moment.
+fn told_at<R: Runner>(runner: &mut R, moment: u64) -> usize {
+    let mut count = 0;
+    for _ in 0..8 {
+        let is_then = runner.moment() == moment;
+        if matches!(runner.wait(0), Waited::Ended(_, Exit::Code(3))) && is_then {
+            count += 1;
+        }
+    }
+    count
+}
+
+#[test]
+fn ends_that_were_not_looked_for_are_told_at_the_moment_before(
+    rt: HostRuntime,
+) -> Result<(), Fail> {
+    let root = "stall-of-a-test";
+    let mut runner = ShellRunner::new(&rt, root);
+    let started = started_eight(rt.alloc(), &mut runner, root)?;
+    let before = runner.moment();
+    thread::sleep(&rt, Duration::from_millis(3_000));
+    let told = told_at(&mut runner, before);
+    let after = runner.moment();
+    fs::remove_dir_all(&rt, root)?;
+    assert!(rt; started == 8 && told == 8);
+    // The time goes on behind them.
+    assert!(rt; after >= before.saturating_add(2_500));
+    Ok(())
+}
+
+/// Whether the moment goes on from the one before where a child was started long after it, so that its time is its own.
+fn counts_from_starts<R: Runner>(
+    rt: &HostRuntime,
+    runner: &mut R,
+    folder: &str,
+) -> Result<bool, NoMemory> {
+    let command = command(rt.alloc(), folder, "exec sleep 30")?;
+    let before = runner.moment();
+    thread::sleep(rt, Duration::from_millis(2_000));
+    let Ok(child) = runner.start(&command) else {
+        return Ok(false);
+    };
+    let after = runner.moment();
+    runner.kill(child);
+    Ok(after < before.saturating_add(1_000))
+}
+
+#[test]
+fn the_time_of_a_step_counts_from_its_start(rt: HostRuntime) -> Result<(), Fail> {
+    let root = "start-of-a-test";
+    let mut runner = ShellRunner::new(&rt, root);
+    let is_counted = counts_from_starts(&rt, &mut runner, root)?;
+    fs::remove_dir_all(&rt, root)?;
+    assert!(rt; is_counted);
+    Ok(())
+}
+
+#[test]
+fn what_cannot_be_looked_at_is_not_there(rt: HostRuntime) -> Result<(), Fail> {
+    let alloc = rt.alloc();
+    let root = "probes-of-a-test";
+    fs::create_dir_all(&rt, "probes-of-a-test/closed")?;
+    fs::write(&rt, "probes-of-a-test/file", "x")?;
+    symlink(&rt, "loop", "probes-of-a-test/loop")?;
+    let closed = fs::metadata(&rt, "probes-of-a-test/closed")?.permissions();
+    let mut none = closed.clone()?;
+    none.set_mode(0);
+    fs::set_permissions(&rt, "probes-of-a-test/closed", none)?;
+    let mut runner = ShellRunner::new(&rt, root);
+    let mut is_there = false;
+    for path in ["closed/x", "file/x", "loop/x", "loop"] {
+        let path = format!(in alloc; "probes-of-a-test/{path}")?;
+        is_there = is_there || runner.exists(&text(alloc, path.as_str())?);
+    }
+    let is_seen = runner.exists(&text(alloc, "probes-of-a-test/file")?);
+    fs::set_permissions(&rt, "probes-of-a-test/closed", closed)?;
+    fs::remove_dir_all(&rt, root)?;
+    assert!(rt; is_seen && !is_there);
+    Ok(())
+}
+
+#[test]
+fn what_children_print_goes_to_their_log(rt: HostRuntime) -> Result<(), Fail> {
+    let alloc = rt.alloc();
+    let root = "logs-of-a-test";
+    let folder = "logs-of-a-test/work/A";
+    let script = "echo asked; echo refused >&2; exit $END";
+    let mut runner = ShellRunner::new(&rt, root);
+    let without = ended(alloc, &mut runner, folder, script)?;
+    let is_made = fs::exists(&rt, "logs-of-a-test/logs")?;
+    fs::create_dir_all(&rt, "logs-of-a-test/logs")?;
+    let with = ended(alloc, &mut runner, folder, script)?;
+    let log = fs::read(&rt, "logs-of-a-test/logs/A.log")?;
+    fs::remove_dir_all(&rt, root)?;
+    assert!(rt; without == with && with == Some(Exit::Code(3)) && !is_made);
+    assert!(rt; log.as_slice() == b"asked\nrefused\n".as_slice());
+    Ok(())
+}
