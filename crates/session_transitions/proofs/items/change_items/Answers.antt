@@ -8,7 +8,7 @@ use Rattle.session_boots.specs.Traces.{Acts}
 use Rattle.session_startup.specs.Runs.{IsAtTurnStart}
 use Rattle.histories.specs.Waits.{has_three}
 use Rattle.law_termination.specs.Drives.{Rises}
-use Rattle.law_termination.proofs.IsAtTurnStart.{begins}
+use Rattle.law_termination.proofs.Comes.{begins}
 use Rattle.session_transitions.proofs.Entered.{entered}
 use Rattle.session_transitions.proofs.Stage.{long_pending, pending_is, stage_with}
 use Rattle.session_transitions.proofs.items.change_items.Goals as goal
