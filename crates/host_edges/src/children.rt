@@ -1,5 +1,5 @@
 //! The children that live, and their ends.
-ghost use Rattle.std.specs.Prelude.{◌≡◌, ◌⊎◌, ◌==◌, ◌<◌, ℕ, true, not, All, Contains, map, filter, length, IfSome, IfNone, Option, Some, None};
+ghost use Rattle.std.specs.Prelude.{◌≡◌, ◌≢◌, ◌⊎◌, ◌==◌, ◌<◌, ℕ, true, not, All, Contains, map, filter, length, IfSome, IfNone, Option, Some, None};
 ghost use Rattle.std.specs.Process.{child_status, exit_code};
 ghost use Rattle.std.specs.declared.process.status.ExitStatus.{ExitStatus};
 ghost use Rattle.step_runner.specs.Entries.{without};
@@ -81,12 +81,22 @@ impl<P: OpenProcess> Running<P> {
         }
         let _ = self.process.wait();
     }
+
+    /// The same where it has this number. Another one stays as it is.
+    fn end_numbered<R: Processes>(&mut self, rt: &R, alloc: Global, number: u64, with_group: bool)
+        ensures number { self.new.number ≡ self.old.number }
+        ensures other { self.old.number ≢ number → self.new ≡ self.old }
+    {
+        if self.number == number {
+            self.end(rt, alloc, with_group);
+        }
+    }
 }
 
 /// Looks at each child.
 #[tactic(auto, using(crate::proofs::Numbers::numbers_set))]
-pub(crate) fn look_at<P: OpenProcess>(children: &mut [Running<P>])
-    ensures { map (λ c. c.number) children.new ≡ map (λ c. c.number) children.old }
+pub(crate) fn look_at<P: OpenProcess>(children: &mut Vec<Running<P>>)
+    ensures { map (λ c. c.number) children.new.items ≡ map (λ c. c.number) children.old.items }
 {
     for child in children.iter_mut() {
         child.look();
@@ -107,30 +117,43 @@ pub(crate) fn first_ended<P: OpenProcess>(children: &[Running<P>]) -> Option<(u6
 }
 
 /// Ends the child with this number, with its group where that is asked for, and no other.
-#[tactic(auto, using(crate::proofs::Numbers::others_set))]
-pub(crate) fn end_numbered<R: Processes>(
+#[tactic(auto, using(crate::proofs::Numbers::kept_set))]
+fn end_among<R: Processes>(
     rt: &R,
     alloc: Global,
-    children: &mut [Running<R::Started>],
+    children: &mut Vec<Running<R::Started>>,
     number: u64,
     with_group: bool,
 )
-    ensures others { filter (λ c. not (c.number == number)) children.new ≡ filter (λ c. not (c.number == number)) children.old }
+    ensures others { filter (λ c. not (c.number == number)) children.new.items ≡ filter (λ c. not (c.number == number)) children.old.items }
 {
     for child in children.iter_mut() {
-        if child.number == number {
-            child.end(rt, alloc, with_group);
-        }
+        child.end_numbered(rt, alloc, number, with_group);
     }
 }
 
 /// Drops the child with this number, and no other.
 #[tactic(auto, using(crate::proofs::Numbers::map_without))]
-pub(crate) fn forget_numbered<P: OpenProcess + Drop>(children: &mut Vec<Running<P>>, number: u64)
+fn forget_numbered<P: OpenProcess + Drop>(children: &mut Vec<Running<P>>, number: u64)
     ensures left { children.new.items ≡ filter (λ c. not (c.number == number)) children.old.items }
     ensures numbers { map (λ c. c.number) children.new.items ≡ without number (map (λ c. c.number) children.old.items) }
 {
     children.retain(|child| child.number != number);
+}
+
+/// Ends the child with this number, with its group where that is asked for, and drops it. Each other one stays as it is.
+pub(crate) fn remove_numbered<R: Processes>(
+    rt: &R,
+    alloc: Global,
+    children: &mut Vec<Running<R::Started>>,
+    number: u64,
+    with_group: bool,
+)
+    ensures left { children.new.items ≡ filter (λ c. not (c.number == number)) children.old.items }
+    ensures numbers { map (λ c. c.number) children.new.items ≡ without number (map (λ c. c.number) children.old.items) }
+{
+    end_among(rt, alloc, children, number, with_group);
+    forget_numbered(children, number);
 }
 
 /// Ends what lives in the group that this process leads. It was not waited for, so its number is still its own.

@@ -3,7 +3,7 @@ ghost use Rattle.std.specs.Prelude.{true};
 ghost use Rattle.step_runner.specs.Entries.{without};
 ghost use Rattle.step_runner.specs.Waits.{RoseAtLost, is_own};
 
-use crate::children::{Running, end_numbered, first_ended, forget_numbered, look_at};
+use crate::children::{Running, first_ended, look_at, remove_numbered};
 use crate::clock::{LAST_MOMENT, millis_since, moment_at, pause_after};
 use crate::output::direct_output;
 use crate::programs::{Shell, is_on_path, prepared};
@@ -154,14 +154,7 @@ impl<'a, R: Processes + Clock + Files<File = File> + Env + AllocGlobal> ShellRun
         ensures same { (self.new.next ≡ self.old.next) × (self.new.clock ≡ self.old.clock) × (self.new.told ≡ self.old.told) ×
             (self.new.asked ≡ self.old.asked) × (self.new.faults ≡ self.old.faults) }
     {
-        end_numbered(
-            self.rt,
-            self.alloc,
-            self.children.as_mut_slice(),
-            child,
-            with_group,
-        );
-        forget_numbered(&mut self.children, child);
+        remove_numbered(self.rt, self.alloc, &mut self.children, child, with_group);
     }
 
     /// The first end that is still to be told. Where there is none it looks at all children, and where none has ended the
@@ -181,7 +174,7 @@ impl<'a, R: Processes + Clock + Files<File = File> + Env + AllocGlobal> ShellRun
             return untold;
         }
         let millis = millis_since(self.rt, &self.start);
-        look_at(self.children.as_mut_slice());
+        look_at(&mut self.children);
         let ended = first_ended(self.children.as_slice());
         if ended.is_none() {
             self.clock = moment_at(millis, self.stood, least);
