@@ -1,5 +1,6 @@
 -- What happens to a list of children, by their numbers.
-use Rattle.std.proofs.Common.{◌≡◌, ◌≢◌, ◌==◌, ◌<◌, ◌+◌, ◌∙◌, ◌∷◌, [], ℕ, zero, suc, Bool, true, false, not, cond, List, All, Contains, Option, Some, None, is_some, IfNone, refl, sym, ap, subst, arith, length, map, filter, get_or, set, eq-eqb}
+use Rattle.std.proofs.Common.{◌≡◌, ◌≢◌, ◌==◌, ◌<◌, ◌+◌, ◌∙◌, ◌∷◌, [], ℕ, zero, suc, Bool, true, false, not, cond, List, All, Contains, Option, Some, None}
+use Rattle.std.proofs.Common.{is_some, IfNone, refl, sym, ap, subst, arith, length, map, filter, get_or, set, eq-eqb}
 use Rattle.std.proofs.Math.Seq.{map-set_same}
 use Rattle.std.proofs.lemmas.Bool.{false≢true}
 use Rattle.std.proofs.lemmas.List.{get_or-map, length-map}
@@ -48,7 +49,8 @@ kept_set {X} number n (x ∷ xs) zero v d same other = by (number x == n) refl
 kept_set number n (x ∷ xs) (suc i) v d same other = ap (λ ys. cond (not (number x == n)) (x ∷ ys) ys) (kept_set number n xs i v d same other)
 
 -- they are the same
-pub numbers_kept : {X : Type 0} (number : X → ℕ) (n : ℕ) (xs ys : List X) → ys ≡ xs → All (λ (c : ℕ). c < n) (map number xs) → All (λ (c : ℕ). c < n) (map number ys)
+pub numbers_kept : {X : Type 0} (number : X → ℕ) (n : ℕ) (xs ys : List X) → ys ≡ xs → All (λ (c : ℕ). c < n) (map number xs) →
+    All (λ (c : ℕ). c < n) (map number ys)
 numbers_kept number n xs ys same all = subst (λ zs. All (λ (c : ℕ). c < n) (map number zs)) (sym same) all
 
 -- one more, with the next number
