@@ -1,8 +1,8 @@
 -- What an input comes to: what is printed, and with which status the program ends.
-use Rattle.std.specs.Prelude.{◌≡◌, ◌≢◌, ◌⊎◌, ℕ, ◌+◌, ◌<◌, List, [], ◌∷◌, ◌++◌, length, codes, decimal}
+use Rattle.std.specs.Prelude.{◌≡◌, ◌≢◌, ◌⊎◌, ℕ, ◌+◌, ◌<◌, ◌≤◌, List, [], ◌∷◌, ◌++◌, length, codes, decimal}
 use Rattle.std.specs.List.{flat_map}
 use Rattle.nuc_base.specs.declared.status.Status.{Status}
-use Rattle.nuc_base.specs.declared.status.Status.TheVariants as status
+use Rattle.nuc_base.specs.declared.status.Status.TheVariants as statuses
 use Rattle.fleet_core.specs.declared.happening.Happening.{Happening}
 use Rattle.fleet_core.specs.declared.happening.Reply.{Reply}
 use Rattle.fleet_core.specs.declared.happening.Reply.TheVariants.{Sent, Taken, Stale, Again, Gone, Lost, Restarted, Reported, Known}
@@ -70,13 +70,13 @@ IsTooMany devices past line = (happening : Happening) × IsCommand line happenin
 -- The line with this number, behind these events, ends the program so. Want of memory may end it at any line.
 abbrev pub Stops : ℕ → ℕ → List Event → Line → List ℕ → Status → Type 0
 Stops devices number past line printed status =
-    IsTurnedDown devices past line × (printed ≡ refused_line number) × (status ≡ status.BadInput)
-    ⊎ IsTooMany devices past line × (printed ≡ full_line) × (status ≡ status.Limit)
-    ⊎ (printed ≡ []) × (status ≡ status.Memory)
+    IsTurnedDown devices past line × (printed ≡ refused_line number) × (status ≡ statuses.BadInput)
+    ⊎ IsTooMany devices past line × (printed ≡ full_line) × (status ≡ statuses.Limit)
+    ⊎ (printed ≡ []) × (status ≡ statuses.Memory)
 
 -- What the lines from this number on come to, behind these events: line by line a reply, up to the first that is refused.
 abbrev pub Course : ℕ → ℕ → List Event → List Line → List ℕ → Status → Type 0
-Course devices number past [] printed status = (printed ≡ []) × (status ≡ status.Done)
+Course devices number past [] printed status = (printed ≡ []) × (status ≡ statuses.Done)
 Course devices number past (line ∷ lines) printed status =
     ((event : Event) × (reply : Reply) × (more : List ℕ) × IsTaken devices past line event × IsReply past event reply × (printed ≡ shown reply ++ more)
         × Course devices (number + 1) (past ++ event ∷ []) lines more status)
@@ -84,11 +84,11 @@ Course devices number past (line ∷ lines) printed status =
 
 -- What the lines of an input come to. The first one begins the fleet.
 abbrev pub Begins : List Line → List ℕ → Status → Type 0
-Begins [] printed status = (printed ≡ refused_line 1) × (status ≡ status.BadInput)
+Begins [] printed status = (printed ≡ refused_line 1) × (status ≡ statuses.BadInput) ⊎ (printed ≡ []) × (status ≡ statuses.Memory)
 Begins (line ∷ lines) printed status =
     ((devices : ℕ) × IsBeginning line devices × Course devices 2 [] lines printed status)
-    ⊎ ((devices : ℕ) → IsBeginning line devices → ⊥) × (printed ≡ refused_line 1) × (status ≡ status.BadInput)
-    ⊎ (printed ≡ []) × (status ≡ status.Memory)
+    ⊎ ((devices : ℕ) → IsBeginning line devices → ⊥) × (printed ≡ refused_line 1) × (status ≡ statuses.BadInput)
+    ⊎ (printed ≡ []) × (status ≡ statuses.Memory)
 
 abbrev pub most_bytes : ℕ
 most_bytes = 1048576
@@ -96,5 +96,5 @@ most_bytes = 1048576
 -- What an input comes to.
 abbrev pub Comes : List ℕ → List ℕ → Status → Type 0
 Comes bytes printed status =
-    (most_bytes < length bytes) × (printed ≡ long_line) × (status ≡ status.Limit)
+    (most_bytes < length bytes) × (printed ≡ long_line) × (status ≡ statuses.Limit)
     ⊎ (length bytes ≤ most_bytes) × Begins (lines_of bytes) printed status

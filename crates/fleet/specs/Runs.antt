@@ -1,11 +1,11 @@
 -- A whole call of the program: what it reads, what it prints, and its status.
-use Rattle.std.specs.Prelude.{◌≡◌, ◌⊎◌, ℕ, ◌+◌, ◌<◌, ◌≤◌, true, List, [], ◌∷◌, ◌++◌, take, IfSome, MatchOption, Result, MatchResult}
+use Rattle.std.specs.Prelude.{◌≡◌, ◌⊎◌, ℕ, ◌+◌, ◌<◌, ◌≤◌, true, List, [], ◌∷◌, ◌++◌, take, IfSome, MatchOption, Result, Err, MatchResult}
 use Rattle.std.specs.declared.option.Option.{Option}
 use Rattle.std.specs.Io.KnownBytes.{Appends}
 use Rattle.nuc_base.specs.declared.status.Status.{Status}
-use Rattle.nuc_base.specs.declared.status.Status.TheVariants as status
+use Rattle.nuc_base.specs.declared.status.Status.TheVariants as statuses
 use Rattle.nuc_base.specs.Faults.{Rose}
-use Rattle.edges.specs.Pieces.{AppendsFront}
+use Rattle.edges.specs.Pieces.{Writes}
 use Rattle.fleet_core.specs.declared.happening.Reply.{Reply}
 use Rattle.fleet_core.specs.Events.{Event}
 use Rattle.fleet_core.specs.Fleets.{FleetState, StandsFor}
@@ -23,15 +23,19 @@ pub record Stream : Type 0 where
 abbrev pub stream_of : {T : Type 0} → (T → Option (List ℕ)) → (T → ℕ) → T → T → Stream
 stream_of held faults old new = record { before = held old; after = held new; faults_before = faults old; faults_after = faults new }
 
+-- a sink that fails has taken a front of these bytes
+abbrev pub WritesInPart : Option (List ℕ) → Option (List ℕ) → List ℕ → Type 0
+WritesInPart before after bytes = Writes {E = Unit {0}} before after bytes (Err tt)
+
 -- these lines are printed, and the call ends so; or the sink fails, with a front of them printed
 abbrev pub Prints : Stream → List ℕ → Status → Status → Type 0
 Prints sink printed status result =
     (result ≡ status) × Appends sink.before sink.after printed × (sink.faults_after ≡ sink.faults_before)
-    ⊎ (result ≡ status.Edge) × Rose sink.faults_before sink.faults_after × AppendsFront sink.before sink.after printed
+    ⊎ (result ≡ statuses.Edge) × Rose sink.faults_before sink.faults_after × WritesInPart sink.before sink.after printed
 
 -- so it is, or memory was refused and nothing is printed
 abbrev pub Ends : Stream → List ℕ → Status → Status → Type 0
-Ends sink printed status result = Prints sink printed status result ⊎ Prints sink [] status.Memory result
+Ends sink printed status result = Prints sink printed status result ⊎ Prints sink [] statuses.Memory result
 
 -- The line with this number is taken, its reply is printed, and the fleet stands for the events with its event at their end;
 -- or the call ends with a course that whatever lines stand behind it have.
@@ -56,8 +60,8 @@ BeginsWith text result = MatchOption result ((devices : ℕ) → IsBeginning (re
 -- The call with so many words. With no word but its name it reads at most one byte more than it may.
 abbrev pub Runs : ℕ → Stream → Stream → Status → Type 0
 Runs words source sink result =
-    (1 < words) × Prints sink usage_line status.Usage result
-    ⊎ (words ≤ 1) × (result ≡ status.Edge) × Rose source.faults_before source.faults_after × Prints sink [] status.Edge result
-    ⊎ (words ≤ 1) × Prints sink [] status.Memory result
+    (1 < words) × Prints sink usage_line statuses.Usage result
+    ⊎ (words ≤ 1) × (result ≡ statuses.Edge) × Rose source.faults_before source.faults_after × Prints sink [] statuses.Edge result
+    ⊎ (words ≤ 1) × Prints sink [] statuses.Memory result
     ⊎ (words ≤ 1) × ((bytes : List ℕ) × (printed : List ℕ) × (status : Status) × IfSome source.before (λ left. bytes ≡ take (most_bytes + 1) left)
         × Comes bytes printed status × Prints sink printed status result)

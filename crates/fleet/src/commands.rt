@@ -1,5 +1,5 @@
 // The lines of the input, and the commands that they are.
-ghost use Rattle.std.specs.Prelude.{◌≡◌, ◌<◌, ◌≤◌, ◌^◌, ◌∷◌, ◌++◌, [], ℕ, true, false, length, decimal, codes, MatchOption, IfOk};
+ghost use Rattle.std.specs.Prelude.{◌≡◌, ◌<◌, ◌^◌, ◌==◌, ◌∷◌, ◌++◌, ℕ, List, true, length, decimal, codes, position, MatchOption, IfOk};
 ghost use Rattle.fleet_core.specs.declared.happening.Happening.{Happening as Event};
 ghost use Rattle.fleet.specs.Commands.{lines_of, IsUnended, IsWritten};
 
@@ -25,14 +25,33 @@ fn number(bytes: &[u8]) -> Option<u32>
     Some(number)
 }
 
+/// What stands behind a word.
+fn behind<'a>(line: &'a [u8], word: &[u8]) -> Option<&'a [u8]>
+    ensures { MatchOption result ((rest : List ℕ) → line.now ≡ word.now ++ rest → ⊥) (λ rest. line.now ≡ word.now ++ rest.now) }
+{
+    line.strip_prefix(word)
+}
+
 /// The number behind a word.
 pub fn numbered(line: &[u8], word: &[u8]) -> Option<u32>
     ensures { MatchOption result ((n : ℕ) → n < 2 ^ 32 → line.now ≡ word.now ++ decimal n → ⊥) (λ n. (line.now ≡ word.now ++ decimal n) × (n < 2 ^ 32)) }
 {
-    if !line.starts_with(word) {
-        return None;
-    }
-    number(&line[word.len()..])
+    let rest = behind(line, word)?;
+    number(rest)
+}
+
+/// Where the first blank stands.
+fn blank_at(bytes: &[u8]) -> Option<usize>
+    ensures { result ≡ position (λ b. b == 32) bytes.now }
+{
+    bytes.iter().position(|byte| *byte == b' ')
+}
+
+/// Where the first line feed stands.
+fn line_feed_at(bytes: &[u8]) -> Option<usize>
+    ensures { result ≡ position (λ b. b == 10) bytes.now }
+{
+    bytes.iter().position(|byte| *byte == b'\n')
 }
 
 /// The device and the document of a line that sends one.
@@ -40,9 +59,10 @@ fn sending(line: &[u8]) -> Option<(u32, &[u8])>
     ensures { MatchOption result ((n : ℕ) (document : List ℕ) → n < 2 ^ 32 → line.now ≡ codes "send " ++ decimal n ++ 32 ∷ document → ⊥)
         (λ sent. (line.now ≡ codes "send " ++ decimal sent.0 ++ 32 ∷ sent.1.now) × (sent.0 < 2 ^ 32)) }
 {
-    let blank = 5 + line.get(5..)?.iter().position(|byte| *byte == b' ')?;
-    let device = numbered(&line[..blank], b"send ")?;
-    Some((device, &line[blank + 1..]))
+    let rest = behind(line, b"send ")?;
+    let blank = blank_at(rest)?;
+    let device = number(&rest[..blank])?;
+    Some((device, &rest[blank + 1..]))
 }
 
 /// The command that a line is.
@@ -65,7 +85,10 @@ pub fn command(alloc: Global, line: &[u8]) -> Result<Option<Happening>, NoMemory
     if let Some(device) = numbered(line, b"report ") {
         return Ok(Some(Happening::Report(device)));
     }
-    Ok(numbered(line, b"hear ").map(Happening::Hear))
+    if let Some(number) = numbered(line, b"hear ") {
+        return Ok(Some(Happening::Hear(number)));
+    }
+    Ok(None)
 }
 
 /// The text of the first line and what stands behind its line feed. It is `None` where there is no line feed.
@@ -73,6 +96,6 @@ pub fn first_line(bytes: &[u8]) -> Option<(&[u8], &[u8])>
     ensures { MatchOption result (IsUnended bytes.now (lines_of bytes.now))
         (λ parts. (lines_of bytes.now ≡ record { text = parts.0.now; is_ended = true } ∷ lines_of parts.1.now) × (length parts.1.now < length bytes.now)) }
 {
-    let end = bytes.iter().position(|byte| *byte == b'\n')?;
+    let end = line_feed_at(bytes)?;
     Some((&bytes[..end], &bytes[end + 1..]))
 }

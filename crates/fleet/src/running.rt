@@ -96,7 +96,11 @@ fn run_lines<K: Sink>(alloc: Global, mut fleet: Fleet, lines: &[u8], sink: &mut 
 fn device_number(line: &[u8]) -> Option<u32>
     ensures { BeginsWith line.now result }
 {
-    numbered(line, b"devices ").filter(|devices| *devices >= 1 && *devices <= 1024)
+    let devices = numbered(line, b"devices ")?;
+    if devices < 1 || devices > 1024 {
+        return None;
+    }
+    Some(devices)
 }
 
 /// Does what the lines say.
