@@ -1,18 +1,21 @@
 -- Courses of lines, one line after another, and what is printed of them.
-use Rattle.std.proofs.Common.{◌≡◌, ◌∙◌, ℕ, ◌+◌, ◌<◌, List, [], ◌∷◌, ◌++◌, true, false, true≢false, length, inl, inr, refl, sym, ap, subst, append_assoc, append-nil, arith}
+use Rattle.std.proofs.Common.{◌≡◌, ◌∙◌, ℕ, ◌+◌, ◌<◌, List, [], ◌∷◌, ◌++◌, true, false, true≢false, length, inl, inr, Ok, Err, refl, sym, ap, subst, append_assoc, append-nil, arith}
 use Rattle.std.specs.Prelude.{Option}
 use Rattle.std.specs.Io.KnownBytes.{Appends}
 use Rattle.std.proofs.KnownBytes.{Appends-nil, Appends-trans}
 use Rattle.nuc_base.specs.declared.status.Status.{Status}
 use Rattle.nuc_base.specs.declared.status.Status.TheVariants as statuses
 use Rattle.nuc_base.specs.Faults.{Rose}
+use Rattle.fleet_core.specs.declared.happening.Happening.{Happening}
 use Rattle.fleet_core.specs.declared.happening.Reply.{Reply}
+use Rattle.fleet_core.specs.declared.happening.StepFault.{StepFault}
+use Rattle.fleet_core.specs.declared.happening.StepFault.TheVariants.{NoDevice, NoPacket, NoReport, Document, NoRevision, Full, NoMemory}
 use Rattle.fleet_core.specs.Events.{Event}
 use Rattle.fleet_core.specs.Fleets.{FleetState, StandsFor, device_count}
-use Rattle.fleet_core.specs.Replies.{IsReply}
-use Rattle.fleet.specs.Commands.{IsBeginning, Line, lines_of, IsUnended}
-use Rattle.fleet.specs.Course.{Course, IsTaken, Stops, refused_line, shown}
-use Rattle.fleet.specs.Runs.{Ends, Follows, Prints, StartsOff, Stream, WritesInPart}
+use Rattle.fleet_core.specs.Replies.{IsRefused, IsReply}
+use Rattle.fleet.specs.Commands.{IsBeginning, IsWritten, Line, lines_of, IsUnended}
+use Rattle.fleet.specs.Course.{Course, IsTaken, Stops, full_line, refused_line, shown}
+use Rattle.fleet.specs.Runs.{Ends, EndsAtFault, Follows, Goes, Prints, StartsOff, Stream, WritesInPart}
 
 -- ---- printing
 
@@ -55,6 +58,35 @@ stops_or_not devices number past line sink printed s result here (inr prints) = 
 pub stops_silent : (devices number : ℕ) (past : List Event) (line : Line) (a : Option (List ℕ)) (f : ℕ) (lines : List Line)
     → HasEnd devices number past (line ∷ lines) (record { before = a; after = a; faults_before = f; faults_after = f }) statuses.Memory
 stops_silent devices number past line a f lines = stops devices number past line _ [] statuses.Memory statuses.Memory (inr (inr (refl, refl))) (silent a f statuses.Memory) lines
+
+-- a line that reads as a command, and is refused
+pub refused : (devices number : ℕ) (past : List Event) (text : List ℕ) (happening : Happening) (sink : Stream) (result : Status) (f : StepFault)
+    → IsWritten text happening → IsRefused devices past happening f → EndsAtFault number sink result f → (lines : List Line)
+    → HasEnd devices number past (record { text = text; is_ended = true } ∷ lines) sink result
+refused devices number past text happening sink result Full is why ends lines =
+    stops devices number past _ sink full_line statuses.Limit result (inr (inl ((happening, (refl, is), why), refl, refl))) ends lines
+refused devices number past text happening sink result NoMemory is why ends lines = stops devices number past _ sink [] statuses.Memory result (inr (inr (refl, refl))) ends lines
+refused devices number past text happening sink result NoDevice is why ends lines =
+    stops_or_not devices number past _ sink (refused_line number) statuses.BadInput result (inl (inr (happening, NoDevice, (refl, is), why, (λ e. cc e), (λ e. cc e)), refl, refl)) ends lines
+refused devices number past text happening sink result NoPacket is why ends lines =
+    stops_or_not devices number past _ sink (refused_line number) statuses.BadInput result (inl (inr (happening, NoPacket, (refl, is), why, (λ e. cc e), (λ e. cc e)), refl, refl)) ends lines
+refused devices number past text happening sink result NoReport is why ends lines =
+    stops_or_not devices number past _ sink (refused_line number) statuses.BadInput result (inl (inr (happening, NoReport, (refl, is), why, (λ e. cc e), (λ e. cc e)), refl, refl)) ends lines
+refused devices number past text happening sink result NoRevision is why ends lines =
+    stops_or_not devices number past _ sink (refused_line number) statuses.BadInput result (inl (inr (happening, NoRevision, (refl, is), why, (λ e. cc e), (λ e. cc e)), refl, refl)) ends lines
+refused devices number past text happening sink result (Document f) is why ends lines =
+    stops_or_not devices number past _ sink (refused_line number) statuses.BadInput result (inl (inr (happening, Document f, (refl, is), why, (λ e. cc e), (λ e. cc e)), refl, refl)) ends lines
+
+-- what a fault that is neither Full nor NoMemory ends with
+pub other_fault : (number : ℕ) (sink : Stream) (result : Status) (f : StepFault) → (f ≡ Full → ⊥) → (f ≡ NoMemory → ⊥) → Ends sink (refused_line number) statuses.BadInput result
+    → EndsAtFault number sink result f
+other_fault number sink result Full no_full no_memory ends = absurd (no_full refl)
+other_fault number sink result NoMemory no_full no_memory ends = absurd (no_memory refl)
+other_fault number sink result NoDevice no_full no_memory ends = ends
+other_fault number sink result NoPacket no_full no_memory ends = ends
+other_fault number sink result NoReport no_full no_memory ends = ends
+other_fault number sink result NoRevision no_full no_memory ends = ends
+other_fault number sink result (Document f) no_full no_memory ends = ends
 
 -- the sink fails within a reply
 pub cut_off : (devices number : ℕ) (past : List Event) (line : Line) (event : Event) (reply : Reply) (sink : Stream) → IsTaken devices past line event → IsReply past event reply
@@ -104,6 +136,25 @@ module _ (devices : ℕ) (lines : List Line) (number : ℕ) (rest : List Line) (
       → HasEnd devices number so.past rest (record { before = b; after = c; faults_before = g; faults_after = h }) result
       → Follows devices lines (record { before = a; after = c; faults_before = f; faults_after = h }) result
   at_end so result e = (so.out ++ e.0, e.1, so.onward e.0 e.1 e.2, prints_on a b c f g h so.out e.0 e.1 result so.sent so.quiet e.3)
+
+-- a line is taken, and the fleet goes on
+pub goes_on : (devices : ℕ) (lines : List Line) (number : ℕ) (text : List ℕ) (rest : List Line) (fleet new : FleetState) (a b c : Option (List ℕ)) (f g h : ℕ)
+    → (so : IsSoFar devices lines number (record { text = text; is_ended = true } ∷ rest) fleet (record { before = a; after = b; faults_before = f; faults_after = g }))
+    → Goes (device_count fleet) number so.past text new (record { before = b; after = c; faults_before = g; faults_after = h }) (Ok tt) → device_count new ≡ device_count fleet
+    → IsSoFar devices lines (number + 1) rest new (record { before = a; after = c; faults_before = f; faults_after = h })
+goes_on devices lines number text rest fleet new a b c f g h so goes count =
+    let line : Line = record { text = text; is_ended = true } in
+    one_more devices lines number rest fleet a b c f g h line new so goes.0 goes.1 (subst (λ (n : ℕ). IsTaken n so.past line goes.0) so.count goes.2) goes.3 goes.4 goes.5 goes.6 count
+
+-- a line ends the call
+pub goes_out : (devices : ℕ) (lines : List Line) (number : ℕ) (text : List ℕ) (rest : List Line) (fleet new : FleetState) (a b c : Option (List ℕ)) (f g h : ℕ) (result : Status)
+    → (so : IsSoFar devices lines number (record { text = text; is_ended = true } ∷ rest) fleet (record { before = a; after = b; faults_before = f; faults_after = g }))
+    → Goes (device_count fleet) number so.past text new (record { before = b; after = c; faults_before = g; faults_after = h }) (Err result)
+    → Follows devices lines (record { before = a; after = c; faults_before = f; faults_after = h }) result
+goes_out devices lines number text rest fleet new a b c f g h result so goes =
+    let line : Line = record { text = text; is_ended = true } in
+    let sink : Stream = record { before = b; after = c; faults_before = g; faults_after = h } in
+    at_end devices lines number (line ∷ rest) fleet a b c f g h so result (subst (λ (n : ℕ). HasEnd n number so.past (line ∷ rest) sink result) so.count (goes rest))
 
 -- the line that a rest without a line feed is
 unended_line : (bytes : List ℕ) → 0 < length bytes → IsUnended bytes (lines_of bytes) → lines_of bytes ≡ record { text = bytes; is_ended = false } ∷ []

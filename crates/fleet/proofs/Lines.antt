@@ -1,9 +1,10 @@
 -- Where a byte stands first, and how line feeds and blanks part bytes.
-use Rattle.std.proofs.Common.{◌≡◌, ◌∙◌, ℕ, zero, suc, ◌+◌, ◌-◌, ◌<◌, ◌≤◌, List, [], ◌∷◌, ◌++◌, length, take, drop, get_or, Some, None, Bool, true, false, inl, inr, refl, sym, ap, subst, arith}
+use Rattle.std.proofs.Common.{◌≡◌, ◌∙◌, ℕ, zero, suc, ◌+◌, ◌-◌, ◌<◌, ◌≤◌, List, [], ◌∷◌, ◌++◌, length, take, drop, get_or, Some, None, Bool, true, false, true≢false, inl, inr, refl, sym, ap, subst, arith}
 use Rattle.std.specs.Prelude.{◌==◌, position}
 use Rattle.std.specs.List.{position_or_len}
 use Rattle.std.specs.Str.Parse.{AllDigits}
 use Rattle.std.proofs.lemmas.Bool.{cases_lt, lt-ltb, ne_eqb}
+use Rattle.std.proofs.lemmas.Bool.Decides.{Decides-eqb}
 use Rattle.std.proofs.lemmas.List.{get_or_append_left, length-append, length-drop, take_all}
 use Rattle.std.proofs.lemmas.List.Quantifiers.{position-Some}
 use Rattle.std.proofs.Math.Seq.{get_or-append_seam}
@@ -67,3 +68,17 @@ blank_behind ds rest digits =
         (λ k less. let digit = digit_at ds k digits less in let same = get_or_append_left ds (32 ∷ rest) 0 k less in ne_eqb (get_or whole k 0) 32 (λ e. omega arith))
         (λ less. ap (λ x. x == 32) (get_or-append_seam ds 32 rest 0)) in
     rw (at, lt-ltb (length ds) (length whole) within) refl
+
+-- ---- no bytes, or some
+
+is_zero : (n : ℕ) → (n == 0) ≡ true → n ≡ 0
+is_zero zero h = refl
+is_zero (suc n) h = (Decides-eqb (suc n) 0).0 h
+
+pub no_lines : (bytes : List ℕ) → (length bytes == 0) ≡ true → lines_of bytes ≡ []
+no_lines [] h = refl
+no_lines (b ∷ bs) h = let none = is_zero (length (b ∷ bs)) h in absurd (omega arith)
+
+pub some_bytes : (n : ℕ) → (n == 0) ≡ false → 0 < n
+some_bytes zero h = absurd (true≢false h)
+some_bytes (suc n) h = omega arith

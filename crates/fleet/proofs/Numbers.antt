@@ -4,11 +4,12 @@ use Rattle.std.specs.Prelude.{◌==◌, position, MatchOption, Option, codes}
 use Rattle.std.specs.Fmt.{decimal}
 use Rattle.std.specs.Str.{bytes_eq}
 use Rattle.std.specs.Str.Parse.{IsNumeral, ParsesUnsigned, digits_value, without_leading_plus}
-use Rattle.std.proofs.lemmas.Fmt.{decimal_is_IsNumeral, parse-decimal}
+use Rattle.std.proofs.lemmas.Fmt.{decimal_injective, decimal_is_IsNumeral, parse-decimal}
 use Rattle.std.proofs.lemmas.List.{append_cancel_left, take-append-drop}
 use Rattle.std.proofs.lemmas.List.Quantifiers.{position-Some}
 use Rattle.std.proofs.lemmas.Slice.Eq.{bytes_eq-Decides}
 use Rattle.std.proofs.lemmas.Bool.Decides.{Decides-eqb}
+use Rattle.fleet.specs.Commands.{IsBeginning}
 use Rattle.fleet.proofs.Lines.{blank_behind}
 
 pub unread : (bs : List ℕ) → ¬ (IsNumeral 10 (without_leading_plus bs) × (digits_value 10 (without_leading_plus bs) < 2 ^ 32)) → (n : ℕ) → n < 2 ^ 32 → bs ≡ decimal n → ⊥
@@ -66,3 +67,8 @@ is_sending line rest document blank device is some number behind =
     let next : suc blank ≡ blank + 1 = omega arith in
     let whole : rest ≡ decimal device ++ 32 ∷ document = parted rest blank at.0 here ∙ rw (number.0, next, ← behind) refl in
     (is ∙ ap (λ (t : List ℕ). codes "send " ++ t) whole, number.1)
+
+-- two numbers of devices in one line
+pub same_devices : (line : List ℕ) (n devices : ℕ) → (line ≡ codes "devices " ++ decimal n) × (n < 2 ^ 32) → IsBeginning (record { text = line; is_ended = true }) devices → n ≡ devices
+same_devices line n devices h begins =
+    decimal_injective n devices (omega (arith, h.1)) (omega (arith, begins.few)) (append_cancel_left (codes "devices ") (decimal n) (decimal devices) (sym h.0 ∙ begins.text))

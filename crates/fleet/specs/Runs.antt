@@ -7,11 +7,13 @@ use Rattle.nuc_base.specs.declared.status.Status.TheVariants as statuses
 use Rattle.nuc_base.specs.Faults.{Rose}
 use Rattle.edges.specs.Pieces.{Writes}
 use Rattle.fleet_core.specs.declared.happening.Reply.{Reply}
+use Rattle.fleet_core.specs.declared.happening.StepFault.{StepFault}
+use Rattle.fleet_core.specs.declared.happening.StepFault.TheVariants.{NoDevice, NoPacket, NoReport, Document, NoRevision, Full, NoMemory}
 use Rattle.fleet_core.specs.Events.{Event}
 use Rattle.fleet_core.specs.Fleets.{FleetState, StandsFor}
 use Rattle.fleet_core.specs.Replies.{IsReply}
 use Rattle.fleet.specs.Commands.{Line, IsBeginning}
-use Rattle.fleet.specs.Course.{Begins, Comes, Course, IsTaken, shown, usage_line, most_bytes}
+use Rattle.fleet.specs.Course.{Begins, Comes, Course, IsTaken, shown, usage_line, refused_line, full_line, most_bytes}
 
 -- what a stream holds, where it tells that, and its count of faults, before the call and after it
 pub record Stream : Type 0 where
@@ -36,6 +38,16 @@ Prints sink printed status result =
 -- so it is, or memory was refused and nothing is printed
 abbrev pub Ends : Stream → List ℕ → Status → Status → Type 0
 Ends sink printed status result = Prints sink printed status result ⊎ Prints sink [] statuses.Memory result
+
+-- The line with this number is refused by this fault, and the call ends.
+abbrev pub EndsAtFault : ℕ → Stream → Status → StepFault → Type 0
+EndsAtFault number sink result Full = Prints sink full_line statuses.Limit result
+EndsAtFault number sink result NoMemory = Prints sink [] statuses.Memory result
+EndsAtFault number sink result NoDevice = Ends sink (refused_line number) statuses.BadInput result
+EndsAtFault number sink result NoPacket = Ends sink (refused_line number) statuses.BadInput result
+EndsAtFault number sink result NoReport = Ends sink (refused_line number) statuses.BadInput result
+EndsAtFault number sink result NoRevision = Ends sink (refused_line number) statuses.BadInput result
+EndsAtFault number sink result (Document f) = Ends sink (refused_line number) statuses.BadInput result
 
 -- The line with this number is taken, its reply is printed, and the fleet stands for the events with its event at their end;
 -- or the call ends with a course that whatever lines stand behind it have.

@@ -6,7 +6,7 @@ ghost use Rattle.fleet_core.specs.Events.{Event};
 ghost use Rattle.fleet_core.specs.Fleets.{StandsFor, device_count};
 ghost use Rattle.fleet.specs.Commands.{lines_of};
 ghost use Rattle.fleet.specs.Course.{refused_line};
-ghost use Rattle.fleet.specs.Runs.{stream_of, Prints, Ends, Goes, Follows, StartsOff, BeginsWith, Runs};
+ghost use Rattle.fleet.specs.Runs.{stream_of, Prints, Ends, EndsAtFault, Goes, Follows, StartsOff, BeginsWith, Runs};
 
 use crate::commands::{command, first_line, numbered};
 use crate::printing::{numbered_line, reply_text};
@@ -38,6 +38,17 @@ fn refuse<K: Sink>(alloc: Global, number: u32, sink: &mut K) -> Status
     }
 }
 
+/// Ends at the line with this number, which a fault refuses.
+fn end_at_fault<K: Sink>(alloc: Global, number: u32, fault: &StepFault, sink: &mut K) -> Status
+    ensures { EndsAtFault number (stream_of K.held K.faults sink.old sink.new) result fault.now }
+{
+    match fault {
+        StepFault::Full => end_with(sink, "refused 14 Full 65536\n", Status::Limit),
+        StepFault::NoMemory => Status::Memory,
+        _ => refuse(alloc, number, sink),
+    }
+}
+
 /// Does what one line says, and prints the reply; or answers the status with which the program ends.
 fn take_line<K: Sink>(
     alloc: Global,
@@ -56,11 +67,7 @@ fn take_line<K: Sink>(
     };
     let reply = match fleet.step(happening) {
         Ok(reply) => reply,
-        Err(StepFault::Full) => {
-            return Err(end_with(sink, "refused 14 Full 65536\n", Status::Limit));
-        }
-        Err(StepFault::NoMemory) => return Err(Status::Memory),
-        Err(_) => return Err(refuse(alloc, number, sink)),
+        Err(fault) => return Err(end_at_fault(alloc, number, &fault, sink)),
     };
     let Ok(text) = reply_text(alloc, &reply) else {
         return Err(Status::Memory);
