@@ -36,8 +36,9 @@ const STEPS: &[(Next, u32, &str)] = &[
 
 /// A document of that revision.
 fn document(alloc: Global, revision: u32) -> Result<Bytes, Fail> {
-    let text =
-        format!(in alloc; "{{\"targetArn\":\"g\",\"revision\":{revision},\"components\":{{}}}}")?;
+    let text = format!(in alloc;
+        "{{\"targetArn\":\"g\",\"revision\":{revision},\"components\":{{}}}}"
+    )?;
     Ok(Bytes::from_slice(alloc, text.as_bytes())?)
 }
 
