@@ -79,7 +79,7 @@ abbrev pub Course : ℕ → ℕ → List Event → List Line → List ℕ → St
 Course devices number past [] printed status = (printed ≡ []) × (status ≡ statuses.Done)
 Course devices number past (line ∷ lines) printed status =
     ((event : Event) × (reply : Reply) × (more : List ℕ) × IsTaken devices past line event × IsReply past event reply × (printed ≡ shown reply ++ more)
-        × Course devices (number + 1) (past ++ event ∷ []) lines more status)
+    × Course devices (number + 1) (past ++ event ∷ []) lines more status)
     ⊎ Stops devices number past line printed status
 
 -- What the lines of an input come to. The first one begins the fleet.

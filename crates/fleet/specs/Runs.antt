@@ -54,9 +54,9 @@ EndsAtFault number sink result (Document f) = Ends sink (refused_line number) st
 abbrev pub Goes : ℕ → ℕ → List Event → List ℕ → FleetState → Stream → Result (Unit {0}) Status → Type 0
 Goes devices number past text fleet sink result = MatchResult result
     (λ _. (event : Event) × (reply : Reply) × IsTaken devices past (record { text = text; is_ended = true }) event × IsReply past event reply
-        × StandsFor fleet (past ++ event ∷ []) × Appends sink.before sink.after (shown reply) × (sink.faults_after ≡ sink.faults_before))
+    × StandsFor fleet (past ++ event ∷ []) × Appends sink.before sink.after (shown reply) × (sink.faults_after ≡ sink.faults_before))
     (λ ended. (lines : List Line) → (printed : List ℕ) × (status : Status) × Course devices number past (record { text = text; is_ended = true } ∷ lines) printed status
-        × Prints sink printed status ended)
+    × Prints sink printed status ended)
 
 -- the call comes to the end of these lines
 abbrev pub Follows : ℕ → List Line → Stream → Status → Type 0
@@ -76,4 +76,4 @@ Runs words source sink result =
     ⊎ (words ≤ 1) × (result ≡ statuses.Edge) × Rose source.faults_before source.faults_after × Prints sink [] statuses.Edge result
     ⊎ (words ≤ 1) × Prints sink [] statuses.Memory result
     ⊎ (words ≤ 1) × ((bytes : List ℕ) × (printed : List ℕ) × (status : Status) × IfSome source.before (λ left. bytes ≡ take (most_bytes + 1) left)
-        × Comes bytes printed status × Prints sink printed status result)
+    × Comes bytes printed status × Prints sink printed status result)

@@ -24,9 +24,7 @@ fn graded_line(
     ensures { IfOk result (λ text. text ≡ revision_line word.now device group.now revision) }
 {
     let group = group.as_str();
-    Ok(Text::new(
-        format!(in alloc; "{word} {device} {group} {revision}\n")?,
-    ))
+    Ok(Text::new(format!(in alloc; "{word} {device} {group} {revision}\n")?))
 }
 
 /// A line for each group that is known of a device, or one for none.

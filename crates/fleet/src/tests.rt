@@ -25,7 +25,9 @@ fn ran(alloc: Global, bytes: Vec<u8>) -> Result<(Status, String), Fail> {
 
 /// A document of the group `g` in this revision is sent to device 0.
 fn sending(alloc: Global, revision: u64) -> Result<String, Fail> {
-    Ok(format!(in alloc; "send 0 {{\"targetArn\":\"g\",\"revision\":{revision},\"components\":{{}}}}\n")?)
+    Ok(format!(in alloc;
+        "send 0 {{\"targetArn\":\"g\",\"revision\":{revision},\"components\":{{}}}}\n"
+    )?)
 }
 
 #[test]
@@ -36,7 +38,8 @@ fn takes_no_older_revision(rt: HostRuntime) -> Result<(), Fail> {
     lines.push_str(sending(alloc, 2)?.as_str())?;
     lines.push_str("deliver 1\ndeliver 0\ndeliver 1\nlose 0\ndeliver 0\nreport 0\nhear 0\n")?;
     let (status, printed) = ran(alloc, lines.as_bytes().to_vec(alloc)?)?;
-    let wanted = "sent 0\nsent 1\ntaken 0 g 2\nstale 0 g 2\nagain 0 g 2\nlost 0\ngone 0\nreported 0\nknown 0 g 2\n";
+    let wanted =
+        "sent 0\nsent 1\ntaken 0 g 2\nstale 0 g 2\nagain 0 g 2\nlost 0\ngone 0\nreported 0\nknown 0 g 2\n";
     assert_eq!(rt; printed.as_str(), wanted);
     assert!(rt; status == Status::Done);
     Ok(())
@@ -75,7 +78,10 @@ const REFUSED: &[(&str, u32)] = &[
     // No such device, packet or report.
     ("devices 2\nrestart 1\nrestart 2\n", 3),
     ("devices 1\nreport 1\n", 2),
-    ("devices 1\nsend 1 {\"targetArn\":\"g\",\"revision\":1}\n", 2),
+    (
+        "devices 1\nsend 1 {\"targetArn\":\"g\",\"revision\":1}\n",
+        2,
+    ),
     ("devices 1\ndeliver 0\n", 2),
     ("devices 1\nlose 0\n", 2),
     ("devices 1\nhear 0\n", 2),
@@ -83,7 +89,10 @@ const REFUSED: &[(&str, u32)] = &[
     ("devices 1\nsend 0 \n", 2),
     ("devices 1\nsend 0 {\n", 2),
     ("devices 1\nsend 0 {\"revision\":1}\n", 2),
-    ("devices 1\nsend 0 {\"targetArn\":\"g\",\"revision\":0}\n", 2),
+    (
+        "devices 1\nsend 0 {\"targetArn\":\"g\",\"revision\":0}\n",
+        2,
+    ),
     ("devices 1\nsend 0 {\"targetArn\":\"g\"}\n", 2),
 ];
 
@@ -107,8 +116,10 @@ fn names_the_line_that_is_refused(rt: HostRuntime) -> Result<(), Fail> {
 #[test]
 fn knows_groups_in_byte_order(rt: HostRuntime) -> Result<(), Fail> {
     let alloc = rt.alloc();
-    let lines = b"devices 2\nreport 1\nhear 0\nsend 1 {\"targetArn\":\"h\",\"revision\":7}\nsend 1 {\"targetArn\":\"G\",\"revision\":9223372036854775807}\nreport 1\ndeliver 0\ndeliver 1\nrestart 1\nreport 1\nhear 2\nhear 1\n";
-    let wanted = "reported 0\nknown 1\nsent 0\nsent 1\nreported 1\ntaken 1 h 7\ntaken 1 G 9223372036854775807\nrestarted 1\nreported 2\nknown 1 G 9223372036854775807\nknown 1 h 7\nknown 1 G 9223372036854775807\nknown 1 h 7\n";
+    let lines =
+        b"devices 2\nreport 1\nhear 0\nsend 1 {\"targetArn\":\"h\",\"revision\":7}\nsend 1 {\"targetArn\":\"G\",\"revision\":9223372036854775807}\nreport 1\ndeliver 0\ndeliver 1\nrestart 1\nreport 1\nhear 2\nhear 1\n";
+    let wanted =
+        "reported 0\nknown 1\nsent 0\nsent 1\nreported 1\ntaken 1 h 7\ntaken 1 G 9223372036854775807\nrestarted 1\nreported 2\nknown 1 G 9223372036854775807\nknown 1 h 7\nknown 1 G 9223372036854775807\nknown 1 h 7\n";
     let (status, printed) = ran(alloc, lines.to_vec(alloc)?)?;
     assert_eq!(rt; printed.as_str(), wanted);
     assert!(rt; status == Status::Done);
@@ -174,7 +185,11 @@ fn sends_so_many_reports(rt: HostRuntime) -> Result<(), Fail> {
     }
     let (status, printed) = ran(alloc, lines.as_bytes().to_vec(alloc)?)?;
     assert!(rt; status == Status::Limit);
-    assert!(rt; printed.as_str().ends_with("reported 65535\nrefused 14 Full 65536\n"));
+    assert!(rt;
+        printed
+            .as_str()
+            .ends_with("reported 65535\nrefused 14 Full 65536\n")
+    );
     Ok(())
 }
 
