@@ -1,10 +1,8 @@
 -- The highest revision among packets and among reports.
-use Rattle.std.proofs.Common.{◌≡◌, ℕ, zero, suc, ◌<◌, ◌≤◌, Bool, true, false, List, [], ◌∷◌, ◌++◌, Some, None, refl, sym, ap, subst, ◌∙◌, arith}
+use Rattle.std.proofs.Common.{◌≡◌, ℕ, zero, suc, ◌≤◌, Bool, true, false, List, [], ◌∷◌, ◌++◌, Some, None, refl, sym, ap, subst, arith}
 use Rattle.std.specs.Prelude.{slice_get, Option, max, if◌then◌else◌, ◌==◌}
 use Rattle.std.specs.Option.{option_to_list}
-use Rattle.std.specs.List.{AllByRecursion}
 use Rattle.fleet_core.specs.declared.packet.Packet.{Packet}
-use Rattle.fleet_core.specs.Events.{Event, each, along}
 use Rattle.fleet_core.specs.Meaning.{is_to, highest, told, kept, Report}
 
 pub highest-append : (d : ℕ) (g : List ℕ) (ps qs : List Packet) → highest d g (ps ++ qs) ≡ max (highest d g ps) (highest d g qs)

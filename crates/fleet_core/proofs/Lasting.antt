@@ -1,10 +1,10 @@
 -- What devices keep and what the controller knows never falls, and neither passes what it comes from.
-use Rattle.std.proofs.Common.{◌≡◌, ℕ, zero, suc, ◌<◌, ◌≤◌, Bool, true, false, List, [], ◌∷◌, ◌++◌, Some, None, refl, sym, ap, subst, ◌∙◌, arith}
+use Rattle.std.proofs.Common.{◌≡◌, ℕ, ◌≤◌, Bool, true, false, List, [], ◌∷◌, ◌++◌, sym, ap, subst, ◌∙◌, arith}
 use Rattle.std.specs.Prelude.{slice_get, max, if◌then◌else◌, ◌==◌}
 use Rattle.std.specs.Option.{option_to_list}
 use Rattle.std.specs.List.{AllByRecursion}
 use Rattle.fleet_core.specs.declared.packet.Packet.{Packet}
-use Rattle.fleet_core.specs.Events.{Event, each, along}
+use Rattle.fleet_core.specs.Events.{Event, each}
 use Rattle.fleet_core.specs.Events.Event.{Sending, Delivery, Loss, Restarting, Reporting, Hearing}
 use Rattle.fleet_core.specs.Meaning.{packets, sent_by, is_lost, arrived_by, arrivals, highest, told, kept, newest, known, Report, reports, reported_by, hearings, heard_by}
 use Rattle.fleet_core.specs.Laws.{KnownIsKept, KeptIsSent, KeptStays, KnownStays}

@@ -1,5 +1,5 @@
 -- What devices take, by the replies: its revisions rise, and it was sent.
-use Rattle.std.proofs.Common.{◌≡◌, ℕ, zero, suc, ◌<◌, ◌≤◌, Bool, true, false, List, [], ◌∷◌, ◌++◌, Some, None, refl, sym, ap, subst, ◌∙◌, arith, append_assoc}
+use Rattle.std.proofs.Common.{◌≡◌, ℕ, ◌<◌, ◌≤◌, Bool, true, false, List, [], ◌∷◌, ◌++◌, Some, refl, sym, ap, subst, ◌∙◌, arith, append_assoc}
 use Rattle.std.specs.Prelude.{slice_get, Option, max, nat_lt, if◌then◌else◌, ◌==◌, ◌&&◌}
 use Rattle.std.specs.Bool.{MatchBool}
 use Rattle.std.specs.Option.{option_to_list}
@@ -9,12 +9,12 @@ use Rattle.std.proofs.lemmas.Slice.Eq.{bytes_eq-Decides}
 use Rattle.fleet_core.specs.declared.packet.Packet.{Packet}
 use Rattle.fleet_core.specs.declared.happening.Reply.{Reply}
 use Rattle.fleet_core.specs.declared.happening.Reply.TheVariants.{Sent, Taken, Stale, Again, Gone, Lost, Restarted, Reported, Known}
-use Rattle.fleet_core.specs.Events.{Event, each, along}
+use Rattle.fleet_core.specs.Events.{Event, each}
 use Rattle.fleet_core.specs.Events.Event.{Sending, Delivery, Loss, Restarting, Reporting, Hearing}
-use Rattle.fleet_core.specs.Meaning.{packets, sent_by, is_lost, arrived_by, is_to, highest, kept, Report}
+use Rattle.fleet_core.specs.Meaning.{packets, sent_by, is_lost, arrived_by, is_to, highest, kept}
 use Rattle.fleet_core.specs.Replies.{IsReply, verdict}
 use Rattle.fleet_core.specs.Laws.{AreRepliesAfter, taken_by, taken, RisesFrom, WasSent, TakenRevisionsRise, TakenWasSent}
-use Rattle.fleet_core.proofs.Along.{along-append, all-weaken, get-append}
+use Rattle.fleet_core.proofs.Along.{along-append, get-append}
 use Rattle.fleet_core.proofs.Highest.{highest-head}
 use Rattle.fleet_core.proofs.Lasting.{kept_stays, kept-step}
 

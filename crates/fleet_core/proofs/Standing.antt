@@ -1,22 +1,19 @@
 -- How a fleet goes on standing for its events, event by event.
-use Rattle.std.proofs.Common.{◌≡◌, ℕ, zero, suc, ◌+◌, ◌<◌, ◌≤◌, Bool, true, false, List, [], ◌∷◌, ◌++◌, Some, None, length, refl, sym, ap, subst, ◌∙◌, arith, inl, inr, set}
-use Rattle.std.specs.Prelude.{slice_get, slice_set, Option, map, max, nat_lt, ◌||◌, ◌&&◌, ◌==◌, ◌⊎◌, if◌then◌else◌}
+use Rattle.std.proofs.Common.{◌≡◌, ℕ, zero, suc, ◌+◌, ◌<◌, ◌≤◌, Bool, true, false, List, [], ◌∷◌, ◌++◌, Some, length, refl, sym, ap, subst, ◌∙◌, arith, inl, inr}
+use Rattle.std.specs.Prelude.{slice_get, slice_set, Option, map, max, ◌||◌, ◌&&◌, ◌==◌, ◌⊎◌, if◌then◌else◌}
 use Rattle.std.specs.Option.{option_to_list}
-use Rattle.std.specs.List.{list_any}
 use Rattle.std.specs.Str.{bytes_eq}
 use Rattle.std.proofs.lemmas.List.{map-append, length_push, length-map, length-set}
 use Rattle.std.proofs.lemmas.Option.{slice_get_within}
 use Rattle.std.proofs.lemmas.Slice.Eq.{bytes_eq-Decides}
 use Rattle.fleet_core.specs.declared.packet.Packet.{Packet}
 use Rattle.fleet_core.specs.declared.packet.Sent.{Sent}
-use Rattle.fleet_core.specs.declared.history.Taking.{Taking}
-use Rattle.fleet_core.specs.Events.{Event, each, along}
+use Rattle.fleet_core.specs.Events.{Event}
 use Rattle.fleet_core.specs.Events.Event.{Sending, Delivery, Loss, Restarting, Reporting, Hearing}
-use Rattle.fleet_core.specs.Meaning.{packets, sent_by, loses, is_lost, arrived_by, arrivals, is_to, highest, told, kept, known, Report, reports, reported_by, hearings, heard_by}
+use Rattle.fleet_core.specs.Meaning.{packets, sent_by, loses, is_lost, arrived_by, is_to, highest, told, kept, known, Report, reports, reported_by, heard_by}
 use Rattle.fleet_core.specs.Takings.{level}
 use Rattle.fleet_core.specs.Keeping.{Keeping, takings_of, Takes}
 use Rattle.fleet_core.specs.Fleets.{FleetState, StandsFor}
-use Rattle.fleet_core.specs.Replies.{IsListing}
 use Rattle.fleet_core.proofs.Along.{along-step, along-same}
 use Rattle.fleet_core.proofs.Highest.{highest-head, highest-other}
 use Rattle.fleet_core.proofs.Lasting.{kept-step, known-step}

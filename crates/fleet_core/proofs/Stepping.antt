@@ -1,6 +1,6 @@
 -- Each step of a fleet, over the events for which it stands.
 use Rattle.std.proofs.Common.{◌≡◌, ℕ, zero, suc, ◌+◌, ◌<◌, ◌≤◌, Bool, true, false, List, [], ◌∷◌, ◌++◌, Some, None, Ok, length, refl, sym, ap, subst, ◌∙◌, arith, inl, inr, ltb-true}
-use Rattle.std.specs.Prelude.{slice_get, slice_set, slice_index_or, Option, option_map, unwrap_or, map, max, nat_lt, ◌⊎◌, if◌then◌else◌}
+use Rattle.std.specs.Prelude.{slice_get, slice_set, slice_index_or, option_map, unwrap_or, map, max, nat_lt, ◌⊎◌, if◌then◌else◌}
 use Rattle.std.specs.Bool.{MatchBool}
 use Rattle.std.specs.Str.{bytes_eq}
 use Rattle.std.specs.Map.{lookup}
@@ -18,7 +18,7 @@ use Rattle.fleet_core.specs.Meaning.{packets, is_lost, kept, known, Report, repo
 use Rattle.fleet_core.specs.Takings.{level, AreBy}
 use Rattle.fleet_core.specs.Keeping.{Keeping, takings_of, Takes, IsBy, level_before, IsOffered}
 use Rattle.fleet_core.specs.Fleets.{FleetState, AreFresh, IsSound, StandsFor, Steps}
-use Rattle.fleet_core.specs.Replies.{IsPacketOf, IsReply, IsListing, verdict, most}
+use Rattle.fleet_core.specs.Replies.{IsPacketOf, IsListing, verdict, most}
 use Rattle.fleet_core.proofs.Standing.{sending_stands, quiet_stands, quiet_gone, quiet_old, quiet_restarting, loss_stands, reporting_stands, taking_stands, hearing_stands, get-push, get-set}
 use Rattle.fleet_core.proofs.Along.{all-weaken, all-append}
 

@@ -1,10 +1,10 @@
-use Rattle.std.proofs.Common.{◌≡◌, ◌∙◌, ◌+◌, ◌<◌, ◌++◌, ◌∷◌, [], List, Some, ℕ, cond, sym, ap, rules}
+use Rattle.std.proofs.Common.{◌∙◌, ◌+◌, ◌<◌, ◌++◌, ◌∷◌, [], List, Some, ℕ, cond, sym, ap, rules}
 use Rattle.std.specs.BTreeMap.{BTreeMap}
 use Rattle.std.specs.Map.{lookup}
 use Rattle.fleet_core.specs.declared.history.Taking.{Taking}
 use Rattle.fleet_core.specs.Takings.{level, AreBy}
 use Rattle.fleet_core.specs.Keeping.{Keeping}
-use Rattle.fleet_core.proofs.Lookups.{among, among-some, among-none, by_order, at_device, takes_one, ok_then, err_then}
+use Rattle.fleet_core.proofs.Lookups.{among-some, among-none, by_order, at_device, takes_one, ok_then, err_then}
 use Rattle.std.proofs.lemmas.Map.Steps.{set_value_same}
 use Rattle.fleet_core.proofs.device.Device.take.Goals as goal
 

@@ -1,4 +1,4 @@
-use Rattle.std.proofs.Common.{ℕ, ◌+◌, length, max, refl}
+use Rattle.std.proofs.Common.{◌+◌, length, max, refl}
 use Rattle.std.specs.Prelude.{slice_set}
 use Rattle.std.proofs.lemmas.Option.{slice_get_read}
 use Rattle.fleet_core.specs.Keeping.{Keeping}

@@ -1,4 +1,4 @@
-use Rattle.std.proofs.Common.{◌≡◌, ◌<◌, ◌∙◌, length, arith}
+use Rattle.std.proofs.Common.{◌≡◌, ◌∙◌, length, arith}
 use Rattle.fleet_core.specs.Fleets.{FleetState}
 use Rattle.fleet_core.proofs.Stepping.{report_steps, report_sound}
 use Rattle.fleet_core.proofs.fleet.Fleet.report.Goals as goal

@@ -1,4 +1,4 @@
-use Rattle.std.proofs.Common.{ltb, arith, rules, subst, sym, ◌∙◌, ap, ◌≡◌, List, ℕ, length, get_or, ◌-◌}
+use Rattle.std.proofs.Common.{ltb, arith, rules, subst, sym, ◌∙◌, ap, ◌≡◌, List, get_or, ◌-◌}
 use Rattle.std.proofs.lemmas.List.Sorted.{IsPartitionPoint-from_clause, IsPartitionedBy-ltb}
 use Rattle.std.specs.List.Sorted.{IsNonDecreasingBy}
 use Rattle.fleet_core.specs.declared.history.Taking.{Taking}
