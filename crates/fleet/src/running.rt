@@ -57,7 +57,8 @@ fn take_line<K: Sink>(
     line: &[u8],
     sink: &mut K,
 ) -> Result<(), Status>
-    ensures goes { (past : List Event) → StandsFor fleet.old past → Goes (device_count fleet.old) number past line.now fleet.new (stream_of K.held K.faults sink.old sink.new) result }
+    ensures goes { (past : List Event) → StandsFor fleet.old past
+        → Goes (device_count fleet.old) number past line.now fleet.new (stream_of K.held K.faults sink.old sink.new) result }
     ensures devices { device_count fleet.new ≡ device_count fleet.old }
 {
     let happening = match command(alloc, line) {
