@@ -1,5 +1,6 @@
 -- Courses of lines, one line after another, and what is printed of them.
-use Rattle.std.proofs.Common.{◌≡◌, ◌∙◌, ℕ, ◌+◌, ◌<◌, List, [], ◌∷◌, ◌++◌, true, false, true≢false, length, inl, inr, Ok, Err, refl, sym, ap, subst, append_assoc, arith}
+use Rattle.std.proofs.Common.{◌≡◌, ◌∙◌, ℕ, ◌+◌, ◌<◌, List, [], ◌∷◌, ◌++◌, true, false, true≢false, length, inl, inr, Ok, Err, refl, sym, ap, subst}
+use Rattle.std.proofs.Common.{append_assoc, arith}
 use Rattle.std.specs.Prelude.{Option}
 use Rattle.std.specs.Io.KnownBytes.{Appends}
 use Rattle.std.proofs.KnownBytes.{Appends-nil, Appends-trans}
@@ -52,12 +53,14 @@ stops devices number past line sink printed s result here prints lines = (printe
 pub stops_or_not : (devices number : ℕ) (past : List Event) (line : Line) (sink : Stream) (printed : List ℕ) (s result : Status)
     → Stops devices number past line printed s → Ends sink printed s result → (lines : List Line) → HasEnd devices number past (line ∷ lines) sink result
 stops_or_not devices number past line sink printed s result here (inl prints) = stops devices number past line sink printed s result here prints
-stops_or_not devices number past line sink printed s result here (inr prints) = stops devices number past line sink [] statuses.Memory result (inr (inr (refl, refl))) prints
+stops_or_not devices number past line sink printed s result here (inr prints) = stops devices number past line sink [] statuses.Memory result
+    (inr (inr (refl, refl))) prints
 
 -- memory is refused at a line, before anything is printed of it
 pub stops_silent : (devices number : ℕ) (past : List Event) (line : Line) (a : Option (List ℕ)) (f : ℕ) (lines : List Line)
     → HasEnd devices number past (line ∷ lines) (record { before = a; after = a; faults_before = f; faults_after = f }) statuses.Memory
-stops_silent devices number past line a f lines = stops devices number past line _ [] statuses.Memory statuses.Memory (inr (inr (refl, refl))) (silent a f statuses.Memory) lines
+stops_silent devices number past line a f lines = stops devices number past line _ [] statuses.Memory statuses.Memory (inr (inr (refl, refl)))
+    (silent a f statuses.Memory) lines
 
 -- a line that reads as a command, and is refused
 pub refused : (devices number : ℕ) (past : List Event) (text : List ℕ) (happening : Happening) (sink : Stream) (result : Status) (f : StepFault)
@@ -65,20 +68,27 @@ pub refused : (devices number : ℕ) (past : List Event) (text : List ℕ) (happ
     → HasEnd devices number past (record { text = text; is_ended = true } ∷ lines) sink result
 refused devices number past text happening sink result Full is why ends lines =
     stops devices number past _ sink full_line statuses.Limit result (inr (inl ((happening, (refl, is), why), refl, refl))) ends lines
-refused devices number past text happening sink result NoMemory is why ends lines = stops devices number past _ sink [] statuses.Memory result (inr (inr (refl, refl))) ends lines
+refused devices number past text happening sink result NoMemory is why ends lines = stops devices number past _ sink [] statuses.Memory result
+    (inr (inr (refl, refl))) ends lines
 refused devices number past text happening sink result NoDevice is why ends lines =
-    stops_or_not devices number past _ sink (refused_line number) statuses.BadInput result (inl (inr (happening, NoDevice, (refl, is), why, (λ e. cc e), (λ e. cc e)), refl, refl)) ends lines
+    stops_or_not devices number past _ sink (refused_line number) statuses.BadInput result
+        (inl (inr (happening, NoDevice, (refl, is), why, (λ e. cc e), (λ e. cc e)), refl, refl)) ends lines
 refused devices number past text happening sink result NoPacket is why ends lines =
-    stops_or_not devices number past _ sink (refused_line number) statuses.BadInput result (inl (inr (happening, NoPacket, (refl, is), why, (λ e. cc e), (λ e. cc e)), refl, refl)) ends lines
+    stops_or_not devices number past _ sink (refused_line number) statuses.BadInput result
+        (inl (inr (happening, NoPacket, (refl, is), why, (λ e. cc e), (λ e. cc e)), refl, refl)) ends lines
 refused devices number past text happening sink result NoReport is why ends lines =
-    stops_or_not devices number past _ sink (refused_line number) statuses.BadInput result (inl (inr (happening, NoReport, (refl, is), why, (λ e. cc e), (λ e. cc e)), refl, refl)) ends lines
+    stops_or_not devices number past _ sink (refused_line number) statuses.BadInput result
+        (inl (inr (happening, NoReport, (refl, is), why, (λ e. cc e), (λ e. cc e)), refl, refl)) ends lines
 refused devices number past text happening sink result NoRevision is why ends lines =
-    stops_or_not devices number past _ sink (refused_line number) statuses.BadInput result (inl (inr (happening, NoRevision, (refl, is), why, (λ e. cc e), (λ e. cc e)), refl, refl)) ends lines
+    stops_or_not devices number past _ sink (refused_line number) statuses.BadInput result
+        (inl (inr (happening, NoRevision, (refl, is), why, (λ e. cc e), (λ e. cc e)), refl, refl)) ends lines
 refused devices number past text happening sink result (Document f) is why ends lines =
-    stops_or_not devices number past _ sink (refused_line number) statuses.BadInput result (inl (inr (happening, Document f, (refl, is), why, (λ e. cc e), (λ e. cc e)), refl, refl)) ends lines
+    stops_or_not devices number past _ sink (refused_line number) statuses.BadInput result
+        (inl (inr (happening, Document f, (refl, is), why, (λ e. cc e), (λ e. cc e)), refl, refl)) ends lines
 
 -- what a fault that is neither Full nor NoMemory ends with
-pub other_fault : (number : ℕ) (sink : Stream) (result : Status) (f : StepFault) → (f ≡ Full → ⊥) → (f ≡ NoMemory → ⊥) → Ends sink (refused_line number) statuses.BadInput result
+pub other_fault : (number : ℕ) (sink : Stream) (result : Status) (f : StepFault) → (f ≡ Full → ⊥) → (f ≡ NoMemory → ⊥) →
+    Ends sink (refused_line number) statuses.BadInput result
     → EndsAtFault number sink result f
 other_fault number sink result Full no_full no_memory ends = absurd (no_full refl)
 other_fault number sink result NoMemory no_full no_memory ends = absurd (no_memory refl)
@@ -89,8 +99,10 @@ other_fault number sink result NoRevision no_full no_memory ends = ends
 other_fault number sink result (Document f) no_full no_memory ends = ends
 
 -- the sink fails within a reply
-pub cut_off : (devices number : ℕ) (past : List Event) (line : Line) (event : Event) (reply : Reply) (sink : Stream) → IsTaken devices past line event → IsReply past event reply
-    → Rose sink.faults_before sink.faults_after → WritesInPart sink.before sink.after (shown reply) → (lines : List Line) → HasEnd devices number past (line ∷ lines) sink statuses.Edge
+pub cut_off : (devices number : ℕ) (past : List Event) (line : Line) (event : Event) (reply : Reply) (sink : Stream) → IsTaken devices past line event →
+    IsReply past event reply
+    → Rose sink.faults_before sink.faults_after → WritesInPart sink.before sink.after (shown reply) → (lines : List Line) →
+        HasEnd devices number past (line ∷ lines) sink statuses.Edge
 cut_off devices number past line event reply sink taken is rose front lines =
     let rest = some_course devices (number + 1) (past ++ event ∷ []) lines in (
       shown reply ++ rest.0,
@@ -117,9 +129,12 @@ none_so_far lines fleet a f stands =
     record { past = []; out = []; stands = stands; count = refl; sent = Appends-nil a; quiet = refl; onward = λ printed s course. course }
 
 module _ (devices : ℕ) (lines : List Line) (number : ℕ) (rest : List Line) (fleet : FleetState) (a b c : Option (List ℕ)) (f g h : ℕ) where
-  pub one_more : (line : Line) (new : FleetState) (so : IsSoFar devices lines number (line ∷ rest) fleet (record { before = a; after = b; faults_before = f; faults_after = g }))
-      (event : Event) (reply : Reply) → IsTaken devices so.past line event → IsReply so.past event reply → StandsFor new (so.past ++ event ∷ []) → Appends b c (shown reply) → h ≡ g
-      → device_count new ≡ device_count fleet → IsSoFar devices lines (number + 1) rest new (record { before = a; after = c; faults_before = f; faults_after = h })
+  pub one_more : (line : Line) (new : FleetState) (so : IsSoFar devices lines number (line ∷ rest) fleet
+      (record { before = a; after = b; faults_before = f; faults_after = g }))
+      (event : Event) (reply : Reply) → IsTaken devices so.past line event → IsReply so.past event reply → StandsFor new (so.past ++ event ∷ []) →
+          Appends b c (shown reply) → h ≡ g
+      → device_count new ≡ device_count fleet → IsSoFar devices lines (number + 1) rest new
+          (record { before = a; after = c; faults_before = f; faults_after = h })
   one_more line new so event reply taken is stands sent quiet count = record {
     past = so.past ++ event ∷ [];
     out = so.out ++ shown reply;
@@ -139,22 +154,28 @@ module _ (devices : ℕ) (lines : List Line) (number : ℕ) (rest : List Line) (
 
 -- a line is taken, and the fleet goes on
 pub goes_on : (devices : ℕ) (lines : List Line) (number : ℕ) (text : List ℕ) (rest : List Line) (fleet new : FleetState) (a b c : Option (List ℕ)) (f g h : ℕ)
-    → (so : IsSoFar devices lines number (record { text = text; is_ended = true } ∷ rest) fleet (record { before = a; after = b; faults_before = f; faults_after = g }))
-    → Goes (device_count fleet) number so.past text new (record { before = b; after = c; faults_before = g; faults_after = h }) (Ok tt) → device_count new ≡ device_count fleet
+    → (so : IsSoFar devices lines number (record { text = text; is_ended = true } ∷ rest) fleet
+        (record { before = a; after = b; faults_before = f; faults_after = g }))
+    → Goes (device_count fleet) number so.past text new (record { before = b; after = c; faults_before = g; faults_after = h }) (Ok tt) →
+        device_count new ≡ device_count fleet
     → IsSoFar devices lines (number + 1) rest new (record { before = a; after = c; faults_before = f; faults_after = h })
 goes_on devices lines number text rest fleet new a b c f g h so goes count =
     let line : Line = record { text = text; is_ended = true } in
-    one_more devices lines number rest fleet a b c f g h line new so goes.0 goes.1 (subst (λ (n : ℕ). IsTaken n so.past line goes.0) so.count goes.2) goes.3 goes.4 goes.5 goes.6 count
+    one_more devices lines number rest fleet a b c f g h line new so goes.0 goes.1 (subst (λ (n : ℕ). IsTaken n so.past line goes.0) so.count goes.2) goes.3
+        goes.4 goes.5 goes.6 count
 
 -- a line ends the call
-pub goes_out : (devices : ℕ) (lines : List Line) (number : ℕ) (text : List ℕ) (rest : List Line) (fleet new : FleetState) (a b c : Option (List ℕ)) (f g h : ℕ) (result : Status)
-    → (so : IsSoFar devices lines number (record { text = text; is_ended = true } ∷ rest) fleet (record { before = a; after = b; faults_before = f; faults_after = g }))
+pub goes_out : (devices : ℕ) (lines : List Line) (number : ℕ) (text : List ℕ) (rest : List Line) (fleet new : FleetState) (a b c : Option (List ℕ))
+    (f g h : ℕ) (result : Status)
+    → (so : IsSoFar devices lines number (record { text = text; is_ended = true } ∷ rest) fleet
+        (record { before = a; after = b; faults_before = f; faults_after = g }))
     → Goes (device_count fleet) number so.past text new (record { before = b; after = c; faults_before = g; faults_after = h }) (Err result)
     → Follows devices lines (record { before = a; after = c; faults_before = f; faults_after = h }) result
 goes_out devices lines number text rest fleet new a b c f g h result so goes =
     let line : Line = record { text = text; is_ended = true } in
     let sink : Stream = record { before = b; after = c; faults_before = g; faults_after = h } in
-    at_end devices lines number (line ∷ rest) fleet a b c f g h so result (subst (λ (n : ℕ). HasEnd n number so.past (line ∷ rest) sink result) so.count (goes rest))
+    at_end devices lines number (line ∷ rest) fleet a b c f g h so result (subst (λ (n : ℕ). HasEnd n number so.past (line ∷ rest) sink result) so.count
+        (goes rest))
 
 -- the line that a rest without a line feed is
 unended_line : (bytes : List ℕ) → 0 < length bytes → IsUnended bytes (lines_of bytes) → lines_of bytes ≡ record { text = bytes; is_ended = false } ∷ []
@@ -162,20 +183,24 @@ unended_line [] some is = absurd (omega arith)
 unended_line (byte ∷ bytes) some is = is
 
 -- The rest is refused, since no line feed ends it.
-pub unended_end : (devices number : ℕ) (past : List Event) (bytes : List ℕ) (sink : Stream) (result : Status) → 0 < length bytes → IsUnended bytes (lines_of bytes)
+pub unended_end : (devices number : ℕ) (past : List Event) (bytes : List ℕ) (sink : Stream) (result : Status) → 0 < length bytes →
+    IsUnended bytes (lines_of bytes)
     → Ends sink (refused_line number) statuses.BadInput result → HasEnd devices number past (lines_of bytes) sink result
 unended_end devices number past bytes sink result some is ends =
     let line : Line = record { text = bytes; is_ended = false } in
     subst (λ (ls : List Line). HasEnd devices number past ls sink result) (sym (unended_line bytes some is))
-    (stops_or_not devices number past line sink (refused_line number) statuses.BadInput result (inl (inl (λ happening command. true≢false (sym command.0)), refl, refl)) ends [])
+    (stops_or_not devices number past line sink (refused_line number) statuses.BadInput result
+        (inl (inl (λ happening command. true≢false (sym command.0)), refl, refl)) ends [])
 
 -- There is no rest.
-pub no_more : (devices number : ℕ) (past : List Event) (a : Option (List ℕ)) (f : ℕ) → HasEnd devices number past [] (record { before = a; after = a; faults_before = f; faults_after = f }) statuses.Done
+pub no_more : (devices number : ℕ) (past : List Event) (a : Option (List ℕ)) (f : ℕ) →
+    HasEnd devices number past [] (record { before = a; after = a; faults_before = f; faults_after = f }) statuses.Done
 no_more devices number past a f = ([], statuses.Done, (refl, refl), silent a f statuses.Done)
 
 -- ---- the first line
 
-pub refused_start : (line : Line) (lines : List Line) (sink : Stream) (result : Status) → ((devices : ℕ) → IsBeginning line devices → ⊥) → Ends sink (refused_line 1) statuses.BadInput result
+pub refused_start : (line : Line) (lines : List Line) (sink : Stream) (result : Status) → ((devices : ℕ) → IsBeginning line devices → ⊥) →
+    Ends sink (refused_line 1) statuses.BadInput result
     → StartsOff (line ∷ lines) sink result
 refused_start line lines sink result none (inl prints) = (refused_line 1, statuses.BadInput, inr (inl (none, refl, refl)), prints)
 refused_start line lines sink result none (inr prints) = ([], statuses.Memory, inr (inr (refl, refl)), prints)
@@ -188,8 +213,10 @@ unended_start (byte ∷ bytes) sink result is ends =
     let line : Line = record { text = byte ∷ bytes; is_ended = false } in
     subst (λ (ls : List Line). StartsOff ls sink result) (sym is) (refused_start line [] sink result (λ devices begins. true≢false (sym begins.ended)) ends)
 
-pub started : (devices : ℕ) (line : Line) (lines : List Line) (sink : Stream) (result : Status) → IsBeginning line devices → Follows devices lines sink result → StartsOff (line ∷ lines) sink result
+pub started : (devices : ℕ) (line : Line) (lines : List Line) (sink : Stream) (result : Status) → IsBeginning line devices →
+    Follows devices lines sink result → StartsOff (line ∷ lines) sink result
 started devices line lines sink result begins follows = (follows.0, follows.1, inl (devices, begins, follows.2), follows.3)
 
-pub no_fleet : (line : Line) (lines : List Line) (a : Option (List ℕ)) (f : ℕ) → StartsOff (line ∷ lines) (record { before = a; after = a; faults_before = f; faults_after = f }) statuses.Memory
+pub no_fleet : (line : Line) (lines : List Line) (a : Option (List ℕ)) (f : ℕ) →
+    StartsOff (line ∷ lines) (record { before = a; after = a; faults_before = f; faults_after = f }) statuses.Memory
 no_fleet line lines a f = ([], statuses.Memory, inr (inr (refl, refl)), silent a f statuses.Memory)

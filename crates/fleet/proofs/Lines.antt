@@ -1,5 +1,6 @@
 -- Where a byte stands first, and how line feeds and blanks part bytes.
-use Rattle.std.proofs.Common.{◌≡◌, ◌∙◌, ℕ, zero, suc, ◌+◌, ◌-◌, ◌<◌, ◌≤◌, List, [], ◌∷◌, ◌++◌, length, take, drop, get_or, Some, None, Bool, true, false, true≢false, inl, inr, refl, ap, arith}
+use Rattle.std.proofs.Common.{◌≡◌, ◌∙◌, ℕ, zero, suc, ◌+◌, ◌-◌, ◌<◌, ◌≤◌, List, [], ◌∷◌, ◌++◌, length, take, drop, get_or, Some, None, Bool, true, false}
+use Rattle.std.proofs.Common.{true≢false, inl, inr, refl, ap, arith}
 use Rattle.std.specs.Prelude.{◌==◌, position}
 use Rattle.std.specs.List.{position_or_len}
 use Rattle.std.specs.Str.Parse.{AllDigits}
@@ -65,7 +66,8 @@ blank_behind ds rest digits =
     let within : length ds < length whole = omega arith in
     let at : position_or_len (λ b. b == 32) whole ≡ length ds =
     position_or_len_is (λ b. b == 32) whole (length ds) 0 (omega arith)
-    (λ k less. let digit = digit_at ds k digits less in let same = get_or_append_left ds (32 ∷ rest) 0 k less in ne_eqb (get_or whole k 0) 32 (λ e. omega arith))
+    (λ k less. let digit = digit_at ds k digits less in let same = get_or_append_left ds (32 ∷ rest) 0 k less in
+        ne_eqb (get_or whole k 0) 32 (λ e. omega arith))
     (λ less. ap (λ x. x == 32) (get_or-append_seam ds 32 rest 0)) in
     rw (at, lt-ltb (length ds) (length whole) within) refl
 

@@ -1,5 +1,6 @@
 -- Numbers in lines.
-use Rattle.std.proofs.Common.{◌≡◌, ◌∙◌, ℕ, zero, suc, ◌+◌, ◌<◌, ◌^◌, not, true, true≢false, List, [], ◌∷◌, ◌++◌, length, get_or, take, drop, refl, sym, ap, arith, Result, Ok, Err, Some, None}
+use Rattle.std.proofs.Common.{◌≡◌, ◌∙◌, ℕ, zero, suc, ◌+◌, ◌<◌, ◌^◌, not, true, true≢false, List, [], ◌∷◌, ◌++◌, length, get_or, take, drop, refl, sym, ap}
+use Rattle.std.proofs.Common.{arith, Result, Ok, Err, Some, None}
 use Rattle.std.specs.Prelude.{◌==◌, position, MatchOption, Option, codes}
 use Rattle.std.specs.Fmt.{decimal}
 use Rattle.std.specs.Str.{bytes_eq}
@@ -12,12 +13,14 @@ use Rattle.std.proofs.lemmas.Bool.Decides.{Decides-eqb}
 use Rattle.fleet.specs.Commands.{IsBeginning}
 use Rattle.fleet.proofs.Lines.{blank_behind}
 
-pub unread : (bs : List ℕ) → ¬ (IsNumeral 10 (without_leading_plus bs) × (digits_value 10 (without_leading_plus bs) < 2 ^ 32)) → (n : ℕ) → n < 2 ^ 32 → bs ≡ decimal n → ⊥
+pub unread : (bs : List ℕ) → ¬ (IsNumeral 10 (without_leading_plus bs) × (digits_value 10 (without_leading_plus bs) < 2 ^ 32)) → (n : ℕ) → n < 2 ^ 32 →
+    bs ≡ decimal n → ⊥
 unread bs h n small is =
     let none : Result ℕ (Unit {0}) = Err tt in
     let bad : none ≡ Ok n = parse-decimal 32 n bs none small (omega arith) is h in cc
 
-pub read_as : (bs : List ℕ) (m : ℕ) → (IsNumeral 10 (without_leading_plus bs) × (digits_value 10 (without_leading_plus bs) < 2 ^ 32)) × (m ≡ digits_value 10 (without_leading_plus bs))
+pub read_as : (bs : List ℕ) (m : ℕ) → (IsNumeral 10 (without_leading_plus bs) × (digits_value 10 (without_leading_plus bs) < 2 ^ 32)) ×
+    (m ≡ digits_value 10 (without_leading_plus bs))
     → (n : ℕ) → n < 2 ^ 32 → bs ≡ decimal n → m ≡ n
 read_as bs m h n small is =
     let one : Result ℕ (Unit {0}) = Ok m in
@@ -46,7 +49,8 @@ pub no_blank : (line rest : List ℕ) → line ≡ codes "send " ++ rest → pos
 no_blank line rest is none n document small e =
     let at = at_number rest document n small (append_cancel_left (codes "send ") rest (decimal n ++ 32 ∷ document) (sym is ∙ e)) in cc
 
-pub no_number : (line rest : List ℕ) (blank : ℕ) → line ≡ codes "send " ++ rest → position (λ b. b == 32) rest ≡ Some blank → ((n : ℕ) → n < 2 ^ 32 → take blank rest ≡ decimal n → ⊥)
+pub no_number : (line rest : List ℕ) (blank : ℕ) → line ≡ codes "send " ++ rest → position (λ b. b == 32) rest ≡ Some blank →
+    ((n : ℕ) → n < 2 ^ 32 → take blank rest ≡ decimal n → ⊥)
     → (n : ℕ) (document : List ℕ) → n < 2 ^ 32 → line ≡ codes "send " ++ decimal n ++ 32 ∷ document → ⊥
 no_number line rest blank is some none n document small e =
     let split : rest ≡ decimal n ++ 32 ∷ document = append_cancel_left (codes "send ") rest (decimal n ++ 32 ∷ document) (sym is ∙ e) in
@@ -59,7 +63,8 @@ parted [] i less is = absurd (omega arith)
 parted (x ∷ xs) zero less is = let same : x ≡ 32 = is in ap (λ (y : ℕ). y ∷ xs) same
 parted (x ∷ xs) (suc i) less is = ap (λ l. x ∷ l) (parted xs i (omega arith) is)
 
-pub is_sending : (line rest document : List ℕ) (blank device : ℕ) → line ≡ codes "send " ++ rest → position (λ b. b == 32) rest ≡ Some blank → (take blank rest ≡ decimal device) × (device < 2 ^ 32)
+pub is_sending : (line rest document : List ℕ) (blank device : ℕ) → line ≡ codes "send " ++ rest → position (λ b. b == 32) rest ≡ Some blank →
+    (take blank rest ≡ decimal device) × (device < 2 ^ 32)
     → document ≡ drop (blank + 1) rest → (line ≡ codes "send " ++ decimal device ++ 32 ∷ document) × (device < 2 ^ 32)
 is_sending line rest document blank device is some number behind =
     let at = position-Some (λ b. b == 32) rest blank 0 some in
@@ -69,6 +74,8 @@ is_sending line rest document blank device is some number behind =
     (is ∙ ap (λ (t : List ℕ). codes "send " ++ t) whole, number.1)
 
 -- two numbers of devices in one line
-pub same_devices : (line : List ℕ) (n devices : ℕ) → (line ≡ codes "devices " ++ decimal n) × (n < 2 ^ 32) → IsBeginning (record { text = line; is_ended = true }) devices → n ≡ devices
+pub same_devices : (line : List ℕ) (n devices : ℕ) → (line ≡ codes "devices " ++ decimal n) × (n < 2 ^ 32) →
+    IsBeginning (record { text = line; is_ended = true }) devices → n ≡ devices
 same_devices line n devices h begins =
-    decimal_injective n devices (omega (arith, h.1)) (omega (arith, begins.few)) (append_cancel_left (codes "devices ") (decimal n) (decimal devices) (sym h.0 ∙ begins.text))
+    decimal_injective n devices (omega (arith, h.1)) (omega (arith, begins.few))
+        (append_cancel_left (codes "devices ") (decimal n) (decimal devices) (sym h.0 ∙ begins.text))

@@ -55,7 +55,8 @@ abbrev pub Goes : ℕ → ℕ → List Event → List ℕ → FleetState → Str
 Goes devices number past text fleet sink result = MatchResult result
     (λ _. (event : Event) × (reply : Reply) × IsTaken devices past (record { text = text; is_ended = true }) event × IsReply past event reply
     × StandsFor fleet (past ++ event ∷ []) × Appends sink.before sink.after (shown reply) × (sink.faults_after ≡ sink.faults_before))
-    (λ ended. (lines : List Line) → (printed : List ℕ) × (status : Status) × Course devices number past (record { text = text; is_ended = true } ∷ lines) printed status
+    (λ ended. (lines : List Line) → (printed : List ℕ) × (status : Status) × Course devices number past (record { text = text; is_ended = true } ∷ lines)
+        printed status
     × Prints sink printed status ended)
 
 -- the call comes to the end of these lines
@@ -67,7 +68,8 @@ abbrev pub StartsOff : List Line → Stream → Status → Type 0
 StartsOff lines sink result = (printed : List ℕ) × (status : Status) × Begins lines printed status × Prints sink printed status result
 
 abbrev pub BeginsWith : List ℕ → Option ℕ → Type 0
-BeginsWith text result = MatchOption result ((devices : ℕ) → IsBeginning (record { text = text; is_ended = true }) devices → ⊥) (IsBeginning (record { text = text; is_ended = true }))
+BeginsWith text result = MatchOption result ((devices : ℕ) → IsBeginning (record { text = text; is_ended = true }) devices → ⊥)
+    (IsBeginning (record { text = text; is_ended = true }))
 
 -- The call with so many words. With no word but its name it reads at most one byte more than it may.
 abbrev pub Runs : ℕ → Stream → Stream → Status → Type 0

@@ -5,7 +5,8 @@ use Rattle.std.specs.Option.{option_to_list}
 use Rattle.std.specs.List.{AllByRecursion}
 use Rattle.fleet_core.specs.Events.{Event, each, along}
 
-pub each-append : {X : Type 0} (f : List Event → Event → List X) (past es more : List Event) → each f past (es ++ more) ≡ each f past es ++ each f (past ++ es) more
+pub each-append : {X : Type 0} (f : List Event → Event → List X) (past es more : List Event) → each f past (es ++ more) ≡ each f past es ++ each f
+    (past ++ es) more
 each-append f past [] more = ap (λ (p : List Event). each f p more) (sym (append-nil past))
 each-append f past (e ∷ es) more =
     ap (λ l. f past e ++ l) (each-append f (past ++ e ∷ []) es more)

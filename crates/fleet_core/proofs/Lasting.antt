@@ -6,7 +6,8 @@ use Rattle.std.specs.List.{AllByRecursion}
 use Rattle.fleet_core.specs.declared.packet.Packet.{Packet}
 use Rattle.fleet_core.specs.Events.{Event, each}
 use Rattle.fleet_core.specs.Events.Event.{Sending, Delivery, Loss, Restarting, Reporting, Hearing}
-use Rattle.fleet_core.specs.Meaning.{packets, sent_by, is_lost, arrived_by, arrivals, highest, told, kept, newest, known, Report, reports, reported_by, hearings, heard_by}
+use Rattle.fleet_core.specs.Meaning.{packets, sent_by, is_lost, arrived_by, arrivals, highest, told, kept, newest, known, Report, reports, reported_by}
+use Rattle.fleet_core.specs.Meaning.{hearings, heard_by}
 use Rattle.fleet_core.specs.Laws.{KnownIsKept, KeptIsSent, KeptStays, KnownStays}
 use Rattle.fleet_core.proofs.Along.{along-append, along-step, by_steps, all-weaken, all-append, all-option}
 use Rattle.fleet_core.proofs.Highest.{highest-append, told-append, highest-option}
@@ -106,7 +107,8 @@ are_old_step past e old =
       reports = subst (AllByRecursion (IsOld now)) (sym (along-step reported_by past e))
           (all-append (IsOld now) (reports past) (reported_by past e) (weak (reports past) old.reports) (reported_is_old past e));
       hearings = subst (AllByRecursion (IsOld now)) (sym (along-step heard_by past e))
-          (all-append (IsOld now) (hearings past) (heard_by past e) (weak (hearings past) old.hearings) (weak (heard_by past e) (heard_is_old past e old.reports)));
+          (all-append (IsOld now) (hearings past) (heard_by past e) (weak (hearings past) old.hearings)
+              (weak (heard_by past e) (heard_is_old past e old.reports)));
     }
 
 are_old : (past : List Event) → AreOld past
@@ -117,7 +119,8 @@ unfolding IsOld
 told_is_kept past d g [] old = omega arith
 told_is_kept past d g (r ∷ rs) old = by (r.device == d) (old.0 d g) (told_is_kept past d g rs old.1)
   where
-    by : (b : Bool) → kept r.past d g ≤ kept past d g → told d g rs ≤ kept past d g → (if b then max (kept r.past d g) (told d g rs) else told d g rs) ≤ kept past d g
+    by : (b : Bool) → kept r.past d g ≤ kept past d g → told d g rs ≤ kept past d g → (if b then max (kept r.past d g) (told d g rs) else told d g rs)
+        ≤ kept past d g
     by true first rest = omega arith
     by false first rest = rest
 

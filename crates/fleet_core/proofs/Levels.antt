@@ -1,5 +1,6 @@
 -- The revision that was kept when fewer than so many reports had been sent.
-use Rattle.std.proofs.Common.{◌≡◌, ℕ, zero, suc, ◌+◌, ◌-◌, ◌<◌, ◌≤◌, Bool, true, false, List, [], ◌∷◌, ◌++◌, length, refl, ap, subst, ◌∙◌, arith, get_or, inl, inr}
+use Rattle.std.proofs.Common.{◌≡◌, ℕ, zero, suc, ◌+◌, ◌-◌, ◌<◌, ◌≤◌, Bool, true, false, List, [], ◌∷◌, ◌++◌, length, refl, ap, subst, ◌∙◌, arith, get_or, inl}
+use Rattle.std.proofs.Common.{inr}
 use Rattle.std.specs.Prelude.{max, nat_lt, ◌⊎◌, if◌then◌else◌}
 use Rattle.std.specs.List.Sorted.{IsPartitionPoint}
 use Rattle.std.proofs.lemmas.List.{get_or_default}
@@ -46,7 +47,8 @@ level-max a b [] = refl
 level-max a b (t ∷ ts) = by (nat_lt t.reports (max a b)) (nat_lt t.reports a) (nat_lt t.reports b) refl refl refl (level-max a b ts)
   where
     by : (w x y : Bool) → nat_lt t.reports (max a b) ≡ w → nat_lt t.reports a ≡ x → nat_lt t.reports b ≡ y → level (max a b) ts ≡ max (level a ts) (level b ts)
-        → (if w then max t.revision (level (max a b) ts) else level (max a b) ts) ≡ max (if x then max t.revision (level a ts) else level a ts) (if y then max t.revision (level b ts) else level b ts)
+        → (if w then max t.revision (level (max a b) ts) else level (max a b) ts) ≡ max (if x then max t.revision (level a ts) else level a ts)
+            (if y then max t.revision (level b ts) else level b ts)
     by true true true one two three rest = omega arith
     by true true false one two three rest = omega arith
     by true false true one two three rest = omega arith
@@ -57,7 +59,8 @@ level-max a b (t ∷ ts) = by (nat_lt t.reports (max a b)) (nat_lt t.reports a) 
 
 -- ---- by places
 
-pub level-get : (k : ℕ) (ts : List Taking) (i : ℕ) (d : Taking) → i < length ts → nat_lt (get_or ts i d).reports k ≡ true → (get_or ts i d).revision ≤ level k ts
+pub level-get : (k : ℕ) (ts : List Taking) (i : ℕ) (d : Taking) → i < length ts → nat_lt (get_or ts i d).reports k ≡ true →
+    (get_or ts i d).revision ≤ level k ts
 level-get k [] i d within counts = absurd (omega arith)
 level-get k (t ∷ ts) zero d within counts = by (nat_lt t.reports k) counts
   where
@@ -70,7 +73,8 @@ level-get k (t ∷ ts) (suc i) d within counts = by (nat_lt t.reports k) (level-
     by true rest = omega arith
     by false rest = rest
 
-pub level-le : (k most : ℕ) (ts : List Taking) → ((i : ℕ) (d : Taking) → i < length ts → nat_lt (get_or ts i d).reports k ≡ true → (get_or ts i d).revision ≤ most) → level k ts ≤ most
+pub level-le : (k most : ℕ) (ts : List Taking) → ((i : ℕ) (d : Taking) → i < length ts → nat_lt (get_or ts i d).reports k ≡ true →
+    (get_or ts i d).revision ≤ most) → level k ts ≤ most
 level-le k most [] each = omega arith
 level-le k most (t ∷ ts) each = by (nat_lt t.reports k) refl (level-le k most ts (λ i d within counts. each (suc i) d (omega arith) counts))
   where
@@ -82,7 +86,8 @@ level-le k most (t ∷ ts) each = by (nat_lt t.reports k) refl (level-le k most 
 abbrev pub counts_by : ℕ → Taking → Bool
 counts_by k t = nat_lt t.reports k
 
-pub parts_at : (k : ℕ) (ts : List Taking) (n m : ℕ) → n ≡ m → IsPartitionPoint (λ t. counts_by k t ≡ true) (λ t. counts_by k t ≡ false) ts n → IsPartitionPoint (λ t. counts_by k t ≡ true) (λ t. counts_by k t ≡ false) ts m
+pub parts_at : (k : ℕ) (ts : List Taking) (n m : ℕ) → n ≡ m → IsPartitionPoint (λ t. counts_by k t ≡ true) (λ t. counts_by k t ≡ false) ts n →
+    IsPartitionPoint (λ t. counts_by k t ≡ true) (λ t. counts_by k t ≡ false) ts m
 parts_at k ts n m same parts = subst (λ (i : ℕ). IsPartitionPoint (λ t. counts_by k t ≡ true) (λ t. counts_by k t ≡ false) ts i) same parts
 
 pub level-none : (k : ℕ) (ts : List Taking) → IsPartitionPoint (λ t. counts_by k t ≡ true) (λ t. counts_by k t ≡ false) ts 0 → 0 ≡ level k ts
@@ -90,7 +95,8 @@ level-none k ts parts =
     let low = level-le k 0 ts (λ i d within counts. absurd (let away = parts.1 i d (omega arith) within in cc)) in
     omega (arith, low)
 
-pub level-some : (k n : ℕ) (ts : List Taking) (d : Taking) → IsRising ts → n ≤ length ts → 0 < n → IsPartitionPoint (λ t. counts_by k t ≡ true) (λ t. counts_by k t ≡ false) ts n
+pub level-some : (k n : ℕ) (ts : List Taking) (d : Taking) → IsRising ts → n ≤ length ts → 0 < n → IsPartitionPoint (λ t. counts_by k t ≡ true)
+    (λ t. counts_by k t ≡ false) ts n
     → (get_or ts (n - 1) d).revision ≡ level k ts
 level-some k n ts d rising within some parts =
     let above = level-get k ts (n - 1) d (omega arith) (parts.0 (n - 1) d (omega arith) (omega arith)) in

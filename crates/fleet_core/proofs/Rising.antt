@@ -36,7 +36,8 @@ pub to_group : (d : ℕ) (g : List ℕ) (p : Packet) → is_to d g p ≡ true �
 to_group d g p to = (bytes_eq-Decides p.group g).0 (both (p.device == d) (bytes_eq p.group g) to).1
 
 -- what arrives where the packet was not lost
-pub arrived-here : (past : List Event) (n : ℕ) (p : Packet) → is_lost past n ≡ false → slice_get (packets past) n ≡ Some p → arrived_by past (Delivery n) ≡ p ∷ []
+pub arrived-here : (past : List Event) (n : ℕ) (p : Packet) → is_lost past n ≡ false → slice_get (packets past) n ≡ Some p →
+    arrived_by past (Delivery n) ≡ p ∷ []
 arrived-here past n p here at =
     ap (λ (b : Bool). if b then [] else option_to_list (slice_get (packets past) n)) here ∙ ap (λ (o : Option Packet). option_to_list o) at
 
@@ -48,10 +49,13 @@ rises_past past e d g rest rises = rises_lower (kept past d g) (kept (past ++ e 
 abbrev TakesOn : List Event → Event → ℕ → List ℕ → List ℕ → Reply → Type 0
 TakesOn past e d g rest r = RisesFrom (kept past d g) (taken_by d g r ++ rest)
 
-took : (past : List Event) (n : ℕ) (p : Packet) (d : ℕ) (g rest : List ℕ) → is_lost past n ≡ false → slice_get (packets past) n ≡ Some p → kept past p.device p.group < p.revision
-    → RisesFrom (kept (past ++ Delivery n ∷ []) d g) rest → (b : Bool) → is_to d g p ≡ b → RisesFrom (kept past d g) ((if b then p.revision ∷ [] else []) ++ rest)
+took : (past : List Event) (n : ℕ) (p : Packet) (d : ℕ) (g rest : List ℕ) → is_lost past n ≡ false → slice_get (packets past) n ≡ Some p →
+    kept past p.device p.group < p.revision
+    → RisesFrom (kept (past ++ Delivery n ∷ []) d g) rest → (b : Bool) → is_to d g p ≡ b →
+        RisesFrom (kept past d g) ((if b then p.revision ∷ [] else []) ++ rest)
 took past n p d g rest here at newer rises true to =
-    let above : kept past d g < p.revision = subst (λ (x : ℕ). kept past x g < p.revision) (to_device d g p to) (subst (λ (x : List ℕ). kept past p.device x < p.revision) (to_group d g p to) newer) in
+    let above : kept past d g < p.revision = subst (λ (x : ℕ). kept past x g < p.revision) (to_device d g p to)
+        (subst (λ (x : List ℕ). kept past p.device x < p.revision) (to_group d g p to) newer) in
     let arrived = kept-step past (Delivery n) d g ∙ ap (λ (l : List Packet). max (kept past d g) (highest d g l)) (arrived-here past n p here at) in
     let one = highest-head d g p [] to in
     (above, rises_lower p.revision (kept (past ++ Delivery n ∷ []) d g) rest (omega (arith, arrived, one)) rises)
@@ -62,16 +66,19 @@ told_verdict : (past : List Event) (n : ℕ) (p : Packet) (d : ℕ) (g rest : Li
 told_verdict past n p d g rest here at rises = by (nat_lt (kept past p.device p.group) p.revision) refl (nat_lt p.revision (kept past p.device p.group))
   where
     by : (b : Bool) → nat_lt (kept past p.device p.group) p.revision ≡ b → (c : Bool)
-        → TakesOn past (Delivery n) d g rest (if b then Taken p.device p.group p.revision else if c then Stale p.device p.group (kept past p.device p.group) else Again p.device p.group (kept past p.device p.group))
+        → TakesOn past (Delivery n) d g rest (if b then Taken p.device p.group p.revision else if c then Stale p.device p.group (kept past p.device p.group)
+            else Again p.device p.group (kept past p.device p.group))
     by true newer c = took past n p d g rest here at (grind (arith, newer)) rises (is_to d g p) refl
     by false newer true = rises_past past (Delivery n) d g rest rises
     by false newer false = rises_past past (Delivery n) d g rest rises
 
-takes_on : (past : List Event) (e : Event) (r : Reply) (d : ℕ) (g rest : List ℕ) → IsReply past e r → RisesFrom (kept (past ++ e ∷ []) d g) rest → TakesOn past e d g rest r
+takes_on : (past : List Event) (e : Event) (r : Reply) (d : ℕ) (g rest : List ℕ) → IsReply past e r → RisesFrom (kept (past ++ e ∷ []) d g) rest →
+    TakesOn past e d g rest r
 takes_on past (Sending p) r d g rest is rises = subst (TakesOn past (Sending p) d g rest) (sym is) (rises_past past (Sending p) d g rest rises)
 takes_on past (Delivery n) r d g rest is rises = by (is_lost past n) refl is
   where
-    by : (b : Bool) → is_lost past n ≡ b → MatchBool b (r ≡ Gone n) ((p : Packet) × (slice_get (packets past) n ≡ Some p) × (r ≡ verdict p (kept past p.device p.group))) → TakesOn past (Delivery n) d g rest r
+    by : (b : Bool) → is_lost past n ≡ b → MatchBool b (r ≡ Gone n) ((p : Packet) × (slice_get (packets past) n ≡ Some p) ×
+        (r ≡ verdict p (kept past p.device p.group))) → TakesOn past (Delivery n) d g rest r
     by true lost is = subst (TakesOn past (Delivery n) d g rest) (sym is) (rises_past past (Delivery n) d g rest rises)
     by false lost is = subst (TakesOn past (Delivery n) d g rest) (sym is.2) (told_verdict past n is.0 d g rest lost is.1 rises)
 takes_on past (Loss n) r d g rest is rises = subst (TakesOn past (Loss n) d g rest) (sym is) (rises_past past (Loss n) d g rest rises)
@@ -79,7 +86,8 @@ takes_on past (Restarting n) r d g rest is rises = subst (TakesOn past (Restarti
 takes_on past (Reporting n) r d g rest is rises = subst (TakesOn past (Reporting n) d g rest) (sym is) (rises_past past (Reporting n) d g rest rises)
 takes_on past (Hearing n) r d g rest is rises = subst (TakesOn past (Hearing n) d g rest) (sym is.3) (rises_past past (Hearing n) d g rest rises)
 
-taken_rises : (past events : List Event) (replies : List Reply) (d : ℕ) (g : List ℕ) → AreRepliesAfter past events replies → RisesFrom (kept past d g) (taken d g replies)
+taken_rises : (past events : List Event) (replies : List Reply) (d : ℕ) (g : List ℕ) → AreRepliesAfter past events replies →
+    RisesFrom (kept past d g) (taken d g replies)
 taken_rises past [] [] d g are = tt
 taken_rises past [] (r ∷ rs) d g are = absurd are
 taken_rises past (e ∷ es) [] d g are = absurd are
@@ -93,7 +101,8 @@ taken_revisions_rise events replies d g are = taken_rises [] events replies d g 
 verdict_was_sent : (past : List Event) (n k : ℕ) (p : Packet) → slice_get (packets past) n ≡ Some p → WasSent (packets past) (verdict p k)
 verdict_was_sent past n k p at = by (nat_lt k p.revision) (nat_lt p.revision k)
   where
-    by : (b c : Bool) → WasSent (packets past) (if b then Taken p.device p.group p.revision else if c then Stale p.device p.group k else Again p.device p.group k)
+    by : (b c : Bool) → WasSent (packets past) (if b then Taken p.device p.group p.revision else if c then Stale p.device p.group k else Again
+        p.device p.group k)
     by true c = (n, at)
     by false true = tt
     by false false = tt
@@ -102,7 +111,8 @@ reply_was_sent : (past : List Event) (e : Event) (r : Reply) → IsReply past e 
 reply_was_sent past (Sending p) r is = subst (WasSent (packets past)) (sym is) tt
 reply_was_sent past (Delivery n) r is = by (is_lost past n) is
   where
-    by : (b : Bool) → MatchBool b (r ≡ Gone n) ((p : Packet) × (slice_get (packets past) n ≡ Some p) × (r ≡ verdict p (kept past p.device p.group))) → WasSent (packets past) r
+    by : (b : Bool) → MatchBool b (r ≡ Gone n) ((p : Packet) × (slice_get (packets past) n ≡ Some p) × (r ≡ verdict p (kept past p.device p.group))) →
+        WasSent (packets past) r
     by true is = subst (WasSent (packets past)) (sym is) tt
     by false is = subst (WasSent (packets past)) (sym is.2) (verdict_was_sent past n (kept past is.0.device is.0.group) is.0 is.1)
 reply_was_sent past (Loss n) r is = subst (WasSent (packets past)) (sym is) tt
@@ -121,12 +131,14 @@ more_sent ps qs (Restarted d) was = tt
 more_sent ps qs (Reported n) was = tt
 more_sent ps qs (Known d list) was = tt
 
-were_sent : (past events : List Event) (replies : List Reply) → AreRepliesAfter past events replies → AllByRecursion (WasSent (packets (past ++ events))) replies
+were_sent : (past events : List Event) (replies : List Reply) → AreRepliesAfter past events replies →
+    AllByRecursion (WasSent (packets (past ++ events))) replies
 were_sent past [] [] are = tt
 were_sent past [] (r ∷ rs) are = absurd are
 were_sent past (e ∷ es) [] are = absurd are
 were_sent past (e ∷ es) (r ∷ rs) are = (
-  subst (λ (ps : List Packet). WasSent ps r) (sym (along-append sent_by past (e ∷ es))) (more_sent (packets past) (each sent_by past (e ∷ es)) r (reply_was_sent past e r are.0)),
+  subst (λ (ps : List Packet). WasSent ps r) (sym (along-append sent_by past (e ∷ es)))
+      (more_sent (packets past) (each sent_by past (e ∷ es)) r (reply_was_sent past e r are.0)),
   subst (λ (l : List Event). AllByRecursion (WasSent (packets l)) rs) (append_assoc past (e ∷ []) es) (were_sent (past ++ e ∷ []) es rs are.1),
 )
 

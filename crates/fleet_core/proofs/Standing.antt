@@ -1,5 +1,6 @@
 -- How a fleet goes on standing for its events, event by event.
-use Rattle.std.proofs.Common.{◌≡◌, ℕ, zero, suc, ◌+◌, ◌<◌, ◌≤◌, Bool, true, false, List, [], ◌∷◌, ◌++◌, Some, length, refl, sym, ap, subst, ◌∙◌, arith, inl, inr}
+use Rattle.std.proofs.Common.{◌≡◌, ℕ, zero, suc, ◌+◌, ◌<◌, ◌≤◌, Bool, true, false, List, [], ◌∷◌, ◌++◌, Some, length, refl, sym, ap, subst, ◌∙◌, arith, inl}
+use Rattle.std.proofs.Common.{inr}
 use Rattle.std.specs.Prelude.{slice_get, slice_set, Option, map, max, ◌||◌, ◌&&◌, ◌==◌, ◌⊎◌, if◌then◌else◌}
 use Rattle.std.specs.Option.{option_to_list}
 use Rattle.std.specs.Str.{bytes_eq}
@@ -37,14 +38,16 @@ get-last [] y = refl
 get-last (x ∷ xs) y = get-last xs y
 
 -- an element of a list with one element written
-pub get-set : {X : Type 0} (xs : List X) (i : ℕ) (y x : X) (n : ℕ) → slice_get (slice_set xs i y) n ≡ Some x → ((n ≡ i) × (x ≡ y)) ⊎ ((n ≡ i → ⊥) × (slice_get xs n ≡ Some x))
+pub get-set : {X : Type 0} (xs : List X) (i : ℕ) (y x : X) (n : ℕ) → slice_get (slice_set xs i y) n ≡ Some x → ((n ≡ i) × (x ≡ y)) ⊎
+    ((n ≡ i → ⊥) × (slice_get xs n ≡ Some x))
 get-set [] i y x n at = absurd cc
 get-set (z ∷ xs) zero y x zero at = inl (refl, cc)
 get-set (z ∷ xs) zero y x (suc n) at = inr ((λ is. absurd (omega (arith, is))), at)
 get-set (z ∷ xs) (suc i) y x zero at = inr ((λ is. absurd (omega (arith, is))), at)
 get-set (z ∷ xs) (suc i) y x (suc n) at = by (get-set xs i y x n at)
   where
-    by : ((n ≡ i) × (x ≡ y)) ⊎ ((n ≡ i → ⊥) × (slice_get xs n ≡ Some x)) → ((suc n ≡ suc i) × (x ≡ y)) ⊎ ((suc n ≡ suc i → ⊥) × (slice_get (z ∷ xs) (suc n) ≡ Some x))
+    by : ((n ≡ i) × (x ≡ y)) ⊎ ((n ≡ i → ⊥) × (slice_get xs n ≡ Some x)) → ((suc n ≡ suc i) × (x ≡ y)) ⊎
+        ((suc n ≡ suc i → ⊥) × (slice_get (z ∷ xs) (suc n) ≡ Some x))
     by (inl (here, is)) = inl (ap suc here, is)
     by (inr (away, old)) = inr ((λ is. away (omega (arith, is))), old)
 
@@ -71,7 +74,8 @@ lost-step (f ∷ past) e n = by (loses n f) (lost-step past e n)
 pub lost-same : (past : List Event) (e : Event) (n : ℕ) → loses n e ≡ false → is_lost (past ++ e ∷ []) n ≡ is_lost past n
 lost-same past e n none = lost-step past e n ∙ ap (λ b. is_lost past n || b) none ∙ or-false (is_lost past n)
 
-pub kept-same : (past : List Event) (e : Event) (d : ℕ) (g : List ℕ) → highest d g (arrived_by past e) ≤ kept past d g → kept (past ++ e ∷ []) d g ≡ kept past d g
+pub kept-same : (past : List Event) (e : Event) (d : ℕ) (g : List ℕ) → highest d g (arrived_by past e) ≤ kept past d g →
+    kept (past ++ e ∷ []) d g ≡ kept past d g
 kept-same past e d g low = let step = kept-step past e d g in omega (arith, step)
 
 pub known-same : (past : List Event) (e : Event) (d : ℕ) (g : List ℕ) → heard_by past e ≡ [] → known (past ++ e ∷ []) d g ≡ known past d g
@@ -115,7 +119,8 @@ quiet_gone past n lost = record {
 }
 
 -- a packet that is not newer than what is kept
-pub quiet_old : (past : List Event) (n : ℕ) (p : Packet) → is_lost past n ≡ false → slice_get (packets past) n ≡ Some p → p.revision ≤ kept past p.device p.group → IsQuiet past (Delivery n)
+pub quiet_old : (past : List Event) (n : ℕ) (p : Packet) → is_lost past n ≡ false → slice_get (packets past) n ≡ Some p →
+    p.revision ≤ kept past p.device p.group → IsQuiet past (Delivery n)
 quiet_old past n p here at old = record {
   sent = refl;
   lost = λ m. refl;
@@ -126,7 +131,8 @@ quiet_old past n p here at old = record {
   where
     by : (d : ℕ) (g : List ℕ) (b : Bool) → is_to d g p ≡ b → highest d g (p ∷ []) ≤ kept past d g
     by d g true to =
-        let level : p.revision ≤ kept past d g = subst (λ (x : ℕ). p.revision ≤ kept past x g) (to_device d g p to) (subst (λ (x : List ℕ). p.revision ≤ kept past p.device x) (to_group d g p to) old) in
+        let level : p.revision ≤ kept past d g = subst (λ (x : ℕ). p.revision ≤ kept past x g) (to_device d g p to)
+            (subst (λ (x : List ℕ). p.revision ≤ kept past p.device x) (to_group d g p to) old) in
         let one = highest-head d g p [] to in
         omega (arith, one)
     by d g false to = let one = highest-other d g p [] to in omega (arith, one)
@@ -144,7 +150,8 @@ sending_stands fleet past p stands =
       unsent = λ n end. lost-same past e n refl ∙ stands.unsent n (shorter n end);
       reporters = stands.reporters ∙ ap (λ (l : List Report). map (λ r. r.device) l) (sym (along-same reported_by past e refl));
       keeps = λ d k device g at after. stands.keeps d k device g at after ∙ sym (kept-same past e d g (omega arith));
-      reported = λ n r device g at there. stands.reported n r device g (subst (λ (l : List Report). slice_get l n ≡ Some r) (along-same reported_by past e refl) at) there;
+      reported = λ n r device g at there. stands.reported n r device g
+          (subst (λ (l : List Report). slice_get l n ≡ Some r) (along-same reported_by past e refl) at) there;
       knows = λ d device g at. stands.knows d device g at ∙ sym (known-same past e d g refl);
       hears = stands.hears;
     }
@@ -152,7 +159,8 @@ sending_stands fleet past p stands =
     shorter : (n : ℕ) → length (fleet.sent ++ record { packet = p; is_lost = false } ∷ []) ≤ n → length fleet.sent ≤ n
     shorter n end = let more = length_push fleet.sent (record { packet = p; is_lost = false }) in omega (arith, more)
 
-    by : (n : ℕ) (t : Sent) → (slice_get fleet.sent n ≡ Some t) ⊎ ((n ≡ length fleet.sent) × (t ≡ record { packet = p; is_lost = false })) → t.is_lost ≡ is_lost (past ++ Sending p ∷ []) n
+    by : (n : ℕ) (t : Sent) → (slice_get fleet.sent n ≡ Some t) ⊎ ((n ≡ length fleet.sent) × (t ≡ record { packet = p; is_lost = false })) →
+        t.is_lost ≡ is_lost (past ++ Sending p ∷ []) n
     by n t (inl old) = stands.lost n t old ∙ sym (lost-same past (Sending p) n refl)
     by n t (inr (end, is)) = ap (λ (x : Sent). x.is_lost) is ∙ sym (lost-same past (Sending p) n refl ∙ stands.unsent n (omega (arith, end)))
 
@@ -182,7 +190,8 @@ loss_stands fleet past n s here within stands =
       unsent = λ m end. away m (length_kept m end) ∙ stands.unsent m (length_kept m end);
       reporters = stands.reporters ∙ ap (λ (l : List Report). map (λ r. r.device) l) (sym (along-same reported_by past e refl));
       keeps = λ d k device g at after. stands.keeps d k device g at after ∙ sym (kept-same past e d g (omega arith));
-      reported = λ n r device g at there. stands.reported n r device g (subst (λ (l : List Report). slice_get l n ≡ Some r) (along-same reported_by past e refl) at) there;
+      reported = λ n r device g at there. stands.reported n r device g
+          (subst (λ (l : List Report). slice_get l n ≡ Some r) (along-same reported_by past e refl) at) there;
       knows = λ d device g at. stands.knows d device g at ∙ sym (known-same past e d g refl);
       hears = stands.hears;
     }
@@ -193,7 +202,8 @@ loss_stands fleet past n s here within stands =
     away : (m : ℕ) → length fleet.sent ≤ m → is_lost (past ++ Loss n ∷ []) m ≡ is_lost past m
     away m end = lost-same past (Loss n) m (other_number m n (λ is. absurd (omega (arith, is))))
 
-    by : (m : ℕ) (t : Sent) → ((m ≡ n) × (t ≡ record s { is_lost = true })) ⊎ ((m ≡ n → ⊥) × (slice_get fleet.sent m ≡ Some t)) → t.is_lost ≡ is_lost (past ++ Loss n ∷ []) m
+    by : (m : ℕ) (t : Sent) → ((m ≡ n) × (t ≡ record s { is_lost = true })) ⊎ ((m ≡ n → ⊥) × (slice_get fleet.sent m ≡ Some t)) →
+        t.is_lost ≡ is_lost (past ++ Loss n ∷ []) m
     by m t (inl (at, is)) =
         ap (λ (x : Sent). x.is_lost) is
         ∙ sym (lost-step past (Loss n) m ∙ ap (λ (b : Bool). is_lost past m || b) (ap (λ (k : ℕ). m == k) (sym at) ∙ same_number m) ∙ or-true (is_lost past m))
@@ -210,9 +220,11 @@ reporting_stands fleet past d stands =
       sent = stands.sent ∙ sym (along-same sent_by past e refl);
       lost = λ n s at. stands.lost n s at ∙ sym (lost-same past e n refl);
       unsent = λ n end. lost-same past e n refl ∙ stands.unsent n end;
-      reporters = ap (λ (l : List ℕ). l ++ d ∷ []) stands.reporters ∙ sym (ap (λ (l : List Report). map (λ r. r.device) l) (along-step reported_by past e) ∙ map-append (λ (r : Report). r.device) (reports past) (r ∷ []));
+      reporters = ap (λ (l : List ℕ). l ++ d ∷ []) stands.reporters ∙ sym
+          (ap (λ (l : List Report). map (λ r. r.device) l) (along-step reported_by past e) ∙ map-append (λ (r : Report). r.device) (reports past) (r ∷ []));
       keeps = λ c k device g at after. stands.keeps c k device g at (omega (arith, length_push fleet.reports d)) ∙ sym (kept-same past e c g (omega arith));
-      reported = λ n q device g at there. by n q device g (get-push (reports past) r q n (subst (λ (l : List Report). slice_get l n ≡ Some q) (along-step reported_by past e) at)) there;
+      reported = λ n q device g at there. by n q device g (get-push (reports past) r q n
+          (subst (λ (l : List Report). slice_get l n ≡ Some q) (along-step reported_by past e) at)) there;
       knows = λ c device g at. stands.knows c device g at ∙ sym (known-same past e c g refl);
       hears = λ c device at. let before = stands.hears c device at in omega (arith, length_push fleet.reports d);
     }
@@ -220,11 +232,13 @@ reporting_stands fleet past d stands =
     many : length fleet.reports ≡ length (reports past)
     many = ap length stands.reporters ∙ length-map (reports past) (λ (r : Report). r.device)
 
-    by : (n : ℕ) (q : Report) (device : Keeping) (g : List ℕ) → (slice_get (reports past) n ≡ Some q) ⊎ ((n ≡ length (reports past)) × (q ≡ record { device = d; past = past }))
+    by : (n : ℕ) (q : Report) (device : Keeping) (g : List ℕ) → (slice_get (reports past) n ≡ Some q) ⊎
+        ((n ≡ length (reports past)) × (q ≡ record { device = d; past = past }))
         → slice_get fleet.devices q.device ≡ Some device → level (n + 1) (takings_of device g) ≡ kept q.past q.device g
     by n q device g (inl old) there = stands.reported n q device g old there
     by n q device g (inr (end, is)) there =
-        stands.keeps q.device (n + 1) device g there (omega (arith, end, many)) ∙ ap (λ (x : List Event). kept x q.device g) (sym (ap (λ (x : Report). x.past) is))
+        stands.keeps q.device (n + 1) device g there (omega (arith, end, many)) ∙ ap (λ (x : List Event). kept x q.device g)
+            (sym (ap (λ (x : Report). x.past) is))
 
 -- ---- a packet is taken
 
@@ -245,7 +259,8 @@ not_to d g p of = by (p.device == d)
 not_there : (d : ℕ) (g : List ℕ) (p : Packet) → (d ≡ p.device → ⊥) → is_to d g p ≡ false
 not_there d g p away = ap (λ (b : Bool). b && bytes_eq p.group g) (other_number p.device d (λ is. away (sym is)))
 
-arrived_nowhere : (past : List Event) (n : ℕ) (p : Packet) (d : ℕ) (g : List ℕ) → is_lost past n ≡ false → slice_get (packets past) n ≡ Some p → is_to d g p ≡ false
+arrived_nowhere : (past : List Event) (n : ℕ) (p : Packet) (d : ℕ) (g : List ℕ) → is_lost past n ≡ false → slice_get (packets past) n ≡ Some p →
+    is_to d g p ≡ false
     → kept (past ++ Delivery n ∷ []) d g ≡ kept past d g
 arrived_nowhere past n p d g here at to =
     let none = ap (highest d g) (arrived-here past n p here at) ∙ highest-other d g p [] to in
@@ -257,7 +272,8 @@ pub record IsTaking (fleet : FleetState) (past : List Event) (n : ℕ) (p : Pack
   pub there : slice_get fleet.devices p.device ≡ Some device
   pub takes : Takes device p.group (record { reports = length fleet.reports; revision = p.revision }) new
 
-pub taking_stands : (fleet : FleetState) (past : List Event) (n : ℕ) (p : Packet) (device new : Keeping) → IsTaking fleet past n p device new → StandsFor fleet past
+pub taking_stands : (fleet : FleetState) (past : List Event) (n : ℕ) (p : Packet) (device new : Keeping) → IsTaking fleet past n p device new →
+    StandsFor fleet past
     → StandsFor (record fleet { devices = slice_set fleet.devices p.device new }) (past ++ Delivery n ∷ [])
 taking_stands fleet past n p device new is stands =
     let e = Delivery n in
@@ -267,7 +283,8 @@ taking_stands fleet past n p device new is stands =
       unsent = λ m end. lost-same past e m refl ∙ stands.unsent m end;
       reporters = stands.reporters ∙ ap (λ (l : List Report). map (λ r. r.device) l) (sym (along-same reported_by past e refl));
       keeps = λ d k c g at after. keeps d k c g after (get-set fleet.devices p.device new c d at);
-      reported = λ m r c g at there. told_of m r c g (subst (λ (l : List Report). slice_get l m ≡ Some r) (along-same reported_by past e refl) at) (get-set fleet.devices p.device new c r.device there);
+      reported = λ m r c g at there. told_of m r c g (subst (λ (l : List Report). slice_get l m ≡ Some r) (along-same reported_by past e refl) at)
+          (get-set fleet.devices p.device new c r.device there);
       knows = λ d c g at. knows d c g (get-set fleet.devices p.device new c d at) ∙ sym (known-same past e d g refl);
       hears = λ d c at. hears d c (get-set fleet.devices p.device new c d at);
     }
@@ -276,11 +293,13 @@ taking_stands fleet past n p device new is stands =
     earlier : (k : ℕ) (g : List ℕ) → k ≤ length fleet.reports → level k (takings_of new g) ≡ level k (takings_of device g)
     earlier k g before = ap (level k) (is.takes.taken g) ∙ by (bytes_eq p.group g)
       where
-        by : (b : Bool) → level k (if b then takings_of device g ++ record { reports = length fleet.reports; revision = p.revision } ∷ [] else takings_of device g) ≡ level k (takings_of device g)
+        by : (b : Bool) → level k (if b then takings_of device g ++ record { reports = length fleet.reports; revision = p.revision } ∷ [] else takings_of
+            device g) ≡ level k (takings_of device g)
         by true = level-later k (takings_of device g) (record { reports = length fleet.reports; revision = p.revision }) before
         by false = refl
 
-    keeps : (d k : ℕ) (c : Keeping) (g : List ℕ) → length fleet.reports < k → ((d ≡ p.device) × (c ≡ new)) ⊎ ((d ≡ p.device → ⊥) × (slice_get fleet.devices d ≡ Some c))
+    keeps : (d k : ℕ) (c : Keeping) (g : List ℕ) → length fleet.reports < k → ((d ≡ p.device) × (c ≡ new)) ⊎
+        ((d ≡ p.device → ⊥) × (slice_get fleet.devices d ≡ Some c))
         → level k (takings_of c g) ≡ kept (past ++ Delivery n ∷ []) d g
     keeps d k c g after (inl (at, same)) = ap (λ (x : Keeping). level k (takings_of x g)) same ∙ ap (level k) (is.takes.taken g) ∙ by (bytes_eq p.group g) refl
       where
@@ -288,7 +307,8 @@ taking_stands fleet past n p device new is stands =
         before = stands.keeps d k device g (subst (λ (x : ℕ). slice_get fleet.devices x ≡ Some device) (sym at) is.there) after
 
         by : (b : Bool) → bytes_eq p.group g ≡ b
-            → level k (if b then takings_of device g ++ record { reports = length fleet.reports; revision = p.revision } ∷ [] else takings_of device g) ≡ kept (past ++ Delivery n ∷ []) d g
+            → level k (if b then takings_of device g ++ record { reports = length fleet.reports; revision = p.revision } ∷ [] else takings_of device g) ≡ kept
+                (past ++ Delivery n ∷ []) d g
         by true of =
             let more = level-now k (takings_of device g) (record { reports = length fleet.reports; revision = p.revision }) after in
             let one = highest-head d g p [] (is_to_them d g p at of) in
@@ -300,14 +320,17 @@ taking_stands fleet past n p device new is stands =
     many : length fleet.reports ≡ length (reports past)
     many = ap length stands.reporters ∙ length-map (reports past) (λ (r : Report). r.device)
 
-    told_of : (m : ℕ) (r : Report) (c : Keeping) (g : List ℕ) → slice_get (reports past) m ≡ Some r → ((r.device ≡ p.device) × (c ≡ new)) ⊎ ((r.device ≡ p.device → ⊥) × (slice_get fleet.devices r.device ≡ Some c))
+    told_of : (m : ℕ) (r : Report) (c : Keeping) (g : List ℕ) → slice_get (reports past) m ≡ Some r → ((r.device ≡ p.device) × (c ≡ new)) ⊎
+        ((r.device ≡ p.device → ⊥) × (slice_get fleet.devices r.device ≡ Some c))
         → level (m + 1) (takings_of c g) ≡ kept r.past r.device g
     told_of m r c g report (inl (at, same)) =
-        ap (λ (x : Keeping). level (m + 1) (takings_of x g)) same ∙ earlier (m + 1) g (let low = slice_get_within (reports past) m r report in omega (arith, low, many))
+        ap (λ (x : Keeping). level (m + 1) (takings_of x g)) same ∙ earlier (m + 1) g (let low = slice_get_within (reports past) m r report in
+            omega (arith, low, many))
         ∙ stands.reported m r device g report (subst (λ (x : ℕ). slice_get fleet.devices x ≡ Some device) (sym at) is.there)
     told_of m r c g report (inr (away, old)) = stands.reported m r c g report old
 
-    knows : (d : ℕ) (c : Keeping) (g : List ℕ) → ((d ≡ p.device) × (c ≡ new)) ⊎ ((d ≡ p.device → ⊥) × (slice_get fleet.devices d ≡ Some c)) → level c.heard (takings_of c g) ≡ known past d g
+    knows : (d : ℕ) (c : Keeping) (g : List ℕ) → ((d ≡ p.device) × (c ≡ new)) ⊎ ((d ≡ p.device → ⊥) × (slice_get fleet.devices d ≡ Some c)) →
+        level c.heard (takings_of c g) ≡ known past d g
     knows d c g (inl (at, same)) =
         ap (λ (x : Keeping). level x.heard (takings_of x g)) same ∙ ap (λ (k : ℕ). level k (takings_of new g)) is.takes.heard
         ∙ earlier device.heard g (stands.hears p.device device is.there)
@@ -323,7 +346,8 @@ taking_stands fleet past n p device new is stands =
 
 -- ---- a report is heard
 
-pub hearing_stands : (fleet : FleetState) (past : List Event) (n : ℕ) (r : Report) (device : Keeping) → slice_get (reports past) n ≡ Some r → slice_get fleet.devices r.device ≡ Some device
+pub hearing_stands : (fleet : FleetState) (past : List Event) (n : ℕ) (r : Report) (device : Keeping) → slice_get (reports past) n ≡ Some r →
+    slice_get fleet.devices r.device ≡ Some device
     → StandsFor fleet past
     → StandsFor (record fleet { devices = slice_set fleet.devices r.device (record device { heard = max device.heard (n + 1) }) }) (past ++ Hearing n ∷ [])
 hearing_stands fleet past n r device report there stands =
@@ -335,7 +359,8 @@ hearing_stands fleet past n r device report there stands =
       unsent = λ m end. lost-same past e m refl ∙ stands.unsent m end;
       reporters = stands.reporters ∙ ap (λ (l : List Report). map (λ r. r.device) l) (sym (along-same reported_by past e refl));
       keeps = λ d k c g at after. keeps d k c g after (get-set fleet.devices r.device new c d at) ∙ sym (kept-same past e d g (omega arith));
-      reported = λ m q c g at place. told_of m q c g (subst (λ (l : List Report). slice_get l m ≡ Some q) (along-same reported_by past e refl) at) (get-set fleet.devices r.device new c q.device place);
+      reported = λ m q c g at place. told_of m q c g (subst (λ (l : List Report). slice_get l m ≡ Some q) (along-same reported_by past e refl) at)
+          (get-set fleet.devices r.device new c q.device place);
       knows = λ d c g at. knows d c g (get-set fleet.devices r.device new c d at);
       hears = λ d c at. hears d c (get-set fleet.devices r.device new c d at);
     }
@@ -343,26 +368,33 @@ hearing_stands fleet past n r device report there stands =
     many : length fleet.reports ≡ length (reports past)
     many = ap length stands.reporters ∙ length-map (reports past) (λ (q : Report). q.device)
 
-    keeps : (d k : ℕ) (c : Keeping) (g : List ℕ) → length fleet.reports < k → ((d ≡ r.device) × (c ≡ record device { heard = max device.heard (n + 1) })) ⊎ ((d ≡ r.device → ⊥) × (slice_get fleet.devices d ≡ Some c))
+    keeps : (d k : ℕ) (c : Keeping) (g : List ℕ) → length fleet.reports < k → ((d ≡ r.device) × (c ≡ record device { heard = max device.heard (n + 1) })) ⊎
+        ((d ≡ r.device → ⊥) × (slice_get fleet.devices d ≡ Some c))
         → level k (takings_of c g) ≡ kept past d g
-    keeps d k c g after (inl (at, same)) = ap (λ (x : Keeping). level k (takings_of x g)) same ∙ stands.keeps d k device g (subst (λ (x : ℕ). slice_get fleet.devices x ≡ Some device) (sym at) there) after
+    keeps d k c g after (inl (at, same)) = ap (λ (x : Keeping). level k (takings_of x g)) same ∙ stands.keeps d k device g
+        (subst (λ (x : ℕ). slice_get fleet.devices x ≡ Some device) (sym at) there) after
     keeps d k c g after (inr (away, old)) = stands.keeps d k c g old after
 
-    told_of : (m : ℕ) (q : Report) (c : Keeping) (g : List ℕ) → slice_get (reports past) m ≡ Some q → ((q.device ≡ r.device) × (c ≡ record device { heard = max device.heard (n + 1) })) ⊎ ((q.device ≡ r.device → ⊥) × (slice_get fleet.devices q.device ≡ Some c))
+    told_of : (m : ℕ) (q : Report) (c : Keeping) (g : List ℕ) → slice_get (reports past) m ≡ Some q →
+        ((q.device ≡ r.device) × (c ≡ record device { heard = max device.heard (n + 1) })) ⊎
+        ((q.device ≡ r.device → ⊥) × (slice_get fleet.devices q.device ≡ Some c))
         → level (m + 1) (takings_of c g) ≡ kept q.past q.device g
-    told_of m q c g place (inl (at, same)) = ap (λ (x : Keeping). level (m + 1) (takings_of x g)) same ∙ stands.reported m q device g place (subst (λ (x : ℕ). slice_get fleet.devices x ≡ Some device) (sym at) there)
+    told_of m q c g place (inl (at, same)) = ap (λ (x : Keeping). level (m + 1) (takings_of x g)) same ∙ stands.reported m q device g place
+        (subst (λ (x : ℕ). slice_get fleet.devices x ≡ Some device) (sym at) there)
     told_of m q c g place (inr (away, old)) = stands.reported m q c g place old
 
     one : (d : ℕ) (g : List ℕ) → known (past ++ Hearing n ∷ []) d g ≡ max (known past d g) (told d g (r ∷ []))
     one d g = known-step past (Hearing n) d g ∙ ap (λ (o : Option Report). max (known past d g) (told d g (option_to_list o))) report
 
-    knows : (d : ℕ) (c : Keeping) (g : List ℕ) → ((d ≡ r.device) × (c ≡ record device { heard = max device.heard (n + 1) })) ⊎ ((d ≡ r.device → ⊥) × (slice_get fleet.devices d ≡ Some c))
+    knows : (d : ℕ) (c : Keeping) (g : List ℕ) → ((d ≡ r.device) × (c ≡ record device { heard = max device.heard (n + 1) })) ⊎
+        ((d ≡ r.device → ⊥) × (slice_get fleet.devices d ≡ Some c))
         → level c.heard (takings_of c g) ≡ known (past ++ Hearing n ∷ []) d g
     knows d c g (inl (at, same)) =
         let now = ap (λ (x : Keeping). level x.heard (takings_of x g)) same ∙ level-max device.heard (n + 1) (takings_of device g) in
         let before = stands.knows d device g (subst (λ (x : ℕ). slice_get fleet.devices x ≡ Some device) (sym at) there) in
         let report_says = stands.reported n r device g report there in
-        let here : told d g (r ∷ []) ≡ max (kept r.past d g) 0 = ap (λ (b : Bool). if b then max (kept r.past d g) 0 else 0) (ap (λ (x : ℕ). r.device == x) at ∙ same_number r.device) in
+        let here : told d g (r ∷ []) ≡ max (kept r.past d g) 0 = ap (λ (b : Bool). if b then max (kept r.past d g) 0 else 0)
+            (ap (λ (x : ℕ). r.device == x) at ∙ same_number r.device) in
         let moved : kept r.past d g ≡ kept r.past r.device g = ap (λ (x : ℕ). kept r.past x g) at in
         let all = one d g in
         omega (arith, now, before, report_says, here, moved, all)
@@ -372,7 +404,8 @@ hearing_stands fleet past n r device report there stands =
         let all = one d g in
         omega (arith, before, here, all)
 
-    hears : (d : ℕ) (c : Keeping) → ((d ≡ r.device) × (c ≡ record device { heard = max device.heard (n + 1) })) ⊎ ((d ≡ r.device → ⊥) × (slice_get fleet.devices d ≡ Some c)) → c.heard ≤ length fleet.reports
+    hears : (d : ℕ) (c : Keeping) → ((d ≡ r.device) × (c ≡ record device { heard = max device.heard (n + 1) })) ⊎
+        ((d ≡ r.device → ⊥) × (slice_get fleet.devices d ≡ Some c)) → c.heard ≤ length fleet.reports
     hears d c (inl (at, same)) =
         let now = ap (λ (x : Keeping). x.heard) same in
         let before = stands.hears r.device device there in

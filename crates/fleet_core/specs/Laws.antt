@@ -56,7 +56,8 @@ WasSent ps (Known d list) = ⊤
 
 -- The revisions that one device takes of one group rise strictly.
 abbrev pub TakenRevisionsRise : Type 0
-TakenRevisionsRise = (events : List Event) (replies : List Reply) (device : ℕ) (group : List ℕ) → AreReplies events replies → RisesFrom 0 (taken device group replies)
+TakenRevisionsRise = (events : List Event) (replies : List Reply) (device : ℕ) (group : List ℕ) → AreReplies events replies →
+    RisesFrom 0 (taken device group replies)
 
 -- Each document that a device takes was sent to it.
 abbrev pub TakenWasSent : Type 0

@@ -29,11 +29,13 @@ most = 65536
 -- The document that is sent names a revision, and this is its packet.
 abbrev pub IsPacketOf : ℕ → List ℕ → Packet → Type 0
 IsPacketOf device bytes packet =
-    (document : Document) × Reads bytes document × (0 < document.revision) × (packet ≡ record { device = device; group = document.group; revision = document.revision })
+    (document : Document) × Reads bytes document × (0 < document.revision) ×
+        (packet ≡ record { device = device; group = document.group; revision = document.revision })
 
 -- The happening is one that may come behind these events, in a fleet of so many devices, and it is this event.
 abbrev pub Happens : ℕ → List Event → Happening → Event → Type 0
-Happens devices past (Send d bytes) event = (d < devices) × (length (packets past) < most) × ((packet : Packet) × IsPacketOf d bytes packet × (event ≡ Sending packet))
+Happens devices past (Send d bytes) event = (d < devices) × (length (packets past) < most) ×
+    ((packet : Packet) × IsPacketOf d bytes packet × (event ≡ Sending packet))
 Happens devices past (Deliver n) event = (n < length (packets past)) × (event ≡ Delivery n)
 Happens devices past (Lose n) event = (n < length (packets past)) × (event ≡ Loss n)
 Happens devices past (Restart d) event = (d < devices) × (event ≡ Restarting d)

@@ -8,7 +8,8 @@ pub returns-in_err-rest : goal.returns-in_err-rest
 returns-in_err-rest c = rw c.from_residual.ensures (λ n document small e. c.in_err-rest.ensures (decimal n ++ 32 ∷ document) e)
 
 pub returns-in_err-blank : goal.returns-in_err-blank
-returns-in_err-blank c = rw c.from_residual-in_err-blank.ensures (no_blank c.args.line.now c.in_ok-rest.rest.now c.in_ok-rest.ensures (sym c.in_err-blank.ensures))
+returns-in_err-blank c = rw c.from_residual-in_err-blank.ensures
+    (no_blank c.args.line.now c.in_ok-rest.rest.now c.in_ok-rest.ensures (sym c.in_err-blank.ensures))
 
 pub returns-in_err-device : goal.returns-in_err-device
 returns-in_err-device c =
@@ -17,5 +18,6 @@ returns-in_err-device c =
 
 pub returns : goal.returns
 returns c =
-    is_sending c.args.line.now c.in_ok-rest.rest.now _ c.in_ok-blank.blank c.in_ok-device.device c.in_ok-rest.ensures (sym c.in_ok-blank.ensures) c.in_ok-device.ensures
+    is_sending c.args.line.now c.in_ok-rest.rest.now _ c.in_ok-blank.blank c.in_ok-device.device c.in_ok-rest.ensures (sym c.in_ok-blank.ensures)
+        c.in_ok-device.ensures
     (behind_is c.in_ok-rest.rest.now (c.in_ok-blank.blank + 1))
