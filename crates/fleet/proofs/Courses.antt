@@ -72,19 +72,19 @@ refused devices number past text happening sink result NoMemory is why ends line
     (inr (inr (refl, refl))) ends lines
 refused devices number past text happening sink result NoDevice is why ends lines =
     stops_or_not devices number past _ sink (refused_line number) statuses.BadInput result
-        (inl (inr (happening, NoDevice, (refl, is), why, (λ e. cc e), (λ e. cc e)), refl, refl)) ends lines
+    (inl (inr (happening, NoDevice, (refl, is), why, (λ e. cc e), (λ e. cc e)), refl, refl)) ends lines
 refused devices number past text happening sink result NoPacket is why ends lines =
     stops_or_not devices number past _ sink (refused_line number) statuses.BadInput result
-        (inl (inr (happening, NoPacket, (refl, is), why, (λ e. cc e), (λ e. cc e)), refl, refl)) ends lines
+    (inl (inr (happening, NoPacket, (refl, is), why, (λ e. cc e), (λ e. cc e)), refl, refl)) ends lines
 refused devices number past text happening sink result NoReport is why ends lines =
     stops_or_not devices number past _ sink (refused_line number) statuses.BadInput result
-        (inl (inr (happening, NoReport, (refl, is), why, (λ e. cc e), (λ e. cc e)), refl, refl)) ends lines
+    (inl (inr (happening, NoReport, (refl, is), why, (λ e. cc e), (λ e. cc e)), refl, refl)) ends lines
 refused devices number past text happening sink result NoRevision is why ends lines =
     stops_or_not devices number past _ sink (refused_line number) statuses.BadInput result
-        (inl (inr (happening, NoRevision, (refl, is), why, (λ e. cc e), (λ e. cc e)), refl, refl)) ends lines
+    (inl (inr (happening, NoRevision, (refl, is), why, (λ e. cc e), (λ e. cc e)), refl, refl)) ends lines
 refused devices number past text happening sink result (Document f) is why ends lines =
     stops_or_not devices number past _ sink (refused_line number) statuses.BadInput result
-        (inl (inr (happening, Document f, (refl, is), why, (λ e. cc e), (λ e. cc e)), refl, refl)) ends lines
+    (inl (inr (happening, Document f, (refl, is), why, (λ e. cc e), (λ e. cc e)), refl, refl)) ends lines
 
 -- what a fault that is neither Full nor NoMemory ends with
 pub other_fault : (number : ℕ) (sink : Stream) (result : Status) (f : StepFault) → (f ≡ Full → ⊥) → (f ≡ NoMemory → ⊥) →
@@ -102,7 +102,7 @@ other_fault number sink result (Document f) no_full no_memory ends = ends
 pub cut_off : (devices number : ℕ) (past : List Event) (line : Line) (event : Event) (reply : Reply) (sink : Stream) → IsTaken devices past line event →
     IsReply past event reply
     → Rose sink.faults_before sink.faults_after → WritesInPart sink.before sink.after (shown reply) → (lines : List Line) →
-        HasEnd devices number past (line ∷ lines) sink statuses.Edge
+    HasEnd devices number past (line ∷ lines) sink statuses.Edge
 cut_off devices number past line event reply sink taken is rose front lines =
     let rest = some_course devices (number + 1) (past ++ event ∷ []) lines in (
       shown reply ++ rest.0,
@@ -132,9 +132,9 @@ module _ (devices : ℕ) (lines : List Line) (number : ℕ) (rest : List Line) (
   pub one_more : (line : Line) (new : FleetState) (so : IsSoFar devices lines number (line ∷ rest) fleet
       (record { before = a; after = b; faults_before = f; faults_after = g }))
       (event : Event) (reply : Reply) → IsTaken devices so.past line event → IsReply so.past event reply → StandsFor new (so.past ++ event ∷ []) →
-          Appends b c (shown reply) → h ≡ g
+      Appends b c (shown reply) → h ≡ g
       → device_count new ≡ device_count fleet → IsSoFar devices lines (number + 1) rest new
-          (record { before = a; after = c; faults_before = f; faults_after = h })
+      (record { before = a; after = c; faults_before = f; faults_after = h })
   one_more line new so event reply taken is stands sent quiet count = record {
     past = so.past ++ event ∷ [];
     out = so.out ++ shown reply;
@@ -155,27 +155,27 @@ module _ (devices : ℕ) (lines : List Line) (number : ℕ) (rest : List Line) (
 -- a line is taken, and the fleet goes on
 pub goes_on : (devices : ℕ) (lines : List Line) (number : ℕ) (text : List ℕ) (rest : List Line) (fleet new : FleetState) (a b c : Option (List ℕ)) (f g h : ℕ)
     → (so : IsSoFar devices lines number (record { text = text; is_ended = true } ∷ rest) fleet
-        (record { before = a; after = b; faults_before = f; faults_after = g }))
+    (record { before = a; after = b; faults_before = f; faults_after = g }))
     → Goes (device_count fleet) number so.past text new (record { before = b; after = c; faults_before = g; faults_after = h }) (Ok tt) →
-        device_count new ≡ device_count fleet
+    device_count new ≡ device_count fleet
     → IsSoFar devices lines (number + 1) rest new (record { before = a; after = c; faults_before = f; faults_after = h })
 goes_on devices lines number text rest fleet new a b c f g h so goes count =
     let line : Line = record { text = text; is_ended = true } in
     one_more devices lines number rest fleet a b c f g h line new so goes.0 goes.1 (subst (λ (n : ℕ). IsTaken n so.past line goes.0) so.count goes.2) goes.3
-        goes.4 goes.5 goes.6 count
+    goes.4 goes.5 goes.6 count
 
 -- a line ends the call
 pub goes_out : (devices : ℕ) (lines : List Line) (number : ℕ) (text : List ℕ) (rest : List Line) (fleet new : FleetState) (a b c : Option (List ℕ))
     (f g h : ℕ) (result : Status)
     → (so : IsSoFar devices lines number (record { text = text; is_ended = true } ∷ rest) fleet
-        (record { before = a; after = b; faults_before = f; faults_after = g }))
+    (record { before = a; after = b; faults_before = f; faults_after = g }))
     → Goes (device_count fleet) number so.past text new (record { before = b; after = c; faults_before = g; faults_after = h }) (Err result)
     → Follows devices lines (record { before = a; after = c; faults_before = f; faults_after = h }) result
 goes_out devices lines number text rest fleet new a b c f g h result so goes =
     let line : Line = record { text = text; is_ended = true } in
     let sink : Stream = record { before = b; after = c; faults_before = g; faults_after = h } in
     at_end devices lines number (line ∷ rest) fleet a b c f g h so result (subst (λ (n : ℕ). HasEnd n number so.past (line ∷ rest) sink result) so.count
-        (goes rest))
+    (goes rest))
 
 -- the line that a rest without a line feed is
 unended_line : (bytes : List ℕ) → 0 < length bytes → IsUnended bytes (lines_of bytes) → lines_of bytes ≡ record { text = bytes; is_ended = false } ∷ []
@@ -190,7 +190,7 @@ unended_end devices number past bytes sink result some is ends =
     let line : Line = record { text = bytes; is_ended = false } in
     subst (λ (ls : List Line). HasEnd devices number past ls sink result) (sym (unended_line bytes some is))
     (stops_or_not devices number past line sink (refused_line number) statuses.BadInput result
-        (inl (inl (λ happening command. true≢false (sym command.0)), refl, refl)) ends [])
+    (inl (inl (λ happening command. true≢false (sym command.0)), refl, refl)) ends [])
 
 -- There is no rest.
 pub no_more : (devices number : ℕ) (past : List Event) (a : Option (List ℕ)) (f : ℕ) →

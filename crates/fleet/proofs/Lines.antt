@@ -67,7 +67,7 @@ blank_behind ds rest digits =
     let at : position_or_len (λ b. b == 32) whole ≡ length ds =
     position_or_len_is (λ b. b == 32) whole (length ds) 0 (omega arith)
     (λ k less. let digit = digit_at ds k digits less in let same = get_or_append_left ds (32 ∷ rest) 0 k less in
-        ne_eqb (get_or whole k 0) 32 (λ e. omega arith))
+    ne_eqb (get_or whole k 0) 32 (λ e. omega arith))
     (λ less. ap (λ x. x == 32) (get_or-append_seam ds 32 rest 0)) in
     rw (at, lt-ltb (length ds) (length whole) within) refl
 

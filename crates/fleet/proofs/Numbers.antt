@@ -78,4 +78,4 @@ pub same_devices : (line : List ℕ) (n devices : ℕ) → (line ≡ codes "devi
     IsBeginning (record { text = line; is_ended = true }) devices → n ≡ devices
 same_devices line n devices h begins =
     decimal_injective n devices (omega (arith, h.1)) (omega (arith, begins.few))
-        (append_cancel_left (codes "devices ") (decimal n) (decimal devices) (sym h.0 ∙ begins.text))
+    (append_cancel_left (codes "devices ") (decimal n) (decimal devices) (sym h.0 ∙ begins.text))

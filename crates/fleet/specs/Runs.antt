@@ -56,7 +56,7 @@ Goes devices number past text fleet sink result = MatchResult result
     (λ _. (event : Event) × (reply : Reply) × IsTaken devices past (record { text = text; is_ended = true }) event × IsReply past event reply
     × StandsFor fleet (past ++ event ∷ []) × Appends sink.before sink.after (shown reply) × (sink.faults_after ≡ sink.faults_before))
     (λ ended. (lines : List Line) → (printed : List ℕ) × (status : Status) × Course devices number past (record { text = text; is_ended = true } ∷ lines)
-        printed status
+    printed status
     × Prints sink printed status ended)
 
 -- the call comes to the end of these lines

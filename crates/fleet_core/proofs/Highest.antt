@@ -11,7 +11,7 @@ highest-append d g (p ∷ ps) qs = by (is_to d g p) (highest-append d g ps qs)
   where
     by : (b : Bool) → highest d g (ps ++ qs) ≡ max (highest d g ps) (highest d g qs)
         → (if b then max p.revision (highest d g (ps ++ qs)) else highest d g (ps ++ qs))
-            ≡ max (if b then max p.revision (highest d g ps) else highest d g ps) (highest d g qs)
+        ≡ max (if b then max p.revision (highest d g ps) else highest d g ps) (highest d g qs)
     by true rest = omega arith
     by false rest = rest
 
@@ -21,7 +21,7 @@ told-append d g (r ∷ rs) qs = by (r.device == d) (told-append d g rs qs)
   where
     by : (b : Bool) → told d g (rs ++ qs) ≡ max (told d g rs) (told d g qs)
         → (if b then max (kept r.past d g) (told d g (rs ++ qs)) else told d g (rs ++ qs))
-            ≡ max (if b then max (kept r.past d g) (told d g rs) else told d g rs) (told d g qs)
+        ≡ max (if b then max (kept r.past d g) (told d g rs) else told d g rs) (told d g qs)
     by true rest = omega arith
     by false rest = rest
 

@@ -108,7 +108,7 @@ are_old_step past e old =
           (all-append (IsOld now) (reports past) (reported_by past e) (weak (reports past) old.reports) (reported_is_old past e));
       hearings = subst (AllByRecursion (IsOld now)) (sym (along-step heard_by past e))
           (all-append (IsOld now) (hearings past) (heard_by past e) (weak (hearings past) old.hearings)
-              (weak (heard_by past e) (heard_is_old past e old.reports)));
+          (weak (heard_by past e) (heard_is_old past e old.reports)));
     }
 
 are_old : (past : List Event) → AreOld past

@@ -48,7 +48,7 @@ level-max a b (t ∷ ts) = by (nat_lt t.reports (max a b)) (nat_lt t.reports a) 
   where
     by : (w x y : Bool) → nat_lt t.reports (max a b) ≡ w → nat_lt t.reports a ≡ x → nat_lt t.reports b ≡ y → level (max a b) ts ≡ max (level a ts) (level b ts)
         → (if w then max t.revision (level (max a b) ts) else level (max a b) ts) ≡ max (if x then max t.revision (level a ts) else level a ts)
-            (if y then max t.revision (level b ts) else level b ts)
+        (if y then max t.revision (level b ts) else level b ts)
     by true true true one two three rest = omega arith
     by true true false one two three rest = omega arith
     by true false true one two three rest = omega arith

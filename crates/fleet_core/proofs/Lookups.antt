@@ -93,7 +93,7 @@ lookup-levels k g (e ∷ es) = by (bytes_eq g e.0) (lookup-levels k g es)
   where
     by : (b : Bool) → lookup (bytes_eq g) (map (λ e. (e.0, level k e.1)) es) ≡ option_map (level k) (lookup (bytes_eq g) es)
         → cond b (Some (level k e.1)) (lookup (bytes_eq g) (map (λ e. (e.0, level k e.1)) es)) ≡ option_map (level k)
-            (cond b (Some e.1) (lookup (bytes_eq g) es))
+        (cond b (Some e.1) (lookup (bytes_eq g) es))
     by true rest = refl
     by false rest = rest
 
@@ -160,7 +160,7 @@ listed-push k (f ∷ es) e = by (nat_lt 0 (level k f.1)) (listed-push k es e)
   where
     by : (b : Bool) → listed k (es ++ e ∷ []) ≡ listed k es ++ (if nat_lt 0 (level k e.1) then (e.0, level k e.1) ∷ [] else [])
         → cond b ((f.0, level k f.1) ∷ listed k (es ++ e ∷ [])) (listed k (es ++ e ∷ [])) ≡ cond b ((f.0, level k f.1) ∷ listed k es) (listed k es)
-            ++ (if nat_lt 0 (level k e.1) then (e.0, level k e.1) ∷ [] else [])
+        ++ (if nat_lt 0 (level k e.1) then (e.0, level k e.1) ∷ [] else [])
     by true rest = ap (λ l. (f.0, level k f.1) ∷ l) rest
     by false rest = rest
 

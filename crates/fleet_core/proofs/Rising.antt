@@ -52,10 +52,10 @@ TakesOn past e d g rest r = RisesFrom (kept past d g) (taken_by d g r ++ rest)
 took : (past : List Event) (n : ℕ) (p : Packet) (d : ℕ) (g rest : List ℕ) → is_lost past n ≡ false → slice_get (packets past) n ≡ Some p →
     kept past p.device p.group < p.revision
     → RisesFrom (kept (past ++ Delivery n ∷ []) d g) rest → (b : Bool) → is_to d g p ≡ b →
-        RisesFrom (kept past d g) ((if b then p.revision ∷ [] else []) ++ rest)
+    RisesFrom (kept past d g) ((if b then p.revision ∷ [] else []) ++ rest)
 took past n p d g rest here at newer rises true to =
     let above : kept past d g < p.revision = subst (λ (x : ℕ). kept past x g < p.revision) (to_device d g p to)
-        (subst (λ (x : List ℕ). kept past p.device x < p.revision) (to_group d g p to) newer) in
+    (subst (λ (x : List ℕ). kept past p.device x < p.revision) (to_group d g p to) newer) in
     let arrived = kept-step past (Delivery n) d g ∙ ap (λ (l : List Packet). max (kept past d g) (highest d g l)) (arrived-here past n p here at) in
     let one = highest-head d g p [] to in
     (above, rises_lower p.revision (kept (past ++ Delivery n ∷ []) d g) rest (omega (arith, arrived, one)) rises)
@@ -67,7 +67,7 @@ told_verdict past n p d g rest here at rises = by (nat_lt (kept past p.device p.
   where
     by : (b : Bool) → nat_lt (kept past p.device p.group) p.revision ≡ b → (c : Bool)
         → TakesOn past (Delivery n) d g rest (if b then Taken p.device p.group p.revision else if c then Stale p.device p.group (kept past p.device p.group)
-            else Again p.device p.group (kept past p.device p.group))
+        else Again p.device p.group (kept past p.device p.group))
     by true newer c = took past n p d g rest here at (grind (arith, newer)) rises (is_to d g p) refl
     by false newer true = rises_past past (Delivery n) d g rest rises
     by false newer false = rises_past past (Delivery n) d g rest rises

@@ -132,7 +132,7 @@ quiet_old past n p here at old = record {
     by : (d : ℕ) (g : List ℕ) (b : Bool) → is_to d g p ≡ b → highest d g (p ∷ []) ≤ kept past d g
     by d g true to =
         let level : p.revision ≤ kept past d g = subst (λ (x : ℕ). p.revision ≤ kept past x g) (to_device d g p to)
-            (subst (λ (x : List ℕ). p.revision ≤ kept past p.device x) (to_group d g p to) old) in
+        (subst (λ (x : List ℕ). p.revision ≤ kept past p.device x) (to_group d g p to) old) in
         let one = highest-head d g p [] to in
         omega (arith, one)
     by d g false to = let one = highest-other d g p [] to in omega (arith, one)
@@ -238,7 +238,7 @@ reporting_stands fleet past d stands =
     by n q device g (inl old) there = stands.reported n q device g old there
     by n q device g (inr (end, is)) there =
         stands.keeps q.device (n + 1) device g there (omega (arith, end, many)) ∙ ap (λ (x : List Event). kept x q.device g)
-            (sym (ap (λ (x : Report). x.past) is))
+        (sym (ap (λ (x : Report). x.past) is))
 
 -- ---- a packet is taken
 
@@ -308,7 +308,7 @@ taking_stands fleet past n p device new is stands =
 
         by : (b : Bool) → bytes_eq p.group g ≡ b
             → level k (if b then takings_of device g ++ record { reports = length fleet.reports; revision = p.revision } ∷ [] else takings_of device g) ≡ kept
-                (past ++ Delivery n ∷ []) d g
+            (past ++ Delivery n ∷ []) d g
         by true of =
             let more = level-now k (takings_of device g) (record { reports = length fleet.reports; revision = p.revision }) after in
             let one = highest-head d g p [] (is_to_them d g p at of) in
@@ -325,7 +325,7 @@ taking_stands fleet past n p device new is stands =
         → level (m + 1) (takings_of c g) ≡ kept r.past r.device g
     told_of m r c g report (inl (at, same)) =
         ap (λ (x : Keeping). level (m + 1) (takings_of x g)) same ∙ earlier (m + 1) g (let low = slice_get_within (reports past) m r report in
-            omega (arith, low, many))
+        omega (arith, low, many))
         ∙ stands.reported m r device g report (subst (λ (x : ℕ). slice_get fleet.devices x ≡ Some device) (sym at) is.there)
     told_of m r c g report (inr (away, old)) = stands.reported m r c g report old
 
@@ -394,7 +394,7 @@ hearing_stands fleet past n r device report there stands =
         let before = stands.knows d device g (subst (λ (x : ℕ). slice_get fleet.devices x ≡ Some device) (sym at) there) in
         let report_says = stands.reported n r device g report there in
         let here : told d g (r ∷ []) ≡ max (kept r.past d g) 0 = ap (λ (b : Bool). if b then max (kept r.past d g) 0 else 0)
-            (ap (λ (x : ℕ). r.device == x) at ∙ same_number r.device) in
+        (ap (λ (x : ℕ). r.device == x) at ∙ same_number r.device) in
         let moved : kept r.past d g ≡ kept r.past r.device g = ap (λ (x : ℕ). kept r.past x g) at in
         let all = one d g in
         omega (arith, now, before, report_says, here, moved, all)

@@ -39,7 +39,7 @@ packet_at : (v : FleetState) (past : List Event) (n : ℕ) (s : Sent) → Stands
     slice_get (packets past) n ≡ Some s.packet
 packet_at v past n s stands at =
     subst (λ (l : List Packet). slice_get l n ≡ Some s.packet) stands.sent
-        (slice_get-map (λ (s : Sent). s.packet) v.sent n ∙ ap (option_map (λ (s : Sent). s.packet)) at)
+    (slice_get-map (λ (s : Sent). s.packet) v.sent n ∙ ap (option_map (λ (s : Sent). s.packet)) at)
 
 got-map : {X Y : Type 0} (f : X → Y) (xs : List X) (n : ℕ) (y : Y) → slice_get (map f xs) n ≡ Some y → (x : X) × (slice_get xs n ≡ Some x) × (f x ≡ y)
 got-map f [] n y at = absurd cc
@@ -59,7 +59,7 @@ pub send_steps : (v fleet : FleetState) (is : v ≡ fleet) (d n : ℕ) (bytes : 
     → (past : List Event) → StandsFor fleet past → Steps fleet past (happening.Send d bytes) (Ok (reply.Sent n)) (record v { sent = items })
 send_steps v fleet is d n bytes p items there few number packet more =
     subst (λ (f : FleetState). (past : List Event) → StandsFor f past → Steps f past (happening.Send d bytes) (Ok (reply.Sent n)) (record v { sent = items }))
-        is (λ past stands.
+    is (λ past stands.
     let many = many_packets v past stands in (
       Sending p,
       (there, omega (arith, few, many), (p, packet, refl)),
@@ -81,16 +81,16 @@ gone_steps v fleet is n s at lost =
 
 pub offered_steps : (v fleet : FleetState) (is : v ≡ fleet) (n : ℕ) (s : Sent) (device new : Keeping) (r : Reply) (devices : List Keeping)
     → slice_get v.sent n ≡ Some s → s.is_lost ≡ false → slice_get v.devices s.packet.device ≡ Some device →
-        r ≡ verdict s.packet (level_before device s.packet (length v.reports))
+    r ≡ verdict s.packet (level_before device s.packet (length v.reports))
     → IsOffered device s.packet (length v.reports) new → devices ≡ slice_set v.devices s.packet.device new
     → (past : List Event) → StandsFor fleet past → Steps fleet past (happening.Deliver n) (Ok r) (record v { devices = devices })
 offered_steps v fleet is n s device new r devices at here there says offered written =
     subst (λ (f : FleetState). (past : List Event) → StandsFor f past → Steps f past (happening.Deliver n) (Ok r) (record v { devices = devices })) is
-        (λ past stands.
+    (λ past stands.
     let was : is_lost past n ≡ false = sym (stands.lost n s at) ∙ here in
     let packet = packet_at v past n s stands at in
     let level_is : level_before device s.packet (length v.reports) ≡ kept past s.packet.device s.packet.group =
-        stands.keeps s.packet.device (length v.reports + 1) device s.packet.group there (omega arith) in (
+    stands.keeps s.packet.device (length v.reports + 1) device s.packet.group there (omega arith) in (
       Delivery n,
       (sent_below v past n s stands at, refl),
       subst (λ (b : Bool). MatchBool b (r ≡ reply.Gone n) ((packet : Packet) × (slice_get (packets past) n ≡ Some packet) ×
@@ -118,7 +118,7 @@ pub lost_steps : (v fleet : FleetState) (is : v ≡ fleet) (n : ℕ) (s : Sent) 
     → (past : List Event) → StandsFor fleet past → Steps fleet past (happening.Lose n) (Ok (reply.Lost n)) (record v { sent = items })
 lost_steps v fleet is n s items at written =
     subst (λ (f : FleetState). (past : List Event) → StandsFor f past → Steps f past (happening.Lose n) (Ok (reply.Lost n)) (record v { sent = items })) is
-        (λ past stands. (
+    (λ past stands. (
       Loss n,
       (sent_below v past n s stands at, refl),
       refl,
@@ -137,7 +137,7 @@ pub report_steps : (v fleet : FleetState) (is : v ≡ fleet) (d n : ℕ) (items 
     → (past : List Event) → StandsFor fleet past → Steps fleet past (happening.Report d) (Ok (reply.Reported n)) (record v { reports = items })
 report_steps v fleet is d n items there few number more =
     subst (λ (f : FleetState). (past : List Event) → StandsFor f past → Steps f past (happening.Report d) (Ok (reply.Reported n))
-        (record v { reports = items })) is (λ past stands.
+    (record v { reports = items })) is (λ past stands.
     let many = many_reports v past stands in (
       Reporting d,
       (there, omega (arith, few, many), refl),
@@ -162,7 +162,7 @@ pub hear_steps : (v fleet : FleetState) (is : v ≡ fleet) (n d : ℕ) (device n
     → (past : List Event) → StandsFor fleet past → Steps fleet past (happening.Hear n) (Ok (reply.Known d list)) (record v { devices = devices })
 hear_steps v fleet is n d device new list devices at there listing heard written =
     subst (λ (f : FleetState). (past : List Event) → StandsFor f past → Steps f past (happening.Hear n) (Ok (reply.Known d list))
-        (record v { devices = devices })) is (λ past stands.
+    (record v { devices = devices })) is (λ past stands.
     by past stands (got-map (λ (r : Report). r.device) (reports past) n d (subst (λ (l : List ℕ). slice_get l n ≡ Some d) stands.reporters at)))
   where
     by : (past : List Event) → StandsFor v past → (r : Report) × (slice_get (reports past) n ≡ Some r) × (r.device ≡ d) →
@@ -184,7 +184,7 @@ hear_steps v fleet is n d device new list devices at there listing heard written
           ),
           subst (λ (l : List Keeping). StandsFor (record v { devices = l }) (past ++ Hearing n ∷ []))
               (sym (written ∙ ap (λ (k : Keeping). slice_set v.devices d k) heard ∙ ap
-                  (λ (x : ℕ). slice_set v.devices x (record device { heard = max device.heard (n + 1) })) (sym whose))) after,
+              (λ (x : ℕ). slice_set v.devices x (record device { heard = max device.heard (n + 1) })) (sym whose))) after,
         )
 
 -- ---- what a fleet keeps of itself
@@ -203,7 +203,7 @@ report_sound v d items sound there few more =
       few_reports = let many = length_push v.reports d in omega (arith, many, few);
       by = λ c device at g. let many = length_push v.reports d in
           all-weaken (λ (t : Taking). t.reports ≤ length v.reports) (λ (t : Taking). t.reports ≤ length (v.reports ++ d ∷ []))
-              (λ t low. omega (arith, low, many)) (takings_of device g) (sound.by c device at g);
+          (λ t low. omega (arith, low, many)) (takings_of device g) (sound.by c device at g);
     })
   where
     by : (n c : ℕ) → (slice_get v.reports n ≡ Some c) ⊎ ((n ≡ length v.reports) × (c ≡ d)) → c < length v.devices

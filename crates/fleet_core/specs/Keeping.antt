@@ -34,4 +34,4 @@ level_before device packet reports = level (reports + 1) (takings_of device pack
 abbrev pub IsOffered : Keeping → Packet → ℕ → Keeping → Type 0
 IsOffered old packet reports new =
     MatchBool (nat_lt (level_before old packet reports) packet.revision)
-        (Takes old packet.group (record { reports = reports; revision = packet.revision }) new) (new ≡ old)
+    (Takes old packet.group (record { reports = reports; revision = packet.revision }) new) (new ≡ old)

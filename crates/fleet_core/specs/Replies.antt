@@ -30,7 +30,7 @@ most = 65536
 abbrev pub IsPacketOf : ℕ → List ℕ → Packet → Type 0
 IsPacketOf device bytes packet =
     (document : Document) × Reads bytes document × (0 < document.revision) ×
-        (packet ≡ record { device = device; group = document.group; revision = document.revision })
+    (packet ≡ record { device = device; group = document.group; revision = document.revision })
 
 -- The happening is one that may come behind these events, in a fleet of so many devices, and it is this event.
 abbrev pub Happens : ℕ → List Event → Happening → Event → Type 0

@@ -19,5 +19,5 @@ returns-in_err-device c =
 pub returns : goal.returns
 returns c =
     is_sending c.args.line.now c.in_ok-rest.rest.now _ c.in_ok-blank.blank c.in_ok-device.device c.in_ok-rest.ensures (sym c.in_ok-blank.ensures)
-        c.in_ok-device.ensures
+    c.in_ok-device.ensures
     (behind_is c.in_ok-rest.rest.now (c.in_ok-blank.blank + 1))

@@ -9,4 +9,4 @@ pub returns-in-Err : goal.returns-in-Err
 returns-in-Err g c =
     subst (λ (ls : List Line). StartsOff ls (stream_of g.K.Sink.held g.K.Sink.faults c.args.sink.now c.args.sink.now) statuses.Memory) (sym c.in-Some.ensures.0)
     (no_fleet (record { text = c.in-Some.line.now; is_ended = true }) (lines_of c.in-Some.lines.now) (g.K.Sink.held c.args.sink.now)
-        (g.K.Sink.faults c.args.sink.now))
+    (g.K.Sink.faults c.args.sink.now))

@@ -17,7 +17,7 @@ returns-in-Err g c =
     goes_out devices lines c.lines.number c.in-Some.line.now (lines_of c.in-Some.behind.now) c.lines.fleet c.take_line.new.fleet
     (g.K.Sink.held c.args.sink.now) (g.K.Sink.held c.lines.sink) (g.K.Sink.held c.take_line.new.sink)
     (g.K.Sink.faults c.args.sink.now) (g.K.Sink.faults c.lines.sink) (g.K.Sink.faults c.take_line.new.sink) c.in-Err.status so
-        (c.in-Err.ensures.goes so.past so.stands)
+    (c.in-Err.ensures.goes so.past so.stands)
 
 pub lines-preserved : goal.lines-preserved
 lines-preserved g c =
@@ -58,4 +58,4 @@ returns g c =
     (g.K.Sink.faults c.args.sink.now) (g.K.Sink.faults c.lines.sink) (g.K.Sink.faults c.refuse.new.sink)
     so c.refuse.result
     (unended_end devices c.lines.number so.past c.lines.rest.now (stream_of g.K.Sink.held g.K.Sink.faults c.lines.sink c.refuse.new.sink) c.refuse.result some
-        c.in_default.ensures c.refuse.ensures)
+    c.in_default.ensures c.refuse.ensures)

@@ -12,7 +12,7 @@ invariant_of-self-2 c =
     let d = c.in-Some.reporter.now in
     let device : Keeping = c.index_mut.result.now in
     let at = item_at c.deref.result.now c.self.inside.reports.items c.args.number d c.deref.ensures.value c.in-Some.ensures.lookup.0
-        c.in-Some.ensures.lookup.1 in
+    c.in-Some.ensures.lookup.1 in
     let low = c.self.invariant.reports c.args.number d at in
     let there = slice_get_read c.self.inside.devices.items (length c.self.inside.devices.items) d device refl low c.index_mut.ensures.value in
     heard_sound v d (max device.heard (c.args.number + 1)) device c.hear.new.self c.self.invariant there c.in_ok-list.ensures.heard
@@ -23,8 +23,8 @@ returns-clause-steps c =
     let d = c.in-Some.reporter.now in
     let device : Keeping = c.index_mut.result.now in
     let at = item_at c.deref.result.now c.self.inside.reports.items c.args.number d c.deref.ensures.value c.in-Some.ensures.lookup.0
-        c.in-Some.ensures.lookup.1 in
+    c.in-Some.ensures.lookup.1 in
     let low = c.self.invariant.reports c.args.number d at in
     let there = slice_get_read c.self.inside.devices.items (length c.self.inside.devices.items) d device refl low c.index_mut.ensures.value in
     hear_steps v c.args.self.now c.self.view_is c.args.number d device c.hear.new.self c.in_ok-list.list
-        (slice_set c.self.inside.devices.items d c.hear.new.self) at there c.in_ok-list.ensures.list c.in_ok-list.ensures.heard refl
+    (slice_set c.self.inside.devices.items d c.hear.new.self) at there c.in_ok-list.ensures.list c.in_ok-list.ensures.heard refl

@@ -16,4 +16,4 @@ returns-clause-steps c =
     let devices : c.len.result ≡ length c.self.inside.devices.items = c.len.ensures ∙ c.self.inside.devices.ok.0 in
     let reports : c.len-number.result ≡ length c.self.inside.reports.items = c.len-number.ensures ∙ c.self.inside.reports.ok.0 in
     report_steps v c.args.self.now c.self.view_is c.args.device c.len-number.result c.push.new.self.items (omega (arith, devices)) (omega (arith, reports))
-        reports c.in_ok-push.ensures.items
+    reports c.in_ok-push.ensures.items

@@ -9,5 +9,5 @@ returns-clause-steps c =
     let devices : c.len.result ≡ length c.self.inside.devices.items = c.len.ensures ∙ c.self.inside.devices.ok.0 in
     let sent : c.len-number.result ≡ length c.self.inside.sent.items = c.len-number.ensures ∙ c.self.inside.sent.ok.0 in
     send_steps v c.args.self.now c.self.view_is c.args.device c.len-number.result c.args.bytes.now c.in_ok-packet.packet c.push.new.self.items
-        (omega (arith, devices)) (omega (arith, sent)) sent
+    (omega (arith, devices)) (omega (arith, sent)) sent
     c.in_ok-packet.ensures c.in_ok-push.ensures.items
