@@ -22,7 +22,7 @@ fn a_child_runs_what_was_written(rt: HostRuntime) -> Result<(), Fail> {
     let root = "program-of-a-test";
     fs::create_dir_all(&rt, root)?;
     let mut disk = FileDisk::new(&rt, root, Access::Write)?;
-    let mut runner = ShellRunner::new(&rt);
+    let mut runner = ShellRunner::new(&rt, root);
     write_file(&mut disk, FILE, b"#!/bin/sh\nexit 3\n")?;
     let script = "chmod 700 packages/artifacts/A/1.0.0/f && packages/artifacts/A/1.0.0/f";
     let written = ended(rt.alloc(), &mut runner, root, script)?;
@@ -92,7 +92,7 @@ fn a_disk_removes_what_it_cannot_name(rt: HostRuntime) -> Result<(), Fail> {
     fs::create_dir_all(&rt, root)?;
     fs::write(&rt, "names-of-a-test/kept", "x")?;
     let mut disk = FileDisk::new(&rt, root, Access::Write)?;
-    let mut runner = ShellRunner::new(&rt);
+    let mut runner = ShellRunner::new(&rt, root);
     write_file(&mut disk, FILE, b"xyz")?;
     let made = ended(alloc, &mut runner, root, STRAYS)?;
     let are_removed = lists(alloc, &mut disk, &[FILE]) && lists(alloc, &mut disk, &[FILE]);
