@@ -161,37 +161,35 @@ fn ends_are_told_as_they_are(rt: HostRuntime) -> Result<(), Fail> {
     Ok(())
 }
 
-/// The numbers of two children, of which the second ends by itself.
-fn started_pair<R: Runner>(
+/// The number of a child that ends by itself, behind a kill of one that was started after it.
+fn left_by_a_kill<R: Runner>(
     alloc: Global,
     runner: &mut R,
     folder: &str,
-) -> Result<Option<(u64, u64)>, NoMemory> {
-    let older = command(alloc, folder, "exec sleep 30")?;
-    let newer = command(alloc, folder, "sleep 0.3; exit $END")?;
+) -> Result<Option<u64>, NoMemory> {
+    let older = command(alloc, folder, "sleep 0.3; exit $END")?;
+    let newer = command(alloc, folder, "exec sleep 30")?;
     let Ok(first) = runner.start(&older) else {
         return Ok(None);
     };
     let Ok(second) = runner.start(&newer) else {
         return Ok(None);
     };
-    Ok(Some((first, second)))
+    runner.kill(second);
+    Ok(Some(first))
 }
 
 #[test]
 fn a_kill_ends_its_child_alone(rt: HostRuntime) -> Result<(), Fail> {
     let root = "pair-of-a-test";
     let mut runner = ShellRunner::new(&rt, root);
-    let pair = started_pair(rt.alloc(), &mut runner, root)?;
-    let mut told = Waited::Elapsed;
-    if let Some((older, _)) = pair {
-        runner.kill(older);
-        told = runner.wait(10_000);
-    }
+    let older = left_by_a_kill(rt.alloc(), &mut runner, root)?;
+    let told = runner.wait(10_000);
     let is_over = runner.wait(50) == Waited::Elapsed;
     fs::remove_dir_all(&rt, root)?;
-    let newer = pair.map_or(0, |pair| pair.1);
-    assert!(rt; told == Waited::Ended(newer, Exit::Code(3)) && is_over);
+    assert!(rt;
+        older.is_some() && told == Waited::Ended(older.unwrap_or(0), Exit::Code(3)) && is_over
+    );
     Ok(())
 }
 
@@ -202,10 +200,10 @@ fn started_eight<R: Runner>(
     folder: &str,
 ) -> Result<usize, NoMemory> {
     let command = command(alloc, folder, "sleep 0.2; exit $END")?;
-    let mut count = 0;
+    let mut count: usize = 0;
     for _ in 0..8 {
         if runner.start(&command).is_ok() {
-            count += 1;
+            count = count.saturating_add(1);
         }
     }
     Ok(count)
@@ -213,11 +211,11 @@ fn started_eight<R: Runner>(
 
 /// How many of eight ends are told at that moment.
 fn told_at<R: Runner>(runner: &mut R, moment: u64) -> usize {
-    let mut count = 0;
+    let mut count: usize = 0;
     for _ in 0..8 {
         let is_then = runner.moment() == moment;
         if matches!(runner.wait(0), Waited::Ended(_, Exit::Code(3))) && is_then {
-            count += 1;
+            count = count.saturating_add(1);
         }
     }
     count

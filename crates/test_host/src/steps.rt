@@ -57,7 +57,7 @@ fn keeps_room(disk: &mut FileDisk<'_, HostRuntime>) -> Result<bool, DiskFault> {
         first >= 10 + 344_064
             && again == first
             && at_last == first
-            && behind >= last + 6 + 344_064
+            && behind >= last.saturating_add(6 + 344_064)
             && is_blank,
     )
 }
