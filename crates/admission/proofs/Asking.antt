@@ -19,7 +19,7 @@ use Rattle.plan_core.specs.Requests.{asked_beside, requirement_need, root_need, 
 
 -- ---- lists
 
-in_flat : {X Y : Type 0} (f : X → List Y) (xs : List X) (x : X) (y : Y) → Contains xs x → Contains (f x) y → Contains (flat_map f xs) y
+pub in_flat : {X Y : Type 0} (f : X → List Y) (xs : List X) (x : X) (y : Y) → Contains xs x → Contains (f x) y → Contains (flat_map f xs) y
 in_flat f [] x y among has = absurd (in_nil x among)
 in_flat {Y = Y} f (z ∷ xs) x y among has =
     subst (λ (l : List Y). Contains l y) (sym (flat_map-cons f z xs)) (elim (in_cons z xs x among) [

@@ -1,5 +1,6 @@
 -- A join of two objects, from the front.
-use Rattle.std.proofs.Common.{◌≡◌, ℕ, List, [], ◌∷◌, ◌++◌, Option, Some, None, Ordering, Less, Equal, Greater, nat_cmp, refl, sym, ap, ap₂, ◌∙◌, subst, option_map, unwrap_or}
+use Rattle.std.proofs.Common.{◌≡◌, ℕ, List, [], ◌∷◌, ◌++◌, Option, Some, None, Ordering, Less, Equal, Greater, nat_cmp, refl, sym, ap, ap₂, ◌∙◌, subst}
+use Rattle.std.proofs.Common.{option_map, unwrap_or}
 use Rattle.std.specs.Prelude.{IfSome, IfNone}
 use Rattle.std.specs.Ordering.{match_ordering}
 use Rattle.std.specs.Cmp.Lexicographic.{slice_cmp}
@@ -48,14 +49,16 @@ first_at : (o : Ordering) (f : Option Data → Data → Data) (k l : List ℕ) (
     → put l (f (get_member l (member k d ts)) u) (member k d ts) ≡ member k d (put l (f (get_member l ts) u) ts)
 first_at o f k l d u ts us is greater = ap (λ old. put l (f old u) (member k d ts)) (got_later k l d ts (is ∙ greater)) ∙ rw (is ∙ greater) refl
 
-pub put_all-first : (f : Option Data → Data → Data) (k : List ℕ) (d : Data) (ts us : Members) → IsBelowAll k us → put_all f (member k d ts) us ≡ member k d (put_all f ts us)
+pub put_all-first : (f : Option Data → Data → Data) (k : List ℕ) (d : Data) (ts us : Members) → IsBelowAll k us →
+    put_all f (member k d ts) us ≡ member k d (put_all f ts us)
 put_all-first f k d ts no_members h = refl
 put_all-first f k d ts (member l u us) h =
     ap (λ ms. put_all f ms us) (first_at _ f k l d u ts us refl (above k l h.0)) ∙ put_all-first f k d (put l (f (get_member l ts) u) ts) us h.1
 
 -- ---- the fields before a key
 
-from_orderly_at : (o : Ordering) (k : List ℕ) (f : Field) (fs : List Field) → MembersAreOrderly (fields_view (f ∷ fs)) → MembersAreOrderly (fields_view (fields_from k fs))
+from_orderly_at : (o : Ordering) (k : List ℕ) (f : Field) (fs : List Field) → MembersAreOrderly (fields_view (f ∷ fs)) →
+    MembersAreOrderly (fields_view (fields_from k fs))
     → MembersAreOrderly (fields_view (match_ordering o (f ∷ fs) (f ∷ fs) (fields_from k fs)))
 from_orderly_at Less k f fs h later = h
 from_orderly_at Equal k f fs h later = h
@@ -75,10 +78,12 @@ pub from_not_after : (k : List ℕ) (fs : List Field) → ranks k (fields_from k
 from_not_after k [] e = let no : None ≡ Some Greater = e in cc
 from_not_after k (f ∷ fs) e = from_not_after_at (slice_cmp nat_cmp k f.0) k f fs refl (from_not_after k fs) e
 
-before_at : (o : Ordering) (p : Option Data → Data → Data) (k : List ℕ) (u : Data) (us : Members) (f : Field) (fs : List Field) → slice_cmp nat_cmp k f.0 ≡ o → IsBelowAll k us
+before_at : (o : Ordering) (p : Option Data → Data → Data) (k : List ℕ) (u : Data) (us : Members) (f : Field) (fs : List Field) →
+    slice_cmp nat_cmp k f.0 ≡ o → IsBelowAll k us
     → (put_all p (fields_view fs) (member k u us) ≡ behind (fields_view (fields_before k fs)) (put_all p (fields_view (fields_from k fs)) (member k u us)))
     → put_all p (fields_view (f ∷ fs)) (member k u us)
-    ≡ behind (fields_view (match_ordering o [] [] (f ∷ fields_before k fs))) (put_all p (fields_view (match_ordering o (f ∷ fs) (f ∷ fs) (fields_from k fs))) (member k u us))
+    ≡ behind (fields_view (match_ordering o [] [] (f ∷ fields_before k fs))) (put_all p (fields_view (match_ordering o (f ∷ fs) (f ∷ fs) (fields_from k fs)))
+    (member k u us))
 before_at Less p k u us f fs is h later = refl
 before_at Equal p k u us f fs is h later = refl
 before_at Greater p k u us f fs is h later =
@@ -105,17 +110,20 @@ lower Less e g = refl
 lower Equal e g = absurd (e refl)
 lower Greater e g = absurd (g refl)
 
-put_in_front : (k : List ℕ) (d : Data) (fs : List Field) → (ranks k fs ≡ Some Equal → ⊥) → (ranks k fs ≡ Some Greater → ⊥) → put k d (fields_view fs) ≡ member k d (fields_view fs)
+put_in_front : (k : List ℕ) (d : Data) (fs : List Field) → (ranks k fs ≡ Some Equal → ⊥) → (ranks k fs ≡ Some Greater → ⊥) →
+    put k d (fields_view fs) ≡ member k d (fields_view fs)
 put_in_front k d [] e g = refl
 put_in_front k d (f ∷ fs) e g = rw (lower (slice_cmp nat_cmp k f.0) e g) refl
 
-pub none_there : (k : List ℕ) (fs : List Field) → MembersAreOrderly (fields_view fs) → (ranks k fs ≡ Some Equal → ⊥) → (ranks k fs ≡ Some Greater → ⊥) → get_member k (fields_view fs) ≡ None
+pub none_there : (k : List ℕ) (fs : List Field) → MembersAreOrderly (fields_view fs) → (ranks k fs ≡ Some Equal → ⊥) → (ranks k fs ≡ Some Greater → ⊥) →
+    get_member k (fields_view fs) ≡ None
 none_there k [] h e g = refl
 none_there k (f ∷ fs) h e g =
     let less = lower (slice_cmp nat_cmp k f.0) e g in
     rw less (none_below k (fields_view fs) (below_later k f.0 (fields_view fs) less h.0))
 
-pub put_all-absent : (p : Option Data → Data → Data) (k : List ℕ) (u : Data) (us : Members) (fs : List Field) → IsBelowAll k us → MembersAreOrderly (fields_view fs)
+pub put_all-absent : (p : Option Data → Data → Data) (k : List ℕ) (u : Data) (us : Members) (fs : List Field) → IsBelowAll k us →
+    MembersAreOrderly (fields_view fs)
     → (ranks k fs ≡ Some Equal → ⊥) → (ranks k fs ≡ Some Greater → ⊥)
     → put_all p (fields_view fs) (member k u us) ≡ member k (p None u) (put_all p (fields_view fs) us)
 put_all-absent p k u us fs h o e g =
@@ -129,7 +137,8 @@ abbrev pub Found : List ℕ → List Field → Option Field → List Field → T
 Found k rest None later = (later ≡ fields_from k rest) × (ranks k (fields_from k rest) ≡ Some Equal → ⊥)
 Found k rest (Some g) later = (fields_from k rest ≡ g ∷ later) × (slice_cmp nat_cmp k g.0 ≡ Equal)
 
-pub later_orderly : (k : List ℕ) (rest : List Field) (found : Option Field) (later : List Field) → Found k rest found later → MembersAreOrderly (fields_view rest) → MembersAreOrderly (fields_view later)
+pub later_orderly : (k : List ℕ) (rest : List Field) (found : Option Field) (later : List Field) → Found k rest found later →
+    MembersAreOrderly (fields_view rest) → MembersAreOrderly (fields_view later)
 later_orderly k rest None later is h = subst (λ fs. MembersAreOrderly (fields_view fs)) (sym is.0) (from_orderly k rest h)
 later_orderly k rest (Some g) later is h =
     let all : MembersAreOrderly (fields_view (g ∷ later)) = subst (λ fs. MembersAreOrderly (fields_view fs)) is.0 (from_orderly k rest h) in all.2
@@ -141,11 +150,13 @@ found_fits k rest (Some g) later is h =
     let all : MembersAreOrderly (fields_view (g ∷ later)) = subst (λ fs. MembersAreOrderly (fields_view fs)) is.0 (from_orderly k rest h) in
     (sym (same_key k g.0 is.1), all.1)
 
-pub found_orderly : (k : List ℕ) (rest : List Field) (found : Option Field) (later : List Field) → Found k rest found later → MembersAreOrderly (fields_view rest) → IfSome found (λ f. IsOrderly (view f.1))
+pub found_orderly : (k : List ℕ) (rest : List Field) (found : Option Field) (later : List Field) → Found k rest found later →
+    MembersAreOrderly (fields_view rest) → IfSome found (λ f. IsOrderly (view f.1))
 found_orderly k rest None later is h = tt
 found_orderly k rest (Some g) later is h = (found_fits k rest (Some g) later is h).1
 
-pub at_key : (p : Option Data → Data → Data) (k : List ℕ) (u : Data) (us : Members) (rest : List Field) (found : Option Field) (later : List Field) → IsBelowAll k us → MembersAreOrderly (fields_view rest)
+pub at_key : (p : Option Data → Data → Data) (k : List ℕ) (u : Data) (us : Members) (rest : List Field) (found : Option Field) (later : List Field) →
+    IsBelowAll k us → MembersAreOrderly (fields_view rest)
     → Found k rest found later
     → put_all p (fields_view (fields_from k rest)) (member k u us) ≡ member k (p (option_map (λ f. view f.1) found) u) (put_all p (fields_view later) us)
 at_key p k u us rest None later b h is =
@@ -161,9 +172,11 @@ joined_value : (other : Data → Data → Data) (old : Option Data) (u d : Data)
 joined_value other None u d is = cc
 joined_value other (Some t) u d is = cc
 
-pub next_key : (other : Data → Data → Data) (k : List ℕ) (u : Data) (us : Members) (rest : List Field) (found : Option Field) (later : List Field) (new : Field) → IsBelowAll k us → MembersAreOrderly (fields_view rest)
+pub next_key : (other : Data → Data → Data) (k : List ℕ) (u : Data) (us : Members) (rest : List Field) (found : Option Field) (later : List Field)
+    (new : Field) → IsBelowAll k us → MembersAreOrderly (fields_view rest)
     → Found k rest found later → new.0 ≡ k → Some (view new.1) ≡ joined_at other (option_map (λ f. view f.1) found) (Some u)
-    → joined_members other (fields_view rest) (member k u us) ≡ behind (fields_view (fields_before k rest)) (member new.0 (view new.1) (joined_members other (fields_view later) us))
+    → joined_members other (fields_view rest) (member k u us) ≡ behind (fields_view (fields_before k rest)) (member new.0 (view new.1) (joined_members other
+    (fields_view later) us))
 next_key other k u us rest found later new b h is named value =
     let p = join_with other in
     joined_members-put_all other (fields_view rest) (member k u us)
@@ -174,7 +187,8 @@ next_key other k u us rest found later new b h is named value =
     ∙ ap (member new.0 (view new.1)) (sym (joined_members-put_all other (fields_view later) us)))
 
 -- what is done grows by the fields before the key and the new field
-pub done_grows : (done before : List Field) (new : Field) (more : Members) → behind (fields_view done) (behind (fields_view before) (member new.0 (view new.1) more)) ≡ behind (fields_view ((done ++ before) ++ new ∷ [])) more
+pub done_grows : (done before : List Field) (new : Field) (more : Members) → behind (fields_view done) (behind (fields_view before) (member new.0
+    (view new.1) more)) ≡ behind (fields_view ((done ++ before) ++ new ∷ [])) more
 done_grows done before new more =
     sym (behind-behind (fields_view done) (fields_view before) (member new.0 (view new.1) more))
     ∙ ap (λ ms. behind ms (member new.0 (view new.1) more)) (sym (view-append done before))

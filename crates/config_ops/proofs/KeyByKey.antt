@@ -43,7 +43,8 @@ same_rest_at Equal k d e ms ns q is hm hn same =
 Same : Members → Members → Type 0
 Same ms ns = (q : List ℕ) → get_member q ms ≡ get_member q ns
 
-same_first_at : (o : Ordering) (k : List ℕ) (d : Data) (ms : Members) (l : List ℕ) (e : Data) (ns : Members) → slice_cmp nat_cmp k l ≡ o → MembersAreOrderly (member k d ms) → MembersAreOrderly (member l e ns)
+same_first_at : (o : Ordering) (k : List ℕ) (d : Data) (ms : Members) (l : List ℕ) (e : Data) (ns : Members) → slice_cmp nat_cmp k l ≡ o →
+    MembersAreOrderly (member k d ms) → MembersAreOrderly (member l e ns)
     → Same (member k d ms) (member l e ns) → k ≡ l
 unfolding Same
 same_first_at Equal k d ms l e ns is hm hn same = same_key k l is
@@ -63,7 +64,8 @@ same_members (member k d ms) (member l e ns) hm hn same =
     let here : Same (member k d ms) (member k e ns) = subst (λ x. Same (member k d ms) (member x e ns)) (sym named) same in
     let hk : MembersAreOrderly (member k e ns) = subst (λ x. MembersAreOrderly (member x e ns)) (sym named) hn in
     let value : d ≡ e = let both : Some d ≡ Some e = sym (get_here k d ms) ∙ here k ∙ get_here k e ns in cc in
-    ap₂ (λ x y. member x y ms) named value ∙ ap (member l e) (same_members ms ns hm.2 hn.2 (λ q. same_rest_at (slice_cmp nat_cmp q k) k d e ms ns q refl hm.0 hk.0 (here q)))
+    ap₂ (λ x y. member x y ms) named value ∙ ap (member l e) (same_members ms ns hm.2 hn.2 (λ q. same_rest_at (slice_cmp nat_cmp q k) k d e ms ns q refl hm.0
+    hk.0 (here q)))
 
 -- ---- a join, key by key
 
@@ -74,15 +76,18 @@ at_of p old (Some u) = Some (p old u)
 put_all_step : (o : Ordering) (p : Option Data → Data → Data) (k l : List ℕ) (u : Data) (ts us : Members) → slice_cmp nat_cmp k l ≡ o → IsBelowAll l us
     → (get_member k (put_all p (put l (p (get_member l ts) u) ts) us) ≡ at_of p (get_member k (put l (p (get_member l ts) u) ts)) (get_member k us))
     → get_member k (put_all p (put l (p (get_member l ts) u) ts) us) ≡ at_of p (get_member k ts) (match_ordering o (get_member k us) (Some u) (get_member k us))
-put_all_step Less p k l u ts us is h rest = rest ∙ ap (λ x. at_of p x (get_member k us)) (get_member-put_other k l (p (get_member l ts) u) ts (apart Less k l is (λ e. cc)))
-put_all_step Greater p k l u ts us is h rest = rest ∙ ap (λ x. at_of p x (get_member k us)) (get_member-put_other k l (p (get_member l ts) u) ts (apart Greater k l is (λ e. cc)))
+put_all_step Less p k l u ts us is h rest = rest ∙ ap (λ x. at_of p x (get_member k us)) (get_member-put_other k l (p (get_member l ts) u) ts
+    (apart Less k l is (λ e. cc)))
+put_all_step Greater p k l u ts us is h rest = rest ∙ ap (λ x. at_of p x (get_member k us)) (get_member-put_other k l (p (get_member l ts) u) ts
+    (apart Greater k l is (λ e. cc)))
 put_all_step Equal p k l u ts us is h rest =
     let same : k ≡ l = same_key k l is in
     let new = p (get_member l ts) u in
     rest ∙ ap₂ (at_of p) (ap (λ x. get_member x (put l new ts)) same ∙ get_member-put l new ts) (ap (λ x. get_member x us) same ∙ none_below l us h)
     ∙ ap (λ x. Some (p (get_member x ts) u)) (sym same)
 
-get-put_all : (p : Option Data → Data → Data) (k : List ℕ) (ts us : Members) → MembersAreOrderly us → get_member k (put_all p ts us) ≡ at_of p (get_member k ts) (get_member k us)
+get-put_all : (p : Option Data → Data → Data) (k : List ℕ) (ts us : Members) → MembersAreOrderly us →
+    get_member k (put_all p ts us) ≡ at_of p (get_member k ts) (get_member k us)
 get-put_all p k ts no_members h = refl
 get-put_all p k ts (member l u us) h = put_all_step (slice_cmp nat_cmp k l) p k l u ts us refl h.0 (get-put_all p k (put l (p (get_member l ts) u) ts) us h.2)
 
@@ -92,13 +97,15 @@ at-each_key other (Some t) None = refl
 at-each_key other None (Some u) = refl
 at-each_key other (Some t) (Some u) = refl
 
-pub joins_each_key : (other : Data → Data → Data) (k : List ℕ) (ts us : Members) → MembersAreOrderly us → get_member k (joined_members other ts us) ≡ each_key (joined other) (get_member k ts) (get_member k us)
+pub joins_each_key : (other : Data → Data → Data) (k : List ℕ) (ts us : Members) → MembersAreOrderly us →
+    get_member k (joined_members other ts us) ≡ each_key (joined other) (get_member k ts) (get_member k us)
 joins_each_key other k ts us h =
     ap (get_member k) (joined_members-put_all other ts us) ∙ get-put_all (join_with other) k ts us h ∙ at-each_key other (get_member k ts) (get_member k us)
 
 pub joins_objects : (other : Data → Data → Data) → Keeps other → JoinsObjects (joined other)
 joins_objects other keeps ts us h u =
-    let all = joined_members_sound other 63 ts us keeps (members_sound 63 ts (regular_sound (object ts) h)) (members_sound 63 us (regular_sound (object us) u)) in
+    let all = joined_members_sound other 63 ts us keeps (members_sound 63 ts (regular_sound (object ts) h)) (members_sound 63 us (regular_sound (object us)
+    u)) in
     (joined_members other ts us, refl, all.orderly, λ k. joins_each_key other k ts us u.orderly)
 
 -- ---- where one is no object

@@ -48,4 +48,5 @@ changed_is_object d None t k m h = h
 changed_is_object d (Some c) t k m h = merge_is_object c.merge (after_resets d c.resets t) m (resets_are_objects d c.resets t k h)
 
 pub config_is_object : ConfigIsObject
-config_is_object kept d update h k m = joined_is_object first (changed d update (start kept d)) d (changed_is_object d update (start kept d) k m (start_is_object kept d h k)) k
+config_is_object kept d update h k m = joined_is_object first (changed d update (start kept d)) d (changed_is_object d update (start kept d) k m
+    (start_is_object kept d h k)) k

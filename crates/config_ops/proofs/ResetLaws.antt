@@ -1,5 +1,6 @@
 -- A reset, node by node.
-use Rattle.std.proofs.Common.{◌≡◌, ℕ, List, [], ◌∷◌, ◌++◌, Bool, true, false, Option, Some, None, option_and_then, Ordering, Less, Equal, Greater, nat_cmp, refl, sym, ap, ◌∙◌, subst}
+use Rattle.std.proofs.Common.{◌≡◌, ℕ, List, [], ◌∷◌, ◌++◌, Bool, true, false, Option, Some, None, option_and_then, Ordering, Less, Equal, Greater, nat_cmp}
+use Rattle.std.proofs.Common.{refl, sym, ap, ◌∙◌, subst}
 use Rattle.std.specs.Prelude.{◌&&◌, is_some, if◌then◌else◌}
 use Rattle.std.specs.Option.{option_map_or}
 use Rattle.std.specs.Ordering.{match_ordering}
@@ -18,7 +19,8 @@ use Rattle.config_ops.proofs.KeyByKey.{get_other}
 abbrev Without : List ℕ → Members → Type 0
 Without k ms = get_member k (without k ms) ≡ None
 
-without_same_at : (o : Ordering) (k l : List ℕ) (d : Data) (ms : Members) → slice_cmp nat_cmp k l ≡ o → Without k ms → get_member k (match_ordering o (member l d (without k ms)) (without k ms) (member l d (without k ms))) ≡ None
+without_same_at : (o : Ordering) (k l : List ℕ) (d : Data) (ms : Members) → slice_cmp nat_cmp k l ≡ o → Without k ms →
+    get_member k (match_ordering o (member l d (without k ms)) (without k ms) (member l d (without k ms))) ≡ None
 without_same_at Less k l d ms is later = rw is later
 without_same_at Equal k l d ms is later = later
 without_same_at Greater k l d ms is later = rw is later
@@ -27,7 +29,8 @@ get_without : (k : List ℕ) (ms : Members) → get_member k (without k ms) ≡ 
 get_without k no_members = refl
 get_without k (member l d ms) = without_same_at (slice_cmp nat_cmp k l) k l d ms refl (get_without k ms)
 
-without_other_at : (o : Ordering) (q k l : List ℕ) (d : Data) (ms : Members) → slice_cmp nat_cmp k l ≡ o → (q ≡ k → ⊥) → (get_member q (without k ms) ≡ get_member q ms)
+without_other_at : (o : Ordering) (q k l : List ℕ) (d : Data) (ms : Members) → slice_cmp nat_cmp k l ≡ o → (q ≡ k → ⊥) →
+    (get_member q (without k ms) ≡ get_member q ms)
     → get_member q (match_ordering o (member l d (without k ms)) (without k ms) (member l d (without k ms))) ≡ get_member q (member l d ms)
 without_other_at Less q k l d ms is ne later = ap (λ x. match_ordering (slice_cmp nat_cmp q l) x (Some d) x) later
 without_other_at Equal q k l d ms is ne later = later ∙ sym (get_other q l d ms (λ e. ne (e ∙ sym (same_key k l is))))
@@ -47,7 +50,8 @@ get_set_other q k (Some d) ms ne = get_member-put_other q k d ms ne
 
 -- ---- an object with a node set
 
-get_node_other : (q k : List ℕ) (keys : List (List ℕ)) (new : Option Data) (ms : Members) → (q ≡ k → ⊥) → get_member q (set_node k keys new ms) ≡ get_member q ms
+get_node_other : (q k : List ℕ) (keys : List (List ℕ)) (new : Option Data) (ms : Members) → (q ≡ k → ⊥) →
+    get_member q (set_node k keys new ms) ≡ get_member q ms
 get_node_other q k [] new ms ne = get_set_other q k new ms ne
 get_node_other q k (l ∷ keys) new ms ne = get_member-put_other q k _ ms ne
 
@@ -85,7 +89,8 @@ below_members a after (Some (string s)) = refl
 below_members a after (Some (array ds)) = refl
 below_members a after (Some (object ms)) = refl
 
-below_members_on : (way : List (List ℕ)) (a : List ℕ) (after : List (List ℕ)) (o : Option Data) → key_node (way ++ a ∷ after) (object (members_of o)) ≡ option_and_then (key_node (way ++ a ∷ after)) o
+below_members_on : (way : List (List ℕ)) (a : List ℕ) (after : List (List ℕ)) (o : Option Data) →
+    key_node (way ++ a ∷ after) (object (members_of o)) ≡ option_and_then (key_node (way ++ a ∷ after)) o
 below_members_on [] a after o = below_members a after o
 below_members_on (w ∷ way) a after o = below_members w (way ++ a ∷ after) o
 
@@ -98,7 +103,8 @@ others_set (w ∷ way) a k after later new ms ne =
     ∙ others_set way a k after later new (members_of below) ne
     ∙ below_members_on way a after below
 
-way_set : (way : List (List ℕ)) (k : List ℕ) (later : List (List ℕ)) (new : Option Data) (ms : Members) → (ns : Members) × (key_node way (object (set_way (way ++ k ∷ later) new ms)) ≡ Some (object ns))
+way_set : (way : List (List ℕ)) (k : List ℕ) (later : List (List ℕ)) (new : Option Data) (ms : Members) → (ns : Members) ×
+    (key_node way (object (set_way (way ++ k ∷ later) new ms)) ≡ Some (object ns))
 way_set [] k later new ms = (set_node k later new ms, refl)
 way_set (w ∷ way) k later new ms =
     let below = way_set way k later new (members_of (get_member w ms)) in
@@ -125,7 +131,8 @@ open_tests : (keys : List (List ℕ)) (t : Data) → IsOpen keys t → is_open k
 open_tests [] t h = refl
 open_tests (k ∷ keys) t h =
     rw (object_test t (h [] k keys t refl refl))
-    (open_below keys (get k t) (λ d is. open_tests keys d (λ way l later e same named. h (k ∷ way) l later e (ap (λ x. k ∷ x) same) (ap (option_and_then (key_node way)) is ∙ named))))
+    (open_below keys (get k t) (λ d is. open_tests keys d (λ way l later e same named. h (k
+    ∷ way) l later e (ap (λ x. k ∷ x) same) (ap (option_and_then (key_node way)) is ∙ named))))
 
 and_false : (b : Bool) → (b && false) ≡ false
 and_false true = refl
@@ -135,7 +142,8 @@ there : (f : Data → Option Data) (o : Option Data) (x : Data) → option_and_t
 there f None x is = absurd (cc)
 there f (Some d) x is = (d, refl, is)
 
-blocked_tests : (way : List (List ℕ)) (k : List ℕ) (later : List (List ℕ)) (t x : Data) → key_node way t ≡ Some x → (IsObject x → ⊥) → is_open (way ++ k ∷ later) t ≡ false
+blocked_tests : (way : List (List ℕ)) (k : List ℕ) (later : List (List ℕ)) (t x : Data) → key_node way t ≡ Some x → (IsObject x → ⊥) →
+    is_open (way ++ k ∷ later) t ≡ false
 blocked_tests [] k later t x is h = let same : t ≡ x = cc in rw (no_object_test t (λ o. h (subst IsObject same o))) refl
 blocked_tests (w ∷ way) k later t x is h =
     let next = there (key_node way) (get w t) x is in
@@ -176,7 +184,8 @@ Way way d = (ns : Members) × (key_node way d ≡ Some (object ns))
 
 -- the reset over a way and the keys behind it
 way_reset : (way : List (List ℕ)) (k : List ℕ) (later : List (List ℕ)) (t d : Data)
-    → reset_at t d (way ++ k ∷ later) ≡ (if is_due (way ++ k ∷ later) (key_node (way ++ k ∷ later) d) t then object (set_way (way ++ k ∷ later) (key_node (way ++ k ∷ later) d) (members_of (Some t))) else t)
+    → reset_at t d (way ++ k ∷ later) ≡ (if is_due (way ++ k ∷ later) (key_node (way ++ k ∷ later) d) t then object (set_way (way ++ k
+    ∷ later) (key_node (way ++ k ∷ later) d) (members_of (Some t))) else t)
 way_reset [] k later t d = refl
 way_reset (w ∷ way) k later t d = refl
 
@@ -202,7 +211,8 @@ removal_keeps_way t d way k later ms is named =
     let keys = way ++ k ∷ later in
     let new = key_node keys d in
     subst (Way way) (sym (way_reset way k later t d))
-    (by_test (Way way) (is_due keys new t) (object (set_way keys new (members_of (Some t)))) t (λ h. way_set way k later new (members_of (Some t))) (λ h. (ms, named)))
+    (by_test (Way way) (is_due keys new t) (object (set_way keys new (members_of (Some t)))) t (λ h. way_set way k later new (members_of (Some t)))
+    (λ h. (ms, named)))
 
 pub reset_is_blocked : ResetIsBlocked
 reset_is_blocked t d e x way k later is named h =

@@ -8,7 +8,7 @@ use Rattle.std.specs.Cmp.Lexicographic.{slice_cmp}
 use Rattle.tree_core.specs.Regular.{IsRegular}
 use Rattle.tree_core.proofs.Puts.{found_at}
 use Rattle.config_ops.specs.Join.{joined_members, first, filled}
-use Rattle.config_ops.specs.Laws.{each_key, IsRegularChange, ConfigStays}
+use Rattle.config_ops.specs.Laws.{each_key, IsRegularChange, ConfigStays, ConfigIsFilled}
 use Rattle.config_ops.specs.Reset.{reset_at}
 use Rattle.config_ops.specs.NewConfig.{Change, start, after_resets, after_merge, changed}
 use Rattle.config_ops.proofs.KeyByKey.{same_members, joins_each_key}
@@ -31,7 +31,8 @@ alone_at : (n : ℕ) (o : Option Data) → IfSome o Settles → IfSome o (IsSoun
 alone_at n None s h = refl
 alone_at n (Some d) s h = ap Some (s.alone n h)
 
-again_at : (n : ℕ) (o p : Option Data) → IfSome p Settles → IfSome p (IsSound n) → IfSome o (IsSound n) → each_key filled (each_key filled o p) p ≡ each_key filled o p
+again_at : (n : ℕ) (o p : Option Data) → IfSome p Settles → IfSome p (IsSound n) → IfSome o (IsSound n) →
+    each_key filled (each_key filled o p) p ≡ each_key filled o p
 again_at n None None s h old = refl
 again_at n (Some t) None s h old = refl
 again_at n None (Some d) s h old = ap Some (s.alone n h)
@@ -42,10 +43,12 @@ members_alone n ds s h =
     same_members (joined_members first ds ds) ds (joined_members_sound first n ds ds first_keeps h h).orderly h.orderly
     (λ k. joins_each_key first k ds ds h.orderly ∙ alone_at n (get_member k ds) (found k ds s) (get_sound n k ds h))
 
-members_again : (n : ℕ) (ts ds : Members) → AllSettle ds → AreSound n ts → AreSound n ds → joined_members first (joined_members first ts ds) ds ≡ joined_members first ts ds
+members_again : (n : ℕ) (ts ds : Members) → AllSettle ds → AreSound n ts → AreSound n ds →
+    joined_members first (joined_members first ts ds) ds ≡ joined_members first ts ds
 members_again n ts ds s old h =
     let once = joined_members_sound first n ts ds first_keeps old h in
-    same_members (joined_members first (joined_members first ts ds) ds) (joined_members first ts ds) (joined_members_sound first n _ ds first_keeps once h).orderly once.orderly
+    same_members (joined_members first (joined_members first ts ds) ds) (joined_members first ts ds) (joined_members_sound first n _ ds first_keeps once
+    h).orderly once.orderly
     (λ k. joins_each_key first k (joined_members first ts ds) ds h.orderly
     ∙ ap (λ o. each_key filled o (get_member k ds)) (joins_each_key first k ts ds h.orderly)
     ∙ again_at n (get_member k ts) (get_member k ds) (found k ds s) (get_sound n k ds h) (get_sound n k ts old)
@@ -55,7 +58,8 @@ object_alone : (n : ℕ) (ds : Members) → AllSettle ds → IsSound n (object d
 object_alone zero ds s h = absurd (omega (arith, h.within))
 object_alone (suc n) ds s h = ap object (members_alone n ds s (members_sound n ds h))
 
-object_again : (n : ℕ) (t : Data) (ds : Members) → AllSettle ds → IsSound n (object ds) → IsSound n t → filled (filled t (object ds)) (object ds) ≡ filled t (object ds)
+object_again : (n : ℕ) (t : Data) (ds : Members) → AllSettle ds → IsSound n (object ds) → IsSound n t →
+    filled (filled t (object ds)) (object ds) ≡ filled t (object ds)
 object_again n null ds s h old = refl
 object_again n (boolean b) ds s h old = refl
 object_again n (number x) ds s h old = refl
@@ -95,11 +99,12 @@ changed_regular : (d : Data) (update : Option Change) (t : Data) → IsRegularCh
 changed_regular d None t u h old = old
 changed_regular d (Some c) t u h old = merge_regular c.merge (after_resets d c.resets t) u (resets_regular d c.resets t h old)
 
+pub config_is_filled : ConfigIsFilled
+config_is_filled kept d update old h u =
+    let first_part = changed d update (start kept d) in
+    (settles d).again 64 first_part (regular_sound d h) (regular_sound first_part (changed_regular d update (start kept d) u h (start_regular kept d old h)))
+
 pub config_stays : ConfigStays
 config_stays kept d update old h u =
-    let first_part = changed d update (start kept d) in
-    let x = filled first_part d in
-    let part_regular = changed_regular d update (start kept d) u h (start_regular kept d old h) in
-    let x_regular = joined_regular first first_part d first_keeps part_regular h in
-    let once : filled x d ≡ x = (settles d).again 64 first_part (regular_sound d h) (regular_sound first_part part_regular) in
+    let once = config_is_filled kept d update old h u in
     ap (λ y. filled y d) once ∙ once

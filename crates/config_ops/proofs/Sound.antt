@@ -1,5 +1,6 @@
 -- What is put together of regular values is regular, and nests no deeper than they do.
-use Rattle.std.proofs.Common.{◌≡◌, ℕ, zero, suc, ◌≤◌, max, List, Option, Some, None, IfSome, Ordering, Less, Equal, Greater, nat_cmp, option_map, unwrap_or, Result, Ok, Err, sym, subst, arith}
+use Rattle.std.proofs.Common.{◌≡◌, ℕ, zero, suc, ◌≤◌, max, List, Option, Some, None, IfSome, Ordering, Less, Equal, Greater, nat_cmp, option_map, unwrap_or}
+use Rattle.std.proofs.Common.{Result, Ok, Err, sym, subst, arith}
 use Rattle.std.specs.Prelude.{IsUtf8, IfOk}
 use Rattle.std.specs.Ordering.{match_ordering}
 use Rattle.std.specs.Cmp.Lexicographic.{slice_cmp}
@@ -40,7 +41,8 @@ none_sound n = record { orderly = tt; within = omega arith; utf8 = tt }
 
 -- ---- put and get
 
-put_within_at : (o : Ordering) (n : ℕ) (k : List ℕ) (d : Data) (l : List ℕ) (e : Data) (ms : Members) → depth d ≤ n → members_depth (member l e ms) ≤ n → members_depth (put k d ms) ≤ n
+put_within_at : (o : Ordering) (n : ℕ) (k : List ℕ) (d : Data) (l : List ℕ) (e : Data) (ms : Members) → depth d ≤ n → members_depth (member l e ms) ≤ n →
+    members_depth (put k d ms) ≤ n
     → members_depth (match_ordering o (member k d (member l e ms)) (member l d ms) (member l e (put k d ms))) ≤ n
 put_within_at Less n k d l e ms h old later = omega (arith, h, old)
 put_within_at Equal n k d l e ms h old later = omega (arith, h, old)
@@ -65,7 +67,8 @@ rest_sound n k d ms h = record { orderly = h.orderly.2; within = omega (arith, h
 
 pub get_sound : (n : ℕ) (k : List ℕ) (ms : Members) → AreSound n ms → IfSome (get_member k ms) (IsSound n)
 get_sound n k no_members h = tt
-get_sound n k (member l e ms) h = found_at (IsSound n) (slice_cmp nat_cmp k l) e (get_member k ms) (first_sound n l e ms h) (get_sound n k ms (rest_sound n l e ms h))
+get_sound n k (member l e ms) h = found_at (IsSound n) (slice_cmp nat_cmp k l) e (get_member k ms) (first_sound n l e ms h) (get_sound n k ms
+    (rest_sound n l e ms h))
 
 -- ---- joins
 
@@ -83,7 +86,8 @@ by_object other n (array ds) us keeps h u more = keeps n (array ds) (object us) 
 by_object other zero (object ts) us keeps h u more = absurd (omega (arith, h.within))
 by_object other (suc n) (object ts) us keeps h u more = object_sound n _ (more n ts (members_sound n ts h) (members_sound n us u))
 
-at_sound : (n : ℕ) (f : Data → Data) (o : Option Data) (u : Data) → IsSound n u → IfSome o (IsSound n) → ((t : Data) → IsSound n t → IsSound n (f t)) → IsSound n (unwrap_or (option_map f o) u)
+at_sound : (n : ℕ) (f : Data → Data) (o : Option Data) (u : Data) → IsSound n u → IfSome o (IsSound n) → ((t : Data) → IsSound n t → IsSound n (f t)) →
+    IsSound n (unwrap_or (option_map f o) u)
 at_sound n f None u h old more = h
 at_sound n f (Some t) u h old more = more t old
 
@@ -96,11 +100,13 @@ mutual
   joined_sound other n t (array ds) keeps h u = keeps n t (array ds) h u
   joined_sound other n t (object us) keeps h u = by_object other n t us keeps h u (λ m ts hs hu. joined_members_sound other m ts us keeps hs hu)
 
-  pub joined_members_sound : (other : Data → Data → Data) (n : ℕ) (ts us : Members) → Keeps other → AreSound n ts → AreSound n us → AreSound n (joined_members other ts us)
+  pub joined_members_sound : (other : Data → Data → Data) (n : ℕ) (ts us : Members) → Keeps other → AreSound n ts → AreSound n us →
+      AreSound n (joined_members other ts us)
   joined_members_sound other n ts no_members keeps h u = h
   joined_members_sound other n ts (member k d us) keeps h u =
       joined_members_sound other n _ us keeps
-      (put_sound n k _ ts u.utf8.0 (at_sound n _ (get_member k ts) d (first_sound n k d us u) (get_sound n k ts h) (λ t ht. joined_sound other n t d keeps ht (first_sound n k d us u))) h)
+      (put_sound n k _ ts u.utf8.0 (at_sound n _ (get_member k ts) d (first_sound n k d us u) (get_sound n k ts h) (λ t ht. joined_sound other n t d keeps ht
+      (first_sound n k d us u))) h)
       (rest_sound n k d us u)
 
 pub second_keeps : Keeps second

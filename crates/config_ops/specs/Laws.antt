@@ -26,7 +26,8 @@ each_key f (Some t) (Some u) = Some (f t u)
 -- of two objects f makes an object that has at each key what `each_key` says
 abbrev pub JoinsObjects : (Data → Data → Data) → Type 0
 JoinsObjects f = (ts us : Members) → IsRegular (object ts) → IsRegular (object us)
-    → (ms : Members) × (f (object ts) (object us) ≡ object ms) × MembersAreOrderly ms × ((k : List ℕ) → get_member k ms ≡ each_key f (get_member k ts) (get_member k us))
+    → (ms : Members) × (f (object ts) (object us) ≡ object ms) × MembersAreOrderly ms × ((k : List ℕ) →
+    get_member k ms ≡ each_key f (get_member k ts) (get_member k us))
 
 abbrev pub MergeReplaces : Type 0
 MergeReplaces = (t u : Data) → (IsObject t → IsObject u → ⊥) → merged t u ≡ u
@@ -62,7 +63,8 @@ ResetRemoves = (t d : Data) (keys : List (List ℕ)) → key_node keys d ≡ Non
 
 -- where a node was removed, the objects on the way to it stay
 abbrev pub RemovalKeepsWay : Type 0
-RemovalKeepsWay = (t d : Data) (way : List (List ℕ)) (k : List ℕ) (later : List (List ℕ)) (ms : Members) → key_node (way ++ k ∷ later) d ≡ None → key_node way t ≡ Some (object ms)
+RemovalKeepsWay = (t d : Data) (way : List (List ℕ)) (k : List ℕ) (later : List (List ℕ)) (ms : Members) → key_node (way ++ k ∷ later) d ≡ None →
+    key_node way t ≡ Some (object ms)
     → (ns : Members) × (key_node way (reset_at t d (way ++ k ∷ later)) ≡ Some (object ns))
 
 -- All other nodes are those of t: each list of keys that leaves the pointer's, by a key a where that has the key k,
@@ -73,7 +75,8 @@ ResetKeepsOthers = (t d : Data) (way : List (List ℕ)) (a k : List ℕ) (after 
 
 -- nothing changes where a proper prefix names a node of t that is no object
 abbrev pub ResetIsBlocked : Type 0
-ResetIsBlocked = (t d e x : Data) (way : List (List ℕ)) (k : List ℕ) (later : List (List ℕ)) → key_node (way ++ k ∷ later) d ≡ Some e → key_node way t ≡ Some x → (IsObject x → ⊥)
+ResetIsBlocked = (t d e x : Data) (way : List (List ℕ)) (k : List ℕ) (later : List (List ℕ)) → key_node (way ++ k ∷ later) d ≡ Some e →
+    key_node way t ≡ Some x → (IsObject x → ⊥)
     → reset_at t d (way ++ k ∷ later) ≡ t
 
 -- nor where neither has the node
@@ -94,6 +97,11 @@ abbrev pub ConfigStays : Type 0
 ConfigStays = (kept : Option Data) (d : Data) (update : Option Change) → IfSome kept IsRegular → IsRegular d → IsRegularChange update
     → new_config (Some (new_config kept d update)) d None ≡ new_config kept d update
 
+-- and it has whatever the default has
+abbrev pub ConfigIsFilled : Type 0
+ConfigIsFilled = (kept : Option Data) (d : Data) (update : Option Change) → IfSome kept IsRegular → IsRegular d → IsRegularChange update
+    → filled (new_config kept d update) d ≡ new_config kept d update
+
 -- an update that merges an object, or nothing
 abbrev pub MergesObject : Option Change → Type 0
 MergesObject None = ⊤
@@ -101,4 +109,5 @@ MergesObject (Some c) = IfSome c.merge IsObject
 
 -- a new configuration of objects is an object
 abbrev pub ConfigIsObject : Type 0
-ConfigIsObject = (kept : Option Data) (d : Data) (update : Option Change) → IfSome kept IsObject → IsObject d → MergesObject update → IsObject (new_config kept d update)
+ConfigIsObject = (kept : Option Data) (d : Data) (update : Option Change) → IfSome kept IsObject → IsObject d → MergesObject update →
+    IsObject (new_config kept d update)

@@ -2,7 +2,8 @@
 ghost use Rattle.std.specs.Prelude.{◌≡◌, IfOk, IfSome, option_map};
 ghost use Rattle.tree_core.specs.View.{view};
 ghost use Rattle.tree_core.specs.Regular.{IsRegular};
-ghost use Rattle.config_ops.specs.NewConfig.{IsRegularUpdate, change_of, start as start_of, after_resets, after_merge, changed as once_changed, new_config as config_of};
+ghost use Rattle.config_ops.specs.NewConfig.{IsRegularUpdate, change_of, start as start_of, after_resets, after_merge, changed as once_changed};
+ghost use Rattle.config_ops.specs.NewConfig.{new_config as config_of};
 
 use crate::join::{fill, merge};
 use crate::resetting::reset;

@@ -1,7 +1,8 @@
 ghost use Rattle.config_ops.specs.Join.{merged, filled};
 ghost use Rattle.config_ops.specs.Laws.{IsFiniteMap, JoinsObjects, MergeReplaces, FillKeeps, NestsNoDeeper};
-ghost use Rattle.config_ops.specs.Laws.{ResetsWhole, ResetsNode, ResetsWay, ResetRemoves, RemovalKeepsWay, ResetKeepsOthers, ResetIsBlocked, ResetHasNothing, ResetNestsNoDeeper};
-ghost use Rattle.config_ops.specs.Laws.{ConfigStays, ConfigIsObject};
+ghost use Rattle.config_ops.specs.Laws.{ResetsWhole, ResetsNode, ResetsWay, ResetRemoves, RemovalKeepsWay, ResetKeepsOthers, ResetIsBlocked, ResetHasNothing};
+ghost use Rattle.config_ops.specs.Laws.{ResetNestsNoDeeper};
+ghost use Rattle.config_ops.specs.Laws.{ConfigStays, ConfigIsFilled, ConfigIsObject};
 
 /// What a merge and a fill give key by key, where an object is a finite map, and how deep they nest. It does nothing.
 pub fn join_laws()
@@ -27,9 +28,10 @@ pub fn reset_laws()
     ensures nests { ResetNestsNoDeeper }
 {}
 
-/// A configuration that was computed stays as it is where no update comes. It does nothing.
+/// A configuration that was computed has whatever its default has, and stays as it is where no update comes. It does nothing.
 pub fn config_stays()
-    ensures { ConfigStays }
+    ensures stays { ConfigStays }
+    ensures filled { ConfigIsFilled }
 {}
 
 /// What is computed of objects is an object: of a kept configuration that is one or none, a default that is one, any

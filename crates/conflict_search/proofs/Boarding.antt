@@ -1,5 +1,6 @@
 -- A board as places are taken and taken back, and the name that comes next.
-use Rattle.std.proofs.Common.{◌≡◌, ◌≢◌, ℕ, ◌+◌, ◌-◌, ◌<◌, ◌≤◌, ◌⊎◌, List, [], ◌∷◌, ◌++◌, length, get_or, take, Option, Some, None, refl, sym, ap, ◌∙◌, subst, inl, inr, eqb, length-append, append-nil, arith}
+use Rattle.std.proofs.Common.{◌≡◌, ◌≢◌, ℕ, ◌+◌, ◌-◌, ◌<◌, ◌≤◌, ◌⊎◌, List, [], ◌∷◌, ◌++◌, length, get_or, take, Option, Some, None, refl, sym, ap, ◌∙◌, subst}
+use Rattle.std.proofs.Common.{inl, inr, eqb, length-append, append-nil, arith}
 use Rattle.std.proofs.Math.Seq.{take-append_seam}
 use Rattle.std.specs.Prelude.{slice_get, slice_set, slice_index_or, MatchOption}
 use Rattle.std.specs.List.{All, Contains}
@@ -26,7 +27,8 @@ use Rattle.conflict_search.proofs.Claiming.{IsClaimOf, demands_push, demands_pop
 
 -- ---- what is chosen
 
-module _ (ms : List Member) (taken all : List ℕ) (chosen new : List (Option ℕ)) (p k : ℕ) (whole : all ≡ taken ++ p ∷ []) (at : IsNumberAt ms p k) (free : IsTaken ms taken at.name → ⊥) (inside : k < length chosen) where
+module _ (ms : List Member) (taken all : List ℕ) (chosen new : List (Option ℕ)) (p k : ℕ) (whole : all ≡ taken ++ p
+    ∷ []) (at : IsNumberAt ms p k) (free : IsTaken ms taken at.name → ⊥) (inside : k < length chosen) where
   -- a place that was taken before has another number
   other_number : (q j : ℕ) (n : List ℕ) → Contains taken q → name_of ms q ≡ Some n → IsNumber ms n j → j ≢ k
   other_number q j n i e is same =
@@ -39,14 +41,16 @@ module _ (ms : List Member) (taken all : List ℕ) (chosen new : List (Option �
       | inl old ↦ ap (λ l. get_or l j None) f ∙ get_or-set_other chosen k j (Some p) None (other_number q j n old e is) ∙ h.has q j n old e is
       | inr same ↦ (let name : n ≡ at.name = same_Some n at.name (sym e ∙ ap (name_of ms) (sym same) ∙ at.named) in
           let number : j ≡ k = number_same ms at.name j k (subst (λ n. IsNumber ms n j) name is) at.is in
-          ap (λ l. get_or l j None) f ∙ ap (λ z. get_or (slice_set chosen k (Some p)) z None) number ∙ get_or-set_same chosen k (Some p) None inside ∙ ap Some same)
+          ap (λ l. get_or l j None) f ∙ ap (λ z. get_or (slice_set chosen k (Some p)) z None) number ∙ get_or-set_same chosen k (Some p) None inside
+          ∙ ap Some same)
     ];
     only = λ q j e. (let e' = ap (λ l. get_or l j None) (sym f) ∙ e in
         elim (cases_eq j k) [
-          | inl same ↦ (let is : p ≡ q = same_Some p q (sym (get_or-set_same chosen k (Some p) None inside) ∙ ap (λ z. get_or (slice_set chosen k (Some p)) z None) (sym same) ∙ e') in (
-            subst (λ l. Contains l q) (sym whole) (subst (Contains (taken ++ p ∷ [])) is (Contains-push taken p)),
-            subst (λ z. IsNumberAt ms z j) is (subst (IsNumberAt ms p) (sym same) at),
-          ))
+          | inl same ↦ (let is : p ≡ q = same_Some p q (sym (get_or-set_same chosen k (Some p) None inside)
+              ∙ ap (λ z. get_or (slice_set chosen k (Some p)) z None) (sym same) ∙ e') in (
+                subst (λ l. Contains l q) (sym whole) (subst (Contains (taken ++ p ∷ [])) is (Contains-push taken p)),
+                subst (λ z. IsNumberAt ms z j) is (subst (IsNumberAt ms p) (sym same) at),
+              ))
           | inr ne ↦ (let old = h.only q j (sym (get_or-set_other chosen k j (Some p) None ne) ∙ e') in (
             subst (λ l. Contains l q) (sym whole) (Contains-append_left taken (p ∷ []) q old.0),
             old.1,
@@ -60,7 +64,8 @@ module _ (ms : List Member) (taken all : List ℕ) (chosen new : List (Option �
         ∙ h.has q j n (subst (λ l. Contains l q) (sym whole) (Contains-append_left taken (p ∷ []) q i)) e is;
     only = λ q j e. (let e' = ap (λ l. get_or l j None) (sym f) ∙ e in
         elim (cases_eq j k) [
-          | inl same ↦ absurd (none-some q (sym (get_or-set_same chosen k None None inside) ∙ ap (λ z. get_or (slice_set chosen k None) z None) (sym same) ∙ e'))
+          | inl same ↦ absurd (none-some q (sym (get_or-set_same chosen k None None inside) ∙ ap (λ z. get_or (slice_set chosen k None) z None) (sym same)
+              ∙ e'))
           | inr ne ↦ (let old = h.only q j (sym (get_or-set_other chosen k j None None ne) ∙ e') in
               elim (Contains-push_cases taken p q (subst (λ l. Contains l q) whole old.0)) [
                 | inl i ↦ (i, old.1)
@@ -78,7 +83,8 @@ popped before old new p e f =
     f ∙ ap (λ k. take k old) n ∙ ap (take (length before)) e ∙ take-append_seam before (p ∷ [])
 
 -- nothing is chosen where nothing is taken
-pub chosen_start : (ms : List Member) (taken : List ℕ) (chosen : List (Option ℕ)) → taken ≡ [] → ((k : ℕ) → slice_index_or chosen k None ≡ None) → IsChosen ms taken chosen
+pub chosen_start : (ms : List Member) (taken : List ℕ) (chosen : List (Option ℕ)) → taken ≡ [] → ((k : ℕ) → slice_index_or chosen k None ≡ None) →
+    IsChosen ms taken chosen
 chosen_start ms taken chosen e h = record {
   has = λ q j n i f is. absurd (in_nil q (subst (λ l. Contains l q) e i));
   only = λ q j f. absurd (none-some q (sym (h j) ∙ f));
@@ -90,8 +96,10 @@ number_within ms n k is = within_from_name ms k n is.named
 
 -- ---- one place more, and one less
 
-pub board_take : (ms : List Member) (wanted : List Need) (old new : Board) (p k : ℕ) (ds : List Demand) → IsBoard ms wanted old → IsNextNumber ms wanted old.places.items k → IsNumberAt ms p k → AreDemands ms (claims_from (Some p) (needs_of ms p)) ds
-    → new.places.items ≡ old.places.items ++ p ∷ [] → new.asked.items ≡ old.asked.items ++ ds → new.chosen.items ≡ slice_set old.chosen.items k (Some p) → IsIndexed (length ms) new → IsBoard ms wanted new
+pub board_take : (ms : List Member) (wanted : List Need) (old new : Board) (p k : ℕ) (ds : List Demand) → IsBoard ms wanted old →
+    IsNextNumber ms wanted old.places.items k → IsNumberAt ms p k → AreDemands ms (claims_from (Some p) (needs_of ms p)) ds
+    → new.places.items ≡ old.places.items ++ p ∷ [] → new.asked.items ≡ old.asked.items ++ ds → new.chosen.items ≡ slice_set old.chosen.items k (Some p) →
+    IsIndexed (length ms) new → IsBoard ms wanted new
 board_take ms wanted old new p k ds h next at demands places asked chosen indexed =
     let index = h.indexed in
     let known = next.next in
@@ -101,14 +109,17 @@ board_take ms wanted old new p k ds h next at demands places asked chosen indexe
     let name : at.name ≡ next.name = same_Some at.name next.name (sym is.named ∙ num.named) in
     let free : IsTaken ms old.places.items at.name → ⊥ = λ t. known.untaken (subst (IsTaken ms old.places.items) name t) in
     record {
-      inside = subst (All (λ p. p < length ms)) (sym places) (All-push (λ p. p < length ms) old.places.items p h.inside (within_from_name ms p at.name at.named));
+      inside = subst (All (λ p. p < length ms)) (sym places) (All-push (λ p. p < length ms) old.places.items p h.inside (within_from_name ms p at.name
+          at.named));
       indexed = indexed;
       demands = demands_push ms wanted old.places.items new.places.items p old.asked.items ds new.asked.items places asked h.demands demands;
       chosen = chosen_push ms old.places.items new.places.items old.chosen.items new.chosen.items p k places at free inside h.chosen chosen;
     }
 
-pub board_back : (ms : List Member) (wanted : List Need) (old new : Board) (p k count : ℕ) → IsBoard ms wanted old → old.places.items ≡ new.places.items ++ p ∷ [] → IsNextNumber ms wanted new.places.items k → IsNumberAt ms p k
-    → count ≡ length (needs_of ms p) → new.asked.items ≡ take (length old.asked.items - count) old.asked.items → new.chosen.items ≡ slice_set old.chosen.items k None → IsIndexed (length ms) new → IsBoard ms wanted new
+pub board_back : (ms : List Member) (wanted : List Need) (old new : Board) (p k count : ℕ) → IsBoard ms wanted old → old.places.items ≡ new.places.items ++ p
+    ∷ [] → IsNextNumber ms wanted new.places.items k → IsNumberAt ms p k
+    → count ≡ length (needs_of ms p) → new.asked.items ≡ take (length old.asked.items - count) old.asked.items →
+    new.chosen.items ≡ slice_set old.chosen.items k None → IsIndexed (length ms) new → IsBoard ms wanted new
 board_back ms wanted old new p k count h places next at n asked chosen indexed =
     let index = h.indexed in
     let known = next.next in
@@ -118,30 +129,41 @@ board_back ms wanted old new p k count h places next at n asked chosen indexed =
     let name : at.name ≡ next.name = same_Some at.name next.name (sym is.named ∙ num.named) in
     let free : IsTaken ms new.places.items at.name → ⊥ = λ t. known.untaken (subst (IsTaken ms new.places.items) name t) in
     record {
-      inside = all_from_in (λ p. p < length ms) new.places.items (λ q i. All-contains (λ p. p < length ms) old.places.items q h.inside (subst (λ l. Contains l q) (sym places) (Contains-append_left new.places.items (p ∷ []) q i)));
+      inside = all_from_in (λ p. p < length ms) new.places.items (λ q i. All-contains (λ p. p < length ms) old.places.items q h.inside
+          (subst (λ l. Contains l q) (sym places) (Contains-append_left new.places.items (p ∷ []) q i)));
       indexed = indexed;
       demands = demands_pop ms wanted new.places.items old.places.items p count old.asked.items new.asked.items places n asked h.demands;
       chosen = chosen_pop ms new.places.items old.places.items old.chosen.items new.chosen.items p k places at free inside h.chosen chosen;
     }
 
 -- what is wanted is asked, and no place is taken
-pub board_start : (ms : List Member) (wanted : List Need) (board : Board) (ds : List Demand) → board.places.items ≡ [] → board.asked.items ≡ ds → AreDemands ms (claims_from None wanted) ds → IsIndexed (length ms) board → ((k : ℕ) → slice_index_or board.chosen.items k None ≡ None) → IsBoard ms wanted board
+pub board_start : (ms : List Member) (wanted : List Need) (board : Board) (ds : List Demand) → board.places.items ≡ [] → board.asked.items ≡ ds →
+    AreDemands ms (claims_from None wanted) ds → IsIndexed (length ms) board → ((k : ℕ) → slice_index_or board.chosen.items k None ≡ None) →
+    IsBoard ms wanted board
 board_start ms wanted board ds places asked h indexed none = record {
   inside = subst (All (λ p. p < length ms)) (sym places) (λ k d lt. absurd (omega (arith, lt)));
   indexed = indexed;
   demands = subst (λ l. AreDemands ms (claims_of ms wanted l) board.asked.items) (sym places)
-      (subst (λ l. AreDemands ms l board.asked.items) (sym (append-nil (claims_from None wanted))) (subst (AreDemands ms (claims_from None wanted)) (sym asked) h));
+      (subst (λ l. AreDemands ms l board.asked.items) (sym (append-nil (claims_from None wanted))) (subst (AreDemands ms (claims_from None wanted))
+      (sym asked) h));
   chosen = chosen_start ms board.places.items board.chosen.items places none;
 }
 
 -- the number that comes next is asked for, also once its place's demands are taken back
-pub next_asked : (ms : List Member) (wanted : List Need) (taken : List ℕ) (asked : List Demand) (k : ℕ) → AreDemands ms (claims_of ms wanted taken) asked → IsNextNumber ms wanted taken k → IsAsked asked k
+pub next_asked : (ms : List Member) (wanted : List Need) (taken : List ℕ) (asked : List Demand) (k : ℕ) → AreDemands ms (claims_of ms wanted taken) asked →
+    IsNextNumber ms wanted taken k → IsAsked asked k
 next_asked ms wanted taken asked k h next =
     let known = next.next in
-    let r = demand_required ms wanted taken asked next.name h known.listed in
-    (r.0, r.1, number_same ms next.name r.0.number k (subst (λ n. IsNumber ms n r.0.number) r.2 (number_for ms (claims_of ms wanted taken) asked r.0 h r.1)) next.is)
+    let r = demand_required ms wanted taken asked next.name h known.listed in (
+      r.0,
+      r.1,
+      number_same ms next.name r.0.number k (subst (λ n. IsNumber ms n r.0.number) r.2 (number_for ms (claims_of ms wanted taken) asked r.0 h r.1))
+          next.is,
+    )
 
-pub asked_back : (ms : List Member) (wanted : List Need) (old : Board) (taken : List ℕ) (p k count : ℕ) (asked : List Demand) → IsBoard ms wanted old → old.places.items ≡ taken ++ p ∷ [] → IsNextNumber ms wanted taken k → count ≡ length (needs_of ms p) → asked ≡ take (length old.asked.items - count) old.asked.items → IsAsked asked k
+pub asked_back : (ms : List Member) (wanted : List Need) (old : Board) (taken : List ℕ) (p k count : ℕ) (asked : List Demand) → IsBoard ms wanted old →
+    old.places.items ≡ taken ++ p ∷ [] → IsNextNumber ms wanted taken k → count ≡ length (needs_of ms p) →
+    asked ≡ take (length old.asked.items - count) old.asked.items → IsAsked asked k
 asked_back ms wanted old taken p k count asked h places next n e =
     next_asked ms wanted taken asked k (demands_pop ms wanted taken old.places.items p count old.asked.items asked places n e h.demands) next
 
@@ -153,7 +175,8 @@ chosen_or_not (Some p) = inr (p, refl)
 
 module _ (ms : List Member) (wanted : List Need) (board : Board) (h : IsBoard ms wanted board) where
   -- of a name that is required the number waits, or a place is taken
-  waits_or_taken : (n : List ℕ) → Contains (required_names ms wanted board.places.items) n → ((k : ℕ) × IsNumber ms n k × Contains board.waiting.keys k) ⊎ IsTaken ms board.places.items n
+  waits_or_taken : (n : List ℕ) → Contains (required_names ms wanted board.places.items) n → ((k : ℕ) × IsNumber ms n k × Contains board.waiting.keys k)
+      ⊎ IsTaken ms board.places.items n
   waits_or_taken n i =
       let r = demand_required ms wanted board.places.items board.asked.items n h.demands i in
       let k = r.0.number in
@@ -171,7 +194,8 @@ module _ (ms : List Member) (wanted : List Need) (board : Board) (h : IsBoard ms
   pub all_taken : ((k : ℕ) → Contains board.waiting.keys k → ⊥) → IsComplete ms wanted board.places.items
   all_taken none = λ n i. elim (waits_or_taken n i) [ inl w ↦ absurd (none w.0 w.2) | inr t ↦ t ]
 
-pub next_found : (cs : List Candidate) (wanted : List Need) (board : Board) (k : ℕ) → IsRising (members cs) → IsBoard (members cs) wanted board → Contains board.waiting.keys k → ((j : ℕ) → Contains board.waiting.keys j → k ≤ j) → IsNextNumber (members cs) wanted board.places.items k
+pub next_found : (cs : List Candidate) (wanted : List Need) (board : Board) (k : ℕ) → IsRising (members cs) → IsBoard (members cs) wanted board →
+    Contains board.waiting.keys k → ((j : ℕ) → Contains board.waiting.keys j → k ≤ j) → IsNextNumber (members cs) wanted board.places.items k
 next_found cs wanted board k up h there least =
     let ms = members cs in
     let index = h.indexed in
@@ -195,7 +219,8 @@ next_found cs wanted board k up h there least =
 
 -- ---- reasons
 
-pub reason_none : (ms : List Member) (wanted : List Need) (taken : List ℕ) (asked : List Demand) (d : Demand) (n : List ℕ) → AreDemands ms (claims_of ms wanted taken) asked → Contains asked d → d.name.now ≡ n → d.from ≡ None → IsReason ms wanted taken n []
+pub reason_none : (ms : List Member) (wanted : List Need) (taken : List ℕ) (asked : List Demand) (d : Demand) (n : List ℕ) →
+    AreDemands ms (claims_of ms wanted taken) asked → Contains asked d → d.name.now ≡ n → d.from ≡ None → IsReason ms wanted taken n []
 reason_none ms wanted taken asked d n h i e f = record {
   enough = elim (from_claims ms wanted taken (claim d) (claim_for ms (claims_of ms wanted taken) asked d h i)) [
     | inl w ↦ subst (Contains (required_names ms wanted [])) e (required_by_wanted ms wanted [] (demand_need d) w.1)
@@ -204,18 +229,21 @@ reason_none ms wanted taken asked d n h i e f = record {
   within = λ x j. absurd (in_nil x j);
 }
 
-pub reason_one : (ms : List Member) (wanted : List Need) (taken : List ℕ) (asked : List Demand) (d : Demand) (n : List ℕ) (p : ℕ) → AreDemands ms (claims_of ms wanted taken) asked → Contains asked d → d.name.now ≡ n → d.from ≡ Some p → IsReason ms wanted taken n (p ∷ [])
+pub reason_one : (ms : List Member) (wanted : List Need) (taken : List ℕ) (asked : List Demand) (d : Demand) (n : List ℕ) (p : ℕ) →
+    AreDemands ms (claims_of ms wanted taken) asked → Contains asked d → d.name.now ≡ n → d.from ≡ Some p → IsReason ms wanted taken n (p ∷ [])
 reason_one ms wanted taken asked d n p h i e f = elim (from_claims ms wanted taken (claim d) (claim_for ms (claims_of ms wanted taken) asked d h i)) [
   | inl w ↦ absurd (none-some p (sym w.0 ∙ f))
   | inr w ↦ (let by = w.1 in
       let same : w.0 ≡ p = same_Some w.0 p (sym by.from ∙ f) in
       record {
-        enough = subst (Contains (required_names ms wanted (p ∷ []))) e (required_by_need ms wanted (p ∷ []) p (demand_need d) (Contains-push [] p) (subst (λ z. Contains (needs_of ms z) (demand_need d)) same by.is));
+        enough = subst (Contains (required_names ms wanted (p ∷ []))) e (required_by_need ms wanted (p
+            ∷ []) p (demand_need d) (Contains-push [] p) (subst (λ z. Contains (needs_of ms z) (demand_need d)) same by.is));
         within = λ x j. subst (Contains taken) (in_one p x j) (subst (Contains taken) same by.place);
       })
 ]
 
-reason_of : (ms : List Member) (wanted : List Need) (taken : List ℕ) (asked : List Demand) (d : Demand) (n : List ℕ) (o : Option ℕ) (reason : List ℕ) → AreDemands ms (claims_of ms wanted taken) asked → Contains asked d → d.name.now ≡ n
+reason_of : (ms : List Member) (wanted : List Need) (taken : List ℕ) (asked : List Demand) (d : Demand) (n : List ℕ) (o : Option ℕ) (reason : List ℕ) →
+    AreDemands ms (claims_of ms wanted taken) asked → Contains asked d → d.name.now ≡ n
     → d.from ≡ o → MatchOption o (reason ≡ []) (λ p. reason ≡ p ∷ []) → IsReason ms wanted taken n reason
 reason_of ms wanted taken asked d n None reason h i e f m = subst (IsReason ms wanted taken n) (sym m) (reason_none ms wanted taken asked d n h i e f)
 reason_of ms wanted taken asked d n (Some p) reason h i e f m = subst (IsReason ms wanted taken n) (sym m) (reason_one ms wanted taken asked d n p h i e f)
@@ -225,11 +253,13 @@ head_none [] e = refl
 head_none (x ∷ l) e = absurd (none-some x (sym e))
 
 -- the row of the number that comes next is not empty
-pub row_begins : (ms : List Member) (wanted : List Need) (taken : List ℕ) (asked : List Demand) (k : ℕ) → AreDemands ms (claims_of ms wanted taken) asked → IsNextNumber ms wanted taken k → slice_get (row k asked) 0 ≡ None → ⊥
+pub row_begins : (ms : List Member) (wanted : List Need) (taken : List ℕ) (asked : List Demand) (k : ℕ) → AreDemands ms (claims_of ms wanted taken) asked →
+    IsNextNumber ms wanted taken k → slice_get (row k asked) 0 ≡ None → ⊥
 row_begins ms wanted taken asked k h next e = asked_in_row k asked (next_asked ms wanted taken asked k h next) (head_none (row k asked) e)
 
 -- the one that asks first is enough
-pub reason_first : (ms : List Member) (wanted : List Need) (taken : List ℕ) (asked : List Demand) (d : Demand) (n : List ℕ) (k : ℕ) (o : Option ℕ) (reason : List ℕ) → AreDemands ms (claims_of ms wanted taken) asked → slice_get (row k asked) 0 ≡ Some d → IsNumber ms n k
+pub reason_first : (ms : List Member) (wanted : List Need) (taken : List ℕ) (asked : List Demand) (d : Demand) (n : List ℕ) (k : ℕ) (o : Option ℕ)
+    (reason : List ℕ) → AreDemands ms (claims_of ms wanted taken) asked → slice_get (row k asked) 0 ≡ Some d → IsNumber ms n k
     → d.from ≡ o → MatchOption o (reason ≡ []) (λ p. reason ≡ p ∷ []) → IsReason ms wanted taken n reason
 reason_first ms wanted taken asked d n k o reason h e is f m =
     let lt = slice_get_within (row k asked) 0 d e in

@@ -1,5 +1,6 @@
 -- Names and their numbers among candidates that rise.
-use Rattle.std.proofs.Common.{◌≡◌, ◌≢◌, ℕ, ◌+◌, ◌-◌, ◌<◌, ◌≤◌, ◌⊎◌, Bool, true, false, List, length, get_or, Option, Some, None, option_map, refl, sym, ap, ◌∙◌, subst, inl, inr, arith}
+use Rattle.std.proofs.Common.{◌≡◌, ◌≢◌, ℕ, ◌+◌, ◌-◌, ◌<◌, ◌≤◌, ◌⊎◌, Bool, true, false, List, length, get_or, Option, Some, None, option_map, refl, sym, ap}
+use Rattle.std.proofs.Common.{◌∙◌, subst, inl, inr, arith}
 use Rattle.std.specs.Prelude.{slice_get}
 use Rattle.std.specs.Ordering.{nat_cmp, is_lt, is_le, ordering_reverse}
 use Rattle.std.specs.List.Sorted.{IsPartitionedBy, IsPartitionPoint}
@@ -108,7 +109,8 @@ name_is : (cs : List Candidate) (p : ℕ) (d : Candidate) → p < length cs → 
 name_is cs p d lt = ap name_in (slice_get-map member cs p ∙ ap (option_map member) (slice_get-get_or cs p d lt))
 
 -- names rise with places
-pub names_rise : (cs : List Candidate) (i j : ℕ) (d : Candidate) → IsRising (members cs) → i ≤ j → j < length cs → IsUpTo (get_or cs i d).recipe.name (get_or cs j d).recipe.name
+pub names_rise : (cs : List Candidate) (i j : ℕ) (d : Candidate) → IsRising (members cs) → i ≤ j → j < length cs →
+    IsUpTo (get_or cs i d).recipe.name (get_or cs j d).recipe.name
 names_rise cs i j d up le lt = elim (cases_eq i j) [
   | inl e ↦ subst (λ z. IsUpTo (get_or cs i d).recipe.name (get_or cs z d).recipe.name) e (up_to_refl (get_or cs i d).recipe.name)
   | inr ne ↦ elim (before_at cs i j d up (omega (arith, le, ne)) lt) [
@@ -117,7 +119,8 @@ names_rise cs i j d up le lt = elim (cases_eq i j) [
   ]
 ]
 
-pub numbers_rise : (cs : List Candidate) (i j : ℕ) (n m : List ℕ) → IsRising (members cs) → i ≤ j → name_of (members cs) i ≡ Some n → name_of (members cs) j ≡ Some m → IsUpTo n m
+pub numbers_rise : (cs : List Candidate) (i j : ℕ) (n m : List ℕ) → IsRising (members cs) → i ≤ j → name_of (members cs) i ≡ Some n →
+    name_of (members cs) j ≡ Some m → IsUpTo n m
 numbers_rise cs i j n m up le e f =
     let r = candidate_at cs i n e in
     let d = r.0 in
@@ -132,11 +135,13 @@ up_to_parted cs n up = λ i j d le lt t.
 pub less_parted : (cs : List Candidate) (n : List ℕ) → IsRising (members cs) → IsPartitionedBy (λ (c : Candidate). is_less c.recipe.name n) cs
 less_parted cs n up = λ i j d le lt t.
     is_less_from (slice_cmp nat_cmp (get_or cs i d).recipe.name n)
-    (less_up_to (get_or cs i d).recipe.name (get_or cs j d).recipe.name n (names_rise cs i j d up le lt) (less_true (slice_cmp nat_cmp (get_or cs j d).recipe.name n) t))
+    (less_up_to (get_or cs i d).recipe.name (get_or cs j d).recipe.name n (names_rise cs i j d up le lt) (less_true (slice_cmp nat_cmp
+    (get_or cs j d).recipe.name n) t))
 
 -- ---- what halving finds
 
-module _ (cs : List Candidate) (n : List ℕ) (end : ℕ) (h : IsPartitionPoint (λ (c : Candidate). is_up_to c.recipe.name n ≡ true) (λ (c : Candidate). is_up_to c.recipe.name n ≡ false) cs end) where
+module _ (cs : List Candidate) (n : List ℕ) (end : ℕ) (h : IsPartitionPoint (λ (c : Candidate). is_up_to c.recipe.name n ≡ true) (λ (c : Candidate). is_up_to
+    c.recipe.name n ≡ false) cs end) where
   -- no place from there on has the name
   none_from : (p : ℕ) → end ≤ p → name_of (members cs) p ≡ Some n → ⊥
   none_from p le e =
@@ -155,13 +160,15 @@ module _ (cs : List Candidate) (n : List ℕ) (end : ℕ) (h : IsPartitionPoint 
       let le : p ≤ end - 1 = omega (arith, below) in
       let lt : end - 1 < end = omega (arith, some) in
       let r = candidate_at cs (end - 1) m e in
-      let up_to = subst (λ z. IsUpTo z n) (name_there cs (end - 1) m r.0 e) (up_to_tested (get_or cs (end - 1) r.0).recipe.name n (h.0 (end - 1) r.0 (omega arith) lt)) in
+      let up_to = subst (λ z. IsUpTo z n) (name_there cs (end - 1) m r.0 e) (up_to_tested (get_or cs (end - 1) r.0).recipe.name n (h.0 (end - 1) r.0
+      (omega arith) lt)) in
       other (up_to_antisym m n up_to (numbers_rise cs p (end - 1) n m up le f e))
 
   pub number_found : 0 < end → name_of (members cs) (end - 1) ≡ Some n → IsNumber (members cs) n (end - 1)
   number_found some e = record { named = e; last = λ p f. (let lt = below_end p f in omega (arith, lt)) }
 
-pub first_found : (cs : List Candidate) (n : List ℕ) (start p : ℕ) → IsPartitionPoint (λ (c : Candidate). is_less c.recipe.name n ≡ true) (λ (c : Candidate). is_less c.recipe.name n ≡ false) cs start → IsRising (members cs) → name_of (members cs) p ≡ Some n → IsFirstPlace (members cs) n start
+pub first_found : (cs : List Candidate) (n : List ℕ) (start p : ℕ) → IsPartitionPoint (λ (c : Candidate). is_less c.recipe.name n ≡ true)
+    (λ (c : Candidate). is_less c.recipe.name n ≡ false) cs start → IsRising (members cs) → name_of (members cs) p ≡ Some n → IsFirstPlace (members cs) n start
 first_found cs n start p h up e =
     let from : (q : ℕ) → name_of (members cs) q ≡ Some n → start ≤ q =
     λ q f. elim (cases_lt q start) [
@@ -178,7 +185,8 @@ first_found cs n start p h up e =
     record { named = here ∙ ap Some same; least = from }
 
 -- between two places of a name all have it
-pub named_between : (cs : List Candidate) (n : List ℕ) (first p last : ℕ) → IsRising (members cs) → name_of (members cs) first ≡ Some n → name_of (members cs) last ≡ Some n → first ≤ p → p ≤ last → name_of (members cs) p ≡ Some n
+pub named_between : (cs : List Candidate) (n : List ℕ) (first p last : ℕ) → IsRising (members cs) → name_of (members cs) first ≡ Some n →
+    name_of (members cs) last ≡ Some n → first ≤ p → p ≤ last → name_of (members cs) p ≡ Some n
 named_between cs n first p last up e f low high =
     let r = candidate_at cs last n f in
     let within : p < length cs = (let lt = within_there cs last n f in omega (arith, lt, high)) in

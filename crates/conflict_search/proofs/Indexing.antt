@@ -1,5 +1,6 @@
 -- What a board looks things up by stays that of its places and of what is asked.
-use Rattle.std.proofs.Common.{◌≡◌, ◌≢◌, ◌↔◌, ℕ, ◌+◌, ◌-◌, ◌<◌, ◌≤◌, ◌⊎◌, true, false, cond, eqb, List, [], ◌∷◌, ◌++◌, length, get_or, take, Option, Some, None, sym, ap, ◌∙◌, subst, inl, inr, refl, arith, append-nil, length-append}
+use Rattle.std.proofs.Common.{◌≡◌, ◌≢◌, ◌↔◌, ℕ, ◌+◌, ◌-◌, ◌<◌, ◌≤◌, ◌⊎◌, true, false, cond, eqb, List, [], ◌∷◌, ◌++◌, length, get_or, take, Option, Some}
+use Rattle.std.proofs.Common.{None, sym, ap, ◌∙◌, subst, inl, inr, refl, arith, append-nil, length-append}
 use Rattle.std.specs.Prelude.{slice_set}
 use Rattle.std.specs.List.{All, Contains, filter}
 use Rattle.std.specs.declared.vec.Vec.{Vec}
@@ -56,14 +57,20 @@ asked_cases asked a k h = elim (Contains-push_cases asked a h.0 h.1) [
   | inr e ↦ inr (ap (λ (d : Demand). d.number) e ∙ h.2)
 ]
 
-pub indexed_same : (count : ℕ) (old new : Board) → IsIndexed count old → new.asked.items ≡ old.asked.items → new.chosen.items ≡ old.chosen.items → new.rows.items ≡ old.rows.items → new.waiting.keys ≡ old.waiting.keys → IsIndexed count new
+pub indexed_same : (count : ℕ) (old new : Board) → IsIndexed count old → new.asked.items ≡ old.asked.items → new.chosen.items ≡ old.chosen.items →
+    new.rows.items ≡ old.rows.items → new.waiting.keys ≡ old.waiting.keys → IsIndexed count new
 indexed_same count old new h asked chosen rows waiting = record {
   below = subst (All (λ (d : Demand). d.number < count)) (sym asked) h.below;
   chosen_count = ap length chosen ∙ h.chosen_count;
   rows_count = ap length rows ∙ h.rows_count;
   rows = λ j d below. ap (λ l. (get_or l j d).items) rows ∙ h.rows j d below ∙ ap (row j) (sym asked);
   waiting = λ k. (
-    λ i. (let w = (h.waiting k).0 (subst (λ l. Contains l k) waiting i) in (w.0, subst (λ l. IsAsked l k) (sym asked) w.1, ap (λ l. get_or l k None) chosen ∙ w.2)),
+    λ i. (let w = (h.waiting k).0 (subst (λ l. Contains l k) waiting i) in (
+      w.0,
+      subst (λ l. IsAsked l k) (sym asked) w.1,
+      ap (λ l. get_or l k None) chosen
+          ∙ w.2,
+    )),
     λ w. subst (λ l. Contains l k) (sym waiting) ((h.waiting k).1 (w.0, subst (λ l. IsAsked l k) asked w.1, ap (λ l. get_or l k None) (sym chosen) ∙ w.2)),
   );
 }
@@ -99,7 +106,11 @@ indexed_ask count old new a v h lt asked chosen pushed rows more =
           ∙ ap (row k) (sym asked);
       waiting = λ k. (
         λ i. elim ((more k).0 i) [
-          | inl j ↦ (let w = (h.waiting k).0 j in (w.0, subst (λ l. IsAsked l k) (sym asked) (asked_more old.asked.items a k w.1), ap (λ l. get_or l k None) chosen ∙ w.2))
+          | inl j ↦ (let w = (h.waiting k).0 j in (
+            w.0,
+            subst (λ l. IsAsked l k) (sym asked) (asked_more old.asked.items a k w.1),
+            ap (λ l. get_or l k None) chosen ∙ w.2,
+          ))
           | inr e ↦ (
             subst (λ z. z < count) (sym e.0) lt,
             subst (λ l. IsAsked l k) (sym asked) (subst (IsAsked (old.asked.items ++ a ∷ [])) (sym e.0) (asked_last old.asked.items a)),
@@ -136,17 +147,20 @@ popped_row k asked l m a e f g =
 
 pub indexed_unask : (count : ℕ) (old new : Board) (a : Demand) (v : Vec Demand Global) → IsIndexed count old
     → old.asked.items ≡ new.asked.items ++ a ∷ [] → new.chosen.items ≡ old.chosen.items
-    → v.items ≡ take (length (get_or old.rows.items a.number v).items - 1) (get_or old.rows.items a.number v).items → new.rows.items ≡ slice_set old.rows.items a.number v
+    → v.items ≡ take (length (get_or old.rows.items a.number v).items - 1) (get_or old.rows.items a.number v).items →
+    new.rows.items ≡ slice_set old.rows.items a.number v
     → ((q : ℕ) → Contains new.waiting.keys q ↔ Contains old.waiting.keys q × (length v.items ≡ 0 → q ≢ a.number))
     → IsIndexed count new
 indexed_unask count old new a v h asked chosen popped rows fewer =
     let rest = new.asked.items in
     let below_all = subst (All (λ (d : Demand). d.number < count)) asked h.below in
     let lt : a.number < count = All-contains (λ (d : Demand). d.number < count) (rest ++ a ∷ []) a below_all (Contains-push rest a) in
-    let was : (k : ℕ) (d : Vec Demand Global) → k < count → (get_or old.rows.items k d).items ≡ row k (rest ++ a ∷ []) = λ k d below. h.rows k d below ∙ ap (row k) asked in
+    let was : (k : ℕ) (d : Vec Demand Global) → k < count → (get_or old.rows.items k d).items ≡ row k (rest ++ a ∷ []) = λ k d below. h.rows k d below
+    ∙ ap (row k) asked in
     let here : v.items ≡ row a.number rest = popped_row a.number rest (get_or old.rows.items a.number v).items v.items a refl (was a.number v lt) popped in
     record {
-      below = all_from_in (λ (d : Demand). d.number < count) rest (λ d i. All-contains (λ (d : Demand). d.number < count) (rest ++ a ∷ []) d below_all (Contains-append_left rest (a ∷ []) d i));
+      below = all_from_in (λ (d : Demand). d.number < count) rest (λ d i. All-contains (λ (d : Demand). d.number < count) (rest ++ a
+          ∷ []) d below_all (Contains-append_left rest (a ∷ []) d i));
       chosen_count = ap length chosen ∙ h.chosen_count;
       rows_count = ap length rows ∙ length-set old.rows.items a.number v ∙ h.rows_count;
       rows = λ k d below. ap (λ l. (get_or l k d).items) rows ∙ rows_unask count old.rows.items rest a v h.rows_count lt here was k d below;
@@ -186,9 +200,15 @@ indexed_choose count old new k p h lt asked chosen rows fewer =
             let w = (h.waiting j).0 f.0 in
             (w.0, subst (λ l. IsAsked l j) (sym asked) w.1, ap (λ l. get_or l j None) chosen ∙ get_or-set_other old.chosen.items k j (Some p) None f.1 ∙ w.2)),
         λ w. elim (cases_eq j k) [
-          | inl e ↦ absurd (none-some p (sym w.2 ∙ ap (λ l. get_or l j None) chosen ∙ subst (λ z. get_or (slice_set old.chosen.items k (Some p)) z None ≡ Some p) (sym e) (get_or-set_same old.chosen.items k (Some p) None inside)))
+          | inl e ↦ absurd (none-some p (sym w.2 ∙ ap (λ l. get_or l j None) chosen ∙ subst (λ z. get_or (slice_set old.chosen.items k (Some p)) z None
+              ≡ Some p) (sym e) (get_or-set_same old.chosen.items k (Some p) None inside)))
           | inr ne ↦ (fewer j).1 (
-            (h.waiting j).1 (w.0, subst (λ l. IsAsked l j) asked w.1, sym (get_or-set_other old.chosen.items k j (Some p) None ne) ∙ ap (λ l. get_or l j None) (sym chosen) ∙ w.2),
+            (h.waiting j).1 (
+              w.0,
+              subst (λ l. IsAsked l j) asked w.1,
+              sym (get_or-set_other old.chosen.items k j (Some p) None ne)
+                  ∙ ap (λ l. get_or l j None) (sym chosen) ∙ w.2,
+            ),
             ne,
           )
         ],

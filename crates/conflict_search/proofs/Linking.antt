@@ -42,11 +42,18 @@ module _ (asked : List Demand) (chosen : List (Option ℕ)) (i : ℕ) (d : Deman
   asks_before a b h = record { by = h.by; is = before h.by h.is; from = h.from; to = h.to }
 
   -- the demand gives an edge
-  pub edges_more : (old new : List Edge) (e : Edge) → AreEdgesOf (take i asked) chosen old → new ≡ old ++ e ∷ [] → (get_or asked i d).from ≡ Some e.from → slice_index_or chosen (get_or asked i d).number None ≡ Some e.to → AreEdgesOf (take (i + 1) asked) chosen new
+  pub edges_more : (old new : List Edge) (e : Edge) → AreEdgesOf (take i asked) chosen old → new ≡ old ++ e ∷ [] → (get_or asked i d).from ≡ Some e.from →
+      slice_index_or chosen (get_or asked i d).number None ≡ Some e.to → AreEdgesOf (take (i + 1) asked) chosen new
   edges_more old new e h items from to = record {
     has = λ a b r. elim (cases r.by r.is) [
       | inl j ↦ (let old' = h.has a b (record { by = r.by; is = j; from = r.from; to = r.to }) in
-          record { by = old'.by; is = subst (λ l. Contains l old'.by) (sym items) (Contains-append_left old (e ∷ []) old'.by old'.is); from = old'.from; to = old'.to })
+          record {
+            by = old'.by;
+            is = subst (λ l. Contains l old'.by) (sym items) (Contains-append_left old (e ∷ []) old'.by old'.is);
+            from = old'.from;
+            to =
+                old'.to;
+          })
       | inr same ↦ record {
         by = e;
         is = subst (λ l. Contains l e) (sym items) (Contains-push old e);
@@ -66,7 +73,8 @@ module _ (asked : List Demand) (chosen : List (Option ℕ)) (i : ℕ) (d : Deman
   }
 
   -- it gives none
-  pub edges_same : (old : List Edge) → AreEdgesOf (take i asked) chosen old → ((a b : ℕ) → (get_or asked i d).from ≡ Some a → slice_index_or chosen (get_or asked i d).number None ≡ Some b → ⊥) → AreEdgesOf (take (i + 1) asked) chosen old
+  pub edges_same : (old : List Edge) → AreEdgesOf (take i asked) chosen old → ((a b : ℕ) → (get_or asked i d).from ≡ Some a →
+      slice_index_or chosen (get_or asked i d).number None ≡ Some b → ⊥) → AreEdgesOf (take (i + 1) asked) chosen old
   edges_same old h none = record {
     has = λ a b r. elim (cases r.by r.is) [
       | inl j ↦ h.has a b (record { by = r.by; is = j; from = r.from; to = r.to })
@@ -77,11 +85,17 @@ module _ (asked : List Demand) (chosen : List (Option ℕ)) (i : ℕ) (d : Deman
 
 -- ---- edges and dependencies
 
-module _ (ms : List Member) (wanted : List Need) (board : Board) (edges : Edges) (h : IsBoard ms wanted board) (are : AreEdgesOf board.asked.items board.chosen.items edges.needs) where
+module _ (ms : List Member) (wanted : List Need) (board : Board) (edges : Edges) (h : IsBoard ms wanted board) (are : AreEdgesOf board.asked.items
+    board.chosen.items edges.needs) where
   need_edge : (a b : ℕ) → Needs ms board.places.items a b → orders.Needs edges a b
   need_edge a b n =
-      let r = demand_for ms (claims_of ms wanted board.places.items) board.asked.items (record { from = Some a; need = n.by }) h.demands (need_claim ms wanted board.places.items a n.by n.from n.is) in
-      let is = subst (λ (c : Claim). IsNumber ms c.need.name r.0.number) r.2 (number_for ms (claims_of ms wanted board.places.items) board.asked.items r.0 h.demands r.1) in
+      let r = demand_for ms (claims_of ms wanted board.places.items) board.asked.items (record {
+        from = Some a;
+        need =
+            n.by;
+      }) h.demands (need_claim ms wanted board.places.items a n.by n.from n.is) in
+      let is = subst (λ (c : Claim). IsNumber ms c.need.name r.0.number) r.2 (number_for ms (claims_of ms wanted board.places.items) board.asked.items r.0
+      h.demands r.1) in
       let chosen = h.chosen in
       let j = are.has a b (record { by = r.0; is = r.1; from = ap (λ (c : Claim). c.from) r.2; to = chosen.has b r.0.number n.by.name n.to n.named is }) in
       record { by = j.by; is = j.is; from = j.from; to = j.to }
@@ -94,7 +108,8 @@ module _ (ms : List Member) (wanted : List Need) (board : Board) (edges : Edges)
       let at = there.1 in
       let known = at.is in
       let is = number_for ms (claims_of ms wanted board.places.items) board.asked.items r.by h.demands r.is in
-      elim (from_claims ms wanted board.places.items (claim r.by) (claim_for ms (claims_of ms wanted board.places.items) board.asked.items r.by h.demands r.is)) [
+      elim (from_claims ms wanted board.places.items (claim r.by) (claim_for ms (claims_of ms wanted board.places.items) board.asked.items r.by h.demands
+      r.is)) [
         | inl w ↦ absurd (none-some a (sym w.0 ∙ r.from))
         | inr w ↦ (let by = w.1 in
             let same : w.0 ≡ a = same_Some w.0 a (sym by.from ∙ r.from) in
@@ -118,7 +133,8 @@ module _ (ms : List Member) (wanted : List Need) (board : Board) (edges : Edges)
   edges_acyclic free p r = free p (leads_more need_edge r)
 
   -- linked places lead on, wherever they all are
-  linked : (s : List ℕ) (p : ℕ) (ps : List ℕ) (last : ℕ) → orders.AreLinked edges (p ∷ ps) last → ((x : ℕ) → Contains (p ∷ ps) x → Contains s x) → Contains s last → Leads (Needs ms s) p last
+  linked : (s : List ℕ) (p : ℕ) (ps : List ℕ) (last : ℕ) → orders.AreLinked edges (p ∷ ps) last → ((x : ℕ) → Contains (p ∷ ps) x → Contains s x) →
+      Contains s last → Leads (Needs ms s) p last
   linked s p [] last l within end = (let n = edge_need p last l.0 in
       direct (record { from = within p (in_here p []); to = end; by = n.by; is = n.is; named = n.named }))
   linked s p (q ∷ qs) last l within end = (let n = edge_need p q l.0 in

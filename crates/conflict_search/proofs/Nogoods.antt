@@ -1,5 +1,6 @@
 -- How conflicts are joined, and what they rule out.
-use Rattle.std.proofs.Common.{◌≡◌, ◌≢◌, ◌↔◌, ℕ, ◌+◌, ◌<◌, ◌≤◌, ◌⊎◌, List, [], ◌∷◌, ◌++◌, length, get_or, take, Some, sym, ap, ◌∙◌, subst, inl, inr, arith, append_assoc}
+use Rattle.std.proofs.Common.{◌≡◌, ◌≢◌, ◌↔◌, ℕ, ◌+◌, ◌<◌, ◌≤◌, ◌⊎◌, List, [], ◌∷◌, ◌++◌, length, get_or, take, Some, sym, ap, ◌∙◌, subst, inl, inr, arith}
+use Rattle.std.proofs.Common.{append_assoc}
 use Rattle.std.specs.List.{Contains}
 use Rattle.std.proofs.lemmas.Bool.{cases_eq}
 use Rattle.std.proofs.lemmas.List.{take_more}
@@ -23,7 +24,8 @@ module _ (ms : List Member) (wanted : List Need) where
   pub prefix_start : IsPrefix ms wanted []
   prefix_start = record { goes_on = λ walk w. w }
 
-  pub prefix_push : (taken : List ℕ) (p : ℕ) (n : List ℕ) → IsPrefix ms wanted taken → IsNext ms wanted taken n → name_of ms p ≡ Some n → IsPrefix ms wanted (taken ++ p ∷ [])
+  pub prefix_push : (taken : List ℕ) (p : ℕ) (n : List ℕ) → IsPrefix ms wanted taken → IsNext ms wanted taken n → name_of ms p ≡ Some n →
+      IsPrefix ms wanted (taken ++ p ∷ [])
   prefix_push taken p n h next e = record {
     goes_on = λ walk w. subst (IsWalk ms wanted []) (sym (append_assoc taken (p ∷ []) walk)) (h.goes_on (p ∷ walk) ((n, e, next), w));
   }
@@ -42,7 +44,8 @@ module _ (ms : List Member) (wanted : List Need) where
   more_cons p a b f x i = elim (in_cons p a x i) [ inl e ↦ subst (Contains (p ∷ b)) e (in_here p b) | inr j ↦ in_there p b x (f x j) ]
 
   -- the conflict of one more place is joined
-  pub ruled_here : (old new conflict : List ℕ) (n : List ℕ) (i : ℕ) → IsNogood ms wanted conflict → JoinsOthers i conflict old new → AreRuledOut old n (i + 1) → AreRuledOut new n i
+  pub ruled_here : (old new conflict : List ℕ) (n : List ℕ) (i : ℕ) → IsNogood ms wanted conflict → JoinsOthers i conflict old new →
+      AreRuledOut old n (i + 1) → AreRuledOut new n i
   ruled_here old new conflict n i g j h = record {
     each = λ p le e. elim (cases_eq i p) [
       | inl same ↦ subst (λ z. IsNogood ms wanted (z ∷ new)) same
@@ -52,17 +55,23 @@ module _ (ms : List Member) (wanted : List Need) where
   }
 
   -- places that are ruled out with what is gathered are tried
-  pub tried_from : (taken gathered : List ℕ) (n : List ℕ) (i : ℕ) → IsPrefix ms wanted taken → IsNext ms wanted taken n → ((x : ℕ) → Contains gathered x → Contains taken x) → AreRuledOut gathered n i → AreTried ms wanted taken n i
+  pub tried_from : (taken gathered : List ℕ) (n : List ℕ) (i : ℕ) → IsPrefix ms wanted taken → IsNext ms wanted taken n →
+      ((x : ℕ) → Contains gathered x → Contains taken x) → AreRuledOut gathered n i → AreTried ms wanted taken n i
   tried_from taken gathered n i pre next within h = record {
     none = λ p le e. conflict_none (taken ++ p ∷ []) (p ∷ gathered) (prefix_push taken p n pre next e)
         (record {
           nogood = h.each p le e;
-          within = λ x k. elim (in_cons p gathered x k) [ inl s ↦ subst (Contains (taken ++ p ∷ [])) s (Contains-push taken p) | inr m ↦ Contains-append_left taken (p ∷ []) x (within x m) ];
+          within = λ x k. elim (in_cons p gathered x k) [
+            | inl s ↦ subst (Contains (taken ++ p
+                ∷ [])) s (Contains-push taken p)
+            | inr m ↦ Contains-append_left taken (p ∷ []) x (within x m)
+          ];
         });
   }
 
   -- what requires a name whose versions are all ruled out
-  pub nogood_joined : (gathered : List ℕ) (n : List ℕ) (first : ℕ) → Contains (required_names ms wanted gathered) n → ((p : ℕ) → name_of ms p ≡ Some n → first ≤ p) → AreRuledOut gathered n first → IsNogood ms wanted gathered
+  pub nogood_joined : (gathered : List ℕ) (n : List ℕ) (first : ℕ) → Contains (required_names ms wanted gathered) n →
+      ((p : ℕ) → name_of ms p ≡ Some n → first ≤ p) → AreRuledOut gathered n first → IsNogood ms wanted gathered
   nogood_joined gathered n first required least h = record {
     none = λ walk w c within.
         (let needed : Contains (required_names ms wanted walk) n = elim (required_from ms wanted gathered n required) [
@@ -75,19 +84,22 @@ module _ (ms : List Member) (wanted : List Need) where
   }
 
   -- a conflict that the last place has no part in
-  pub conflict_back : (taken conflict : List ℕ) (p : ℕ) → IsConflictWith ms wanted taken p conflict → (Contains conflict p → ⊥) → IsConflict ms wanted taken conflict
+  pub conflict_back : (taken conflict : List ℕ) (p : ℕ) → IsConflictWith ms wanted taken p conflict → (Contains conflict p → ⊥) →
+      IsConflict ms wanted taken conflict
   conflict_back taken conflict p h free = record {
     nogood = h.nogood;
     within = λ x i. elim (Contains-push_cases taken p x (h.within x i)) [ inl j ↦ j | inr e ↦ absurd (free (subst (Contains conflict) (sym e) i)) ];
   }
 
-  pub gathered_within : (taken conflict old new : List ℕ) (p : ℕ) → IsConflictWith ms wanted taken p conflict → JoinsOthers p conflict old new → ((x : ℕ) → Contains old x → Contains taken x) → (x : ℕ) → Contains new x → Contains taken x
+  pub gathered_within : (taken conflict old new : List ℕ) (p : ℕ) → IsConflictWith ms wanted taken p conflict → JoinsOthers p conflict old new →
+      ((x : ℕ) → Contains old x → Contains taken x) → (x : ℕ) → Contains new x → Contains taken x
   gathered_within taken conflict old new p h j before x i = elim (j.only x i) [
     | inl o ↦ before x o
     | inr m ↦ elim (Contains-push_cases taken p x (h.within x m.0)) [ inl k ↦ k | inr e ↦ absurd (m.1 e) ]
   ]
 
-  pub required_more : (a b : List ℕ) (n : List ℕ) → ((x : ℕ) → Contains a x → Contains b x) → Contains (required_names ms wanted a) n → Contains (required_names ms wanted b) n
+  pub required_more : (a b : List ℕ) (n : List ℕ) → ((x : ℕ) → Contains a x → Contains b x) → Contains (required_names ms wanted a) n →
+      Contains (required_names ms wanted b) n
   required_more a b n f h = elim (required_from ms wanted a n h) [
     | inl r ↦ subst (Contains (required_names ms wanted b)) r.2 (required_by_wanted ms wanted b r.0 r.1)
     | inr r ↦ subst (Contains (required_names ms wanted b)) r.4 (required_by_need ms wanted b r.0 r.1 (f r.0 r.2) r.3)
@@ -111,7 +123,8 @@ module _ (place : ℕ) (conflict old mid : List ℕ) (i : ℕ) (lt : i < length 
   only_more : (x : ℕ) → Contains mid x → Contains old x ⊎ (Contains (take (i + 1) conflict) x × (place ≢ x))
   only_more x j = elim (h.only x j) [ inl o ↦ inl o | inr m ↦ inr (so_far x m.0, m.1) ]
 
-  pub joins_more : (new : List ℕ) → (place ≢ get_or conflict i 0) → ((x : ℕ) → Contains new x ↔ Contains mid x ⊎ (get_or conflict i 0 ≡ x)) → JoinsOthers place (take (i + 1) conflict) old new
+  pub joins_more : (new : List ℕ) → (place ≢ get_or conflict i 0) → ((x : ℕ) → Contains new x ↔ Contains mid x ⊎ (get_or conflict i 0 ≡ x)) →
+      JoinsOthers place (take (i + 1) conflict) old new
   joins_more new other more = record {
     kept = λ x j. (more x).1 (inl (h.kept x j));
     joined = λ x j. elim (cases x j) [

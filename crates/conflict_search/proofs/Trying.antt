@@ -58,10 +58,12 @@ module _ (ms : List Member) (wanted : List Need) where
 
   -- ---- places that cannot stand
 
-  pub nogood_need : (s : List ℕ) (p q : ℕ) (d : Need) → Contains s p → Contains s q → Contains (needs_of ms p) d → name_of ms q ≡ Some d.name → (IsMetBy ms d.name d.range q → ⊥) → IsNogood ms wanted s
+  pub nogood_need : (s : List ℕ) (p q : ℕ) (d : Need) → Contains s p → Contains s q → Contains (needs_of ms p) d → name_of ms q ≡ Some d.name →
+      (IsMetBy ms d.name d.range q → ⊥) → IsNogood ms wanted s
   nogood_need s p q d i j k e bad = nogood_bad ms wanted s (λ c. bad (c.needs_hold p i d k q j e))
 
-  pub nogood_wanted : (s : List ℕ) (p : ℕ) (w : Need) → Contains s p → Contains wanted w → name_of ms p ≡ Some w.name → (IsMetBy ms w.name w.range p → ⊥) → IsNogood ms wanted s
+  pub nogood_wanted : (s : List ℕ) (p : ℕ) (w : Need) → Contains s p → Contains wanted w → name_of ms p ≡ Some w.name → (IsMetBy ms w.name w.range p → ⊥) →
+      IsNogood ms wanted s
   nogood_wanted s p w i k e bad = nogood_bad ms wanted s (λ c. bad (c.wanted_hold w k p i e))
 
   pub nogood_unknown : (s : List ℕ) (p : ℕ) (d : Need) → Contains s p → Contains (needs_of ms p) d → IsUnknown ms d.name → IsNogood ms wanted s
@@ -71,7 +73,8 @@ module _ (ms : List Member) (wanted : List Need) where
 
 -- ---- versions and ranges
 
-met_by : (ms : List Member) (name range version : List ℕ) (p : ℕ) → name_of ms p ≡ Some name → version_of ms p ≡ Some version → Meets version range → IsMetBy ms name range p
+met_by : (ms : List Member) (name range version : List ℕ) (p : ℕ) → name_of ms p ≡ Some name → version_of ms p ≡ Some version → Meets version range →
+    IsMetBy ms name range p
 met_by ms name range version p n v m = record { named = n; meets = subst (λ o. IfSome o (λ v. Meets v range)) (sym v) m }
 
 not_met : (ms : List Member) (name range version : List ℕ) (p : ℕ) → version_of ms p ≡ Some version → (Meets version range → ⊥) → IsMetBy ms name range p → ⊥
@@ -79,16 +82,20 @@ not_met ms name range version p v bad h = bad (subst (λ o. IfSome o (λ v. Meet
 
 -- ---- what is asked of the name
 
-module _ (ms : List Member) (wanted : List Need) (taken : List ℕ) (asked : List Demand) (place number : ℕ) (version : List ℕ) (h : AreDemands ms (claims_of ms wanted taken) asked) (at : IsNumberAt ms place number) (v : version_of ms place ≡ Some version) where
+module _ (ms : List Member) (wanted : List Need) (taken : List ℕ) (asked : List Demand) (place number : ℕ) (version : List ℕ) (h : AreDemands ms
+    (claims_of ms wanted taken) asked) (at : IsNumberAt ms place number) (v : version_of ms place ≡ Some version) where
   -- a claim on the place's name stands in the row of its number
-  row_for : (c : Claim) → Contains (claims_of ms wanted taken) c → name_of ms place ≡ Some c.need.name → (d : Demand) × Contains (row number asked) d × (claim d ≡ c)
+  row_for : (c : Claim) → Contains (claims_of ms wanted taken) c → name_of ms place ≡ Some c.need.name → (d : Demand) × Contains (row number asked) d ×
+      (claim d ≡ c)
   row_for c i e =
       let r = demand_for ms (claims_of ms wanted taken) asked c h i in
       let named : r.0.name.now ≡ at.name = ap (λ (x : Claim). x.need.name) r.2 ∙ sym (same_Some at.name c.need.name (sym at.named ∙ e)) in
-      let same = number_same ms at.name r.0.number number (subst (λ n. IsNumber ms n r.0.number) named (number_for ms (claims_of ms wanted taken) asked r.0 h r.1)) at.is in
+      let same = number_same ms at.name r.0.number number (subst (λ n. IsNumber ms n r.0.number) named (number_for ms (claims_of ms wanted taken) asked r.0 h
+      r.1)) at.is in
       (r.0, filter_has (λ (d : Demand). eqb d.number number) asked r.0 r.1 (eq-eqb r.0.number number same), r.2)
 
-  claim_met : ((d : Demand) → Contains (row number asked) d → Meets version d.range.now) → (c : Claim) → Contains (claims_of ms wanted taken) c → name_of ms place ≡ Some c.need.name → IsMetBy ms c.need.name c.need.range place
+  claim_met : ((d : Demand) → Contains (row number asked) d → Meets version d.range.now) → (c : Claim) → Contains (claims_of ms wanted taken) c →
+      name_of ms place ≡ Some c.need.name → IsMetBy ms c.need.name c.need.range place
   claim_met all c i e =
       let r = row_for c i e in
       met_by ms c.need.name c.need.range version place e v (subst (λ (x : Claim). Meets version x.need.range) r.2 (all r.0 r.1))
@@ -100,7 +107,8 @@ module _ (ms : List Member) (wanted : List Need) (taken : List ℕ) (asked : Lis
   asked_met all = λ q j d i e. claim_met all (record { from = Some q; need = d }) (need_claim ms wanted taken q d j i) e
 
   -- a demand of the row that is not met
-  pub refused_conflict : (d : Demand) (both : List ℕ) → Contains (row number asked) d → (Meets version d.range.now → ⊥) → ((x : ℕ) → Contains both x ↔ (place ≡ x) ⊎ (d.from ≡ Some x)) → IsConflictWith ms wanted taken place both
+  pub refused_conflict : (d : Demand) (both : List ℕ) → Contains (row number asked) d → (Meets version d.range.now → ⊥) →
+      ((x : ℕ) → Contains both x ↔ (place ≡ x) ⊎ (d.from ≡ Some x)) → IsConflictWith ms wanted taken place both
   refused_conflict d both i bad are =
       let r = in_filter (λ (e : Demand). eqb e.number number) asked d i in
       let numbered = number_for ms (claims_of ms wanted taken) asked d h r.0 in
@@ -129,16 +137,23 @@ module _ (ms : List Member) (wanted : List Need) (taken : List ℕ) (asked : Lis
 
 -- ---- what the place asks of those that are taken
 
-module _ (ms : List Member) (wanted : List Need) (taken : List ℕ) (chosen : List (Option ℕ)) (place : ℕ) (demands : List Demand) (is : IsChosen ms taken chosen) (h : AreDemands ms (claims_from (Some place) (needs_of ms place)) demands) where
-  pub needs_met : ((d : Demand) (q : ℕ) → Contains demands d → slice_index_or chosen d.number None ≡ Some q → IsMetIn ms d.range.now q) → (q : ℕ) → Contains taken q → Suits ms (needs_of ms place) q
+module _ (ms : List Member) (wanted : List Need) (taken : List ℕ) (chosen : List (Option ℕ)) (place : ℕ) (demands : List Demand) (is : IsChosen ms taken
+    chosen) (h : AreDemands ms (claims_from (Some place) (needs_of ms place)) demands) where
+  pub needs_met : ((d : Demand) (q : ℕ) → Contains demands d → slice_index_or chosen d.number None ≡ Some q → IsMetIn ms d.range.now q) → (q : ℕ) →
+      Contains taken q → Suits ms (needs_of ms place) q
   needs_met all = λ q j d i e.
-      let r = demand_for ms (claims_from (Some place) (needs_of ms place)) demands (record { from = Some place; need = d }) h (claim_in (Some place) (needs_of ms place) d i) in
+      let r = demand_for ms (claims_from (Some place) (needs_of ms place)) demands (record {
+        from = Some place;
+        need =
+            d;
+      }) h (claim_in (Some place) (needs_of ms place) d i) in
       let name = ap (λ (c : Claim). c.need.name) r.2 in
       let numbered = subst (λ n. IsNumber ms n r.0.number) name (number_for ms (claims_from (Some place) (needs_of ms place)) demands r.0 h r.1) in
       let met = all r.0 q r.1 (is.has q r.0.number d.name j e numbered) in
       record { named = e; meets = subst (λ (c : Claim). IsMetIn ms c.need.range q) r.2 met }
 
-  pub unfit_conflict : (d : Demand) (q : ℕ) (both : List ℕ) → Contains demands d → slice_index_or chosen d.number None ≡ Some q → (IsMetIn ms d.range.now q → ⊥) → ((x : ℕ) → Contains both x ↔ (place ≡ x) ⊎ (Some q ≡ Some x)) → IsConflictWith ms wanted taken place both
+  pub unfit_conflict : (d : Demand) (q : ℕ) (both : List ℕ) → Contains demands d → slice_index_or chosen d.number None ≡ Some q →
+      (IsMetIn ms d.range.now q → ⊥) → ((x : ℕ) → Contains both x ↔ (place ≡ x) ⊎ (Some q ≡ Some x)) → IsConflictWith ms wanted taken place both
   unfit_conflict d q both i e bad are =
       let there = is.only q d.number e in
       let at = there.1 in
@@ -155,7 +170,8 @@ module _ (ms : List Member) (wanted : List Need) (taken : List ℕ) (chosen : Li
       }
 
 -- the place asks for a name that no candidate has
-pub unknown_conflict : (ms : List Member) (wanted : List Need) (taken : List ℕ) (place : ℕ) (d : Need) (both : List ℕ) → Contains (needs_of ms place) d → IsUnknown ms d.name → ((x : ℕ) → Contains both x ↔ (place ≡ x) ⊎ (None ≡ Some x)) → IsConflictWith ms wanted taken place both
+pub unknown_conflict : (ms : List Member) (wanted : List Need) (taken : List ℕ) (place : ℕ) (d : Need) (both : List ℕ) → Contains (needs_of ms place) d →
+    IsUnknown ms d.name → ((x : ℕ) → Contains both x ↔ (place ≡ x) ⊎ (None ≡ Some x)) → IsConflictWith ms wanted taken place both
 unknown_conflict ms wanted taken place d both i unknown are = record {
   nogood = nogood_unknown ms wanted both place d ((are place).1 (inl refl)) i unknown;
   within = λ x j. elim ((are x).0 j) [
@@ -165,7 +181,8 @@ unknown_conflict ms wanted taken place d both i unknown are = record {
 }
 
 -- a set that cannot stand, and would
-pub kept_conflict : (ms : List Member) (wanted : List Need) (taken : List ℕ) (chosen : List (Option ℕ)) (place : ℕ) (s : List ℕ) → IsChosen ms taken chosen → IsNogood ms wanted s → ((x : ℕ) → Contains s x → (place ≡ x) ⊎ ((k : ℕ) × (slice_index_or chosen k None ≡ Some x))) → IsConflictWith ms wanted taken place s
+pub kept_conflict : (ms : List Member) (wanted : List Need) (taken : List ℕ) (chosen : List (Option ℕ)) (place : ℕ) (s : List ℕ) → IsChosen ms taken chosen →
+    IsNogood ms wanted s → ((x : ℕ) → Contains s x → (place ≡ x) ⊎ ((k : ℕ) × (slice_index_or chosen k None ≡ Some x))) → IsConflictWith ms wanted taken place s
 kept_conflict ms wanted taken chosen place s is nogood all = record {
   nogood = nogood;
   within = λ x j. elim (all x j) [

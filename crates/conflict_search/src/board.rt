@@ -1,6 +1,7 @@
 //! The decided places, and what is asked, under the numbers of names.
 
-ghost use Rattle.std.specs.Prelude.{◌≡◌, ◌≢◌, ◌⊎◌, ◌↔◌, ◌<◌, ◌-◌, ◌++◌, ◌∷◌, [], ℕ, Some, None, length, take, slice_set, slice_index_or, filter, ◌==◌, ◌≤◌, IfOk, OnOk, MatchOption};
+ghost use Rattle.std.specs.Prelude.{◌≡◌, ◌≢◌, ◌⊎◌, ◌↔◌, ◌<◌, ◌-◌, ◌++◌, ◌∷◌, [], ℕ, Some, None, length, take, slice_set, slice_index_or, filter, ◌==◌, ◌≤◌};
+ghost use Rattle.std.specs.Prelude.{IfOk, OnOk, MatchOption};
 ghost use Rattle.std.specs.List.{All, Contains};
 ghost use Rattle.recipe_reader.specs.Members.{Need, Member};
 ghost use Rattle.conflict_search.specs.Boards.{IsIndexed, IsAsked};

@@ -81,8 +81,10 @@ impl<'a> Library<'a> {
     fn first_unfit(&self, board: &Board, demands: &[Demand]) -> Option<u32>
         requires board { IsBoard (members_in self.now) (wanted_in self.now) board.now }
         ensures { MatchOption result
-            ((d : Demand) (q : ℕ) → Contains demands.now d → (slice_index_or board.now.chosen.items d.number None ≡ Some q) → IsMetIn (members_in self.now) d.range.now q)
-            (λ q. (d : Demand) × Contains demands.now d × (slice_index_or board.now.chosen.items d.number None ≡ Some q) × (IsMetIn (members_in self.now) d.range.now q → ⊥)) }
+            ((d : Demand) (q : ℕ) → Contains demands.now d → (slice_index_or board.now.chosen.items d.number None ≡ Some q)
+            → IsMetIn (members_in self.now) d.range.now q)
+            (λ q. (d : Demand) × Contains demands.now d × (slice_index_or board.now.chosen.items d.number None ≡ Some q)
+            × (IsMetIn (members_in self.now) d.range.now q → ⊥)) }
     {
         for demand in demands {
             if let Some(chosen) = board.chosen_of(demand.number) {

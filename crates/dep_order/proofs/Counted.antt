@@ -1,5 +1,6 @@
 -- Counting the open needs.
-use Rattle.std.proofs.Common.{◌≡◌, ℕ, ◌+◌, ◌<◌, ◌≤◌, ◌↔◌, ◌⊎◌, Bool, true, false, cond, not, ◌&&◌, ◌||◌, eqb, List, [], ◌∷◌, ◌++◌, length, get_or, refl, sym, ap, ◌∙◌, subst, inl, inr, arith}
+use Rattle.std.proofs.Common.{◌≡◌, ℕ, ◌+◌, ◌<◌, ◌≤◌, ◌↔◌, ◌⊎◌, Bool, true, false, cond, not, ◌&&◌, ◌||◌, eqb, List, [], ◌∷◌, ◌++◌, length, get_or, refl, sym}
+use Rattle.std.proofs.Common.{ap, ◌∙◌, subst, inl, inr, arith}
 use Rattle.std.specs.Bool.{MatchBool}
 use Rattle.std.specs.List.{Contains, count_by, list_any, filter}
 use Rattle.std.proofs.lemmas.List.{get_or_past}
@@ -55,7 +56,8 @@ splits_other true true = refl
 splits_other true false = refl
 splits_other false f = refl
 
-one_need : (taken : List ℕ) (q p : ℕ) (e : Need) → (Contains taken p → ⊥) → Splits (eqb e.from q) (list_any (eqb e.to) taken) (list_any (eqb e.to) (taken ++ p ∷ [])) (eqb e.to p)
+one_need : (taken : List ℕ) (q p : ℕ) (e : Need) → (Contains taken p → ⊥) → Splits (eqb e.from q) (list_any (eqb e.to) taken) (list_any (eqb e.to) (taken
+    ++ p ∷ [])) (eqb e.to p)
 one_need taken q p e free = elim (cases_eq e.to p) [
   | inl same ↦
       (let a = any_not e.to taken (λ i. free (subst (Contains taken) same i)) in
@@ -68,14 +70,16 @@ one_need taken q p e free = elim (cases_eq e.to p) [
       (let b = any_other e.to p taken ne in
       let c = ne_eqb e.to p ne in
       subst (λ g. Splits (eqb e.from q) (list_any (eqb e.to) taken) g (eqb e.to p)) (sym b)
-      (subst (λ t. Splits (eqb e.from q) (list_any (eqb e.to) taken) (list_any (eqb e.to) taken) t) (sym c) (splits_other (eqb e.from q) (list_any (eqb e.to) taken))))
+      (subst (λ t. Splits (eqb e.from q) (list_any (eqb e.to) taken) (list_any (eqb e.to) taken) t) (sym c) (splits_other (eqb e.from q)
+      (list_any (eqb e.to) taken))))
 ]
 
 joined : (x y a b c d s t : ℕ) → x ≡ a + b → y ≡ c + d → s ≡ a + c → t ≡ b + d → x + y ≡ s + t
 joined x y a b c d s t h i j k = omega (arith, h, i, j, k)
 
 -- to take a place takes its needs from the counts
-pub waiting_push : (needs : List Need) (taken : List ℕ) (q p : ℕ) → (Contains taken p → ⊥) → waiting needs taken q ≡ waiting needs (taken ++ p ∷ []) q + count_by (is_between q p) needs
+pub waiting_push : (needs : List Need) (taken : List ℕ) (q p : ℕ) → (Contains taken p → ⊥) →
+    waiting needs taken q ≡ waiting needs (taken ++ p ∷ []) q + count_by (is_between q p) needs
 unfolding Splits
 waiting_push [] taken q p free = refl
 waiting_push (e ∷ needs) taken q p free =
@@ -84,8 +88,10 @@ waiting_push (e ∷ needs) taken q p free =
     let c = count_cons (is_waiting taken q) e needs in
     let d = count_cons (is_waiting (taken ++ p ∷ []) q) e needs in
     let g = count_cons (is_between q p) e needs in
-    c ∙ joined (cond (is_waiting taken q e) 1 0) (count_by (is_waiting taken q) needs) (cond (is_waiting (taken ++ p ∷ []) q e) 1 0) (cond (is_between q p e) 1 0)
-    (waiting needs (taken ++ p ∷ []) q) (count_by (is_between q p) needs) (waiting (e ∷ needs) (taken ++ p ∷ []) q) (count_by (is_between q p) (e ∷ needs)) a b d g
+    c ∙ joined (cond (is_waiting taken q e) 1 0) (count_by (is_waiting taken q) needs) (cond (is_waiting (taken ++ p ∷ []) q e) 1 0) (cond (is_between q p e)
+    1 0)
+    (waiting needs (taken ++ p ∷ []) q) (count_by (is_between q p) needs) (waiting (e ∷ needs) (taken ++ p ∷ []) q) (count_by (is_between q p) (e
+    ∷ needs)) a b d g
 
 rest_zero : (a n : ℕ) → a + n ≡ 0 → n ≡ 0
 rest_zero a n h = omega (arith, h)
@@ -131,7 +137,13 @@ zero_from_ready : (edges : Edges) (rows : List Need) (taken : List ℕ) (p : ℕ
 zero_from_ready edges rows taken p r ready =
     zero_count (is_waiting taken p) rows (λ e i.
     other_from (eqb e.from p) (list_any (eqb e.to) taken) (λ same.
-    any_from e.to taken (ready e.to (record { by = e; is = Contains-permutation rows edges.needs e (IsPermutation-sym edges.needs rows r.same) i; from = eqb-true e.from p same; to = refl }))))
+    any_from e.to taken (ready e.to (record {
+      by = e;
+      is = Contains-permutation rows edges.needs e (IsPermutation-sym edges.needs rows r.same) i;
+      from =
+          eqb-true e.from p same;
+      to = refl;
+    }))))
 
 same_bit : (b : Bool) → ◌≡◌ {A = ℕ} (cond b 1 0) (cond (b && not false) 1 0)
 same_bit true = refl
@@ -153,7 +165,9 @@ pub record AreCounts (edges : Edges) (rows : List Need) (taken counts ready : Li
   pub members : (q : ℕ) → Contains ready q ↔ ((q < edges.nodes) × (get_or counts q 0 ≡ 0) × (Contains taken q → ⊥))
   pub done : (q : ℕ) → Contains taken q → get_or counts q 0 ≡ 0
 
-pub counts_start : (edges : Edges) (rows : List Need) (counts ready : List ℕ) → length counts ≡ edges.nodes → ((q : ℕ) → get_or counts q 0 ≡ count_by (λ (e : Need). eqb e.from q) rows) → ((q : ℕ) → Contains ready q ↔ ((q < edges.nodes) × (get_or counts q 0 ≡ 0))) → AreCounts edges rows [] counts ready
+pub counts_start : (edges : Edges) (rows : List Need) (counts ready : List ℕ) → length counts ≡ edges.nodes →
+    ((q : ℕ) → get_or counts q 0 ≡ count_by (λ (e : Need). eqb e.from q) rows) → ((q : ℕ) →
+    Contains ready q ↔ ((q < edges.nodes) × (get_or counts q 0 ≡ 0))) → AreCounts edges rows [] counts ready
 counts_start edges rows counts ready len each h = record {
   count = len;
   each = λ q. each q ∙ waiting_start rows q;
@@ -162,7 +176,8 @@ counts_start edges rows counts ready len each h = record {
 }
 
 -- the least ready place is the least open one
-pub least_open : (edges : Edges) (rows : List Need) (taken counts ready rest : List ℕ) (p : ℕ) → AreRows edges.needs rows → AreCounts edges rows taken counts ready → TakesLeast ready rest p → IsLeastOpen edges taken p
+pub least_open : (edges : Edges) (rows : List Need) (taken counts ready rest : List ℕ) (p : ℕ) → AreRows edges.needs rows →
+    AreCounts edges rows taken counts ready → TakesLeast ready rest p → IsLeastOpen edges taken p
 least_open edges rows taken counts ready rest p r h t =
     let here = (h.members p).0 t.taken in
     record {
@@ -171,7 +186,8 @@ least_open edges rows taken counts ready rest p r h t =
     }
 
 -- where none is ready, none is open
-pub none_open : (edges : Edges) (rows : List Need) (taken counts ready : List ℕ) → AreRows edges.needs rows → AreCounts edges rows taken counts ready → ((q : ℕ) → Contains ready q → ⊥) → (q : ℕ) → IsOpen edges taken q → ⊥
+pub none_open : (edges : Edges) (rows : List Need) (taken counts ready : List ℕ) → AreRows edges.needs rows → AreCounts edges rows taken counts ready →
+    ((q : ℕ) → Contains ready q → ⊥) → (q : ℕ) → IsOpen edges taken q → ⊥
 none_open edges rows taken counts ready r h none = λ q o. none q ((h.members q).1 (o.node, h.each q ∙ zero_from_ready edges rows taken q r o.ready, o.untaken))
 
 abbrev between : List Need → ℕ → ℕ → ℕ
@@ -179,10 +195,12 @@ between rows q p = count_by (λ (e : Need). eqb e.from q) (filter (λ (e : Need)
 
 -- what a place's needs are before it is taken and after
 split_at : (rows : List Need) (taken : List ℕ) (q p : ℕ) → (Contains taken p → ⊥) → waiting rows taken q ≡ waiting rows (taken ++ p ∷ []) q + between rows q p
-split_at rows taken q p free = waiting_push rows taken q p free ∙ ap (λ n. waiting rows (taken ++ p ∷ []) q + n) (sym (count-filter (λ (e : Need). eqb e.from q) (λ (e : Need). eqb e.to p) rows))
+split_at rows taken q p free = waiting_push rows taken q p free ∙ ap (λ n. waiting rows (taken ++ p
+    ∷ []) q + n) (sym (count-filter (λ (e : Need). eqb e.from q) (λ (e : Need). eqb e.to p) rows))
 
 -- there are enough counted to take the place's needs from them
-pub enough : (edges : Edges) (rows : List Need) (taken counts ready rest : List ℕ) (p : ℕ) → AreCounts edges rows taken counts ready → TakesLeast ready rest p → (q : ℕ) → count_by (λ (e : Need). eqb e.from q) (filter (λ (e : Need). eqb e.to p) rows) ≤ get_or counts q 0
+pub enough : (edges : Edges) (rows : List Need) (taken counts ready rest : List ℕ) (p : ℕ) → AreCounts edges rows taken counts ready →
+    TakesLeast ready rest p → (q : ℕ) → count_by (λ (e : Need). eqb e.from q) (filter (λ (e : Need). eqb e.to p) rows) ≤ get_or counts q 0
 enough edges rows taken counts ready rest p h t = λ q.
     let here = (h.members p).0 t.taken in
     let a = h.each q in
@@ -190,7 +208,9 @@ enough edges rows taken counts ready rest p h t = λ q.
     omega (arith, a, b)
 
 -- the counts after a place is taken
-pub counts_more : (edges : Edges) (rows : List Need) (taken counts next ready rest then' : List ℕ) (p : ℕ) → AreCounts edges rows taken counts ready → TakesLeast ready rest p → length next ≡ length counts → ((q : ℕ) → get_or next q 0 + between rows q p ≡ get_or counts q 0) → ((q : ℕ) → Contains then' q ↔ (Contains rest q ⊎ ((0 < between rows q p) × (get_or next q 0 ≡ 0)))) → AreCounts edges rows (taken ++ p ∷ []) next then'
+pub counts_more : (edges : Edges) (rows : List Need) (taken counts next ready rest then' : List ℕ) (p : ℕ) → AreCounts edges rows taken counts ready →
+    TakesLeast ready rest p → length next ≡ length counts → ((q : ℕ) → get_or next q 0 + between rows q p ≡ get_or counts q 0) →
+    ((q : ℕ) → Contains then' q ↔ (Contains rest q ⊎ ((0 < between rows q p) × (get_or next q 0 ≡ 0)))) → AreCounts edges rows (taken ++ p ∷ []) next then'
 counts_more edges rows taken counts next ready rest then' p h t len settled more =
     let here = (h.members p).0 t.taken in
     record {
@@ -221,7 +241,10 @@ counts_more edges rows taken counts next ready rest then' p h t len settled more
             λ all. (more q).1 (elim (cases_eq (between rows q p) 0) [
               | inl none ↦
                   (let z = all.1 in
-                  inl ((t.others q).1 ((h.members q).1 (all.0, omega (arith, s, z, none), λ m. all.2 (Contains-append_left taken (p ∷ []) q m)), λ e. all.2 (subst (Contains (taken ++ p ∷ [])) (sym e) (Contains-push taken p)))))
+                  inl ((t.others q).1 (
+                    (h.members q).1 (all.0, omega (arith, s, z, none), λ m. all.2 (Contains-append_left taken (p ∷ []) q m)),
+                    λ e. all.2 (subst (Contains (taken ++ p ∷ [])) (sym e) (Contains-push taken p)),
+                  )))
               | inr some ↦ inr (omega (arith, some), all.1)
             ]),
           );
@@ -240,6 +263,7 @@ pub is_added : (A B : Type 0) (b : Bool) → b ≡ true → MatchBool b A B → 
 is_added A B true e m = m
 is_added A B false e m = absurd (false≢true e)
 
-pub added_new : (b : Bool) (old new : List ℕ) (p : ℕ) → (Contains old p → ⊥) → MatchBool b ((Contains old p → ⊥) × (new ≡ old ++ p ∷ [])) (Contains old p × (new ≡ old)) → new ≡ old ++ p ∷ []
+pub added_new : (b : Bool) (old new : List ℕ) (p : ℕ) → (Contains old p → ⊥) → MatchBool b ((Contains old p → ⊥) × (new ≡ old ++ p ∷ [])) (Contains old p ×
+    (new ≡ old)) → new ≡ old ++ p ∷ []
 added_new true old new p free m = m.1
 added_new false old new p free m = absurd (free m.0)

@@ -28,7 +28,8 @@ cycle_at edges (x ∷ ps) zero p d lt e h = subst (AreLinked edges (x ∷ ps)) (
 cycle_at edges (x ∷ ps) (suc i) p d lt e h = cycle_at edges ps i p d (omega (arith, lt)) e h.1
 
 -- places of which each needs one of them are not taken by an order
-pub never_taken : (edges : Edges) (C : ℕ → Type 0) → ((x : ℕ) → C x → (y : ℕ) × Needs edges x y × C y) → (taken list : List ℕ) → IsOrderAfter edges taken list → ((x : ℕ) → C x → Contains taken x → ⊥) → (x : ℕ) → C x → Contains (taken ++ list) x → ⊥
+pub never_taken : (edges : Edges) (C : ℕ → Type 0) → ((x : ℕ) → C x → (y : ℕ) × Needs edges x y × C y) → (taken list : List ℕ) →
+    IsOrderAfter edges taken list → ((x : ℕ) → C x → Contains taken x → ⊥) → (x : ℕ) → C x → Contains (taken ++ list) x → ⊥
 never_taken edges C next taken [] o free = λ x c i. free x c (subst (λ l. Contains l x) (append-nil taken) i)
 never_taken edges C next taken (p ∷ ps) o free = λ x c i.
     never_taken edges C next (taken ++ p ∷ []) ps o.1

@@ -1,12 +1,14 @@
 -- An order of some places always exists, there is one, and without cycles it takes all.
-use Rattle.std.proofs.Common.{◌≡◌, ℕ, zero, suc, ◌+◌, ◌<◌, ◌≤◌, ◌⊎◌, eqb, List, [], ◌∷◌, ◌++◌, length, length-append, refl, sym, ap, ◌∙◌, subst, inl, inr, arith, append_assoc, append-nil}
+use Rattle.std.proofs.Common.{◌≡◌, ℕ, zero, suc, ◌+◌, ◌<◌, ◌≤◌, ◌⊎◌, eqb, List, [], ◌∷◌, ◌++◌, length, length-append, refl, sym, ap, ◌∙◌, subst, inl, inr}
+use Rattle.std.proofs.Common.{arith, append_assoc, append-nil}
 use Rattle.std.specs.List.{All, Contains, IsDistinct, list_any}
 use Rattle.std.proofs.lemmas.Bool.{cases_eq, cases_lt, cases_Bool, false≢true}
 use Rattle.std.proofs.lemmas.List.Elements.{All-push, All-nil}
 use Rattle.nuc_base.proofs.Lists.{in_nil, in_cons, in_here, in_there, distinct_push, distinct_nil, at_most}
 use Rattle.dep_order.specs.declared.Need.{Need}
 use Rattle.dep_order.specs.declared.Edges.{Edges}
-use Rattle.dep_order.specs.Orders.{Needs, AreNodes, IsReady, IsOpen, IsLeastOpen, IsOrderAfter, IsOrder, IsWhole, IsWholeOrder, IsAcyclic, NeedsComeFirst, AreLinked}
+use Rattle.dep_order.specs.Orders.{Needs, AreNodes, IsReady, IsOpen, IsLeastOpen, IsOrderAfter, IsOrder, IsWhole, IsWholeOrder, IsAcyclic, NeedsComeFirst}
+use Rattle.dep_order.specs.Orders.{AreLinked}
 use Rattle.dep_order.proofs.Counted.{any_to, any_from}
 use Rattle.dep_order.proofs.Cycles.{needs_nodes, linked_push, cycle_at, cycle_leads, order_ends}
 
@@ -88,7 +90,8 @@ room_left nodes xs x d b free lt =
     let m = at_most (xs ++ x ∷ []) nodes (distinct_push xs x d free) (All-push (λ p. p < nodes) xs x b lt) in
     omega (arith, m, one_longer xs x)
 
-order_after : (edges : Edges) (fuel : ℕ) (taken : List ℕ) → IsDistinct eqb taken → All (λ p. p < edges.nodes) taken → edges.nodes ≤ fuel + length taken → (list : List ℕ) × IsOrderAfter edges taken list
+order_after : (edges : Edges) (fuel : ℕ) (taken : List ℕ) → IsDistinct eqb taken → All (λ p. p < edges.nodes) taken → edges.nodes ≤ fuel + length taken →
+    (list : List ℕ) × IsOrderAfter edges taken list
 order_after edges zero taken d b le = elim (next_or_none edges taken) [
   | inl none ↦ ([], none)
   | inr found ↦
@@ -103,7 +106,8 @@ order_after edges (suc fuel) taken d b le = elim (next_or_none edges taken) [
       (let p = found.0 in
       let least = found.1 in
       let is = least.is_open in
-      let rest = order_after edges fuel (taken ++ p ∷ []) (distinct_push taken p d is.untaken) (All-push (λ q. q < edges.nodes) taken p b is.node) (omega (arith, le, one_longer taken p)) in
+      let rest = order_after edges fuel (taken ++ p ∷ []) (distinct_push taken p d is.untaken) (All-push (λ q. q < edges.nodes) taken p b is.node)
+      (omega (arith, le, one_longer taken p)) in
       (p ∷ rest.0, (least, rest.1)))
 ]
 
@@ -111,7 +115,9 @@ order_exists : (edges : Edges) → (list : List ℕ) × IsOrder edges list
 order_exists edges = order_after edges edges.nodes [] distinct_nil (All-nil (λ p. p < edges.nodes)) (omega arith)
 
 -- a walk through places that are left out comes to a cycle
-no_walk : (edges : Edges) (list : List ℕ) → AreNodes edges → IsAcyclic edges → ((q : ℕ) → IsOpen edges list q → ⊥) → (fuel : ℕ) (path : List ℕ) (x : ℕ) → IsDistinct eqb path → All (λ p. p < edges.nodes) path → AreLinked edges path x → x < edges.nodes → (Contains list x → ⊥) → edges.nodes ≤ fuel + length path → ⊥
+no_walk : (edges : Edges) (list : List ℕ) → AreNodes edges → IsAcyclic edges → ((q : ℕ) → IsOpen edges list q → ⊥) → (fuel : ℕ) (path : List ℕ) (x : ℕ) →
+    IsDistinct eqb path → All (λ p. p < edges.nodes) path → AreLinked edges path x → x < edges.nodes → (Contains list x → ⊥) →
+    edges.nodes ≤ fuel + length path → ⊥
 no_walk edges list nodes acyclic stuck zero path x d b linked lt free le = elim (in_or_not x path) [
   | inl i ↦ (let c = cycle_leads edges _ (cycle_at edges path i.0 x x i.1 i.2 linked) in acyclic c.0 c.1)
   | inr new ↦ (let m = room_left edges.nodes path x d b new lt in omega (arith, m, le))
@@ -123,14 +129,16 @@ no_walk edges list nodes acyclic stuck (suc fuel) path x d b linked lt free le =
     | inr lacks ↦
         (let y = lacks.0 in
         let below = needs_nodes edges x y nodes lacks.1 in
-        no_walk edges list nodes acyclic stuck fuel (path ++ x ∷ []) y (distinct_push path x d new) (All-push (λ p. p < edges.nodes) path x b lt) (linked_push edges path x y linked lacks.1) below.1 lacks.2 (omega (arith, le, one_longer path x)))
+        no_walk edges list nodes acyclic stuck fuel (path ++ x ∷ []) y (distinct_push path x d new) (All-push (λ p. p < edges.nodes) path x b lt)
+        (linked_push edges path x y linked lacks.1) below.1 lacks.2 (omega (arith, le, one_longer path x)))
   ]
 ]
 
 whole_if_acyclic : (edges : Edges) (list : List ℕ) → AreNodes edges → IsAcyclic edges → IsOrder edges list → IsWhole edges list
 whole_if_acyclic edges list nodes acyclic o = λ p lt. elim (in_or_not p list) [
   | inl i ↦ i
-  | inr free ↦ absurd (no_walk edges list nodes acyclic (order_ends edges [] list o) edges.nodes [] p distinct_nil (All-nil (λ q. q < edges.nodes)) tt lt free (omega arith))
+  | inr free ↦ absurd (no_walk edges list nodes acyclic (order_ends edges [] list o) edges.nodes [] p distinct_nil (All-nil (λ q. q < edges.nodes)) tt lt
+      free (omega arith))
 ]
 
 -- without cycles there is an order of all
@@ -139,12 +147,14 @@ ordered edges nodes acyclic =
     let o = order_exists edges in
     (o.0, record { order = o.1; whole = whole_if_acyclic edges o.0 nodes acyclic o.1 })
 
-first_after : (edges : Edges) (taken before after : List ℕ) (p q : ℕ) → IsOrderAfter edges taken (before ++ p ∷ after) → Needs edges p q → Contains (taken ++ before) q
+first_after : (edges : Edges) (taken before after : List ℕ) (p q : ℕ) → IsOrderAfter edges taken (before ++ p ∷ after) → Needs edges p q →
+    Contains (taken ++ before) q
 first_after edges taken [] after p q o n =
     let least = o.0 in
     let is = least.is_open in
     subst (λ l. Contains l q) (sym (append-nil taken)) (is.ready q n)
-first_after edges taken (x ∷ xs) after p q o n = subst (λ l. Contains l q) (append_assoc taken (x ∷ []) xs) (first_after edges (taken ++ x ∷ []) xs after p q o.1 n)
+first_after edges taken (x ∷ xs) after p q o n = subst (λ l. Contains l q) (append_assoc taken (x ∷ []) xs) (first_after edges (taken ++ x
+    ∷ []) xs after p q o.1 n)
 
 -- what a place needs stands before it
 pub come_first : (edges : Edges) (list : List ℕ) → IsOrder edges list → NeedsComeFirst edges list

@@ -1,5 +1,6 @@
 -- The needs to one place, in rows that are sorted by it.
-use Rattle.std.proofs.Common.{◌≡◌, ℕ, ◌+◌, ◌⊎◌, Bool, true, false, cond, ◌&&◌, List, [], ◌∷◌, ◌++◌, take, drop, refl, sym, ap, ◌∙◌, subst, inl, inr, arith, append-nil}
+use Rattle.std.proofs.Common.{◌≡◌, ℕ, ◌+◌, ◌⊎◌, Bool, true, false, cond, ◌&&◌, List, [], ◌∷◌, ◌++◌, take, drop, refl, sym, ap, ◌∙◌, subst, inl, inr, arith}
+use Rattle.std.proofs.Common.{append-nil}
 use Rattle.std.specs.List.{All, Contains, filter, count_by}
 use Rattle.std.proofs.lemmas.List.Elements.{All-head, All-tail, filter-append}
 use Rattle.std.proofs.lemmas.Bool.{false≢true}
@@ -24,7 +25,8 @@ filter_none p [] h = refl
 filter_none p (x ∷ xs) h = skip_head (p x) x (filter p xs) [] (All-head (λ x. p x ≡ false) x xs h) (filter_none p xs (All-tail (λ x. p x ≡ false) x xs h))
 
 -- what passes stands between i and i + n
-pub filter_part : {X : Type 0} (p : X → Bool) (xs : List X) (i n : ℕ) → All (λ x. p x ≡ false) (take i xs) → All (λ x. p x ≡ true) (take n (drop i xs)) → All (λ x. p x ≡ false) (drop n (drop i xs)) → filter p xs ≡ take n (drop i xs)
+pub filter_part : {X : Type 0} (p : X → Bool) (xs : List X) (i n : ℕ) → All (λ x. p x ≡ false) (take i xs) → All (λ x. p x ≡ true) (take n (drop i xs)) →
+    All (λ x. p x ≡ false) (drop n (drop i xs)) → filter p xs ≡ take n (drop i xs)
 filter_part p xs i n a b c =
     let rest = drop i xs in
     ap (filter p) (sym (take-append-drop i xs)) ∙ filter-append p (take i xs) rest

@@ -1,5 +1,6 @@
 -- Hard dependents: what is found leads to the place, and what leads to it is found.
-use Rattle.std.proofs.Common.{◌≡◌, ℕ, ◌+◌, ◌<◌, ◌≤◌, ◌⊎◌, Bool, true, false, eqb, List, [], ◌∷◌, ◌++◌, length, get_or, take, refl, sym, ap, ◌∙◌, subst, inl, inr, arith, append_assoc, append-nil}
+use Rattle.std.proofs.Common.{◌≡◌, ℕ, ◌+◌, ◌<◌, ◌≤◌, ◌⊎◌, Bool, true, false, eqb, List, [], ◌∷◌, ◌++◌, length, get_or, take, refl, sym, ap, ◌∙◌, subst, inl}
+use Rattle.std.proofs.Common.{inr, arith, append_assoc, append-nil}
 use Rattle.std.specs.Bool.{MatchBool}
 use Rattle.std.specs.List.{Contains, filter}
 use Rattle.std.proofs.lemmas.Bool.{eqb-true, eq-eqb, false≢true}
@@ -31,7 +32,8 @@ hard_here row i d lt h = record {
   from = refl;
 }
 
-hard_cases : (row : List Need) (i : ℕ) (d : Need) (a : ℕ) → i < length row → IsHardIn (take (i + 1) row) a → IsHardIn (take i row) a ⊎ (((get_or row i d).hard ≡ true) × ((get_or row i d).from ≡ a))
+hard_cases : (row : List Need) (i : ℕ) (d : Need) (a : ℕ) → i < length row → IsHardIn (take (i + 1) row) a → IsHardIn (take i row) a
+    ⊎ (((get_or row i d).hard ≡ true) × ((get_or row i d).from ≡ a))
 hard_cases row i d a lt h = elim (Contains-push_cases (take i row) (get_or row i d) h.by (subst (λ l. Contains l h.by) (take_more row i d lt) h.is)) [
   | inl k ↦ inl (record { by = h.by; is = k; hard = h.hard; from = h.from })
   | inr same ↦ inr (ap (λ (x : Need). x.hard) same ∙ h.hard, ap (λ (x : Need). x.from) same ∙ h.from)
@@ -46,7 +48,8 @@ adds_none old = record {
 }
 
 -- a soft need adds nothing
-pub adds_soft : (row : List Need) (i : ℕ) (d : Need) (old new : List ℕ) → i < length row → (get_or row i d).hard ≡ false → AddsRow (take i row) old new → AddsRow (take (i + 1) row) old new
+pub adds_soft : (row : List Need) (i : ℕ) (d : Need) (old new : List ℕ) → i < length row → (get_or row i d).hard ≡ false → AddsRow (take i row) old new →
+    AddsRow (take (i + 1) row) old new
 adds_soft row i d old new lt soft h = record {
   rest = h.rest;
   grows = h.grows;
@@ -55,7 +58,8 @@ adds_soft row i d old new lt soft h = record {
 }
 
 -- nor does one of a place that is there
-pub adds_known : (row : List Need) (i : ℕ) (d : Need) (old new : List ℕ) → i < length row → Contains new (get_or row i d).from → AddsRow (take i row) old new → AddsRow (take (i + 1) row) old new
+pub adds_known : (row : List Need) (i : ℕ) (d : Need) (old new : List ℕ) → i < length row → Contains new (get_or row i d).from →
+    AddsRow (take i row) old new → AddsRow (take (i + 1) row) old new
 adds_known row i d old new lt known h = record {
   rest = h.rest;
   grows = h.grows;
@@ -63,13 +67,18 @@ adds_known row i d old new lt known h = record {
   all = λ a j. elim (hard_cases row i d a lt j) [ inl k ↦ h.all a k | inr here ↦ subst (Contains new) here.1 known ];
 }
 
-pub adds_new : (row : List Need) (i : ℕ) (d : Need) (old new : List ℕ) → i < length row → (get_or row i d).hard ≡ true → AddsRow (take i row) old new → AddsRow (take (i + 1) row) old (new ++ (get_or row i d).from ∷ [])
+pub adds_new : (row : List Need) (i : ℕ) (d : Need) (old new : List ℕ) → i < length row → (get_or row i d).hard ≡ true → AddsRow (take i row) old new →
+    AddsRow (take (i + 1) row) old (new ++ (get_or row i d).from ∷ [])
 adds_new row i d old new lt hard h =
     let f = (get_or row i d).from in
     record {
       rest = h.rest ++ f ∷ [];
       grows = ap (λ l. l ++ f ∷ []) h.grows ∙ append_assoc old h.rest (f ∷ []);
-      only = λ a j. elim (Contains-push_cases h.rest f a j) [ inl k ↦ hard_earlier row i d a lt (h.only a k) | inr e ↦ subst (IsHardIn (take (i + 1) row)) e (hard_here row i d lt hard) ];
+      only = λ a j. elim (Contains-push_cases h.rest f a j) [
+        | inl k ↦ hard_earlier row i d a lt (h.only a k)
+        | inr e ↦ subst (IsHardIn (take (i + 1) row)) e
+            (hard_here row i d lt hard)
+      ];
       all = λ a j. elim (hard_cases row i d a lt j) [
         | inl k ↦ Contains-append_left new (f ∷ []) a (h.all a k)
         | inr here ↦ subst (Contains (new ++ f ∷ [])) here.1 (Contains-push new f)
@@ -101,7 +110,8 @@ pub adds_keeps : (row : List Need) (old new : List ℕ) (a : ℕ) → AddsRow ro
 adds_keeps row old new a h i = subst (λ l. Contains l a) (sym h.grows) (Contains-append_left old h.rest a i)
 
 -- a row's places lead where the row's place does
-pub found_more : (edges : Edges) (of b : ℕ) (rows : List Need) (old new : List ℕ) → AreRows edges.needs rows → (b ≡ of) ⊎ Contains old b → HasFound edges of old → AddsRow (filter (λ e. eqb e.to b) rows) old new → HasFound edges of new
+pub found_more : (edges : Edges) (of b : ℕ) (rows : List Need) (old new : List ℕ) → AreRows edges.needs rows → (b ≡ of) ⊎ Contains old b →
+    HasFound edges of old → AddsRow (filter (λ e. eqb e.to b) rows) old new → HasFound edges of new
 found_more edges of b rows old new r from h adds = λ p i. elim (Contains-append_cases old adds.rest p (subst (λ l. Contains l p) adds.grows i)) [
   | inl j ↦ h p j
   | inr j ↦
@@ -113,7 +123,8 @@ found_more edges of b rows old new r from h adds = λ p i. elim (Contains-append
 pub record IsClosedFor (edges : Edges) (of : ℕ) (done found : List ℕ) : Type 0 where
   pub all : (a b : ℕ) → NeedsHard edges a b → (b ≡ of) ⊎ Contains done b → Contains found a
 
-pub closed_first : (edges : Edges) (of : ℕ) (rows : List Need) (found : List ℕ) → AreRows edges.needs rows → AddsRow (filter (λ e. eqb e.to of) rows) [] found → IsClosedFor edges of [] found
+pub closed_first : (edges : Edges) (of : ℕ) (rows : List Need) (found : List ℕ) → AreRows edges.needs rows →
+    AddsRow (filter (λ e. eqb e.to of) rows) [] found → IsClosedFor edges of [] found
 closed_first edges of rows found r adds = record {
   all = λ a b n l. elim l [
     | inl e ↦ adds.all a (row_from_needs edges rows a of r (subst (NeedsHard edges a) e n))
@@ -121,9 +132,11 @@ closed_first edges of rows found r adds = record {
   ];
 }
 
-pub closed_more : (edges : Edges) (of : ℕ) (rows : List Need) (i d : ℕ) (old new : List ℕ) → AreRows edges.needs rows → i < length old → AddsRow (filter (λ e. eqb e.to (get_or old i d)) rows) old new → IsClosedFor edges of (take i old) old → IsClosedFor edges of (take (i + 1) new) new
+pub closed_more : (edges : Edges) (of : ℕ) (rows : List Need) (i d : ℕ) (old new : List ℕ) → AreRows edges.needs rows → i < length old →
+    AddsRow (filter (λ e. eqb e.to (get_or old i d)) rows) old new → IsClosedFor edges of (take i old) old → IsClosedFor edges of (take (i + 1) new) new
 closed_more edges of rows i d old new r lt adds h =
-    let front : take (i + 1) new ≡ take i old ++ get_or old i d ∷ [] = ap (take (i + 1)) adds.grows ∙ take-append-le (i + 1) old adds.rest (omega (arith, lt)) ∙ take_more old i d lt in
+    let front : take (i + 1) new ≡ take i old ++ get_or old i d ∷ [] = ap (take (i + 1)) adds.grows
+    ∙ take-append-le (i + 1) old adds.rest (omega (arith, lt)) ∙ take_more old i d lt in
     record {
       all = λ a b n l.
           let keep = adds_keeps (filter (λ e. eqb e.to (get_or old i d)) rows) old new a adds in
@@ -147,6 +160,8 @@ found_from edges of found h (direct {a = x} {b = y} r) e = h.all x y r (inl e)
 found_from edges of found h (through {a = x} {b = y} {c = z} r m) e = h.all x y r (inr (found_from edges of found h m e))
 
 -- a hard need, by what `add` says
-pub adds_hard : (b : Bool) (row : List Need) (i : ℕ) (d : Need) (old new next : List ℕ) → i < length row → (get_or row i d).hard ≡ true → AddsRow (take i row) old new → MatchBool b ((Contains new (get_or row i d).from → ⊥) × (next ≡ new ++ (get_or row i d).from ∷ [])) (Contains new (get_or row i d).from × (next ≡ new)) → AddsRow (take (i + 1) row) old next
+pub adds_hard : (b : Bool) (row : List Need) (i : ℕ) (d : Need) (old new next : List ℕ) → i < length row → (get_or row i d).hard ≡ true →
+    AddsRow (take i row) old new → MatchBool b ((Contains new (get_or row i d).from → ⊥) ×
+    (next ≡ new ++ (get_or row i d).from ∷ [])) (Contains new (get_or row i d).from × (next ≡ new)) → AddsRow (take (i + 1) row) old next
 adds_hard true row i d old new next lt hard h m = subst (AddsRow (take (i + 1) row) old) (sym m.1) (adds_new row i d old new lt hard h)
 adds_hard false row i d old new next lt hard h m = subst (AddsRow (take (i + 1) row) old) (sym m.1) (adds_known row i d old new lt m.0 h)

@@ -24,7 +24,11 @@ tidy_start places e h = record {
 marks_push : (list : List ℕ) (marks : List Bool) (p : ℕ) → p < length marks → AreMarks list marks → AreMarks (list ++ p ∷ []) (set marks p true)
 marks_push list marks p lt f = record {
   each = λ q. elim (cases_eq q p) [
-    | inl e ↦ (λ _. subst (Contains (list ++ p ∷ [])) (sym e) (Contains-push list p), λ _. ap (λ k. get_or (set marks p true) k false) e ∙ get_or-set_same marks p true false lt)
+    | inl e ↦ (
+      λ _. subst (Contains (list ++ p ∷ [])) (sym e) (Contains-push list p),
+      λ _. ap (λ k. get_or (set marks p true) k false) e
+          ∙ get_or-set_same marks p true false lt,
+    )
     | inr ne ↦
         (let same = get_or-set_other marks p q true false ne in
         let before = f.each q in (
@@ -34,13 +38,16 @@ marks_push list marks p lt f = record {
   ];
 }
 
-pub tidy_push : (old new : Places) (p : ℕ) → IsTidy old → p < length old.marks.items → (Contains old.list.items p → ⊥) → new.list.items ≡ old.list.items ++ p ∷ [] → new.marks.items ≡ set old.marks.items p true → IsTidy new
+pub tidy_push : (old new : Places) (p : ℕ) → IsTidy old → p < length old.marks.items → (Contains old.list.items p → ⊥) → new.list.items ≡ old.list.items ++ p
+    ∷ [] → new.marks.items ≡ set old.marks.items p true → IsTidy new
 tidy_push old new p t lt free l m =
     let same : length new.marks.items ≡ length old.marks.items = ap length m ∙ length-set old.marks.items p true in
     record {
       distinct = subst (IsDistinct eqb) (sym l) (distinct_push old.list.items p t.distinct free);
-      below = subst (λ xs. All (λ q. q < length new.marks.items) xs) (sym l) (subst (λ n. All (λ q. q < n) (old.list.items ++ p ∷ [])) (sym same) (All-push (λ q. q < length old.marks.items) old.list.items p t.below lt));
-      marks = subst (λ xs. AreMarks xs new.marks.items) (sym l) (subst (AreMarks (old.list.items ++ p ∷ [])) (sym m) (marks_push old.list.items old.marks.items p lt t.marks));
+      below = subst (λ xs. All (λ q. q < length new.marks.items) xs) (sym l) (subst (λ n. All (λ q. q < n) (old.list.items ++ p
+          ∷ [])) (sym same) (All-push (λ q. q < length old.marks.items) old.list.items p t.below lt));
+      marks = subst (λ xs. AreMarks xs new.marks.items) (sym l) (subst (AreMarks (old.list.items ++ p
+          ∷ [])) (sym m) (marks_push old.list.items old.marks.items p lt t.marks));
     }
 
 -- there are at most as many as marks

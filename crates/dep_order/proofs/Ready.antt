@@ -12,7 +12,8 @@ use Rattle.std.proofs.lemmas.Cmp.{ranked}
 use Rattle.dep_order.specs.Counts.{TakesLeast}
 use Rattle.nuc_base.proofs.Lists.{in_nil, in_one, in_cons, in_here, in_there}
 
-insert_case : (o : Ordering) (k x q : ℕ) (xs ys : List ℕ) → (Contains ys q → Contains xs q ⊎ (q ≡ k)) → Contains (match_ordering o (k ∷ x ∷ xs) (x ∷ xs) (x ∷ ys)) q → Contains (x ∷ xs) q ⊎ (q ≡ k)
+insert_case : (o : Ordering) (k x q : ℕ) (xs ys : List ℕ) → (Contains ys q → Contains xs q ⊎ (q ≡ k)) →
+    Contains (match_ordering o (k ∷ x ∷ xs) (x ∷ xs) (x ∷ ys)) q → Contains (x ∷ xs) q ⊎ (q ≡ k)
 insert_case Less k x q xs ys h i = elim (in_cons k (x ∷ xs) q i) [ inl e ↦ inr (sym e) | inr j ↦ inl j ]
 insert_case Equal k x q xs ys h i = inl i
 insert_case Greater k x q xs ys h i = elim (in_cons x ys q i) [
@@ -24,7 +25,8 @@ pub in_insert : (ks : List ℕ) (k q : ℕ) → Contains (insert_key nat_cmp ks 
 in_insert [] k q i = inr (sym (in_one k q i))
 in_insert (x ∷ xs) k q i = insert_case (nat_cmp k x) k x q xs (insert_key nat_cmp xs k) (in_insert xs k q) i
 
-kept_case : (o : Ordering) (k x q : ℕ) (xs ys : List ℕ) → (Contains xs q → Contains ys q) → Contains (x ∷ xs) q → Contains (match_ordering o (k ∷ x ∷ xs) (x ∷ xs) (x ∷ ys)) q
+kept_case : (o : Ordering) (k x q : ℕ) (xs ys : List ℕ) → (Contains xs q → Contains ys q) → Contains (x ∷ xs) q →
+    Contains (match_ordering o (k ∷ x ∷ xs) (x ∷ xs) (x ∷ ys)) q
 kept_case Less k x q xs ys h i = in_there k (x ∷ xs) q i
 kept_case Equal k x q xs ys h i = i
 kept_case Greater k x q xs ys h i = elim (in_cons x xs q i) [ inl e ↦ subst (Contains (x ∷ ys)) e (in_here x ys) | inr j ↦ in_there x ys q (h j) ]
@@ -46,7 +48,8 @@ after : (p : ℕ) (new : List ℕ) (q : ℕ) → All (λ q. nat_cmp p q ≡ Less
 after p new q above i = ranked p q Less (sym (All-contains (λ q. nat_cmp p q ≡ Less) new q above i))
 
 -- what taking the first of keys that ascend says
-pub least_taken : (r : Option ℕ) (old new : List ℕ) → (0 < length old → IsSome r) → IfSome r (λ k. old ≡ k ∷ new) → IfSome r (λ k. All (λ q. nat_cmp k q ≡ Less) new) → MatchOption r ((q : ℕ) → Contains old q → ⊥) (TakesLeast old new)
+pub least_taken : (r : Option ℕ) (old new : List ℕ) → (0 < length old → IsSome r) → IfSome r (λ k. old ≡ k ∷ new) →
+    IfSome r (λ k. All (λ q. nat_cmp k q ≡ Less) new) → MatchOption r ((q : ℕ) → Contains old q → ⊥) (TakesLeast old new)
 least_taken None old new some e above = λ q i. absurd (false≢true (some (omega (arith, i.1))))
 least_taken (Some p) old new some e above = record {
   taken = subst (λ l. Contains l p) (sym e) (in_here p new);

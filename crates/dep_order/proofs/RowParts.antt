@@ -25,7 +25,9 @@ above_differs a p h = grind (arith, nat_tests)
 between_same : (a p : ℕ) → ltb a p ≡ false → leb a p ≡ true → eqb a p ≡ true
 between_same a p h g = grind (arith, nat_tests)
 
-pub row_is : (rows : List Need) (place i n : ℕ) → AllWithin (λ (e : Need). ltb e.to place ≡ true) rows 0 i → AllWithin (λ (e : Need). ltb e.to place ≡ false) rows i (length rows) → AllWithin (λ (e : Need). leb e.to place ≡ true) (drop i rows) 0 n → AllWithin (λ (e : Need). leb e.to place ≡ false) (drop i rows) n (length (drop i rows)) → filter (λ e. eqb e.to place) rows ≡ take n (drop i rows)
+pub row_is : (rows : List Need) (place i n : ℕ) → AllWithin (λ (e : Need). ltb e.to place ≡ true) rows 0 i →
+    AllWithin (λ (e : Need). ltb e.to place ≡ false) rows i (length rows) → AllWithin (λ (e : Need). leb e.to place ≡ true) (drop i rows) 0 n →
+    AllWithin (λ (e : Need). leb e.to place ≡ false) (drop i rows) n (length (drop i rows)) → filter (λ e. eqb e.to place) rows ≡ take n (drop i rows)
 row_is rows place i n a b c d =
     let low = take_within (λ (e : Need). ltb e.to place ≡ true) rows i a in
     let from = All-take (λ (e : Need). ltb e.to place ≡ false) n (drop i rows) (drop_within (λ (e : Need). ltb e.to place ≡ false) rows i b) in

@@ -91,7 +91,10 @@ module _ (one_tree : IsOneTree) where
   update_one None (Some a) b h k = absurd h
   update_one (Some v) None b h k = absurd h
   update_one (Some v) (Some a) None h k = absurd k
-  update_one (Some v) (Some a) (Some b) h k = (resets_one (reset_in v) a.resets b.resets h.resets k.resets, merge_one (merge_in v) a.merge b.merge h.merge k.merge)
+  update_one (Some v) (Some a) (Some b) h k = (
+    resets_one (reset_in v) a.resets b.resets h.resets k.resets,
+    merge_one (merge_in v) a.merge b.merge h.merge k.merge,
+  )
 
   root_one : (m : List ℕ × Data) (r s : Root) → IsRoot m r → IsRoot m s → IsSameRoot r s
   root_one m r s h k = record {

@@ -24,7 +24,8 @@ merges_none v d s text none h = elim h.1 [
 ]
 
 pub merge_text : (name : List ℕ) (v : Data) (s bytes : List ℕ) (result : Result Tree DocFault) → v ≡ string s → bytes ≡ s
-    → MatchResult result (λ t. IsTreeOf bytes text_limit (view t) × IsObject (view t) × IsRegular (view t)) (λ f. (f ≡ NoMemory) ⊎ ((f ≡ BadMerge name) × ((d : Data) → IsTreeOf bytes text_limit d → IsObject d → ⊥)))
+    → MatchResult result (λ t. IsTreeOf bytes text_limit (view t) × IsObject (view t) × IsRegular (view t)) (λ f. (f ≡ NoMemory)
+    ⊎ ((f ≡ BadMerge name) × ((d : Data) → IsTreeOf bytes text_limit d → IsObject d → ⊥)))
     → Answers NoMemory (merge_lines name v) (λ t. Merges v (view t) × IsRegular (view t)) result
 merge_text name v s bytes (Ok t) text same h =
     let merges : Merges v (view t) = (h.1, inr (s, text, subst (λ (bs : List ℕ). IsTreeOf bs text_limit (view t)) same h.0)) in

@@ -4,10 +4,12 @@ use Rattle.serde_json.specs.Data.{Data}
 use Rattle.nuc_base.specs.Tables.{Table, AllHold, Faults, on}
 use Rattle.nuc_base.proofs.Tables.{fault_after, fault_before, all_both}
 use Rattle.tree_core.specs.Parts.{check, IsObject}
-use Rattle.deployment_doc.specs.Lines.{at_optional, at_required, label_lines, revision_lines, policies_lines, components_lines, document_lines, reset_in, merge_in, reset_lines, merge_lines, update_lines, HasBoth}
+use Rattle.deployment_doc.specs.Lines.{at_optional, at_required, label_lines, revision_lines, policies_lines, components_lines, document_lines, reset_in}
+use Rattle.deployment_doc.specs.Lines.{merge_in, reset_lines, merge_lines, update_lines, HasBoth}
 use Rattle.deployment_doc.specs.declared.fault.DocFault.{DocFault}
 use Rattle.deployment_doc.specs.declared.fault.DocFault.TheVariants.{WrongKind, DuplicateKey, NoMemory}
-use Rattle.deployment_doc.specs.declared.fault.Key.TheVariants.{Document, DeploymentId, TargetArn, Revision, DeploymentPolicies, Components, ConfigurationUpdate, Reset, Merge}
+use Rattle.deployment_doc.specs.declared.fault.Key.TheVariants.{Document, DeploymentId, TargetArn, Revision, DeploymentPolicies, Components}
+use Rattle.deployment_doc.specs.declared.fault.Key.TheVariants.{ConfigurationUpdate, Reset, Merge}
 
 module _ (d : Data) where
   abbrev pub objects : Table DocFault

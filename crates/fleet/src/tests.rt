@@ -117,9 +117,11 @@ fn names_the_line_that_is_refused(rt: HostRuntime) -> Result<(), Fail> {
 fn knows_groups_in_byte_order(rt: HostRuntime) -> Result<(), Fail> {
     let alloc = rt.alloc();
     let lines =
-        b"devices 2\nreport 1\nhear 0\nsend 1 {\"targetArn\":\"h\",\"revision\":7}\nsend 1 {\"targetArn\":\"G\",\"revision\":9223372036854775807}\nreport 1\ndeliver 0\ndeliver 1\nrestart 1\nreport 1\nhear 2\nhear 1\n";
+        b"devices 2\nreport 1\nhear 0\nsend 1 {\"targetArn\":\"h\",\"revision\":7}\nsend 1 {\"targetArn\":\"G\",\"revision\":9223372036854775807}\nreport 1\n\
+        deliver 0\ndeliver 1\nrestart 1\nreport 1\nhear 2\nhear 1\n";
     let wanted =
-        "reported 0\nknown 1\nsent 0\nsent 1\nreported 1\ntaken 1 h 7\ntaken 1 G 9223372036854775807\nrestarted 1\nreported 2\nknown 1 G 9223372036854775807\nknown 1 h 7\nknown 1 G 9223372036854775807\nknown 1 h 7\n";
+        "reported 0\nknown 1\nsent 0\nsent 1\nreported 1\ntaken 1 h 7\ntaken 1 G 9223372036854775807\nrestarted 1\nreported 2\n\
+        known 1 G 9223372036854775807\nknown 1 h 7\nknown 1 G 9223372036854775807\nknown 1 h 7\n";
     let (status, printed) = ran(alloc, lines.to_vec(alloc)?)?;
     assert_eq!(rt; printed.as_str(), wanted);
     assert!(rt; status == Status::Done);

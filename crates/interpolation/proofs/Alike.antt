@@ -50,7 +50,14 @@ joined_alike f g [] last same = refl
 joined_alike f g (part ∷ parts) last same = λ i. part.plain ++ (same part.inside i ++ joined_alike f g parts last same i)
 
 expanded_alike : (s t : Scope) (text a : List ℕ) → AreAlike s t → Expanded s text a → Expanded t text a
-expanded_alike s t text a h (c, is) = (c, record { cut = is.cut; values = is.values ∙ joined_alike (replaced s) (replaced t) c.parts c.last (λ w. replaced_alike s t w h) })
+expanded_alike s t text a h (c, is) = (
+  c,
+  record {
+    cut = is.cut;
+    values = is.values ∙ joined_alike (replaced s) (replaced t) c.parts c.last
+        (λ w. replaced_alike s t w h);
+  },
+)
 
 pub expand_alike : ExpandAlike
 expand_alike s t text a b h x y = one_text t text a b (expanded_alike s t text a h x) y

@@ -98,7 +98,8 @@ joined_longer instead front (part ∷ parts) last text e =
     ap (λ l. front ++ l) e ∙ sym (append_assoc front part.plain (instead part.inside ++ joined instead parts last))
 
 -- a front that keeps plain pieces plain
-front_kept : (scope : Scope) (front : List ℕ) → ((p : List ℕ) → HasNoVariable p → HasNoVariable (front ++ p)) → (text result : List ℕ) (parts : List Part) (last : List ℕ)
+front_kept : (scope : Scope) (front : List ℕ) → ((p : List ℕ) → HasNoVariable p → HasNoVariable (front ++ p)) →
+    (text result : List ℕ) (parts : List Part) (last : List ℕ)
     → IsExpansion scope text result (cutting_of parts last) → IsExpansion scope (front ++ text) (front ++ result) (longer front parts last)
 front_kept scope front keeps text result [] last is =
     record {
@@ -122,7 +123,8 @@ front_plain scope piece lacking shut text result (cutting, is) =
     (longer front cutting.parts cutting.last, front_kept scope front (λ p. no_variable_more piece p lacking shut) text result cutting.parts cutting.last is)
 
 -- a piece that ends inside of a variable, and the `}` behind it
-pub front_ended : (scope : Scope) (piece plain w : List ℕ) → Lacks 125 piece → EndsInside piece plain w → IsFront scope (piece ++ (125 ∷ [])) (plain ++ replaced scope w)
+pub front_ended : (scope : Scope) (piece plain w : List ℕ) → Lacks 125 piece → EndsInside piece plain w →
+    IsFront scope (piece ++ (125 ∷ [])) (plain ++ replaced scope w)
 front_ended scope piece plain w lacking ends =
     let whole : Lacks 125 (plain ++ (123 ∷ w)) = rw (← ends.is) lacking in
     let same : plain ++ written w ≡ piece ++ (125 ∷ []) = sym (append_assoc plain (123 ∷ w) (125 ∷ [])) ∙ ap (λ l. l ++ (125 ∷ [])) (sym ends.is) in
@@ -153,13 +155,16 @@ ends_empty piece plain w is empty front v ends =
 -- ---- the loop over pieces
 
 pub piece_step : (scope : Scope) (text rest piece after old added new : List ℕ) → ((r : List ℕ) → Expanded scope rest r → Expanded scope text (old ++ r))
-    → rest ≡ piece ++ (125 ∷ after) → new ≡ old ++ added → IsFront scope (piece ++ (125 ∷ [])) added → (r : List ℕ) → Expanded scope after r → Expanded scope text (new ++ r)
+    → rest ≡ piece ++ (125 ∷ after) → new ≡ old ++ added → IsFront scope (piece ++ (125 ∷ [])) added → (r : List ℕ) → Expanded scope after r →
+    Expanded scope text (new ++ r)
 piece_step scope text rest piece after old added new so_far is more front r h =
     let all : Expanded scope rest (added ++ r) = subst (λ t. Expanded scope t (added ++ r)) (append_assoc piece (125 ∷ []) after ∙ sym is) (front after r h) in
     subst (Expanded scope text) (sym (append_assoc old added r) ∙ ap (λ l. l ++ r) (sym more)) (so_far (added ++ r) all)
 
-pub piece_last : (scope : Scope) (text rest old new : List ℕ) → ((r : List ℕ) → Expanded scope rest r → Expanded scope text (old ++ r)) → Lacks 125 rest → new ≡ old ++ rest → Expanded scope text new
-piece_last scope text rest old new so_far lacking more = subst (Expanded scope text) (sym more) (so_far rest (expanded_plain scope rest (lacks_variable rest lacking)))
+pub piece_last : (scope : Scope) (text rest old new : List ℕ) → ((r : List ℕ) → Expanded scope rest r → Expanded scope text (old ++ r)) → Lacks 125 rest →
+    new ≡ old ++ rest → Expanded scope text new
+piece_last scope text rest old new so_far lacking more = subst (Expanded scope text) (sym more) (so_far rest (expanded_plain scope rest
+    (lacks_variable rest lacking)))
 
 -- ---- one cutting
 
@@ -206,7 +211,8 @@ part_same a w r b v s ha iw hb iv e =
     (sym back.0, sym back.1, sym back.2))
     (overlap a (123 ∷ (w ++ (125 ∷ r))) b (123 ∷ (v ++ (125 ∷ s))) (sym (has a w r) ∙ e ∙ has b v s))
 
-joined_same : (ps : List Part) (a : List ℕ) (qs : List Part) (b : List ℕ) → AllByRecursion IsPart ps → HasNoVariable a → AllByRecursion IsPart qs → HasNoVariable b
+joined_same : (ps : List Part) (a : List ℕ) (qs : List Part) (b : List ℕ) → AllByRecursion IsPart ps → HasNoVariable a → AllByRecursion IsPart qs →
+    HasNoVariable b
     → joined written ps a ≡ joined written qs b → (ps ≡ qs) × (a ≡ b)
 joined_same [] a [] b hp ha hq hb e = (refl, e)
 joined_same [] a (q ∷ qs) b hp ha hq hb e = absurd (ha q.plain q.inside (joined written qs b) hq.0.inside e)

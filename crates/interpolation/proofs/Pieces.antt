@@ -1,5 +1,6 @@
 -- Lists taken apart at a byte.
-use Rattle.std.proofs.Common.{◌≡◌, ◌≢◌, ℕ, suc, ◌<◌, List, [], ◌∷◌, ◌++◌, length, get_or, refl, sym, ap, ◌∙◌, ◌⊎◌, inl, inr, ⊎_elim, append_assoc, length-append, arith, Bool, false, eqb, true≢false, true, eqb-true}
+use Rattle.std.proofs.Common.{◌≡◌, ◌≢◌, ℕ, suc, ◌<◌, List, [], ◌∷◌, ◌++◌, length, get_or, refl, sym, ap, ◌∙◌, ◌⊎◌, inl, inr, ⊎_elim, append_assoc}
+use Rattle.std.proofs.Common.{length-append, arith, Bool, false, eqb, true≢false, true, eqb-true}
 use Rattle.std.proofs.Common.{Option, Some, None, MatchOption, Bor, subst, ap₂, take, drop, ◌+◌, ◌≤◌, take-append-drop}
 use Rattle.std.specs.List.{All}
 use Rattle.std.specs.Str.Pattern.{RFindsChar}
@@ -111,7 +112,8 @@ first_cut c text (Some x) h low =
 abbrev pub IsRSplitOnceResult : ℕ → List ℕ → Option (Bor (List ℕ) × Bor (List ℕ)) → Type 0
 IsRSplitOnceResult c text r =
     MatchOption r (RFindsChar c text None)
-    (λ x. (i : ℕ) × (j : ℕ) × RFindsChar c text (Some (i, j)) × (x.0.now ≡ take i text) × (x.1.now ≡ drop j text) × (i ≤ j) × (length x.0.now ≡ i) × (length x.1.now + j ≡ length text))
+    (λ x. (i : ℕ) × (j : ℕ) × RFindsChar c text (Some (i, j)) × (x.0.now ≡ take i text) × (x.1.now ≡ drop j text) × (i ≤ j) × (length x.0.now ≡ i) ×
+    (length x.1.now + j ≡ length text))
 
 pub last_cut : (c : ℕ) (text : List ℕ) (r : Option (Bor (List ℕ) × Bor (List ℕ))) → IsRSplitOnceResult c text r → c < 128
     → MatchOption r (Lacks c text) (λ x. (text ≡ x.0.now ++ (c ∷ x.1.now)) × Lacks c x.1.now)

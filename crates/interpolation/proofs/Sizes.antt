@@ -14,7 +14,8 @@ unfolding escape_byte
 byte_some x =
     let other = cond (nat_lt x 32) (92 ∷ 117 ∷ 48 ∷ 48 ∷ digit_char (x / 16) ∷ digit_char (x % 16) ∷ []) (x ∷ []) in
     cond_both (nat_lt 0 (escape_letter x)) (92 ∷ escape_letter x ∷ []) other (λ l. 1 ≤ length l) (λ e. omega arith)
-    (λ e. cond_both (nat_lt x 32) (92 ∷ 117 ∷ 48 ∷ 48 ∷ digit_char (x / 16) ∷ digit_char (x % 16) ∷ []) (x ∷ []) (λ l. 1 ≤ length l) (λ f. omega arith) (λ f. omega arith))
+    (λ e. cond_both (nat_lt x 32) (92 ∷ 117 ∷ 48 ∷ 48 ∷ digit_char (x / 16) ∷ digit_char (x % 16) ∷ []) (x
+    ∷ []) (λ l. 1 ≤ length l) (λ f. omega arith) (λ f. omega arith))
 
 escape_grows : (s : List ℕ) → length s ≤ length (escape s)
 escape_grows [] = omega arith
@@ -43,12 +44,26 @@ mutual
   members_first : (ms : Members) → members_least ms ≤ length (members_text false ms)
   members_first no_members = omega arith
   members_first (member k d ms) =
-      omega (arith, length-append (quoted k) (58 ∷ (compact_text d ++ members_text true ms)), length-append (compact_text d) (members_text true ms), quoted_grows k, compact_least d, members_later ms)
+      omega (
+        arith,
+        length-append (quoted k) (58 ∷ (compact_text d ++ members_text true ms)),
+        length-append (compact_text d) (members_text true ms),
+        quoted_grows k,
+        compact_least d,
+        members_later ms,
+      )
 
   members_later : (ms : Members) → members_least ms + 1 ≤ length (members_text true ms)
   members_later no_members = omega arith
   members_later (member k d ms) =
-      omega (arith, length-append (quoted k) (58 ∷ (compact_text d ++ members_text true ms)), length-append (compact_text d) (members_text true ms), quoted_grows k, compact_least d, members_later ms)
+      omega (
+        arith,
+        length-append (quoted k) (58 ∷ (compact_text d ++ members_text true ms)),
+        length-append (compact_text d) (members_text true ms),
+        quoted_grows k,
+        compact_least d,
+        members_later ms,
+      )
 
 pub shown_least : (d : Data) → least_size d ≤ length (shown d)
 shown_least null = compact_least null

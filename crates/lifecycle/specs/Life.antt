@@ -49,7 +49,14 @@ is_install step = false
 
 -- after a failure of a step: the third one breaks
 abbrev pub failed : Step → Life → Life
-failed step c = record c { state = if c.failures == 2 then Broken else Errored; failures = c.failures + 1; busy = None; runs = false; install_failed = is_install step }
+failed step c = record c {
+  state = if c.failures == 2 then Broken else Errored;
+  failures = c.failures + 1;
+  busy = None;
+  runs = false;
+  install_failed =
+      is_install step;
+}
 
 -- What each component keeps.
 

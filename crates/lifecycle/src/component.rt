@@ -25,9 +25,27 @@ impl Model for Component {
 
     ghost Value = { Life };
 
-    ghost view = { λ c. record { steps = c.steps; state = c.state; failures = c.failures; busy = c.busy; runs = c.runs; install_failed = c.install_failed; stop = c.stop; gone = c.gone } };
+    ghost view = { λ c. record {
+      steps = c.steps;
+      state = c.state;
+      failures = c.failures;
+      busy = c.busy;
+      runs = c.runs;
+      install_failed = c.install_failed;
+      stop = c.stop;
+      gone = c.gone;
+    } };
 
-    ghost invariant = { λ c. IsSound (record { steps = c.steps; state = c.state; failures = c.failures; busy = c.busy; runs = c.runs; install_failed = c.install_failed; stop = c.stop; gone = c.gone }) };
+    ghost invariant = { λ c. IsSound (record {
+      steps = c.steps;
+      state = c.state;
+      failures = c.failures;
+      busy = c.busy;
+      runs = c.runs;
+      install_failed = c.install_failed;
+      stop = c.stop;
+      gone = c.gone;
+    }) };
 }
 
 impl Component {

@@ -17,7 +17,9 @@ use Rattle.semver.specs.OrderLaws.{same_text}
 use Rattle.semver.specs.Parse.{Parts, version_parts}
 use Rattle.semver.specs.declared.error.Error.{Error}
 use Rattle.npm_ranges.specs.declared.comparator.Sign.{Sign}
-use Rattle.npm_ranges.specs.Grammar.{Spelled, Written, bare, by_sign, comparator_of, comparators_of, each_of, free_partial, hyphen_ends, hyphen_or, is_blank, is_decimal, is_free, joined, lone_sign, number_of, or_equal, part_of, partial_from, partial_of, parts_partial, set_from, set_of, sets_of, sign_of, value_from, with_sign, words_of, written}
+use Rattle.npm_ranges.specs.Grammar.{Spelled, Written, bare, by_sign, comparator_of, comparators_of, each_of, free_partial, hyphen_ends, hyphen_or, is_blank}
+use Rattle.npm_ranges.specs.Grammar.{is_decimal, is_free, joined, lone_sign, number_of, or_equal, part_of, partial_from, partial_of, parts_partial, set_from}
+use Rattle.npm_ranges.specs.Grammar.{set_of, sets_of, sign_of, value_from, with_sign, words_of, written}
 use Rattle.npm_ranges.proofs.Reading.{alone_none}
 use Rattle.npm_ranges.proofs.VersionTexts.{all_weaker, ascii_from_all, both_true, read_bytes}
 use Rattle.npm_ranges.specs.Versions.{is_version_byte}
@@ -39,7 +41,8 @@ onto_all f x (p ∷ ps) h =
     let first = and-left (f x && list_all f p) (list_all (list_all f) ps) h in
     (and-left (f x) (list_all f p) first, both_true _ _ (and-right (f x) (list_all f p) first) (and-right (f x && list_all f p) (list_all (list_all f) ps) h))
 
-split_all : (f test : ℕ → Bool) → ((b : ℕ) → test b ≡ true → f b ≡ true) → (text : List ℕ) → list_all (list_all f) (slice_split test text) ≡ true → list_all f text ≡ true
+split_all : (f test : ℕ → Bool) → ((b : ℕ) → test b ≡ true → f b ≡ true) → (text : List ℕ) → list_all (list_all f) (slice_split test text) ≡ true →
+    list_all f text ≡ true
 split_all f test is [] h = refl
 split_all f test is (b ∷ rest) h = elim (cases_Bool (test b)) [
   | inl cut ↦ both_true _ _ (is b cut) (split_all f test is rest (rw cut at h))
@@ -89,7 +92,8 @@ mapped : {A B : Type 0} (f : A → B) (o : Option A) (y : B) → option_map f o 
 mapped f None y h = cc h
 mapped f (Some x) y h = (x, refl)
 
-each_all : {B : Type 0} (f : List ℕ → Option B) (g : ℕ → Bool) → ((x : List ℕ) (y : B) → f x ≡ Some y → list_all g x ≡ true) → (xs : List (List ℕ)) (ys : List B) → each_of f xs ≡ Some ys → list_all (list_all g) xs ≡ true
+each_all : {B : Type 0} (f : List ℕ → Option B) (g : ℕ → Bool) → ((x : List ℕ) (y : B) → f x ≡ Some y → list_all g x ≡ true) →
+    (xs : List (List ℕ)) (ys : List B) → each_of f xs ≡ Some ys → list_all (list_all g) xs ≡ true
 each_all f g is [] ys h = refl
 each_all f g is (x ∷ xs) ys h =
     let first = joined_first (f x) (each_of f xs) ys h in
@@ -125,7 +129,8 @@ unfolding number_of
 number_all text n h = elim (cases_Bool (is_decimal text && nat_lt (value_from 0 text) (2 ^ 64))) [
   | inl both ↦
       let decimal = and-left (is_decimal text) (nat_lt (value_from 0 text) (2 ^ 64)) both in
-      let digits = and-right (nat_lt 0 (length text)) (list_all is_ascii_digit text) (and-left (nat_lt 0 (length text) && list_all is_ascii_digit text) (not (has_leading_zero text)) decimal) in
+      let digits = and-right (nat_lt 0 (length text)) (list_all is_ascii_digit text) (and-left (nat_lt 0 (length text)
+      && list_all is_ascii_digit text) (not (has_leading_zero text)) decimal) in
       all_weaker is_ascii_digit is_partial_byte digit_is text digits
   | inr other ↦ cc (rw other at h)
 ]
@@ -148,7 +153,8 @@ parts_all text p h = elim (cases_Bool (nat_le (length (parts text)) 3)) [
   | inr many ↦ cc (rw many at h)
 ]
 
-by_version : (text : List ℕ) (r : Result Parts Error) (p : Spelled) → version_parts text ≡ r → partial_from r (parts_partial (parts text)) ≡ Some p → list_all is_partial_byte text ≡ true
+by_version : (text : List ℕ) (r : Result Parts Error) (p : Spelled) → version_parts text ≡ r → partial_from r (parts_partial (parts text)) ≡ Some p →
+    list_all is_partial_byte text ≡ true
 by_version text (Ok q) p is h = all_weaker is_version_byte is_partial_byte partial_byte text (read_bytes text q is)
 by_version text (Err e) p is h = parts_all text p h
 
@@ -205,8 +211,10 @@ comparator_all word c h = sign_all word (signed_all _ (sign_of word).1 c h)
 lone_all : (word : List ℕ) (s : Sign) → lone_sign word ≡ Some s → all_ascii word ≡ true
 lone_all word s h = sign_all word (rw (alone_none (sign_of word).0 (sign_of word).1 s h) refl)
 
-by_sign_all : (o : Option Sign) (word next : List ℕ) (words : List (List ℕ)) (both one : Option (List Written)) (cs : List Written) → lone_sign word ≡ o → by_sign o word next both one ≡ Some cs
-    → ((ds : List Written) → both ≡ Some ds → list_all all_ascii words ≡ true) → ((ds : List Written) → one ≡ Some ds → list_all all_ascii (next ∷ words) ≡ true)
+by_sign_all : (o : Option Sign) (word next : List ℕ) (words : List (List ℕ)) (both one : Option (List Written)) (cs : List Written) → lone_sign word ≡ o →
+    by_sign o word next both one ≡ Some cs
+    → ((ds : List Written) → both ≡ Some ds → list_all all_ascii words ≡ true) → ((ds : List Written) → one ≡ Some ds →
+    list_all all_ascii (next ∷ words) ≡ true)
     → list_all all_ascii (word ∷ next ∷ words) ≡ true
 by_sign_all (Some s) word next words both one cs is h others rest =
     let first = joined_first (with_sign s (partial_of next)) both cs h in
@@ -223,7 +231,8 @@ comparators_all (word ∷ []) cs h =
     let first = joined_first (comparator_of word) (Some []) cs h in
     both_true _ _ (comparator_all word first.0 first.1) refl
 comparators_all (word ∷ next ∷ words) cs h =
-    by_sign_all (lone_sign word) word next words (comparators_of words) (comparators_of (next ∷ words)) cs refl h (comparators_all words) (comparators_all (next ∷ words))
+    by_sign_all (lone_sign word) word next words (comparators_of words) (comparators_of (next
+    ∷ words)) cs refl h (comparators_all words) (comparators_all (next ∷ words))
 
 -- ---- sets
 
@@ -239,7 +248,8 @@ hyphen_is (first ∷ middle ∷ last ∷ []) ends h = elim (cases_Bool (pointwis
 ]
 hyphen_is (first ∷ middle ∷ last ∷ next ∷ words) ends h = cc h
 
-hyphen_all : (o : Option (List ℕ × List ℕ)) (words : List (List ℕ)) (cs : List Written) → hyphen_ends words ≡ o → hyphen_or o (comparators_of words) ≡ Some cs → list_all all_ascii words ≡ true
+hyphen_all : (o : Option (List ℕ × List ℕ)) (words : List (List ℕ)) (cs : List Written) → hyphen_ends words ≡ o →
+    hyphen_or o (comparators_of words) ≡ Some cs → list_all all_ascii words ≡ true
 hyphen_all None words cs is h = comparators_all words cs h
 hyphen_all (Some ends) words cs is h =
     let first = joined_first _ _ cs h in

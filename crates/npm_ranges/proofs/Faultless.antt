@@ -2,7 +2,8 @@
 use Rattle.std.proofs.Common.{◌≡◌, ℕ, ◌+◌, ◌*◌, ◌-◌, ◌^◌, List, [], ◌∷◌, Ok, Err, Bool, true, false, refl}
 use Rattle.std.specs.Prelude.{Result, if◌then◌else◌, nat_lt, nat_le, ◌==◌, ⊤}
 use Rattle.std.specs.Char.{is_ascii_digit}
-use Rattle.semver.specs.Parse.{◌>>=◌, fail, digits_end, digits_from, dot_of, end_error, identifier_len, identifier_of, is_bad_zero, is_leading_zero, is_letter, is_memory, numeric, part_end, scan, starts_zero, tail_build, tail_end, tail_pre, version_parts}
+use Rattle.semver.specs.Parse.{◌>>=◌, fail, digits_end, digits_from, dot_of, end_error, identifier_len, identifier_of, is_bad_zero, is_leading_zero}
+use Rattle.semver.specs.Parse.{is_letter, is_memory, numeric, part_end, scan, starts_zero, tail_build, tail_end, tail_pre, version_parts}
 use Rattle.semver.specs.declared.error.Error.{Error}
 use Rattle.semver.specs.declared.error.ErrorKind.TheVariants as kind
 use Rattle.semver.specs.declared.error.Position.{Position}
@@ -44,8 +45,10 @@ plain_digits pos value len (b ∷ rest) =
     let more = digits_from pos (value * 10 + (b - 48)) (len + 1) rest in
     let fits = if nat_le (2 ^ 64) (value * 10 + (b - 48)) then fail (kind.Overflow pos) else more in
     let leads = if is_leading_zero value len then fail (kind.LeadingZero pos) else fits in
-    plain_if (is_ascii_digit b) leads (digits_end pos value len (b ∷ rest)) (plain_if (is_leading_zero value len) (fail (kind.LeadingZero pos)) fits (plain_err (record { kind = kind.LeadingZero pos }) refl)
-    (plain_if (nat_le (2 ^ 64) (value * 10 + (b - 48))) (fail (kind.Overflow pos)) more (plain_err (record { kind = kind.Overflow pos }) refl) (plain_digits pos (value * 10 + (b - 48)) (len + 1) rest))) (plain_digits_end pos value len (b ∷ rest))
+    plain_if (is_ascii_digit b) leads (digits_end pos value len (b ∷ rest)) (plain_if (is_leading_zero value len) (fail (kind.LeadingZero pos)) fits
+    (plain_err (record { kind = kind.LeadingZero pos }) refl)
+    (plain_if (nat_le (2 ^ 64) (value * 10 + (b - 48))) (fail (kind.Overflow pos)) more (plain_err (record { kind = kind.Overflow pos }) refl)
+    (plain_digits pos (value * 10 + (b - 48)) (len + 1) rest))) (plain_digits_end pos value len (b ∷ rest))
 
 plain_dot : (pos : Position) (xs : List ℕ) → IsPlain (dot_of pos xs)
 plain_dot pos [] = plain_err _ refl
@@ -64,9 +67,14 @@ plain_scan pos acc seg nondigit lead (b ∷ rest) =
     let other = if b == 46 then dot else part_end pos acc seg nondigit lead in
     let digit = if is_ascii_digit b then scan pos acc (seg + 1) nondigit (starts_zero lead seg b) rest else other in
     plain_if (is_letter b) (scan pos acc (seg + 1) true lead rest) digit (plain_scan pos acc (seg + 1) true lead rest)
-    (plain_if (is_ascii_digit b) (scan pos acc (seg + 1) nondigit (starts_zero lead seg b) rest) other (plain_scan pos acc (seg + 1) nondigit (starts_zero lead seg b) rest)
-    (plain_if (b == 46) dot (part_end pos acc seg nondigit lead) (plain_if (seg == 0) (fail (kind.EmptySegment pos)) zeros (plain_err (record { kind = kind.EmptySegment pos }) refl)
-    (plain_if (is_bad_zero pos seg nondigit lead) (fail (kind.LeadingZero pos)) more (plain_err (record { kind = kind.LeadingZero pos }) refl) (plain_scan pos (acc + seg + 1) 0 false false rest)))
+    (plain_if (is_ascii_digit b) (scan pos acc (seg + 1) nondigit (starts_zero lead seg b) rest) other (plain_scan pos acc (seg + 1) nondigit
+    (starts_zero lead seg b) rest)
+    (plain_if (b == 46) dot (part_end pos acc seg nondigit lead) (plain_if (seg == 0) (fail (kind.EmptySegment pos)) zeros (plain_err (record {
+      kind =
+          kind.EmptySegment pos;
+    }) refl)
+    (plain_if (is_bad_zero pos seg nondigit lead) (fail (kind.LeadingZero pos)) more (plain_err (record { kind = kind.LeadingZero pos }) refl)
+    (plain_scan pos (acc + seg + 1) 0 false false rest)))
     (plain_part pos acc seg nondigit lead)))
 
 plain_identifier : (pos : Position) (xs : List ℕ) → IsPlain (identifier_of pos xs)
@@ -79,17 +87,20 @@ plain_tail_end pos a b c pre build (x ∷ rest) = plain_err _ refl
 plain_tail_build : (pos : Position) (a b c : ℕ) (pre xs : List ℕ) → IsPlain (tail_build pos a b c pre xs)
 plain_tail_build pos a b c pre [] = plain_ok _
 plain_tail_build pos a b c pre (x ∷ rest) =
-    plain_if _ _ _ (plain_bind (identifier_of place.Build rest) _ (plain_identifier place.Build rest) (λ y. plain_tail_end place.Build a b c pre y.0 y.1)) (plain_err _ refl)
+    plain_if _ _ _ (plain_bind (identifier_of place.Build rest) _ (plain_identifier place.Build rest) (λ y. plain_tail_end place.Build a b c pre y.0 y.1))
+    (plain_err _ refl)
 
 plain_tail_pre : (a b c : ℕ) (xs : List ℕ) → IsPlain (tail_pre a b c xs)
 plain_tail_pre a b c [] = plain_ok _
 plain_tail_pre a b c (x ∷ rest) =
-    plain_if _ _ _ (plain_bind (identifier_of place.Pre rest) _ (plain_identifier place.Pre rest) (λ y. plain_tail_build place.Pre a b c y.0 y.1)) (plain_tail_build place.Patch a b c [] (x ∷ rest))
+    plain_if _ _ _ (plain_bind (identifier_of place.Pre rest) _ (plain_identifier place.Pre rest) (λ y. plain_tail_build place.Pre a b c y.0 y.1))
+    (plain_tail_build place.Patch a b c [] (x ∷ rest))
 
 plain_patch : (a b : ℕ) (xs : List ℕ) → IsPlain (numeric place.Patch xs >>= λ z. tail_pre a b z.0 z.1)
 plain_patch a b xs = plain_bind (numeric place.Patch xs) _ (plain_digits place.Patch 0 0 xs) (λ z. plain_tail_pre a b z.0 z.1)
 
-plain_minor : (a : ℕ) (xs : List ℕ) → IsPlain (numeric place.Minor xs >>= λ y. dot_of place.Minor y.1 >>= λ u. numeric place.Patch u >>= λ z. tail_pre a y.0 z.0 z.1)
+plain_minor : (a : ℕ) (xs : List ℕ) → IsPlain (numeric place.Minor xs >>= λ y. dot_of place.Minor y.1 >>= λ u. numeric place.Patch u >>= λ z. tail_pre a y.0
+    z.0 z.1)
 plain_minor a xs = plain_bind (numeric place.Minor xs) _ (plain_digits place.Minor 0 0 xs) (λ y.
     plain_bind (dot_of place.Minor y.1) _ (plain_dot place.Minor y.1) (λ u. plain_patch a y.0 u))
 

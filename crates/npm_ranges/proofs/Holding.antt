@@ -1,5 +1,6 @@
 -- What the definitions of ranges imply.
-use Rattle.std.proofs.Common.{◌≡◌, ◌≢◌, ℕ, ◌<◌, List, [], ◌∷◌, ◌++◌, length, Option, Some, None, Bool, true, false, not, refl, sym, ap, ◌∙◌, subst, arith, codes, IsTrue, append_assoc}
+use Rattle.std.proofs.Common.{◌≡◌, ◌≢◌, ℕ, ◌<◌, List, [], ◌∷◌, ◌++◌, length, Option, Some, None, Bool, true, false, not, refl, sym, ap, ◌∙◌, subst, arith}
+use Rattle.std.proofs.Common.{codes, IsTrue, append_assoc}
 use Rattle.std.specs.Prelude.{◌↔◌, ◌&&◌, ◌||◌, ◌==◌, if◌then◌else◌}
 use Rattle.std.specs.Char.{is_ascii_digit}
 use Rattle.std.specs.Fmt.{decimal}
@@ -16,7 +17,8 @@ use Rattle.semver.specs.Order.{pre_cmp}
 use Rattle.semver.specs.Parse.{Parts}
 use Rattle.npm_ranges.specs.declared.comparator.Sign.{Sign}
 use Rattle.npm_ranges.specs.declared.comparator.Sign.TheVariants as sign
-use Rattle.npm_ranges.specs.Grammar.{Spelled, Written, any_version, bare, comparator_of, comparators_of, each_of, is_blank, joined, lone_sign, partial_of, set_from, set_of, sets_of, sign_of, words_of, written}
+use Rattle.npm_ranges.specs.Grammar.{Spelled, Written, any_version, bare, comparator_of, comparators_of, each_of, is_blank, joined, lone_sign, partial_of}
+use Rattle.npm_ranges.specs.Grammar.{set_from, set_of, sets_of, sign_of, words_of, written}
 use Rattle.npm_ranges.specs.Laws.{IsBetween, IsPlain}
 use Rattle.npm_ranges.specs.Ranges.{Meets, lets_pre_in, meets_comparator, meets_full, meets_open, meets_set}
 use Rattle.npm_ranges.specs.Versions.{IsVersion, is_version_byte, parts_in, precedence}
@@ -105,8 +107,12 @@ empty_holds version =
           let same : m.0 ≡ (any_version ∷ []) ∷ [] = same_value m.0 ((any_version ∷ []) ∷ []) (sym m.1 ∙ written_nil) in
           let h : list_any (meets_set p) ((any_version ∷ []) ∷ []) ≡ true = subst (λ sets. list_any (meets_set p) sets ≡ true) same m.2 in
           no_pre p.3 (and-right (is_ge (precedence p (0, 0, 0, [], []))) (length p.3 == 0) (sym (empty_value p) ∙ h)),
-      λ plain.
-          ((any_version ∷ []) ∷ [], written_nil, empty_value p ∙ both_true (is_ge (precedence p (0, 0, 0, [], []))) (length p.3 == 0) (above_nothing p plain) (is_no_pre p.3 plain)),
+      λ plain. (
+        (any_version ∷ []) ∷ [],
+        written_nil,
+        empty_value p ∙ both_true (is_ge (precedence p (0, 0, 0, [], []))) (length p.3 == 0) (above_nothing p plain)
+            (is_no_pre p.3 plain),
+      ),
     )
 
 -- ---- two bounds
@@ -119,11 +125,18 @@ no_bar b = not (b == 124)
 
 pub split_one : (text : List ℕ) → list_all no_blank text ≡ true → slice_split is_blank text ≡ text ∷ []
 split_one [] h = refl
-split_one (b ∷ rest) h = rw (not_true (is_blank b) (and-left (no_blank b) (list_all no_blank rest) h), split_one rest (and-right (no_blank b) (list_all no_blank rest) h)) refl
+split_one (b ∷ rest) h = rw (
+  not_true (is_blank b) (and-left (no_blank b) (list_all no_blank rest) h),
+  split_one rest (and-right (no_blank b) (list_all no_blank rest) h),
+) refl
 
-pub split_two : (x : List ℕ) (blank : ℕ) (y : List ℕ) → is_blank blank ≡ true → list_all no_blank x ≡ true → slice_split is_blank (x ++ blank ∷ y) ≡ x ∷ slice_split is_blank y
+pub split_two : (x : List ℕ) (blank : ℕ) (y : List ℕ) → is_blank blank ≡ true → list_all no_blank x ≡ true → slice_split is_blank (x ++ blank ∷ y) ≡ x
+    ∷ slice_split is_blank y
 split_two [] blank y is h = rw is refl
-split_two (b ∷ rest) blank y is h = rw (not_true (is_blank b) (and-left (no_blank b) (list_all no_blank rest) h), split_two rest blank y is (and-right (no_blank b) (list_all no_blank rest) h)) refl
+split_two (b ∷ rest) blank y is h = rw (
+  not_true (is_blank b) (and-left (no_blank b) (list_all no_blank rest) h),
+  split_two rest blank y is (and-right (no_blank b) (list_all no_blank rest) h),
+) refl
 
 two_words : (x y : List ℕ) → 0 < length x → 0 < length y → list_all no_blank x ≡ true → list_all no_blank y ≡ true → words_of (x ++ 32 ∷ y) ≡ x ∷ y ∷ []
 unfolding words_of
@@ -133,7 +146,10 @@ pub one_set : (text : List ℕ) → list_all no_bar text ≡ true → sets_of te
 unfolding sets_of
 one_set [] h = refl
 one_set (x ∷ []) h = refl
-one_set (x ∷ y ∷ rest) h = rw (not_true (x == 124) (and-left (no_bar x) (list_all no_bar (y ∷ rest)) h), one_set (y ∷ rest) (and-right (no_bar x) (list_all no_bar (y ∷ rest)) h)) refl
+one_set (x ∷ y ∷ rest) h = rw (
+  not_true (x == 124) (and-left (no_bar x) (list_all no_bar (y ∷ rest)) h),
+  one_set (y ∷ rest) (and-right (no_bar x) (list_all no_bar (y ∷ rest)) h),
+) refl
 
 byte_no_blank : (b : ℕ) → is_version_byte b ≡ true → no_blank b ≡ true
 byte_no_blank b h = grind (arith, nat_tests)
@@ -180,7 +196,8 @@ less_than : (b : List ℕ) → BeginsWithDigit b → sign_of (60 ∷ b) ≡ (Som
 unfolding sign_of
 less_than b d = rw (d.is, no_equal d.digit d.test) refl
 
-signed : (word tail : List ℕ) (s : Sign) → sign_of word ≡ (Some s, tail) → IsVersion tail → comparator_of word ≡ Some (record { sign = s; partial = spelled_of (parts_in tail) })
+signed : (word tail : List ℕ) (s : Sign) → sign_of word ≡ (Some s, tail) → IsVersion tail →
+    comparator_of word ≡ Some (record { sign = s; partial = spelled_of (parts_in tail) })
 signed word tail s is v = rw (is, version_partial tail v) refl
 
 not_alone : (word tail : List ℕ) (s : Sign) → sign_of word ≡ (Some s, tail) → BeginsWithDigit tail → lone_sign word ≡ None
@@ -199,8 +216,10 @@ unfolding written
 bounds_written a b v w =
     let x : List ℕ = 62 ∷ 61 ∷ a in
     let y : List ℕ = 60 ∷ b in
-    let bars = both (all_weaker is_version_byte no_bar byte_no_bar a (version_bytes a v)) (all_weaker is_version_byte no_bar byte_no_bar b (version_bytes b w)) in
-    let words = two_words x y (omega arith) (omega arith) (all_weaker is_version_byte no_blank byte_no_blank a (version_bytes a v)) (all_weaker is_version_byte no_blank byte_no_blank b (version_bytes b w)) in
+    let bars = both (all_weaker is_version_byte no_bar byte_no_bar a (version_bytes a v)) (all_weaker is_version_byte no_bar byte_no_bar b
+    (version_bytes b w)) in
+    let words = two_words x y (omega arith) (omega arith) (all_weaker is_version_byte no_blank byte_no_blank a (version_bytes a v))
+    (all_weaker is_version_byte no_blank byte_no_blank b (version_bytes b w)) in
     ap (each_of set_of) (one_set (x ++ 32 ∷ y) bars) ∙ ap (λ ws. joined (set_from ws) (Some [])) words ∙ ap (λ o. joined o (Some [])) (bounds_read a b v w)
   where
     both : list_all no_bar a ≡ true → list_all no_bar b ≡ true → list_all no_bar (a ++ 32 ∷ 60 ∷ b) ≡ true
@@ -218,7 +237,8 @@ none_let_in p q s plain = rw plain refl
 bounds_value : (p : Parts) (a b : List ℕ) → (parts_in a).3 ≡ [] → (parts_in b).3 ≡ []
     → list_any (meets_set p) (bounds a b ∷ []) ≡ ((is_ge (precedence p (parts_in a)) && is_lt (precedence p (parts_in b))) && (length p.3 == 0))
 bounds_value p a b plain also =
-    pair (is_ge (precedence p (parts_in a))) (is_lt (precedence p (parts_in b))) (length p.3 == 0) _ _ (none_let_in p (parts_in a) sign.GreaterOrEqual plain) (none_let_in p (parts_in b) sign.Less also)
+    pair (is_ge (precedence p (parts_in a))) (is_lt (precedence p (parts_in b))) (length p.3 == 0) _ _ (none_let_in p (parts_in a) sign.GreaterOrEqual plain)
+    (none_let_in p (parts_in b) sign.Less also)
 
 pub ge_is : (r : Ordering) → is_ge r ≡ true → r ≢ Less
 ge_is Less h = cc h
@@ -238,14 +258,16 @@ lt_is Greater h = cc h
 is_lt_of : (r : Ordering) → r ≡ Less → is_lt r ≡ true
 is_lt_of r h = rw h refl
 
-between_at : (text a b version : List ℕ) → written text ≡ Some (bounds a b ∷ []) → (parts_in a).3 ≡ [] → (parts_in b).3 ≡ [] → Meets version text ↔ IsBetween version a b
+between_at : (text a b version : List ℕ) → written text ≡ Some (bounds a b ∷ []) → (parts_in a).3 ≡ [] → (parts_in b).3 ≡ [] →
+    Meets version text ↔ IsBetween version a b
 between_at text a b version is plain also =
     let p = parts_in version in
     let low = is_ge (precedence p (parts_in a)) in
     let high = is_lt (precedence p (parts_in b)) in (
       λ m.
           let same : m.0 ≡ bounds a b ∷ [] = same_value m.0 (bounds a b ∷ []) (sym m.1 ∙ is) in
-          let h : ((low && high) && (length p.3 == 0)) ≡ true = sym (bounds_value p a b plain also) ∙ subst (λ sets. list_any (meets_set p) sets ≡ true) same m.2 in
+          let h : ((low && high) && (length p.3 == 0)) ≡ true = sym (bounds_value p a b plain also)
+          ∙ subst (λ sets. list_any (meets_set p) sets ≡ true) same m.2 in
           let two = and-left (low && high) (length p.3 == 0) h in
           record {
             plain = no_pre p.3 (and-right (low && high) (length p.3 == 0) h);

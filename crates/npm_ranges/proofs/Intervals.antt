@@ -1,5 +1,6 @@
 -- `^a` and `~a` hold intervals.
-use Rattle.std.proofs.Common.{◌≡◌, ℕ, ◌+◌, ◌<◌, ◌⊎◌, List, [], ◌∷◌, ◌++◌, length, Some, Bool, true, false, refl, sym, ap, ◌∙◌, subst, arith, inl, inr, append-nil, codes}
+use Rattle.std.proofs.Common.{◌≡◌, ℕ, ◌+◌, ◌<◌, ◌⊎◌, List, [], ◌∷◌, ◌++◌, length, Some, Bool, true, false, refl, sym, ap, ◌∙◌, subst, arith, inl, inr}
+use Rattle.std.proofs.Common.{append-nil, codes}
 use Rattle.std.specs.Prelude.{◌↔◌, ◌&&◌, ◌||◌, ◌==◌}
 use Rattle.std.specs.Cmp.{nat_cmp_is}
 use Rattle.std.specs.List.{list_any}
@@ -81,7 +82,8 @@ caret_below : (a b c x y z : ℕ) → agree (up_to_nonzero (x ∷ y ∷ z ∷ []
     → Below a b c (caret_end (numbers x y z)).0 (caret_end (numbers x y z)).1 (caret_end (numbers x y z)).2
 caret_below a b c x y z h = grind (arith, nat_tests)
 
-below_caret : (a b c x y z : ℕ) → (Below a b c x y z → ⊥) → Below a b c (caret_end (numbers x y z)).0 (caret_end (numbers x y z)).1 (caret_end (numbers x y z)).2
+below_caret : (a b c x y z : ℕ) → (Below a b c x y z → ⊥) → Below a b c (caret_end (numbers x y z)).0 (caret_end (numbers x y z)).1
+    (caret_end (numbers x y z)).2
     → agree (up_to_nonzero (x ∷ y ∷ z ∷ [])) (a ∷ b ∷ c ∷ []) ≡ true
 below_caret a b c x y z not_below h = grind (arith, nat_tests)
 
@@ -101,7 +103,17 @@ one_spelling s a = record { sign = Some s; blanks = []; partial = a; behind = []
 
 signed_written : (s : Sign) (a : List ℕ) → IsPlain a → written (sign_text (Some s) ++ a) ≡ Some ((signed s a ∷ []) ∷ [])
 signed_written s a p =
-    let read = spelled_is_read [] (one_spelling s a ∷ []) (signed s a ∷ []) refl (record { sign = refl; blanks = refl; partial = version_partial a p.version; behind = refl }, (λ more. more), tt) (omega arith) in
+    let read = spelled_is_read [] (one_spelling s a ∷ []) (signed s a ∷ []) refl (
+      record {
+        sign = refl;
+        blanks = refl;
+        partial =
+            version_partial a p.version;
+        behind = refl;
+      },
+      (λ more. more),
+      tt,
+    ) (omega arith) in
     ap written (ap (λ w. sign_text (Some s) ++ w) (sym (append-nil a)) ∙ sym (append-nil (sign_text (Some s) ++ (a ++ [])))) ∙ read
 
 -- what is left of the tests of one set
@@ -115,13 +127,15 @@ record IsTestOf (test : Bool) (v low high : Parts) : Type 0 where
   within : v.3 ≡ [] → test ≡ true → IsWithin v low high
   holds : IsWithin v low high → test ≡ true
 
-held : (s : Sign) (a version : List ℕ) (high : Parts) → IsPlain a → IsTestOf (meets_comparator (parts_in version) (signed s a)) (parts_in version) (parts_in a) high
+held : (s : Sign) (a version : List ℕ) (high : Parts) → IsPlain a → IsTestOf (meets_comparator (parts_in version) (signed s a)) (parts_in version)
+    (parts_in a) high
     → Meets version (sign_text (Some s) ++ a) ↔ IsWithin (parts_in version) (parts_in a) high
 held s a version high p t =
     let v = parts_in version in
     let sets = (signed s a ∷ []) ∷ [] in
     let test = meets_comparator v (signed s a) in
-    let value : list_any (meets_set v) sets ≡ (test && (length v.3 == 0)) = left test (length v.3 == 0) (lets_pre_in v (signed s a)) (none_let_in v (parts_in a) s p.plain) in (
+    let value : list_any (meets_set v) sets ≡ (test && (length v.3 == 0)) = left test (length v.3 == 0) (lets_pre_in v (signed s a)) (none_let_in v
+    (parts_in a) s p.plain) in (
       λ m.
           let same : m.0 ≡ sets = same_value m.0 sets (sym m.1 ∙ signed_written s a p) in
           let h : (test && (length v.3 == 0)) ≡ true = sym value ∙ subst (λ ws. list_any (meets_set v) ws ≡ true) same m.2 in
@@ -141,7 +155,8 @@ interval v w high agrees low_plain high_plain up down = record {
     below = plain_order v high plain high_plain ∙ is_below v.0 v.1 v.2 high.0 high.1 high.2 (up (and-right (is_ge (precedence v w)) agrees h));
   };
   holds = λ k. both_true (is_ge (precedence v w)) agrees (is_ge_of (precedence v w) k.not_below)
-      (down (λ b. k.not_below (plain_order v w k.plain low_plain ∙ is_below v.0 v.1 v.2 w.0 w.1 w.2 b)) (below_is v.0 v.1 v.2 high.0 high.1 high.2 (sym (plain_order v high k.plain high_plain) ∙ k.below)));
+      (down (λ b. k.not_below (plain_order v w k.plain low_plain ∙ is_below v.0 v.1 v.2 w.0 w.1 w.2 b)) (below_is v.0 v.1 v.2 high.0 high.1 high.2
+      (sym (plain_order v high k.plain high_plain) ∙ k.below)));
 }
 
 end_plain : (v : Parts) → (caret_end v).3 ≡ []
@@ -155,11 +170,13 @@ caret_holds a version p =
     let v = parts_in version in
     let w = parts_in a in
     held sign.Caret a version (caret_end w) p
-    (interval v w (caret_end w) (agree (up_to_nonzero (w.0 ∷ w.1 ∷ w.2 ∷ [])) (v.0 ∷ v.1 ∷ v.2 ∷ [])) p.plain (end_plain w) (caret_below v.0 v.1 v.2 w.0 w.1 w.2) (below_caret v.0 v.1 v.2 w.0 w.1 w.2))
+    (interval v w (caret_end w) (agree (up_to_nonzero (w.0 ∷ w.1 ∷ w.2 ∷ [])) (v.0 ∷ v.1 ∷ v.2
+    ∷ [])) p.plain (end_plain w) (caret_below v.0 v.1 v.2 w.0 w.1 w.2) (below_caret v.0 v.1 v.2 w.0 w.1 w.2))
 
 pub tilde_holds : (a version : List ℕ) → IsPlain a → Meets version (codes "~" ++ a) ↔ IsWithin (parts_in version) (parts_in a) (tilde_end (parts_in a))
 tilde_holds a version p =
     let v = parts_in version in
     let w = parts_in a in
     held sign.Tilde a version (tilde_end w) p
-    (interval v w (tilde_end w) (agree (w.0 ∷ w.1 ∷ []) (v.0 ∷ v.1 ∷ v.2 ∷ [])) p.plain refl (tilde_below v.0 v.1 v.2 w.0 w.1) (below_tilde v.0 v.1 v.2 w.0 w.1 w.2))
+    (interval v w (tilde_end w) (agree (w.0 ∷ w.1 ∷ []) (v.0 ∷ v.1 ∷ v.2 ∷ [])) p.plain refl (tilde_below v.0 v.1 v.2 w.0 w.1) (below_tilde v.0 v.1 v.2 w.0
+    w.1 w.2))

@@ -1,5 +1,6 @@
 -- Numbers, parts and partials, and how the readers of `partial` follow the grammar.
-use Rattle.std.proofs.Common.{◌≡◌, ℕ, ◌+◌, ◌*◌, ◌-◌, ◌^◌, ◌≤◌, ◌<◌, List, [], ◌∷◌, length, take, drop, get_or, Option, Some, None, Result, Ok, Err, Bool, true, false, refl, sym, ap, ◌∙◌, subst, inl, inr, arith}
+use Rattle.std.proofs.Common.{◌≡◌, ℕ, ◌+◌, ◌*◌, ◌-◌, ◌^◌, ◌≤◌, ◌<◌, List, [], ◌∷◌, length, take, drop, get_or, Option, Some, None, Result, Ok, Err, Bool}
+use Rattle.std.proofs.Common.{true, false, refl, sym, ap, ◌∙◌, subst, inl, inr, arith}
 use Rattle.std.proofs.lemmas.List.{drop_all, drop_more}
 use Rattle.std.specs.Prelude.{◌==◌, nat_lt, nat_le, if◌then◌else◌, IsErr, position}
 use Rattle.std.specs.List.{position_or_len, slice_split}
@@ -27,7 +28,8 @@ value_grows value (d ∷ ds) = let more = value_grows (value * 10 + (d - 48)) ds
 pub value_over : (all ds : List ℕ) (i value : ℕ) (d : ℕ) → i < length ds → d ≡ get_or ds i 0 → value_from 0 all ≡ value_from value (drop i ds)
     → 2 ^ 64 ≤ value * 10 + (d - 48) → None ≡ (if nat_lt (value_from 0 all) (2 ^ 64) then Some (value_from 0 all) else None)
 value_over all ds i value d below is kept over =
-    let next : value_from value (drop i ds) ≡ value_from (value * 10 + (d - 48)) (drop (i + 1) ds) = ap (value_from value) (drop_more ds i 0 below) ∙ ap (λ x. value_from (value * 10 + (x - 48)) (drop (i + 1) ds)) (sym is) in
+    let next : value_from value (drop i ds) ≡ value_from (value * 10 + (d - 48)) (drop (i + 1) ds) = ap (value_from value) (drop_more ds i 0 below)
+    ∙ ap (λ x. value_from (value * 10 + (x - 48)) (drop (i + 1) ds)) (sym is) in
     let grows = value_grows (value * 10 + (d - 48)) (drop (i + 1) ds) in
     let large : 2 ^ 64 ≤ value_from 0 all = rw (kept ∙ next) (omega arith) in
     rw (le-ltb (value_from 0 all) (2 ^ 64) large) refl
@@ -61,7 +63,8 @@ module _ {X : Type 0} (p : X → Bool) (xs : List X) where
 pub parts_end : (text : List ℕ) → position (λ b. b == 46) text ≡ None → parts text ≡ text ∷ []
 parts_end text none = split_none (λ b. b == 46) text none
 
-pub parts_next : (text : List ℕ) (end : ℕ) → position (λ b. b == 46) text ≡ Some end → (end < length text) × (parts text ≡ take end text ∷ parts (drop (end + 1) text))
+pub parts_next : (text : List ℕ) (end : ℕ) → position (λ b. b == 46) text ≡ Some end → (end < length text) ×
+    (parts text ≡ take end text ∷ parts (drop (end + 1) text))
 parts_next text end is =
     let at = position_some (λ b. b == 46) text end is in
     (at.0, slice_split_first (λ b. b == 46) text 0 (rw at.1 at.0) ∙ ap (λ n. take n text ∷ parts (drop (n + 1) text)) at.1)
@@ -76,7 +79,8 @@ pub no_first : (ps : List (List ℕ)) (first : List ℕ) (tail : List (List ℕ)
 unfolding parts_partial
 no_first ps first tail is none = rw (is, none) (none_both (nat_le (length (first ∷ tail)) 3))
 
-pub no_second : (ps : List (List ℕ)) (first second : List ℕ) (tail : List (List ℕ)) (a : Option ℕ) → ps ≡ first ∷ second ∷ tail → part_of first ≡ Some a → part_of second ≡ None → parts_partial ps ≡ None
+pub no_second : (ps : List (List ℕ)) (first second : List ℕ) (tail : List (List ℕ)) (a : Option ℕ) → ps ≡ first ∷ second ∷ tail → part_of first ≡ Some a →
+    part_of second ≡ None → parts_partial ps ≡ None
 unfolding parts_partial
 no_second ps first second tail a is some none = rw (is, some, none) (none_both (nat_le (length (first ∷ second ∷ tail)) 3))
 
@@ -102,7 +106,8 @@ as_three_two None b = refl
 as_three_two (Some n) None = refl
 as_three_two (Some n) (Some m) = refl
 
-pub one_part : (ps : List (List ℕ)) (first : List ℕ) (a : Option ℕ) → ps ≡ first ∷ [] → part_of first ≡ Some a → Some (free_partial (a ∷ None ∷ None ∷ [])) ≡ parts_partial ps
+pub one_part : (ps : List (List ℕ)) (first : List ℕ) (a : Option ℕ) → ps ≡ first ∷ [] → part_of first ≡ Some a →
+    Some (free_partial (a ∷ None ∷ None ∷ [])) ≡ parts_partial ps
 unfolding parts_partial
 one_part ps first a is some = rw (is, some) (ap Some (as_three_one a))
 
@@ -124,9 +129,11 @@ refused (Err e) h = refl
 
 -- a text that is no UTF-8 is no version
 pub not_a_version : (text : List ℕ) → (IsUtf8 text → ⊥) → IsErr (version_parts text)
-not_a_version text h = refused (version_parts text) (λ p is. h (IsUtf8-from_ascii text (ascii_from_all text (all_weaker is_version_byte (λ b. nat_lt b 128) byte_is_ascii text (read_bytes text p is)))))
+not_a_version text h = refused (version_parts text) (λ p is. h (IsUtf8-from_ascii text (ascii_from_all text (all_weaker is_version_byte (λ b. nat_lt b 128)
+    byte_is_ascii text (read_bytes text p is)))))
 
-pub partial_full : (word bytes : List ℕ) (p : Parts) → bytes ≡ bare word → version_parts bytes ≡ Ok p → Some (record { numbers = p.0 ∷ p.1 ∷ p.2 ∷ []; pre = p.3 }) ≡ partial_of word
+pub partial_full : (word bytes : List ℕ) (p : Parts) → bytes ≡ bare word → version_parts bytes ≡ Ok p →
+    Some (record { numbers = p.0 ∷ p.1 ∷ p.2 ∷ []; pre = p.3 }) ≡ partial_of word
 unfolding partial_of
 partial_full word bytes p same is = rw (sym (ap version_parts same) ∙ is) refl
 

@@ -4,7 +4,8 @@ use Rattle.std.specs.Option.{option_map}
 use Rattle.npm_ranges.specs.declared.comparator.Sign.{Sign}
 use Rattle.npm_ranges.specs.declared.fault.RangeFault.{RangeFault}
 use Rattle.npm_ranges.specs.declared.fault.RangeFault.TheVariants as fault
-use Rattle.npm_ranges.specs.Grammar.{alone, comparator_of, comparators_of, each_of, joined, lone_sign, number_of, partial_of, parts_partial, set_of, sets_of, sign_of, with_sign, words_of, written}
+use Rattle.npm_ranges.specs.Grammar.{alone, comparator_of, comparators_of, each_of, joined, lone_sign, number_of, partial_of, parts_partial, set_of, sets_of}
+use Rattle.npm_ranges.specs.Grammar.{sign_of, with_sign, words_of, written}
 use Rattle.npm_ranges.specs.Reading.{FailsOn, IsFirstComparator}
 use Rattle.npm_ranges.specs.Views.{IsFirstWord, seen, set_seen, sets_behind, sets_seen}
 use Rattle.std.specs.Borrow.{Bor}
@@ -55,13 +56,15 @@ pub lone_next : (word next : List ℕ) (words rest : List (List ℕ)) (s : Sign)
     → comparators_of (word ∷ words) ≡ joined (with_sign s (partial_of next)) (comparators_of rest)
 lone_next word next words rest s lone is = rw (is, lone) refl
 
-pub one_word : (word : List ℕ) (words : List (List ℕ)) → lone_sign word ≡ None → comparators_of (word ∷ words) ≡ joined (comparator_of word) (comparators_of words)
+pub one_word : (word : List ℕ) (words : List (List ℕ)) → lone_sign word ≡ None → comparators_of (word
+    ∷ words) ≡ joined (comparator_of word) (comparators_of words)
 one_word word [] lone = refl
 one_word word (next ∷ words) lone = rw lone refl
 
 -- ---- loops
 
-pub front_more : {A : Type 0} (front : List A) (x : A) (others : Option (List A)) → with_front front (joined (Some x) others) ≡ with_front (front ++ x ∷ []) others
+pub front_more : {A : Type 0} (front : List A) (x : A) (others : Option (List A)) → with_front front (joined (Some x) others) ≡ with_front (front ++ x
+    ∷ []) others
 front_more front x None = refl
 front_more front x (Some xs) = ap (λ ys. Some ys) (sym (append_assoc front (x ∷ []) xs))
 
@@ -69,11 +72,13 @@ seen_more : (done new : List Comparator) (c : Comparator) → new ≡ done ++ c 
 seen_more done new c is = sym (ap (map seen) is ∙ map-append seen done (c ∷ []))
 
 pub comparators_step : (text rest word after behind : List ℕ) (done new : List Comparator) (c : Comparator)
-    → comparators_of (words_of text) ≡ with_front (map seen done) (comparators_of (words_of rest)) → IsFirstWord rest word after → IsFirstComparator word after (seen c) behind
+    → comparators_of (words_of text) ≡ with_front (map seen done) (comparators_of (words_of rest)) → IsFirstWord rest word after →
+    IsFirstComparator word after (seen c) behind
     → new ≡ done ++ c ∷ [] → comparators_of (words_of text) ≡ with_front (map seen new) (comparators_of (words_of behind))
 comparators_step text rest word after behind done new c kept first taken is =
     kept ∙ ap (λ ws. with_front (map seen done) (comparators_of ws)) first.words ∙ ap (with_front (map seen done)) taken.comparators
-    ∙ front_more (map seen done) (seen c) (comparators_of (words_of behind)) ∙ ap (λ front. with_front front (comparators_of (words_of behind))) (seen_more done new c is)
+    ∙ front_more (map seen done) (seen c) (comparators_of (words_of behind)) ∙ ap (λ front. with_front front (comparators_of (words_of behind)))
+    (seen_more done new c is)
 
 -- ---- sets
 
@@ -85,28 +90,36 @@ pub sets_start : (text : List ℕ) (done : List (Vec Comparator Global)) → don
 unfolding written
 sets_start text done is = rw is (front_none (each_of set_of (sets_of text)))
 
-sets_seen_more : (done new : List (Vec Comparator Global)) (s : Vec Comparator Global) → new ≡ done ++ s ∷ [] → sets_seen done ++ set_seen s ∷ [] ≡ sets_seen new
+sets_seen_more : (done new : List (Vec Comparator Global)) (s : Vec Comparator Global) → new ≡ done ++ s ∷ [] → sets_seen done ++ set_seen s
+    ∷ [] ≡ sets_seen new
 sets_seen_more done new s is = sym (ap (map set_seen) is ∙ map-append set_seen done (s ∷ []))
 
 -- what is left of a text, with its first set
 left : (text set : List ℕ) (rest : Option (Bor (List ℕ))) (t : Bor (List ℕ)) (others : List (List ℕ)) (done : List (Vec Comparator Global))
     → written text ≡ with_front (sets_seen done) (each_of set_of (sets_behind rest)) → rest ≡ Some t → sets_of t.now ≡ set ∷ others
     → written text ≡ with_front (sets_seen done) (joined (set_of set) (each_of set_of others))
-left text set rest t others done kept is first = kept ∙ ap (λ o. with_front (sets_seen done) (each_of set_of (sets_behind o))) is ∙ ap (λ ps. with_front (sets_seen done) (each_of set_of ps)) first
+left text set rest t others done kept is first = kept ∙ ap (λ o. with_front (sets_seen done) (each_of set_of (sets_behind o))) is
+    ∙ ap (λ ps. with_front (sets_seen done) (each_of set_of ps)) first
 
-pub sets_step : (text set : List ℕ) (rest : Option (Bor (List ℕ))) (t : Bor (List ℕ)) (others : List (List ℕ)) (done new : List (Vec Comparator Global)) (s : Vec Comparator Global)
-    → written text ≡ with_front (sets_seen done) (each_of set_of (sets_behind rest)) → rest ≡ Some t → sets_of t.now ≡ set ∷ others → set_of set ≡ Some (set_seen s)
+pub sets_step : (text set : List ℕ) (rest : Option (Bor (List ℕ))) (t : Bor (List ℕ)) (others : List (List ℕ)) (done new : List (Vec Comparator Global))
+    (s : Vec Comparator Global)
+    → written text ≡ with_front (sets_seen done) (each_of set_of (sets_behind rest)) → rest ≡ Some t → sets_of t.now ≡ set ∷ others →
+    set_of set ≡ Some (set_seen s)
     → new ≡ done ++ s ∷ [] → written text ≡ with_front (sets_seen new) (each_of set_of others)
 sets_step text set rest t others done new s kept at first read is =
     left text set rest t others done kept at first ∙ ap (λ o. with_front (sets_seen done) (joined o (each_of set_of others))) read
     ∙ front_more (sets_seen done) (set_seen s) (each_of set_of others) ∙ ap (λ front. with_front front (each_of set_of others)) (sets_seen_more done new s is)
 
-pub sets_fail : (text set : List ℕ) (rest : Option (Bor (List ℕ))) (t : Bor (List ℕ)) (others : List (List ℕ)) (done : List (Vec Comparator Global)) (f : RangeFault)
-    → written text ≡ with_front (sets_seen done) (each_of set_of (sets_behind rest)) → rest ≡ Some t → sets_of t.now ≡ set ∷ others → FailsOn (set_of set) f → FailsOn (written text) f
+pub sets_fail : (text set : List ℕ) (rest : Option (Bor (List ℕ))) (t : Bor (List ℕ)) (others : List (List ℕ)) (done : List (Vec Comparator Global))
+    (f : RangeFault)
+    → written text ≡ with_front (sets_seen done) (each_of set_of (sets_behind rest)) → rest ≡ Some t → sets_of t.now ≡ set ∷ others →
+    FailsOn (set_of set) f → FailsOn (written text) f
 sets_fail text set rest t others done f kept at first fails =
     fails_as (written text) (with_front (sets_seen done) (joined (set_of set) (each_of set_of others))) f (left text set rest t others done kept at first)
     (fails_behind (sets_seen done) (joined (set_of set) (each_of set_of others)) f (fails_joined (set_of set) (each_of set_of others) f fails))
 
-pub sets_end : (text : List ℕ) (rest : Option (Bor (List ℕ))) (done : List (Vec Comparator Global)) → written text ≡ with_front (sets_seen done) (each_of set_of (sets_behind rest)) → rest ≡ None
+pub sets_end : (text : List ℕ) (rest : Option (Bor (List ℕ))) (done : List (Vec Comparator Global)) →
+    written text ≡ with_front (sets_seen done) (each_of set_of (sets_behind rest)) → rest ≡ None
     → written text ≡ Some (sets_seen done)
-sets_end text rest done kept none = kept ∙ ap (λ o. with_front (sets_seen done) (each_of set_of (sets_behind o))) none ∙ ap (λ ys. Some ys) (append-nil (sets_seen done))
+sets_end text rest done kept none = kept ∙ ap (λ o. with_front (sets_seen done) (each_of set_of (sets_behind o))) none
+    ∙ ap (λ ys. Some ys) (append-nil (sets_seen done))

@@ -1,5 +1,6 @@
 -- How a text of comparators is read.
-use Rattle.std.proofs.Common.{◌≡◌, ℕ, ◌<◌, List, [], ◌∷◌, ◌++◌, length, Option, Some, None, Bool, true, false, refl, sym, ap, ◌∙◌, subst, arith, append_assoc, append-nil, inl, inr, unwrap_or}
+use Rattle.std.proofs.Common.{◌≡◌, ℕ, ◌<◌, List, [], ◌∷◌, ◌++◌, length, Option, Some, None, Bool, true, false, refl, sym, ap, ◌∙◌, subst, arith, append_assoc}
+use Rattle.std.proofs.Common.{append-nil, inl, inr, unwrap_or}
 use Rattle.std.specs.Prelude.{◌||◌, ◌==◌, nat_eq, ⊤}
 use Rattle.std.specs.Cmp.Lexicographic.{pointwise}
 use Rattle.std.specs.List.{list_all}
@@ -10,7 +11,8 @@ use Rattle.semver.specs.OrderLaws.{same_text}
 use Rattle.semver.specs.Parse.{digits_from}
 use Rattle.npm_ranges.specs.declared.comparator.Sign.{Sign}
 use Rattle.npm_ranges.specs.declared.comparator.Sign.TheVariants as sign
-use Rattle.npm_ranges.specs.Grammar.{Spelled, Written, by_sign, comparator_of, comparators_of, each_of, hyphen_ends, hyphen_or, is_blank, joined, lone_sign, number_of, partial_of, parts_partial, set_from, set_of, sign_of, with_sign, words_of, written}
+use Rattle.npm_ranges.specs.Grammar.{Spelled, Written, by_sign, comparator_of, comparators_of, each_of, hyphen_ends, hyphen_or, is_blank, joined, lone_sign}
+use Rattle.npm_ranges.specs.Grammar.{number_of, partial_of, parts_partial, set_from, set_of, sign_of, with_sign, words_of, written}
 use Rattle.npm_ranges.specs.Laws.{SpellAll, SpelledIsRead, Spelling, Spells, sign_text, spelling_text, spellings_text}
 use Rattle.npm_ranges.proofs.Ascii.{is_partial_byte, partial_bytes}
 use Rattle.npm_ranges.proofs.Holding.{no_bar, no_blank, one_set, split_one, split_two}
@@ -22,7 +24,8 @@ use Rattle.npm_ranges.proofs.VersionTexts.{all_both, all_weaker}
 
 words_past : (blanks text : List ℕ) → list_all is_blank blanks ≡ true → words_of (blanks ++ text) ≡ words_of text
 words_past [] text h = refl
-words_past (b ∷ rest) text h = words_blank b (rest ++ text) (and-left (is_blank b) (list_all is_blank rest) h) ∙ words_past rest text (and-right (is_blank b) (list_all is_blank rest) h)
+words_past (b ∷ rest) text h = words_blank b (rest ++ text) (and-left (is_blank b) (list_all is_blank rest) h)
+    ∙ words_past rest text (and-right (is_blank b) (list_all is_blank rest) h)
 
 -- nothing, or a blank first
 abbrev Ends : List ℕ → Type 0
@@ -129,15 +132,18 @@ sign_no_blank sign.Caret = (refl, omega arith, refl)
 given : (c : Written) (s : Sign) (partial : List ℕ) → c.sign ≡ s → partial_of partial ≡ Some c.partial → with_sign s (partial_of partial) ≡ Some c
 given c s partial same is = ap (with_sign s) is ∙ (λ i. Some (record { sign = sym same i; partial = c.partial }))
 
-plain_comparator : (c : Written) (word : List ℕ) → IsPartialText word → c.sign ≡ sign.Equal → partial_of word ≡ Some c.partial → (lone_sign word ≡ None) × (comparator_of word ≡ Some c)
+plain_comparator : (c : Written) (word : List ℕ) → IsPartialText word → c.sign ≡ sign.Equal → partial_of word ≡ Some c.partial → (lone_sign word ≡ None) ×
+    (comparator_of word ≡ Some c)
 plain_comparator c word t same is =
-    let signs : sign_of word ≡ (None, word) = ap sign_of t.is ∙ none_signed t.first t.rest (has_no_sign t.first t.no_sign) ∙ ap (λ (w : List ℕ). (None, w)) (sym t.is) in
+    let signs : sign_of word ≡ (None, word) = ap sign_of t.is ∙ none_signed t.first t.rest (has_no_sign t.first t.no_sign)
+    ∙ ap (λ (w : List ℕ). (None, w)) (sym t.is) in
     (rw signs refl, rw signs (given c sign.Equal word same is))
 
 signed_comparator : (c : Written) (s : Sign) (word : List ℕ) → IsPartialText word → c.sign ≡ s → partial_of word ≡ Some c.partial
     → (lone_sign (sign_text (Some s) ++ word) ≡ None) × (comparator_of (sign_text (Some s) ++ word) ≡ Some c)
 signed_comparator c s word t same is =
-    let signs : sign_of (sign_text (Some s) ++ word) ≡ (Some s, t.first ∷ t.rest) = ap (λ w. sign_of (sign_text (Some s) ++ w)) t.is ∙ signed_at s t.first t.rest (has_no_sign t.first t.no_sign) in
+    let signs : sign_of (sign_text (Some s) ++ word) ≡ (Some s, t.first ∷ t.rest) = ap (λ w. sign_of (sign_text (Some s) ++ w)) t.is
+    ∙ signed_at s t.first t.rest (has_no_sign t.first t.no_sign) in
     (rw signs refl, rw signs (given c s (t.first ∷ t.rest) same (ap partial_of (sym t.is) ∙ is)))
 
 some_text : (word : List ℕ) → IsPartialText word → 0 < length word
@@ -147,7 +153,8 @@ longer : (x word : List ℕ) → 0 < length x → 0 < length (x ++ word)
 longer [] word h = absurd (omega arith)
 longer (b ∷ rest) word h = omega arith
 
-one_more : (o : Option Sign) (blanks partial rest : List ℕ) (c : Written) → c.sign ≡ unwrap_or o sign.Equal → list_all is_blank blanks ≡ true → partial_of partial ≡ Some c.partial → Ends rest
+one_more : (o : Option Sign) (blanks partial rest : List ℕ) (c : Written) → c.sign ≡ unwrap_or o sign.Equal → list_all is_blank blanks ≡ true →
+    partial_of partial ≡ Some c.partial → Ends rest
     → comparators_of (words_of (sign_text o ++ (blanks ++ (partial ++ rest)))) ≡ joined (Some c) (comparators_of (words_of rest))
 one_more None blanks partial rest c same blank is ends =
     let t = text_of_partial partial c.partial is in
@@ -252,7 +259,8 @@ spelling_no_bar : (s : Spelling) (c : Written) → Spells s c → list_all no_ba
 spelling_no_bar s c h =
     let blanks = all_weaker is_blank no_bar blank_no_bar s.blanks h.blanks in
     let behind = all_weaker is_blank no_bar blank_no_bar s.behind h.behind in
-    all_both no_bar (sign_text s.sign) _ (sign_no_bar s.sign) (all_both no_bar s.blanks _ blanks (all_both no_bar s.partial s.behind (text_of_partial s.partial c.partial h.partial).no_bars behind))
+    all_both no_bar (sign_text s.sign) _ (sign_no_bar s.sign) (all_both no_bar s.blanks _ blanks (all_both no_bar s.partial s.behind
+    (text_of_partial s.partial c.partial h.partial).no_bars behind))
 
 spellings_no_bar : (ss : List Spelling) (cs : List Written) → SpellAll ss cs → list_all no_bar (spellings_text ss) ≡ true
 spellings_no_bar [] cs h = refl

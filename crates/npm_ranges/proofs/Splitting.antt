@@ -1,5 +1,6 @@
 -- How words and sets are taken off the front of a text.
-use Rattle.std.proofs.Common.{◌≡◌, ℕ, zero, suc, ◌+◌, ◌-◌, ◌≤◌, ◌<◌, List, [], ◌∷◌, length, take, drop, get_or, Some, None, Bool, true, false, not, refl, sym, ap, ◌∙◌, subst, add-zero, inl, inr, arith}
+use Rattle.std.proofs.Common.{◌≡◌, ℕ, zero, suc, ◌+◌, ◌-◌, ◌≤◌, ◌<◌, List, [], ◌∷◌, length, take, drop, get_or, Some, None, Bool, true, false, not, refl, sym}
+use Rattle.std.proofs.Common.{ap, ◌∙◌, subst, add-zero, inl, inr, arith}
 use Rattle.std.specs.Cmp.Lexicographic.{pointwise}
 use Rattle.std.specs.Prelude.{◌≢◌, nat_eq, ◌&&◌, ◌==◌, nat_lt, position}
 use Rattle.std.specs.List.{slice_split}
@@ -39,7 +40,8 @@ not_true false h = refl
 pub no_word : (text : List ℕ) → position (λ b. not (is_blank b)) text ≡ None → words_of text ≡ []
 no_word text none =
     let past = position_none (λ b. not (is_blank b)) text none in
-    skip text (length text) (omega arith) (λ k below. not_false _ (fails_before_first (λ b. not (is_blank b)) text k 0 (omega arith))) ∙ ap words_of (drop_all (length text) text (omega arith)) ∙ words_nil
+    skip text (length text) (omega arith) (λ k below. not_false _ (fails_before_first (λ b. not (is_blank b)) text k 0 (omega arith)))
+    ∙ ap words_of (drop_all (length text) text (omega arith)) ∙ words_nil
 
 -- a word that no blank ends
 word_last : (tail : List ℕ) → 0 < length tail → position is_blank tail ≡ None → words_of tail ≡ tail ∷ []
@@ -67,7 +69,8 @@ at_word text start is =
       not_true _ (subst (λ n. not (is_blank (get_or text n 0)) ≡ true) at.1 (passes_at_first (λ b. not (is_blank b)) text 0 (rw at.1 at.0))),
     )
 
-pub first_word_last : (text tail rest : List ℕ) (start : ℕ) → position (λ b. not (is_blank b)) text ≡ Some start → tail ≡ drop start text → position is_blank tail ≡ None → rest ≡ []
+pub first_word_last : (text tail rest : List ℕ) (start : ℕ) → position (λ b. not (is_blank b)) text ≡ Some start → tail ≡ drop start text →
+    position is_blank tail ≡ None → rest ≡ []
     → IsFirstWord text tail rest
 first_word_last text tail rest start is from none empty =
     let at = at_word text start is in
@@ -78,12 +81,14 @@ first_word_last text tail rest start is from none empty =
       shorter = rw empty (omega arith);
     }
 
-pub first_word_next : (text tail word rest : List ℕ) (start end : ℕ) → position (λ b. not (is_blank b)) text ≡ Some start → tail ≡ drop start text → position is_blank tail ≡ Some end
+pub first_word_next : (text tail word rest : List ℕ) (start end : ℕ) → position (λ b. not (is_blank b)) text ≡ Some start → tail ≡ drop start text →
+    position is_blank tail ≡ Some end
     → word ≡ take end tail → rest ≡ drop (end + 1) tail → IsFirstWord text word rest
 first_word_next text tail word rest start end is from ends first_is rest_are =
     let at = at_word text start is in
     let e = position_some is_blank tail end ends in
-    let first : is_blank (get_or tail 0 0) ≡ false = ap (λ t. is_blank (get_or t 0 0)) from ∙ ap is_blank (get_or-drop start text 0 0) ∙ ap (λ k. is_blank (get_or text k 0)) (add-zero start) ∙ at.2 in
+    let first : is_blank (get_or tail 0 0) ≡ false = ap (λ t. is_blank (get_or t 0 0)) from ∙ ap is_blank (get_or-drop start text 0 0)
+    ∙ ap (λ k. is_blank (get_or text k 0)) (add-zero start) ∙ at.2 in
     let last : is_blank (get_or tail end 0) ≡ true = subst (λ n. is_blank (get_or tail n 0) ≡ true) e.1 (passes_at_first is_blank tail 0 (rw e.1 e.0)) in
     let some : 0 < end = elim (cases_lt 0 end) [
       | inl some ↦ some
@@ -125,7 +130,8 @@ bars_none (x ∷ y ∷ rest) e = elim (cases_Bool (x == 124 && y == 124)) [
   | inr none ↦ rw (none, bars_none (y ∷ rest) (omega (arith, rw none at e))) refl
 ]
 
-pub bars_some : (text : List ℕ) → bars_at text < length text → (bars_at text + 2 ≤ length text) × (sets_of text ≡ take (bars_at text) text ∷ sets_of (drop (bars_at text + 2) text))
+pub bars_some : (text : List ℕ) → bars_at text < length text → (bars_at text + 2 ≤ length text) ×
+    (sets_of text ≡ take (bars_at text) text ∷ sets_of (drop (bars_at text + 2) text))
 unfolding bars_at sets_of
 bars_some [] e = absurd (omega arith)
 bars_some (x ∷ []) e = absurd (omega arith)
@@ -157,6 +163,7 @@ pub bars_fit : (text : List ℕ) → bars_at text ≢ length text → bars_at te
 bars_fit text other = let within = bars_within text in (bars_some text (omega arith)).0
 
 -- three words or more whose second is no hyphen
-pub no_hyphen : (first middle last : List ℕ) (words : List (List ℕ)) → pointwise nat_eq middle (45 ∷ []) ≡ false → hyphen_ends (first ∷ middle ∷ last ∷ words) ≡ None
+pub no_hyphen : (first middle last : List ℕ) (words : List (List ℕ)) → pointwise nat_eq middle (45 ∷ []) ≡ false →
+    hyphen_ends (first ∷ middle ∷ last ∷ words) ≡ None
 no_hyphen first middle last [] other = rw other refl
 no_hyphen first middle last (next ∷ words) other = refl

@@ -1,5 +1,6 @@
 -- What is read of a version's text, and its bytes.
-use Rattle.std.proofs.Common.{◌≡◌, ◌≢◌, ℕ, zero, suc, ◌+◌, ◌%◌, ◌≤◌, ◌<◌, ◌^◌, ◌⊎◌, List, [], ◌∷◌, ◌++◌, length, Ok, Err, Bool, true, false, refl, sym, ap, ◌∙◌, subst, inl, inr, arith}
+use Rattle.std.proofs.Common.{◌≡◌, ◌≢◌, ℕ, zero, suc, ◌+◌, ◌%◌, ◌≤◌, ◌<◌, ◌^◌, ◌⊎◌, List, [], ◌∷◌, ◌++◌, length, Ok, Err, Bool, true, false, refl, sym, ap}
+use Rattle.std.proofs.Common.{◌∙◌, subst, inl, inr, arith}
 use Rattle.std.specs.Prelude.{Result, slice_index, ◌&&◌, nat_lt}
 use Rattle.std.specs.Char.{is_ascii_digit}
 use Rattle.std.proofs.lemmas.Bool.{ltb-true, false≢true}
@@ -79,7 +80,8 @@ unfolding join_dots
 joined_is [] h = refl
 joined_is (part ∷ []) h = and-left (list_all is_version_byte part) true h
 joined_is (part ∷ next ∷ rest) h =
-    all_both is_version_byte part (46 ∷ join_dots (next ∷ rest)) (and-left (list_all is_version_byte part) _ h) (joined_is (next ∷ rest) (and-right (list_all is_version_byte part) _ h))
+    all_both is_version_byte part (46 ∷ join_dots (next ∷ rest)) (and-left (list_all is_version_byte part) _ h) (joined_is (next
+    ∷ rest) (and-right (list_all is_version_byte part) _ h))
 
 parts_are : (text : List ℕ) → list_all (list_all is_version_byte) (parts text) ≡ true → list_all is_version_byte text ≡ true
 parts_are text h = subst (λ (t : List ℕ). list_all is_version_byte t ≡ true) (join-parts text) (joined_is (parts text) h)
@@ -110,7 +112,8 @@ number_is n small = all_weaker is_ascii_digit is_version_byte digit_is (decimal 
 
 pub parts_text_is : (p : Parts) → IsValid p → list_all is_version_byte (parts_text p) ≡ true
 parts_text_is p v =
-    let tail = all_both is_version_byte (marked 45 p.3) (marked 43 p.4) (marked_is 45 p.3 refl (pre_release_is p.3 v.3)) (marked_is 43 p.4 refl (build_text_is p.4 v.4)) in
+    let tail = all_both is_version_byte (marked 45 p.3) (marked 43 p.4) (marked_is 45 p.3 refl (pre_release_is p.3 v.3)) (marked_is 43 p.4 refl
+    (build_text_is p.4 v.4)) in
     let third = all_both is_version_byte (decimal p.2) (marked 45 p.3 ++ marked 43 p.4) (number_is p.2 v.2) tail in
     let second = all_both is_version_byte (decimal p.1) (46 ∷ (decimal p.2 ++ (marked 45 p.3 ++ marked 43 p.4))) (number_is p.1 v.1) third in
     all_both is_version_byte (decimal p.0) (46 ∷ (decimal p.1 ++ (46 ∷ (decimal p.2 ++ (marked 45 p.3 ++ marked 43 p.4))))) (number_is p.0 v.0) second

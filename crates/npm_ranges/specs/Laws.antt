@@ -87,4 +87,5 @@ SpellAll (s ∷ ss) (c ∷ cs) = Spells s c × (0 < length ss → 0 < length s.b
 
 -- a text of comparators that are spelled so, behind blanks or none, is the range of one set that has them
 abbrev pub SpelledIsRead : Type 0
-SpelledIsRead = (front : List ℕ) (ss : List Spelling) (cs : List Written) → AreBlank front → SpellAll ss cs → 0 < length ss → written (front ++ spellings_text ss) ≡ Some (cs ∷ [])
+SpelledIsRead = (front : List ℕ) (ss : List Spelling) (cs : List Written) → AreBlank front → SpellAll ss cs → 0 < length ss →
+    written (front ++ spellings_text ss) ≡ Some (cs ∷ [])

@@ -1,5 +1,6 @@
 // Reading partials: `1`, `1.x`, `v1.2.3-alpha`.
-ghost use Rattle.std.specs.Prelude.{◌≡◌, ◌∷◌, [], ◌≤◌, ◌<◌, ◌*◌, ◌+◌, ◌-◌, ◌^◌, ◌==◌, length, Some, None, IfNone, IfSome, IfOk, IsOk, MatchOption, MatchResult, IsErr, Ok, nat_lt, position, if◌then◌else◌};
+ghost use Rattle.std.specs.Prelude.{◌≡◌, ◌∷◌, [], ◌≤◌, ◌<◌, ◌*◌, ◌+◌, ◌-◌, ◌^◌, ◌==◌, length, Some, None, IfNone, IfSome, IfOk, IsOk, MatchOption};
+ghost use Rattle.std.specs.Prelude.{MatchResult, IsErr, Ok, nat_lt, position, if◌then◌else◌};
 ghost use Rattle.std.specs.List.{list_all};
 ghost use Rattle.std.specs.Char.{is_ascii_digit};
 ghost use Rattle.std.specs.Option.{option_map};

@@ -14,7 +14,8 @@ use Rattle.nuc_base.specs.Pointers.{unescape, begins, tokens}
 -- one part more
 pub part_next : (all rest : List ℕ) (done : List (List ℕ)) → position_or_len (λ b. b == 47) rest < length rest
     → map unescape (slice_split (λ b. b == 47) all) ≡ done ++ map unescape (slice_split (λ b. b == 47) rest)
-    → map unescape (slice_split (λ b. b == 47) all) ≡ (done ++ unescape (before_first (λ b. b == 47) rest) ∷ []) ++ map unescape (slice_split (λ b. b == 47) (after_first (λ b. b == 47) rest))
+    → map unescape (slice_split (λ b. b == 47) all) ≡ (done ++ unescape (before_first (λ b. b == 47) rest) ∷ [])
+    ++ map unescape (slice_split (λ b. b == 47) (after_first (λ b. b == 47) rest))
 part_next all rest done below h =
     h ∙ ap (λ ps. done ++ map unescape ps) (slice_split_first (λ b. b == 47) rest 0 below)
     ∙ sym (append_assoc done (unescape (before_first (λ b. b == 47) rest) ∷ []) (map unescape (slice_split (λ b. b == 47) (after_first (λ b. b == 47) rest))))
@@ -83,7 +84,8 @@ pub piece_step : (all rest done plain after mid new next : List ℕ) (letter : �
 piece_step all rest done plain after mid new next letter h front back below middle more past =
     let e1 = plain_next all rest done below h in
     let e2 : (mid ++ letter ∷ []) ++ unescape next ≡ mid ++ (letter ∷ unescape next) = append_assoc mid (letter ∷ []) (unescape next) in
-    e1 ∙ ap₂ (λ x y. x ++ y) (ap (λ x. done ++ x) (sym front) ∙ sym middle) (ap (λ x. unescape (126 ∷ x)) (sym back) ∙ past) ∙ sym e2 ∙ ap (λ x. x ++ unescape next) (sym more)
+    e1 ∙ ap₂ (λ x y. x ++ y) (ap (λ x. done ++ x) (sym front) ∙ sym middle) (ap (λ x. unescape (126 ∷ x)) (sym back) ∙ past) ∙ sym e2
+    ∙ ap (λ x. x ++ unescape next) (sym more)
 
 pub part_step : (all rest part after : List ℕ) (done : List (List ℕ)) (token : List ℕ) (new : List (List ℕ))
     → map unescape (slice_split (λ b. b == 47) all) ≡ done ++ map unescape (slice_split (λ b. b == 47) rest)

@@ -1,6 +1,7 @@
 ghost use Rattle.std.specs.Prelude.{◌≡◌, List, ℕ, MatchResult, IfOk, map, true, ◌==◌, ◌∷◌, ◌<◌, ◌≤◌, length};
 ghost use Rattle.std.specs.Str.{IsUtf8};
-ghost use Rattle.nuc_base.specs.Pointers.{IsPointer, FailsAs, tokens as tokens_of, are_whole as escapes_are_whole, is_escape as is_an_escape, begins as begins_well, unescape};
+ghost use Rattle.nuc_base.specs.Pointers.{IsPointer, FailsAs, tokens as tokens_of, are_whole as escapes_are_whole, is_escape as is_an_escape};
+ghost use Rattle.nuc_base.specs.Pointers.{begins as begins_well, unescape};
 ghost use Rattle.std.specs.List.{slice_split};
 
 use crate::list::List;

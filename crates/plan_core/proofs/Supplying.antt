@@ -62,7 +62,7 @@ here_step cs p ps (Some x) is below q c at (inl same) more = (0, sym is ∙ ap (
 here_step cs p ps (Some x) is below q c at (inr there) more = let m = more there in (suc m.0, m.1)
 
 -- what stands at a place of the set is chosen
-chosen_here : (cs : List Candidate) (ps : List ℕ) → All (λ p. p < length cs) ps → (q : ℕ) (c : Candidate) → Contains ps q → slice_get cs q ≡ Some c →
+pub chosen_here : (cs : List Candidate) (ps : List ℕ) → All (λ p. p < length cs) ps → (q : ℕ) (c : Candidate) → Contains ps q → slice_get cs q ≡ Some c →
     (a : ℕ) × (slice_get (chosen cs ps) a ≡ Some c)
 chosen_here cs [] below q c i at = absurd (in_nil q i)
 chosen_here cs (p ∷ ps) below q c i at =

@@ -1,5 +1,6 @@
 -- What adding a candidate comes to.
-use Rattle.std.proofs.Common.{◌≡◌, ◌≢◌, ℕ, ◌<◌, ◌≤◌, ◌^◌, ◌-◌, List, length, get_or, Result, Ok, Err, OnOk, OnErr, IfErr, MatchResult, refl, sym, ap, subst, ◌∙◌, inl, inr, arith}
+use Rattle.std.proofs.Common.{◌≡◌, ◌≢◌, ℕ, ◌<◌, ◌≤◌, ◌^◌, ◌-◌, List, length, get_or, Result, Ok, Err, OnOk, OnErr, IfErr, MatchResult, refl, sym, ap, subst}
+use Rattle.std.proofs.Common.{◌∙◌, inl, inr, arith}
 use Rattle.std.specs.List.{AllWithin, HoldsAt, insert}
 use Rattle.std.proofs.lemmas.List.{get_or_default}
 use Rattle.std.proofs.lemmas.List.Edits.{length-insert}
@@ -26,7 +27,16 @@ Settles standing c r = MatchResult r (λ _. standing.bytes ≡ c.bytes) (λ refu
 pub settled : (cs : List Candidate) (c standing : Candidate) (at : ℕ) (r : Result (Unit {0}) AddRefusal)
     → AreCandidates cs → at < length cs → standing ≡ get_or cs at standing → HoldsAt (λ d. IsAlike d c) cs at → Settles standing c r → Outcome cs c cs r
 settled cs c standing at (Ok u) are within is alike same = record {
-  added = inl (record { as_one = standing; there = (at, within, sym is); alike = subst (λ (d : Candidate). IsAlike d c) (sym is) (alike standing); same = same }, refl);
+  added = inl (
+    record {
+      as_one = standing;
+      there = (at, within, sym is);
+      alike = subst (λ (d : Candidate). IsAlike d c) (sym is) (alike standing);
+      same =
+          same;
+    },
+    refl,
+  );
   agrees = λ clash.
       let e = clash.with in
       let here = one_alike cs c e at are.rising within alike clash.there clash.alike in
@@ -39,7 +49,16 @@ settled cs c standing at (Ok u) are within is alike same = record {
 settled cs c standing at (Err refusal) are within is alike h = record {
   added = tt;
   agrees = tt;
-  refused = subst (IsRefused cs c) (sym h.0) (refl, record { with = standing; there = (at, within, sym is); alike = subst (λ (d : Candidate). IsAlike d c) (sym is) (alike standing); differs = h.1 });
+  refused = subst (IsRefused cs c) (sym h.0) (
+    refl,
+    record {
+      with = standing;
+      there = (at, within, sym is);
+      alike =
+          subst (λ (d : Candidate). IsAlike d c) (sym is) (alike standing);
+      differs = h.1;
+    },
+  );
   unchanged = refl;
   rule = are;
 }
@@ -47,7 +66,8 @@ settled cs c standing at (Err refusal) are within is alike h = record {
 -- ---- where none stands
 
 inserted : (cs : List Candidate) (c : Candidate) (at : ℕ) → AreCandidates cs → IsRead c → length cs < 2 ^ 32 - 1 → at ≤ length cs
-    → AllWithin (λ d. IsBefore (member d) (member c)) cs 0 at → AllWithin (λ d. IsBefore (member c) (member d)) cs at (length cs) → AreCandidates (insert cs at c)
+    → AllWithin (λ d. IsBefore (member d) (member c)) cs 0 at → AllWithin (λ d. IsBefore (member c) (member d)) cs at (length cs) →
+    AreCandidates (insert cs at c)
 inserted cs c at are read room within before after = record {
   rising = pairs_rising (insert cs at c) (pairs_insert Precedes cs at c within (rising_pairs cs are.rising) before after);
   read = all_insert IsRead cs at c within are.read read;
@@ -78,7 +98,8 @@ put_there cs new c at (Err refusal) are read room within before after put refuse
 -- ---- the same where the value, its list and slices of it are told apart
 
 pub settled_at : (value inside slice again : List Candidate) (c standing : Candidate) (at : ℕ) (r : Result (Unit {0}) AddRefusal)
-    → inside ≡ value → slice ≡ inside → again ≡ inside → AreCandidates inside → at < length slice → standing ≡ get_or again at standing → HoldsAt (λ d. IsAlike d c) slice at → Settles standing c r
+    → inside ≡ value → slice ≡ inside → again ≡ inside → AreCandidates inside → at < length slice → standing ≡ get_or again at standing →
+    HoldsAt (λ d. IsAlike d c) slice at → Settles standing c r
     → Outcome value c value r
 settled_at value inside slice again c standing at r a b e are within is alike h =
     settled value c standing at r (subst AreCandidates a are) (subst (λ (cs : List Candidate). at < length cs) (b ∙ a) within)
@@ -94,4 +115,5 @@ pub put_at : (value inside slice new : List Candidate) (c : Candidate) (at : ℕ
 put_at value inside slice new c at r a b are read room within gap put refused =
     let g : IsGap c value at = subst (λ (cs : List Candidate). IsGap c cs at) (b ∙ a) gap in
     put_there value new c at r (subst AreCandidates a are) read room (subst (λ (cs : List Candidate). at ≤ length cs) (b ∙ a) within) g.0 g.1
-    (subst (λ (cs : List Candidate). OnOk r (new ≡ insert cs at c)) a put) (subst (λ (cs : List Candidate). IfErr r (λ refusal. (new ≡ cs) × (refusal ≡ NoMemory c))) a refused)
+    (subst (λ (cs : List Candidate). OnOk r (new ≡ insert cs at c)) a put) (subst (λ (cs : List Candidate). IfErr r (λ refusal. (new ≡ cs) ×
+    (refusal ≡ NoMemory c))) a refused)

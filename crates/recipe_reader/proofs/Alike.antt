@@ -27,7 +27,8 @@ use Rattle.recipe_reader.specs.declared.recipe.Recipe.{Recipe}
 use Rattle.recipe_reader.specs.declared.recipe.Skip.{Skip}
 use Rattle.recipe_reader.specs.declared.recipe.Skip.TheVariants.{OnPath, Exists}
 use Rattle.recipe_reader.specs.declared.recipe.StepDef.{StepDef}
-use Rattle.recipe_reader.specs.declared.fault.Key.TheVariants.{ComponentConfiguration, ComponentDependencies, DefaultConfiguration, Lifecycle, Artifacts, Setenv}
+use Rattle.recipe_reader.specs.declared.fault.Key.TheVariants.{ComponentConfiguration, ComponentDependencies, DefaultConfiguration, Lifecycle, Artifacts}
+use Rattle.recipe_reader.specs.declared.fault.Key.TheVariants.{Setenv}
 use Rattle.recipe_reader.specs.declared.fault.RecipeFault.{RecipeFault}
 use Rattle.recipe_reader.specs.declared.fault.RecipeFault.TheVariants.{NoMemory, Tree}
 use Rattle.tree_core.proofs.Among.{zip_one}
@@ -191,7 +192,8 @@ recipe_one platform d r s h k = record {
   name = cc (h.name, k.name);
   version = cc (h.version, k.version);
   dependencies = dependencies_one (present (get (spelled ComponentDependencies) d)) r.dependencies s.dependencies h.dependencies k.dependencies;
-  default_config = default_one (inner DefaultConfiguration (present (get (spelled ComponentConfiguration) d))) (view r.default_config) (view s.default_config) h.default_config k.default_config;
+  default_config = default_one (inner DefaultConfiguration (present (get (spelled ComponentConfiguration) d))) (view r.default_config)
+      (view s.default_config) h.default_config k.default_config;
   steps = steps_one (inner Lifecycle (manifest_of platform d)) (step_of r) (step_of s) h.steps k.steps;
   boot_back = h.boot_back ∙ sym k.boot_back;
   artifacts = artifacts_one (inner Artifacts (manifest_of platform d)) r.artifacts s.artifacts h.artifacts k.artifacts;
@@ -211,7 +213,8 @@ module _ (one_tree : IsOneTree) (no_fault : TreeHasNoFault) (bytes : List ℕ) (
   fault_none r f h (inl k) = k
   fault_none r f h (inr (inl k)) = absurd (k.3 (no_fault bytes limit h.0 k.0 h.1 k.2))
   fault_none r f h (inr (inr k)) =
-      absurd (first_excludes (recipe_lines platform k.0) f (subst (λ (d : Data). AllHold (recipe_lines platform d)) (one_tree bytes limit h.0 k.0 h.1 k.1) h.2) k.2)
+      absurd (first_excludes (recipe_lines platform k.0) f (subst (λ (d : Data). AllHold (recipe_lines platform d)) (one_tree bytes limit h.0 k.0 h.1 k.1)
+      h.2) k.2)
 
 module _ (one_tree : IsOneTree) (no_fault : TreeHasNoFault) (one_fault : TreeIsOneFault) (bytes : List ℕ) (platform : Platform) where
   pub fault_one : (f g : RecipeFault) → IsFault bytes platform f → IsFault bytes platform g → f ≡ g

@@ -47,7 +47,15 @@ nucleus_regular : (version : List ℕ) → IsVersion version → IsRegular (nucl
 nucleus_regular version is = record {
   orderly = ((refl, (refl, tt)), tt, ((refl, tt), tt, (tt, tt, tt)));
   shallow = lit≤ tt;
-  utf8 = (IsUtf8-are_ascii _ refl, IsUtf8-are_ascii _ refl, (IsUtf8-are_ascii _ refl, version_is_utf8 version is, (IsUtf8-are_ascii _ refl, IsUtf8-are_ascii _ refl, tt)));
+  utf8 = (
+    IsUtf8-are_ascii _ refl,
+    IsUtf8-are_ascii _ refl,
+    (
+      IsUtf8-are_ascii _ refl,
+      version_is_utf8 version is,
+      (IsUtf8-are_ascii _ refl, IsUtf8-are_ascii _ refl, tt),
+    ),
+  );
 }
 
 nucleus_length : (version : List ℕ) → IsVersion version → length (nucleus_bytes version) ≤ limit

@@ -1,5 +1,6 @@
 -- A text is one digest at most.
-use Rattle.std.proofs.Common.{◌≡◌, ℕ, ◌+◌, ◌-◌, ◌*◌, ◌/◌, ◌%◌, Bool, true, false, cond, eqb, List, length, replicate, Ok, Err, Result, inl, inr, ap, sym, ◌∙◌, refl, length-append, eqb-true}
+use Rattle.std.proofs.Common.{◌≡◌, ℕ, ◌+◌, ◌-◌, ◌*◌, ◌/◌, ◌%◌, Bool, true, false, cond, eqb, List, length, replicate, Ok, Err, Result, inl, inr, ap, sym, ◌∙◌}
+use Rattle.std.proofs.Common.{refl, length-append, eqb-true}
 use Rattle.std.proofs.lemmas.List.{length-replicate}
 use Rattle.hex.specs.Hex.{decode_sized, decode_pairs}
 use Rattle.hex.specs.declared.error.FromHexError.{FromHexError}
@@ -10,7 +11,8 @@ use Rattle.base64.proofs.EngineFacts.{decode_of-encode_of}
 use Rattle.base64.proofs.RoundTrip.{length-encode_symbols}
 use Rattle.recipe_reader.specs.Artifacts.{IsBase64, IsDigest}
 
-sized_at : (odd fits : Bool) (pairs : Result (List ℕ) FromHexError) (d : List ℕ) → (cond odd (Err OddLength) (cond fits pairs (Err InvalidStringLength))) ≡ Ok d → fits ≡ true
+sized_at : (odd fits : Bool) (pairs : Result (List ℕ) FromHexError) (d : List ℕ) → (cond odd (Err OddLength) (cond fits pairs (Err InvalidStringLength)))
+    ≡ Ok d → fits ≡ true
 sized_at true fits pairs d h = cc h
 sized_at false true pairs d h = refl
 sized_at false false pairs d h = cc h
@@ -21,7 +23,8 @@ hex_length s d h = eqb-true (length s / 2) 32 (sized_at (eqb (length s % 2) 1) (
 
 base64_length : (d : List ℕ) → length d ≡ 32 → length (encode_of standard d) ≡ 44
 base64_length d h =
-    length-append _ _ ∙ ap (λ n. n + length {A = ℕ} (replicate ((3 - length d % 3) % 3) 61)) (length-encode_symbols _ d) ∙ ap (λ n. (4 * length d + 2) / 3 + n) (length-replicate _ 61)
+    length-append _ _ ∙ ap (λ n. n + length {A = ℕ} (replicate ((3 - length d % 3) % 3) 61)) (length-encode_symbols _ d)
+    ∙ ap (λ n. (4 * length d + 2) / 3 + n) (length-replicate _ 61)
     ∙ ap (λ n. (4 * n + 2) / 3 + (3 - n % 3) % 3) h
 
 not_both : (s d e : List ℕ) → decode_sized s 32 ≡ Ok d → IsBase64 s e → ⊥

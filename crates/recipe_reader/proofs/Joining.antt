@@ -1,5 +1,6 @@
 -- Two lists of variables in name order, put together.
-use Rattle.std.proofs.Common.{◌≡◌, ℕ, ◌≤◌, List, [], ◌∷◌, ◌++◌, length, drop, Option, Some, None, Ordering, Less, Equal, Greater, nat_cmp, refl, sym, ap, ◌∙◌, subst}
+use Rattle.std.proofs.Common.{◌≡◌, ℕ, ◌≤◌, List, [], ◌∷◌, ◌++◌, length, drop, Option, Some, None, Ordering, Less, Equal, Greater, nat_cmp, refl, sym, ap, ◌∙◌}
+use Rattle.std.proofs.Common.{subst}
 use Rattle.std.specs.Option.{option_or}
 use Rattle.std.proofs.lemmas.Cmp.{tied_itself}
 use Rattle.std.proofs.lemmas.Map.Lookups.{exact_bytes}
@@ -54,10 +55,14 @@ below_at k Less a b c ha hb hc = ha
 below_at k Equal a b c ha hb hc = hb
 below_at k Greater a b c ha hb hc = hc
 
-below_in : (k : List ℕ) (x : Variable) (more : List Variable → List Variable) → cmp k x.0 ≡ Less → ((ys : List Variable) → IsBelow k ys → IsBelow k (more ys)) → (ys : List Variable) → IsBelow k ys → IsBelow k (before_in x more ys)
+below_in : (k : List ℕ) (x : Variable) (more : List Variable → List Variable) → cmp k x.0 ≡ Less →
+    ((ys : List Variable) → IsBelow k ys → IsBelow k (more ys)) → (ys : List Variable) → IsBelow k ys → IsBelow k (before_in x more ys)
 below_in k x more first later [] h = (first, later [] tt)
 below_in k x more first later (y ∷ ys) h =
-    below_at k (cmp x.0 y.0) (x ∷ more (y ∷ ys)) (x ∷ more ys) (y ∷ before_in x more ys) (first, later (y ∷ ys) h) (first, later ys h.1) (h.0, below_in k x more first later ys h.1)
+    below_at k (cmp x.0 y.0) (x ∷ more (y ∷ ys)) (x ∷ more ys) (y ∷ before_in x more ys) (first, later (y ∷ ys) h) (first, later ys h.1) (
+      h.0,
+      below_in k x more first later ys h.1,
+    )
 
 below_merged : (k : List ℕ) (xs ys : List Variable) → IsBelow k xs → IsBelow k ys → IsBelow k (merged xs ys)
 below_merged k [] ys h later = later
@@ -93,17 +98,20 @@ rises_merged (x ∷ xs) ys h later =
 
 -- ---- each name has the own value, or else the other
 
-own_first : (o : Ordering) (v : List ℕ) (f g k : Option (List ℕ)) → f ≡ option_or g k → match_ordering o f (Some v) f ≡ option_or (match_ordering o g (Some v) g) k
+own_first : (o : Ordering) (v : List ℕ) (f g k : Option (List ℕ)) → f ≡ option_or g k → match_ordering o f (Some v) f ≡ option_or (match_ordering o g
+    (Some v) g) k
 own_first Less v f g k h = h
 own_first Equal v f g k h = refl
 own_first Greater v f g k h = h
 
-own_for_both : (o : Ordering) (v w : List ℕ) (f g k : Option (List ℕ)) → f ≡ option_or g k → match_ordering o f (Some v) f ≡ option_or (match_ordering o g (Some v) g) (match_ordering o k (Some w) k)
+own_for_both : (o : Ordering) (v w : List ℕ) (f g k : Option (List ℕ)) → f ≡ option_or g k →
+    match_ordering o f (Some v) f ≡ option_or (match_ordering o g (Some v) g) (match_ordering o k (Some w) k)
 own_for_both Less v w f g k h = h
 own_for_both Equal v w f g k h = refl
 own_for_both Greater v w f g k h = h
 
-other_first : (o p : Ordering) → p ≡ o → (w : List ℕ) (f g k : Option (List ℕ)) → (p ≡ Equal → g ≡ None) → f ≡ option_or g k → match_ordering o f (Some w) f ≡ option_or g (match_ordering o k (Some w) k)
+other_first : (o p : Ordering) → p ≡ o → (w : List ℕ) (f g k : Option (List ℕ)) → (p ≡ Equal → g ≡ None) → f ≡ option_or g k →
+    match_ordering o f (Some w) f ≡ option_or g (match_ordering o k (Some w) k)
 other_first Less p e w f g k none h = h
 other_first Equal p e w f g k none h = ap (λ z. option_or z (Some w)) (sym (none e))
 other_first Greater p e w f g k none h = h
@@ -145,15 +153,18 @@ merged_alone : (xs : List Variable) → merged xs [] ≡ xs
 merged_alone [] = refl
 merged_alone (x ∷ xs) = ap (λ zs. x ∷ zs) (merged_alone xs)
 
-pub end_own : (xs ys : List Variable) (i j : ℕ) (done : List Variable) → length xs ≤ i → merged xs ys ≡ done ++ merged (drop i xs) (drop j ys) → merged xs ys ≡ (done ++ drop i xs) ++ drop j ys
+pub end_own : (xs ys : List Variable) (i j : ℕ) (done : List Variable) → length xs ≤ i → merged xs ys ≡ done ++ merged (drop i xs) (drop j ys) →
+    merged xs ys ≡ (done ++ drop i xs) ++ drop j ys
 end_own xs ys i j done past goes =
     let none : drop i xs ≡ [] = drop_all i xs past in
     goes ∙ ap (λ zs. done ++ merged zs (drop j ys)) none ∙ ap (λ zs. zs ++ drop j ys) (sym (ap (λ zs. done ++ zs) none ∙ append-nil done))
 
-pub end_other : (xs ys : List Variable) (i j : ℕ) (done : List Variable) → length ys ≤ j → merged xs ys ≡ done ++ merged (drop i xs) (drop j ys) → merged xs ys ≡ (done ++ drop i xs) ++ drop j ys
+pub end_other : (xs ys : List Variable) (i j : ℕ) (done : List Variable) → length ys ≤ j → merged xs ys ≡ done ++ merged (drop i xs) (drop j ys) →
+    merged xs ys ≡ (done ++ drop i xs) ++ drop j ys
 end_other xs ys i j done past goes =
     let none : drop j ys ≡ [] = drop_all j ys past in
-    goes ∙ ap (λ zs. done ++ merged (drop i xs) zs) none ∙ ap (λ zs. done ++ zs) (merged_alone (drop i xs)) ∙ sym (ap (λ zs. (done ++ drop i xs) ++ zs) none ∙ append-nil (done ++ drop i xs))
+    goes ∙ ap (λ zs. done ++ merged (drop i xs) zs) none ∙ ap (λ zs. done ++ zs) (merged_alone (drop i xs))
+    ∙ sym (ap (λ zs. (done ++ drop i xs) ++ zs) none ∙ append-nil (done ++ drop i xs))
 
 -- ---- the variables of an object in order rise
 
@@ -181,7 +192,8 @@ absent_before n y ys e h = absent n n (y ∷ ys) (tied_itself nat_list_cmp_total
 no_value : (n : List ℕ) (v : List ℕ) (xs ys : List Variable) → find_in n xs ≡ Some v → find_in n ys ≡ None → find_in n xs ≡ find_in n ys → ⊥
 no_value n v xs ys a b e = none-some v (sym b ∙ sym e ∙ a)
 
-first_names : (x y : Variable) (xs ys : List Variable) (o : Ordering) → cmp x.0 y.0 ≡ o → Rises (x ∷ xs) → Rises (y ∷ ys) → ((n : List ℕ) → find_in n (x ∷ xs) ≡ find_in n (y ∷ ys)) → x.0 ≡ y.0
+first_names : (x y : Variable) (xs ys : List Variable) (o : Ordering) → cmp x.0 y.0 ≡ o → Rises (x ∷ xs) → Rises (y ∷ ys) →
+    ((n : List ℕ) → find_in n (x ∷ xs) ≡ find_in n (y ∷ ys)) → x.0 ≡ y.0
 first_names x y xs ys Less is h k same = absurd (no_value x.0 x.1 (x ∷ xs) (y ∷ ys) (here x xs) (absent_before x.0 y ys is k.0) (same x.0))
 first_names x y xs ys Equal is h k same = exact_bytes x.0 y.0 is
 first_names x y xs ys Greater is h k same =

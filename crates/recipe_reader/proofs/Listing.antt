@@ -1,5 +1,6 @@
 -- Artifacts one after another, and the part of a URI behind its last slash.
-use Rattle.std.proofs.Common.{◌≡◌, ◌≢◌, ℕ, suc, ◌+◌, ◌-◌, ◌<◌, ◌≤◌, ◌==◌, true, false, not, List, [], ◌∷◌, ◌++◌, length, map, drop, get_or, refl, sym, ap, ◌∙◌, subst, append_assoc, arith, lit<, ne_eqb, inl, inr, Result, Ok, Err}
+use Rattle.std.proofs.Common.{◌≡◌, ◌≢◌, ℕ, suc, ◌+◌, ◌-◌, ◌<◌, ◌≤◌, ◌==◌, true, false, not, List, [], ◌∷◌, ◌++◌, length, map, drop, get_or, refl, sym, ap}
+use Rattle.std.proofs.Common.{◌∙◌, subst, append_assoc, arith, lit<, ne_eqb, inl, inr, Result, Ok, Err}
 use Rattle.std.proofs.lemmas.List.{append-nil, get_or-drop, length-drop}
 use Rattle.std.specs.List.{AllZip, list_any, suffix_len}
 use Rattle.std.proofs.lemmas.List.Sums.{suffix_len_is}
@@ -96,7 +97,8 @@ module _ (s : List ℕ) (i j : ℕ) (h : HasCharAt 47 s i j) (after : NoCharPass
       ap not (ne_eqb (get_or s k 0) 47 other)
 
   tail_len : suffix_len (λ x. not (is_slash x)) s ≡ length s - j
-  tail_len = suffix_len_is (λ x. not (is_slash x)) s j 0 in_s behind (λ some. ap (λ n. not (is_slash (get_or s n 0))) (omega (arith, next)) ∙ ap (λ x. not (is_slash x)) here)
+  tail_len = suffix_len_is (λ x. not (is_slash x)) s j 0 in_s behind (λ some. ap (λ n. not (is_slash (get_or s n 0))) (omega (arith, next))
+      ∙ ap (λ x. not (is_slash x)) here)
 
   pub file_is : file_in s ≡ drop j s
   file_is = ap (λ n. drop (length s - n) s) tail_len ∙ ap (λ n. drop n s) (omega arith)

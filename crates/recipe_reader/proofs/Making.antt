@@ -15,7 +15,8 @@ use Rattle.recipe_reader.specs.declared.lifecycle.Steps.{Steps}
 use Rattle.recipe_reader.specs.declared.recipe.Recipe.{Recipe}
 use Rattle.recipe_reader.specs.declared.fault.Key.TheVariants.{Setenv}
 
-each_step : (outer : List Variable) (v : Data) (steps : Steps) → AreFirst outer v steps.first → AreLast outer v steps.last → (step : Step) → IsStep step outer (key_value (key_of step) (Some v)) (made_step steps step)
+each_step : (outer : List Variable) (v : Data) (steps : Steps) → AreFirst outer v steps.first → AreLast outer v steps.last → (step : Step) →
+    IsStep step outer (key_value (key_of step) (Some v)) (made_step steps step)
 each_step outer v steps first last Install = first.install
 each_step outer v steps first last Run = first.run
 each_step outer v steps first last Startup = first.startup
@@ -24,15 +25,18 @@ each_step outer v steps first last Recover = last.recover
 each_step outer v steps first last Bootstrap = last.bootstrap
 
 pub steps_are : (outer xs ys : List Variable) (v : Data) (first : FirstSteps) (last : LastSteps) → xs ≡ outer → ys ≡ outer
-    → AreVariables (keyed (spelled Setenv) v) outer → AreFirst xs v first → AreLast ys v last → AreSteps (Some v) (made_step (record { first = first; last = last }))
+    → AreVariables (keyed (spelled Setenv) v) outer → AreFirst xs v first → AreLast ys v last →
+    AreSteps (Some v) (made_step (record { first = first; last = last }))
 steps_are outer xs ys v first last a b variables firsts lasts = record {
   outer = outer;
   are_outer = variables;
-  steps = each_step outer v (record { first = first; last = last }) (subst (λ (zs : List Variable). AreFirst zs v first) a firsts) (subst (λ (zs : List Variable). AreLast zs v last) b lasts);
+  steps = each_step outer v (record { first = first; last = last }) (subst (λ (zs : List Variable). AreFirst zs v first) a firsts)
+      (subst (λ (zs : List Variable). AreLast zs v last) b lasts);
 }
 
 agree : (recipe : Recipe) (steps : Steps) → recipe.install ≡ steps.first.install → recipe.run ≡ steps.first.run → recipe.startup ≡ steps.first.startup
-    → recipe.shutdown ≡ steps.last.shutdown → recipe.recover ≡ steps.last.recover → recipe.bootstrap ≡ steps.last.bootstrap → (step : Step) → made_step steps step ≡ step_of recipe step
+    → recipe.shutdown ≡ steps.last.shutdown → recipe.recover ≡ steps.last.recover → recipe.bootstrap ≡ steps.last.bootstrap → (step : Step) →
+    made_step steps step ≡ step_of recipe step
 agree recipe steps a b c d e f Install = sym a
 agree recipe steps a b c d e f Run = sym b
 agree recipe steps a b c d e f Startup = sym c
@@ -41,8 +45,10 @@ agree recipe steps a b c d e f Recover = sym e
 agree recipe steps a b c d e f Bootstrap = sym f
 
 -- the steps that were read are those of the recipe
-pub steps_of_recipe : (lifecycle : Option Data) (recipe : Recipe) (steps : Steps) → recipe.install ≡ steps.first.install → recipe.run ≡ steps.first.run → recipe.startup ≡ steps.first.startup
-    → recipe.shutdown ≡ steps.last.shutdown → recipe.recover ≡ steps.last.recover → recipe.bootstrap ≡ steps.last.bootstrap → AreSteps lifecycle (made_step steps) → AreSteps lifecycle (step_of recipe)
+pub steps_of_recipe : (lifecycle : Option Data) (recipe : Recipe) (steps : Steps) → recipe.install ≡ steps.first.install → recipe.run ≡ steps.first.run →
+    recipe.startup ≡ steps.first.startup
+    → recipe.shutdown ≡ steps.last.shutdown → recipe.recover ≡ steps.last.recover → recipe.bootstrap ≡ steps.last.bootstrap →
+    AreSteps lifecycle (made_step steps) → AreSteps lifecycle (step_of recipe)
 steps_of_recipe lifecycle recipe steps a b c d e f h = record {
   outer = h.outer;
   are_outer = h.are_outer;

@@ -12,7 +12,8 @@ use Rattle.nuc_base.proofs.Lists.{in_nil, in_cons, in_here, in_there}
 use Rattle.npm_ranges.specs.OrderLaws.{version_total}
 use Rattle.npm_ranges.specs.Versions.{version_order}
 use Rattle.recipe_reader.specs.Members.{Need, Member, IsRising}
-use Rattle.recipe_reader.specs.Sets.{name_of, required_names, IsReached, by_wanted, by_need, IsMet, IsNext, IsWalk, IsWalkOf, IsOlder, IsAhead, IsValid, IsPreferred}
+use Rattle.recipe_reader.specs.Sets.{name_of, required_names, IsReached, by_wanted, by_need, IsMet, IsNext, IsWalk, IsWalkOf, IsOlder, IsAhead, IsValid}
+use Rattle.recipe_reader.specs.Sets.{IsPreferred}
 use Rattle.recipe_reader.specs.Searches.{IsFirstUntaken, IsConsistent, HasNone, IsBest}
 use Rattle.recipe_reader.specs.SetLaws.{AreAmong}
 use Rattle.recipe_reader.proofs.NameOrder.{same_or_not}
@@ -27,7 +28,8 @@ use Rattle.recipe_reader.proofs.ValidSets.{AreWithin, valid_of}
 abbrev IsSingle : List Member → List ℕ → Type 0
 IsSingle ms s = (p q : ℕ) → Contains s p → Contains s q → name_of ms p ≡ name_of ms q → p ≡ q
 
-walks_one : (ms : List Member) (wanted : List Need) (s : List ℕ) → IsSingle ms s → (taken a b : List ℕ) → AreWithin a s → AreWithin b s → IsWalk ms wanted taken a → IsWalk ms wanted taken b → a ≡ b
+walks_one : (ms : List Member) (wanted : List Need) (s : List ℕ) → IsSingle ms s → (taken a b : List ℕ) → AreWithin a s → AreWithin b s →
+    IsWalk ms wanted taken a → IsWalk ms wanted taken b → a ≡ b
 walks_one ms wanted s one taken [] b within other w v = sym (walk_ends ms wanted taken b w v)
 walks_one ms wanted s one taken (p ∷ a) [] within other w v = walk_ends ms wanted taken (p ∷ a) v w
 walks_one ms wanted s one taken (p ∷ a) (q ∷ b) within other w v =
@@ -72,7 +74,7 @@ one_preferred ms wanted s t h k = elim (same_or_not s t) [
 
 -- ---- the places of a walk in rising order
 
-cons_rises : (x : ℕ) (xs : List ℕ) → ((z : ℕ) → Contains xs z → x < z) → IsStrictlyIncreasing xs → IsStrictlyIncreasing (x ∷ xs)
+pub cons_rises : (x : ℕ) (xs : List ℕ) → ((z : ℕ) → Contains xs z → x < z) → IsStrictlyIncreasing xs → IsStrictlyIncreasing (x ∷ xs)
 cons_rises x [] h up k lt = absurd (omega (arith, lt))
 cons_rises x (y ∷ ys) h up zero lt = h y (in_here y ys)
 cons_rises x (y ∷ ys) h up (suc k) lt =
@@ -81,13 +83,13 @@ cons_rises x (y ∷ ys) h up (suc k) lt =
     subst (λ m. slice_index (y ∷ ys) k < slice_index (x ∷ y ∷ ys) m) (sym e) (up k below)
 
 -- a rising list of the same numbers
-record Rising (xs : List ℕ) : Type 0 where
-  list : List ℕ
-  rises : IsStrictlyIncreasing list
-  has : AreWithin xs list
-  only : AreWithin list xs
+pub record Rising (xs : List ℕ) : Type 0 where
+  pub list : List ℕ
+  pub rises : IsStrictlyIncreasing list
+  pub has : AreWithin xs list
+  pub only : AreWithin list xs
 
-put : (x : ℕ) (ys : List ℕ) → IsStrictlyIncreasing ys → Rising (x ∷ ys)
+pub put : (x : ℕ) (ys : List ℕ) → IsStrictlyIncreasing ys → Rising (x ∷ ys)
 put x [] h = record { list = x ∷ []; rises = cons_rises x [] (λ z i. absurd (in_nil z i)) h; has = λ z i. i; only = λ z i. i }
 put x (y ∷ ys) h = elim (cases_order x y) [
   | inl same ↦ record {
@@ -128,7 +130,7 @@ put x (y ∷ ys) h = elim (cases_order x y) [
   })
 ]
 
-rising_of : (xs : List ℕ) → Rising xs
+pub rising_of : (xs : List ℕ) → Rising xs
 rising_of [] = record { list = []; rises = λ k lt. absurd (omega (arith, lt)); has = λ z i. i; only = λ z i. i }
 rising_of (x ∷ xs) =
     let r = rising_of xs in
@@ -218,7 +220,8 @@ module _ (ms : List Member) (wanted : List Need) (up : IsRising ms) where
 -- ---- the elements of what is wanted alone count
 
 module _ (ms : List Member) (v w : List Need) (to : AreAmong v w) (from : AreAmong w v) where
-  required_of : (a b : List Need) → AreAmong a b → (taken : List ℕ) (n : List ℕ) → Contains (required_names ms a taken) n → Contains (required_names ms b taken) n
+  required_of : (a b : List Need) → AreAmong a b → (taken : List ℕ) (n : List ℕ) → Contains (required_names ms a taken) n →
+      Contains (required_names ms b taken) n
   required_of a b among taken n i = elim (required_from ms a taken n i) [
     | inl r ↦ subst (Contains (required_names ms b taken)) r.2 (required_by_wanted ms b taken r.0 (among r.0 r.1))
     | inr r ↦ subst (Contains (required_names ms b taken)) r.4 (required_by_need ms b taken r.0 r.1 r.2 r.3)
@@ -244,7 +247,8 @@ module _ (ms : List Member) (v w : List Need) (to : AreAmong v w) (from : AreAmo
     rising = h.rising;
     inside = h.inside;
     one_version = h.one_version;
-    wanted_met = All-weaker (Contains w) (λ (n : Need). IsMet ms s n.name n.range) (λ n i. All-contains (λ (n : Need). IsMet ms s n.name n.range) v n h.wanted_met (from n i)) w (All-contains_itself w);
+    wanted_met = All-weaker (Contains w) (λ (n : Need). IsMet ms s n.name n.range) (λ n i. All-contains (λ (n : Need). IsMet ms s n.name n.range) v n
+        h.wanted_met (from n i)) w (All-contains_itself w);
     needs_met = h.needs_met;
     reached = All-weaker (λ p. IsReached ms v s p) (λ p. IsReached ms w s p) (λ p r. reached_of s r) s h.reached;
     acyclic = h.acyclic;

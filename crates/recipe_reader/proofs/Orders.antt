@@ -1,5 +1,6 @@
 -- The order of candidates, and what it says of lists that rise.
-use Rattle.std.proofs.Common.{◌≡◌, false, ℕ, zero, suc, ◌+◌, ◌<◌, ◌≤◌, ◌⊎◌, List, [], ◌∷◌, length, get_or, take, drop, refl, sym, ap, subst, ◌∙◌, inl, inr, arith}
+use Rattle.std.proofs.Common.{◌≡◌, false, ℕ, zero, suc, ◌+◌, ◌<◌, ◌≤◌, ◌⊎◌, List, [], ◌∷◌, length, get_or, take, drop, refl, sym, ap, subst, ◌∙◌, inl, inr}
+use Rattle.std.proofs.Common.{arith}
 use Rattle.std.specs.Prelude.{AllPairs}
 use Rattle.std.specs.List.{All, AllWithin, HoldsAt, Contains, insert}
 use Rattle.std.specs.List.Sorted.{IsNonDecreasingBy}
@@ -79,7 +80,8 @@ never_before a b n v h =
 
 -- ---- lists that rise
 
-pub before_at : (cs : List Candidate) (i j : ℕ) (d : Candidate) → IsRising (members cs) → i < j → j < length cs → IsBefore (member (get_or cs i d)) (member (get_or cs j d))
+pub before_at : (cs : List Candidate) (i j : ℕ) (d : Candidate) → IsRising (members cs) → i < j → j < length cs →
+    IsBefore (member (get_or cs i d)) (member (get_or cs j d))
 before_at cs i j d rising below within =
     let inside : j < length (members cs) = omega (arith, length-map cs member) in
     let h = rising i j (member d) below inside in
@@ -99,7 +101,8 @@ pairs_rising (c ∷ cs) h i j d below within =
     let inside : j < length (c ∷ cs) = omega (arith, length-map (c ∷ cs) member) in
     let e : get_or (members (c ∷ cs)) i d ≡ member (get_or (c ∷ cs) i c) = get_or-map member (c ∷ cs) i c d (omega arith) in
     let f : get_or (members (c ∷ cs)) j d ≡ member (get_or (c ∷ cs) j c) = get_or-map member (c ∷ cs) j c d inside in
-    subst (λ (m : Member). IsBefore m (get_or (members (c ∷ cs)) j d)) (sym e) (subst (λ (m : Member). IsBefore (member (get_or (c ∷ cs) i c)) m) (sym f) (h i j c below inside))
+    subst (λ (m : Member). IsBefore m (get_or (members (c ∷ cs)) j d)) (sym e) (subst (λ (m : Member). IsBefore (member (get_or (c ∷ cs) i c)) m) (sym f)
+    (h i j c below inside))
 
 turned_test : (a b : Member) → IsBefore a b → is_lt (member_order b a) ≡ false
 turned_test a b h = ap is_lt (member_total.antisymm b a ∙ ap ordering_reverse (before_is_less a b h))
@@ -111,22 +114,27 @@ searchable cs c rising = searchable_from_sorted member_total member cs (member c
 
 -- ---- one of each name and version
 
-pub one_place : (cs : List Candidate) (c : Candidate) (i j : ℕ) (d : Candidate) → IsRising (members cs) → i < length cs → j < length cs → IsAlike (get_or cs i d) c → IsAlike (get_or cs j d) c → i ≡ j
+pub one_place : (cs : List Candidate) (c : Candidate) (i j : ℕ) (d : Candidate) → IsRising (members cs) → i < length cs → j < length cs →
+    IsAlike (get_or cs i d) c → IsAlike (get_or cs j d) c → i ≡ j
 one_place cs c i j d rising p q a b = elim (cases_order i j) [
   | inl e ↦ e
-  | inr (inl below) ↦ absurd (never_before (member (get_or cs i d)) (member (get_or cs j d)) (a.name ∙ sym b.name) (a.version ∙ sym b.version) (before_at cs i j d rising below q))
-  | inr (inr above) ↦ absurd (never_before (member (get_or cs j d)) (member (get_or cs i d)) (b.name ∙ sym a.name) (b.version ∙ sym a.version) (before_at cs j i d rising above p))
+  | inr (inl below) ↦ absurd (never_before (member (get_or cs i d)) (member (get_or cs j d)) (a.name ∙ sym b.name) (a.version
+      ∙ sym b.version) (before_at cs i j d rising below q))
+  | inr (inr above) ↦ absurd (never_before (member (get_or cs j d)) (member (get_or cs i d)) (b.name ∙ sym a.name) (b.version
+      ∙ sym a.version) (before_at cs j i d rising above p))
 ]
 
 -- what is alike and stands there is what stands at that place
-pub one_alike : (cs : List Candidate) (c e : Candidate) (at : ℕ) → IsRising (members cs) → at < length cs → HoldsAt (λ d. IsAlike d c) cs at → Contains cs e → IsAlike e c → get_or cs at e ≡ e
+pub one_alike : (cs : List Candidate) (c e : Candidate) (at : ℕ) → IsRising (members cs) → at < length cs → HoldsAt (λ d. IsAlike d c) cs at →
+    Contains cs e → IsAlike e c → get_or cs at e ≡ e
 one_alike cs c e at rising within alike there same =
     let here : IsAlike (get_or cs there.0 e) c = subst (λ (x : Candidate). IsAlike x c) (sym there.2) same in
     let k : at ≡ there.0 = one_place cs c at there.0 e rising within there.1 (alike e) here in
     ap (λ (n : ℕ). get_or cs n e) k ∙ there.2
 
 -- none is alike where all before the place are before it, and all behind it are behind it
-pub none_alike : (cs : List Candidate) (c : Candidate) (at : ℕ) → AllWithin (λ d. IsBefore (member d) (member c)) cs 0 at → AllWithin (λ d. IsBefore (member c) (member d)) cs at (length cs)
+pub none_alike : (cs : List Candidate) (c : Candidate) (at : ℕ) → AllWithin (λ d. IsBefore (member d) (member c)) cs 0 at →
+    AllWithin (λ d. IsBefore (member c) (member d)) cs at (length cs)
     → (e : Candidate) → Contains cs e → IsAlike e c → ⊥
 none_alike cs c at before after e there same =
     let here : IsAlike (get_or cs there.0 e) c = subst (λ (x : Candidate). IsAlike x c) (sym there.2) same in

@@ -1,5 +1,6 @@
 -- The best walk, in order of places, is the preferred set; and without a consistent walk no set is valid.
-use Rattle.std.proofs.Common.{◌≡◌, ◌≢◌, ℕ, suc, ◌+◌, ◌<◌, eqb, List, [], ◌∷◌, ◌++◌, length, get_or, sym, ap, ◌∙◌, subst, inl, inr, refl, arith, append_assoc, append-nil}
+use Rattle.std.proofs.Common.{◌≡◌, ◌≢◌, ℕ, suc, ◌+◌, ◌<◌, eqb, List, [], ◌∷◌, ◌++◌, length, get_or, sym, ap, ◌∙◌, subst, inl, inr, refl, arith, append_assoc}
+use Rattle.std.proofs.Common.{append-nil}
 use Rattle.std.specs.Prelude.{slice_index}
 use Rattle.std.specs.List.{Contains, IsDistinct}
 use Rattle.std.specs.List.Sorted.{IsStrictlyIncreasing, IsPermutation, IsNonDecreasing}
@@ -37,7 +38,8 @@ rise_tail x xs h = λ k lt.
     let r' = subst (λ m. slice_index (x ∷ xs) m < slice_index (x ∷ xs) (k + 1 + 1)) e r in
     subst (λ m. slice_index xs k < slice_index (x ∷ xs) m) f r'
 
-heads_same : (x : ℕ) (a : List ℕ) (y : ℕ) (b : List ℕ) → IsStrictlyIncreasing (x ∷ a) → IsStrictlyIncreasing (y ∷ b) → AreWithin (x ∷ a) (y ∷ b) → AreWithin (y ∷ b) (x ∷ a) → x ≡ y
+heads_same : (x : ℕ) (a : List ℕ) (y : ℕ) (b : List ℕ) → IsStrictlyIncreasing (x ∷ a) → IsStrictlyIncreasing (y ∷ b) → AreWithin (x ∷ a) (y ∷ b) →
+    AreWithin (y ∷ b) (x ∷ a) → x ≡ y
 heads_same x a y b h i f g = elim (in_cons y b x (f x (in_here x a))) [
   | inl e ↦ sym e
   | inr j ↦ elim (in_cons x a y (g y (in_here y b))) [
@@ -63,7 +65,8 @@ same_rising (x ∷ a) (y ∷ b) h i f g =
 
 -- the places of a walk differ
 
-distinct_from : (ms : List Member) (wanted : List Need) (taken walk : List ℕ) → IsDistinct eqb taken → IsWalk ms wanted taken walk → IsDistinct eqb (taken ++ walk)
+distinct_from : (ms : List Member) (wanted : List Need) (taken walk : List ℕ) → IsDistinct eqb taken → IsWalk ms wanted taken walk →
+    IsDistinct eqb (taken ++ walk)
 distinct_from ms wanted taken [] h w = subst (IsDistinct eqb) (sym (append-nil taken)) h
 distinct_from ms wanted taken (p ∷ ps) h w =
     let next = w.0.2 in
@@ -74,7 +77,8 @@ pub walk_distinct : (ms : List Member) (wanted : List Need) (walk : List ℕ) �
 walk_distinct ms wanted walk w = distinct_from ms wanted [] walk distinct_nil w
 
 -- the walk of another valid set is behind
-pub ahead_of : (ms : List Member) (wanted : List Need) (all s : List ℕ) → (best : IsBest ms wanted [] all) → IsStrictlyIncreasing s → AreWithin s best.walk → AreWithin best.walk s → (t : List ℕ) → IsValid ms wanted t → t ≢ s → (other : List ℕ) × IsWalkOf ms wanted t other × IsAhead ms best.walk other
+pub ahead_of : (ms : List Member) (wanted : List Need) (all s : List ℕ) → (best : IsBest ms wanted [] all) → IsStrictlyIncreasing s → AreWithin s best.walk →
+    AreWithin best.walk s → (t : List ℕ) → IsValid ms wanted t → t ≢ s → (other : List ℕ) × IsWalkOf ms wanted t other × IsAhead ms best.walk other
 ahead_of ms wanted all s best rising a b t v differs =
     let r = walk_of ms wanted t v in
     let good = consistent_fewer ms wanted r.walk t r.within (consistent_of ms wanted t v) in
@@ -87,7 +91,8 @@ ahead_of ms wanted all s best rising a b t v differs =
     ]
 
 -- the best walk, in order of places, is the preferred set
-pub preferred_of : (ms : List Member) (wanted : List Need) (all s : List ℕ) → IsBest ms wanted [] all → IsPermutation all s → IsNonDecreasing s → IsPreferred ms wanted s
+pub preferred_of : (ms : List Member) (wanted : List Need) (all s : List ℕ) → IsBest ms wanted [] all → IsPermutation all s → IsNonDecreasing s →
+    IsPreferred ms wanted s
 preferred_of ms wanted all s best moved sorted =
     let walk = best.walk in
     let e = best.is in

@@ -20,8 +20,10 @@ if_some : {A : Type 0} (f : A → Data) (r : Option A) (o : Option Data) → opt
 if_some f None o is h = tt
 if_some f (Some t) o is h = subst (λ p. IfSome p IsRegular) (sym is) h
 
-pub found_regular : {A : Type 0} (f : A → Data) (r : Option A) (k : List ℕ) (d : Data) → option_map f r ≡ present (get k d) → IsRegular d → IfSome r (λ t. IsRegular (f t))
+pub found_regular : {A : Type 0} (f : A → Data) (r : Option A) (k : List ℕ) (d : Data) → option_map f r ≡ present (get k d) → IsRegular d →
+    IfSome r (λ t. IsRegular (f t))
 found_regular f r k d is h = if_some f r (present (get k d)) is (present_regular (get k d) (get_regular k d h))
 
-pub value_regular : {A : Type 0} (f : A → Data) (r : Option A) (k : List ℕ) (ms : Members) → option_map f r ≡ value_of k ms → AreRegular ms → IfSome r (λ t. IsRegular (f t))
+pub value_regular : {A : Type 0} (f : A → Data) (r : Option A) (k : List ℕ) (ms : Members) → option_map f r ≡ value_of k ms → AreRegular ms →
+    IfSome r (λ t. IsRegular (f t))
 value_regular f r k ms is h = if_some f r (value_of k ms) is (spelled_regular k ms h)

@@ -1,5 +1,6 @@
 -- The steps and the files of the recipe that the lines name.
-use Rattle.std.proofs.Common.{◌≡◌, ◌≤◌, ℕ, ◌*◌, ◌||◌, Bool, true, false, List, [], ◌∷◌, ◌++◌, map, Option, Some, None, IsSome, IfSome, refl, sym, subst, arith, lit≤}
+use Rattle.std.proofs.Common.{◌≡◌, ◌≤◌, ℕ, ◌*◌, ◌||◌, Bool, true, false, List, [], ◌∷◌, ◌++◌, map, Option, Some, None, IsSome, IfSome, refl, sym, subst}
+use Rattle.std.proofs.Common.{arith, lit≤}
 use Rattle.std.specs.List.{AllByRecursion, AllZip, IsDistinct}
 use Rattle.std.specs.Str.{bytes_eq}
 use Rattle.std.proofs.lemmas.Bool.{false≢true}
@@ -41,17 +42,22 @@ module _ (v : Data) where
   not_both_of h = (hold_last (keys_lines v ++ variables ++ first_steps v ++ last_steps v) (check (HasBoth v → ⊥) fault.RunAndStartup) h).0
 
   first_hold : AllHold (lifecycle_lines v) → AllHold (first_steps v)
-  first_hold h = hold_last (keys_lines v ++ variables) (first_steps v) (hold_first (keys_lines v ++ variables ++ first_steps v) (last_steps v) (hold_first (keys_lines v ++ variables ++ first_steps v ++ last_steps v) (check (HasBoth v → ⊥) fault.RunAndStartup) h))
+  first_hold h = hold_last (keys_lines v ++ variables) (first_steps v) (hold_first (keys_lines v ++ variables
+      ++ first_steps v) (last_steps v) (hold_first (keys_lines v ++ variables ++ first_steps v ++ last_steps v) (check (HasBoth v → ⊥) fault.RunAndStartup) h))
 
   last_hold : AllHold (lifecycle_lines v) → AllHold (last_steps v)
-  last_hold h = hold_last (keys_lines v ++ variables ++ first_steps v) (last_steps v) (hold_first (keys_lines v ++ variables ++ first_steps v ++ last_steps v) (check (HasBoth v → ⊥) fault.RunAndStartup) h)
+  last_hold h = hold_last (keys_lines v ++ variables ++ first_steps v) (last_steps v) (hold_first (keys_lines v ++ variables ++ first_steps v
+      ++ last_steps v) (check (HasBoth v → ⊥) fault.RunAndStartup) h)
 
   steps_hold : (step : Step) → AllHold (lifecycle_lines v) → AllHold (one_step step v)
-  steps_hold Install h = hold_first (one_step Install v) (one_step Run v) (hold_first (one_step Install v ++ one_step Run v) (one_step Startup v) (first_hold h))
+  steps_hold Install h = hold_first (one_step Install v) (one_step Run v) (hold_first (one_step Install v
+      ++ one_step Run v) (one_step Startup v) (first_hold h))
   steps_hold Run h = hold_last (one_step Install v) (one_step Run v) (hold_first (one_step Install v ++ one_step Run v) (one_step Startup v) (first_hold h))
   steps_hold Startup h = hold_last (one_step Install v ++ one_step Run v) (one_step Startup v) (first_hold h)
-  steps_hold Shutdown h = hold_first (one_step Shutdown v) (one_step Recover v) (hold_first (one_step Shutdown v ++ one_step Recover v) (one_step Bootstrap v) (last_hold h))
-  steps_hold Recover h = hold_last (one_step Shutdown v) (one_step Recover v) (hold_first (one_step Shutdown v ++ one_step Recover v) (one_step Bootstrap v) (last_hold h))
+  steps_hold Shutdown h = hold_first (one_step Shutdown v) (one_step Recover v) (hold_first (one_step Shutdown v
+      ++ one_step Recover v) (one_step Bootstrap v) (last_hold h))
+  steps_hold Recover h = hold_last (one_step Shutdown v) (one_step Recover v) (hold_first (one_step Shutdown v
+      ++ one_step Recover v) (one_step Bootstrap v) (last_hold h))
   steps_hold Bootstrap h = hold_last (one_step Shutdown v ++ one_step Recover v) (one_step Bootstrap v) (last_hold h)
 
 -- ---- a step is there where its key is
@@ -61,10 +67,14 @@ there step outer None None is has = has
 there step outer None (Some def) is has = absurd is
 there step outer (Some v) def is has = refl
 
-pub not_both : (o : Option Data) (recipe : Recipe) → AllHold (on o lifecycle_lines) → AreSteps o (step_of recipe) → IsSome recipe.run → IsSome recipe.startup → ⊥
+pub not_both : (o : Option Data) (recipe : Recipe) → AllHold (on o lifecycle_lines) → AreSteps o (step_of recipe) → IsSome recipe.run →
+    IsSome recipe.startup → ⊥
 not_both None recipe h are run startup = false≢true (there Run are.outer None recipe.run (are.steps Run) run)
 not_both (Some v) recipe h are run startup =
-    not_both_of v h (there Run are.outer (step_value Run v) recipe.run (are.steps Run) run, there Startup are.outer (step_value Startup v) recipe.startup (are.steps Startup) startup)
+    not_both_of v h (
+      there Run are.outer (step_value Run v) recipe.run (are.steps Run) run,
+      there Startup are.outer (step_value Startup v) recipe.startup (are.steps Startup) startup,
+    )
 
 -- ---- its limit
 
@@ -76,7 +86,8 @@ short_usual Shutdown = lit≤ tt
 short_usual Recover = lit≤ tt
 short_usual Bootstrap = lit≤ tt
 
-short_limit : (step : Step) (o : Option Data) (limit : Option ℕ) → AllHold (on o timeout_lines) → IsLimit step o limit → IfSome limit (λ limit. limit ≤ 1000000000)
+short_limit : (step : Step) (o : Option Data) (limit : Option ℕ) → AllHold (on o timeout_lines) → IsLimit step o limit →
+    IfSome limit (λ limit. limit ≤ 1000000000)
 short_limit step None limit h is = subst (λ (l : Option ℕ). IfSome l (λ limit. limit ≤ 1000000000)) (sym is) (short_usual step)
 short_limit step (Some v) limit h is =
     let count = h.1.0 in
@@ -99,12 +110,14 @@ limit_lines step (object ms) h =
     let variables : Table RecipeFault = on (keyed (spelled key.Setenv) v) environment_lines in
     hold_last (double_lines v ++ script_lines v ++ skips) limits (hold_first (double_lines v ++ script_lines v ++ skips ++ limits) variables h.1)
 
-short_step : (step : Step) (outer : List Variable) (o : Option Data) (def : Option StepDef) → AllHold (on o (step_lines step)) → IsStep step outer o def → IfSome def IsShort
+short_step : (step : Step) (outer : List Variable) (o : Option Data) (def : Option StepDef) → AllHold (on o (step_lines step)) → IsStep step outer o def →
+    IfSome def IsShort
 short_step step outer o None h is = tt
 short_step step outer None (Some def) h is = absurd is
 short_step step outer (Some v) (Some def) h is = short_limit step (keyed (spelled key.Timeout) v) def.limit_ms (limit_lines step v h) is.limit
 
-pub short_steps : (o : Option Data) (recipe : Recipe) → AllHold (on o lifecycle_lines) → AreSteps o (step_of recipe) → (step : Step) → IfSome (step_of recipe step) IsShort
+pub short_steps : (o : Option Data) (recipe : Recipe) → AllHold (on o lifecycle_lines) → AreSteps o (step_of recipe) → (step : Step) →
+    IfSome (step_of recipe step) IsShort
 short_steps None recipe h are step = short_step step are.outer None (step_of recipe step) tt (are.steps step)
 short_steps (Some v) recipe h are step = short_step step are.outer (step_value step v) (step_of recipe step) (steps_hold v step h) (are.steps step)
 
@@ -122,15 +135,18 @@ one_more : (names : List (List ℕ)) (f : List ℕ) (files : List (List ℕ)) �
 one_more [] f files h differ = tt
 one_more (n ∷ names) f files h differ = by (bytes_eq n f) refl h (λ none. one_more names f files none differ.1)
   where
-    by : (b : Bool) → bytes_eq n f ≡ b → (b || has_name names f) ≡ false → (has_name names f ≡ false → Differ names (f ∷ files)) → Differ (n ∷ names) (f ∷ files)
+    by : (b : Bool) → bytes_eq n f ≡ b → (b || has_name names f) ≡ false → (has_name names f ≡ false → Differ names (f ∷ files)) →
+        Differ (n ∷ names) (f ∷ files)
     by true is h rest = absurd cc
     by false is h rest = ((is, differ.0), rest h)
 
-parted : (names : List (List ℕ)) (f : List ℕ) (files : List (List ℕ)) → Differ (names ++ f ∷ []) files → Differ names files × AllByRecursion (λ g. bytes_eq f g ≡ false) files
+parted : (names : List (List ℕ)) (f : List ℕ) (files : List (List ℕ)) → Differ (names ++ f ∷ []) files → Differ names files ×
+    AllByRecursion (λ g. bytes_eq f g ≡ false) files
 parted [] f files h = (tt, h.0)
 parted (n ∷ names) f files h = let rest = parted names f files h.1 in ((h.0, rest.0), rest.1)
 
-listed : (names : List (List ℕ)) (vs : List Data) (xs : List Artifact) → AllHold (listed_lines names vs) → AllZip IsArtifact vs xs → Differ names (map artifact_file xs) × IsDistinct bytes_eq (map artifact_file xs)
+listed : (names : List (List ℕ)) (vs : List Data) (xs : List Artifact) → AllHold (listed_lines names vs) → AllZip IsArtifact vs xs →
+    Differ names (map artifact_file xs) × IsDistinct bytes_eq (map artifact_file xs)
 unfolding IsDistinct
 listed names [] [] h z = (none_differ names, tt)
 listed names [] (x ∷ xs) h z = absurd z
@@ -150,10 +166,12 @@ files_differ (Some v) xs h z = (listed [] (values v) xs h.1.1 z).1
 
 -- ---- of the manifest for the platform
 
-pub chosen_files : (o : Option Data) (xs : List Artifact) → AllHold (on o chosen_lines) → AreArtifacts (inner key.Artifacts o) xs → IsDistinct bytes_eq (map artifact_file xs)
+pub chosen_files : (o : Option Data) (xs : List Artifact) → AllHold (on o chosen_lines) → AreArtifacts (inner key.Artifacts o) xs →
+    IsDistinct bytes_eq (map artifact_file xs)
 chosen_files None xs h z = files_differ None xs tt z
 chosen_files (Some m) xs h z =
-    files_differ (present (get (spelled key.Artifacts) m)) xs (hold_last (optional (spelled key.Lifecycle) m lifecycle_lines) (optional (spelled key.Artifacts) m artifacts_lines) h) z
+    files_differ (present (get (spelled key.Artifacts) m)) xs (hold_last (optional (spelled key.Lifecycle) m lifecycle_lines)
+    (optional (spelled key.Artifacts) m artifacts_lines) h) z
 
 pub lifecycle_holds : (o : Option Data) → AllHold (on o chosen_lines) → AllHold (on (inner key.Lifecycle o) lifecycle_lines)
 lifecycle_holds None h = tt

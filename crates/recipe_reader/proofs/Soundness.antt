@@ -21,7 +21,8 @@ use Rattle.tree_core.proofs.Rising.{names_rise}
 use Rattle.recipe_reader.specs.Artifacts.{IsArtifact, AreArtifacts, artifacts_lines}
 use Rattle.recipe_reader.specs.Dependencies.{IsDependency, AreDependencies, dependencies_lines}
 use Rattle.recipe_reader.specs.Platforms.{manifests_lines}
-use Rattle.recipe_reader.specs.Recipes.{IsRecipe, IsDefault, recipe_lines, head_lines, config_lines, chosen_lines, part_lines, manifest_of, inner, object_lines, needed, name_lines, version_lines, format_lines, type_lines, global_lines}
+use Rattle.recipe_reader.specs.Recipes.{IsRecipe, IsDefault, recipe_lines, head_lines, config_lines, chosen_lines, part_lines, manifest_of, inner}
+use Rattle.recipe_reader.specs.Recipes.{object_lines, needed, name_lines, version_lines, format_lines, type_lines, global_lines}
 use Rattle.recipe_reader.specs.Sound.{IsSound, dependency_name}
 use Rattle.recipe_reader.specs.Spelled.{spelled}
 use Rattle.recipe_reader.specs.declared.recipe.Dependency.{Dependency}
@@ -40,16 +41,19 @@ module _ (platform : Platform) (d : Data) where
   needs = optional (spelled key.ComponentDependencies) d dependencies_lines
 
   head_holds : AllHold (recipe_lines platform d) → AllHold (head_lines d)
-  head_holds h = hold_first (head_lines d) configs (hold_first (head_lines d ++ configs) needs (hold_first (head_lines d ++ configs ++ needs) (part_lines platform d) h))
+  head_holds h = hold_first (head_lines d) configs (hold_first (head_lines d ++ configs) needs (hold_first (head_lines d ++ configs
+      ++ needs) (part_lines platform d) h))
 
   configs_hold : AllHold (recipe_lines platform d) → AllHold configs
-  configs_hold h = hold_last (head_lines d) configs (hold_first (head_lines d ++ configs) needs (hold_first (head_lines d ++ configs ++ needs) (part_lines platform d) h))
+  configs_hold h = hold_last (head_lines d) configs (hold_first (head_lines d ++ configs) needs (hold_first (head_lines d ++ configs
+      ++ needs) (part_lines platform d) h))
 
   needs_hold : AllHold (recipe_lines platform d) → AllHold needs
   needs_hold h = hold_last (head_lines d ++ configs) needs (hold_first (head_lines d ++ configs ++ needs) (part_lines platform d) h)
 
   chosen_hold : AllHold (recipe_lines platform d) → AllHold (on (manifest_of platform d) chosen_lines)
-  chosen_hold h = hold_last (optional (spelled key.Manifests) d (manifests_lines platform)) (on (manifest_of platform d) chosen_lines) (hold_last (head_lines d ++ configs ++ needs) (part_lines platform d) h)
+  chosen_hold h = hold_last (optional (spelled key.Manifests) d (manifests_lines platform)) (on (manifest_of platform d) chosen_lines)
+      (hold_last (head_lines d ++ configs ++ needs) (part_lines platform d) h)
 
 -- ---- the name and the version
 
@@ -70,10 +74,12 @@ module _ (d : Data) where
   global = optional (spelled key.Lifecycle) d global_lines
 
   named_holds : AllHold (head_lines d) → AllHold named
-  named_holds h = hold_last formats named (hold_first (formats ++ named) versioned (hold_first (formats ++ named ++ versioned) typed (hold_first (formats ++ named ++ versioned ++ typed) global h)))
+  named_holds h = hold_last formats named (hold_first (formats ++ named) versioned (hold_first (formats ++ named
+      ++ versioned) typed (hold_first (formats ++ named ++ versioned ++ typed) global h)))
 
   versioned_holds : AllHold (head_lines d) → AllHold versioned
-  versioned_holds h = hold_last (formats ++ named) versioned (hold_first (formats ++ named ++ versioned) typed (hold_first (formats ++ named ++ versioned ++ typed) global h))
+  versioned_holds h = hold_last (formats ++ named) versioned (hold_first (formats ++ named
+      ++ versioned) typed (hold_first (formats ++ named ++ versioned ++ typed) global h))
 
 text_has : (P : List ℕ → Type 0) (s : List ℕ) → IsTextOf P (string s) → P s
 text_has P s h =
@@ -113,7 +119,8 @@ module _ (ds : List Dependency) where
 few_dependencies : (o : Option Data) (ds : List Dependency) → IfSome o IsRegular → AllHold (on o dependencies_lines) → AreDependencies o ds
     → (length ds ≤ 64) × IsStrictlySortedBy (slice_cmp nat_cmp) (map dependency_name ds)
 unfolding IsStrictlySortedBy
-few_dependencies None ds r h z = subst (λ (xs : List Dependency). (length xs ≤ 64) × IsStrictlySortedBy (slice_cmp nat_cmp) (map dependency_name xs)) (sym z) (lit≤ tt, tt)
+few_dependencies None ds r h z = subst (λ (xs : List Dependency). (length xs ≤ 64) × IsStrictlySortedBy (slice_cmp nat_cmp) (map dependency_name xs)) (sym z)
+    (lit≤ tt, tt)
 few_dependencies (Some v) ds r h z = dependencies_of ds v z h.0.0 h.0.1 r h.1.0
 
 -- ---- artifacts
@@ -125,7 +132,8 @@ few_artifacts_of (Some v) xs h z = let long = AllZip-long IsArtifact (values v) 
 chosen_artifacts : (o : Option Data) (xs : List Artifact) → AllHold (on o chosen_lines) → AreArtifacts (inner key.Artifacts o) xs → length xs ≤ 64
 chosen_artifacts None xs h z = few_artifacts_of None xs tt z
 chosen_artifacts (Some m) xs h z =
-    few_artifacts_of (present (get (spelled key.Artifacts) m)) xs (hold_last (optional (spelled key.Lifecycle) m lifecycle_lines) (optional (spelled key.Artifacts) m artifacts_lines) h) z
+    few_artifacts_of (present (get (spelled key.Artifacts) m)) xs (hold_last (optional (spelled key.Lifecycle) m lifecycle_lines)
+    (optional (spelled key.Artifacts) m artifacts_lines) h) z
 
 -- ---- the whole
 
@@ -136,7 +144,8 @@ recipe_sound platform d r regular h is =
     let steps = lifecycle_holds (manifest_of platform d) chosen in
     let named = named_holds d head in
     let versioned = versioned_holds d head in
-    let needs = few_dependencies (present (get (spelled key.ComponentDependencies) d)) r.dependencies (present_regular (get (spelled key.ComponentDependencies) d) (get_regular (spelled key.ComponentDependencies) d regular)) (needs_hold platform d h) is.dependencies in
+    let needs = few_dependencies (present (get (spelled key.ComponentDependencies) d)) r.dependencies (present_regular
+    (get (spelled key.ComponentDependencies) d) (get_regular (spelled key.ComponentDependencies) d regular)) (needs_hold platform d h) is.dependencies in
     record {
       name = name_of (get (spelled key.ComponentName) d) r.name is.name named.1;
       version = version_of (get (spelled key.ComponentVersion) d) r.version is.version versioned.1;
@@ -150,6 +159,7 @@ recipe_sound platform d r regular h is =
       limits = short_steps (inner key.Lifecycle (manifest_of platform d)) r steps is.steps;
     }
 
-pub answers_sound : (platform : Platform) (d : Data) (result : Result Recipe RecipeFault) → IsRegular d → Answers fault.NoMemory (recipe_lines platform d) (IsRecipe platform d) result → IfOk result IsSound
+pub answers_sound : (platform : Platform) (d : Data) (result : Result Recipe RecipeFault) → IsRegular d →
+    Answers fault.NoMemory (recipe_lines platform d) (IsRecipe platform d) result → IfOk result IsSound
 answers_sound platform d (Err f) regular h = tt
 answers_sound platform d (Ok r) regular h = recipe_sound platform d r regular h.0 h.1

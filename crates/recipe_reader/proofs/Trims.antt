@@ -13,7 +13,8 @@ no_first s space tab x rest h e = elim (which x h) [
   | inr is ↦ tab rest (e ∙ ap (λ y. y ∷ rest) is)
 ]
 
-pub no_last : (s : List ℕ) → ((front : List ℕ) → s ≢ front ++ 32 ∷ []) → ((front : List ℕ) → s ≢ front ++ 9 ∷ []) → (x : ℕ) (front : List ℕ) → is_blank x ≡ true → s ≢ front ++ x ∷ []
+pub no_last : (s : List ℕ) → ((front : List ℕ) → s ≢ front ++ 32 ∷ []) → ((front : List ℕ) → s ≢ front ++ 9 ∷ []) → (x : ℕ) (front : List ℕ) →
+    is_blank x ≡ true → s ≢ front ++ x ∷ []
 no_last s space tab x front h e = elim (which x h) [
   | inl is ↦ space front (e ∙ ap (λ y. front ++ y ∷ []) is)
   | inr is ↦ tab front (e ∙ ap (λ y. front ++ y ∷ []) is)
@@ -49,12 +50,14 @@ end_end (x ∷ y ∷ rest) h = ap (before x) (end_end (y ∷ rest) (λ z front e
 
 -- ---- either blank stripped
 
-pub start_either : (s : List ℕ) (r : Option (Bor (List ℕ))) → ((rest : List ℕ) → s ≢ 32 ∷ rest) → MatchOption r ((rest : List ℕ) → s ≢ 9 ∷ rest) (λ x. s ≡ 9 ∷ x.now)
+pub start_either : (s : List ℕ) (r : Option (Bor (List ℕ))) → ((rest : List ℕ) → s ≢ 32 ∷ rest) →
+    MatchOption r ((rest : List ℕ) → s ≢ 9 ∷ rest) (λ x. s ≡ 9 ∷ x.now)
     → MatchOption r ((x : ℕ) (rest : List ℕ) → is_blank x ≡ true → s ≢ x ∷ rest) (λ after. (x : ℕ) × (is_blank x ≡ true) × (s ≡ x ∷ after.now))
 start_either s None space h = no_first s space h
 start_either s (Some x) space h = (9, refl, h)
 
-pub end_either : (s : List ℕ) (r : Option (Bor (List ℕ))) → ((front : List ℕ) → s ≢ front ++ 32 ∷ []) → MatchOption r ((front : List ℕ) → s ≢ front ++ 9 ∷ []) (λ x. s ≡ x.now ++ 9 ∷ [])
+pub end_either : (s : List ℕ) (r : Option (Bor (List ℕ))) → ((front : List ℕ) → s ≢ front ++ 32 ∷ []) →
+    MatchOption r ((front : List ℕ) → s ≢ front ++ 9 ∷ []) (λ x. s ≡ x.now ++ 9 ∷ [])
     → MatchOption r ((x : ℕ) (front : List ℕ) → is_blank x ≡ true → s ≢ front ++ x ∷ []) (λ front. (x : ℕ) × (is_blank x ≡ true) × (s ≡ front.now ++ x ∷ []))
 end_either s None space h = no_last s space h
 end_either s (Some x) space h = (9, refl, h)

@@ -65,7 +65,8 @@ module _ (platform : Platform) (ms : List Data) where
   missing is some (inl h) = some h
   missing is some (inr h) = let none : IsSome {T = Data} None = subst IsSome (sym is) h in cc
 
-  pub choice_missing : AllHold (walk_lines platform ms) → None ≡ chosen platform ms → (ms ≡ [] → ⊥) → Faults NoMemory (walk_lines platform ms ++ choices) NoManifest
+  pub choice_missing : AllHold (walk_lines platform ms) → None ≡ chosen platform ms → (ms ≡ [] → ⊥) →
+      Faults NoMemory (walk_lines platform ms ++ choices) NoManifest
   choice_missing holds is some = fault_after NoMemory (walk_lines platform ms) choices NoManifest holds (inr (inl (missing is some, refl)))
 
   pub choice_fault : (f : RecipeFault) → Faults NoMemory (walk_lines platform ms) f → Faults NoMemory (walk_lines platform ms ++ choices) f

@@ -113,7 +113,8 @@ has_name names f = list_any (λ n. is_text n f) names
 
 abbrev pub listed_lines : List (List ℕ) → List Data → Table RecipeFault
 listed_lines names [] = []
-listed_lines names (v ∷ vs) = (artifact_lines v ++ check (has_name names (file_at v) ≡ false) fault.DuplicateArtifact) ++ listed_lines (names ++ file_at v ∷ []) vs
+listed_lines names (v ∷ vs) = (artifact_lines v ++ check (has_name names (file_at v) ≡ false) fault.DuplicateArtifact)
+    ++ listed_lines (names ++ file_at v ∷ []) vs
 
 abbrev pub artifacts_lines : Data → Table RecipeFault
 artifacts_lines v =

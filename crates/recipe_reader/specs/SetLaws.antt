@@ -18,4 +18,5 @@ AreAmong some all = (w : Need) → Contains some w → Contains all w
 
 -- valid and preferred sets depend on what is wanted, and neither on its order nor on how often it is wanted
 abbrev pub DependsOnElements : Type 0
-DependsOnElements = (ms : List Member) (v w : List Need) (s : List ℕ) → AreAmong v w → AreAmong w v → (IsValid ms v s → IsValid ms w s) × (IsPreferred ms v s → IsPreferred ms w s)
+DependsOnElements = (ms : List Member) (v w : List Need) (s : List ℕ) → AreAmong v w → AreAmong w v → (IsValid ms v s → IsValid ms w s) ×
+    (IsPreferred ms v s → IsPreferred ms w s)

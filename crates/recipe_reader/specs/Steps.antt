@@ -1,5 +1,6 @@
 -- The steps of a lifecycle.
-use Rattle.std.specs.Prelude.{◌≡◌, ◌≢◌, ℕ, ◌*◌, ◌==◌, ◌||◌, Bool, false, List, [], ◌∷◌, ◌++◌, codes, Option, Some, None, IsSome, option_and_then, if◌then◌else◌, ◌⊎◌, ⊤}
+use Rattle.std.specs.Prelude.{◌≡◌, ◌≢◌, ℕ, ◌*◌, ◌==◌, ◌||◌, Bool, false, List, [], ◌∷◌, ◌++◌, codes, Option, Some, None, IsSome, option_and_then}
+use Rattle.std.specs.Prelude.{if◌then◌else◌, ◌⊎◌, ⊤}
 use Rattle.serde_json.specs.Data.{Data, null, boolean, number, unsigned, string, array, object}
 use Rattle.serde_json.specs.Find.{as_str}
 use Rattle.nuc_base.specs.Tables.{Table, on}

@@ -10,7 +10,9 @@ ghost use Rattle.tree_core.specs.Parts.{present, check, values, optional as is_o
 ghost use Rattle.recipe_reader.specs.Spelled.{spelled};
 ghost use Rattle.recipe_reader.specs.Keys.{keyed as keyed_of};
 ghost use Rattle.recipe_reader.specs.Steps.{required_key};
-ghost use Rattle.recipe_reader.specs.Artifacts.{has_scheme as has_a_scheme, file_in, file_text, file_at as file_name_at, IsFileName, IsUri, uri_lines, unarchive_lines, algorithm_lines, artifact_doubles, artifact_lines, IsArtifact, has_name as is_name_among, listed_lines, artifacts_lines, AreArtifacts};
+ghost use Rattle.recipe_reader.specs.Artifacts.{has_scheme as has_a_scheme, file_in, file_text, file_at as file_name_at, IsFileName, IsUri, uri_lines};
+ghost use Rattle.recipe_reader.specs.Artifacts.{unarchive_lines, algorithm_lines, artifact_doubles, artifact_lines, IsArtifact, has_name as is_name_among};
+ghost use Rattle.recipe_reader.specs.Artifacts.{listed_lines, artifacts_lines, AreArtifacts};
 ghost use Rattle.recipe_reader.specs.declared.fault.Key.TheVariants as key;
 ghost use Rattle.recipe_reader.specs.declared.fault.RecipeFault.TheVariants.{NoMemory as OutOfMemory, UnsupportedUri, DuplicateArtifact};
 

@@ -57,7 +57,8 @@ pub fn default_of(alloc: Global, recipe: &Tree) -> Result<Tree, RecipeFault>
     requires { IsRegular (view recipe.now) }
     ensures { Answers OutOfMemory
         (is_optional (spelled key.ComponentConfiguration) (view recipe.now) config_lines)
-        (λ t. IsDefault (inner key.DefaultConfiguration (present (member_of (spelled key.ComponentConfiguration) (view recipe.now)))) (view t) × IsRegular (view t))
+        (λ t. IsDefault (inner key.DefaultConfiguration (present (member_of (spelled key.ComponentConfiguration) (view recipe.now)))) (view t)
+        × IsRegular (view t))
         result }
 {
     match optional(recipe, Key::ComponentConfiguration) {

@@ -7,7 +7,8 @@ ghost use Rattle.nuc_base.specs.Tables.{Answers, each};
 ghost use Rattle.tree_core.specs.View.{view, field_view};
 ghost use Rattle.tree_core.specs.Parts.{present, members, optional as is_optional};
 ghost use Rattle.recipe_reader.specs.Spelled.{spelled};
-ghost use Rattle.recipe_reader.specs.Dependencies.{range_lines, IsRangeOf, kind_lines, IsHard, dependency_lines, IsDependency, dependencies_lines, AreDependencies};
+ghost use Rattle.recipe_reader.specs.Dependencies.{range_lines, IsRangeOf, kind_lines, IsHard, dependency_lines, IsDependency, dependencies_lines};
+ghost use Rattle.recipe_reader.specs.Dependencies.{AreDependencies};
 ghost use Rattle.recipe_reader.specs.declared.fault.Key.TheVariants as key;
 ghost use Rattle.recipe_reader.specs.declared.fault.RecipeFault.TheVariants.{NoMemory as OutOfMemory};
 

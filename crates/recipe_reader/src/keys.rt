@@ -3,7 +3,8 @@ ghost use Rattle.std.specs.Prelude.{◌≡◌, option_map, IfSome};
 ghost use Rattle.tree_core.specs.View.{view, fields_view};
 ghost use Rattle.tree_core.specs.Regular.{IsRegular};
 ghost use Rattle.recipe_reader.specs.Spelled.{spelled};
-ghost use Rattle.recipe_reader.specs.Keys.{is_same as are_same, has_key as key_of, has_two as two_of, value_of as first_of, any_case as case_of, keyed as keyed_of, is_doubled as doubled_of};
+ghost use Rattle.recipe_reader.specs.Keys.{is_same as are_same, has_key as key_of, has_two as two_of, value_of as first_of, any_case as case_of};
+ghost use Rattle.recipe_reader.specs.Keys.{keyed as keyed_of, is_doubled as doubled_of};
 
 use crate::fault::Key;
 use nuc_base::Text;

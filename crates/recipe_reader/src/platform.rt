@@ -10,7 +10,10 @@ ghost use Rattle.tree_core.specs.Regular.{IsRegular};
 ghost use Rattle.tree_core.specs.Parts.{present, values, check, optional as is_optional};
 ghost use Rattle.recipe_reader.specs.Spelled.{spelled};
 ghost use Rattle.recipe_reader.specs.Found.{Finds};
-ghost use Rattle.recipe_reader.specs.Platforms.{is_any as is_any_text, is_word as is_one_word, inside as text_inside, words as words_in, is_text, is_pattern as is_a_pattern, names as names_value, word_lines, platform_lines, manifest_lines, manifests_lines, fits, is_open as is_open_value, asks_nothing as asks_for_nothing, platform_matches, matches, walk_lines, chosen, chosen_in, HasChoice};
+ghost use Rattle.recipe_reader.specs.Platforms.{is_any as is_any_text, is_word as is_one_word, inside as text_inside, words as words_in, is_text};
+ghost use Rattle.recipe_reader.specs.Platforms.{is_pattern as is_a_pattern, names as names_value, word_lines, platform_lines, manifest_lines};
+ghost use Rattle.recipe_reader.specs.Platforms.{manifests_lines, fits, is_open as is_open_value, asks_nothing as asks_for_nothing, platform_matches, matches};
+ghost use Rattle.recipe_reader.specs.Platforms.{walk_lines, chosen, chosen_in, HasChoice};
 ghost use Rattle.recipe_reader.specs.declared.fault.Key.TheVariants as key;
 ghost use Rattle.recipe_reader.specs.declared.fault.RecipeFault.TheVariants.{NoMemory as OutOfMemory, NoManifest};
 

@@ -6,7 +6,8 @@ ghost use Rattle.tree_core.specs.View.{view};
 ghost use Rattle.tree_core.specs.Regular.{IsRegular};
 ghost use Rattle.recipe_reader.specs.Spelled.{spelled};
 ghost use Rattle.recipe_reader.specs.Keys.{keyed as keyed_of};
-ghost use Rattle.recipe_reader.specs.Steps.{is_blank, trim_start as start_trimmed, trim_end as end_trimmed, trimmed as both_trimmed, IsSkip, IsSkipOf, skip_lines};
+ghost use Rattle.recipe_reader.specs.Steps.{is_blank, trim_start as start_trimmed, trim_end as end_trimmed, trimmed as both_trimmed, IsSkip, IsSkipOf};
+ghost use Rattle.recipe_reader.specs.Steps.{skip_lines};
 ghost use Rattle.recipe_reader.specs.declared.fault.Key.TheVariants as key;
 ghost use Rattle.recipe_reader.specs.declared.fault.RecipeFault.TheVariants.{NoMemory as OutOfMemory};
 

@@ -1,5 +1,6 @@
 -- Each codec: what is read is spelled so, and what is spelled so is read.
-use Rattle.std.proofs.Common.{◌≡◌, ℕ, zero, suc, ◌+◌, ◌^◌, ◌<◌, ◌≤◌, Bool, true, false, List, [], ◌∷◌, ◌++◌, length, get_or, take, drop, Option, Some, refl, sym, ap, subst, ◌∙◌, append_assoc, arith, inl, inr}
+use Rattle.std.proofs.Common.{◌≡◌, ℕ, zero, suc, ◌+◌, ◌^◌, ◌<◌, ◌≤◌, Bool, true, false, List, [], ◌∷◌, ◌++◌, length, get_or, take, drop, Option, Some, refl}
+use Rattle.std.proofs.Common.{sym, ap, subst, ◌∙◌, append_assoc, arith, inl, inr}
 use Rattle.std.specs.Prelude.{nat_lt, ⊤}
 use Rattle.std.specs.List.{flat_map, AllByRecursion}
 use Rattle.std.specs.Int.{Width, w32, w64, byte_len, from_be_bytes, to_be_bytes}
@@ -7,7 +8,8 @@ use Rattle.std.proofs.lemmas.Bool.{cases_lt, ltb-false, le-ltb}
 use Rattle.std.proofs.lemmas.List.{take_at, drop_at, take-append-drop, length-append, length-take, get_or-drop, get_or-take, get_or_past}
 use Rattle.std.proofs.lemmas.List.Concat.{flat_map-cons}
 use Rattle.std.proofs.lemmas.Nat.{be_bytes_4, be_bytes_8, from_be_bytes-to_be_bytes_4, from_be_bytes-to_be_bytes_8}
-use Rattle.records.specs.Codec.{Codec, ◌>>=◌, ◌&◌, only_if, wide_at, wide, number_at, number, long, those, front_at, fixed, string_at, string, texts, as_a, nothing, byte_at, byte, items_at, list_of}
+use Rattle.records.specs.Codec.{Codec, ◌>>=◌, ◌&◌, only_if, wide_at, wide, number_at, number, long, those, front_at, fixed, string_at, string, texts, as_a}
+use Rattle.records.specs.Codec.{nothing, byte_at, byte, items_at, list_of}
 use Rattle.records.proofs.Leaves.{bind_some, some_is, if_some, unless_some}
 
 abbrev pub IsBytes : List ℕ → Type 0
@@ -53,12 +55,14 @@ wide32 = record {
   below = λ bytes fits. omega (arith, fits 0, fits 1, fits 2, fits 3);
 }
 
-wide_takes : (w : Width) (limit : ℕ) (wide : IsWide w limit) (bytes : List ℕ) (p : ℕ × List ℕ) → IsBytes bytes → wide_at w bytes ≡ Some p → Takes bytes (to_be_bytes w p.0) p.1 × (p.0 < limit)
+wide_takes : (w : Width) (limit : ℕ) (wide : IsWide w limit) (bytes : List ℕ) (p : ℕ × List ℕ) → IsBytes bytes → wide_at w bytes ≡ Some p →
+    Takes bytes (to_be_bytes w p.0) p.1 × (p.0 < limit)
 wide_takes w limit wide bytes p fits e =
     let g = unless_some (nat_lt (length bytes) (byte_len w)) (Some (from_be_bytes w (take (byte_len w) bytes), drop (byte_len w) bytes)) p e in
     let long : byte_len w ≤ length bytes = ltb-false _ _ g.0 in
     let front_fits = IsBytes-take (byte_len w) bytes fits in
-    let front : to_be_bytes w (from_be_bytes w (take (byte_len w) bytes)) ≡ take (byte_len w) bytes = wide.back (take (byte_len w) bytes) (omega (arith, length-take (byte_len w) bytes)) front_fits in
+    let front : to_be_bytes w (from_be_bytes w (take (byte_len w) bytes)) ≡ take (byte_len w) bytes =
+    wide.back (take (byte_len w) bytes) (omega (arith, length-take (byte_len w) bytes)) front_fits in
     subst (λ (q : ℕ × List ℕ). Takes bytes (to_be_bytes w q.0) q.1 × (q.0 < limit)) (some_is _ p g.1)
     (record { parts = rw front (sym (take-append-drop (byte_len w) bytes)); rest_fits = IsBytes-drop (byte_len w) bytes fits }, wide.below _ front_fits)
 
@@ -123,7 +127,8 @@ pub string_is : IsCodec string
 string_is = record { takes = string_takes; again = string_again; asks = λ x h. h }
 
 pub texts_is : {A : Type 0} (text : A → List ℕ) (of : List ℕ → Option A) (Fits Asks : A → Type 0)
-    → ((t : List ℕ) (x : A) → of t ≡ Some x → (text x ≡ t) × Fits x) → ((x : A) → Fits x → of (text x) ≡ Some x) → ((x : A) → Fits x → length (text x) < 2 ^ 32 → Asks x) → IsCodec (texts text of Fits Asks)
+    → ((t : List ℕ) (x : A) → of t ≡ Some x → (text x ≡ t) × Fits x) → ((x : A) → Fits x → of (text x) ≡ Some x) →
+    ((x : A) → Fits x → length (text x) < 2 ^ 32 → Asks x) → IsCodec (texts text of Fits Asks)
 texts_is text of Fits Asks says found asks = record {
   takes = λ bytes p fits e.
       let a = bind_some (string_at bytes) (λ t. of t.0 >>= λ x. Some (x, t.1)) p e in
@@ -146,11 +151,15 @@ both {A} {B} a b p q = record {
       let made : (A × B) × List ℕ = ((f.0.0, g.0.0), g.0.1) in
       subst (λ (z : (A × B) × List ℕ). Takes bytes (a.spell z.0.0 ++ b.spell z.0.1) z.1 × (a.Fits z.0.0 × b.Fits z.0.1)) (some_is made y g.2)
       (Takes-then bytes (a.spell f.0.0) f.0.1 (b.spell g.0.0) g.0.1 first.0 second.0, (first.1, second.1));
-  again = λ x rest fits. ap (a & b).at (append_assoc (a.spell x.0) (b.spell x.1) rest) ∙ rw (p.again x.0 (b.spell x.1 ++ rest) fits.0, q.again x.1 rest fits.1) refl;
+  again = λ x rest fits. ap (a & b).at (append_assoc (a.spell x.0) (b.spell x.1) rest) ∙ rw (
+    p.again x.0 (b.spell x.1 ++ rest) fits.0,
+    q.again x.1 rest fits.1,
+  ) refl;
   asks = λ x fits. (p.asks x.0 fits.0, q.asks x.1 fits.1);
 }
 
-pub as_a_is : {A B : Type 0} (to : A → B) (from : B → A) (a : Codec A) → ((x : A) → from (to x) ≡ x) → ((y : B) → to (from y) ≡ y) → IsCodec a → IsCodec (as_a to from a)
+pub as_a_is : {A B : Type 0} (to : A → B) (from : B → A) (a : Codec A) → ((x : A) → from (to x) ≡ x) → ((y : B) → to (from y) ≡ y) → IsCodec a →
+    IsCodec (as_a to from a)
 as_a_is {A} {B} to from a back forth p = record {
   takes = λ bytes y fits e.
       let f = bind_some (a.at bytes) (λ x. Some (to x.0, x.1)) y e in
@@ -163,7 +172,8 @@ as_a_is {A} {B} to from a back forth p = record {
 }
 
 -- a test that stands for its rule
-pub those_is : {A : Type 0} (test : A → Bool) (Rule : A → Type 0) (c : Codec A) → ((x : A) → test x ≡ true → Rule x) → ((x : A) → Rule x → test x ≡ true) → IsCodec c → IsCodec (those test Rule c)
+pub those_is : {A : Type 0} (test : A → Bool) (Rule : A → Type 0) (c : Codec A) → ((x : A) → test x ≡ true → Rule x) → ((x : A) → Rule x → test x ≡ true) →
+    IsCodec c → IsCodec (those test Rule c)
 those_is {A} test Rule c says found law = record {
   takes = λ bytes p fits e.
       let a = bind_some (c.at bytes) (λ x. only_if (test x.0) x) p e in
@@ -175,7 +185,8 @@ those_is {A} test Rule c says found law = record {
   asks = λ x fits. (fits.0, law.asks x fits.1);
 }
 
-pub byte_is : {A : Type 0} (tag : A → ℕ) (of : ℕ → Option A) → ((b : ℕ) (x : A) → of b ≡ Some x → tag x ≡ b) → ((x : A) → of (tag x) ≡ Some x) → IsCodec (byte tag of)
+pub byte_is : {A : Type 0} (tag : A → ℕ) (of : ℕ → Option A) → ((b : ℕ) (x : A) → of b ≡ Some x → tag x ≡ b) → ((x : A) → of (tag x) ≡ Some x) →
+    IsCodec (byte tag of)
 byte_is {A} tag of says found = record {
   takes = λ bytes p fits e. byte_takes bytes p fits e;
   again = λ x rest fits. rw (found x) refl;
@@ -186,14 +197,22 @@ byte_is {A} tag of says found = record {
   byte_takes (b ∷ rest) p fits e =
       let f = bind_some (of b) (λ x. Some (x, rest)) p e in
       let made : A × List ℕ = (f.0, rest) in
-      let one : Takes (b ∷ rest) (tag f.0 ∷ []) rest × ⊤ = (record { parts = ap (λ k. k ∷ rest) (sym (says b f.0 f.1)); rest_fits = IsBytes-rest b rest fits }, tt) in
+      let one : Takes (b ∷ rest) (tag f.0 ∷ []) rest × ⊤ = (
+        record {
+          parts = ap (λ k. k ∷ rest) (sym (says b f.0 f.1));
+          rest_fits =
+              IsBytes-rest b rest fits;
+        },
+        tt,
+      ) in
       subst (λ (z : A × List ℕ). Takes (b ∷ rest) (tag z.0 ∷ []) z.1 × ⊤) (some_is made p f.2) one
 
 items_take : {A : Type 0} (c : Codec A) → IsCodec c → (n : ℕ) (bytes : List ℕ) (p : List A × List ℕ) → IsBytes bytes → items_at c.at n bytes ≡ Some p
     → Takes bytes (flat_map c.spell p.0) p.1 × (length p.0 ≡ n) × AllByRecursion c.Fits p.0
 unfolding items_at
 items_take {A} c law zero bytes p fits e =
-    subst (λ (y : List A × List ℕ). Takes bytes (flat_map c.spell y.0) y.1 × (length y.0 ≡ 0) × AllByRecursion c.Fits y.0) (some_is ([], bytes) p e) (record { parts = refl; rest_fits = fits }, refl, tt)
+    subst (λ (y : List A × List ℕ). Takes bytes (flat_map c.spell y.0) y.1 × (length y.0 ≡ 0) ×
+    AllByRecursion c.Fits y.0) (some_is ([], bytes) p e) (record { parts = refl; rest_fits = fits }, refl, tt)
 items_take {A} c law (suc n) bytes p fits e =
     let a = bind_some (c.at bytes) (λ first. items_at c.at n first.1 >>= λ others. Some (first.0 ∷ others.0, others.1)) p e in
     let b = bind_some (items_at c.at n a.0.1) (λ others. Some (a.0.0 ∷ others.0, others.1)) p a.2 in
@@ -201,13 +220,16 @@ items_take {A} c law (suc n) bytes p fits e =
     let second = items_take c law n a.0.1 b.0 first.0.rest_fits b.1 in
     let joined = Takes-then bytes (c.spell a.0.0) a.0.1 (flat_map c.spell b.0.0) b.0.1 first.0 second.0 in
     let made : List A × List ℕ = (a.0.0 ∷ b.0.0, b.0.1) in
-    subst (λ (y : List A × List ℕ). Takes bytes (flat_map c.spell y.0) y.1 × (length y.0 ≡ suc n) × AllByRecursion c.Fits y.0) (some_is made p b.2) (rw flat_map-cons joined, ap suc second.1, (first.1, second.2))
+    subst (λ (y : List A × List ℕ). Takes bytes (flat_map c.spell y.0) y.1 × (length y.0 ≡ suc n) ×
+    AllByRecursion c.Fits y.0) (some_is made p b.2) (rw flat_map-cons joined, ap suc second.1, (first.1, second.2))
 
-items_again : {A : Type 0} (c : Codec A) → IsCodec c → (xs : List A) (rest : List ℕ) → AllByRecursion c.Fits xs → items_at c.at (length xs) (flat_map c.spell xs ++ rest) ≡ Some (xs, rest)
+items_again : {A : Type 0} (c : Codec A) → IsCodec c → (xs : List A) (rest : List ℕ) → AllByRecursion c.Fits xs →
+    items_at c.at (length xs) (flat_map c.spell xs ++ rest) ≡ Some (xs, rest)
 unfolding items_at
 items_again c law [] rest fits = refl
 items_again c law (x ∷ xs) rest fits =
-    let regrouped : flat_map c.spell (x ∷ xs) ++ rest ≡ c.spell x ++ (flat_map c.spell xs ++ rest) = ap (λ (t : List ℕ). t ++ rest) (flat_map-cons c.spell x xs) ∙ append_assoc (c.spell x) (flat_map c.spell xs) rest in
+    let regrouped : flat_map c.spell (x ∷ xs) ++ rest ≡ c.spell x ++ (flat_map c.spell xs ++ rest) =
+    ap (λ (t : List ℕ). t ++ rest) (flat_map-cons c.spell x xs) ∙ append_assoc (c.spell x) (flat_map c.spell xs) rest in
     ap (items_at c.at (suc (length xs))) regrouped ∙ rw (law.again x (flat_map c.spell xs ++ rest) fits.0, items_again c law xs rest fits.1) refl
 
 all_ask : {A : Type 0} (c : Codec A) → IsCodec c → (xs : List A) → AllByRecursion c.Fits xs → AllByRecursion c.Asks xs

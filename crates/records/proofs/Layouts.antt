@@ -1,5 +1,6 @@
 -- The layout of each record: what is read is spelled so, and what is spelled so is read.
-use Rattle.std.proofs.Common.{◌≡◌, ℕ, zero, suc, ◌^◌, ◌<◌, ℤ, Bool, true, false, List, [], ◌∷◌, ◌++◌, Option, Some, None, refl, sym, ap, subst, ◌∙◌, arith, inl, inr}
+use Rattle.std.proofs.Common.{◌≡◌, ℕ, zero, suc, ◌^◌, ◌<◌, ℤ, Bool, true, false, List, [], ◌∷◌, ◌++◌, Option, Some, None, refl, sym, ap, subst, ◌∙◌, arith}
+use Rattle.std.proofs.Common.{inl, inr}
 use Rattle.std.specs.Prelude.{◌⊎◌, ◌==◌, not, is_some, if◌then◌else◌, FitsSigned, IsUtf8, IsSomeAnd, ⊤}
 use Rattle.std.specs.Option.{option_map_or}
 use Rattle.std.specs.Str.{is_utf8}
@@ -23,7 +24,8 @@ use Rattle.tree_core.proofs.TextUtf8.{IsUtf8-compact_text}
 use Rattle.records.specs.Codec.{Codec, ◌>>=◌, ◌&◌, only_if, number_at, list_of, whole}
 use Rattle.records.specs.Layout as layout
 use Rattle.records.specs.Layout.{tree_of, Any, IsShort, IsShortTree, is_label, is_name, is_version, is_range}
-use Rattle.records.proofs.Leaves.{bind_some, some_is, if_some, label_says, label_test, name_says, name_test, version_says, version_test, range_says, range_test, tree_found, tree_says}
+use Rattle.records.proofs.Leaves.{bind_some, some_is, if_some, label_says, label_test, name_says, name_test, version_says, version_test, range_says}
+use Rattle.records.proofs.Leaves.{range_test, tree_found, tree_says}
 use Rattle.nuc_base.specs.declared.kinds.Exit.{Exit}
 use Rattle.nuc_base.specs.declared.kinds.Exit.TheVariants as exits
 use Rattle.nuc_base.specs.declared.kinds.Step.{Step}
@@ -35,29 +37,36 @@ use Rattle.nuc_base.specs.declared.kinds.Outcome.TheVariants as outcomes
 use Rattle.records.specs.Stored.{Plan, Record, Genesis, Accepted, Turned, Grouped, Kept}
 use Rattle.records.specs.declared.record.Group.{Group}
 use Rattle.records.specs.declared.record.Requirement.{Requirement}
-use Rattle.records.specs.Layout.{Kind, kinds, label, requirement, revision, Wanted, wanted, wanted_of, plan_of, record_of, record_spelled, RecordFits, IsWritable, Spelled}
-use Rattle.records.proofs.Codecs.{IsBytes, IsBytes-rest, Takes, number_is, long_is, IsCodec, fixed_is, string_is, texts_is, those_is, both, as_a_is, nothing_is, byte_is, list_is}
+use Rattle.records.specs.Layout.{Kind, kinds, label, requirement, revision, Wanted, wanted, wanted_of, plan_of, record_of, record_spelled, RecordFits}
+use Rattle.records.specs.Layout.{IsWritable, Spelled}
+use Rattle.records.proofs.Codecs.{IsBytes, IsBytes-rest, Takes, number_is, long_is, IsCodec, fixed_is, string_is, texts_is, those_is, both, as_a_is}
+use Rattle.records.proofs.Codecs.{nothing_is, byte_is, list_is}
 
-ruled_says : (test : List ℕ → Bool) (Rule : List ℕ → Type 0) → ((t : List ℕ) → test t ≡ true → Rule t) → (t x : List ℕ) → only_if (test t) t ≡ Some x → (x ≡ t) × Rule x
+ruled_says : (test : List ℕ → Bool) (Rule : List ℕ → Type 0) → ((t : List ℕ) → test t ≡ true → Rule t) → (t x : List ℕ) → only_if (test t) t ≡ Some x →
+    (x ≡ t) × Rule x
 ruled_says test Rule is_modelled t x e =
     let a = if_some (test t) (Some t) x e in
     let one = some_is t x a.1 in
     (sym one, subst Rule one (is_modelled t a.0))
 
 pub text_is : IsCodec layout.text
-text_is = texts_is (λ t. t) (λ t. only_if (is_utf8 t) t) IsUtf8 IsShort (ruled_says is_utf8 IsUtf8 IsUtf8-from_is_utf8) (λ t h. rw (is_utf8-from_IsUtf8 t h) refl) (λ t h short. short)
+text_is = texts_is (λ t. t) (λ t. only_if (is_utf8 t) t) IsUtf8 IsShort (ruled_says is_utf8 IsUtf8 IsUtf8-from_is_utf8) (λ t h. rw (is_utf8-from_IsUtf8 t h)
+    refl) (λ t h short. short)
 
 pub label_is : IsCodec layout.label
-label_is = texts_is (λ t. t) (λ t. only_if (is_label t) t) IsLabel Any (ruled_says is_label IsLabel label_says) (λ t h. rw (label_test t h) refl) (λ t h short. tt)
+label_is = texts_is (λ t. t) (λ t. only_if (is_label t) t) IsLabel Any (ruled_says is_label IsLabel label_says) (λ t h. rw (label_test t h) refl)
+    (λ t h short. tt)
 
 pub name_is : IsCodec layout.name
 name_is = texts_is (λ t. t) (λ t. only_if (is_name t) t) IsName Any (ruled_says is_name IsName name_says) (λ t h. rw (name_test t h) refl) (λ t h short. tt)
 
 pub version_is : IsCodec layout.version
-version_is = texts_is (λ t. t) (λ t. only_if (is_version t) t) IsVersion Any (ruled_says is_version IsVersion version_says) (λ t h. rw (version_test t h) refl) (λ t h short. tt)
+version_is = texts_is (λ t. t) (λ t. only_if (is_version t) t) IsVersion Any (ruled_says is_version IsVersion version_says) (λ t h. rw (version_test t h)
+    refl) (λ t h short. tt)
 
 pub range_is : IsCodec layout.range
-range_is = texts_is (λ t. t) (λ t. only_if (is_range t) t) IsRange Any (ruled_says is_range IsRange range_says) (λ t h. rw (range_test t h) refl) (λ t h short. tt)
+range_is = texts_is (λ t. t) (λ t. only_if (is_range t) t) IsRange Any (ruled_says is_range IsRange range_says) (λ t h. rw (range_test t h) refl)
+    (λ t h short. tt)
 
 tree_text : (t : List ℕ) (d : Data) → tree_of t ≡ Some d → (compact_text d ≡ t) × IsRegular d
 tree_text t d e =
@@ -106,7 +115,11 @@ step_says b x e =
                             elim (branch b 5 (Some steps.Recover) _ x e) [
                               | inl p ↦ row layout.step_byte b 5 steps.Recover x refl p
                               | inr e ↦
-                                  elim (branch b 6 (Some steps.Bootstrap) None x e) [ inl p ↦ row layout.step_byte b 6 steps.Bootstrap x refl p | inr e ↦ absurd cc ]
+                                  elim (branch b 6 (Some steps.Bootstrap) None x e) [
+                                    | inl p ↦ row layout.step_byte b 6 steps.Bootstrap x refl p
+                                    | inr e ↦
+                                        absurd cc
+                                  ]
                             ]
                       ]
                 ]
@@ -150,7 +163,10 @@ outcome_says b x e =
                 elim (branch b 3 (Some outcomes.RollbackNotRequested) _ x e) [
                   | inl p ↦ row layout.outcome_byte b 3 outcomes.RollbackNotRequested x refl p
                   | inr e ↦
-                      elim (branch b 4 (Some outcomes.UnableToRollback) None x e) [ inl p ↦ row layout.outcome_byte b 4 outcomes.UnableToRollback x refl p | inr e ↦ absurd cc ]
+                      elim (branch b 4 (Some outcomes.UnableToRollback) None x e) [
+                        | inl p ↦ row layout.outcome_byte b 4 outcomes.UnableToRollback x refl p
+                        | inr e ↦ absurd cc
+                      ]
                 ]
           ]
     ]
@@ -183,13 +199,15 @@ code_is = record {
   asks = λ z fits. tt;
 }
 
-one_byte : {A : Type 0} (spell : A → List ℕ) (Fits : A → Type 0) (b k : ℕ) (rest : List ℕ) (x : A) (p : A × List ℕ) → IsBytes (b ∷ rest) → spell x ≡ k ∷ [] → Fits x
+one_byte : {A : Type 0} (spell : A → List ℕ) (Fits : A → Type 0) (b k : ℕ) (rest : List ℕ) (x : A) (p : A × List ℕ) → IsBytes (b ∷ rest) → spell x ≡ k ∷ [] →
+    Fits x
     → (b ≡ k) × (◌≡◌ {A = Option (A × List ℕ)} (Some (x, rest)) (Some p)) → Takes (b ∷ rest) (spell p.0) p.1 × Fits p.0
 one_byte {A} spell Fits b k rest x p fits is good h =
     let one : Takes (b ∷ rest) (spell x) rest × Fits x = (record { parts = rw is (ap (λ n. n ∷ rest) h.0); rest_fits = IsBytes-rest b rest fits }, good) in
     subst (λ (q : A × List ℕ). Takes (b ∷ rest) (spell q.0) q.1 × Fits q.0) (some_is (x, rest) p h.1) one
 
-exit_takes : (bytes : List ℕ) (p : Exit × List ℕ) → IsBytes bytes → layout.exit_at bytes ≡ Some p → Takes bytes (layout.exit_spelled p.0) p.1 × layout.ExitFits p.0
+exit_takes : (bytes : List ℕ) (p : Exit × List ℕ) → IsBytes bytes → layout.exit_at bytes ≡ Some p → Takes bytes (layout.exit_spelled p.0) p.1 ×
+    layout.ExitFits p.0
 unfolding layout.exit_at
 exit_takes [] p fits e = absurd cc
 exit_takes (b ∷ rest) p fits e =
@@ -205,19 +223,25 @@ exit_takes (b ∷ rest) p fits e =
                       elim (branch b 3 (Some (exits.NotStarted, rest)) _ p e) [
                         | inl h ↦ one_byte layout.exit_spelled layout.ExitFits b 3 rest exits.NotStarted p fits refl tt h
                         | inr e ↦
-                            elim (branch b 4 (Some (exits.Lost, rest)) None p e) [ inl h ↦ one_byte layout.exit_spelled layout.ExitFits b 4 rest exits.Lost p fits refl tt h | inr e ↦ absurd cc ]
+                            elim (branch b 4 (Some (exits.Lost, rest)) None p e) [
+                              | inl h ↦ one_byte layout.exit_spelled layout.ExitFits b 4 rest exits.Lost p
+                                  fits refl tt h
+                              | inr e ↦ absurd cc
+                            ]
                       ]
                 ]
           ]
     ]
   where
-    code_exit : (b : ℕ) (rest : List ℕ) (p : Exit × List ℕ) → IsBytes (b ∷ rest) → (b ≡ 0) × ((layout.code.at rest >>= λ z. Some (exits.Code z.0, z.1)) ≡ Some p)
+    code_exit : (b : ℕ) (rest : List ℕ) (p : Exit × List ℕ) → IsBytes (b ∷ rest) → (b ≡ 0) ×
+        ((layout.code.at rest >>= λ z. Some (exits.Code z.0, z.1)) ≡ Some p)
         → Takes (b ∷ rest) (layout.exit_spelled p.0) p.1 × layout.ExitFits p.0
     code_exit b rest p fits h =
         let f = bind_some (layout.code.at rest) (λ z. Some (exits.Code z.0, z.1)) p h.1 in
         let t = code_takes rest f.0 (IsBytes-rest b rest fits) f.1 in
         let made : Exit × List ℕ = (exits.Code f.0.0, f.0.1) in
-        let one : Takes (b ∷ rest) (0 ∷ layout.code.spell f.0.0) f.0.1 × FitsSigned w32 f.0.0 = (record { parts = rw h.0 (ap (λ (t : List ℕ). 0 ∷ t) t.0.parts); rest_fits = t.0.rest_fits }, t.1) in
+        let one : Takes (b ∷ rest) (0 ∷ layout.code.spell f.0.0) f.0.1 × FitsSigned w32 f.0.0 =
+        (record { parts = rw h.0 (ap (λ (t : List ℕ). 0 ∷ t) t.0.parts); rest_fits = t.0.rest_fits }, t.1) in
         subst (λ (q : Exit × List ℕ). Takes (b ∷ rest) (layout.exit_spelled q.0) q.1 × layout.ExitFits q.0) (some_is made p f.2) one
 
 exit_again : (x : Exit) (rest : List ℕ) → layout.ExitFits x → layout.exit_at (layout.exit_spelled x ++ rest) ≡ Some (x, rest)
@@ -275,7 +299,8 @@ record IsKind (k : Kind) : Type 0 where
 
 -- A kind is found by its first byte, and its records by their fields.
 kind_is : {A : Type 0} (first : ℕ) (c : Codec A) (make : A → Record) (value : Record → Option A) → IsCodec c
-    → ((x : A) → c.Fits x → Spelled (first ∷ c.spell x) (make x)) → ((rest : List ℕ) → record_of (first ∷ rest) ≡ layout.all_as c make rest) → IsKind (layout.kind first c make value)
+    → ((x : A) → c.Fits x → Spelled (first ∷ c.spell x) (make x)) → ((rest : List ℕ) → record_of (first ∷ rest) ≡ layout.all_as c make rest) →
+    IsKind (layout.kind first c make value)
 kind_is {A} first c make value law spells reads = record {
   takes = λ rest r fits e.
       let f = bind_some (whole (c.at rest)) (λ x. Some (make x)) r e in
@@ -320,14 +345,17 @@ FitsEither {A} b c x d y = let one : Option A = only_if b x in layout.choose (is
 abbrev pub revised_plan : Plan → List ℕ × (List ℕ × (ℕ × Wanted))
 revised_plan p = (p.id, (p.group, (p.revision, wanted_of p)))
 
-pub accepted_plain : (p : Plan) (bytes : List ℕ) → (p.revision == 0) ≡ true → (label & label & wanted).Fits (plain_plan p) → bytes ≡ 18 ∷ (label & label & wanted).spell (plain_plan p) → Spelled bytes (Accepted p)
+pub accepted_plain : (p : Plan) (bytes : List ℕ) → (p.revision == 0) ≡ true → (label & label & wanted).Fits (plain_plan p) → bytes ≡ 18
+    ∷ (label & label & wanted).spell (plain_plan p) → Spelled bytes (Accepted p)
 accepted_plain p bytes is fits same = record { fits = rw is fits; same = rw is same }
 
-pub accepted_revised : (p : Plan) (bytes : List ℕ) → (p.revision == 0) ≡ false → (label & label & revision & wanted).Fits (revised_plan p) → bytes ≡ 29 ∷ (label & label & revision & wanted).spell (revised_plan p)
+pub accepted_revised : (p : Plan) (bytes : List ℕ) → (p.revision == 0) ≡ false → (label & label & revision & wanted).Fits (revised_plan p) → bytes ≡ 29
+    ∷ (label & label & revision & wanted).spell (revised_plan p)
     → Spelled bytes (Accepted p)
 accepted_revised p bytes is fits same = record { fits = rw is fits; same = rw is same }
 
-pub grouped_plain : (g : Group) (bytes : List ℕ) → (g.revision == 0) ≡ true → (label & list_of requirement).Fits (plain_group g) → bytes ≡ 26 ∷ (label & list_of requirement).spell (plain_group g)
+pub grouped_plain : (g : Group) (bytes : List ℕ) → (g.revision == 0) ≡ true → (label & list_of requirement).Fits (plain_group g) → bytes ≡ 26
+    ∷ (label & list_of requirement).spell (plain_group g)
     → Spelled bytes (Grouped g)
 grouped_plain g bytes is fits same = record { fits = rw is fits; same = rw is same }
 
@@ -338,13 +366,15 @@ grouped_revised g bytes is fits same = record { fits = rw is fits; same = rw is 
 pub plain_plan_spelled : (p : Plan) → (p.revision == 0) ≡ true → record_spelled (Accepted p) ≡ 18 ∷ (label & label & wanted).spell (plain_plan p)
 plain_plan_spelled p is = rw is refl
 
-pub revised_plan_spelled : (p : Plan) → (p.revision == 0) ≡ false → record_spelled (Accepted p) ≡ 29 ∷ (label & label & revision & wanted).spell (revised_plan p)
+pub revised_plan_spelled : (p : Plan) → (p.revision == 0) ≡ false → record_spelled (Accepted p) ≡ 29
+    ∷ (label & label & revision & wanted).spell (revised_plan p)
 revised_plan_spelled p is = rw is refl
 
 pub plain_group_spelled : (g : Group) → (g.revision == 0) ≡ true → record_spelled (Grouped g) ≡ 26 ∷ (label & list_of requirement).spell (plain_group g)
 plain_group_spelled g is = rw is refl
 
-pub revised_group_spelled : (g : Group) → (g.revision == 0) ≡ false → record_spelled (Grouped g) ≡ 30 ∷ (label & revision & list_of requirement).spell (revised_group g)
+pub revised_group_spelled : (g : Group) → (g.revision == 0) ≡ false → record_spelled (Grouped g) ≡ 30
+    ∷ (label & revision & list_of requirement).spell (revised_group g)
 revised_group_spelled g is = rw is refl
 
 -- a line for each kind
@@ -359,12 +389,18 @@ kinds_are =
     kind_is _ _ _ _ (both _ _ name_is (both _ _ step_is exit_is)) (λ x f. record { fits = f; same = refl }) (λ rest. refl) ⊕
     kind_is _ _ _ _ name_is (λ x f. record { fits = f; same = refl }) (λ rest. refl) ⊕
     kind_is _ _ _ _ outcome_is (λ x f. record { fits = f; same = refl }) (λ rest. refl) ⊕
-    kind_is _ _ _ _ (both _ _ long_is (both _ _ origin_is (both _ _ number_is (both _ _ number_is number_is)))) (λ x f. record { fits = f; same = refl }) (λ rest. refl) ⊕
+    kind_is _ _ _ _ (both _ _ long_is (both _ _ origin_is (both _ _ number_is (both _ _ number_is number_is)))) (λ x f. record {
+      fits = f;
+      same =
+          refl;
+    }) (λ rest. refl) ⊕
     kind_is _ _ _ _ (both _ _ label_is (list_is _ requirement_is)) (λ x f. record { fits = f; same = refl }) (λ rest. refl) ⊕
     kind_is _ _ _ _ item_is (λ x f. record { fits = f; same = refl }) (λ rest. refl) ⊕
     kind_is _ _ _ _ (both _ _ label_is outcome_is) (λ x f. record { fits = f; same = refl }) (λ rest. refl) ⊕
-    kind_is _ _ _ _ (both _ _ label_is (both _ _ label_is (both _ _ revision_is wanted_is))) (λ x f. accepted_revised _ _ (not_zero _ f.1.1.0.0) f refl) (λ rest. refl) ⊕
-    kind_is _ _ _ _ (both _ _ label_is (both _ _ revision_is (list_is _ requirement_is))) (λ x f. grouped_revised _ _ (not_zero _ f.1.0.0) f refl) (λ rest. refl) ⊕
+    kind_is _ _ _ _ (both _ _ label_is (both _ _ label_is (both _ _ revision_is wanted_is))) (λ x f. accepted_revised _ _ (not_zero _ f.1.1.0.0) f refl)
+    (λ rest. refl) ⊕
+    kind_is _ _ _ _ (both _ _ label_is (both _ _ revision_is (list_is _ requirement_is))) (λ x f. grouped_revised _ _ (not_zero _ f.1.0.0) f refl)
+    (λ rest. refl) ⊕
     kind_is _ _ _ _ name_is (λ x f. record { fits = f; same = refl }) (λ rest. refl) ⊕
     no_more
 
@@ -420,11 +456,13 @@ record_asks r = elim r as (λ r. RecordFits r → IsWritable r) [
   | Kept i ↦ item_is.asks i
   | _ ↦ λ fits. tt
 ] where
-  plan_asks : (p : Plan) (b : Bool) → FitsEither b (label & label & wanted) (plain_plan p) (label & label & revision & wanted) (revised_plan p) → IsWritable (Accepted p)
+  plan_asks : (p : Plan) (b : Bool) → FitsEither b (label & label & wanted) (plain_plan p) (label & label & revision & wanted) (revised_plan p) →
+      IsWritable (Accepted p)
   plan_asks p true fits = wanted_is.asks (wanted_of p) fits.1.1
   plan_asks p false fits = wanted_is.asks (wanted_of p) fits.1.1.1
 
-  group_asks : (g : Group) (b : Bool) → FitsEither b (label & list_of requirement) (plain_group g) (label & revision & list_of requirement) (revised_group g) → IsWritable (Grouped g)
+  group_asks : (g : Group) (b : Bool) → FitsEither b (label & list_of requirement) (plain_group g) (label & revision & list_of requirement)
+      (revised_group g) → IsWritable (Grouped g)
   group_asks g true fits = (list_is _ requirement_is).asks g.requirements fits.1
   group_asks g false fits = (list_is _ requirement_is).asks g.requirements fits.1.1
 

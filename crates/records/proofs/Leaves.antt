@@ -1,5 +1,6 @@
 -- What the tests of texts tell.
-use Rattle.std.proofs.Common.{◌≡◌, ◌≢◌, ℕ, ◌<◌, ◌≤◌, Bool, true, false, Result, Ok, Err, List, [], ◌∷◌, length, Option, Some, None, refl, sym, ap, subst, ◌∙◌, arith}
+use Rattle.std.proofs.Common.{◌≡◌, ◌≢◌, ℕ, ◌<◌, ◌≤◌, Bool, true, false, Result, Ok, Err, List, [], ◌∷◌, length, Option, Some, None, refl, sym, ap, subst, ◌∙◌}
+use Rattle.std.proofs.Common.{arith}
 use Rattle.std.specs.Prelude.{IsUtf8, ◌&&◌, not, nat_le, if◌then◌else◌}
 use Rattle.std.specs.Str.{is_utf8, bytes_eq}
 use Rattle.std.proofs.lemmas.Bool.{and_parts, leb-true, ltb-true, le-leb, lt-ltb, false_from_ne_true, false≢true}
@@ -46,7 +47,8 @@ pub none_from : {A : Type 0} (o : Option A) → ((x : A) → o ≡ Some x → �
 none_from (Some x) h = absurd (h x refl)
 none_from None h = refl
 
-pub read_is : {A : Type 0} (of : List ℕ → Option A) (bytes t rest : List ℕ) (o : Option A) → string_at bytes ≡ Some (t, rest) → of t ≡ o → read_by of bytes ≡ (o >>= λ x. Some (x, rest))
+pub read_is : {A : Type 0} (of : List ℕ → Option A) (bytes t rest : List ℕ) (o : Option A) → string_at bytes ≡ Some (t, rest) → of t ≡ o →
+    read_by of bytes ≡ (o >>= λ x. Some (x, rest))
 read_is of bytes t rest o a b = rw (a, b) refl
 
 not_true : (b : Bool) → not b ≡ true → b ≡ false
@@ -95,7 +97,8 @@ name_says t e =
 
 pub name_test : (t : List ℕ) → IsName t → is_name t ≡ true
 unfolding is_name
-name_test t h = both_true _ _ (lt-ltb 0 (length t) h.not_empty) (both_true _ _ (le-leb (length t) 128 h.short) (both_true _ _ (list_all-from_AllPass is_name_byte t h.each)
+name_test t h = both_true _ _ (lt-ltb 0 (length t) h.not_empty) (both_true _ _ (le-leb (length t) 128 h.short) (both_true _ _ (list_all-from_AllPass
+    is_name_byte t h.each)
     (both_true _ _ (differs_test t (46 ∷ []) h.not_here) (differs_test t (46 ∷ 46 ∷ []) h.not_above))))
 
 pub no_name : (t : List ℕ) → (IsName t → ⊥) → is_name t ≡ false
@@ -179,7 +182,8 @@ mutual
 
   members_test : (ms : Members) → MembersHaveUtf8 ms → members_have_utf8 ms ≡ true
   members_test no_members h = refl
-  members_test (member k d ms) h = both_true (is_utf8 k) (has_utf8 d && members_have_utf8 ms) (is_utf8-from_IsUtf8 k h.0) (both_true (has_utf8 d) (members_have_utf8 ms) (utf8_test d h.1) (members_test ms h.2))
+  members_test (member k d ms) h = both_true (is_utf8 k) (has_utf8 d && members_have_utf8 ms) (is_utf8-from_IsUtf8 k h.0) (both_true (has_utf8 d)
+      (members_have_utf8 ms) (utf8_test d h.1) (members_test ms h.2))
 
 pub no_utf8 : (bs : List ℕ) → (IsUtf8 bs → ⊥) → is_utf8 bs ≡ false
 no_utf8 bs h = false_from_ne_true (is_utf8 bs) (λ e. h (IsUtf8-from_is_utf8 bs e))
@@ -194,7 +198,14 @@ pub record IsText (t : List ℕ) (d : Data) : Type 0 where
 
 pub tree_found : (t : List ℕ) (d : Data) → IsText t d → tree_of t ≡ Some d
 unfolding tree_of
-tree_found t d h = rw (is_utf8-from_IsUtf8 t h.json.utf8, h.json.value, le-leb (depth d) max_nesting h.shallow, h.no_float, utf8_test d h.utf8, (bytes_eq-Decides (compact_text d) t).1 h.text) refl
+tree_found t d h = rw (
+  is_utf8-from_IsUtf8 t h.json.utf8,
+  h.json.value,
+  le-leb (depth d) max_nesting h.shallow,
+  h.no_float,
+  utf8_test d h.utf8,
+  (bytes_eq-Decides (compact_text d) t).1 h.text,
+) refl
 
 -- the tests of a tree that was read
 abbrev passes : List ℕ → Data → Bool
@@ -238,8 +249,10 @@ tree_fails t trees.TooLarge s f e = absurd (omega (arith, f))
 tree_fails t trees.NotJson s f e = stopped s t e (no_tree t (λ d h. f.1 d h.json))
 tree_fails t trees.TooDeep s f e =
     let d = f.1.0 in
-    stopped s t e (no_tree t (λ x h. let deep : max_nesting < depth x = subst (λ y. max_nesting < depth y) (one_value t d x f.1.1 h) f.1.2 in omega (arith, deep, h.shallow)))
+    stopped s t e (no_tree t (λ x h. let deep : max_nesting < depth x = subst (λ y. max_nesting < depth y) (one_value t d x f.1.1 h) f.1.2 in
+    omega (arith, deep, h.shallow)))
 tree_fails t trees.NotWhole s f e =
     let d = f.1.0 in
-    stopped s t e (no_tree t (λ x h. let float : has_float x ≡ true = subst (λ y. has_float y ≡ true) (one_value t d x f.1.1 h) f.1.3 in false≢true (sym h.no_float ∙ float)))
+    stopped s t e (no_tree t (λ x h. let float : has_float x ≡ true = subst (λ y. has_float y ≡ true) (one_value t d x f.1.1 h) f.1.3 in
+    false≢true (sym h.no_float ∙ float)))
 tree_fails t trees.NoMemory s f e = stopped_memory s t e

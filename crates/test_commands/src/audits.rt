@@ -13,7 +13,10 @@ const AUDIT: &str = "nucleus --root /gg audit";
 /// A journal: a start, and a deployment `d1` of the component `com.x` 1.0.0 with the file `f`, which is kept with the digest
 /// of the bytes `abc` (the first example of FIPS 180-2) and closed as successful.
 const JOURNAL: &[u8] =
-    b"\x01\0\0\0\x2a\x11\0\0\0\x03/gg\0\0\0\x02t1\0\0\0\x062.12.0\0\0\0\x05linux\0\0\0\x05amd64\x01\0\0\0\xf4\x12\0\0\0\x02d1\0\0\0\x01g\0\0\0\0\x01\0\0\0\x05com.x\0\0\0\x01*\0\0\0\x01\0\0\0\x05com.x\0\0\0\x051.0.0\0\0\0\x88{\"RecipeFormatVersion\":\"2020-01-25\",\"ComponentName\":\"com.x\",\"ComponentVersion\":\"1.0.0\",\"Manifests\":[{\"Artifacts\":[{\"URI\":\"s3://b/f\"}]}]}\0\0\0\x02{}\0\0\0\x01\0\0\0\x01f\xba\x78\x16\xbf\x8f\x01\xcf\xea\x41\x41\x40\xde\x5d\xae\x22\x23\xb0\x03\x61\xa3\x96\x17\x7a\x9c\xb4\x10\xff\x61\xf2\x00\x15\xad\0\0\0\0\x01\0\0\0\x01\x15\x01\0\0\0\x02\x18\x01\0";
+    b"\x01\0\0\0\x2a\x11\0\0\0\x03/gg\0\0\0\x02t1\0\0\0\x062.12.0\0\0\0\x05linux\0\0\0\x05amd64\x01\0\0\0\xf4\x12\0\0\0\x02d1\0\0\0\x01g\0\0\0\0\x01\0\0\0\
+    \x05com.x\0\0\0\x01*\0\0\0\x01\0\0\0\x05com.x\0\0\0\x051.0.0\0\0\0\x88{\"RecipeFormatVersion\":\"2020-01-25\",\"ComponentName\":\"com.x\",\
+    \"ComponentVersion\":\"1.0.0\",\"Manifests\":[{\"Artifacts\":[{\"URI\":\"s3://b/f\"}]}]}\0\0\0\x02{}\0\0\0\x01\0\0\0\x01f\xba\x78\x16\xbf\x8f\x01\xcf\xea\
+    \x41\x41\x40\xde\x5d\xae\x22\x23\xb0\x03\x61\xa3\x96\x17\x7a\x9c\xb4\x10\xff\x61\xf2\x00\x15\xad\0\0\0\0\x01\0\0\0\x01\x15\x01\0\0\0\x02\x18\x01\0";
 
 const FILE: &str = "packages/artifacts/com.x/1.0.0/f";
 

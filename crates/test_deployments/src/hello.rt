@@ -26,7 +26,8 @@ const SCRIPT: &str =
     "python3 -u /gg/packages/artifacts/com.example.HelloWorld/1.0.0/hello_world.py \"world\"";
 
 const STATUS: &str =
-    "0|thing t1;nucleus 2.12.0;group arn:aws:iot:us-east-1:123456789012:thinggroup/g1;require com.example.HelloWorld 1.0.0;component com.example.HelloWorld 1.0.0 {\"Message\":\"world\"};closed d1 SUCCESSFUL;";
+    "0|thing t1;nucleus 2.12.0;group arn:aws:iot:us-east-1:123456789012:thinggroup/g1;require com.example.HelloWorld 1.0.0;\
+    component com.example.HelloWorld 1.0.0 {\"Message\":\"world\"};closed d1 SUCCESSFUL;";
 
 /// A library of this recipe, with a file of the bytes `abc`, that fails these calls.
 fn library(alloc: Global, failing: &[u64]) -> Result<MemoryLibrary, Fail> {

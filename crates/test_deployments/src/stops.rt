@@ -10,7 +10,8 @@ use std::test::Fail;
 /// `d1` that closed before, and the policy and the versions of a deployment `d2`; and what `status` prints of the components
 /// and closed deployments before `d2` and behind its close, with `;` for each line feed.
 const SCENES: &str =
-    "A 1.0.0 startup s1;A 2.0.0 startup s2 shutdown q2|0|A 1.0.0|d2 ROLLBACK A 2.0.0|require A 1.0.0;component A 1.0.0 {};closed d1 SUCCESSFUL;|require A 2.0.0;component A 2.0.0 {};closed d1 SUCCESSFUL;closed d2 SUCCESSFUL;
+    "A 1.0.0 startup s1;A 2.0.0 startup s2 shutdown q2|0|A 1.0.0|d2 ROLLBACK A 2.0.0|require A 1.0.0;component A 1.0.0 {};closed d1 SUCCESSFUL;\
+    |require A 2.0.0;component A 2.0.0 {};closed d1 SUCCESSFUL;closed d2 SUCCESSFUL;
 A 1.0.0;A 2.0.0 startup s2 recover r2|1|A 1.0.0|d2 ROLLBACK A 2.0.0|require A 1.0.0;component A 1.0.0 {};closed d1 SUCCESSFUL;|require A 1.0.0;component A 1.0.0 {};closed d1 SUCCESSFUL;closed d2 FAILED_ROLLBACK_COMPLETE;
 A 1.0.0;A 2.0.0 startup s2|1|A 1.0.0|d2 DO_NOTHING A 2.0.0|require A 1.0.0;component A 1.0.0 {};closed d1 SUCCESSFUL;|require A 2.0.0;component A 2.0.0 {};closed d1 SUCCESSFUL;closed d2 FAILED_ROLLBACK_NOT_REQUESTED;
 A 1.0.0;A 2.0.0 bootstrap a;B 1.0.0 bootstrap b|0|A 1.0.0|d2 ROLLBACK A 2.0.0 B 1.0.0|require A 1.0.0;component A 1.0.0 {};closed d1 SUCCESSFUL;|require A 2.0.0;require B 1.0.0;component A 2.0.0 {};component B 1.0.0 {};closed d1 SUCCESSFUL;closed d2 SUCCESSFUL;

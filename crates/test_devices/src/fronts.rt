@@ -16,7 +16,8 @@ use test_support::push_entry;
 const FRONT: [&[u8]; 5] = [
     b"\x19\0\0\0\0\0\0\0\x02\0\0\0\x03/gg\0\0\0\x02t1\0\0\0\x062.12.0\0\0\0\x05linux\0\0\0\x05amd64\0\0\0\x01\0\0\0\x01\0\0\0\x02",
     b"\x1e\0\0\0\x01g\0\0\0\0\0\0\0\x04\0\0\0\0",
-    b"\x1b\0\0\0\x01a\0\0\0\x051.0.0\0\0\0\x81{\"RecipeFormatVersion\":\"2020-01-25\",\"ComponentName\":\"a\",\"ComponentVersion\":\"1.0.0\",\"Manifests\":[{\"Lifecycle\":{\"bootstrap\":\"s\"}}]}\0\0\0\x02{}\0\0\0\0",
+    b"\x1b\0\0\0\x01a\0\0\0\x051.0.0\0\0\0\x81{\"RecipeFormatVersion\":\"2020-01-25\",\"ComponentName\":\"a\",\"ComponentVersion\":\"1.0.0\",\
+    \"Manifests\":[{\"Lifecycle\":{\"bootstrap\":\"s\"}}]}\0\0\0\x02{}\0\0\0\0",
     b"\x1c\0\0\0\x02d4\x01",
     b"\x1c\0\0\0\x02d0\x01",
 ];

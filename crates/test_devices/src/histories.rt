@@ -18,35 +18,52 @@ const RECORDS: &[(&str, &[u8])] = &[
     ),
     (
         "first",
-        b"\x12\0\0\0\x02d0\0\0\0\x01g\0\0\0\0\0\0\0\0\x01\0\0\0\x01a\0\0\0\x051.0.0\0\0\0\x81{\"RecipeFormatVersion\":\"2020-01-25\",\"ComponentName\":\"a\",\"ComponentVersion\":\"1.0.0\",\"Manifests\":[{\"Lifecycle\":{\"bootstrap\":\"s\"}}]}\0\0\0\x02{}\0\0\0\0\0\0\0\0",
+        b"\x12\0\0\0\x02d0\0\0\0\x01g\0\0\0\0\0\0\0\0\x01\0\0\0\x01a\0\0\0\x051.0.0\0\0\0\x81{\"RecipeFormatVersion\":\"2020-01-25\",\"ComponentName\":\"a\",\
+        \"ComponentVersion\":\"1.0.0\",\"Manifests\":[{\"Lifecycle\":{\"bootstrap\":\"s\"}}]}\0\0\0\x02{}\0\0\0\0\0\0\0\0",
     ),
     (
         "boots",
-        b"\x12\0\0\0\x02d1\0\0\0\x01g\0\0\0\0\x01\0\0\0\x01a\0\0\0\x01*\0\0\0\x02\0\0\0\x01a\0\0\0\x051.0.0\0\0\0\x81{\"RecipeFormatVersion\":\"2020-01-25\",\"ComponentName\":\"a\",\"ComponentVersion\":\"1.0.0\",\"Manifests\":[{\"Lifecycle\":{\"bootstrap\":\"s\"}}]}\0\0\0\x02{}\0\0\0\0\0\0\0\x01b\0\0\0\x051.0.0\0\0\0\x81{\"RecipeFormatVersion\":\"2020-01-25\",\"ComponentName\":\"b\",\"ComponentVersion\":\"1.0.0\",\"Manifests\":[{\"Lifecycle\":{\"bootstrap\":\"s\"}}]}\0\0\0\x02{}\0\0\0\0\0\0\0\x02\0\0\0\x01b\0\0\0\x01a",
+        b"\x12\0\0\0\x02d1\0\0\0\x01g\0\0\0\0\x01\0\0\0\x01a\0\0\0\x01*\0\0\0\x02\0\0\0\x01a\0\0\0\x051.0.0\0\0\0\x81{\"RecipeFormatVersion\":\"2020-01-25\",\
+        \"ComponentName\":\"a\",\"ComponentVersion\":\"1.0.0\",\"Manifests\":[{\"Lifecycle\":{\"bootstrap\":\"s\"}}]}\0\0\0\x02{}\0\0\0\0\0\0\0\x01b\0\0\0\
+        \x051.0.0\0\0\0\x81{\"RecipeFormatVersion\":\"2020-01-25\",\"ComponentName\":\"b\",\"ComponentVersion\":\"1.0.0\",\
+        \"Manifests\":[{\"Lifecycle\":{\"bootstrap\":\"s\"}}]}\0\0\0\x02{}\0\0\0\0\0\0\0\x02\0\0\0\x01b\0\0\0\x01a",
     ),
     (
         "boots-keep",
-        b"\x12\0\0\0\x02d1\0\0\0\x01g\x01\0\0\0\0\0\0\0\x02\0\0\0\x01a\0\0\0\x051.0.0\0\0\0\x81{\"RecipeFormatVersion\":\"2020-01-25\",\"ComponentName\":\"a\",\"ComponentVersion\":\"1.0.0\",\"Manifests\":[{\"Lifecycle\":{\"bootstrap\":\"s\"}}]}\0\0\0\x02{}\0\0\0\0\0\0\0\x01b\0\0\0\x051.0.0\0\0\0\x81{\"RecipeFormatVersion\":\"2020-01-25\",\"ComponentName\":\"b\",\"ComponentVersion\":\"1.0.0\",\"Manifests\":[{\"Lifecycle\":{\"bootstrap\":\"s\"}}]}\0\0\0\x02{}\0\0\0\0\0\0\0\x02\0\0\0\x01b\0\0\0\x01a",
+        b"\x12\0\0\0\x02d1\0\0\0\x01g\x01\0\0\0\0\0\0\0\x02\0\0\0\x01a\0\0\0\x051.0.0\0\0\0\x81{\"RecipeFormatVersion\":\"2020-01-25\",\
+        \"ComponentName\":\"a\",\"ComponentVersion\":\"1.0.0\",\"Manifests\":[{\"Lifecycle\":{\"bootstrap\":\"s\"}}]}\0\0\0\x02{}\0\0\0\0\0\0\0\x01b\0\0\0\
+        \x051.0.0\0\0\0\x81{\"RecipeFormatVersion\":\"2020-01-25\",\"ComponentName\":\"b\",\"ComponentVersion\":\"1.0.0\",\
+        \"Manifests\":[{\"Lifecycle\":{\"bootstrap\":\"s\"}}]}\0\0\0\x02{}\0\0\0\0\0\0\0\x02\0\0\0\x01b\0\0\0\x01a",
     ),
     (
         "bare",
-        b"\x12\0\0\0\x02d1\0\0\0\x01g\0\0\0\0\0\0\0\0\x02\0\0\0\x01a\0\0\0\x051.0.0\0\0\0\x81{\"RecipeFormatVersion\":\"2020-01-25\",\"ComponentName\":\"a\",\"ComponentVersion\":\"1.0.0\",\"Manifests\":[{\"Lifecycle\":{\"bootstrap\":\"s\"}}]}\0\0\0\x02{}\0\0\0\0\0\0\0\x01b\0\0\0\x051.0.0\0\0\0\x81{\"RecipeFormatVersion\":\"2020-01-25\",\"ComponentName\":\"b\",\"ComponentVersion\":\"1.0.0\",\"Manifests\":[{\"Lifecycle\":{\"bootstrap\":\"s\"}}]}\0\0\0\x02{}\0\0\0\0\0\0\0\0",
+        b"\x12\0\0\0\x02d1\0\0\0\x01g\0\0\0\0\0\0\0\0\x02\0\0\0\x01a\0\0\0\x051.0.0\0\0\0\x81{\"RecipeFormatVersion\":\"2020-01-25\",\"ComponentName\":\"a\",\
+        \"ComponentVersion\":\"1.0.0\",\"Manifests\":[{\"Lifecycle\":{\"bootstrap\":\"s\"}}]}\0\0\0\x02{}\0\0\0\0\0\0\0\x01b\0\0\0\x051.0.0\0\0\0\x81{\"Recip\
+        eFormatVersion\":\"2020-01-25\",\"ComponentName\":\"b\",\"ComponentVersion\":\"1.0.0\",\"Manifests\":[{\"Lifecycle\":{\"bootstrap\":\"s\"}}]}\0\0\0\
+        \x02{}\0\0\0\0\0\0\0\0",
     ),
     (
         "bare-keep",
-        b"\x12\0\0\0\x02d1\0\0\0\x01g\x01\0\0\0\0\0\0\0\x02\0\0\0\x01a\0\0\0\x051.0.0\0\0\0\x81{\"RecipeFormatVersion\":\"2020-01-25\",\"ComponentName\":\"a\",\"ComponentVersion\":\"1.0.0\",\"Manifests\":[{\"Lifecycle\":{\"bootstrap\":\"s\"}}]}\0\0\0\x02{}\0\0\0\0\0\0\0\x01b\0\0\0\x051.0.0\0\0\0\x81{\"RecipeFormatVersion\":\"2020-01-25\",\"ComponentName\":\"b\",\"ComponentVersion\":\"1.0.0\",\"Manifests\":[{\"Lifecycle\":{\"bootstrap\":\"s\"}}]}\0\0\0\x02{}\0\0\0\0\0\0\0\0",
+        b"\x12\0\0\0\x02d1\0\0\0\x01g\x01\0\0\0\0\0\0\0\x02\0\0\0\x01a\0\0\0\x051.0.0\0\0\0\x81{\"RecipeFormatVersion\":\"2020-01-25\",\
+        \"ComponentName\":\"a\",\"ComponentVersion\":\"1.0.0\",\"Manifests\":[{\"Lifecycle\":{\"bootstrap\":\"s\"}}]}\0\0\0\x02{}\0\0\0\0\0\0\0\x01b\0\0\0\
+        \x051.0.0\0\0\0\x81{\"RecipeFormatVersion\":\"2020-01-25\",\"ComponentName\":\"b\",\"ComponentVersion\":\"1.0.0\",\
+        \"Manifests\":[{\"Lifecycle\":{\"bootstrap\":\"s\"}}]}\0\0\0\x02{}\0\0\0\0\0\0\0\0",
     ),
     (
         "other",
-        b"\x12\0\0\0\x02d2\0\0\0\x01h\0\0\0\0\0\0\0\0\x01\0\0\0\x01b\0\0\0\x051.0.0\0\0\0\x81{\"RecipeFormatVersion\":\"2020-01-25\",\"ComponentName\":\"b\",\"ComponentVersion\":\"1.0.0\",\"Manifests\":[{\"Lifecycle\":{\"bootstrap\":\"s\"}}]}\0\0\0\x02{}\0\0\0\0\0\0\0\0",
+        b"\x12\0\0\0\x02d2\0\0\0\x01h\0\0\0\0\0\0\0\0\x01\0\0\0\x01b\0\0\0\x051.0.0\0\0\0\x81{\"RecipeFormatVersion\":\"2020-01-25\",\"ComponentName\":\"b\",\
+        \"ComponentVersion\":\"1.0.0\",\"Manifests\":[{\"Lifecycle\":{\"bootstrap\":\"s\"}}]}\0\0\0\x02{}\0\0\0\0\0\0\0\0",
     ),
     (
         "again",
-        b"\x12\0\0\0\x02d0\0\0\0\x01g\0\0\0\0\0\0\0\0\x01\0\0\0\x01b\0\0\0\x051.0.0\0\0\0\x81{\"RecipeFormatVersion\":\"2020-01-25\",\"ComponentName\":\"b\",\"ComponentVersion\":\"1.0.0\",\"Manifests\":[{\"Lifecycle\":{\"bootstrap\":\"s\"}}]}\0\0\0\x02{}\0\0\0\0\0\0\0\0",
+        b"\x12\0\0\0\x02d0\0\0\0\x01g\0\0\0\0\0\0\0\0\x01\0\0\0\x01b\0\0\0\x051.0.0\0\0\0\x81{\"RecipeFormatVersion\":\"2020-01-25\",\"ComponentName\":\"b\",\
+        \"ComponentVersion\":\"1.0.0\",\"Manifests\":[{\"Lifecycle\":{\"bootstrap\":\"s\"}}]}\0\0\0\x02{}\0\0\0\0\0\0\0\0",
     ),
     (
         "back",
-        b"\x12\0\0\0\x02d0\0\0\0\x01g\0\0\0\0\0\0\0\0\x01\0\0\0\x01a\0\0\0\x051.0.0\0\0\0\xa7{\"RecipeFormatVersion\":\"2020-01-25\",\"ComponentName\":\"a\",\"ComponentVersion\":\"1.0.0\",\"Manifests\":[{\"Lifecycle\":{\"bootstrap\":{\"Script\":\"s\",\"BootstrapOnRollback\":true}}}]}\0\0\0\x02{}\0\0\0\0\0\0\0\0",
+        b"\x12\0\0\0\x02d0\0\0\0\x01g\0\0\0\0\0\0\0\0\x01\0\0\0\x01a\0\0\0\x051.0.0\0\0\0\xa7{\"RecipeFormatVersion\":\"2020-01-25\",\"ComponentName\":\"a\",\
+        \"ComponentVersion\":\"1.0.0\",\"Manifests\":[{\"Lifecycle\":{\"bootstrap\":{\"Script\":\"s\",\"BootstrapOnRollback\":true}}}]}\0\0\0\x02{}\0\0\0\0\0\
+        \0\0\0",
     ),
     (
         "r5",
@@ -62,7 +79,10 @@ const RECORDS: &[(&str, &[u8])] = &[
     ),
     (
         "scoped",
-        b"\x12\0\0\0\x02d1\0\0\0\x02g1\0\0\0\0\0\0\0\0\x04\0\0\0\x01a\0\0\0\x051.0.0\0\0\0\xaf{\"RecipeFormatVersion\":\"2020-01-25\",\"ComponentName\":\"a\",\"ComponentVersion\":\"1.0.0\",\"ComponentDependencies\":{\"d\":{\"DependencyType\":\"SOFT\"},\"b\":{\"VersionRequirement\":\"^1.0.0\"}}}\0\0\0\x09{\"x\":\"y\"}\0\0\0\0\0\0\0\x01b\0\0\0\x051.1.0\0\0\0\0\0\0\0\x07{\"n\":7}\0\0\0\0\0\0\0\x01c\0\0\0\x051.0.0\0\0\0\0\0\0\0\x02{}\0\0\0\0\0\0\0\x01d\0\0\0\x053.0.0\0\0\0\0\0\0\0\x0c{\"l\":[true]}\0\0\0\0\0\0\0\0",
+        b"\x12\0\0\0\x02d1\0\0\0\x02g1\0\0\0\0\0\0\0\0\x04\0\0\0\x01a\0\0\0\x051.0.0\0\0\0\xaf{\"RecipeFormatVersion\":\"2020-01-25\",\
+        \"ComponentName\":\"a\",\"ComponentVersion\":\"1.0.0\",\"ComponentDependencies\":{\"d\":{\"DependencyType\":\"SOFT\"},\
+        \"b\":{\"VersionRequirement\":\"^1.0.0\"}}}\0\0\0\x09{\"x\":\"y\"}\0\0\0\0\0\0\0\x01b\0\0\0\x051.1.0\0\0\0\0\0\0\0\x07{\"n\":7}\0\0\0\0\0\0\0\x01c\0\
+        \0\0\x051.0.0\0\0\0\0\0\0\0\x02{}\0\0\0\0\0\0\0\x01d\0\0\0\x053.0.0\0\0\0\0\0\0\0\x0c{\"l\":[true]}\0\0\0\0\0\0\0\0",
     ),
     ("failing-back-a", b"\x1f\0\0\0\x01a"),
     ("failing-back-b", b"\x1f\0\0\0\x01b"),
@@ -562,7 +582,8 @@ const SIZES: &[(&str, &[(usize, &[u8])], bool)] = &[
             (1, b"\0\0\0\x01"),
             (
                 1,
-                b"\0\0\0\x04n###\0\0\0\x051.0.0\0\0\0V{\"RecipeFormatVersion\":\"2020-01-25\",\"ComponentName\":\"n###\",\"ComponentVersion\":\"1.0.0\"}\0\0\0\x02{}\0\0\0\0",
+                b"\0\0\0\x04n###\0\0\0\x051.0.0\0\0\0V{\"RecipeFormatVersion\":\"2020-01-25\",\"ComponentName\":\"n###\",\
+                \"ComponentVersion\":\"1.0.0\"}\0\0\0\x02{}\0\0\0\0",
             ),
             (1, b"\0\0\0\0"),
         ],
@@ -576,7 +597,8 @@ const SIZES: &[(&str, &[(usize, &[u8])], bool)] = &[
             (1, b"\0\0\0\x01"),
             (
                 1,
-                b"\0\0\0\x04n###\0\0\0\x051.0.0\0\0\0V{\"RecipeFormatVersion\":\"2020-01-25\",\"ComponentName\":\"n###\",\"ComponentVersion\":\"1.0.0\"}\0\0\0\x02{}\0\0\0\0",
+                b"\0\0\0\x04n###\0\0\0\x051.0.0\0\0\0V{\"RecipeFormatVersion\":\"2020-01-25\",\"ComponentName\":\"n###\",\
+                \"ComponentVersion\":\"1.0.0\"}\0\0\0\x02{}\0\0\0\0",
             ),
             (1, b"\0\0\0\0"),
         ],
@@ -589,7 +611,8 @@ const SIZES: &[(&str, &[(usize, &[u8])], bool)] = &[
             (1, b"\0\0\0\x80"),
             (
                 128,
-                b"\0\0\0\x04n###\0\0\0\x051.0.0\0\0\0V{\"RecipeFormatVersion\":\"2020-01-25\",\"ComponentName\":\"n###\",\"ComponentVersion\":\"1.0.0\"}\0\0\0\x02{}\0\0\0\0",
+                b"\0\0\0\x04n###\0\0\0\x051.0.0\0\0\0V{\"RecipeFormatVersion\":\"2020-01-25\",\"ComponentName\":\"n###\",\
+                \"ComponentVersion\":\"1.0.0\"}\0\0\0\x02{}\0\0\0\0",
             ),
             (1, b"\0\0\0\0"),
         ],
@@ -602,7 +625,8 @@ const SIZES: &[(&str, &[(usize, &[u8])], bool)] = &[
             (1, b"\0\0\0\x81"),
             (
                 129,
-                b"\0\0\0\x04n###\0\0\0\x051.0.0\0\0\0V{\"RecipeFormatVersion\":\"2020-01-25\",\"ComponentName\":\"n###\",\"ComponentVersion\":\"1.0.0\"}\0\0\0\x02{}\0\0\0\0",
+                b"\0\0\0\x04n###\0\0\0\x051.0.0\0\0\0V{\"RecipeFormatVersion\":\"2020-01-25\",\"ComponentName\":\"n###\",\
+                \"ComponentVersion\":\"1.0.0\"}\0\0\0\x02{}\0\0\0\0",
             ),
             (1, b"\0\0\0\0"),
         ],
@@ -613,7 +637,8 @@ const SIZES: &[(&str, &[(usize, &[u8])], bool)] = &[
         &[
             (
                 1,
-                b"\x12\0\0\0\x02d1\0\0\0\x02g1\0\0\0\0\0\0\0\0\x01\0\0\0\x04n###\0\0\0\x051.0.0\0\0\0V{\"RecipeFormatVersion\":\"2020-01-25\",\"ComponentName\":\"n###\",\"ComponentVersion\":\"1.0.0\"}\0\x01\0\0{\"k\":\"",
+                b"\x12\0\0\0\x02d1\0\0\0\x02g1\0\0\0\0\0\0\0\0\x01\0\0\0\x04n###\0\0\0\x051.0.0\0\0\0V{\"RecipeFormatVersion\":\"2020-01-25\",\
+                \"ComponentName\":\"n###\",\"ComponentVersion\":\"1.0.0\"}\0\x01\0\0{\"k\":\"",
             ),
             (65528, b"x"),
             (1, b"\"}\0\0\0\0\0\0\0\0"),
@@ -625,7 +650,8 @@ const SIZES: &[(&str, &[(usize, &[u8])], bool)] = &[
         &[
             (
                 1,
-                b"\x12\0\0\0\x02d1\0\0\0\x02g1\0\0\0\0\0\0\0\0\x01\0\0\0\x04n###\0\0\0\x051.0.0\0\0\0V{\"RecipeFormatVersion\":\"2020-01-25\",\"ComponentName\":\"n###\",\"ComponentVersion\":\"1.0.0\"}\0\x01\0\x01{\"k\":\"",
+                b"\x12\0\0\0\x02d1\0\0\0\x02g1\0\0\0\0\0\0\0\0\x01\0\0\0\x04n###\0\0\0\x051.0.0\0\0\0V{\"RecipeFormatVersion\":\"2020-01-25\",\
+                \"ComponentName\":\"n###\",\"ComponentVersion\":\"1.0.0\"}\0\x01\0\x01{\"k\":\"",
             ),
             (65529, b"x"),
             (1, b"\"}\0\0\0\0\0\0\0\0"),
@@ -738,11 +764,15 @@ const PIECES: &[(u8, &[u8])] = &[
     (b'z', b"\0\0\0\x01c"),
     (
         b'A',
-        b"\0\0\0\x01a\0\0\0\x051.0.0\0\0\x01<{\"RecipeFormatVersion\":\"2020-01-25\",\"ComponentName\":\"a\",\"ComponentVersion\":\"1.0.0\",\"ComponentDependencies\":{\"b\":{\"VersionRequirement\":\"^1.0.0\",\"DependencyType\":\"SOFT\"}},\"Manifests\":[{\"Artifacts\":[{\"URI\":\"s3://x/f\",\"Algorithm\":\"SHA-256\",\"Digest\":\"1111111111111111111111111111111111111111111111111111111111111111\"}]}]}\0\0\0\x07{\"k\":1}\0\0\0\x01\0\0\0\x01f\x11\x11\x11\x11\x11\x11\x11\x11\x11\x11\x11\x11\x11\x11\x11\x11\x11\x11\x11\x11\x11\x11\x11\x11\x11\x11\x11\x11\x11\x11\x11\x11",
+        b"\0\0\0\x01a\0\0\0\x051.0.0\0\0\x01<{\"RecipeFormatVersion\":\"2020-01-25\",\"ComponentName\":\"a\",\"ComponentVersion\":\"1.0.0\",\
+        \"ComponentDependencies\":{\"b\":{\"VersionRequirement\":\"^1.0.0\",\"DependencyType\":\"SOFT\"}},\"Manifests\":[{\"Artifacts\":[{\"URI\":\"s3://x/f\
+        \",\"Algorithm\":\"SHA-256\",\"Digest\":\"1111111111111111111111111111111111111111111111111111111111111111\"}]}]}\0\0\0\x07{\"k\":1}\0\0\0\x01\0\0\0\
+        \x01f\x11\x11\x11\x11\x11\x11\x11\x11\x11\x11\x11\x11\x11\x11\x11\x11\x11\x11\x11\x11\x11\x11\x11\x11\x11\x11\x11\x11\x11\x11\x11\x11",
     ),
     (
         b'B',
-        b"\0\0\0\x01b\0\0\0\x051.1.0\0\0\0\x81{\"RecipeFormatVersion\":\"2020-01-25\",\"ComponentName\":\"b\",\"ComponentVersion\":\"1.1.0\",\"Manifests\":[{\"Lifecycle\":{\"bootstrap\":\"x\"}}]}\0\0\0\x02{}\0\0\0\0",
+        b"\0\0\0\x01b\0\0\0\x051.1.0\0\0\0\x81{\"RecipeFormatVersion\":\"2020-01-25\",\"ComponentName\":\"b\",\"ComponentVersion\":\"1.1.0\",\
+        \"Manifests\":[{\"Lifecycle\":{\"bootstrap\":\"x\"}}]}\0\0\0\x02{}\0\0\0\0",
     ),
     (
         b'N',
@@ -750,35 +780,47 @@ const PIECES: &[(u8, &[u8])] = &[
     ),
     (
         b'M',
-        b"\0\0\0\x01c\0\0\0\x051.1.0\0\0\0\x81{\"RecipeFormatVersion\":\"2020-01-25\",\"ComponentName\":\"b\",\"ComponentVersion\":\"1.1.0\",\"Manifests\":[{\"Lifecycle\":{\"bootstrap\":\"x\"}}]}\0\0\0\x02{}\0\0\0\0",
+        b"\0\0\0\x01c\0\0\0\x051.1.0\0\0\0\x81{\"RecipeFormatVersion\":\"2020-01-25\",\"ComponentName\":\"b\",\"ComponentVersion\":\"1.1.0\",\
+        \"Manifests\":[{\"Lifecycle\":{\"bootstrap\":\"x\"}}]}\0\0\0\x02{}\0\0\0\0",
     ),
     (
         b'V',
-        b"\0\0\0\x01b\0\0\0\x051.1.1\0\0\0\x81{\"RecipeFormatVersion\":\"2020-01-25\",\"ComponentName\":\"b\",\"ComponentVersion\":\"1.1.0\",\"Manifests\":[{\"Lifecycle\":{\"bootstrap\":\"x\"}}]}\0\0\0\x02{}\0\0\0\0",
+        b"\0\0\0\x01b\0\0\0\x051.1.1\0\0\0\x81{\"RecipeFormatVersion\":\"2020-01-25\",\"ComponentName\":\"b\",\"ComponentVersion\":\"1.1.0\",\
+        \"Manifests\":[{\"Lifecycle\":{\"bootstrap\":\"x\"}}]}\0\0\0\x02{}\0\0\0\0",
     ),
     (
         b'D',
-        b"\0\0\0\x01a\0\0\0\x051.0.0\0\0\x01<{\"RecipeFormatVersion\":\"2020-01-25\",\"ComponentName\":\"a\",\"ComponentVersion\":\"1.0.0\",\"ComponentDependencies\":{\"b\":{\"VersionRequirement\":\"^1.0.0\",\"DependencyType\":\"SOFT\"}},\"Manifests\":[{\"Artifacts\":[{\"URI\":\"s3://x/f\",\"Algorithm\":\"SHA-256\",\"Digest\":\"1111111111111111111111111111111111111111111111111111111111111111\"}]}]}\0\0\0\x07{\"k\":1}\0\0\0\0",
+        b"\0\0\0\x01a\0\0\0\x051.0.0\0\0\x01<{\"RecipeFormatVersion\":\"2020-01-25\",\"ComponentName\":\"a\",\"ComponentVersion\":\"1.0.0\",\
+        \"ComponentDependencies\":{\"b\":{\"VersionRequirement\":\"^1.0.0\",\"DependencyType\":\"SOFT\"}},\"Manifests\":[{\"Artifacts\":[{\"URI\":\"s3://x/f\
+        \",\"Algorithm\":\"SHA-256\",\"Digest\":\"1111111111111111111111111111111111111111111111111111111111111111\"}]}]}\0\0\0\x07{\"k\":1}\0\0\0\0",
     ),
     (
         b'E',
-        b"\0\0\0\x01a\0\0\0\x051.0.0\0\0\x01<{\"RecipeFormatVersion\":\"2020-01-25\",\"ComponentName\":\"a\",\"ComponentVersion\":\"1.0.0\",\"ComponentDependencies\":{\"b\":{\"VersionRequirement\":\"^1.0.0\",\"DependencyType\":\"SOFT\"}},\"Manifests\":[{\"Artifacts\":[{\"URI\":\"s3://x/f\",\"Algorithm\":\"SHA-256\",\"Digest\":\"1111111111111111111111111111111111111111111111111111111111111111\"}]}]}\0\0\0\x07{\"k\":1}\0\0\0\x01\0\0\0\x01f\x12\x12\x12\x12\x12\x12\x12\x12\x12\x12\x12\x12\x12\x12\x12\x12\x12\x12\x12\x12\x12\x12\x12\x12\x12\x12\x12\x12\x12\x12\x12\x12",
+        b"\0\0\0\x01a\0\0\0\x051.0.0\0\0\x01<{\"RecipeFormatVersion\":\"2020-01-25\",\"ComponentName\":\"a\",\"ComponentVersion\":\"1.0.0\",\
+        \"ComponentDependencies\":{\"b\":{\"VersionRequirement\":\"^1.0.0\",\"DependencyType\":\"SOFT\"}},\"Manifests\":[{\"Artifacts\":[{\"URI\":\"s3://x/f\
+        \",\"Algorithm\":\"SHA-256\",\"Digest\":\"1111111111111111111111111111111111111111111111111111111111111111\"}]}]}\0\0\0\x07{\"k\":1}\0\0\0\x01\0\0\0\
+        \x01f\x12\x12\x12\x12\x12\x12\x12\x12\x12\x12\x12\x12\x12\x12\x12\x12\x12\x12\x12\x12\x12\x12\x12\x12\x12\x12\x12\x12\x12\x12\x12\x12",
     ),
     (
         b'F',
-        b"\0\0\0\x01b\0\0\0\x051.1.0\0\0\0\x81{\"RecipeFormatVersion\":\"2020-01-25\",\"ComponentName\":\"b\",\"ComponentVersion\":\"1.1.0\",\"Manifests\":[{\"Lifecycle\":{\"bootstrap\":\"x\"}}]}\0\0\0\x02{}\0\0\0\x01\0\0\0\x01f\x11\x11\x11\x11\x11\x11\x11\x11\x11\x11\x11\x11\x11\x11\x11\x11\x11\x11\x11\x11\x11\x11\x11\x11\x11\x11\x11\x11\x11\x11\x11\x11",
+        b"\0\0\0\x01b\0\0\0\x051.1.0\0\0\0\x81{\"RecipeFormatVersion\":\"2020-01-25\",\"ComponentName\":\"b\",\"ComponentVersion\":\"1.1.0\",\
+        \"Manifests\":[{\"Lifecycle\":{\"bootstrap\":\"x\"}}]}\0\0\0\x02{}\0\0\0\x01\0\0\0\x01f\x11\x11\x11\x11\x11\x11\x11\x11\x11\x11\x11\x11\x11\x11\x11\
+        \x11\x11\x11\x11\x11\x11\x11\x11\x11\x11\x11\x11\x11\x11\x11\x11\x11",
     ),
     (
         b'O',
-        b"\0\0\0\x01b\0\0\0\x051.1.0\0\0\0\x81{\"RecipeFormatVersion\":\"2020-01-25\",\"ComponentName\":\"b\",\"ComponentVersion\":\"1.1.0\",\"Manifests\":[{\"Lifecycle\":{\"bootstrap\":\"x\"}}]}\0\0\0\x02[]\0\0\0\0",
+        b"\0\0\0\x01b\0\0\0\x051.1.0\0\0\0\x81{\"RecipeFormatVersion\":\"2020-01-25\",\"ComponentName\":\"b\",\"ComponentVersion\":\"1.1.0\",\
+        \"Manifests\":[{\"Lifecycle\":{\"bootstrap\":\"x\"}}]}\0\0\0\x02[]\0\0\0\0",
     ),
     (
         b'L',
-        b"\0\0\0\x01b\0\0\0\x052.0.0\0\0\0\x81{\"RecipeFormatVersion\":\"2020-01-25\",\"ComponentName\":\"b\",\"ComponentVersion\":\"2.0.0\",\"Manifests\":[{\"Lifecycle\":{\"bootstrap\":\"x\"}}]}\0\0\0\x02{}\0\0\0\0",
+        b"\0\0\0\x01b\0\0\0\x052.0.0\0\0\0\x81{\"RecipeFormatVersion\":\"2020-01-25\",\"ComponentName\":\"b\",\"ComponentVersion\":\"2.0.0\",\
+        \"Manifests\":[{\"Lifecycle\":{\"bootstrap\":\"x\"}}]}\0\0\0\x02{}\0\0\0\0",
     ),
     (
         b'C',
-        b"\0\0\0\x01b\0\0\0\x051.1.0\0\0\0\xa2{\"RecipeFormatVersion\":\"2020-01-25\",\"ComponentName\":\"b\",\"ComponentVersion\":\"1.1.0\",\"ComponentDependencies\":{\"a\":{}},\"Manifests\":[{\"Lifecycle\":{\"bootstrap\":\"x\"}}]}\0\0\0\x02{}\0\0\0\0",
+        b"\0\0\0\x01b\0\0\0\x051.1.0\0\0\0\xa2{\"RecipeFormatVersion\":\"2020-01-25\",\"ComponentName\":\"b\",\"ComponentVersion\":\"1.1.0\",\
+        \"ComponentDependencies\":{\"a\":{}},\"Manifests\":[{\"Lifecycle\":{\"bootstrap\":\"x\"}}]}\0\0\0\x02{}\0\0\0\0",
     ),
 ];
 

@@ -19,29 +19,39 @@ const INITIALISED_JSON: &str =
 
 const HELLO: &[&[u8]] = &[
     GENESIS,
-    b"\x12\0\0\0\x02d1\0\0\00arn:aws:iot:us-east-1:123456789012:thinggroup/g1\0\0\0\0\x01\0\0\0\x16com.example.HelloWorld\0\0\0\x051.0.0\0\0\0\x01\0\0\0\x16com.example.HelloWorld\0\0\0\x051.0.0\0\0\0h{\"RecipeFormatVersion\":\"2020-01-25\",\"ComponentName\":\"com.example.HelloWorld\",\"ComponentVersion\":\"1.0.0\"}\0\0\0\x13{\"Message\":\"world\"}\0\0\0\0\0\0\0\0",
+    b"\x12\0\0\0\x02d1\0\0\00arn:aws:iot:us-east-1:123456789012:thinggroup/g1\0\0\0\0\x01\0\0\0\x16com.example.HelloWorld\0\0\0\x051.0.0\0\0\0\x01\0\0\0\x16c\
+    om.example.HelloWorld\0\0\0\x051.0.0\0\0\0h{\"RecipeFormatVersion\":\"2020-01-25\",\"ComponentName\":\"com.example.HelloWorld\",\
+    \"ComponentVersion\":\"1.0.0\"}\0\0\0\x13{\"Message\":\"world\"}\0\0\0\0\0\0\0\0",
     b"\x15",
     b"\x18\x01",
 ];
 
 const HELLO_LINES: &str =
-    "thing t1\nnucleus 2.12.0\ngroup arn:aws:iot:us-east-1:123456789012:thinggroup/g1\nrequire com.example.HelloWorld 1.0.0\ncomponent com.example.HelloWorld 1.0.0 {\"Message\":\"world\"}\nclosed d1 SUCCESSFUL\n";
+    "thing t1\nnucleus 2.12.0\ngroup arn:aws:iot:us-east-1:123456789012:thinggroup/g1\nrequire com.example.HelloWorld 1.0.0\n\
+    component com.example.HelloWorld 1.0.0 {\"Message\":\"world\"}\nclosed d1 SUCCESSFUL\n";
 
 const HELLO_JSON: &str =
-    "{\"closed\":[{\"id\":\"d1\",\"outcome\":\"SUCCESSFUL\"}],\"components\":[{\"config\":{\"Message\":\"world\"},\"name\":\"com.example.HelloWorld\",\"version\":\"1.0.0\"}],\"groups\":[{\"arn\":\"arn:aws:iot:us-east-1:123456789012:thinggroup/g1\",\"components\":[{\"name\":\"com.example.HelloWorld\",\"range\":\"1.0.0\"}],\"revision\":0}],\"nucleus\":\"2.12.0\",\"pending\":null,\"thing\":\"t1\"}";
+    "{\"closed\":[{\"id\":\"d1\",\"outcome\":\"SUCCESSFUL\"}],\"components\":[{\"config\":{\"Message\":\"world\"},\"name\":\"com.example.HelloWorld\",\
+    \"version\":\"1.0.0\"}],\"groups\":[{\"arn\":\"arn:aws:iot:us-east-1:123456789012:thinggroup/g1\",\"components\":[{\"name\":\"com.example.HelloWorld\",\
+    \"range\":\"1.0.0\"}],\"revision\":0}],\"nucleus\":\"2.12.0\",\"pending\":null,\"thing\":\"t1\"}";
 
 // Group z with two components; then group b keeps its failed bootstrap; then group a, whose deployment fails and can't
 // be rolled back, and fails once more and is. Then it has a revision, and its next deployment goes back by a bootstrap.
 const COURSE: &[&[u8]] = &[
     GENESIS,
-    b"\x12\0\0\0\x02d2\0\0\0\x01z\0\0\0\0\x02\0\0\0\x01A\0\0\0\x0e>=1.0.0 <2.0.0\0\0\0\x01B\0\0\0\0\0\0\0\x02\0\0\0\x01A\0\0\0\x051.2.0\0\0\0S{\"RecipeFormatVersion\":\"2020-01-25\",\"ComponentName\":\"A\",\"ComponentVersion\":\"1.2.0\"}\0\0\0 {\"l\":[1,null,true],\"o\":{\"k\":-2}}\0\0\0\0\0\0\0\x01B\0\0\0\x0a0.1.0-rc.1\0\0\0X{\"RecipeFormatVersion\":\"2020-01-25\",\"ComponentName\":\"B\",\"ComponentVersion\":\"0.1.0-rc.1\"}\0\0\0\x02{}\0\0\0\0\0\0\0\0",
+    b"\x12\0\0\0\x02d2\0\0\0\x01z\0\0\0\0\x02\0\0\0\x01A\0\0\0\x0e>=1.0.0 <2.0.0\0\0\0\x01B\0\0\0\0\0\0\0\x02\0\0\0\x01A\0\0\0\x051.2.0\0\0\0S{\"RecipeFormat\
+    Version\":\"2020-01-25\",\"ComponentName\":\"A\",\"ComponentVersion\":\"1.2.0\"}\0\0\0 {\"l\":[1,null,true],\"o\":{\"k\":-2}}\0\0\0\0\0\0\0\x01B\0\0\0\
+    \x0a0.1.0-rc.1\0\0\0X{\"RecipeFormatVersion\":\"2020-01-25\",\"ComponentName\":\"B\",\"ComponentVersion\":\"0.1.0-rc.1\"}\0\0\0\x02{}\0\0\0\0\0\0\0\0",
     b"\x15",
     b"\x18\x01",
-    b"\x12\0\0\0\x02d3\0\0\0\x01b\x01\0\0\0\0\0\0\0\x01\0\0\0\x01A\0\0\0\x051.2.0\0\0\0\x81{\"RecipeFormatVersion\":\"2020-01-25\",\"ComponentName\":\"A\",\"ComponentVersion\":\"1.2.0\",\"Manifests\":[{\"Lifecycle\":{\"bootstrap\":\"b\"}}]}\0\0\0 {\"l\":[1,null,true],\"o\":{\"k\":-2}}\0\0\0\0\0\0\0\x01\0\0\0\x01A",
+    b"\x12\0\0\0\x02d3\0\0\0\x01b\x01\0\0\0\0\0\0\0\x01\0\0\0\x01A\0\0\0\x051.2.0\0\0\0\x81{\"RecipeFormatVersion\":\"2020-01-25\",\"ComponentName\":\"A\",\
+    \"ComponentVersion\":\"1.2.0\",\"Manifests\":[{\"Lifecycle\":{\"bootstrap\":\"b\"}}]}\0\0\0 {\"l\":[1,null,true],\"o\":{\"k\":-2}}\0\0\0\0\0\0\0\x01\0\0\
+    \0\x01A",
     b"\x13\0\0\0\x01A",
     b"\x14\0\0\0\x01A\0\0\0\0\x01",
     b"\x18\x03",
-    b"\x12\0\0\0\x02d4\0\0\0\x01a\0\0\0\0\x01\0\0\0\x01A\0\0\0\x02^1\0\0\0\x01\0\0\0\x01A\0\0\0\x051.2.0\0\0\0\x81{\"RecipeFormatVersion\":\"2020-01-25\",\"ComponentName\":\"A\",\"ComponentVersion\":\"1.2.0\",\"Manifests\":[{\"Lifecycle\":{\"bootstrap\":\"b\"}}]}\0\0\0\x02{}\0\0\0\0\0\0\0\x01\0\0\0\x01A",
+    b"\x12\0\0\0\x02d4\0\0\0\x01a\0\0\0\0\x01\0\0\0\x01A\0\0\0\x02^1\0\0\0\x01\0\0\0\x01A\0\0\0\x051.2.0\0\0\0\x81{\"RecipeFormatVersion\":\"2020-01-25\",\
+    \"ComponentName\":\"A\",\"ComponentVersion\":\"1.2.0\",\"Manifests\":[{\"Lifecycle\":{\"bootstrap\":\"b\"}}]}\0\0\0\x02{}\0\0\0\0\0\0\0\x01\0\0\0\x01A",
     b"\x13\0\0\0\x01A",
     b"\x14\0\0\0\x01A\0\0\0\0\0",
     b"\x15",
@@ -53,15 +63,20 @@ const COURSE: &[&[u8]] = &[
     b"\x16\0\0\0\x01A\x02\x01",
     b"\x16\0\0\0\x01A\x02\x01",
     b"\x18\x04",
-    b"\x12\0\0\0\x02d5\0\0\0\x01a\0\0\0\0\x01\0\0\0\x01A\0\0\0\x02^1\0\0\0\x01\0\0\0\x01A\0\0\0\x051.2.0\0\0\0\x81{\"RecipeFormatVersion\":\"2020-01-25\",\"ComponentName\":\"A\",\"ComponentVersion\":\"1.2.0\",\"Manifests\":[{\"Lifecycle\":{\"bootstrap\":\"b\"}}]}\0\0\0\x02{}\0\0\0\0\0\0\0\x01\0\0\0\x01A",
+    b"\x12\0\0\0\x02d5\0\0\0\x01a\0\0\0\0\x01\0\0\0\x01A\0\0\0\x02^1\0\0\0\x01\0\0\0\x01A\0\0\0\x051.2.0\0\0\0\x81{\"RecipeFormatVersion\":\"2020-01-25\",\
+    \"ComponentName\":\"A\",\"ComponentVersion\":\"1.2.0\",\"Manifests\":[{\"Lifecycle\":{\"bootstrap\":\"b\"}}]}\0\0\0\x02{}\0\0\0\0\0\0\0\x01\0\0\0\x01A",
     b"\x13\0\0\0\x01A",
     b"\x14\0\0\0\x01A\0\0\0\0\x01",
     b"\x17\0\0\0\x01A",
     b"\x18\x02",
-    b"\x1d\0\0\0\x02d6\0\0\0\x01a\0\0\0\0\0\0\0\x07\0\0\0\0\x01\0\0\0\x01A\0\0\0\x02^1\0\0\0\x01\0\0\0\x01A\0\0\0\x051.2.0\0\0\0\xa7{\"RecipeFormatVersion\":\"2020-01-25\",\"ComponentName\":\"A\",\"ComponentVersion\":\"1.2.0\",\"Manifests\":[{\"Lifecycle\":{\"bootstrap\":{\"BootstrapOnRollback\":true,\"Script\":\"b\"}}}]}\0\0\0\x02{}\0\0\0\0\0\0\0\0",
+    b"\x1d\0\0\0\x02d6\0\0\0\x01a\0\0\0\0\0\0\0\x07\0\0\0\0\x01\0\0\0\x01A\0\0\0\x02^1\0\0\0\x01\0\0\0\x01A\0\0\0\x051.2.0\0\0\0\xa7{\"RecipeFormatVersion\":\
+    \"2020-01-25\",\"ComponentName\":\"A\",\"ComponentVersion\":\"1.2.0\",\"Manifests\":[{\"Lifecycle\":{\"bootstrap\":{\"BootstrapOnRollback\":true,\
+    \"Script\":\"b\"}}}]}\0\0\0\x02{}\0\0\0\0\0\0\0\0",
     b"\x15",
     b"\x18\x01",
-    b"\x1d\0\0\0\x02d7\0\0\0\x01a\0\0\0\0\0\0\0\x08\0\0\0\0\x01\0\0\0\x01A\0\0\0\x02^1\0\0\0\x01\0\0\0\x01A\0\0\0\x051.2.0\0\0\0\xa7{\"RecipeFormatVersion\":\"2020-01-25\",\"ComponentName\":\"A\",\"ComponentVersion\":\"1.2.0\",\"Manifests\":[{\"Lifecycle\":{\"bootstrap\":{\"BootstrapOnRollback\":true,\"Script\":\"b\"}}}]}\0\0\0\x02{}\0\0\0\0\0\0\0\x01\0\0\0\x01A",
+    b"\x1d\0\0\0\x02d7\0\0\0\x01a\0\0\0\0\0\0\0\x08\0\0\0\0\x01\0\0\0\x01A\0\0\0\x02^1\0\0\0\x01\0\0\0\x01A\0\0\0\x051.2.0\0\0\0\xa7{\"RecipeFormatVersion\":\
+    \"2020-01-25\",\"ComponentName\":\"A\",\"ComponentVersion\":\"1.2.0\",\"Manifests\":[{\"Lifecycle\":{\"bootstrap\":{\"BootstrapOnRollback\":true,\
+    \"Script\":\"b\"}}}]}\0\0\0\x02{}\0\0\0\0\0\0\0\x01\0\0\0\x01A",
     b"\x13\0\0\0\x01A",
     b"\x14\0\0\0\x01A\x01",
     b"\x1f\0\0\0\x01A",
@@ -71,33 +86,60 @@ const COURSE: &[&[u8]] = &[
 const MOMENTS: &[(usize, &str, &str)] = &[
     (
         4,
-        "thing t1\nnucleus 2.12.0\ngroup z\nrequire A >=1.0.0 <2.0.0\nrequire B \ncomponent A 1.2.0 {\"l\":[1,null,true],\"o\":{\"k\":-2}}\ncomponent B 0.1.0-rc.1 {}\nclosed d2 SUCCESSFUL\n",
-        "{\"closed\":[{\"id\":\"d2\",\"outcome\":\"SUCCESSFUL\"}],\"components\":[{\"config\":{\"l\":[1,null,true],\"o\":{\"k\":-2}},\"name\":\"A\",\"version\":\"1.2.0\"},{\"config\":{},\"name\":\"B\",\"version\":\"0.1.0-rc.1\"}],\"groups\":[{\"arn\":\"z\",\"components\":[{\"name\":\"A\",\"range\":\">=1.0.0 <2.0.0\"},{\"name\":\"B\",\"range\":\"\"}],\"revision\":0}],\"nucleus\":\"2.12.0\",\"pending\":null,\"thing\":\"t1\"}",
+        "thing t1\nnucleus 2.12.0\ngroup z\nrequire A >=1.0.0 <2.0.0\nrequire B \ncomponent A 1.2.0 {\"l\":[1,null,true],\"o\":{\"k\":-2}}\n\
+        component B 0.1.0-rc.1 {}\nclosed d2 SUCCESSFUL\n",
+        "{\"closed\":[{\"id\":\"d2\",\"outcome\":\"SUCCESSFUL\"}],\"components\":[{\"config\":{\"l\":[1,null,true],\"o\":{\"k\":-2}},\"name\":\"A\",\
+        \"version\":\"1.2.0\"},{\"config\":{},\"name\":\"B\",\"version\":\"0.1.0-rc.1\"}],\"groups\":[{\"arn\":\"z\",\"components\":[{\"name\":\"A\",\
+        \"range\":\">=1.0.0 <2.0.0\"},{\"name\":\"B\",\"range\":\"\"}],\"revision\":0}],\"nucleus\":\"2.12.0\",\"pending\":null,\"thing\":\"t1\"}",
     ),
     (
         9,
-        "thing t1\nnucleus 2.12.0\ngroup z\nrequire A >=1.0.0 <2.0.0\nrequire B \ngroup b\ncomponent A 1.2.0 {\"l\":[1,null,true],\"o\":{\"k\":-2}}\nclosed d2 SUCCESSFUL\nclosed d3 FAILED_ROLLBACK_NOT_REQUESTED\npending d4 Booting\n",
-        "{\"closed\":[{\"id\":\"d2\",\"outcome\":\"SUCCESSFUL\"},{\"id\":\"d3\",\"outcome\":\"FAILED_ROLLBACK_NOT_REQUESTED\"}],\"components\":[{\"config\":{\"l\":[1,null,true],\"o\":{\"k\":-2}},\"name\":\"A\",\"version\":\"1.2.0\"}],\"groups\":[{\"arn\":\"z\",\"components\":[{\"name\":\"A\",\"range\":\">=1.0.0 <2.0.0\"},{\"name\":\"B\",\"range\":\"\"}],\"revision\":0},{\"arn\":\"b\",\"components\":[],\"revision\":0}],\"nucleus\":\"2.12.0\",\"pending\":{\"id\":\"d4\",\"stage\":\"Booting\"},\"thing\":\"t1\"}",
+        "thing t1\nnucleus 2.12.0\ngroup z\nrequire A >=1.0.0 <2.0.0\nrequire B \ngroup b\ncomponent A 1.2.0 {\"l\":[1,null,true],\"o\":{\"k\":-2}}\n\
+        closed d2 SUCCESSFUL\nclosed d3 FAILED_ROLLBACK_NOT_REQUESTED\npending d4 Booting\n",
+        "{\"closed\":[{\"id\":\"d2\",\"outcome\":\"SUCCESSFUL\"},{\"id\":\"d3\",\"outcome\":\"FAILED_ROLLBACK_NOT_REQUESTED\"}],\
+        \"components\":[{\"config\":{\"l\":[1,null,true],\"o\":{\"k\":-2}},\"name\":\"A\",\"version\":\"1.2.0\"}],\"groups\":[{\"arn\":\"z\",\
+        \"components\":[{\"name\":\"A\",\"range\":\">=1.0.0 <2.0.0\"},{\"name\":\"B\",\"range\":\"\"}],\"revision\":0},{\"arn\":\"b\",\"components\":[],\
+        \"revision\":0}],\"nucleus\":\"2.12.0\",\"pending\":{\"id\":\"d4\",\"stage\":\"Booting\"},\"thing\":\"t1\"}",
     ),
     (
         12,
-        "thing t1\nnucleus 2.12.0\ngroup z\nrequire A >=1.0.0 <2.0.0\nrequire B \ngroup b\ncomponent A 1.2.0 {\"l\":[1,null,true],\"o\":{\"k\":-2}}\nclosed d2 SUCCESSFUL\nclosed d3 FAILED_ROLLBACK_NOT_REQUESTED\npending d4 Activating\n",
-        "{\"closed\":[{\"id\":\"d2\",\"outcome\":\"SUCCESSFUL\"},{\"id\":\"d3\",\"outcome\":\"FAILED_ROLLBACK_NOT_REQUESTED\"}],\"components\":[{\"config\":{\"l\":[1,null,true],\"o\":{\"k\":-2}},\"name\":\"A\",\"version\":\"1.2.0\"}],\"groups\":[{\"arn\":\"z\",\"components\":[{\"name\":\"A\",\"range\":\">=1.0.0 <2.0.0\"},{\"name\":\"B\",\"range\":\"\"}],\"revision\":0},{\"arn\":\"b\",\"components\":[],\"revision\":0}],\"nucleus\":\"2.12.0\",\"pending\":{\"id\":\"d4\",\"stage\":\"Activating\"},\"thing\":\"t1\"}",
+        "thing t1\nnucleus 2.12.0\ngroup z\nrequire A >=1.0.0 <2.0.0\nrequire B \ngroup b\ncomponent A 1.2.0 {\"l\":[1,null,true],\"o\":{\"k\":-2}}\n\
+        closed d2 SUCCESSFUL\nclosed d3 FAILED_ROLLBACK_NOT_REQUESTED\npending d4 Activating\n",
+        "{\"closed\":[{\"id\":\"d2\",\"outcome\":\"SUCCESSFUL\"},{\"id\":\"d3\",\"outcome\":\"FAILED_ROLLBACK_NOT_REQUESTED\"}],\
+        \"components\":[{\"config\":{\"l\":[1,null,true],\"o\":{\"k\":-2}},\"name\":\"A\",\"version\":\"1.2.0\"}],\"groups\":[{\"arn\":\"z\",\
+        \"components\":[{\"name\":\"A\",\"range\":\">=1.0.0 <2.0.0\"},{\"name\":\"B\",\"range\":\"\"}],\"revision\":0},{\"arn\":\"b\",\"components\":[],\
+        \"revision\":0}],\"nucleus\":\"2.12.0\",\"pending\":{\"id\":\"d4\",\"stage\":\"Activating\"},\"thing\":\"t1\"}",
     ),
     (
         16,
-        "thing t1\nnucleus 2.12.0\ngroup z\nrequire A >=1.0.0 <2.0.0\nrequire B \ngroup b\ncomponent A 1.2.0 {\"l\":[1,null,true],\"o\":{\"k\":-2}}\nclosed d2 SUCCESSFUL\nclosed d3 FAILED_ROLLBACK_NOT_REQUESTED\npending d4 Rolling\n",
-        "{\"closed\":[{\"id\":\"d2\",\"outcome\":\"SUCCESSFUL\"},{\"id\":\"d3\",\"outcome\":\"FAILED_ROLLBACK_NOT_REQUESTED\"}],\"components\":[{\"config\":{\"l\":[1,null,true],\"o\":{\"k\":-2}},\"name\":\"A\",\"version\":\"1.2.0\"}],\"groups\":[{\"arn\":\"z\",\"components\":[{\"name\":\"A\",\"range\":\">=1.0.0 <2.0.0\"},{\"name\":\"B\",\"range\":\"\"}],\"revision\":0},{\"arn\":\"b\",\"components\":[],\"revision\":0}],\"nucleus\":\"2.12.0\",\"pending\":{\"id\":\"d4\",\"stage\":\"Rolling\"},\"thing\":\"t1\"}",
+        "thing t1\nnucleus 2.12.0\ngroup z\nrequire A >=1.0.0 <2.0.0\nrequire B \ngroup b\ncomponent A 1.2.0 {\"l\":[1,null,true],\"o\":{\"k\":-2}}\n\
+        closed d2 SUCCESSFUL\nclosed d3 FAILED_ROLLBACK_NOT_REQUESTED\npending d4 Rolling\n",
+        "{\"closed\":[{\"id\":\"d2\",\"outcome\":\"SUCCESSFUL\"},{\"id\":\"d3\",\"outcome\":\"FAILED_ROLLBACK_NOT_REQUESTED\"}],\
+        \"components\":[{\"config\":{\"l\":[1,null,true],\"o\":{\"k\":-2}},\"name\":\"A\",\"version\":\"1.2.0\"}],\"groups\":[{\"arn\":\"z\",\
+        \"components\":[{\"name\":\"A\",\"range\":\">=1.0.0 <2.0.0\"},{\"name\":\"B\",\"range\":\"\"}],\"revision\":0},{\"arn\":\"b\",\"components\":[],\
+        \"revision\":0}],\"nucleus\":\"2.12.0\",\"pending\":{\"id\":\"d4\",\"stage\":\"Rolling\"},\"thing\":\"t1\"}",
     ),
     (
         25,
-        "thing t1\nnucleus 2.12.0\ngroup z\nrequire A >=1.0.0 <2.0.0\nrequire B \ngroup b\ncomponent A 1.2.0 {\"l\":[1,null,true],\"o\":{\"k\":-2}}\nclosed d2 SUCCESSFUL\nclosed d3 FAILED_ROLLBACK_NOT_REQUESTED\nclosed d4 FAILED_UNABLE_TO_ROLLBACK\nclosed d5 FAILED_ROLLBACK_COMPLETE\n",
-        "{\"closed\":[{\"id\":\"d2\",\"outcome\":\"SUCCESSFUL\"},{\"id\":\"d3\",\"outcome\":\"FAILED_ROLLBACK_NOT_REQUESTED\"},{\"id\":\"d4\",\"outcome\":\"FAILED_UNABLE_TO_ROLLBACK\"},{\"id\":\"d5\",\"outcome\":\"FAILED_ROLLBACK_COMPLETE\"}],\"components\":[{\"config\":{\"l\":[1,null,true],\"o\":{\"k\":-2}},\"name\":\"A\",\"version\":\"1.2.0\"}],\"groups\":[{\"arn\":\"z\",\"components\":[{\"name\":\"A\",\"range\":\">=1.0.0 <2.0.0\"},{\"name\":\"B\",\"range\":\"\"}],\"revision\":0},{\"arn\":\"b\",\"components\":[],\"revision\":0}],\"nucleus\":\"2.12.0\",\"pending\":null,\"thing\":\"t1\"}",
+        "thing t1\nnucleus 2.12.0\ngroup z\nrequire A >=1.0.0 <2.0.0\nrequire B \ngroup b\ncomponent A 1.2.0 {\"l\":[1,null,true],\"o\":{\"k\":-2}}\n\
+        closed d2 SUCCESSFUL\nclosed d3 FAILED_ROLLBACK_NOT_REQUESTED\nclosed d4 FAILED_UNABLE_TO_ROLLBACK\nclosed d5 FAILED_ROLLBACK_COMPLETE\n",
+        "{\"closed\":[{\"id\":\"d2\",\"outcome\":\"SUCCESSFUL\"},{\"id\":\"d3\",\"outcome\":\"FAILED_ROLLBACK_NOT_REQUESTED\"},{\"id\":\"d4\",\
+        \"outcome\":\"FAILED_UNABLE_TO_ROLLBACK\"},{\"id\":\"d5\",\"outcome\":\"FAILED_ROLLBACK_COMPLETE\"}],\"components\":[{\"config\":{\"l\":[1,null,\
+        true],\"o\":{\"k\":-2}},\"name\":\"A\",\"version\":\"1.2.0\"}],\"groups\":[{\"arn\":\"z\",\"components\":[{\"name\":\"A\",\
+        \"range\":\">=1.0.0 <2.0.0\"},{\"name\":\"B\",\"range\":\"\"}],\"revision\":0},{\"arn\":\"b\",\"components\":[],\"revision\":0}],\
+        \"nucleus\":\"2.12.0\",\"pending\":null,\"thing\":\"t1\"}",
     ),
     (
         32,
-        "thing t1\nnucleus 2.12.0\ngroup z\nrequire A >=1.0.0 <2.0.0\nrequire B \ngroup b\ngroup a\nrevision 7\nrequire A ^1\ncomponent A 1.2.0 {}\nclosed d2 SUCCESSFUL\nclosed d3 FAILED_ROLLBACK_NOT_REQUESTED\nclosed d4 FAILED_UNABLE_TO_ROLLBACK\nclosed d5 FAILED_ROLLBACK_COMPLETE\nclosed d6 SUCCESSFUL\npending d7 Backing\n",
-        "{\"closed\":[{\"id\":\"d2\",\"outcome\":\"SUCCESSFUL\"},{\"id\":\"d3\",\"outcome\":\"FAILED_ROLLBACK_NOT_REQUESTED\"},{\"id\":\"d4\",\"outcome\":\"FAILED_UNABLE_TO_ROLLBACK\"},{\"id\":\"d5\",\"outcome\":\"FAILED_ROLLBACK_COMPLETE\"},{\"id\":\"d6\",\"outcome\":\"SUCCESSFUL\"}],\"components\":[{\"config\":{},\"name\":\"A\",\"version\":\"1.2.0\"}],\"groups\":[{\"arn\":\"z\",\"components\":[{\"name\":\"A\",\"range\":\">=1.0.0 <2.0.0\"},{\"name\":\"B\",\"range\":\"\"}],\"revision\":0},{\"arn\":\"b\",\"components\":[],\"revision\":0},{\"arn\":\"a\",\"components\":[{\"name\":\"A\",\"range\":\"^1\"}],\"revision\":7}],\"nucleus\":\"2.12.0\",\"pending\":{\"id\":\"d7\",\"stage\":\"Backing\"},\"thing\":\"t1\"}",
+        "thing t1\nnucleus 2.12.0\ngroup z\nrequire A >=1.0.0 <2.0.0\nrequire B \ngroup b\ngroup a\nrevision 7\nrequire A ^1\ncomponent A 1.2.0 {}\n\
+        closed d2 SUCCESSFUL\nclosed d3 FAILED_ROLLBACK_NOT_REQUESTED\nclosed d4 FAILED_UNABLE_TO_ROLLBACK\nclosed d5 FAILED_ROLLBACK_COMPLETE\n\
+        closed d6 SUCCESSFUL\npending d7 Backing\n",
+        "{\"closed\":[{\"id\":\"d2\",\"outcome\":\"SUCCESSFUL\"},{\"id\":\"d3\",\"outcome\":\"FAILED_ROLLBACK_NOT_REQUESTED\"},{\"id\":\"d4\",\
+        \"outcome\":\"FAILED_UNABLE_TO_ROLLBACK\"},{\"id\":\"d5\",\"outcome\":\"FAILED_ROLLBACK_COMPLETE\"},{\"id\":\"d6\",\"outcome\":\"SUCCESSFUL\"}],\
+        \"components\":[{\"config\":{},\"name\":\"A\",\"version\":\"1.2.0\"}],\"groups\":[{\"arn\":\"z\",\"components\":[{\"name\":\"A\",\
+        \"range\":\">=1.0.0 <2.0.0\"},{\"name\":\"B\",\"range\":\"\"}],\"revision\":0},{\"arn\":\"b\",\"components\":[],\"revision\":0},{\"arn\":\"a\",\
+        \"components\":[{\"name\":\"A\",\"range\":\"^1\"}],\"revision\":7}],\"nucleus\":\"2.12.0\",\"pending\":{\"id\":\"d7\",\"stage\":\"Backing\"},\
+        \"thing\":\"t1\"}",
     ),
 ];
 

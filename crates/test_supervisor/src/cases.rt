@@ -69,7 +69,8 @@ const CASES: &[(&str, &str, &str)] = &[
     (
         "A 1.0.0 {} install no;B 1.0.0 {} startup s soft A;C 1.0.0 {} probed i hard A",
         "A 2.0.0 {};B 1.0.0 {} startup s soft A;C 1.0.0 {} probed i hard A",
-        "0|begin|A Install no refused;failed A Install NotStarted;A Install no refused;failed A Install NotStarted;A Install no refused;broke A Install NotStarted;B Startup s as 0;|broken A due 120000
+        "0|begin|A Install no refused;failed A Install NotStarted;A Install no refused;failed A Install NotStarted;A Install no refused;\
+        broke A Install NotStarted;B Startup s as 0;|broken A due 120000
 5|0=0||broken A
 6|change|C Install i skipped /opt/x;|up",
     ),

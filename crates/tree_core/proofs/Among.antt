@@ -19,10 +19,12 @@ module _ {X A B Fault : Type 0} (f : X → A) (lines : A → Table Fault) (Is : 
       → Passes lines Is (map f xs) (map f (drop i xs)) done → AllHold (lines (f x)) × Is (f x) y → next ≡ done ++ y ∷ []
       → Passes lines Is (map f xs) (map f (drop (i + 1) xs)) next
   among_more xs i x done next y below at p h e =
-      subst (λ (ys : List B). Passes lines Is (map f xs) (map f (drop (i + 1) xs)) ys) (sym e) (goes_more f lines Is (map f xs) xs i x done y below at p h.0 h.1)
+      subst (λ (ys : List B). Passes lines Is (map f xs) (map f (drop (i + 1) xs)) ys) (sym e) (goes_more f lines Is (map f xs) xs i x done y below at p h.0
+      h.1)
 
   -- xs is what the loop goes over, ys what was lent
-  pub among_fault : (memory : Fault) (xs ys : List X) (i : ℕ) (x : X) (done : List B) (fault : Fault) (result : Result (List B) Fault) → xs ≡ ys → i < length xs → x ≡ get_or xs i x
+  pub among_fault : (memory : Fault) (xs ys : List X) (i : ℕ) (x : X) (done : List B) (fault : Fault) (result : Result (List B) Fault) → xs ≡ ys →
+      i < length xs → x ≡ get_or xs i x
       → Passes lines Is (map f xs) (map f (drop i xs)) done → Faults memory (lines (f x)) fault → IsErrAnd result (λ e. e ≡ fault)
       → Answers memory (each lines (map f ys)) (AllZip Is (map f ys)) result
   among_fault memory xs ys i x done fault result same below at p h e =
@@ -33,10 +35,14 @@ module _ {X A B Fault : Type 0} (f : X → A) (lines : A → Table Fault) (Is : 
       → AllHold (each lines (map f ys)) × AllZip Is (map f ys) all
   among_end xs ys i done all same past p e =
       let end = goes_end f lines Is (map f xs) xs i done past p in
-      subst (λ (zs : List X). AllHold (each lines (map f zs)) × AllZip Is (map f zs) all) same (end.0, subst (λ (bs : List B). AllZip Is (map f xs) bs) (sym e) end.1)
+      subst (λ (zs : List X). AllHold (each lines (map f zs)) × AllZip Is (map f zs) all) same (
+        end.0,
+        subst (λ (bs : List B). AllZip Is (map f xs) bs) (sym e) end.1,
+      )
 
 -- a field and an item of what is regular are regular
-pub field_among : (xs ys : List Field) (i : ℕ) (x : Field) → xs ≡ ys → IsRegular (object (fields_view ys)) → i < length xs → x ≡ get_or xs i x → IsRegular (view x.1)
+pub field_among : (xs ys : List Field) (i : ℕ) (x : Field) → xs ≡ ys → IsRegular (object (fields_view ys)) → i < length xs → x ≡ get_or xs i x →
+    IsRegular (view x.1)
 field_among xs ys i x same h below at =
     field_regular xs i x (subst (λ (fs : List Field). AreRegular (fields_view fs)) (sym same) (members_regular (fields_view ys) h)) below at
 
@@ -46,7 +52,8 @@ item_among xs ys i x same h below at =
 
 -- ---- what is read of the same values is alike
 
-pub zip_alike : {A B : Type 0} (R : A → B → Type 0) (S : B → B → Type 0) → ((a : A) (b c : B) → R a b → R a c → S b c) → (xs : List A) (ys zs : List B) → AllZip R xs ys → AllZip R xs zs → AllZip S ys zs
+pub zip_alike : {A B : Type 0} (R : A → B → Type 0) (S : B → B → Type 0) → ((a : A) (b c : B) → R a b → R a c → S b c) → (xs : List A) (ys zs : List B) →
+    AllZip R xs ys → AllZip R xs zs → AllZip S ys zs
 zip_alike R S one [] [] [] h k = tt
 zip_alike R S one [] [] (z ∷ zs) h k = absurd k
 zip_alike R S one [] (y ∷ ys) zs h k = absurd h
@@ -60,5 +67,6 @@ zip_same [] (z ∷ zs) h = absurd h
 zip_same (y ∷ ys) [] h = absurd h
 zip_same (y ∷ ys) (z ∷ zs) h = let first = h.0 in let rest = zip_same ys zs h.1 in cc (first, rest)
 
-pub zip_one : {A B : Type 0} (R : A → B → Type 0) → ((a : A) (b c : B) → R a b → R a c → b ≡ c) → (xs : List A) (ys zs : List B) → AllZip R xs ys → AllZip R xs zs → ys ≡ zs
+pub zip_one : {A B : Type 0} (R : A → B → Type 0) → ((a : A) (b c : B) → R a b → R a c → b ≡ c) → (xs : List A) (ys zs : List B) → AllZip R xs ys →
+    AllZip R xs zs → ys ≡ zs
 zip_one R one xs ys zs h k = zip_same ys zs (zip_alike R (λ y z. y ≡ z) one xs ys zs h k)

@@ -22,5 +22,6 @@ pub count_some : (v : Data) (m : Num) (n most : ℕ) (result : Result ℕ CountF
     → MatchResult result (λ k. (v ≡ number (unsigned k)) × (1 ≤ k) × (k ≤ most)) (IsNoCount most v)
 count_some v m n most (Ok k) is value h = (is ∙ ap number (value ∙ ap unsigned (sym h.0)), h.1, h.2)
 count_some v m n most (Err f) is value h =
-    let out : IsCount most v → ⊥ = λ r. let same : r.0 ≡ n = same_value m n r.0 value (same_number v m r.0 is r.1) in h.1 (subst (λ k. 1 ≤ k) same r.2, subst (λ k. k ≤ most) same r.3) in
+    let out : IsCount most v → ⊥ = λ r. let same : r.0 ≡ n = same_value m n r.0 value (same_number v m r.0 is r.1) in
+    h.1 (subst (λ k. 1 ≤ k) same r.2, subst (λ k. k ≤ most) same r.3) in
     subst (IsNoCount most v) (sym h.0) ((m, is), out)

@@ -1,5 +1,6 @@
 -- What is read of a text in UTF-8 has its texts and keys in UTF-8.
-use Rattle.std.proofs.Common.{◌≡◌, ℕ, zero, suc, ◌+◌, ◌-◌, ◌<◌, Bool, true, false, cond, ◌&&◌, ◌||◌, ◌==◌, List, [], ◌∷◌, ◌++◌, length, drop, get_or, Option, Some, None, option_and_then, refl, sym, subst, arith, append_assoc, append-nil, eqb-true, lit<, IsUtf8}
+use Rattle.std.proofs.Common.{◌≡◌, ℕ, zero, suc, ◌+◌, ◌-◌, ◌<◌, Bool, true, false, cond, ◌&&◌, ◌||◌, ◌==◌, List, [], ◌∷◌, ◌++◌, length, drop, get_or, Option}
+use Rattle.std.proofs.Common.{Some, None, option_and_then, refl, sym, subst, arith, append_assoc, append-nil, eqb-true, lit<, IsUtf8}
 use Rattle.std.specs.Prelude.{⊤, nat_eq, nat_lt}
 use Rattle.std.specs.List.{starts_with}
 use Rattle.std.specs.Char.{digit_value, is_digit, encode_utf8, IsScalar}
@@ -7,12 +8,16 @@ use Rattle.std.proofs.Math.Seq.{take-append_seam, drop-append-add, get_or-append
 use Rattle.std.proofs.lemmas.Bool.{and_parts, cond_both, ltb-true}
 use Rattle.std.proofs.lemmas.Bool.Decides.{nat_tests}
 use Rattle.std.proofs.lemmas.List.{length-append}
-use Rattle.std.proofs.lemmas.Str.{IsUtf8-append, IsUtf8-encode, IsUtf8-from_ascii, IsUtf8-take, IsUtf8-drop, IsCharBoundary-before_ascii, IsCharBoundary-after_ascii}
+use Rattle.std.proofs.lemmas.Str.{IsUtf8-append, IsUtf8-encode, IsUtf8-from_ascii, IsUtf8-take, IsUtf8-drop, IsCharBoundary-before_ascii}
+use Rattle.std.proofs.lemmas.Str.{IsCharBoundary-after_ascii}
 use Rattle.std.proofs.lemmas.Str.Ascii.{IsAscii-cons, IsAscii-nil}
-use Rattle.json.specs.Text.{Within, plain, after_backslash, after_u, after_high, content, prepend, code_unit, short_escape, is_high_surrogate, is_low_surrogate, surrogate_pair}
+use Rattle.json.specs.Text.{Within, plain, after_backslash, after_u, after_high, content, prepend, code_unit, short_escape, is_high_surrogate}
+use Rattle.json.specs.Text.{is_low_surrogate, surrogate_pair}
 use Rattle.json.specs.Token.{Token, begin_object, end_object, begin_array, end_array, key, string, number, boolean, null, bad}
 use Rattle.json.specs.Word.{head, is_operator, is_space, literal, number_before, after_number, ends_word, word}
-use Rattle.json.specs.Lex.{Lexeme, token, comma, colon, Class, quote, backslash, operator, space, other, class, operator_lexeme, string_token, Mode, between, in_word, in_string, in_escape, lex_byte, lex, Place, fresh, after_value, after_comma, after_key, begins_colon, may_begin, may_close, if_allowed, place_token, punctuate, tokens}
+use Rattle.json.specs.Lex.{Lexeme, token, comma, colon, Class, quote, backslash, operator, space, other, class, operator_lexeme, string_token, Mode, between}
+use Rattle.json.specs.Lex.{in_word, in_string, in_escape, lex_byte, lex, Place, fresh, after_value, after_comma, after_key, begins_colon, may_begin}
+use Rattle.json.specs.Lex.{may_close, if_allowed, place_token, punctuate, tokens}
 use Rattle.json.specs.Ascii as ascii
 use Rattle.json.specs.Json as json
 use Rattle.serde_json.specs.Data.{Data, Members, no_members, put, item, array, object}
@@ -105,7 +110,8 @@ itself_low x e = grind (arith, nat_tests)
 short_low : (x : ℕ) → Low x (short_escape x)
 unfolding short_escape
 short_low x = cond_both ((x == 34) || (x == 92) || (x == 47)) (Some x) _ (Low x) (λ e. let low = itself_low x e in (low, low))
-    (λ _. low_at x 98 8 _ (lit< tt) (lit< tt) (low_at x 102 12 _ (lit< tt) (lit< tt) (low_at x 110 10 _ (lit< tt) (lit< tt) (low_at x 114 13 _ (lit< tt) (lit< tt) (low_at x 116 9 None (lit< tt) (lit< tt) tt)))))
+    (λ _. low_at x 98 8 _ (lit< tt) (lit< tt) (low_at x 102 12 _ (lit< tt) (lit< tt) (low_at x 110 10 _ (lit< tt) (lit< tt) (low_at x 114 13 _ (lit< tt)
+    (lit< tt) (low_at x 116 9 None (lit< tt) (lit< tt) tt)))))
 
 short_is : (x c : ℕ) → short_escape x ≡ Some c → (c < 128) × (x < 128)
 short_is x c e = subst (Low x) e (short_low x)
@@ -133,13 +139,15 @@ content_whole after_backslash p (x ∷ xs) h =
     (λ _. then_whole p (λ c. prepend (c ∷ []) (content plain xs)) (short_escape x) (λ c e.
     let low = short_is x c e in
     let behind = (cut [] x xs h.1 low.1).1 in
-    prepended p (c ∷ []) (content plain xs) (content_whole plain (p ++ c ∷ []) xs (IsUtf8-append (p ++ c ∷ []) xs (IsUtf8-append p (c ∷ []) h.0 (ascii_one c low.0)) behind))))
+    prepended p (c ∷ []) (content plain xs) (content_whole plain (p ++ c ∷ []) xs (IsUtf8-append (p ++ c
+    ∷ []) xs (IsUtf8-append p (c ∷ []) h.0 (ascii_one c low.0)) behind))))
 content_whole after_u p [] h = tt
 content_whole after_u p (a ∷ []) h = tt
 content_whole after_u p (a ∷ b ∷ []) h = tt
 content_whole after_u p (a ∷ b ∷ c ∷ []) h = tt
 content_whole after_u p (a ∷ b ∷ c ∷ d ∷ xs) h =
-    then_whole p (λ u. cond (is_high_surrogate u) (content (after_high u) xs) (cond (is_low_surrogate u) None (prepend (encode_utf8 u) (content plain xs)))) (code_unit a b c d) (λ u e.
+    then_whole p (λ u. cond (is_high_surrogate u) (content (after_high u) xs) (cond (is_low_surrogate u) None (prepend (encode_utf8 u) (content plain xs))))
+    (code_unit a b c d) (λ u e.
     let is = unit a b c d u e in
     let behind = (cut (a ∷ b ∷ c ∷ []) d xs h.1 is.low).1 in
     if_whole p (is_high_surrogate u) (content (after_high u) xs) _ (λ high. content_whole (after_high u) p xs (h.0, behind, high))
@@ -157,8 +165,10 @@ content_whole (after_high high) p (s ∷ u ∷ a ∷ b ∷ c ∷ d ∷ xs) h =
     then_whole p (λ l. cond (is_low_surrogate l) (prepend (encode_utf8 (surrogate_pair high l)) (content plain xs)) None) (code_unit a b c d) (λ l e.
     let is = unit a b c d l e in
     let behind = (cut (s ∷ u ∷ a ∷ b ∷ c ∷ []) d xs h.1 is.low).1 in
-    if_whole p (is_low_surrogate l) _ None (λ low. prepended p (encode_utf8 (surrogate_pair high l)) (content plain xs) (content_whole plain (p ++ encode_utf8 (surrogate_pair high l)) xs
-    (IsUtf8-append (p ++ encode_utf8 (surrogate_pair high l)) xs (IsUtf8-append p (encode_utf8 (surrogate_pair high l)) h.0 (IsUtf8-encode (surrogate_pair high l) (pair_scalar high l h.2 low))) behind)))
+    if_whole p (is_low_surrogate l) _ None (λ low. prepended p (encode_utf8 (surrogate_pair high l)) (content plain xs) (content_whole plain (p
+    ++ encode_utf8 (surrogate_pair high l)) xs
+    (IsUtf8-append (p ++ encode_utf8 (surrogate_pair high l)) xs (IsUtf8-append p (encode_utf8 (surrogate_pair high l)) h.0 (IsUtf8-encode
+    (surrogate_pair high l) (pair_scalar high l h.2 low))) behind)))
     (λ _. tt)))
     (λ _. tt)
 
@@ -229,7 +239,8 @@ operator_utf8 x =
     (if_lexeme (x == ascii.open_bracket) (token begin_array) closes tt
     (if_lexeme (x == ascii.close_bracket) (token end_array) last tt (if_lexeme (x == ascii.comma) comma colon tt tt))))
 
-byte_utf8 : (m : Mode) (c : Class) (x : ℕ) (xs : List ℕ) (k : Mode → List Lexeme) → (c ≡ quote → IsUtf8 xs) → ((next : Mode) → LexemesUtf8 (k next)) → LexemesUtf8 (lex_byte m c x xs k)
+byte_utf8 : (m : Mode) (c : Class) (x : ℕ) (xs : List ℕ) (k : Mode → List Lexeme) → (c ≡ quote → IsUtf8 xs) → ((next : Mode) → LexemesUtf8 (k next)) →
+    LexemesUtf8 (lex_byte m c x xs k)
 byte_utf8 between quote x xs k text more = (string_utf8 (content plain xs) (content_whole plain [] xs (text refl)), more in_string)
 byte_utf8 between backslash x xs k text more = (tt, more in_word)
 byte_utf8 between operator x xs k text more = (operator_utf8 x, more between)
@@ -322,11 +333,13 @@ abbrev Parsed : {A : Type 0} → (A → Type 0) → Option (A × List Token) →
 Parsed P None = ⊤
 Parsed P (Some p) = P p.0 × TokensUtf8 p.1
 
-parsed_map : {A B : Type 0} (P : A → Type 0) (Q : B → Type 0) (f : A → B) → ((a : A) → P a → Q (f a)) → (r : Option (A × List Token)) → Parsed P r → Parsed Q (json.parse_map f r)
+parsed_map : {A B : Type 0} (P : A → Type 0) (Q : B → Type 0) (f : A → B) → ((a : A) → P a → Q (f a)) → (r : Option (A × List Token)) → Parsed P r →
+    Parsed Q (json.parse_map f r)
 parsed_map P Q f h None x = tt
 parsed_map P Q f h (Some p) x = (h p.0 x.0, x.1)
 
-parsed_then : {A B : Type 0} (P : A → Type 0) (Q : B → Type 0) (f : A × List Token → Option (B × List Token)) → ((p : A × List Token) → P p.0 → TokensUtf8 p.1 → Parsed Q (f p)) → (r : Option (A × List Token)) → Parsed P r → Parsed Q (option_and_then f r)
+parsed_then : {A B : Type 0} (P : A → Type 0) (Q : B → Type 0) (f : A × List Token → Option (B × List Token)) →
+    ((p : A × List Token) → P p.0 → TokensUtf8 p.1 → Parsed Q (f p)) → (r : Option (A × List Token)) → Parsed P r → Parsed Q (option_and_then f r)
 parsed_then P Q f h None x = tt
 parsed_then P Q f h (Some p) x = h p x.0 x.1
 
@@ -368,26 +381,34 @@ key_read (bad ∷ ts) h = tt
 abbrev Keeps : {A : Type 0} → (A → Type 0) → json.Parse A → Type 0
 Keeps P parse = (ts : List Token) → TokensUtf8 ts → Parsed P (parse ts)
 
-items_step : (value : json.Parse json.Json) (more : json.Parse json.Items) → Keeps JsonUtf8 value → Keeps JsonItemsUtf8 more → (ts : List Token) (o : Option (List Token)) → TokensUtf8 ts → Rest o → Parsed JsonItemsUtf8 (json.items_step value more ts o)
+items_step : (value : json.Parse json.Json) (more : json.Parse json.Items) → Keeps JsonUtf8 value → Keeps JsonItemsUtf8 more →
+    (ts : List Token) (o : Option (List Token)) → TokensUtf8 ts → Rest o → Parsed JsonItemsUtf8 (json.items_step value more ts o)
 items_step value more keeps others ts (Some rest) h r = (tt, r)
 items_step value more keeps others ts None h r =
-    parsed_then JsonUtf8 JsonItemsUtf8 _ (λ p j k. parsed_map JsonItemsUtf8 JsonItemsUtf8 (json.item p.0) (λ js all. (j, all)) (more p.1) (others p.1 k)) (value ts) (keeps ts h)
+    parsed_then JsonUtf8 JsonItemsUtf8 _ (λ p j k. parsed_map JsonItemsUtf8 JsonItemsUtf8 (json.item p.0) (λ js all. (j, all)) (more p.1) (others p.1 k))
+    (value ts) (keeps ts h)
 
 items_keep : (value : json.Parse json.Json) → Keeps JsonUtf8 value → (n : ℕ) → Keeps JsonItemsUtf8 (json.items value n)
 unfolding json.items
 items_keep value keeps zero ts h = tt
 items_keep value keeps (suc n) ts h = items_step value (json.items value n) keeps (items_keep value keeps n) ts (json.after_end_array ts) h (end_rest ts h)
 
-members_step : (value : json.Parse json.Json) (more : json.Parse json.Members) → Keeps JsonUtf8 value → Keeps JsonMembersUtf8 more → (k : Option (List ℕ)) → KeyUtf8 k → Keeps JsonMembersUtf8 (json.members_step value more k)
+members_step : (value : json.Parse json.Json) (more : json.Parse json.Members) → Keeps JsonUtf8 value → Keeps JsonMembersUtf8 more → (k : Option (List ℕ)) →
+    KeyUtf8 k → Keeps JsonMembersUtf8 (json.members_step value more k)
 members_step value more keeps others None named ts h = (tt, h)
 members_step value more keeps others (Some k) named ts h =
-    parsed_then JsonUtf8 JsonMembersUtf8 _ (λ p j rest. parsed_map JsonMembersUtf8 JsonMembersUtf8 (json.member k p.0) (λ ms all. (named, j, all)) (more p.1) (others p.1 rest)) (value ts) (keeps ts h)
+    parsed_then JsonUtf8 JsonMembersUtf8 _ (λ p j rest. parsed_map JsonMembersUtf8 JsonMembersUtf8 (json.member k p.0) (λ ms all. (
+      named,
+      j,
+      all,
+    )) (more p.1) (others p.1 rest)) (value ts) (keeps ts h)
 
 members_keep : (value : json.Parse json.Json) → Keeps JsonUtf8 value → (n : ℕ) → Keeps JsonMembersUtf8 (json.members value n)
 unfolding json.members
 members_keep value keeps zero ts h = tt
 members_keep value keeps (suc n) ts h =
-    parsed_then KeyUtf8 JsonMembersUtf8 _ (λ p named rest. members_step value (json.members value n) keeps (members_keep value keeps n) p.0 named p.1 rest) (json.read_key ts) (key_read ts h)
+    parsed_then KeyUtf8 JsonMembersUtf8 _ (λ p named rest. members_step value (json.members value n) keeps (members_keep value keeps n) p.0 named p.1 rest)
+    (json.read_key ts) (key_read ts h)
 
 with_keep : (a : json.Parse json.Items) (o : json.Parse json.Members) → Keeps JsonItemsUtf8 a → Keeps JsonMembersUtf8 o → Keeps JsonUtf8 (json.value_with a o)
 with_keep a o x y [] h = tt
@@ -420,7 +441,10 @@ mutual
 
   of_items_utf8 : (js : json.Items) → JsonItemsUtf8 js → Each ItemsHaveUtf8 (of_items js)
   of_items_utf8 json.no_items h = tt
-  of_items_utf8 (json.item j js) h = each_then HasUtf8 ItemsHaveUtf8 _ (λ d u. each_map ItemsHaveUtf8 ItemsHaveUtf8 (item d) (λ ds us. (u, us)) (of_items js) (of_items_utf8 js h.1)) (of_json j) (of_json_utf8 j h.0)
+  of_items_utf8 (json.item j js) h = each_then HasUtf8 ItemsHaveUtf8 _ (λ d u. each_map ItemsHaveUtf8 ItemsHaveUtf8 (item d) (λ ds us. (
+    u,
+    us,
+  )) (of_items js) (of_items_utf8 js h.1)) (of_json j) (of_json_utf8 j h.0)
 
   of_members_utf8 : (ms : json.Members) (found : Members) → JsonMembersUtf8 ms → MembersHaveUtf8 found → Each MembersHaveUtf8 (of_members ms found)
   of_members_utf8 json.no_members found h u = u
@@ -437,4 +461,5 @@ last_utf8 (Some p) h = ended p.0 p.1 h.0
 
 pub read_utf8 : (text : List ℕ) (d : Data) → IsUtf8 text → read text ≡ Some d → HasUtf8 d
 read_utf8 text d u e =
-    subst (Each HasUtf8) e (last_utf8 (json.value max_depth (tokens text)) (value_keep max_depth (tokens text) (punctuated fresh (lex between text) (lex_utf8 between text (ends_from [] text u)))))
+    subst (Each HasUtf8) e (last_utf8 (json.value max_depth (tokens text)) (value_keep max_depth (tokens text) (punctuated fresh (lex between text)
+    (lex_utf8 between text (ends_from [] text u)))))

@@ -1,5 +1,6 @@
 -- The parts of a regular value are regular.
-use Rattle.std.proofs.Common.{◌≡◌, ℕ, zero, suc, ◌<◌, ◌≤◌, List, [], ◌∷◌, length, get_or, Option, Some, None, IfSome, option_and_then, refl, sym, subst, ap, ◌∙◌, arith, Vec, Global}
+use Rattle.std.proofs.Common.{◌≡◌, ℕ, zero, suc, ◌<◌, ◌≤◌, List, [], ◌∷◌, length, get_or, Option, Some, None, IfSome, option_and_then, refl, sym, subst, ap}
+use Rattle.std.proofs.Common.{◌∙◌, arith, Vec, Global}
 use Rattle.serde_json.specs.Data.{Data, null, boolean, number, string, array, object, Items, Members, member, members_depth, items_depth}
 use Rattle.serde_json.specs.Find.{get}
 use Rattle.tree_core.specs.Nodes.{node}
@@ -43,8 +44,18 @@ field_regular (y ∷ ys) (suc i) x h below at = field_regular ys i x (rest_regul
 
 pub item_regular : (xs : List Tree) (i : ℕ) (x : Tree) → ItemsAreRegular (items_view xs) → i < length xs → x ≡ get_or xs i x → IsRegular (view x)
 item_regular [] i x h below at = absurd (omega arith)
-item_regular (y ∷ ys) zero x h below at = subst (λ (z : Tree). IsRegular (view z)) (sym at) (record { orderly = h.orderly.0; shallow = omega (arith, h.shallow); utf8 = h.utf8.0 })
-item_regular (y ∷ ys) (suc i) x h below at = item_regular ys i x (record { orderly = h.orderly.1; shallow = omega (arith, h.shallow); utf8 = h.utf8.1 }) (omega arith) at
+item_regular (y ∷ ys) zero x h below at = subst (λ (z : Tree). IsRegular (view z)) (sym at) (record {
+  orderly = h.orderly.0;
+  shallow =
+      omega (arith, h.shallow);
+  utf8 = h.utf8.0;
+})
+item_regular (y ∷ ys) (suc i) x h below at = item_regular ys i x (record {
+  orderly = h.orderly.1;
+  shallow = omega (arith, h.shallow);
+  utf8 =
+      h.utf8.1;
+}) (omega arith) at
 
 -- ---- the value of a key
 

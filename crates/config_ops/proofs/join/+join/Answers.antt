@@ -19,7 +19,8 @@ join_fields-join_field-requires t c =
     let others = subst (λ ys. MembersAreOrderly (fields_view ys)) here c.loop-name.invariant.2 in
     let rest = c.loop-name.rest.items in
     let popped = c.pop_where-found in
-    let found = found_is f.0 rest c.move_before.new.rest.items popped.new.rest.items popped.result popped.ensures.some popped.ensures.none c.in_ok-move_before.ensures.rest in
+    let found = found_is f.0 rest c.move_before.new.rest.items popped.new.rest.items popped.result popped.ensures.some popped.ensures.none
+    c.in_ok-move_before.ensures.rest in
     (search (rules, the_lemmas), (found_fits f.0 rest popped.result popped.new.rest.items found c.loop-name.invariant.1, others.1))
 
 pub join_fields-loop-name-preserved : goal.join_fields-loop-name-preserved
@@ -39,7 +40,8 @@ join_fields-loop-name-preserved t c =
     let more = joined_members other (fields_view later) us in
     let popped = c.pop_where-found in
     let found = found_is f.0 rest c.move_before.new.rest.items later popped.result popped.ensures.some popped.ensures.none c.in_ok-move_before.ensures.rest in
-    let next = next_key other f.0 (view f.1) us rest popped.result later new others.0 c.loop-name.invariant.1 found c.in_ok-join_field.ensures.0 c.in_ok-join_field.ensures.1 in
+    let next = next_key other f.0 (view f.1) us rest popped.result later new others.0 c.loop-name.invariant.1 found c.in_ok-join_field.ensures.0
+    c.in_ok-join_field.ensures.1 in
     let pushed = c.in_ok-push.ensures.items ∙ ap (λ fs. fs ++ new ∷ []) c.in_ok-move_before.ensures.done in (
       c.loop-name.invariant.0
           ∙ ap (λ ys. behind (fields_view done) (joined_members other (fields_view rest) (fields_view ys))) here

@@ -32,5 +32,6 @@ returns c = λ q.
     let u = c.remove.ensures.updates.0 q in (
       λ i. (let both = kept_elsewhere (is_at (nat_cmp k) q) _ (sym u ∙ new.1 i) in
           (old.0 both.1, λ e. false≢true (sym both.0 ∙ at_itself k q e))),
-      λ h. new.0 (u ∙ ap (λ b. cond b false (contains nat_cmp c.args.numbers.now q)) (equal_or_not (nat_cmp k q) (λ e. h.1 (sym (exact_unsigned k q e)))) ∙ old.1 h.0),
+      λ h. new.0 (u ∙ ap (λ b. cond b false (contains nat_cmp c.args.numbers.now q)) (equal_or_not (nat_cmp k q) (λ e. h.1 (sym (exact_unsigned k q e))))
+          ∙ old.1 h.0),
     )

@@ -6,7 +6,11 @@ use Rattle.conflict_search.proofs.conflicts.add.Goals as goal
 pub returns-then-has : goal.returns-then-has
 returns-then-has c = λ x. (
   λ i. inl i,
-  λ h. elim h [ inl i ↦ i | inr e ↦ subst (Contains c.args.places.now.items) e (subst (λ l. Contains l c.args.place) c.deref.ensures.value (c.has.ensures.0 c.if-has.true)) ],
+  λ h. elim h [
+    | inl i ↦ i
+    | inr e ↦ subst (Contains c.args.places.now.items) e (subst (λ l. Contains l c.args.place) c.deref.ensures.value
+        (c.has.ensures.0 c.if-has.true))
+  ],
 )
 
 pub returns : goal.returns

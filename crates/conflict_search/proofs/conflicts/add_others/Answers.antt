@@ -18,5 +18,6 @@ loop-other-preserved c =
           w.add.new.places.items (λ e. w.if-other-place.true (sym e)) w.in_ok-add.ensures)
       | else-other-place w ↦
           subst (λ (v : Vec ℕ Global). JoinsOthers c.args.place (take (i + 1) conflict) c.args.gathered.now.items v.items) (sym w.gathered-is)
-          (joins_same c.args.place conflict c.args.gathered.now.items c.loop-other.gathered.items i c.loop-other-test.true c.loop-other.invariant w.if-other-place.false)
+          (joins_same c.args.place conflict c.args.gathered.now.items c.loop-other.gathered.items i c.loop-other-test.true c.loop-other.invariant
+          w.if-other-place.false)
     ]

@@ -11,5 +11,6 @@ returns c =
     let n = c.args.name.now in
     let start = c.partition_point-start.result in
     first_found cs n start c.requires.known.0
-    (IsPartitionPoint-from_clause (λ (d : Candidate). is_less d.recipe.name n) cs start c.partition_point-start.ensures.partitioned (less_parted cs n c.requires.rising) (λ a r q k. search rules))
+    (IsPartitionPoint-from_clause (λ (d : Candidate). is_less d.recipe.name n) cs start c.partition_point-start.ensures.partitioned
+    (less_parted cs n c.requires.rising) (λ a r q k. search rules))
     c.requires.rising c.requires.known.1

@@ -13,7 +13,8 @@ returns-then-end-eq0 c =
     let n = c.args.name.now in
     let end = c.partition_point-end.result in
     unknown_from_start cs n end
-    (IsPartitionPoint-from_clause (λ (d : Candidate). is_up_to d.recipe.name n) cs end c.partition_point-end.ensures.partitioned (up_to_parted cs n c.requires.rising) (λ a r q k. search rules))
+    (IsPartitionPoint-from_clause (λ (d : Candidate). is_up_to d.recipe.name n) cs end c.partition_point-end.ensures.partitioned
+    (up_to_parted cs n c.requires.rising) (λ a r q k. search rules))
     c.if-end-eq0.true
 
 pub returns-then-not-is_same : goal.returns-then-not-is_same
@@ -22,7 +23,8 @@ returns-then-not-is_same c =
     let n = c.args.name.now in
     let end = c.partition_point-end.result in
     unknown_from_other cs n end
-    (IsPartitionPoint-from_clause (λ (d : Candidate). is_up_to d.recipe.name n) cs end c.partition_point-end.ensures.partitioned (up_to_parted cs n c.requires.rising) (λ a r q k. search rules))
+    (IsPartitionPoint-from_clause (λ (d : Candidate). is_up_to d.recipe.name n) cs end c.partition_point-end.ensures.partitioned
+    (up_to_parted cs n c.requires.rising) (λ a r q k. search rules))
     c.name_at.result.now c.requires.rising (omega arith) c.name_at.ensures (iff_false c.is_same.ensures c.if-not-is_same.true)
 
 pub returns : goal.returns
@@ -31,5 +33,6 @@ returns c =
     let n = c.args.name.now in
     let end = c.partition_point-end.result in
     number_found cs n end
-    (IsPartitionPoint-from_clause (λ (d : Candidate). is_up_to d.recipe.name n) cs end c.partition_point-end.ensures.partitioned (up_to_parted cs n c.requires.rising) (λ a r q k. search rules))
+    (IsPartitionPoint-from_clause (λ (d : Candidate). is_up_to d.recipe.name n) cs end c.partition_point-end.ensures.partitioned
+    (up_to_parted cs n c.requires.rising) (λ a r q k. search rules))
     (omega arith) (c.name_at.ensures ∙ ap Some (c.is_same.ensures.0 c.if-not-is_same.false))

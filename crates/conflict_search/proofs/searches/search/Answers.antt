@@ -14,7 +14,8 @@ returns-in-Ok-Some-clause-preferred c =
     let path = c.in-Ok-Some.path.items in
     let s = c.sort_unstable.new.self.items in
     let best = rw c.in-Ok-Some.field-0-is at c.in-Ok-Some.ensures.found in
-    let preferred = preferred_of ms wanted path s best c.sort_unstable.ensures.permutation (IsNonDecreasingBy-from_sort (λ (x : ℕ). x) s c.sort_unstable.ensures.sorted) in
+    let preferred = preferred_of ms wanted path s best c.sort_unstable.ensures.permutation (IsNonDecreasingBy-from_sort (λ (x : ℕ). x) s
+    c.sort_unstable.ensures.sorted) in
     let there = subst (λ (cs : List Candidate). IsPreferred (members cs) wanted s) (c.as_slice.ensures ∙ c.list.ensures.value) preferred in
     let here = subst (λ (ws : List Wanted). IsPreferred (members c.args.candidates.now) (asked ws) s) c.as_slice-2.ensures there in
     subst (IsPreferred (members c.args.candidates.now) (asked c.args.wanted.now)) (sym c.new.ensures) here

@@ -18,11 +18,13 @@ loop-need-preserved c =
       | then-need+in_ok-add w ↦ record {
         tidy = subst IsTidy (sym w.found-is) w.in_ok-add.ensures.tidy;
         len = ap (λ (p : Places). length p.marks.items) w.found-is ∙ w.in_ok-add.ensures.count ∙ c.loop-need.invariant.len;
-        adds = subst (λ (p : Places). AddsRow (take (i + 1) row) old p.list.items) (sym w.found-is) (adds_hard w.in_ok-add.field-0 row i d old new w.add.new.self.list.items c.loop-need-test.true w.if-need.true c.loop-need.invariant.adds w.in_ok-add.ensures.list);
+        adds = subst (λ (p : Places). AddsRow (take (i + 1) row) old p.list.items) (sym w.found-is) (adds_hard w.in_ok-add.field-0 row i d old new
+            w.add.new.self.list.items c.loop-need-test.true w.if-need.true c.loop-need.invariant.adds w.in_ok-add.ensures.list);
       }
       | else-need w ↦ record {
         tidy = subst IsTidy (sym w.found-is) c.loop-need.invariant.tidy;
         len = ap (λ (p : Places). length p.marks.items) w.found-is ∙ c.loop-need.invariant.len;
-        adds = subst (λ (p : Places). AddsRow (take (i + 1) row) old p.list.items) (sym w.found-is) (adds_soft row i d old new c.loop-need-test.true w.if-need.false c.loop-need.invariant.adds);
+        adds = subst (λ (p : Places). AddsRow (take (i + 1) row) old p.list.items) (sym w.found-is) (adds_soft row i d old new c.loop-need-test.true
+            w.if-need.false c.loop-need.invariant.adds);
       }
     ]

@@ -11,7 +11,8 @@ use Rattle.dep_order.proofs.HardRows.{found_more, closed_first, closed_more, clo
 use Rattle.dep_order.proofs.dependents.find_all.Goals as goal
 
 pub add_row-requires-clause-nodes : goal.add_row-requires-clause-nodes
-add_row-requires-clause-nodes c = row_nodes c.args.edges.now c.args.rows.now c.row_to.result.now c.args.of (length c.in_ok-found.found.marks.items) c.requires.nodes c.requires.rows c.in_ok-found.ensures.count c.row_to.ensures
+add_row-requires-clause-nodes c = row_nodes c.args.edges.now c.args.rows.now c.row_to.result.now c.args.of (length c.in_ok-found.found.marks.items)
+    c.requires.nodes c.requires.rows c.in_ok-found.ensures.count c.row_to.ensures
 
 pub loop-index-init : goal.loop-index-init
 loop-index-init c =
@@ -29,7 +30,8 @@ loop-index-init c =
     }
 
 pub add_row-requires-in-loop-index-clause-nodes : goal.add_row-requires-in-loop-index-clause-nodes
-add_row-requires-in-loop-index-clause-nodes c = row_nodes c.args.edges.now c.args.rows.now c.row_to-in-loop-index.result.now c.index-place.result.now (length c.loop-index.found.marks.items) c.requires.nodes c.requires.rows c.loop-index.invariant.len c.row_to-in-loop-index.ensures
+add_row-requires-in-loop-index-clause-nodes c = row_nodes c.args.edges.now c.args.rows.now c.row_to-in-loop-index.result.now c.index-place.result.now
+    (length c.loop-index.found.marks.items) c.requires.nodes c.requires.rows c.loop-index.invariant.len c.row_to-in-loop-index.ensures
 
 pub loop-index-smaller : goal.loop-index-smaller
 loop-index-smaller c =

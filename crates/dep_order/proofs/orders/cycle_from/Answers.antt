@@ -12,7 +12,8 @@ returns-then-not-added c =
     let there = not_added _ _ c.in_ok-added.added c.if-not-added.true c.in_ok-added.ensures.list in
     let part = c.in_ok-cycle.ensures in
     let same = c.deref.ensures.value ∙ there.1 in
-    let at : (part.0 < length c.loop-way.way.list.items) × (get_or c.loop-way.way.list.items part.0 0 ≡ c.loop-way.place) = subst (λ l. (part.0 < length l) × (get_or l part.0 0 ≡ c.loop-way.place)) same (part.1, part.2) in
+    let at : (part.0 < length c.loop-way.way.list.items) × (get_or c.loop-way.way.list.items part.0 0 ≡ c.loop-way.place) =
+    subst (λ l. (part.0 < length l) × (get_or l part.0 0 ≡ c.loop-way.place)) same (part.1, part.2) in
     let cycle = cycle_at c.args.edges.now c.loop-way.way.list.items part.0 c.loop-way.place 0 at.0 at.1 c.loop-way.invariant.linked in
     subst (IsCycle c.args.edges.now) (sym (part.3 ∙ ap (drop part.0) same)) cycle
 
@@ -23,7 +24,8 @@ unreachable-requires c =
     let taken = c.args.taken.now.list.items in
     let lt : place < length next = omega (arith, c.loop-way.invariant.node, c.in_ok-next_of.ensures.count) in
     let at : get_or next place None ≡ None = sym (c.index.ensures ∙ get_or_default next place c.index.result.now None lt) ∙ c.in_default.is in
-    let ready = subst (λ o. MatchOption o (IsReady c.args.edges.now taken place) (λ q. Needs c.args.edges.now place q × (Contains taken q → ⊥))) at (c.in_ok-next_of.ensures.each place) in
+    let ready = subst (λ o. MatchOption o (IsReady c.args.edges.now taken place) (λ q. Needs c.args.edges.now place q ×
+    (Contains taken q → ⊥))) at (c.in_ok-next_of.ensures.each place) in
     c.requires.stuck place (record { node = c.loop-way.invariant.node; untaken = c.loop-way.invariant.untaken; ready = ready })
 
 pub loop-way-smaller : goal.loop-way-smaller
@@ -40,11 +42,13 @@ loop-way-preserved c =
     let taken = c.args.taken.now.list.items in
     let lt : place < length next = omega (arith, c.loop-way.invariant.node, c.in_ok-next_of.ensures.count) in
     let at : get_or next place None ≡ Some c.in-Some.next = sym (c.index.ensures ∙ get_or_default next place c.index.result.now None lt) ∙ c.in-Some.is in
-    let step = subst (λ o. MatchOption o (IsReady edges taken place) (λ q. Needs edges place q × (Contains taken q → ⊥))) at (c.in_ok-next_of.ensures.each place) in
+    let step = subst (λ o. MatchOption o (IsReady edges taken place) (λ q. Needs edges place q ×
+    (Contains taken q → ⊥))) at (c.in_ok-next_of.ensures.each place) in
     let new = is_added _ _ c.in_ok-added.added c.if-not-added.false c.in_ok-added.ensures.list in
     let nodes = needs_nodes edges place c.in-Some.next c.requires.nodes step.0 in
     record {
-      linked = subst (λ l. AreLinked edges l c.in-Some.next) (sym new.1) (linked_push edges c.loop-way.way.list.items place c.in-Some.next c.loop-way.invariant.linked step.0);
+      linked = subst (λ l. AreLinked edges l c.in-Some.next) (sym new.1) (linked_push edges c.loop-way.way.list.items place c.in-Some.next
+          c.loop-way.invariant.linked step.0);
       node = nodes.1;
       untaken = step.1;
       tidy = c.in_ok-added.ensures.tidy;

@@ -16,11 +16,13 @@ loop-need-preserved c =
     let need = get_or ns i d in
     let lt = c.loop-need-test.true in
     let node = c.requires.nodes i d (subst (λ l. i < length l) is lt) in
-    let from : need.from < length c.loop-need.next.items = subst (λ n. need.from < n) (sym c.loop-need.invariant.len) (subst (λ l. (get_or l i d).from < edges.nodes) (sym is) node.0) in
+    let from : need.from < length c.loop-need.next.items = subst (λ n. need.from < n) (sym c.loop-need.invariant.len) (subst (λ l. (get_or l i d).from <
+    edges.nodes) (sym is) node.0) in
     let open' = subst (λ l. AreOpenNeeds edges taken (take i l) c.loop-need.next.items) (sym is) c.loop-need.invariant.each in
     elim c.if-not-has.branch [
       | then-not-has w ↦ record {
-        len = ap (λ (v : Vec (Option ℕ) Global). length v.items) w.next-is ∙ length-set c.loop-need.next.items need.from (Some need.to) ∙ c.loop-need.invariant.len;
+        len = ap (λ (v : Vec (Option ℕ) Global). length v.items) w.next-is ∙ length-set c.loop-need.next.items need.from (Some need.to)
+            ∙ c.loop-need.invariant.len;
         each = subst (λ (v : Vec (Option ℕ) Global). AreOpenNeeds edges taken (take (i + 1) edges.needs) v.items) (sym w.next-is)
             (subst (λ l. AreOpenNeeds edges taken (take (i + 1) l) (set c.loop-need.next.items need.from (Some need.to))) is
             (open_set_of edges taken ns i d c.loop-need.next.items is lt from (λ j. absurd (false≢true (sym w.if-not-has.true ∙ c.has.ensures.1 j))) open'));
@@ -35,5 +37,6 @@ loop-need-preserved c =
 
 pub returns-clause-each : goal.returns-clause-each
 returns-clause-each c =
-    let le : length c.args.edges.now.needs ≤ c.loop-need.need-index = subst (λ l. length l ≤ c.loop-need.need-index) c.as_slice-need-items.ensures c.loop-need-test.false in
+    let le : length c.args.edges.now.needs ≤ c.loop-need.need-index = subst (λ l. length l ≤ c.loop-need.need-index) c.as_slice-need-items.ensures
+    c.loop-need-test.false in
     open_all c.args.edges.now c.args.taken.now.list.items c.loop-need.need-index c.loop-need.next.items le c.loop-need.invariant.each

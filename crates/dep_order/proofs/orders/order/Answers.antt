@@ -4,7 +4,11 @@ use Rattle.dep_order.proofs.Cycles.{order_acyclic, order_ends}
 use Rattle.dep_order.proofs.orders.order.Goals as goal
 
 pub returns-in_default-clause-order : goal.returns-in_default-clause-order
-returns-in_default-clause-order c = subst (IsWholeOrder c.args.edges.now) (sym c.new.ensures) (record { order = c.in-Ok.ensures.order; whole = c.in_default.ensures })
+returns-in_default-clause-order c = subst (IsWholeOrder c.args.edges.now) (sym c.new.ensures) (record {
+  order = c.in-Ok.ensures.order;
+  whole =
+      c.in_default.ensures;
+})
 
 pub returns-in_default-clause-acyclic : goal.returns-in_default-clause-acyclic
 returns-in_default-clause-acyclic c = order_acyclic c.args.edges.now c.in-Ok.taken.list.items c.requires c.in-Ok.ensures.order c.in_default.ensures

@@ -7,7 +7,8 @@ use Rattle.dep_order.proofs.waiting.ready_at_first.Goals.{then-counts-place-eq0+
 Have : List ℕ → List ℕ → ℕ → Type 0
 Have ready counts i = (q : ℕ) → Contains ready q ↔ ((q < i) × (get_or counts q 0 ≡ 0))
 
-taken_in : (ready new counts : List ℕ) (i : ℕ) → Have ready counts i → get_or counts i 0 ≡ 0 → ((q : ℕ) → Contains new q ↔ (Contains ready q ⊎ (q ≡ i))) → Have new counts (i + 1)
+taken_in : (ready new counts : List ℕ) (i : ℕ) → Have ready counts i → get_or counts i 0 ≡ 0 → ((q : ℕ) → Contains new q ↔ (Contains ready q ⊎ (q ≡ i))) →
+    Have new counts (i + 1)
 unfolding Have
 taken_in ready new counts i h zero' more = λ q. (
   λ j. elim ((more q).0 j) [
@@ -29,7 +30,8 @@ unfolding Have
 loop-place-preserved c = elim c.if-counts-place-eq0.branch [
   | then-counts-place-eq0+in_ok-add_ready w ↦
       subst (λ (set : BTreeSet ℕ). Have set.keys c.args.counts.now (c.loop-place.place + 1)) (sym w.ready-is)
-      (taken_in c.loop-place.ready.keys w.add_ready.new.ready.keys c.args.counts.now c.loop-place.place c.loop-place.invariant w.if-counts-place-eq0.true w.in_ok-add_ready.ensures)
+      (taken_in c.loop-place.ready.keys w.add_ready.new.ready.keys c.args.counts.now c.loop-place.place c.loop-place.invariant w.if-counts-place-eq0.true
+      w.in_ok-add_ready.ensures)
   | else-counts-place-eq0 w ↦
       subst (λ (set : BTreeSet ℕ). Have set.keys c.args.counts.now (c.loop-place.place + 1)) (sym w.ready-is)
       (left_out c.loop-place.ready.keys c.args.counts.now c.loop-place.place c.loop-place.invariant w.if-counts-place-eq0.false)

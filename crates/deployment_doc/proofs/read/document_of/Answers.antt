@@ -6,7 +6,8 @@ use Rattle.nuc_base.proofs.Tables.{handed_on}
 use Rattle.deployment_doc.specs.Lines.{document_lines}
 use Rattle.deployment_doc.specs.Named.{IsDocument}
 use Rattle.deployment_doc.specs.declared.fault.DocFault.TheVariants.{NoMemory}
-use Rattle.deployment_doc.proofs.Rows.{above_revision, above_roots, all_above_revision, all_above, at_id, at_group, at_revision, at_policy, at_roots, all_document}
+use Rattle.deployment_doc.proofs.Rows.{above_revision, above_roots, all_above_revision, all_above, at_id, at_group, at_revision, at_policy, at_roots}
+use Rattle.deployment_doc.proofs.Rows.{all_document}
 use Rattle.deployment_doc.proofs.read.document_of.Goals as goal
 
 pub returns-in_err-id : goal.returns-in_err-id

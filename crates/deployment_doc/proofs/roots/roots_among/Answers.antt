@@ -15,21 +15,25 @@ loop-name-preserved c =
     let xs : List Field = c.deref-name-items.result.now in
     let i = c.loop-name.name-index in
     let below : i < length xs = omega arith in
-    among_more field_view component_lines IsRoot xs i c.loop-name-item.result c.loop-name.roots.items _ c.in_ok-root.root below c.loop-name-item.is c.loop-name.invariant c.in_ok-root.ensures c.in_ok-push.ensures.items
+    among_more field_view component_lines IsRoot xs i c.loop-name-item.result c.loop-name.roots.items _ c.in_ok-root.root below c.loop-name-item.is
+    c.loop-name.invariant c.in_ok-root.ensures c.in_ok-push.ensures.items
 
 pub returns-in_err-root : goal.returns-in_err-root
 returns-in_err-root c =
     let xs : List Field = c.deref-name-items.result.now in
     let i = c.loop-name.name-index in
     let below : i < length xs = omega arith in
-    among_fault field_view component_lines IsRoot NoMemory xs c.args.fields.now.items i c.loop-name-item.result c.loop-name.roots.items c.in_err-root.field-0.0 _ c.deref-name-items.ensures.value below c.loop-name-item.is c.loop-name.invariant c.in_err-root.ensures c.from_residual-in_err-root.ensures.1
+    among_fault field_view component_lines IsRoot NoMemory xs c.args.fields.now.items i c.loop-name-item.result c.loop-name.roots.items
+    c.in_err-root.field-0.0 _ c.deref-name-items.ensures.value below c.loop-name-item.is c.loop-name.invariant c.in_err-root.ensures
+    c.from_residual-in_err-root.ensures.1
 
 pub returns : goal.returns
 returns c =
     let xs : List Field = c.deref-name-items.result.now in
     let i = c.loop-name.name-index in
     let past : length xs ≤ i = omega arith in
-    among_end field_view component_lines IsRoot xs c.args.fields.now.items i c.loop-name.roots.items _ c.deref-name-items.ensures.value past c.loop-name.invariant c.new.ensures
+    among_end field_view component_lines IsRoot xs c.args.fields.now.items i c.loop-name.roots.items _ c.deref-name-items.ensures.value past
+    c.loop-name.invariant c.new.ensures
 
 pub root_of-requires : goal.root_of-requires
 root_of-requires c =

@@ -17,17 +17,21 @@ use Rattle.deployment_doc.proofs.roots.roots_in.Goals as goal
 pub returns-then-len-gt-MOST_COMPONENTS : goal.returns-then-len-gt-MOST_COMPONENTS
 returns-then-len-gt-MOST_COMPONENTS c =
     let all = members_are _ c.in-Fields.fields c.in-Fields.is in
-    let long : length (members (view c.args.components.now)) ≡ length c.in-Fields.fields.items = ap length all ∙ length-map c.in-Fields.fields.items field_view in
+    let long : length (members (view c.args.components.now)) ≡ length c.in-Fields.fields.items = ap length all
+    ∙ length-map c.in-Fields.fields.items field_view in
     inr (inr (is_object _ c.in-Fields.fields c.in-Fields.is, inl (λ short. omega arith, refl)))
 
 pub returns : goal.returns
 returns c =
     let all = members_are _ c.in-Fields.fields c.in-Fields.is in
-    let long : length (members (view c.args.components.now)) ≡ length c.in-Fields.fields.items = ap length all ∙ length-map c.in-Fields.fields.items field_view in
+    let long : length (members (view c.args.components.now)) ≡ length c.in-Fields.fields.items = ap length all
+    ∙ length-map c.in-Fields.fields.items field_view in
     let short : length (members (view c.args.components.now)) ≤ 128 = omega arith in
-    let whole : Answers NoMemory (each component_lines (members (view c.args.components.now))) (AllZip IsRoot (members (view c.args.components.now))) c.roots_among.result =
+    let whole : Answers NoMemory (each component_lines (members (view c.args.components.now))) (AllZip IsRoot (members (view c.args.components.now)))
+    c.roots_among.result =
     subst (λ (ms : List (List ℕ × Data)). Answers NoMemory (each component_lines ms) (AllZip IsRoot ms) c.roots_among.result) (sym all) c.roots_among.ensures in
-    answers_after NoMemory (check (IsObject (view c.args.components.now)) (WrongKind Components) ++ check (length (members (view c.args.components.now)) ≤ 128) (TooMany Components))
+    answers_after NoMemory (check (IsObject (view c.args.components.now)) (WrongKind Components)
+    ++ check (length (members (view c.args.components.now)) ≤ 128) (TooMany Components))
     (each component_lines (members (view c.args.components.now)))
     (AllZip IsRoot (members (view c.args.components.now)))
     c.roots_among.result

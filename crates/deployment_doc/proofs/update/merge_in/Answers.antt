@@ -21,4 +21,5 @@ pub returns-in-Text : goal.returns-in-Text
 returns-in-Text c =
     let s : List ℕ = c.in-Text.text in
     let text : view c.args.value.now ≡ string s = ap view c.in-Text.is ∙ seen_text s in
-    merge_text c.args.name.now (view c.args.value.now) s c.as_bytes.result.now c.merge_read.result text (c.as_bytes.ensures.value ∙ c.as_str.ensures) c.merge_read.ensures
+    merge_text c.args.name.now (view c.args.value.now) s c.as_bytes.result.now c.merge_read.result text (c.as_bytes.ensures.value
+    ∙ c.as_str.ensures) c.merge_read.ensures

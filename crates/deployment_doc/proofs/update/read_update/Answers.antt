@@ -27,7 +27,10 @@ returns-in_err-merge c =
     let object : IsObject v = is_object _ c.in-Fields.field-0 c.in-Fields.is in
     let one : ¬ HasBoth (codes "reset") (codes "RESET") v = λ h. let fired : c.has_both.result ≡ true = c.has_both.ensures.1 h in cc in
     let two : ¬ HasBoth (codes "merge") (codes "MERGE") v = λ h. let fired : c.has_both-2.result ≡ true = c.has_both-2.ensures.1 h in cc in
-    handed_on NoMemory (update_lines n v) (IsUpdateOf v) _ f c.from_residual-in_err-merge.ensures.1 (at_merge n v f (object, (one, (two, tt))) c.in_ok-resets.ensures.0 c.in_err-merge.ensures)
+    handed_on NoMemory (update_lines n v) (IsUpdateOf v) _ f c.from_residual-in_err-merge.ensures.1 (at_merge n v f (
+      object,
+      (one, (two, tt)),
+    ) c.in_ok-resets.ensures.0 c.in_err-merge.ensures)
 
 pub returns : goal.returns
 returns c =

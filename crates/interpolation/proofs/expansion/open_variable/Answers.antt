@@ -18,4 +18,5 @@ pub returns : goal.returns
 returns c =
     let piece = c.args.piece.now in
     let cut = last_cut 123 piece (Some (c.in-Some.plain, c.in-Some.word)) c.in-Some.ensures.cases (lit< tt) in
-    ends_inside piece c.in-Some.plain.now c.in-Some.word.now c.requires cut.0 cut.1 (not_empty c.in-Some.word.now (sym c.is_empty.ensures ∙ c.if-is_empty.false))
+    ends_inside piece c.in-Some.plain.now c.in-Some.word.now c.requires cut.0 cut.1 (not_empty c.in-Some.word.now (sym c.is_empty.ensures
+    ∙ c.if-is_empty.false))

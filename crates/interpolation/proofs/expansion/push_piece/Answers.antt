@@ -11,7 +11,8 @@ returns-in_ok-push_str-in-Some c =
     on_ok_weaker c.push_variable.result
     (λ more. (
       plain ++ replaced c.args.scope.now word,
-      more ∙ ap (λ l. l ++ replaced c.args.scope.now word) c.in_ok-push_str-in-Some.ensures.ok ∙ append_assoc c.args.expanded.now plain (replaced c.args.scope.now word),
+      more ∙ ap (λ l. l ++ replaced c.args.scope.now word) c.in_ok-push_str-in-Some.ensures.ok
+          ∙ append_assoc c.args.expanded.now plain (replaced c.args.scope.now word),
       front_ended c.args.scope.now c.args.piece.now plain word c.requires.piece c.in-Some.ensures,
     ))
     c.push_variable.ensures

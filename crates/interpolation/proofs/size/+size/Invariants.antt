@@ -8,4 +8,5 @@ abbrev pub invariant-room_behind_items-loop-item : goal.invariant-room_behind_it
 invariant-room_behind_items-loop-item l = l.left + items_least (items_view l.item-items) ≡ l.room + items_least (items_view (drop l.item-index l.item-items))
 
 abbrev pub invariant-room_behind_fields-loop-name : goal.invariant-room_behind_fields-loop-name
-invariant-room_behind_fields-loop-name l = l.left + members_least (fields_view l.name-items) ≡ l.room + members_least (fields_view (drop l.name-index l.name-items))
+invariant-room_behind_fields-loop-name l = l.left + members_least (fields_view l.name-items) ≡ l.room + members_least (fields_view
+    (drop l.name-index l.name-items))

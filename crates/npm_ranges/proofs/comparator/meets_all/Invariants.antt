@@ -6,4 +6,5 @@ use Rattle.npm_ranges.specs.Views.{seen}
 use Rattle.npm_ranges.proofs.comparator.meets_all.Given as goal
 
 abbrev pub invariant-all : goal.invariant-all
-invariant-all l = list_all (meets_comparator (parts_of l.version)) (map seen l.set) ≡ list_all (meets_comparator (parts_of l.version)) (map seen (drop l.comparator-index l.set))
+invariant-all l = list_all (meets_comparator (parts_of l.version)) (map seen l.set) ≡ list_all (meets_comparator (parts_of l.version))
+    (map seen (drop l.comparator-index l.set))

@@ -9,7 +9,10 @@ returns-in-Some c =
     let text = c.args.text.now in
     let n = c.in-Some.end in
     let next = parts_next text n (sym c.in-Some.ensures) in
-    next.1 ∙ ap (λ (rest : List ℕ). take n text ∷ parts rest) (sym (take_all (length text - (n + 1)) (drop (n + 1) text) (omega (arith, length-drop (n + 1) text))))
+    next.1 ∙ ap (λ (rest : List ℕ). take n text ∷ parts rest) (sym (take_all (length text - (n + 1)) (drop (n + 1) text) (omega (
+      arith,
+      length-drop (n + 1) text,
+    ))))
 
 pub returns-in-None : goal.returns-in-None
 returns-in-None c = parts_end c.args.text.now (sym c.in-None.ensures)

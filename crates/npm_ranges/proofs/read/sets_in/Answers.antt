@@ -16,7 +16,8 @@ pub returns-in_err-comparators : goal.returns-in_err-comparators
 returns-in_err-comparators c =
     let s = c.first_set.result in
     let p = err_from_is_err_and c.from_residual.result c.from_residual.ensures.1 in
-    rw (p.1, p.2) (sets_fail c.args.text.now s.0.now c.sets.rest c.in-Some.text (sets_behind s.1) c.sets.sets.items _ c.sets.invariant c.in-Some.is c.first_set.ensures c.in_err-comparators.ensures)
+    rw (p.1, p.2) (sets_fail c.args.text.now s.0.now c.sets.rest c.in-Some.text (sets_behind s.1) c.sets.sets.items _ c.sets.invariant c.in-Some.is
+    c.first_set.ensures c.in_err-comparators.ensures)
 
 pub returns : goal.returns
 returns c = sets_end c.args.text.now c.sets.rest c.sets.sets.items c.sets.invariant c.in_default.is

@@ -17,7 +17,8 @@ returns-in_err-check_unarchive c =
     let f = c.in_err-check_unarchive.field-0.0 in
     let object : IsObject v = c.is_object.ensures.0 c.if-not-is_object.false in
     handed_on NoMemory (artifact_lines v) (IsArtifact v) _ f c.from_residual-in_err-check_unarchive.ensures.1
-    (fault_4_of_6 NoMemory (check (IsObject v) (WrongKind Artifacts)) (artifact_doubles v) (required_key Uri v uri_lines) (on (keyed (spelled Unarchive) v) unarchive_lines) (on (keyed (spelled Algorithm) v) algorithm_lines) (on (keyed (spelled Digest) v) digest_lines) f
+    (fault_4_of_6 NoMemory (check (IsObject v) (WrongKind Artifacts)) (artifact_doubles v) (required_key Uri v uri_lines) (on (keyed (spelled Unarchive) v)
+    unarchive_lines) (on (keyed (spelled Algorithm) v) algorithm_lines) (on (keyed (spelled Digest) v) digest_lines) f
     (object, tt) c.in_ok-no_doubles.ensures.0 c.in_ok-file.ensures.0 c.in_err-check_unarchive.ensures)
 
 pub returns-in_err-check_algorithm : goal.returns-in_err-check_algorithm
@@ -26,5 +27,6 @@ returns-in_err-check_algorithm c =
     let f = c.in_err-check_algorithm.field-0.0 in
     let object : IsObject v = c.is_object.ensures.0 c.if-not-is_object.false in
     handed_on NoMemory (artifact_lines v) (IsArtifact v) _ f c.from_residual-in_err-check_algorithm.ensures.1
-    (fault_5_of_6 NoMemory (check (IsObject v) (WrongKind Artifacts)) (artifact_doubles v) (required_key Uri v uri_lines) (on (keyed (spelled Unarchive) v) unarchive_lines) (on (keyed (spelled Algorithm) v) algorithm_lines) (on (keyed (spelled Digest) v) digest_lines) f
+    (fault_5_of_6 NoMemory (check (IsObject v) (WrongKind Artifacts)) (artifact_doubles v) (required_key Uri v uri_lines) (on (keyed (spelled Unarchive) v)
+    unarchive_lines) (on (keyed (spelled Algorithm) v) algorithm_lines) (on (keyed (spelled Digest) v) digest_lines) f
     (object, tt) c.in_ok-no_doubles.ensures.0 c.in_ok-file.ensures.0 c.in_ok-check_unarchive.ensures.0 c.in_err-check_algorithm.ensures)

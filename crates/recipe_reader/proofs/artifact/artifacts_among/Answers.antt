@@ -14,7 +14,8 @@ use Rattle.recipe_reader.proofs.artifact.artifacts_among.Goals as goal
 pub loop-value-init : goal.loop-value-init
 loop-value-init c =
     let start = lists_start (map view c.deref-value-items.result.now) in
-    subst (λ (rs : List Artifact). Lists (map view c.deref-value-items.result.now) (map view c.deref-value-items.result.now) rs) (sym c.in_ok-artifacts.ensures.items) start
+    subst (λ (rs : List Artifact). Lists (map view c.deref-value-items.result.now) (map view c.deref-value-items.result.now) rs)
+    (sym c.in_ok-artifacts.ensures.items) start
 
 pub next_artifact-requires : goal.next_artifact-requires
 next_artifact-requires c =
@@ -22,7 +23,8 @@ next_artifact-requires c =
     let i = c.loop-value.value-index in
     let x : Tree = c.value-item.result in
     let below : i < length xs = omega arith in
-    let regular : ItemsAreRegular (items_view xs) = subst (λ (ts : List Tree). ItemsAreRegular (items_view ts)) (sym c.deref-value-items.ensures.value) (items_regular _ c.requires) in
+    let regular : ItemsAreRegular (items_view xs) = subst (λ (ts : List Tree). ItemsAreRegular (items_view ts)) (sym c.deref-value-items.ensures.value)
+    (items_regular _ c.requires) in
     item_regular xs i x regular below c.value-item.is
 
 pub loop-value-preserved : goal.loop-value-preserved
@@ -35,7 +37,8 @@ loop-value-preserved c =
     let below : i < length xs = omega arith in
     let next : map view (drop i xs) ≡ view x ∷ map view (drop (i + 1) xs) = map_next view xs i x below c.value-item.is in
     let l : Lists (map view xs) (view x ∷ map view (drop (i + 1) xs)) done = subst (λ ms. Lists (map view xs) ms done) next c.loop-value.invariant in
-    let holds : AllHold (next_lines done (view x)) = subst (λ (ys : List Artifact). AllHold (next_lines ys (view x))) c.as_slice.ensures.value c.in_ok-artifact.ensures.0 in
+    let holds : AllHold (next_lines done (view x)) = subst (λ (ys : List Artifact). AllHold (next_lines ys (view x))) c.as_slice.ensures.value
+    c.in_ok-artifact.ensures.0 in
     subst (λ (rs : List Artifact). Lists (map view xs) (map view (drop (i + 1) xs)) rs) (sym c.in_ok-push.ensures.items)
     (lists_more (map view xs) (view x) (map view (drop (i + 1) xs)) done l a holds c.in_ok-artifact.ensures.1)
 
@@ -49,9 +52,11 @@ returns-in_err-artifact c =
     let below : i < length xs = omega arith in
     let next : map view (drop i xs) ≡ view x ∷ map view (drop (i + 1) xs) = map_next view xs i x below c.value-item.is in
     let l : Lists (map view xs) (view x ∷ map view (drop (i + 1) xs)) done = subst (λ ms. Lists (map view xs) ms done) next c.loop-value.invariant in
-    let here : Faults NoMemory (next_lines done (view x)) f = subst (λ (ys : List Artifact). Faults NoMemory (next_lines ys (view x)) f) c.as_slice.ensures.value c.in_err-artifact.ensures in
+    let here : Faults NoMemory (next_lines done (view x)) f = subst (λ (ys : List Artifact). Faults NoMemory (next_lines ys (view x)) f)
+    c.as_slice.ensures.value c.in_err-artifact.ensures in
     let all : map view xs ≡ map view c.args.values.now.items = ap (map view) c.deref-value-items.ensures.value in
-    handed_on NoMemory (listed_lines [] (map view c.args.values.now.items)) (AllZip IsArtifact (map view c.args.values.now.items)) _ f c.from_residual-in_err-artifact.ensures.1
+    handed_on NoMemory (listed_lines [] (map view c.args.values.now.items)) (AllZip IsArtifact (map view c.args.values.now.items)) _ f
+    c.from_residual-in_err-artifact.ensures.1
     (subst (λ ms. Faults NoMemory (listed_lines [] ms) f) all (lists_fault (map view xs) (view x) (map view (drop (i + 1) xs)) done l f here))
 
 pub returns : goal.returns

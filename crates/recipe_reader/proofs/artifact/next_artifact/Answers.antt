@@ -11,4 +11,5 @@ returns-in_err-artifact c =
     let v = view c.args.value.now in
     let own = check (has_name (map (λ a. a.file) c.args.earlier.now) (file_at v) ≡ false) DuplicateArtifact in
     let f = c.in_err-artifact.field-0.0 in
-    handed_on NoMemory (artifact_lines v ++ own) (IsArtifact v) _ f c.from_residual.ensures.1 (fault_before NoMemory (artifact_lines v) own f c.in_err-artifact.ensures)
+    handed_on NoMemory (artifact_lines v ++ own) (IsArtifact v) _ f c.from_residual.ensures.1 (fault_before NoMemory (artifact_lines v) own f
+    c.in_err-artifact.ensures)

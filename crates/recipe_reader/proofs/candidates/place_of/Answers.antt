@@ -21,7 +21,8 @@ returns-in-Ok-clause-place c =
     let within : at < length cs = rw c.in-Ok.is at c.binary_search_by-place.ensures.bound in
     let v : IsVersion c.index-candidates-at.result.recipe.version = search (rules, c.text.ensures.rule) in
     let w : IsVersion one.recipe.version = search (rules, c.text-in-Ok.ensures.rule) in
-    let found : HoldsAt (λ (d : Candidate). order d ≡ Equal) cs at = rw c.in-Ok.is at (c.binary_search_by-place.ensures.position order (always_returns_same _ _ _ (λ a r f called. (search rules, search rules)))) in
+    let found : HoldsAt (λ (d : Candidate). order d ≡ Equal) cs at = rw c.in-Ok.is at (c.binary_search_by-place.ensures.position order (always_returns_same _
+    _ _ (λ a r f called. (search rules, search rules)))) in
     λ d.
     let e = equal_parts _ _ (found d) in
     let here : c.index-candidates-at.result ≡ get_or cs at d = c.index-candidates-at.is ∙ get_or_default cs at c.index-candidates-at.result d within in
@@ -35,8 +36,12 @@ returns-in-Err-clause-place c =
     let cs = c.args.candidates.now in
     let one = c.args.candidate.now in
     let order : Candidate → Ordering = λ d. member_order (member d) (member one) in
-    let found = rw c.in-Err.is at (c.binary_search_by-place.ensures.position order (always_returns_same _ _ _ (λ a r f called. (search rules, search rules)))) in
-    let parted : IsPartitionPoint (λ (d : Candidate). order d ≡ Less) (λ (d : Candidate). order d ≡ Greater) cs c.in-Err.at = found (searchable cs one c.requires) in (
+    let found = rw c.in-Err.is at (c.binary_search_by-place.ensures.position order (always_returns_same _ _ _ (λ a r f called. (
+      search rules,
+      search rules,
+    )))) in
+    let parted : IsPartitionPoint (λ (d : Candidate). order d ≡ Less) (λ (d : Candidate). order d ≡ Greater) cs c.in-Err.at =
+    found (searchable cs one c.requires) in (
       λ k d low high. less_is_before (member (get_or cs k d)) (member one) (parted.0 k d low high),
       λ k d low high. greater_is_after (member (get_or cs k d)) (member one) (parted.1 k d low high),
     )

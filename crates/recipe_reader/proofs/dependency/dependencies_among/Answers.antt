@@ -14,18 +14,22 @@ loop-name-preserved c =
     let xs : List Field = c.deref-name-items.result.now in
     let i = c.loop-name.name-index in
     let below : i < length xs = omega arith in
-    among_more field_view dependency_lines IsDependency xs i c.loop-name-item.result c.loop-name.dependencies.items _ c.in_ok-dependency.dependency below c.loop-name-item.is c.loop-name.invariant c.in_ok-dependency.ensures c.in_ok-push.ensures.items
+    among_more field_view dependency_lines IsDependency xs i c.loop-name-item.result c.loop-name.dependencies.items _ c.in_ok-dependency.dependency below
+    c.loop-name-item.is c.loop-name.invariant c.in_ok-dependency.ensures c.in_ok-push.ensures.items
 
 pub returns-in_err-dependency : goal.returns-in_err-dependency
 returns-in_err-dependency c =
     let xs : List Field = c.deref-name-items.result.now in
     let i = c.loop-name.name-index in
     let below : i < length xs = omega arith in
-    among_fault field_view dependency_lines IsDependency NoMemory xs c.args.fields.now.items i c.loop-name-item.result c.loop-name.dependencies.items c.in_err-dependency.field-0.0 _ c.deref-name-items.ensures.value below c.loop-name-item.is c.loop-name.invariant c.in_err-dependency.ensures c.from_residual-in_err-dependency.ensures.1
+    among_fault field_view dependency_lines IsDependency NoMemory xs c.args.fields.now.items i c.loop-name-item.result c.loop-name.dependencies.items
+    c.in_err-dependency.field-0.0 _ c.deref-name-items.ensures.value below c.loop-name-item.is c.loop-name.invariant c.in_err-dependency.ensures
+    c.from_residual-in_err-dependency.ensures.1
 
 pub returns : goal.returns
 returns c =
     let xs : List Field = c.deref-name-items.result.now in
     let i = c.loop-name.name-index in
     let past : length xs ≤ i = omega arith in
-    among_end field_view dependency_lines IsDependency xs c.args.fields.now.items i c.loop-name.dependencies.items _ c.deref-name-items.ensures.value past c.loop-name.invariant c.new.ensures
+    among_end field_view dependency_lines IsDependency xs c.args.fields.now.items i c.loop-name.dependencies.items _ c.deref-name-items.ensures.value past
+    c.loop-name.invariant c.new.ensures

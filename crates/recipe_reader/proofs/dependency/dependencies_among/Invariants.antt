@@ -6,4 +6,5 @@ use Rattle.recipe_reader.specs.Dependencies.{IsDependency}
 use Rattle.recipe_reader.proofs.dependency.dependencies_among.Given as goal
 
 abbrev pub invariant-loop-name : goal.invariant-loop-name
-invariant-loop-name l = Passes dependency_lines IsDependency (map field_view l.name-items) (map field_view (drop l.name-index l.name-items)) l.dependencies.items
+invariant-loop-name l = Passes dependency_lines IsDependency (map field_view l.name-items) (map field_view (drop l.name-index l.name-items))
+    l.dependencies.items

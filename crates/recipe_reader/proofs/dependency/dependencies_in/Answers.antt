@@ -25,7 +25,8 @@ returns c =
     let long : length (members v) ≡ length c.in-Fields.fields.items = ap length all ∙ length-map c.in-Fields.fields.items field_view in
     let short : length (members v) ≤ 64 = omega arith in
     let whole : Answers NoMemory (each dependency_lines (members v)) (AllZip IsDependency (members v)) c.dependencies_among.result =
-    subst (λ (ms : List (List ℕ × Data)). Answers NoMemory (each dependency_lines ms) (AllZip IsDependency ms) c.dependencies_among.result) (sym all) c.dependencies_among.ensures in
+    subst (λ (ms : List (List ℕ × Data)). Answers NoMemory (each dependency_lines ms) (AllZip IsDependency ms) c.dependencies_among.result)
+    (sym all) c.dependencies_among.ensures in
     answers_after NoMemory (check (IsObject v) (WrongKind ComponentDependencies) ++ check (length (members v) ≤ 64) (TooMany ComponentDependencies))
     (each dependency_lines (members v))
     (AllZip IsDependency (members v))

@@ -6,7 +6,8 @@ use Rattle.recipe_reader.proofs.Joining.{merged, merged_joins, end_own, end_othe
 use Rattle.recipe_reader.proofs.environment.join.Goals.{then-names-test+else-other-outer, else-names-test}
 use Rattle.recipe_reader.proofs.environment.join.Goals as goal
 
-joins : (both all xs ys : List Variable) (result : Result (List Variable) NoMemory) → both ≡ all → IsJoined xs ys both → IfOk result (λ v. v ≡ all) → IfOk result (IsJoined xs ys)
+joins : (both all xs ys : List Variable) (result : Result (List Variable) NoMemory) → both ≡ all → IsJoined xs ys both → IfOk result (λ v. v ≡ all) →
+    IfOk result (IsJoined xs ys)
 joins both all xs ys (Ok v) e h is = subst (IsJoined xs ys) (e ∙ sym is) h
 joins both all xs ys (Err f) e h is = tt
 
@@ -25,5 +26,7 @@ returns c =
       | else-names-test w ↦ end_own xs ys i j done (omega arith) c.names.invariant.done
     ] in
     let all : merged xs ys ≡ (done ++ take (length xs - i) (drop i xs)) ++ take (length ys - j) (drop j ys) =
-    end ∙ sym (ap (λ (zs : List Variable). (done ++ zs) ++ take (length ys - j) (drop j ys)) (whole xs i) ∙ ap (λ (zs : List Variable). (done ++ drop i xs) ++ zs) (whole ys j)) in
-    joins (merged xs ys) ((done ++ take (length xs - i) (drop i xs)) ++ take (length ys - j) (drop j ys)) xs ys c.joined_with.result all (merged_joins xs ys c.requires.own_rises c.requires.outer_rises) c.joined_with.ensures
+    end ∙ sym (ap (λ (zs : List Variable). (done ++ zs) ++ take (length ys - j) (drop j ys)) (whole xs i)
+    ∙ ap (λ (zs : List Variable). (done ++ drop i xs) ++ zs) (whole ys j)) in
+    joins (merged xs ys) ((done ++ take (length xs - i) (drop i xs)) ++ take (length ys - j) (drop j ys)) xs ys c.joined_with.result all
+    (merged_joins xs ys c.requires.own_rises c.requires.outer_rises) c.joined_with.ensures

@@ -22,8 +22,12 @@ returns c =
     let pairs : members v ≡ pairs_of (fields_view fs.items) = ap members (ap view c.in-Fields.is ∙ seen fs) in
     let regular : AreRegular (fields_view fs.items) = fields_regular _ fs c.in-Fields.is c.requires in
     let whole : Answers NoMemory (each variable_lines (members v)) (AllZip IsVariable (members v)) c.variables_among.result =
-    subst (λ (ms : List (List ℕ × Data)). Answers NoMemory (each variable_lines ms) (AllZip IsVariable ms) c.variables_among.result) (sym all) c.variables_among.ensures in
-    let rising = λ (xs : List Variable) (h : AllZip IsVariable (members v) xs). variables_rise (fields_view fs.items) xs regular.orderly (subst (λ (ms : List (List ℕ × Data)). AllZip IsVariable ms xs) pairs h) in
-    answers_after NoMemory (check (IsObject v) (WrongKind Setenv)) (each variable_lines (members v)) (λ (xs : List Variable). AllZip IsVariable (members v) xs × Rises xs) c.variables_among.result
+    subst (λ (ms : List (List ℕ × Data)). Answers NoMemory (each variable_lines ms) (AllZip IsVariable ms) c.variables_among.result)
+    (sym all) c.variables_among.ensures in
+    let rising = λ (xs : List Variable) (h : AllZip IsVariable (members v) xs). variables_rise (fields_view fs.items) xs regular.orderly
+    (subst (λ (ms : List (List ℕ × Data)). AllZip IsVariable ms xs) pairs h) in
+    answers_after NoMemory (check (IsObject v) (WrongKind Setenv)) (each variable_lines (members v)) (λ (xs : List Variable). AllZip IsVariable (members v)
+    xs × Rises xs) c.variables_among.result
     (is_object _ fs c.in-Fields.is, tt)
-    (answers_also NoMemory (each variable_lines (members v)) (AllZip IsVariable (members v)) (λ (xs : List Variable). AllZip IsVariable (members v) xs × Rises xs) c.variables_among.result (λ xs h. (h, rising xs h)) whole)
+    (answers_also NoMemory (each variable_lines (members v)) (AllZip IsVariable (members v)) (λ (xs : List Variable). AllZip IsVariable (members v) xs ×
+    Rises xs) c.variables_among.result (λ xs h. (h, rising xs h)) whole)

@@ -15,4 +15,5 @@ returns c =
     let k = map to_ascii_lowercase c.args.key.now in
     let l = map to_ascii_lowercase c.args.other.now in
     let d = bytes_decides k l in
-    same_bool _ (is_same c.args.key.now c.args.other.now) (λ h. d.1 (c.eq_ignore_ascii_case.ensures.test.0 h)) (λ h. c.eq_ignore_ascii_case.ensures.test.1 (d.0 h))
+    same_bool _ (is_same c.args.key.now c.args.other.now) (λ h. d.1 (c.eq_ignore_ascii_case.ensures.test.0 h)) (λ h. c.eq_ignore_ascii_case.ensures.test.1
+    (d.0 h))

@@ -13,7 +13,8 @@ pub returns-clause-boot_back : goal.returns-clause-boot_back
 returns-clause-boot_back c = λ bytes platform r h. reads_back bytes platform r h
 
 pub returns-clause-one_fault : goal.returns-clause-one_fault
-returns-clause-one_fault c = λ bytes platform f g h k. fault_one c.tree_laws.ensures.one_tree c.tree_laws.ensures.no_fault c.tree_laws.ensures.one_fault bytes platform f g h k
+returns-clause-one_fault c = λ bytes platform f g h k. fault_one c.tree_laws.ensures.one_tree c.tree_laws.ensures.no_fault c.tree_laws.ensures.one_fault
+    bytes platform f g h k
 
 pub returns-clause-sound : goal.returns-clause-sound
 returns-clause-sound c = λ bytes platform r h. recipe_sound platform h.0 r (c.tree_laws.ensures.regular bytes limit h.0 h.1) h.2 h.3

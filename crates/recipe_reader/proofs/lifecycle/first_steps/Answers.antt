@@ -26,7 +26,8 @@ returns-in_err-startup c =
     let v = view c.args.lifecycle.now in
     let f = c.in_err-startup.field-0.0 in
     handed_on NoMemory (first_steps v) (AreFirst c.args.outer.now v) _ f c.from_residual-in_err-startup.ensures.1
-    (fault_3_of_3 NoMemory (one_step Install v) (one_step Run v) (one_step Startup v) f c.in_ok-install.ensures.0 c.in_ok-run.ensures.0 c.in_err-startup.ensures)
+    (fault_3_of_3 NoMemory (one_step Install v) (one_step Run v) (one_step Startup v) f c.in_ok-install.ensures.0 c.in_ok-run.ensures.0
+    c.in_err-startup.ensures)
 
 pub returns : goal.returns
 returns c =

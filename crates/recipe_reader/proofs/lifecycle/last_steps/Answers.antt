@@ -26,7 +26,8 @@ returns-in_err-bootstrap c =
     let v = view c.args.lifecycle.now in
     let f = c.in_err-bootstrap.field-0.0 in
     handed_on NoMemory (last_steps v) (AreLast c.args.outer.now v) _ f c.from_residual-in_err-bootstrap.ensures.1
-    (fault_3_of_3 NoMemory (one_step Shutdown v) (one_step Recover v) (one_step Bootstrap v) f c.in_ok-shutdown.ensures.0 c.in_ok-recover.ensures.0 c.in_err-bootstrap.ensures)
+    (fault_3_of_3 NoMemory (one_step Shutdown v) (one_step Recover v) (one_step Bootstrap v) f c.in_ok-shutdown.ensures.0 c.in_ok-recover.ensures.0
+    c.in_err-bootstrap.ensures)
 
 pub returns : goal.returns
 returns c =

@@ -21,31 +21,37 @@ returns-in_err-outer c =
     let v = view c.args.lifecycle.now in
     let f = c.in_err-outer.field-0.0 in
     handed_on NoMemory (lifecycle_lines v) (λ (steps : Steps). AreSteps (Some v) (made_step steps)) _ f c.from_residual-in_err-outer.ensures.1
-    (fault_2_of_5 NoMemory (keys_lines v) (on (keyed (spelled Setenv) v) environment_lines) (first_steps v) (last_steps v) (check (¬ HasBoth v) RunAndStartup) f c.in_ok-check_keys.ensures.0 c.in_err-outer.ensures)
+    (fault_2_of_5 NoMemory (keys_lines v) (on (keyed (spelled Setenv) v) environment_lines) (first_steps v) (last_steps v)
+    (check (¬ HasBoth v) RunAndStartup) f c.in_ok-check_keys.ensures.0 c.in_err-outer.ensures)
 
 pub returns-in_err-first : goal.returns-in_err-first
 returns-in_err-first c =
     let v = view c.args.lifecycle.now in
     let f = c.in_err-first.field-0.0 in
     handed_on NoMemory (lifecycle_lines v) (λ (steps : Steps). AreSteps (Some v) (made_step steps)) _ f c.from_residual-in_err-first.ensures.1
-    (fault_3_of_5 NoMemory (keys_lines v) (on (keyed (spelled Setenv) v) environment_lines) (first_steps v) (last_steps v) (check (¬ HasBoth v) RunAndStartup) f c.in_ok-check_keys.ensures.0 c.in_ok-outer.ensures.0 c.in_err-first.ensures)
+    (fault_3_of_5 NoMemory (keys_lines v) (on (keyed (spelled Setenv) v) environment_lines) (first_steps v) (last_steps v)
+    (check (¬ HasBoth v) RunAndStartup) f c.in_ok-check_keys.ensures.0 c.in_ok-outer.ensures.0 c.in_err-first.ensures)
 
 pub returns-in_err-last : goal.returns-in_err-last
 returns-in_err-last c =
     let v = view c.args.lifecycle.now in
     let f = c.in_err-last.field-0.0 in
     handed_on NoMemory (lifecycle_lines v) (λ (steps : Steps). AreSteps (Some v) (made_step steps)) _ f c.from_residual-in_err-last.ensures.1
-    (fault_4_of_5 NoMemory (keys_lines v) (on (keyed (spelled Setenv) v) environment_lines) (first_steps v) (last_steps v) (check (¬ HasBoth v) RunAndStartup) f c.in_ok-check_keys.ensures.0 c.in_ok-outer.ensures.0 c.in_ok-first.ensures.0 c.in_err-last.ensures)
+    (fault_4_of_5 NoMemory (keys_lines v) (on (keyed (spelled Setenv) v) environment_lines) (first_steps v) (last_steps v)
+    (check (¬ HasBoth v) RunAndStartup) f c.in_ok-check_keys.ensures.0 c.in_ok-outer.ensures.0 c.in_ok-first.ensures.0 c.in_err-last.ensures)
 
 pub returns-then-has_both : goal.returns-then-has_both
 returns-then-has_both c =
     let v = view c.args.lifecycle.now in
-    fault_5_of_5 NoMemory (keys_lines v) (on (keyed (spelled Setenv) v) environment_lines) (first_steps v) (last_steps v) (check (¬ HasBoth v) RunAndStartup) RunAndStartup c.in_ok-check_keys.ensures.0 c.in_ok-outer.ensures.0 c.in_ok-first.ensures.0 c.in_ok-last.ensures.0 (inr (inl ((λ (other : ¬ HasBoth v). other (c.has_both.ensures.0 c.if-has_both.true)), refl)))
+    fault_5_of_5 NoMemory (keys_lines v) (on (keyed (spelled Setenv) v) environment_lines) (first_steps v) (last_steps v) (check (¬ HasBoth v) RunAndStartup)
+    RunAndStartup c.in_ok-check_keys.ensures.0 c.in_ok-outer.ensures.0 c.in_ok-first.ensures.0 c.in_ok-last.ensures.0
+    (inr (inl ((λ (other : ¬ HasBoth v). other (c.has_both.ensures.0 c.if-has_both.true)), refl)))
 
 pub returns : goal.returns
 returns c =
     let v = view c.args.lifecycle.now in
     let other : ¬ HasBoth v = λ h. let fired : c.has_both.result ≡ true = c.has_both.ensures.1 h in cc in (
-      all_5 (keys_lines v) (on (keyed (spelled Setenv) v) environment_lines) (first_steps v) (last_steps v) (check (¬ HasBoth v) RunAndStartup) c.in_ok-check_keys.ensures.0 c.in_ok-outer.ensures.0 c.in_ok-first.ensures.0 c.in_ok-last.ensures.0 (other, tt),
+      all_5 (keys_lines v) (on (keyed (spelled Setenv) v) environment_lines) (first_steps v) (last_steps v) (check (¬ HasBoth v) RunAndStartup)
+          c.in_ok-check_keys.ensures.0 c.in_ok-outer.ensures.0 c.in_ok-first.ensures.0 c.in_ok-last.ensures.0 (other, tt),
       steps_are _ _ _ v _ _ c.as_slice.ensures c.as_slice-2.ensures c.in_ok-outer.ensures.1.0 c.in_ok-first.ensures.1 c.in_ok-last.ensures.1,
     )

@@ -24,9 +24,13 @@ returns-in_err-artifacts c =
     let v = view c.args.manifest.now in
     let f = c.in_err-artifacts.field-0.0 in
     handed_on NoMemory (chosen_lines v) (IsChosen (Some v)) _ f c.from_residual-in_err-artifacts.ensures.1
-    (fault_2_of_2 NoMemory (optional (spelled Lifecycle) v lifecycle_lines) (optional (spelled Artifacts) v artifacts_lines) f c.in_ok-steps.ensures.0 c.in_err-artifacts.ensures)
+    (fault_2_of_2 NoMemory (optional (spelled Lifecycle) v lifecycle_lines) (optional (spelled Artifacts) v artifacts_lines) f c.in_ok-steps.ensures.0
+    c.in_err-artifacts.ensures)
 
 pub returns : goal.returns
 returns c =
-    let v = view c.args.manifest.now in
-    (all_2 (optional (spelled Lifecycle) v lifecycle_lines) (optional (spelled Artifacts) v artifacts_lines) c.in_ok-steps.ensures.0 c.in_ok-artifacts.ensures.0, record { steps = c.in_ok-steps.ensures.1; boot_back = c.back_of.ensures; artifacts = c.in_ok-artifacts.ensures.1 })
+    let v = view c.args.manifest.now in (
+      all_2 (optional (spelled Lifecycle) v lifecycle_lines) (optional (spelled Artifacts) v artifacts_lines) c.in_ok-steps.ensures.0
+          c.in_ok-artifacts.ensures.0,
+      record { steps = c.in_ok-steps.ensures.1; boot_back = c.back_of.ensures; artifacts = c.in_ok-artifacts.ensures.1 },
+    )

@@ -18,7 +18,8 @@ returns-in-Some c =
     let p = c.args.platform.now in
     let h = rw c.in-Some.is at c.in_ok-manifest.ensures in
     let is : Some (view c.in-Some.manifest.now) ≡ manifest_of p v = h.1.0 in
-    answers_after NoMemory (optional (spelled Manifests) v (manifests_lines p)) (on (manifest_of p v) chosen_lines) (IsChosen (manifest_of p v)) c.chosen_in.result h.0
+    answers_after NoMemory (optional (spelled Manifests) v (manifests_lines p)) (on (manifest_of p v) chosen_lines) (IsChosen (manifest_of p v))
+    c.chosen_in.result h.0
     (subst (λ (m : Option Data). Answers NoMemory (on m chosen_lines) (IsChosen m) c.chosen_in.result) is c.chosen_in.ensures)
 
 pub returns-in-None : goal.returns-in-None
@@ -27,7 +28,8 @@ returns-in-None c =
     let p = c.args.platform.now in
     let h = rw c.in-None.is at c.in_ok-manifest.ensures in
     let is : None ≡ manifest_of p v = h.1.0 in (
-      all_both (optional (spelled Manifests) v (manifests_lines p)) (on (manifest_of p v) chosen_lines) h.0 (subst (λ (m : Option Data). AllHold (on m chosen_lines)) is tt),
+      all_both (optional (spelled Manifests) v (manifests_lines p)) (on (manifest_of p v) chosen_lines) h.0 (subst (λ (m : Option Data). AllHold
+          (on m chosen_lines)) is tt),
       subst (λ (m : Option Data). IsChosen m c.nothing_chosen.result) is c.nothing_chosen.ensures,
     )
 
@@ -35,4 +37,5 @@ pub returns-in_err-manifest : goal.returns-in_err-manifest
 returns-in_err-manifest c =
     let v = view c.args.recipe.now in
     let p = c.args.platform.now in
-    handed_on NoMemory _ _ _ c.in_err-manifest.field-0.0 c.from_residual.ensures.1 (fault_before NoMemory (optional (spelled Manifests) v (manifests_lines p)) (on (manifest_of p v) chosen_lines) c.in_err-manifest.field-0.0 c.in_err-manifest.ensures)
+    handed_on NoMemory _ _ _ c.in_err-manifest.field-0.0 c.from_residual.ensures.1 (fault_before NoMemory (optional (spelled Manifests) v
+    (manifests_lines p)) (on (manifest_of p v) chosen_lines) c.in_err-manifest.field-0.0 c.in_err-manifest.ensures)

@@ -7,14 +7,16 @@ pub returns-then-not-is_word : goal.returns-then-not-is_word
 returns-then-not-is_word c =
     let here : c.is_word.result ≡ is_word c.in-Some.word.now = c.is_word.ensures ∙ ap is_word c.as_bytes.ensures.value in
     let other : is_word c.in-Some.word.now ≡ false = cc in
-    all_stop is_word c.args.text.now c.words.rest.now c.in-Some.word.now c.in-Some.after.now c.words.invariant.words (c.in-Some.ensures.byte (lit< tt) (λ w o h. h)) other
+    all_stop is_word c.args.text.now c.words.rest.now c.in-Some.word.now c.in-Some.after.now c.words.invariant.words (c.in-Some.ensures.byte (lit< tt)
+    (λ w o h. h)) other
 
 pub words-preserved : goal.words-preserved
 words-preserved c =
     let here : c.is_word.result ≡ is_word c.in-Some.word.now = c.is_word.ensures ∙ ap is_word c.as_bytes.ensures.value in
     let same : is_word c.in-Some.word.now ≡ true = cc in
     record {
-      words = all_next is_word c.args.text.now c.words.rest.now c.in-Some.word.now c.in-Some.after.now c.words.invariant.words (c.in-Some.ensures.byte (lit< tt) (λ w o h. h)) same;
+      words = all_next is_word c.args.text.now c.words.rest.now c.in-Some.word.now c.in-Some.after.now c.words.invariant.words (c.in-Some.ensures.byte
+          (lit< tt) (λ w o h. h)) same;
       utf8 = search rules;
     }
 

@@ -19,4 +19,5 @@ returns-else-is_empty c =
     cc))
 
 pub returns-in_err-manifest : goal.returns-in_err-manifest
-returns-in_err-manifest c = handed_on NoMemory _ _ _ c.in_err-manifest.field-0.0 c.from_residual.ensures.1 (choice_fault c.args.platform.now (map view c.args.manifests.now.items) c.in_err-manifest.field-0.0 c.in_err-manifest.ensures)
+returns-in_err-manifest c = handed_on NoMemory _ _ _ c.in_err-manifest.field-0.0 c.from_residual.ensures.1 (choice_fault c.args.platform.now
+    (map view c.args.manifests.now.items) c.in_err-manifest.field-0.0 c.in_err-manifest.ensures)

@@ -25,8 +25,10 @@ returns c =
     let all : values v ≡ map view c.in-Items.items.items = values_are _ c.in-Items.items c.in-Items.is in
     let long : length (values v) ≡ length c.in-Items.items.items = ap length all ∙ length-map c.in-Items.items.items view in
     let short : length (values v) ≤ 64 = omega arith in
-    let whole : Answers NoMemory (walk_lines p (values v) ++ check (HasChoice p (values v)) NoManifest) (Finds (λ t. view t.now) (chosen p (values v))) c.choice_among.result =
-    subst (λ (ms : List Data). Answers NoMemory (walk_lines p ms ++ check (HasChoice p ms) NoManifest) (Finds (λ t. view t.now) (chosen p ms)) c.choice_among.result) (sym all) c.choice_among.ensures in
+    let whole : Answers NoMemory (walk_lines p (values v) ++ check (HasChoice p (values v)) NoManifest) (Finds (λ t. view t.now) (chosen p (values v)))
+    c.choice_among.result =
+    subst (λ (ms : List Data). Answers NoMemory (walk_lines p ms ++ check (HasChoice p ms) NoManifest) (Finds (λ t. view t.now) (chosen p ms))
+    c.choice_among.result) (sym all) c.choice_among.ensures in
     answers_after NoMemory (check (IsList v) (WrongKind Manifests) ++ check (length (values v) ≤ 64) (TooMany Manifests))
     (walk_lines p (values v) ++ check (HasChoice p (values v)) NoManifest)
     (Finds (λ t. view t.now) (chosen p (values v)))

@@ -21,8 +21,10 @@ returns-in_err-manifest_fits c =
     let w : Walks p (map view xs) (view x ∷ map view (drop (i + 1) xs)) = subst (Walks p (map view xs)) next c.loop-manifest.invariant in
     let f = c.in_err-manifest_fits.field-0.0 in
     let all : map view xs ≡ map view c.args.manifests.now.items = ap (map view) c.deref-manifest-items.ensures.value in
-    handed_on NoMemory (walk_lines p (map view c.args.manifests.now.items)) (Finds (λ t. view t.now) (chosen p (map view c.args.manifests.now.items))) _ f c.from_residual.ensures.1
-    (subst (λ ms. Faults NoMemory (walk_lines p ms) f) all (walks_fault p (map view xs) (view x) (map view (drop (i + 1) xs)) w f c.in_err-manifest_fits.ensures))
+    handed_on NoMemory (walk_lines p (map view c.args.manifests.now.items)) (Finds (λ t. view t.now) (chosen p (map view c.args.manifests.now.items))) _ f
+    c.from_residual.ensures.1
+    (subst (λ ms. Faults NoMemory (walk_lines p ms) f) all (walks_fault p (map view xs) (view x) (map view (drop (i + 1) xs)) w f
+    c.in_err-manifest_fits.ensures))
 
 pub returns-then-branch : goal.returns-then-branch
 returns-then-branch c =
@@ -36,8 +38,14 @@ returns-then-branch c =
     let all : map view xs ≡ map view c.args.manifests.now.items = ap (map view) c.deref-manifest-items.ensures.value in
     let same : matches p (view x) ≡ true = sym c.in_ok-manifest_fits.ensures.1 ∙ c.if-branch.true in
     let found = walks_found p (map view xs) (view x) (map view (drop (i + 1) xs)) w c.in_ok-manifest_fits.ensures.0 same in
-    let regular : ItemsAreRegular (items_view xs) = subst (λ (ts : List Tree). ItemsAreRegular (items_view ts)) (sym c.deref-manifest-items.ensures.value) (items_regular _ c.requires) in
-    (subst (λ ms. AllHold (walk_lines p ms)) all found.0, (subst (λ ms. Some (view x) ≡ chosen p ms) all found.1, item_regular xs i x regular below c.manifest-item.is))
+    let regular : ItemsAreRegular (items_view xs) = subst (λ (ts : List Tree). ItemsAreRegular (items_view ts)) (sym c.deref-manifest-items.ensures.value)
+    (items_regular _ c.requires) in (
+      subst (λ ms. AllHold (walk_lines p ms)) all found.0,
+      (
+        subst (λ ms. Some (view x) ≡ chosen p ms) all found.1,
+        item_regular xs i x regular below c.manifest-item.is,
+      ),
+    )
 
 pub loop-manifest-preserved : goal.loop-manifest-preserved
 loop-manifest-preserved c =

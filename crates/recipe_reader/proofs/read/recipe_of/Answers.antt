@@ -18,7 +18,8 @@ returns-in_err-head c =
     let p = c.args.platform.now in
     let f = c.in_err-head.field-0.0 in
     handed_on NoMemory (recipe_lines p v) (IsRecipe p v) _ f c.from_residual.ensures.1
-    (fault_1_of_4 NoMemory (head_lines v) (optional (spelled ComponentConfiguration) v config_lines) (optional (spelled ComponentDependencies) v dependencies_lines) (part_lines p v) f c.in_err-head.ensures)
+    (fault_1_of_4 NoMemory (head_lines v) (optional (spelled ComponentConfiguration) v config_lines) (optional (spelled ComponentDependencies) v
+    dependencies_lines) (part_lines p v) f c.in_err-head.ensures)
 
 pub returns-in_err-default_config : goal.returns-in_err-default_config
 returns-in_err-default_config c =
@@ -26,7 +27,8 @@ returns-in_err-default_config c =
     let p = c.args.platform.now in
     let f = c.in_err-default_config.field-0.0 in
     handed_on NoMemory (recipe_lines p v) (IsRecipe p v) _ f c.from_residual-in_err-default_config.ensures.1
-    (fault_2_of_4 NoMemory (head_lines v) (optional (spelled ComponentConfiguration) v config_lines) (optional (spelled ComponentDependencies) v dependencies_lines) (part_lines p v) f c.in_ok-head.ensures.0 c.in_err-default_config.ensures)
+    (fault_2_of_4 NoMemory (head_lines v) (optional (spelled ComponentConfiguration) v config_lines) (optional (spelled ComponentDependencies) v
+    dependencies_lines) (part_lines p v) f c.in_ok-head.ensures.0 c.in_err-default_config.ensures)
 
 pub returns-in_err-dependencies : goal.returns-in_err-dependencies
 returns-in_err-dependencies c =
@@ -34,7 +36,8 @@ returns-in_err-dependencies c =
     let p = c.args.platform.now in
     let f = c.in_err-dependencies.field-0.0 in
     handed_on NoMemory (recipe_lines p v) (IsRecipe p v) _ f c.from_residual-in_err-dependencies.ensures.1
-    (fault_3_of_4 NoMemory (head_lines v) (optional (spelled ComponentConfiguration) v config_lines) (optional (spelled ComponentDependencies) v dependencies_lines) (part_lines p v) f c.in_ok-head.ensures.0 c.in_ok-default_config.ensures.0 c.in_err-dependencies.ensures)
+    (fault_3_of_4 NoMemory (head_lines v) (optional (spelled ComponentConfiguration) v config_lines) (optional (spelled ComponentDependencies) v
+    dependencies_lines) (part_lines p v) f c.in_ok-head.ensures.0 c.in_ok-default_config.ensures.0 c.in_err-dependencies.ensures)
 
 pub returns-in_err-chosen : goal.returns-in_err-chosen
 returns-in_err-chosen c =
@@ -42,7 +45,8 @@ returns-in_err-chosen c =
     let p = c.args.platform.now in
     let f = c.in_err-chosen.field-0.0 in
     handed_on NoMemory (recipe_lines p v) (IsRecipe p v) _ f c.from_residual-in_err-chosen.ensures.1
-    (fault_4_of_4 NoMemory (head_lines v) (optional (spelled ComponentConfiguration) v config_lines) (optional (spelled ComponentDependencies) v dependencies_lines) (part_lines p v) f c.in_ok-head.ensures.0 c.in_ok-default_config.ensures.0 c.in_ok-dependencies.ensures.0 c.in_err-chosen.ensures)
+    (fault_4_of_4 NoMemory (head_lines v) (optional (spelled ComponentConfiguration) v config_lines) (optional (spelled ComponentDependencies) v
+    dependencies_lines) (part_lines p v) f c.in_ok-head.ensures.0 c.in_ok-default_config.ensures.0 c.in_ok-dependencies.ensures.0 c.in_err-chosen.ensures)
 
 pub returns : goal.returns
 returns c =
@@ -66,7 +70,8 @@ returns c =
       boot_back = c.in_ok-chosen.chosen.boot_back;
       artifacts = c.in_ok-chosen.chosen.artifacts;
     } in (
-      all_4 (head_lines v) (optional (spelled ComponentConfiguration) v config_lines) (optional (spelled ComponentDependencies) v dependencies_lines) (part_lines p v) c.in_ok-head.ensures.0 c.in_ok-default_config.ensures.0 c.in_ok-dependencies.ensures.0 c.in_ok-chosen.ensures.0,
+      all_4 (head_lines v) (optional (spelled ComponentConfiguration) v config_lines) (optional (spelled ComponentDependencies) v dependencies_lines)
+          (part_lines p v) c.in_ok-head.ensures.0 c.in_ok-default_config.ensures.0 c.in_ok-dependencies.ensures.0 c.in_ok-chosen.ensures.0,
       subst (IsRecipe p v) (sym is) (record {
         name = h.name;
         version = h.version;

@@ -15,5 +15,6 @@ returns-in_err-limit_ms c =
     let v = view c.args.value.now in
     let f = c.in_err-limit_ms.field-0.0 in
     handed_on NoMemory (object_lines v) (IsStepDef c.args.step c.args.outer.now v) _ f c.from_residual-in_err-limit_ms.ensures.1
-    (fault_4_of_5 NoMemory (double_lines v) (script_lines v) (on (keyed (spelled Skipif) v) skip_lines) (on (keyed (spelled Timeout) v) timeout_lines) (on (keyed (spelled Setenv) v) environment_lines) f
+    (fault_4_of_5 NoMemory (double_lines v) (script_lines v) (on (keyed (spelled Skipif) v) skip_lines) (on (keyed (spelled Timeout) v) timeout_lines)
+    (on (keyed (spelled Setenv) v) environment_lines) f
     c.in_ok-no_doubles.ensures.0 c.in_ok-script.ensures.0 c.in_ok-skip.ensures.0 c.in_err-limit_ms.ensures)

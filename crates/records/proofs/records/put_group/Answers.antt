@@ -20,7 +20,8 @@ returns-then-group-eq0-clause-spelled c =
     let all : List ℕ = c.put.new.out.items in
     let rs = (list_of requirement).spell g.requirements in
     as_text c.put.result all before _ _ (plain_group_spelled g (eq-eqb _ 0 c.if-group-eq0.true))
-    (after c.put.result all first before (26 ∷ label.spell g.arn) rs c.in_ok-put_tagged.ensures.spelled (as_text c.put.result all first rs _ (as_seen g.requirements) c.put.ensures.spelled))
+    (after c.put.result all first before (26 ∷ label.spell g.arn) rs c.in_ok-put_tagged.ensures.spelled (as_text c.put.result all first rs _
+    (as_seen g.requirements) c.put.ensures.spelled))
 
 pub returns-clause-spelled : goal.returns-clause-spelled
 returns-clause-spelled c =
@@ -32,4 +33,5 @@ returns-clause-spelled c =
     let rs = (list_of requirement).spell g.requirements in
     as_text c.put-3.result all before _ _ (revised_group_spelled g (ne_eqb _ 0 c.if-group-eq0.false))
     (after c.put-3.result all first before (30 ∷ label.spell g.arn) (revision.spell g.revision ++ rs) c.in_ok-put_tagged-2.ensures.spelled
-    (after c.put-3.result all second first (revision.spell g.revision) rs c.in_ok-put.ensures.spelled (as_text c.put-3.result all second rs _ (as_seen g.requirements) c.put-3.ensures.spelled)))
+    (after c.put-3.result all second first (revision.spell g.revision) rs c.in_ok-put.ensures.spelled (as_text c.put-3.result all second rs _
+    (as_seen g.requirements) c.put-3.ensures.spelled)))

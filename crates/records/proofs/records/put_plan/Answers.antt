@@ -26,6 +26,8 @@ returns-clause-spelled c =
     let third : List ℕ = c.put-3.new.out.items in
     let all : List ℕ = c.put_wanted-2.new.out.items in
     as_text c.put_wanted-2.result all before _ _ (revised_plan_spelled p (ne_eqb _ 0 c.if-plan-eq0.false))
-    (after c.put_wanted-2.result all first before (29 ∷ label.spell p.id) (label.spell p.group ++ (revision.spell p.revision ++ wanted.spell (wanted_of p))) c.in_ok-put_tagged-2.ensures.spelled
+    (after c.put_wanted-2.result all first before (29 ∷ label.spell p.id) (label.spell p.group
+    ++ (revision.spell p.revision ++ wanted.spell (wanted_of p))) c.in_ok-put_tagged-2.ensures.spelled
     (after c.put_wanted-2.result all second first (label.spell p.group) (revision.spell p.revision ++ wanted.spell (wanted_of p)) c.in_ok-put-2.ensures.spelled
-    (after c.put_wanted-2.result all third second (revision.spell p.revision) (wanted.spell (wanted_of p)) c.in_ok-put-3.ensures.spelled c.put_wanted-2.ensures.spelled)))
+    (after c.put_wanted-2.result all third second (revision.spell p.revision) (wanted.spell (wanted_of p)) c.in_ok-put-3.ensures.spelled
+    c.put_wanted-2.ensures.spelled)))

@@ -7,4 +7,5 @@ use Rattle.records.proofs.records.put_record.Goals as goal
 
 pub returns-in-Turned-clause-spelled : goal.returns-in-Turned-clause-spelled
 returns-in-Turned-clause-spelled c =
-    as_text c.put_turned.result c.put_turned.new.out.items c.args.out.now.items _ _ (ap (λ (e : Record). record_spelled (record_view e)) c.in-Turned.is) c.put_turned.ensures.spelled
+    as_text c.put_turned.result c.put_turned.new.out.items c.args.out.now.items _ _ (ap (λ (e : Record). record_spelled (record_view e)) c.in-Turned.is)
+    c.put_turned.ensures.spelled

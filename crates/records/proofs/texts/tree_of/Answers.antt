@@ -15,7 +15,14 @@ returns-then-eq c =
     let read = c.in-Ok.ensures.ok in
     let spelled = c.as_bytes.ensures ∙ c.in_ok-spelled.ensures.text in
     let same = (bytes_eq-Decides c.as_bytes.result.now t).0 (sym c.eq.ensures ∙ c.if-eq.true) in
-    tree_found t (view c.in-Ok.tree) (record { json = read.json; shallow = read.shallow; no_float = read.whole; utf8 = c.in-Ok.ensures.regular.utf8; text = sym spelled ∙ same })
+    tree_found t (view c.in-Ok.tree) (record {
+      json = read.json;
+      shallow = read.shallow;
+      no_float = read.whole;
+      utf8 = c.in-Ok.ensures.regular.utf8;
+      text =
+          sym spelled ∙ same;
+    })
 
 pub returns-else-eq : goal.returns-else-eq
 returns-else-eq c =

@@ -12,7 +12,8 @@ returns-clause-indexed c =
     let v = c.push-2.new.self in
     let rows_in : k < length rows = omega (arith, c.requires.indexed.rows_count, c.requires.number) in
     let here = c.index_mut.ensures.value ∙ get_or_default rows k c.index_mut.result.now v rows_in in
-    let free : c.index-choice.result.now ≡ get_or chosen k None = c.index-choice.ensures ∙ get_or_default chosen k c.index-choice.result.now None c.requires.number in
+    let free : c.index-choice.result.now ≡ get_or chosen k None = c.index-choice.ensures ∙ get_or_default chosen k c.index-choice.result.now None
+    c.requires.number in
     let more = c.in_ok-add_unchosen.ensures in
     indexed_ask (length chosen) c.args.self.now _ c.args.demand v c.requires.indexed c.requires.number
     c.in_ok-push.ensures.items refl

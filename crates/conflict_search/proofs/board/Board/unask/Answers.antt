@@ -19,7 +19,8 @@ returns-clause-indexed c =
     let rows_in : k < length rows = omega (arith, c.requires.indexed.rows_count, lt) in
     let here = c.index_mut.ensures.value ∙ get_or_default rows k old v rows_in in
     let popped : v.items ≡ take (length old.items - 1) old.items = c.pop-2.ensures.rest ∙ ap (λ n. take (n - 1) old.items) old.ok.0 in
-    let there = c.as_slice-row.ensures.value ∙ ap (λ (w : Vec Demand Global). w.items) (c.index.ensures ∙ get_or-set_same rows k v c.index.result.now rows_in) in
+    let there = c.as_slice-row.ensures.value ∙ ap (λ (w : Vec Demand Global). w.items) (c.index.ensures
+    ∙ get_or-set_same rows k v c.index.result.now rows_in) in
     indexed_unask count c.args.self.now _ a v c.requires.indexed
     c.in-Some.ensures.items refl
     (popped ∙ ap (λ (w : Vec Demand Global). take (length w.items - 1) w.items) here) refl
@@ -30,4 +31,5 @@ returns-clause-indexed c =
 
 pub returns-in_default-clause-indexed : goal.returns-in_default-clause-indexed
 returns-in_default-clause-indexed c =
-    indexed_same (length c.args.self.now.chosen.items) c.args.self.now _ c.requires.indexed (sym (c.in_default.ensures.items ∙ append-nil c.pop.new.self.items)) refl refl refl
+    indexed_same (length c.args.self.now.chosen.items) c.args.self.now _ c.requires.indexed (sym (c.in_default.ensures.items
+    ∙ append-nil c.pop.new.self.items)) refl refl refl

@@ -1,4 +1,5 @@
-use Rattle.std.proofs.Common.{◌≡◌, ◌+◌, ◌-◌, ◌*◌, ◌<◌, ◌≤◌, ◌++◌, ◌∷◌, [], ℕ, List, Result, Ok, Err, Option, None, Some, refl, sym, ap, ◌∙◌, subst, arith, Vec, Global}
+use Rattle.std.proofs.Common.{◌≡◌, ◌+◌, ◌-◌, ◌*◌, ◌<◌, ◌≤◌, ◌++◌, ◌∷◌, [], ℕ, List, Result, Ok, Err, Option, None, Some, refl, sym, ap, ◌∙◌, subst, arith}
+use Rattle.std.proofs.Common.{Vec, Global}
 use Rattle.std.specs.Prelude.{IfOk, MatchOption}
 use Rattle.std.specs.List.{Contains}
 use Rattle.std.proofs.lemmas.Bool.{iff_false}
@@ -32,7 +33,8 @@ go_on-returns-in-None-clause-found t c =
     let taken = c.args.state.now.board.places.items in
     if_ok c.cycle_among.result
     (λ (o : Option (Vec ℕ Global)) m. match_option o (λ good. best_here ms wanted taken good c.in-None.ensures)
-    (λ (v : Vec ℕ Global) conflict. let it : FailsWith c.args.self.now c.args.state.now c.args.state.now taken v.items = record { conflict = conflict; same = refl; stands = c.requires.stands } in it) m)
+    (λ (v : Vec ℕ Global) conflict. let it : FailsWith c.args.self.now c.args.state.now c.args.state.now taken v.items =
+    record { conflict = conflict; same = refl; stands = c.requires.stands } in it) m)
     c.cycle_among.ensures
 
 pub descend-go_on-requires : goal.descend-go_on-requires
@@ -105,7 +107,8 @@ decide-attempt-requires t c =
               record {
                 name = next.name;
                 is = next.is;
-                named = named_between c.args.self.now.candidates.now next.name c.first_place-first.result (c.loop-place.place - 1) c.args.number c.requires.rising (c.first_place-first.ensures.named ∙ ap Some name) b.named (omega arith) (omega arith);
+                named = named_between c.args.self.now.candidates.now next.name c.first_place-first.result (c.loop-place.place - 1) c.args.number
+                    c.requires.rising (c.first_place-first.ensures.named ∙ ap Some name) b.named (omega arith) (omega arith);
               },
             ),
           ),
@@ -128,12 +131,15 @@ decide-returns-in_default-clause-found t c =
     let b = next.is in
     let i = c.loop-place.place - 1 in
     let name = same_Some c.name_at.result.now next.name (sym c.name_at.ensures ∙ b.named) in
-    let named = named_between library.candidates.now next.name c.first_place-first.result i c.args.number c.requires.rising (c.first_place-first.ensures.named ∙ ap Some name) b.named (omega arith) (omega arith) in
+    let named = named_between library.candidates.now next.name c.first_place-first.result i c.args.number c.requires.rising
+    (c.first_place-first.ensures.named ∙ ap Some name) b.named (omega arith) (omega arith) in
     let all = c.attempt.new.state.board.places.items in
-    let ruled = subst (AreRuledOut ms wanted c.loop-place.gathered.items next.name) (one_less c.loop-place.place c.first_place-first.result c.loop-place-test.true) (inside.ruled next.name next.is) in
+    let ruled = subst (AreRuledOut ms wanted c.loop-place.gathered.items next.name) (one_less c.loop-place.place c.first_place-first.result
+    c.loop-place-test.true) (inside.ruled next.name next.is) in
     let tried = tried_from ms wanted taken c.loop-place.gathered.items next.name (i + 1) stands.prefix next.next inside.within ruled in
     let found = MatchOption-at_none (IsBest ms wanted (c.loop-place.state.board.places.items ++ i ∷ []) all)
-    (λ (v : Vec ℕ Global). FailsWith library c.loop-place.state c.attempt.new.state (c.loop-place.state.board.places.items ++ i ∷ []) v.items) c.in_default.is c.in_ok-conflict.ensures.found in
+    (λ (v : Vec ℕ Global). FailsWith library c.loop-place.state c.attempt.new.state (c.loop-place.state.board.places.items ++ i
+    ∷ []) v.items) c.in_default.is c.in_ok-conflict.ensures.found in
     best_found ms wanted taken all next.name i c.requires.rising next.next named tried
     (subst (λ l. IsBest ms wanted (l ++ i ∷ []) all) inside.same found)
 
@@ -147,7 +153,8 @@ decide-returns-then-not-has-clause-found t c =
     let i = c.loop-place.place - 1 in
     let conflict = c.in-Some.conflict.items in
     let fails = MatchOption-at_some (IsBest ms wanted (c.loop-place.state.board.places.items ++ i ∷ []) c.attempt.new.state.board.places.items)
-    (λ (v : Vec ℕ Global). FailsWith library c.loop-place.state c.attempt.new.state (c.loop-place.state.board.places.items ++ i ∷ []) v.items) c.in-Some.conflict c.in-Some.is c.in_ok-conflict.ensures.found in
+    (λ (v : Vec ℕ Global). FailsWith library c.loop-place.state c.attempt.new.state (c.loop-place.state.board.places.items ++ i
+    ∷ []) v.items) c.in-Some.conflict c.in-Some.is c.in_ok-conflict.ensures.found in
     let free = subst (λ l. Contains l i → ⊥) c.deref.ensures.value (iff_false c.has.ensures c.if-not-has.true) in
     record {
       conflict = conflict_back ms wanted taken conflict i (subst (λ l. IsConflictWith ms wanted l i conflict) inside.same fails.conflict) free;
@@ -167,7 +174,8 @@ decide-loop-place-preserved t c =
     let old = c.loop-place.gathered.items in
     let new = c.add_others.new.gathered.items in
     let fails = MatchOption-at_some (IsBest ms wanted (c.loop-place.state.board.places.items ++ i ∷ []) c.attempt.new.state.board.places.items)
-    (λ (v : Vec ℕ Global). FailsWith library c.loop-place.state c.attempt.new.state (c.loop-place.state.board.places.items ++ i ∷ []) v.items) c.in-Some.conflict c.in-Some.is c.in_ok-conflict.ensures.found in
+    (λ (v : Vec ℕ Global). FailsWith library c.loop-place.state c.attempt.new.state (c.loop-place.state.board.places.items ++ i
+    ∷ []) v.items) c.in-Some.conflict c.in-Some.is c.in_ok-conflict.ensures.found in
     let stuck = subst (λ l. IsConflictWith ms wanted l i conflict) inside.same fails.conflict in
     let joins = subst (λ l. JoinsOthers i l old new) c.deref-in-loop-place.ensures.value c.in_ok-add_others.ensures in
     record {
@@ -195,7 +203,8 @@ decide-returns-clause-found t c =
     omega (arith, from, done)) in
     record {
       conflict = record {
-        nogood = nogood_joined ms wanted c.loop-place.gathered.items next.name c.loop-place.place (inside.required next.name next.is) least (inside.ruled next.name next.is);
+        nogood = nogood_joined ms wanted c.loop-place.gathered.items next.name c.loop-place.place (inside.required next.name next.is) least
+            (inside.ruled next.name next.is);
         within = inside.within;
       };
       same = inside.same;

@@ -15,8 +15,10 @@ returns-in-Some-2-clause-found c = λ s v.
     let ms = members_in library in
     let wanted = wanted_in library in
     let state = c.in-Some.state in
-    let start = MatchOption-at_some ((s : List ℕ) → IsValid ms wanted s → ⊥) (λ (state : State). Stands library state × (state.board.places.items ≡ [])) state c.in-Some.is c.in_ok-state.ensures in
-    let fails = MatchOption-at_some (IsBest ms wanted state.board.places.items c.go_on.new.state.board.places.items) (λ (v : Vec ℕ Global). FailsWith library state c.go_on.new.state state.board.places.items v.items)
+    let start = MatchOption-at_some ((s : List ℕ) → IsValid ms wanted s → ⊥) (λ (state : State). Stands library state ×
+    (state.board.places.items ≡ [])) state c.in-Some.is c.in_ok-state.ensures in
+    let fails = MatchOption-at_some (IsBest ms wanted state.board.places.items c.go_on.new.state.board.places.items) (λ (v : Vec ℕ Global). FailsWith library
+    state c.go_on.new.state state.board.places.items v.items)
     c.in-Some-2.field-0 c.in-Some-2.is c.in_ok-go_on.ensures.found in
     let conflict = subst (λ l. IsConflict ms wanted l c.in-Some-2.field-0.items) start.1 fails.conflict in
     no_valid ms wanted (conflict_none ms wanted [] c.in-Some-2.field-0.items (prefix_start ms wanted) conflict) s v

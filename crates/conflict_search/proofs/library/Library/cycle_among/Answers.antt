@@ -14,7 +14,8 @@ pub order-requires : goal.order-requires
 order-requires c =
     let edges : Edges = record { nodes = length c.args.self.now.candidates.now; needs = c.new.result } in
     let are = subst (AreEdgesOf c.args.board.now.asked.items c.args.board.now.chosen.items) (sym c.new.ensures) c.in_ok-needs.ensures in
-    edges_nodes (members_in c.args.self.now) (wanted_in c.args.self.now) c.args.board.now edges c.requires.board are (sym (length-map c.args.self.now.candidates.now member))
+    edges_nodes (members_in c.args.self.now) (wanted_in c.args.self.now) c.args.board.now edges c.requires.board are
+    (sym (length-map c.args.self.now.candidates.now member))
 
 pub returns-in-Ok : goal.returns-in-Ok
 returns-in-Ok c =

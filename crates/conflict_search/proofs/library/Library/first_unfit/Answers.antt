@@ -16,13 +16,15 @@ version_at-requires c =
     let board = c.requires.board in
     let is = board.chosen in
     let there = is.only c.in-Some.chosen c.demand-item.result.number (sym c.chosen_of.ensures ∙ c.in-Some.is) in
-    subst (λ n. c.in-Some.chosen < n) (length-map c.args.self.now.candidates.now member) (All-contains (λ p. p < length (members_in c.args.self.now)) c.args.board.now.places.items c.in-Some.chosen board.inside there.0)
+    subst (λ n. c.in-Some.chosen < n) (length-map c.args.self.now.candidates.now member) (All-contains (λ p. p < length (members_in c.args.self.now))
+    c.args.board.now.places.items c.in-Some.chosen board.inside there.0)
 
 pub loop-demand-preserved : goal.loop-demand-preserved
 loop-demand-preserved c = λ d q i e.
     let ms = members_in c.args.self.now in
     let chosen = c.args.board.now.chosen.items in
-    each_more (λ (d : Demand). (q : ℕ) → slice_index_or chosen d.number None ≡ Some q → IsMetIn ms d.range.now q) c.args.demands.now c.loop-demand.demand-index c.demand-item.result c.loop-demand-test.true
+    each_more (λ (d : Demand). (q : ℕ) → slice_index_or chosen d.number None ≡ Some q → IsMetIn ms d.range.now q) c.args.demands.now
+    c.loop-demand.demand-index c.demand-item.result c.loop-demand-test.true
     (λ d i q e. c.loop-demand.invariant d q i e)
     (subst (λ (d : Demand). (q : ℕ) → slice_index_or chosen d.number None ≡ Some q → IsMetIn ms d.range.now q) c.demand-item.is
     (elim c.match-chosen_of.branch [
@@ -35,5 +37,6 @@ loop-demand-preserved c = λ d q i e.
 
 pub returns : goal.returns
 returns c = λ d q i e.
-    each_all (λ (d : Demand). (q : ℕ) → slice_index_or c.args.board.now.chosen.items d.number None ≡ Some q → IsMetIn (members_in c.args.self.now) d.range.now q) c.args.demands.now c.loop-demand.demand-index c.loop-demand-test.false
+    each_all (λ (d : Demand). (q : ℕ) → slice_index_or c.args.board.now.chosen.items d.number None ≡ Some q →
+    IsMetIn (members_in c.args.self.now) d.range.now q) c.args.demands.now c.loop-demand.demand-index c.loop-demand-test.false
     (λ d i q e. c.loop-demand.invariant d q i e) d i q e

@@ -12,8 +12,10 @@ use Rattle.conflict_search.proofs.library.Library.go_back.Goals as goal
 pub unchoose-requires-clause-asked : goal.unchoose-requires-clause-asked
 unchoose-requires-clause-asked c =
     let last = c.requires.last in
-    let count : length c.needs_at.result.now ≡ length (needs_of (members_in c.args.self.now) c.args.place) = sym (length-map c.needs_at.result.now need) ∙ ap length c.needs_at.ensures in
-    asked_back (members_in c.args.self.now) (wanted_in c.args.self.now) c.args.board.now last.before c.args.place c.args.number (length c.needs_at.result.now) c.unask_last.new.self.asked.items
+    let count : length c.needs_at.result.now ≡ length (needs_of (members_in c.args.self.now) c.args.place) = sym (length-map c.needs_at.result.now need)
+    ∙ ap length c.needs_at.ensures in
+    asked_back (members_in c.args.self.now) (wanted_in c.args.self.now) c.args.board.now last.before c.args.place c.args.number
+    (length c.needs_at.result.now) c.unask_last.new.self.asked.items
     c.requires.board last.is last.next count c.unask_last.ensures.asked
 
 pub returns-clause-board : goal.returns-clause-board
@@ -25,7 +27,8 @@ returns-clause-board c =
     let last = c.requires.last in
     let board = c.requires.board in
     let index = board.indexed in
-    let same : new.places.items ≡ take (length old.places.items - 1) old.places.items = c.unchoose.ensures.places ∙ ap (λ l. take (length l - 1) l) c.unask_last.ensures.places in
+    let same : new.places.items ≡ take (length old.places.items - 1) old.places.items = c.unchoose.ensures.places
+    ∙ ap (λ l. take (length l - 1) l) c.unask_last.ensures.places in
     let back : new.places.items ≡ last.before = popped last.before old.places.items new.places.items c.args.place last.is same in
     let count : length c.needs_at.result.now ≡ length (needs_of ms c.args.place) = sym (length-map c.needs_at.result.now need) ∙ ap length c.needs_at.ensures in
     board_back ms wanted old new c.args.place c.args.number (length c.needs_at.result.now) board

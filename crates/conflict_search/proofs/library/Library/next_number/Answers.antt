@@ -18,4 +18,5 @@ first_waiting None cs wanted board up h none = all_taken (members cs) wanted boa
 first_waiting (Some k) cs wanted board up h first = next_found cs wanted board k up h first.0 first.1
 
 pub returns : goal.returns
-returns c = first_waiting c.first_waiting.result c.args.self.now.candidates.now (wanted_in c.args.self.now) c.args.board.now c.requires.rising c.requires.board c.first_waiting.ensures
+returns c = first_waiting c.first_waiting.result c.args.self.now.candidates.now (wanted_in c.args.self.now) c.args.board.now c.requires.rising
+    c.requires.board c.first_waiting.ensures

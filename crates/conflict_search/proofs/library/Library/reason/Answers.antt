@@ -14,7 +14,8 @@ if_ok (Err e) f h = h
 pub unreachable-requires : goal.unreachable-requires
 unreachable-requires c =
     let board = c.requires.board in
-    row_begins (members_in c.args.self.now) (wanted_in c.args.self.now) c.args.board.now.places.items c.args.board.now.asked.items c.args.number board.demands c.requires.next
+    row_begins (members_in c.args.self.now) (wanted_in c.args.self.now) c.args.board.now.places.items c.args.board.now.asked.items c.args.number
+    board.demands c.requires.next
     (ap (λ (l : List Demand). slice_get l 0) (sym c.row.ensures) ∙ sym c.first.ensures.value ∙ ap option_copied c.in_default.is)
 
 pub returns : goal.returns
@@ -24,5 +25,6 @@ returns c =
     let first : slice_get (row c.args.number c.args.board.now.asked.items) 0 ≡ Some d =
     ap (λ (l : List Demand). slice_get l 0) (sym c.row.ensures) ∙ sym c.first.ensures.value ∙ ap option_copied c.in-Some.is in
     if_ok c.alone.result
-    (λ (v : Vec ℕ Global) m n is. reason_first (members_in c.args.self.now) (wanted_in c.args.self.now) c.args.board.now.places.items c.args.board.now.asked.items d n c.args.number d.from v.items board.demands first is refl m)
+    (λ (v : Vec ℕ Global) m n is. reason_first (members_in c.args.self.now) (wanted_in c.args.self.now) c.args.board.now.places.items
+    c.args.board.now.asked.items d n c.args.number d.from v.items board.demands first is refl m)
     c.alone.ensures

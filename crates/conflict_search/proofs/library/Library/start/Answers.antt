@@ -23,7 +23,8 @@ pub returns-in_default : goal.returns-in_default
 returns-in_default c = λ s v.
     let ms = members_in c.args.self.now in
     let wanted = wanted_in c.args.self.now in
-    let r = MatchOption-at_none ((w : Need) × Contains wanted w × IsUnknown ms w.name) (λ (v : Vec Demand Global). AreDemands ms (claims_from None wanted) v.items) c.in_default.is c.in_ok-demands.ensures in
+    let r = MatchOption-at_none ((w : Need) × Contains wanted w × IsUnknown ms w.name) (λ (v : Vec Demand Global). AreDemands ms (claims_from None wanted)
+    v.items) c.in_default.is c.in_ok-demands.ensures in
     let m = All-contains (λ (w : Need). IsMet ms s w.name w.range) wanted r.0 v.wanted_met r.1 in
     let by = m.2 in
     r.2 m.0 by.named
@@ -32,7 +33,8 @@ pub ask_all-requires-clause-numbers : goal.ask_all-requires-clause-numbers
 ask_all-requires-clause-numbers c =
     let ms = members_in c.args.self.now in
     let wanted = wanted_in c.args.self.now in
-    let h = MatchOption-at_some ((w : Need) × Contains wanted w × IsUnknown ms w.name) (λ (v : Vec Demand Global). AreDemands ms (claims_from None wanted) v.items) c.in-Some.demands c.in-Some.is c.in_ok-demands.ensures in
+    let h = MatchOption-at_some ((w : Need) × Contains wanted w × IsUnknown ms w.name) (λ (v : Vec Demand Global). AreDemands ms (claims_from None wanted)
+    v.items) c.in-Some.demands c.in-Some.is c.in_ok-demands.ensures in
     let index = c.in_ok-board.ensures.indexed in
     let count : length ms ≡ length c.in_ok-board.board.chosen.items = length-map c.args.self.now.candidates.now member ∙ sym index.chosen_count in
     subst (All (λ (d : Demand). d.number < length c.in_ok-board.board.chosen.items)) (sym c.as_slice.ensures.value)
@@ -43,7 +45,8 @@ pub returns : goal.returns
 returns c =
     let ms = members_in c.args.self.now in
     let wanted = wanted_in c.args.self.now in
-    let h = MatchOption-at_some ((w : Need) × Contains wanted w × IsUnknown ms w.name) (λ (v : Vec Demand Global). AreDemands ms (claims_from None wanted) v.items) c.in-Some.demands c.in-Some.is c.in_ok-demands.ensures in
+    let h = MatchOption-at_some ((w : Need) × Contains wanted w × IsUnknown ms w.name) (λ (v : Vec Demand Global). AreDemands ms (claims_from None wanted)
+    v.items) c.in-Some.demands c.in-Some.is c.in_ok-demands.ensures in
     let board = c.ask_all.new.self in
     let index = c.in_ok-board.ensures.indexed in
     let count : length c.in_ok-board.board.chosen.items ≡ length ms = index.chosen_count ∙ sym (length-map c.args.self.now.candidates.now member) in

@@ -20,7 +20,8 @@ returns-in-Err c =
     let t = c.in-Ok.text.now in
     let same : t ≡ c.args.bytes.now = c.in-Ok.ensures.cases.0 in
     let short : length t ≤ 128 = rw same (omega arith) in
-    rw (← same) (fault_is t c.in-Err.error c.fault_of.result short c.in-Err.ensures.err c.in-Err.ensures.refused c.fault_of.ensures.memory c.fault_of.ensures.other)
+    rw (← same) (fault_is t c.in-Err.error c.fault_of.result short c.in-Err.ensures.err c.in-Err.ensures.refused c.fault_of.ensures.memory
+    c.fault_of.ensures.other)
 
 pub returns-in-Ok-from_str : goal.returns-in-Ok-from_str
 returns-in-Ok-from_str c =

@@ -13,4 +13,5 @@ returns-in_default c =
 pub returns : goal.returns
 returns c =
     let t = c.in_ok-text.text.now in
-    read_is (λ t. only_if (is_utf8 t) t) c.args.bytes.now t c.in_ok-text.rest.now (Some c.in_ok-from_str.field-0) c.in_ok-text.ensures (rw (is_utf8-from_IsUtf8 t (c.in-Ok.ensures.cases.1), c.in_ok-from_str.ensures, c.in-Ok.ensures.cases.0) refl)
+    read_is (λ t. only_if (is_utf8 t) t) c.args.bytes.now t c.in_ok-text.rest.now (Some c.in_ok-from_str.field-0) c.in_ok-text.ensures
+    (rw (is_utf8-from_IsUtf8 t (c.in-Ok.ensures.cases.1), c.in_ok-from_str.ensures, c.in-Ok.ensures.cases.0) refl)
