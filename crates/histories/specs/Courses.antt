@@ -16,7 +16,7 @@ use Rattle.histories.specs.TraceEvents.{TraceEvent, records_of, entries_of}
 use Rattle.histories.specs.States.{SessionState, beginning, state_after}
 use Rattle.histories.specs.Follows.{IsProper, Lives}
 
--- From a place on this happened. The records are those that were added, each lawful in its turn, and the entries those that the runner told.
+-- From a state on this happened. The records are those that were added, each lawful in its turn, and the entries those that the runner told.
 pub record Course (p : SessionState) (h : List TraceEvent) (old new : Told) (old_kept new_kept : List Record) : Type 0 where
   pub proper : IsProper p h
   pub list : Grows old.list new.list (entries_of h)

@@ -1,4 +1,4 @@
--- What may happen next, one relation for each kind of happening.
+-- What may happen next, one relation for each kind of event.
 use Rattle.std.specs.Prelude.{◌≡◌, ◌⊎◌, ℕ, ◌≤◌, Bool, true, false, List, [], ◌∷◌, Some, None, IsSome, IfSome, slice_get, ⊤}
 use Rattle.std.specs.List.{list_any}
 use Rattle.std.specs.Option.{IsSomeAnd}
@@ -159,7 +159,7 @@ MayKeep p r = ⊥
 
 -- ---- other items, and the stop of all
 
--- a table by phase and crew; what is not named is not allowed
+-- a table by phase and generation; what is not named is not allowed
 abbrev pub MayChangeIn : Phase → Generation → SessionState → Type 0
 MayChangeIn idle previous p = p.serves ≡ true
 MayChangeIn idle draining p = p.serves ≡ true
@@ -189,7 +189,7 @@ MayClear d p = IsSome d.turn × (p.boot ≡ None) × (p.boot_end ≡ None)
 abbrev pub MayLeave : SessionState → Type 0
 MayLeave p = (p.opened ≡ true) × (has_ended p ≡ true)
 
--- A table by phase and crew: before the first bootstrap of a stage, where Rolling begins, and at the end of the call. What is not named is not allowed.
+-- A table by phase and generation: before the first bootstrap of a stage, where Rolling begins, and at the end of the call. What is not named is not allowed.
 abbrev pub MayStopAll : Duty → Phase → Generation → SessionState → Type 0
 MayStopAll d idle c p = p.serves ≡ true → MayLeave p
 MayStopAll d booting previous p = MayClear d p
@@ -237,7 +237,7 @@ IsLast e = ⊥
 abbrev pub MayFollow : SessionState → TraceEvent → Type 0
 MayFollow p e = MayCome (duty_of p.device) p e × (p.cut ≡ true → IsLast e) × (p.over ≡ false)
 
--- each happening could follow where it did
+-- each event could follow where it did
 abbrev pub IsProper : SessionState → List TraceEvent → Type 0
 IsProper p [] = ⊤
 IsProper p (e ∷ h) = MayFollow (state_after p h) e × IsProper p h

@@ -174,7 +174,7 @@ leaves p (Changed f c b) = record p {
 }
 leaves p StopsAll = record p { world = all_stopped p.world; generation = if is_idle (duty_of p.device).phase then shutting_down else draining; probed = false }
 
--- what a history leaves that began at a place
+-- what a history leaves that began in a state
 abbrev pub state_after : SessionState → List TraceEvent → SessionState
 state_after p [] = p
 state_after p (e ∷ h) = leaves (state_after p h) e

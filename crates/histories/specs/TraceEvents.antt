@@ -39,7 +39,7 @@ pub data TraceEvent : Type 0 where
   Changed : (fitted : List Fitted) (counts : List ℕ) (steady : Bool) → TraceEvent  -- other items are to run
   StopsAll : TraceEvent  -- all components are to be stopped
 
--- Histories have the newest happening first. The records, the first first:
+-- Histories have the newest event first. The records, the first first:
 abbrev pub records_of : List TraceEvent → List Record
 records_of [] = []
 records_of (Ran e k s ∷ h) = records_of h

@@ -13,7 +13,7 @@ use Rattle.histories.specs.States.{SessionState}
 abbrev pub has_three : List ℕ → Bool
 has_three counts = list_any (λ n. n == 3) counts
 
--- ---- tables by phase and crew; what is not named is not allowed
+-- ---- tables by phase and generation; what is not named is not allowed
 
 -- components may begin, start, be tried again and be stopped
 abbrev pub may_drive : Phase → Generation → Bool → Bool

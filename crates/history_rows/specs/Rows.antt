@@ -29,7 +29,7 @@ use Rattle.histories.specs.States.{SessionState, beginning}
 abbrev pub item : List ℕ → List ℕ → Item
 item name version = record { name = name; version = version; recipe = []; config = object no_members; artifacts = [] }
 
--- Any recipe in the place of the empty text, which is none: what is made ready is made of that.
+-- Any recipe instead of the empty text, which is none: what is made ready is made of that.
 abbrev pub Recipes : Type 0
 Recipes = Item → List ℕ
 
@@ -104,7 +104,7 @@ owing_part f = record (idle_part f state.Errored 1) { owed = Some (step.Startup,
 abbrev pub world_of : List ComponentState → Components
 world_of parts = record { parts = parts; moment = 0; steady = false }
 
--- ---- devices and places
+-- ---- devices and states
 
 abbrev pub plan_of : List Item → List (List ℕ) → Plan
 plan_of items boots = record { id = codes "d"; group = codes "g"; revision = 0; policy = policies.Rollback; requirements = []; items = items; boots = boots }
@@ -118,7 +118,7 @@ device_of o set pending = record no_device { origin = Some o; set = set; pending
 abbrev pub plan_read_as : Recipes → Pending → Pending
 plan_read_as r q = record q { plan = record q.plan { items = read_as r q.plan.items } }
 
--- the place, where the items of the device have these recipes
+-- the state, where the items of the device have these recipes
 abbrev pub with_recipes : Recipes → SessionState → SessionState
 with_recipes r p = record p { device = record p.device { set = read_as r p.device.set; pending = option_map (plan_read_as r) p.device.pending } }
 

@@ -1,4 +1,4 @@
--- Happenings of the worked rows in few words.
+-- Events of the worked rows in few words.
 use Rattle.std.specs.Prelude.{◌∷◌, ℕ, List, Some, codes, replicate}
 use Rattle.nuc_base.specs.declared.kinds.Step.{Step}
 use Rattle.nuc_base.specs.declared.kinds.Exit.{Exit}

@@ -1,4 +1,4 @@
-//! Worked rows of histories: short literal histories that are allowed, or a happening that is refused where one ends.
+//! Worked rows of histories: short literal histories that are allowed, or an event that is refused where one ends.
 //!
 //! It promises that the worked rows are histories and the wrong bodies are none, on functions that do nothing, and that some
 //! of them are whole histories of calls, so that no law of histories speaks of nothing. It stands on the definitions of

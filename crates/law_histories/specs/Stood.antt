@@ -7,7 +7,7 @@ use Rattle.histories.specs.TraceEvents.{TraceEvent, Recorded, records_of}
 use Rattle.histories.specs.States.{SessionState, state_after}
 use Rattle.histories.specs.Follows.{IsProper}
 
--- This happened since a call began: nothing stood then, each happening could follow where it did, and each record was lawful
+-- This happened since a call began: nothing stood then, each event could follow where it did, and each record was lawful
 -- in its turn.
 pub record IsHistory (p : SessionState) (h : List TraceEvent) : Type 0 where
   pub start : IsStart p
