@@ -1,0 +1,11 @@
+pub mod Answers
+pub mod Children
+pub mod Documents
+pub mod EntryLog
+pub mod Generator
+pub mod Inputs
+pub mod Names
+pub mod Objects
+pub mod Recipes
+pub mod Runner
+pub mod Tallies
