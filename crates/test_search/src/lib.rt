@@ -9,6 +9,4 @@ mod libraries;
 #[cfg(test)]
 mod plain;
 #[cfg(test)]
-mod rows;
-#[cfg(test)]
 mod slow;

@@ -1,7 +1,7 @@
-use crate::rows::{library_of, push_places, wanted_of};
 use conflict_search::{SearchFault, search};
 use std::alloc::Global;
 use std::test::Fail;
+use test_support::{library_of, push_places, wanted_of};
 
 /// Small libraries: the candidates, what is wanted, and the places of the preferred set. `A1 B12 C33` is the version 1.0.0
 /// of `A`, which needs `B` in a version from 1.0.0 to 2.0.0 and `C` in 3.0.0. The sets come from a program of its own, in

@@ -1,8 +1,8 @@
-use crate::rows::{library_of, wanted_of};
 use crate::slow::{bit, byte, pieces, preferred};
 use resolver::{ResolveFault, resolve};
 use std::alloc::{AllocError, Global};
 use std::test::Fail;
+use test_support::{library_of, wanted_of};
 
 /// Small libraries, as `slow` reads them: the candidates, what is wanted, and the places of the preferred set. The sets come from a
 /// program of its own, in another language, that goes by the definitions and tries all sets.

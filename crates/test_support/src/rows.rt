@@ -4,12 +4,12 @@
 ghost use Rattle.std.specs.Prelude.{IfOk};
 ghost use Rattle.recipe_reader.specs.Candidates.{IsRead};
 
+use crate::linux;
 use npm_ranges::{Range, Version};
 use nuc_base::{Bytes, List, Name, NoMemory};
 use recipe_reader::{Candidate, Candidates, Platform, Recipe, Wanted};
 use std::alloc::{AllocError, Global};
 use std::test::Fail;
-use test_support::linux;
 
 /// The word's byte so far from its end.
 fn digit(word: &str, from_end: usize) -> u8 {
@@ -137,7 +137,7 @@ fn candidate_of(alloc: Global, platform: &Platform, row: &str) -> Result<Candida
 }
 
 fn add(alloc: Global, candidates: &mut Candidates, row: &str) -> Result<(), Fail> {
-    if candidates.list().len() > 1000 {
+    if candidates.list().len() > 2000 {
         return Err(Fail::from("many"));
     }
     let platform = linux(alloc)?;

@@ -1,0 +1,15 @@
+pub mod Asked
+pub mod Each
+pub mod Ends
+pub mod Finding
+pub mod Firsts
+pub mod Gathering
+pub mod Joining
+pub mod Leaves
+pub mod Linking
+pub mod Picking
+pub mod Plainly
+pub mod Resting
+pub mod Seen
+pub mod Soundness
+pub mod Writing

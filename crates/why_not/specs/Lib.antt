@@ -1,0 +1,11 @@
+pub mod Certificates
+pub mod Counted
+pub mod Edges
+pub mod Ends
+pub mod Found
+pub mod Gathers
+pub mod Laws
+pub mod Picks
+pub mod Plain
+pub mod Reasons
+pub mod Texts
