@@ -1,0 +1,15 @@
+pub mod Asking
+pub mod Bringing
+pub mod Changing
+pub mod Choosing
+pub mod Grouping
+pub mod Items
+pub mod Keeping
+pub mod Lone
+pub mod Own
+pub mod Owning
+pub mod Rising
+pub mod Stepping
+pub mod Taken
+pub mod There
+pub mod Transfer

@@ -1,0 +1,10 @@
+mod Apart
+mod Handing
+mod Least
+mod Lookups
+mod Making
+mod Nodes
+mod Once
+mod Rooting
+mod Rows
+mod Soundness
