@@ -26,14 +26,14 @@ A1;B1 A:^2|A:* B:*|split A 1;  try A 1.0.0;    split B 1;      try B 1.0.0;     
 A1 C:^1;A2 C:^2;B1 C:^1;C1;C2|A:* B:*|possible
 A1||possible";
 
-/// Without the line feeds at the ends of its lines.
+/// The lines with a semicolon between them.
 fn joined(alloc: Global, text: &str) -> Result<String, Fail> {
     let mut all = String::new(alloc);
-    let mut between = "";
     for line in text.lines() {
-        all.push_str(between)?;
+        if !all.is_empty() {
+            all.push_str(";")?;
+        }
         all.push_str(line)?;
-        between = ";";
     }
     Ok(all)
 }
