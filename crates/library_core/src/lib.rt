@@ -13,6 +13,7 @@ mod kept;
 mod laws;
 mod library;
 mod memory;
+mod none;
 mod stored;
 mod taken;
 
@@ -21,3 +22,4 @@ pub use gather::candidates;
 pub use laws::gathered_are_one;
 pub use library::{Library, LibraryFault, Piece};
 pub use memory::{MemoryLibrary, Stored};
+pub use none::NoLibrary;

@@ -1,5 +1,5 @@
 -- The checks of a document in their order, up to its plan: the first that fails answers.
-use Rattle.std.specs.Prelude.{◌≡◌, ◌⊎◌, ℕ, List, [], ◌∷◌, Option, Some, Result, Ok, Err, MatchResult, ⊤}
+use Rattle.std.specs.Prelude.{◌≡◌, ◌⊎◌, ℕ, List, [], ◌∷◌, Option, Some, None, Result, Ok, Err, MatchResult, ⊤}
 use Rattle.std.specs.Str.{bytes_eq}
 use Rattle.std.specs.Map.{lookup}
 use Rattle.nuc_base.specs.Faults.{Rose}
@@ -125,6 +125,12 @@ Comes f checks (Ok draft) = (f.draft ≡ draft_view draft) × PassesAll f checks
 Comes f checks (Err a) = Stops f checks a
 
 -- ---- the calls
+
+-- no deployment of this id is closed, or it is, with this outcome
+abbrev pub OpensId : Device → List ℕ → Result (Unit {0}) Refusal → Type 0
+OpensId d id result = MatchResult result
+    (λ _. lookup (bytes_eq id) d.closed ≡ None)
+    (λ a. (a ≡ NoMemory) ⊎ ((o : Outcome) × (lookup (bytes_eq id) d.closed ≡ Some o) × (a ≡ Repeated id o)))
 
 -- the two checks that look at the device alone pass, or the first that fails answers
 abbrev pub Opens : Device → Document → Result (Unit {0}) Refusal → Type 0

@@ -21,4 +21,4 @@ pub use laws::{
     filled_drafts_may_be_accepted, gathered_candidates_make_plans, limits_in_order, small_plans,
 };
 pub use plan::make_plan;
-pub use proposals::{propose, propose_read};
+pub use proposals::{open_id, propose, propose_read};

@@ -6,7 +6,7 @@ ghost use Rattle.device.specs.Devices.{device_view, IsRegularDevice};
 ghost use Rattle.device.specs.Sound.{IsSound};
 ghost use Rattle.deployment_doc.specs.Sound.{AreSound};
 ghost use Rattle.plan_core.specs.Ready.{IsFresh};
-ghost use Rattle.plan_core.specs.Checks.{Opens, Proposes, ProposesRead};
+ghost use Rattle.plan_core.specs.Checks.{Opens, OpensId, Proposes, ProposesRead};
 ghost use Rattle.library_core.specs.declared.fault.CandidatesFault.TheVariants.{Library as LibraryFailed};
 
 use crate::fault::Refusal;
@@ -14,7 +14,7 @@ use crate::plan::make_plan;
 use deployment_doc::Document;
 use device::Device;
 use library_core::{Library, candidates};
-use nuc_base::Copied;
+use nuc_base::{Copied, Label};
 use records::Draft;
 use std::alloc::Global;
 
@@ -25,13 +25,22 @@ fn is_fresh(device: &Device, document: &Document) -> bool
     document.revision == 0 || device.groups.revision_of(&document.group) <= document.revision
 }
 
+/// Whether no deployment of this id is closed on the device. One that is closed is answered with its outcome: nothing is
+/// wrong with what has the id.
+pub fn open_id(alloc: Global, device: &Device, id: &Label) -> Result<(), Refusal>
+    ensures { OpensId (device_view device.now) id.now result }
+{
+    if let Some(outcome) = device.closed.outcome_of(id) {
+        return Err(Refusal::Repeated(id.copy(alloc)?, outcome));
+    }
+    Ok(())
+}
+
 /// Whether the document is new to the device: no deployment of its id is closed, and it is no older than its group.
 fn open(alloc: Global, device: &Device, document: &Document) -> Result<(), Refusal>
     ensures { Opens (device_view device.now) document.now result }
 {
-    if let Some(outcome) = device.closed.outcome_of(&document.id) {
-        return Err(Refusal::Repeated(document.id.copy(alloc)?, outcome));
-    }
+    open_id(alloc, device, &document.id)?;
     if !is_fresh(device, document) {
         let revision = device.groups.revision_of(&document.group);
         return Err(Refusal::Stale(document.id.copy(alloc)?, revision));

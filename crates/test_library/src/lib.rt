@@ -5,4 +5,6 @@
 #![tactic(auto)]
 
 #[cfg(test)]
+mod nothing;
+#[cfg(test)]
 mod rows;
