@@ -46,7 +46,7 @@ carries_texts true f p e = (e, refl)
 carries_texts false f p e = (refl, refl)
 
 stays_replacing : (b : Bool) (n : Coming) (p q : ComponentState) → name_of n.0 ≡ component_name p → Carries p q
-    → Stays p (if b then record q { life = record q.life { stop = Some after.Again }; stop = None; next = Some n } else record q
+    → Stays p (if b then record q { life = record q.life { stop = Some after.Restart }; stop = Some after.Again; next = Some n } else record q
     { stop = Some after.Again; next = Some n })
 stays_replacing true n p q e c = (c.0, e ∙ sym c.0)
 stays_replacing false n p q e c = (c.0, e ∙ sym c.0)
@@ -86,7 +86,7 @@ meeting_children n p =
     let c : q.children ≡ p.children = texts_children (is_same_item n.0.item p.fitted.item) n.0 p in
     kids_two p.life.gone (coming_again n p) (if is_replaced n.0 p then replacing n q else staying n q) p.children refl
     (kids_two (is_replaced n.0 p) (replacing n q) (staying n q) p.children
-    (kids_two (stops_for_good q.life) (record q { life = record q.life { stop = Some after.Again }; stop = None; next = Some n })
+    (kids_two (stops_for_good q.life) (record q { life = record q.life { stop = Some after.Restart }; stop = Some after.Again; next = Some n })
     (record q { stop = Some after.Again; next = Some n }) p.children c c) c)
 
 fate_children_by : (p : ComponentState) (o : Option Coming) → (let q : ComponentState = elim o [ None ↦ leaving p | Some n ↦ meeting n p ] in

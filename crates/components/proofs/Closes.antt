@@ -25,7 +25,7 @@ and_true : (a b : Bool) → (a && b) ≡ true → (a ≡ true) × (b ≡ true)
 and_true true b e = (refl, e)
 and_true false b e = absurd (cc)
 
-flagged_more : (n : List ℕ) (fs hs : Flagged) → Within fs hs → is_flagged n fs ≡ true → is_flagged n hs ≡ true
+pub flagged_more : (n : List ℕ) (fs hs : Flagged) → Within fs hs → is_flagged n fs ≡ true → is_flagged n hs ≡ true
 flagged_more n [] [] w e = e
 flagged_more n [] (h ∷ hs) w e = absurd w
 flagged_more n (f ∷ fs) [] w e = absurd w

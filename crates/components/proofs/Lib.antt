@@ -4,6 +4,7 @@ pub mod Closes
 pub mod Deadline
 pub mod Each
 pub mod Handed
+pub mod Held
 pub mod Kept
 pub mod Kids
 pub mod Lived

@@ -19,10 +19,11 @@ use Rattle.components.specs.Components.{Components, ComponentState, At, changed_
 use Rattle.components.specs.Marks.{flagged_at, restarted, may_restart}
 use Rattle.components.specs.Lives.{lived, lived_at, drops, replaced}
 use Rattle.components.specs.Rows.{owed_after, stop_after, succeeds_from, completed_from}
-use Rattle.components.specs.Turns.{may_begin, may_retry, may_stop, is_met, serves_softly, owes, is_unstarted, is_held}
+use Rattle.components.specs.Turns.{may_begin, may_retry, may_stop, is_met, serves_softly, owes, is_unstarted, is_held, is_held_for}
 use Rattle.components.specs.Acts.{MayMove, spares}
 use Rattle.components.specs.Whole.{state_work, life_work, part_work, work}
 use Rattle.components.proofs.Each.{at_more}
+use Rattle.components.proofs.Held.{none_direct}
 use Rattle.components.proofs.Lived.{lived_row, settled_part}
 use Rattle.components.proofs.Tables.{is_launch, is_failure, begin_row, retry_row, stop_row}
 use Rattle.components.proofs.Whole.{lived_follows}
@@ -139,16 +140,34 @@ with_stop b a p s h =
           (and_right (not (is_up (lived b (event.Stop a) p).life.state)) (not (is_to_stop p)) (not_of (is_to_stop p) t));
     }
 
+-- what is there of a stop that may be given
+abbrev may_stop_by : Components → ComponentState → After → Bool
+may_stop_by w p a = (is_awaited (event.Stop a) p.life && not (has_orphan p || is_unstarted p)) && not (is_held_for a (component_name p) w.parts)
+
+stop_by : (w : Components) (p : ComponentState) (a : After) → p.stop ≡ Some a → may_stop w p ≡ true → may_stop_by w p a ≡ true
+stop_by w p a e m = subst (λ (o : Option After). (elim o [ None ↦ false | Some b ↦ may_stop_by w p b ]) ≡ true) e m
+
 pub stop_awaited : (w : Components) (p : ComponentState) (a : After) → p.stop ≡ Some a → may_stop w p ≡ true → is_awaited (event.Stop a) p.life ≡ true
 stop_awaited w p a e m =
-    let x : ((is_awaited (event.Stop a) p.life && not (has_orphan p || is_unstarted p)) && not (is_held (component_name p) w.parts)) ≡ true
-    = subst (λ (o : Option After). (elim o [
-      | None ↦ false
-      | Some b ↦ (is_awaited (event.Stop b) p.life && not (has_orphan p || is_unstarted p)) &&
-          not (is_held (component_name p) w.parts)
-    ]) ≡ true) e m in
+    let ready : Bool = is_awaited (event.Stop a) p.life && not (has_orphan p || is_unstarted p) in
     (and_parts (is_awaited (event.Stop a) p.life) (not (has_orphan p || is_unstarted p))
-    (and_parts (is_awaited (event.Stop a) p.life && not (has_orphan p || is_unstarted p)) (not (is_held (component_name p) w.parts)) x).0).0
+    (and_parts ready (not (is_held_for a (component_name p) w.parts)) (stop_by w p a e m)).0).0
+
+not_so : (b : Bool) → not b ≡ true → b ≡ false
+not_so true e = absurd (cc)
+not_so false e = refl
+
+direct_by : (w : Components) (p : ComponentState) (o : Option After) → p.stop ≡ o → may_stop w p ≡ true → is_held (component_name p) w.parts ≡ false
+direct_by w p None e m =
+    let f : false ≡ true = subst (λ (o : Option After). (elim o [ None ↦ false | Some b ↦ may_stop_by w p b ]) ≡ true) e m in absurd (cc)
+direct_by w p (Some a) e m =
+    let ready : Bool = is_awaited (event.Stop a) p.life && not (has_orphan p || is_unstarted p) in
+    none_direct a (component_name p) w.parts (not_so (is_held_for a (component_name p) w.parts)
+    (and_parts ready (not (is_held_for a (component_name p) w.parts)) (stop_by w p a e m)).1)
+
+-- who is stopped waits for those that need it directly
+pub stop_direct : (w : Components) (p : ComponentState) → may_stop w p ≡ true → is_held (component_name p) w.parts ≡ false
+stop_direct w p m = direct_by w p p.stop refl m
 
 -- in its turn
 pub quiet_at : (w : Components) (k : ℕ) (e : LifeEvent) → MayMove w k e → At k (IsQuietly w.steady e) w.parts

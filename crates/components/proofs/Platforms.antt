@@ -32,10 +32,10 @@ use Rattle.components.specs.Changes.{with_texts}
 use Rattle.components.specs.Events.{answered_at, gone_by, is_orphan_at, kill_event_at, launched, noticed, told_at, with_child}
 use Rattle.components.specs.Fitted.{Fitted, is_same_config, is_same_item, prepared_of, steps_of}
 use Rattle.components.specs.Lives.{drops_at, lived, lived_at, replaced}
-use Rattle.components.specs.Made.{AreFitted, IsFittedAt, IsPrepared}
+use Rattle.components.specs.Made.{AreFitted, IsFittedAt, IsPrepared, hard_names}
 use Rattle.components.specs.Marks.{Flagged, flagged, flagged_at, grown, marked, may_replan, may_restart, reaching, restarted}
 use Rattle.components.specs.Platforms.{AllFor, AllRunFor, IsFor, RunsFor, steps_in}
-use Rattle.components.specs.Readied.{KeepSteps}
+use Rattle.components.specs.Readied.{KeepNeeds, KeepSteps}
 use Rattle.components.specs.Rows.{completed_from, succeeds_from}
 use Rattle.components.specs.Components.{ComponentState, Components, changed_at, child_gone, is_again, is_gone, owner, component_name, stops_for_good}
 use Rattle.components.specs.Components.{under_way, without_child}
@@ -86,6 +86,7 @@ fitted_for origin items at f h =
       steps = same_set (is_some f.install) (is_some f.run) (is_some f.startup) (is_some f.shutdown) (is_some f.recover) (is_some r.install) (is_some r.run)
           (is_some r.startup) (is_some r.shutdown) (is_some r.recover)
           (has step.Install refl) (has step.Run refl) (has step.Startup refl) (has step.Shutdown refl) (has step.Recover refl);
+      hard = h.hard;
     }
 
 all_from : (P : Fitted → Type 0) (fs : List Fitted) → ((at : ℕ) (f : Fitted) → slice_get fs at ≡ Some f → P f) → AllByRecursion P fs
@@ -125,6 +126,18 @@ all_has P (y ∷ ys) x h i = elim (in_cons y ys x i) [ inl e ↦ subst P e h.0 |
 pub keep_for : (one : IsOneRecipe) (platform : Platform) (fs : List Fitted) (ps : List ComponentState) → AllFor platform fs → AllRunFor platform ps →
     KeepSteps fs ps
 keep_for one platform fs ps h i = λ f p inf inp e. steps_for one platform f p.fitted (all_has (IsFor platform) fs f h inf)
+    (all_has (RunsFor platform) ps p i inp).0 e
+
+needs_for : (one : IsOneRecipe) (platform : Platform) (f g : Fitted) → IsFor platform f → IsFor platform g → is_same_item f.item g.item ≡ true →
+    f.hard ≡ g.hard
+needs_for one platform f g h i e =
+    let a : AreAlike h.recipe i.recipe = one g.item.recipe platform h.recipe i.recipe
+    (subst (λ (bs : List ℕ). Reads bs platform h.recipe) (same_recipe f.item g.item e) h.reads) i.reads in
+    h.hard ∙ ap hard_names a.dependencies ∙ sym i.hard
+
+pub keep_needs : (one : IsOneRecipe) (platform : Platform) (fs : List Fitted) (ps : List ComponentState) → AllFor platform fs → AllRunFor platform ps →
+    KeepNeeds fs ps
+keep_needs one platform fs ps h i = λ f p inf inp e. needs_for one platform f p.fitted (all_has (IsFor platform) fs f h inf)
     (all_has (RunsFor platform) ps p i inp).0 e
 
 -- ---- whatever befalls the components
@@ -305,7 +318,7 @@ module _ (platform : Platform) where
   run_texts false f p h i = i
 
   run_replacing : (b : Bool) (n : Coming) (p : ComponentState) → IsFor platform n.0 → RunsFor platform p
-      → RunsFor platform (if b then record p { life = record p.life { stop = Some after.Again }; stop = None; next = Some n } else record p
+      → RunsFor platform (if b then record p { life = record p.life { stop = Some after.Restart }; stop = Some after.Again; next = Some n } else record p
       { stop = Some after.Again; next = Some n })
   run_replacing true n p h i = (i.0, h)
   run_replacing false n p h i = (i.0, h)

@@ -40,10 +40,10 @@ is_replaced f p = not (is_same_item f.item p.fitted.item) || (is_spared p || is_
 abbrev pub with_texts : Fitted → ComponentState → ComponentState
 with_texts f p = if is_same_item f.item p.fitted.item then record p { fitted = f } else p
 
--- It is to be stopped with Again, and then takes the new item. Again takes the place of Gone, also of one that is under way.
+-- It is to be stopped with Again, and then takes the new item. One that is being stopped for good ends that stop as one with Restart first.
 abbrev pub replacing : Coming → ComponentState → ComponentState
 replacing n p =
-    if stops_for_good p.life then record p { life = record p.life { stop = Some after.Again }; stop = None; next = Some n }
+    if stops_for_good p.life then record p { life = record p.life { stop = Some after.Restart }; stop = Some after.Again; next = Some n }
     else record p { stop = Some after.Again; next = Some n }
 
 -- It stays as it is, with the failures that are recorded.

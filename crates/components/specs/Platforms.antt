@@ -1,4 +1,4 @@
--- Items that were made ready for one platform: the same item has the same steps.
+-- Items that were made ready for one platform: the same item has the same steps and the same hard needs.
 use Rattle.std.specs.Prelude.{◌≡◌, IfSome, List, is_some}
 use Rattle.std.specs.List.{AllByRecursion}
 use Rattle.nuc_base.specs.declared.platform.Platform.{Platform}
@@ -7,6 +7,7 @@ use Rattle.recipe_reader.specs.declared.recipe.Recipe.{Recipe}
 use Rattle.lifecycle.specs.declared.kinds.StepSet.{StepSet}
 use Rattle.components.specs.Fitted.{Fitted, steps_of}
 use Rattle.components.specs.Components.{ComponentState}
+use Rattle.components.specs.Made.{hard_names}
 
 -- the steps that a recipe has
 abbrev pub steps_in : Recipe → StepSet
@@ -19,11 +20,12 @@ steps_in r = record {
       is_some r.recover;
 }
 
--- it has the steps that its recipe has for the platform
+-- it has the steps and the hard needs that its recipe has for the platform
 pub record IsFor (platform : Platform) (f : Fitted) : Type 0 where
   pub recipe : Recipe
   pub reads : Reads f.item.recipe platform recipe
   pub steps : steps_of f ≡ steps_in recipe
+  pub hard : f.hard ≡ hard_names recipe.dependencies
 
 abbrev pub AllFor : Platform → List Fitted → Type 0
 AllFor platform fs = AllByRecursion (IsFor platform) fs

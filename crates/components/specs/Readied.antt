@@ -20,6 +20,11 @@ abbrev pub KeepSteps : List Fitted → List ComponentState → Type 0
 KeepSteps coming parts = (f : Fitted) (p : ComponentState) → Contains coming f → Contains parts p → is_same_item f.item p.fitted.item ≡ true →
     steps_of f ≡ steps_of p.fitted
 
+-- and the hard needs that it had
+abbrev pub KeepNeeds : List Fitted → List ComponentState → Type 0
+KeepNeeds coming parts = (f : Fitted) (p : ComponentState) → Contains coming f → Contains parts p → is_same_item f.item p.fitted.item ≡ true →
+    f.hard ≡ p.fitted.hard
+
 -- the item of a component and its failures
 abbrev pub coming_of : ComponentState → Coming
 coming_of p = (p.fitted, p.life.failures)

@@ -1,12 +1,15 @@
 -- What a component may do, and whose turn it is.
-use Rattle.std.specs.Prelude.{◌≡◌, ℕ, Bool, false, not, ◌&&◌, ◌||◌, List, take, Some, None, is_some}
+use Rattle.std.specs.Prelude.{◌≡◌, ℕ, Bool, false, not, ◌&&◌, ◌||◌, List, [], ◌++◌, map, take, length, Some, None, is_some, if◌then◌else◌}
 use Rattle.std.specs.List.{list_any, list_all}
 use Rattle.std.specs.Str.{bytes_eq}
 use Rattle.nuc_base.specs.declared.kinds.Step.{Step}
 use Rattle.lifecycle.specs.Awaits.{is_awaited, is_same_step, is_busy_with}
+use Rattle.lifecycle.specs.declared.kinds.After.{After}
+use Rattle.lifecycle.specs.declared.kinds.After.TheVariants as after
 use Rattle.lifecycle.specs.declared.kinds.LifeEvent.TheVariants as event
-use Rattle.components.specs.Components.{Components, ComponentState, Child, component_name, is_to_stop, has_orphan, is_broken, stands_up}
+use Rattle.components.specs.Components.{Components, ComponentState, Child, component_name, has_orphan, is_again, is_broken, is_to_stop, stands_up, under_way}
 use Rattle.components.specs.Deadlines.{has_passed}
+use Rattle.components.specs.Marks.{Flagged, flagged, reaching}
 
 -- a component of this name is so
 abbrev pub is_met : (ComponentState → Bool) → List ComponentState → List ℕ → Bool
@@ -31,6 +34,35 @@ is_late moment p = list_any (λ (c : Child). has_passed moment c.deadline) p.chi
 abbrev pub is_held : List ℕ → List ComponentState → Bool
 is_held name parts = list_any (λ q. is_to_stop q && list_any (bytes_eq name) q.fitted.hard) parts
 
+-- what the item needs hard that a component takes at the end of a stop with Again that is under way
+abbrev pub coming_needs : ComponentState → List (List ℕ)
+coming_needs p = if is_again (under_way p.life) then elim p.next [ None ↦ [] | Some n ↦ n.0.hard ] else []
+
+-- what it needs hard, or is about to
+abbrev pub hard_needs : ComponentState → List (List ℕ)
+hard_needs p = p.fitted.hard ++ coming_needs p
+
+abbrev pub with_hard_needs : ComponentState → ComponentState
+with_hard_needs p = record p { fitted = record p.fitted { hard = hard_needs p } }
+
+-- who needs this name hard directly
+abbrev pub direct_dependents : List ℕ → List ComponentState → Flagged
+direct_dependents name parts = flagged (λ q. list_any (bytes_eq name) q.fitted.hard) (map with_hard_needs parts)
+
+-- and who reaches it by hard needs
+abbrev pub dependents : List ℕ → List ComponentState → Flagged
+dependents name parts = reaching (length (direct_dependents name parts)) (direct_dependents name parts)
+
+-- one that reaches this name is still to be stopped
+abbrev pub is_held_far : List ℕ → List ComponentState → Bool
+is_held_far name parts = list_any (λ (f : ComponentState × Bool). f.1 && is_to_stop f.0) (dependents name parts)
+
+-- Who is stopped with Restart waits for those that need it directly; who is replaced or goes away, for all that reach it.
+abbrev pub is_held_for : After → List ℕ → List ComponentState → Bool
+is_held_for after.Restart name parts = is_held name parts
+is_held_for after.Again name parts = is_held_far name parts
+is_held_for after.Gone name parts = is_held_far name parts
+
 -- the step was begun, and no child of it lives
 abbrev pub is_begun : Step → ComponentState → Bool
 is_begun s p = is_busy_with s p.life.busy && not (list_any (λ (c : Child). is_same_step s c.of) p.children)
@@ -43,12 +75,12 @@ is_unstarted p = elim p.life.busy [ None ↦ false | Some s ↦ is_begun s p ]
 abbrev pub is_to_start : ComponentState → Bool
 is_to_start p = is_unstarted p && not p.handed
 
--- Its stop may be given: a row is there, no child of an earlier stop and no start is open, and nobody needs it that is to be stopped first.
+-- Its stop may be given: a row is there, no child of an earlier stop and no start is open, and nobody that is to be stopped first holds it.
 abbrev pub may_stop : Components → ComponentState → Bool
 may_stop w p = elim p.stop [
   | None ↦ false
   | Some a ↦ (is_awaited (event.Stop a) p.life && not (has_orphan p || is_unstarted p)) &&
-      not (is_held (component_name p) w.parts)
+      not (is_held_for a (component_name p) w.parts)
 ]
 
 abbrev pub may_act : Components → ComponentState → Bool

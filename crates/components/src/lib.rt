@@ -14,6 +14,6 @@ mod supervise;
 
 pub use child::Child;
 pub use kinds::{Act, Event, Mode, Prepared};
-pub use laws::{answers_meet_starts, marks_are_least, one_platform, time_passes};
+pub use laws::{answers_meet_starts, marks_are_least, one_platform, stops_wait, time_passes};
 pub use prepared::{known_recipe, prepare_step, step_of};
 pub use supervise::Supervise;

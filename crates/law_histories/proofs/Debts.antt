@@ -235,7 +235,12 @@ meeting_owed : (n : Coming) (p : ComponentState) → Pays p → Pays (meeting n 
 meeting_owed n p pays = by p.life.gone (is_replaced n.0 p) (stops_for_good (with_texts n.0 p).life)
   where
     by : (a b c : Bool) → (if a then coming_again n p else (if b
-        then (if c then record (with_texts n.0 p) { life = record (with_texts n.0 p).life { stop = Some after.Again }; stop = None; next = Some n }
+        then (if c then record (with_texts n.0 p) {
+          life = record (with_texts n.0 p).life { stop = Some after.Restart };
+          stop = Some after.Again;
+          next =
+              Some n;
+        }
         else record (with_texts n.0 p) { stop = Some after.Again; next = Some n }) else staying n (with_texts n.0 p))).owed ≡ None
     by true b c = refl
     by false true true = texts_owed n.0 p ∙ pays

@@ -11,3 +11,4 @@ pub mod BootEnds
 pub mod Debts
 pub mod StepEnds
 pub mod Failing
+pub mod Serving

@@ -3,3 +3,4 @@ pub mod Ends
 pub mod Turned
 pub mod Starts
 pub mod Onward
+pub mod Serving

@@ -4,6 +4,7 @@ ghost use Rattle.law_histories.specs.Ends.{BootsEnded, FailuresEnded, NoneRecord
 ghost use Rattle.law_histories.specs.Turned.{ClosesCaused, RunsCloseCaused, AllTurnsPlain};
 ghost use Rattle.law_histories.specs.Starts.{BootsDiffer, BootsStartOnce, AllBootsTold, AllStartsTold};
 ghost use Rattle.law_histories.specs.Onward.{BacksGoOn, DeploysGoOn, ResumesGoOn};
+ghost use Rattle.law_histories.specs.Serving.{LastIsUnasked, ServesTakeOnce};
 
 /// With ROLLBACK a deployment closes as its whole new set, or as the old one or as neither only where its steps failed: a
 /// bootstrap of its plan, or one of its components three times. These failures are recorded, in this call or before it, and
@@ -34,4 +35,11 @@ pub fn resumes_get_on()
     ensures up { ResumesGoOn }
     ensures accepted { DeploysGoOn }
     ensures back { BacksGoOn }
+{}
+
+/// A call that serves takes one document at most before its inbox is asked again, and none where no answer stands open; and
+/// once it was asked as often as it may be, it is asked no more. It does nothing.
+pub fn serving_takes_once()
+    ensures once { ServesTakeOnce }
+    ensures last { LastIsUnasked }
 {}

@@ -142,7 +142,7 @@ gone_none true g (Some f) h e = absurd (cc)
 gone_none false g (Some f) h e = let x : (not (false || g) || not (is_some (Some f))) ≡ false = rw e refl in
     clash (not (false || g) || not (is_some (Some f))) h x
 
-abbrev IsCountedNext : Device → List ℕ → Fitted × ℕ → Type 0
+abbrev pub IsCountedNext : Device → List ℕ → Fitted × ℕ → Type 0
 IsCountedNext d own n = (name_of n.0 ≡ own) × (count_of d (name_of n.0) ≡ Some n.1)
 
 -- what is owed agrees, where a deployment is driven and nothing was owed

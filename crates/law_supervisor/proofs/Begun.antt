@@ -16,12 +16,13 @@ use Rattle.components.specs.Components.{Components, ComponentState, Child, At, c
 use Rattle.components.specs.Lives.{lived}
 use Rattle.components.specs.Events.{with_child, started}
 use Rattle.components.specs.Answers.{living_numbers}
-use Rattle.law_supervisor.specs.Sound.{Differ}
+use Rattle.law_supervisor.specs.Sound.{IsSoundPart, Differ, IsOrderly}
 use Rattle.law_supervisor.specs.Keeps.{Keeps, IsTold, Owns, IsCounted}
 use Rattle.law_supervisor.proofs.Lists.{either, no_some, from_places, at_places, changed_all, changed_same}
 use Rattle.law_supervisor.proofs.Alone.{runs_in, with_these, sound_these, counted_these, same_name, sound_lived, counted_lived, launch_lived, IsNamed}
+use Rattle.law_supervisor.proofs.Alone.{mark_sound, mark_counted}
 use Rattle.law_supervisor.proofs.Counts.{count, differ_few, few_differ, count_changed, same_living, one_owns, owns_one, none_owns}
-use Rattle.law_supervisor.proofs.Together.{Known, mark_known, known_of, keep_from, event_all, event_same, event_children, told_each}
+use Rattle.law_supervisor.proofs.Together.{sound_of, counted_of, order_of, orderly_from, keep_from, event_all, event_same, event_children, told_each}
 
 abbrev child : ℕ → Step → ℕ → ComponentState → Child
 child n s m p = record { number = n; of = s; deadline = deadline_after (limit_of (prepared_of p.fitted s)) m }
@@ -61,16 +62,20 @@ no_run : (a b x : Bool) → (a && b) ≡ false → x ≡ false → (a && (x || b
 no_run true b x e f = rw f e
 no_run false b x e f = refl
 
-lives_keeps : (d : Device) (k : ℕ) (s : Step) (n : ℕ) (w : Components) → is_same_step step.Run s ≡ false → owner n w.parts ≡ None → Keeps d w →
-    Keeps d (record w { parts = changed_at k (begun n s w.moment) w.parts })
-lives_keeps d k s n w r o i = keep_from d w (record w { parts = changed_at k (begun n s w.moment) w.parts }) i
-    (changed_all (Known d) k (begun n s w.moment) w.parts (known_of d w i) (λ p q x. (
-      sound_these p (child n s w.moment p ∷ p.children) false x.0 (no_run (is_busy_with step.Run p.life.busy) (runs_in p.children) (is_same_step step.Run s)
-          x.0.run r),
-      counted_these d p (child n s w.moment p ∷ p.children) false x.1,
-    )))
+lives_orderly : (k : ℕ) (s : Step) (n : ℕ) (w : Components) → is_same_step step.Run s ≡ false → owner n w.parts ≡ None → IsOrderly w →
+    IsOrderly (record w { parts = changed_at k (begun n s w.moment) w.parts })
+lives_orderly k s n w r o i = orderly_from w (record w { parts = changed_at k (begun n s w.moment) w.parts }) i
+    (changed_all IsSoundPart k (begun n s w.moment) w.parts (sound_of w i.sound) (λ p q x.
+    sound_these p (child n s w.moment p ∷ p.children) false x
+    (no_run (is_busy_with step.Run p.life.busy) (runs_in p.children) (is_same_step step.Run s) x.run r)))
     (changed_same component_name k (begun n s w.moment) w.parts (λ p q. refl))
     (differ_begun n k s w.moment w.parts o i.differ)
+
+lives_keeps : (d : Device) (k : ℕ) (s : Step) (n : ℕ) (w : Components) → is_same_step step.Run s ≡ false → owner n w.parts ≡ None → Keeps d w →
+    Keeps d (record w { parts = changed_at k (begun n s w.moment) w.parts })
+lives_keeps d k s n w r o i = keep_from d w (record w { parts = changed_at k (begun n s w.moment) w.parts }) i (lives_orderly k s n w r o (order_of d w i))
+    (changed_all (IsCounted d) k (begun n s w.moment) w.parts (counted_of d w i) (λ p q x.
+    counted_these d p (child n s w.moment p ∷ p.children) false x))
     refl
 
 -- ---- a run that is launched
@@ -78,24 +83,35 @@ lives_keeps d k s n w r o i = keep_from d w (record w { parts = changed_at k (be
 abbrev Coming : ComponentState → Type 0
 Coming p = IfSome p.next (IsNamed (component_name p))
 
-run_keeps : (d : Device) (k n : ℕ) (w : Components) → owner n w.parts ≡ None → IsTold w → Keeps d w → Keeps d (started k step.Run n w)
-run_keeps d k n w o t i = keep_from d w (started k step.Run n w) i
-    (event_all (Known d) (mark_known d) k event.Launched (begun n step.Run w.moment) w (known_of d w i) (λ p q x. (
-      sound_lived w.steady event.Launched p (child n step.Run w.moment p ∷ p.children) false x.0 tt
-          (rw (launch_lived w.steady p (child n step.Run w.moment p ∷ p.children) false x.0) refl),
-      subst (λ (y : Bool). IsCounted d (lived y event.Launched (with_these (child n step.Run w.moment p ∷ p.children) false p))) (sym i.driven)
-          (counted_lived d event.Launched p (child n step.Run w.moment p ∷ p.children) false x.0 x.1 (told_each w.parts t k p q) tt refl),
-    )))
+run_orderly : (k n : ℕ) (w : Components) → owner n w.parts ≡ None → IsOrderly w → IsOrderly (started k step.Run n w)
+run_orderly k n w o i = orderly_from w (started k step.Run n w) i
+    (event_all IsSoundPart mark_sound k event.Launched (begun n step.Run w.moment) w (sound_of w i.sound) (λ p q x.
+    sound_lived w.steady event.Launched p (child n step.Run w.moment p ∷ p.children) false x tt
+    (rw (launch_lived w.steady p (child n step.Run w.moment p ∷ p.children) false x) refl)))
     (event_same component_name (λ p. refl) k event.Launched (record w { parts = changed_at k (begun n step.Run w.moment) w.parts })
     (λ p q. same_name w.steady event.Launched p (at_places Coming (changed_at k (begun n step.Run w.moment) w.parts) coming k p q))
     ∙ changed_same component_name k (begun n step.Run w.moment) w.parts (λ p q. refl))
     (subst Differ (sym (same_living (changed_at k (begun n step.Run w.moment) w.parts) (started k step.Run n w).parts
     (event_children k event.Launched (record w { parts = changed_at k (begun n step.Run w.moment) w.parts }))))
     (differ_begun n k step.Run w.moment w.parts o i.differ))
-    refl
   where
     coming : AllByRecursion Coming (changed_at k (begun n step.Run w.moment) w.parts)
     coming = changed_all Coming k (begun n step.Run w.moment) w.parts (from_places Coming w.parts (λ j p e. (i.sound j p e).coming)) (λ p q x. x)
+
+run_keeps : (d : Device) (k n : ℕ) (w : Components) → owner n w.parts ≡ None → IsTold w → Keeps d w → Keeps d (started k step.Run n w)
+run_keeps d k n w o t i = keep_from d w (started k step.Run n w) i (run_orderly k n w o (order_of d w i))
+    (event_all (IsCounted d) (mark_counted d) k event.Launched (begun n step.Run w.moment) w (counted_of d w i) (λ p q x.
+    subst (λ (y : Bool). IsCounted d (lived y event.Launched (with_these (child n step.Run w.moment p ∷ p.children) false p))) (sym i.driven)
+    (counted_lived d event.Launched p (child n step.Run w.moment p ∷ p.children) false (i.sound k p q) x (told_each w.parts t k p q) tt refl)))
+    refl
+
+pub started_orderly : (k : ℕ) (s : Step) (n : ℕ) (w : Components) → owner n w.parts ≡ None → IsOrderly w → IsOrderly (started k s n w)
+started_orderly k step.Install n w o i = lives_orderly k step.Install n w refl o i
+started_orderly k step.Run n w o i = run_orderly k n w o i
+started_orderly k step.Startup n w o i = lives_orderly k step.Startup n w refl o i
+started_orderly k step.Shutdown n w o i = lives_orderly k step.Shutdown n w refl o i
+started_orderly k step.Recover n w o i = lives_orderly k step.Recover n w refl o i
+started_orderly k step.Bootstrap n w o i = lives_orderly k step.Bootstrap n w refl o i
 
 pub started_keeps : (d : Device) (k : ℕ) (s : Step) (n : ℕ) (w : Components) → owner n w.parts ≡ None → IsTold w → Keeps d w → Keeps d (started k s n w)
 started_keeps d k step.Install n w o t i = lives_keeps d k step.Install n w refl o i

@@ -18,13 +18,13 @@ use Rattle.components.specs.Components.{Components, ComponentState, Child, At, c
 use Rattle.components.specs.Lives.{lived_at}
 use Rattle.components.specs.Events.{gone_by, is_orphan_at, ended, killed, kill_event, kill_event_at, is_late_child}
 use Rattle.components.specs.Answers.{living_numbers, child_numbers}
-use Rattle.law_supervisor.specs.Sound.{IsSoundPart, is_run, Differ}
+use Rattle.law_supervisor.specs.Sound.{IsSoundPart, is_run, Differ, IsOrderly}
 use Rattle.law_supervisor.specs.Keeps.{Keeps, IsTold, Owns}
 use Rattle.law_supervisor.proofs.Lists.{either, clash, some_same, no_some}
 use Rattle.law_supervisor.proofs.Made.{MayBefall, begins, ends_fairly}
 use Rattle.law_supervisor.proofs.Counts.{count, differ_few, count_changed, count_but_self, count_but_other, same_living, one_owns, owns_one, none_owns}
 use Rattle.law_supervisor.proofs.Counts.{child_counted}
-use Rattle.law_supervisor.proofs.Together.{event_children, gone_by_keeps}
+use Rattle.law_supervisor.proofs.Together.{GoesBy, event_children, gone_by_orderly, gone_by_keeps}
 
 -- ---- the owner of a child
 
@@ -78,27 +78,29 @@ end_fair n s x p k h = elim (either (is_same_step s step.Run)) [
     idle true b e f = clash b f e
     idle false b e f = refl
 
+end_goes : (n : ℕ) (e : Exit) (w : Components) (o : ℕ × Step) → owner n w.parts ≡ Some o → GoesBy (Some (event.Ended o.1 e)) o.0 o.1 n w
+end_goes n e w o q v z =
+    let h = owner_here n w.parts o.0 o.1 q in
+    subst (λ (v : LifeEvent). (begins v ≡ false) ×
+    ((p : ComponentState) → slice_get w.parts o.0 ≡ Some p → IsSoundPart p → MayBefall v (without_child n p) × (ends_fairly v (without_child n p) ≡ true)))
+    (some_same (event.Ended o.1 e) v z) (
+      refl,
+      (λ p q i. (
+        tt,
+        end_fair n o.1 e p i (subst (λ (r : ComponentState). IsSomeAnd (child_of n r.children) (λ c. c.of ≡ o.1)) (some_same h.one p (sym h.here ∙ q)) h.child),
+      )),
+    )
+
+ended_by : (P : Components → Type 0) (n : ℕ) (e : Exit) (w : Components) → P w
+    → ((o : ℕ × Step) → owner n w.parts ≡ Some o → P (gone_by (Some (event.Ended o.1 e)) o.0 o.1 n w)) → P (ended n e w)
+ended_by P n e w i f = elim (owner n w.parts) as (λ (o : Option (ℕ × Step)). owner n w.parts ≡ o →
+    P (elim o [ None ↦ w | Some o ↦ gone_by (Some (event.Ended o.1 e)) o.0 o.1 n w ])) [ None ↦ λ q. i | Some o ↦ λ q. f o q ] refl
+
+pub ended_orderly : (n : ℕ) (e : Exit) (w : Components) → IsOrderly w → IsOrderly (ended n e w)
+ended_orderly n e w i = ended_by IsOrderly n e w i (λ o q. gone_by_orderly (Some (event.Ended o.1 e)) o.0 o.1 n w i (end_goes n e w o q))
+
 pub ended_keeps : (d : Device) (n : ℕ) (e : Exit) (w : Components) → Owns w n → IsTold w → Keeps d w → Keeps d (ended n e w)
-ended_keeps d n e w y t i = elim (owner n w.parts) as (λ (o : Option (ℕ × Step)). owner n w.parts ≡ o →
-    Keeps d (elim o [ None ↦ w | Some o ↦ gone_by (Some (event.Ended o.1 e)) o.0 o.1 n w ])) [
-      | None ↦ λ q. i
-      | Some o ↦ λ q. (let h = owner_here n w.parts o.0 o.1 q in
-          gone_by_keeps d (Some (event.Ended o.1 e)) o.0 o.1 n w t i (λ v z u. by_event o.0 o.1 h v (some_same (event.Ended o.1 e) v z)))
-    ] refl
-  where
-    by_event : (k : ℕ) (s : Step) → Owner n w.parts k s → (v : LifeEvent) → event.Ended s e ≡ v
-        → (begins v ≡ false) × ((p : ComponentState) → slice_get w.parts k ≡ Some p → IsSoundPart p → MayBefall v (without_child n p) ×
-        (ends_fairly v (without_child n p) ≡ true))
-    by_event k s h v z = subst (λ (v : LifeEvent). (begins v ≡ false) ×
-        ((p : ComponentState) → slice_get w.parts k ≡ Some p → IsSoundPart p → MayBefall v (without_child n p) × (ends_fairly v (without_child n p) ≡ true)))
-        z (
-          refl,
-          (λ p q i. (
-            tt,
-            end_fair n s e p i (subst (λ (r : ComponentState). IsSomeAnd (child_of n r.children) (λ c. c.of ≡ s))
-                (some_same h.one p (sym h.here ∙ q)) h.child),
-          )),
-        )
+ended_keeps d n e w y t i = ended_by (Keeps d) n e w i (λ o q. gone_by_keeps d (Some (event.Ended o.1 e)) o.0 o.1 n w t i (end_goes n e w o q))
 
 -- ---- a kill
 
@@ -122,16 +124,23 @@ kill_may m n s p e = elim (is_late_child m n p) as (λ (b : Bool). (if b then So
     by_stop (Some a) q y = subst (λ (v : LifeEvent). (begins v ≡ false) × MayBefall v (without_child n p) × (ends_fairly v (without_child n p) ≡ true))
         (some_same (event.Stop a) e y) (refl, q, refl)
 
+kill_goes : (n : ℕ) (w : Components) (o : ℕ × Step) → owner n w.parts ≡ Some o → GoesBy (kill_event_at o.0 o.1 n w) o.0 o.1 n w
+kill_goes n w o q v z =
+    let h = owner_here n w.parts o.0 o.1 q in
+    let at = λ (p : ComponentState). λ (r : slice_get w.parts o.0 ≡ Some p). kill_may w.moment n o.1 p v
+    (sym (ap (λ (y : Option ComponentState). option_and_then (kill_event w.moment n o.1) y) r) ∙ z) in
+    ((at h.one h.here).0, (λ p r k. ((at p r).1, (at p r).2)))
+
+killed_by : (P : Components → Type 0) (n : ℕ) (w : Components) → P w
+    → ((o : ℕ × Step) → owner n w.parts ≡ Some o → P (gone_by (kill_event_at o.0 o.1 n w) o.0 o.1 n w)) → P (killed n w)
+killed_by P n w i f = elim (owner n w.parts) as (λ (o : Option (ℕ × Step)). owner n w.parts ≡ o →
+    P (elim o [ None ↦ w | Some o ↦ gone_by (kill_event_at o.0 o.1 n w) o.0 o.1 n w ])) [ None ↦ λ q. i | Some o ↦ λ q. f o q ] refl
+
+pub killed_orderly : (n : ℕ) (w : Components) → IsOrderly w → IsOrderly (killed n w)
+killed_orderly n w i = killed_by IsOrderly n w i (λ o q. gone_by_orderly (kill_event_at o.0 o.1 n w) o.0 o.1 n w i (kill_goes n w o q))
+
 pub killed_keeps : (d : Device) (n : ℕ) (w : Components) → IsTold w → Keeps d w → Keeps d (killed n w)
-killed_keeps d n w t i = elim (owner n w.parts) as (λ (o : Option (ℕ × Step)). owner n w.parts ≡ o →
-    Keeps d (elim o [ None ↦ w | Some o ↦ gone_by (kill_event_at o.0 o.1 n w) o.0 o.1 n w ])) [
-      | None ↦ λ q. i
-      | Some o ↦ λ q. (let h = owner_here n w.parts o.0 o.1 q in
-          gone_by_keeps d (kill_event_at o.0 o.1 n w) o.0 o.1 n w t i (λ v z u.
-          let at = λ (p : ComponentState). λ (r : slice_get w.parts o.0 ≡ Some p). kill_may w.moment n o.1 p v
-          (sym (ap (λ (y : Option ComponentState). option_and_then (kill_event w.moment n o.1) y) r) ∙ z) in
-          ((at h.one h.here).0, (λ p r k. ((at p r).1, (at p r).2)))))
-    ] refl
+killed_keeps d n w t i = killed_by (Keeps d) n w i (λ o q. gone_by_keeps d (kill_event_at o.0 o.1 n w) o.0 o.1 n w t i (kill_goes n w o q))
 
 -- ---- whose child is gone, and whose is not
 
@@ -178,12 +187,12 @@ owns_but n m w v t = (
 takes_none : (n : ℕ) (w : Components) → owner n w.parts ≡ None → Takes n w.parts w.parts
 takes_none n w e = record { self = none_owns 0 n w.parts e; others = λ m y. refl }
 
-pub ended_owns : (d : Device) (n m : ℕ) (e : Exit) (w : Components) → Keeps d w → Owns (ended n e w) m ↔ ((m ≢ n) × Owns w m)
-ended_owns d n m e w i = owns_but n m w (ended n e w) (elim (owner n w.parts) as (λ (o : Option (ℕ × Step)). owner n w.parts ≡ o →
+pub ended_owns : (n m : ℕ) (e : Exit) (w : Components) → IsOrderly w → Owns (ended n e w) m ↔ ((m ≢ n) × Owns w m)
+ended_owns n m e w i = owns_but n m w (ended n e w) (elim (owner n w.parts) as (λ (o : Option (ℕ × Step)). owner n w.parts ≡ o →
     (let v : Components = (elim o [ None ↦ w | Some o ↦ gone_by (Some (event.Ended o.1 e)) o.0 o.1 n w ]) in Takes n w.parts v.parts))
     [ None ↦ λ q. takes_none n w q | Some o ↦ λ q. gone_takes (Some (event.Ended o.1 e)) o.0 o.1 n w i.differ (owner_here n w.parts o.0 o.1 q) ] refl)
 
-pub killed_owns : (d : Device) (n m : ℕ) (w : Components) → Keeps d w → Owns (killed n w) m ↔ ((m ≢ n) × Owns w m)
-killed_owns d n m w i = owns_but n m w (killed n w) (elim (owner n w.parts) as (λ (o : Option (ℕ × Step)). owner n w.parts ≡ o →
+pub killed_owns : (n m : ℕ) (w : Components) → IsOrderly w → Owns (killed n w) m ↔ ((m ≢ n) × Owns w m)
+killed_owns n m w i = owns_but n m w (killed n w) (elim (owner n w.parts) as (λ (o : Option (ℕ × Step)). owner n w.parts ≡ o →
     (let v : Components = (elim o [ None ↦ w | Some o ↦ gone_by (kill_event_at o.0 o.1 n w) o.0 o.1 n w ]) in Takes n w.parts v.parts))
     [ None ↦ λ q. takes_none n w q | Some o ↦ λ q. gone_takes (kill_event_at o.0 o.1 n w) o.0 o.1 n w i.differ (owner_here n w.parts o.0 o.1 q) ] refl)

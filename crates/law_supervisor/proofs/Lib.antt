@@ -24,6 +24,8 @@ mod Begun
 mod Told
 pub mod Steadied
 mod Changed
-mod Placed
+pub mod Placed
+mod Stopped
+mod Recipes
 mod Small
 mod Ready

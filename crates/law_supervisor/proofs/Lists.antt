@@ -1,7 +1,7 @@
 -- What stands in a list of components.
-use Rattle.std.proofs.Common.{◌≡◌, ℕ, suc, zero, List, [], ◌∷◌, map, Option, Some, None, Bool, true, false, refl, ap, ◌⊎◌, inl, inr, subst}
+use Rattle.std.proofs.Common.{◌≡◌, ℕ, suc, zero, List, [], ◌∷◌, map, Option, Some, None, Bool, true, false, refl, sym, ap, ◌∙◌, ◌⊎◌, inl, inr, subst}
 use Rattle.std.specs.Prelude.{◌||◌, not, is_some, slice_get}
-use Rattle.std.specs.List.{AllByRecursion}
+use Rattle.std.specs.List.{AllByRecursion, list_any}
 use Rattle.components.specs.Components.{ComponentState, changed_at}
 
 pub either : (b : Bool) → (b ≡ true) ⊎ (b ≡ false)
@@ -65,3 +65,30 @@ pub changed_nothing : (k : ℕ) (ps : List ComponentState) → changed_at k (λ 
 changed_nothing k [] = refl
 changed_nothing zero (p ∷ ps) = refl
 changed_nothing (suc k) (p ∷ ps) = ap (λ (qs : List ComponentState). p ∷ qs) (changed_nothing k ps)
+
+-- what one becomes was something
+pub changed_here : (k : ℕ) (g : ComponentState → ComponentState) (ps : List ComponentState) (q : ComponentState) → slice_get (changed_at k g ps) k ≡ Some q →
+    (p : ComponentState) × (slice_get ps k ≡ Some p) × (g p ≡ q)
+changed_here k g [] q e = no_some q e
+changed_here zero g (p ∷ ps) q e = (p, refl, some_same (g p) q e)
+changed_here (suc k) g (p ∷ ps) q e = changed_here k g ps q e
+
+-- ---- all change
+
+pub mapped_all : (Q P : ComponentState → Type 0) (g : ComponentState → ComponentState) → ((p : ComponentState) → Q p → P (g p)) →
+    (ps : List ComponentState) → AllByRecursion Q ps → AllByRecursion P (map g ps)
+mapped_all Q P g f [] a = tt
+mapped_all Q P g f (p ∷ ps) a = (f p a.0, mapped_all Q P g f ps a.1)
+
+pub mapped_same : {X : Type 0} (v : ComponentState → X) (g : ComponentState → ComponentState) → ((p : ComponentState) → v (g p) ≡ v p) →
+    (ps : List ComponentState) → map v (map g ps) ≡ map v ps
+mapped_same v g f [] = refl
+mapped_same v g f (p ∷ ps) = ap (λ x. x ∷ map v (map g ps)) (f p) ∙ ap (λ xs. v p ∷ xs) (mapped_same v g f ps)
+
+-- what none changes is met as before
+pub any_same : (test : ComponentState → Bool) (ps qs : List ComponentState) → map test qs ≡ map test ps → list_any test qs ≡ list_any test ps
+any_same test ps qs e = any_is qs ∙ ap (λ (bs : List Bool). list_any (λ b. b) bs) e ∙ sym (any_is ps)
+  where
+    any_is : (rs : List ComponentState) → list_any test rs ≡ list_any (λ b. b) (map test rs)
+    any_is [] = refl
+    any_is (r ∷ rs) = ap (λ (b : Bool). test r || b) (any_is rs)

@@ -1,5 +1,5 @@
 -- Moves that leave nothing outside.
-use Rattle.std.proofs.Common.{◌≡◌, ℕ, List, [], ◌∷◌, Option, Some, true, false, refl, sym, ◌∙◌, subst}
+use Rattle.std.proofs.Common.{◌≡◌, ℕ, List, [], ◌∷◌, Option, Some, true, refl, sym, ◌∙◌, subst}
 use Rattle.std.specs.Prelude.{◌&&◌, not, slice_get}
 use Rattle.std.specs.Option.{IsSomeAnd}
 use Rattle.std.specs.List.{list_all}
@@ -12,19 +12,15 @@ use Rattle.components.specs.Components.{Components, ComponentState, At, is_to_st
 use Rattle.components.specs.Turns.{may_begin, may_retry, may_stop, is_met, serves_softly}
 use Rattle.components.specs.Lives.{lived_at}
 use Rattle.components.specs.Acts.{Move, MayMove, Quietly, spares}
-use Rattle.law_supervisor.specs.Sound.{IsSoundPart}
+use Rattle.law_supervisor.specs.Sound.{IsSoundPart, IsOrderly}
 use Rattle.law_supervisor.specs.Keeps.{Keeps}
 use Rattle.law_supervisor.proofs.Lists.{not_so}
-use Rattle.law_supervisor.proofs.Made.{MayBefall, begins, ends_fairly}
-use Rattle.law_supervisor.proofs.Alone.{runs_in, begins_alone}
+use Rattle.law_supervisor.proofs.Alone.{begins_alone}
 use Rattle.law_supervisor.proofs.Counts.{same_owner}
-use Rattle.law_supervisor.proofs.Together.{plain_keeps, event_children}
+use Rattle.law_supervisor.proofs.Together.{Befalls, plain_orderly, plain_keeps, event_children}
 
 pub at_of : (P : ComponentState → Type 0) (k : ℕ) (ps : List ComponentState) (p : ComponentState) → slice_get ps k ≡ Some p → At k P ps → P p
 at_of P k ps p e a = subst (λ (o : Option ComponentState). IsSomeAnd o P) e a
-
-abbrev pub Befalls : LifeEvent → ComponentState → Type 0
-Befalls e p = MayBefall e p × (ends_fairly e p ≡ true) × ((begins e && runs_in p.children) ≡ false)
 
 pub moves_befall : (w : Components) (k : ℕ) (e : LifeEvent) → MayMove w k e → (p : ComponentState) → slice_get w.parts k ≡ Some p → IsSoundPart p → Befalls e p
 moves_befall w k event.MayBegin m p q s =
@@ -44,6 +40,10 @@ moves_befall w k (event.Stop a) m p q s = (
 moves_befall w k event.Launched m p q s = absurd m
 moves_befall w k event.Skipped m p q s = absurd m
 moves_befall w k (event.Ended t x) m p q s = absurd m
+
+pub moved_orderly : (w v : Components) (ms : List Move) → Quietly w ms v → IsOrderly w → IsOrderly v
+moved_orderly w v [] q i = subst IsOrderly (sym q) i
+moved_orderly w v (m ∷ ms) q i = moved_orderly (lived_at m.who m.what w) v ms q.2 (plain_orderly m.who m.what w i (moves_befall w m.who m.what q.1))
 
 pub moved_keeps : (d : Device) (w v : Components) (ms : List Move) → Quietly w ms v → Keeps d w → Keeps d v
 moved_keeps d w v [] q i = subst (Keeps d) (sym q) i

@@ -1,43 +1,39 @@
 -- A change to other items keeps the children, gives each its own name, and owes nothing new.
-use Rattle.std.proofs.Common.{◌≡◌, ◌≢◌, ℕ, suc, zero, List, [], ◌∷◌, ◌++◌, map, Option, Some, None, Bool, true, false, refl, sym, ap, ◌∙◌, arith, subst}
+use Rattle.std.proofs.Common.{◌≡◌, ◌≢◌, ◌<◌, ℕ, suc, zero, List, [], ◌∷◌, ◌++◌, length, map, Option, Some, None, Bool, true, false, refl, sym, ap, ◌∙◌}
+use Rattle.std.proofs.Common.{arith, subst}
 use Rattle.std.specs.Prelude.{◌↔◌, ◌&&◌, not, slice_get, get_or, if◌then◌else◌, filter}
 use Rattle.std.specs.Option.{IfSome}
-use Rattle.std.specs.List.{AllByRecursion, list_any}
+use Rattle.std.specs.List.{All, AllByRecursion, list_any}
 use Rattle.std.specs.Str.{bytes_eq}
 use Rattle.std.proofs.lemmas.Bool.{or_parts}
+use Rattle.std.proofs.lemmas.List.Elements.{recursion_from_All}
 use Rattle.std.proofs.lemmas.Slice.Eq.{bytes_eq-Decides}
 use Rattle.lifecycle.specs.declared.kinds.After.TheVariants as after
-use Rattle.components.specs.Fitted.{Fitted, name_of, is_before, is_same_item}
+use Rattle.device.specs.Devices.{Device}
+use Rattle.components.specs.Fitted.{Fitted, name_of, is_before}
 use Rattle.components.specs.Components.{Components, ComponentState, Child, component_name, is_over, is_gone, under_way, stops_for_good}
 use Rattle.components.specs.Marks.{flagged, may_replan}
 use Rattle.components.specs.Turns.{owes}
 use Rattle.components.specs.Answers.{living_numbers, child_numbers}
 use Rattle.components.specs.Changes.{Coming, counted, coming_for, fresh_part, leaving, is_replaced, with_texts, staying, coming_again, meeting, fate}
 use Rattle.components.specs.Changes.{standing, is_replacing, replanned, newcomers, placed, with_newcomers, changed_to}
-use Rattle.law_supervisor.specs.Sound.{HaveOwnNames}
-use Rattle.law_supervisor.specs.Keeps.{ItemsDiffer, IsTold, Owns}
-use Rattle.law_supervisor.proofs.Lists.{clash, some_same, no_some, from_places, at_places}
+use Rattle.law_supervisor.specs.Sound.{HaveOwnNames, IsOrderly, IsSoundPart, Differ}
+use Rattle.law_supervisor.specs.Keeps.{AreCounted, IsCounted, ItemsDiffer, IsTold, Keeps, Owns}
+use Rattle.law_supervisor.proofs.Lists.{clash, some_same, no_some, from_places, at_places, mapped_all, mapped_same}
 use Rattle.law_supervisor.proofs.Reached.{firsts_flagged, restarted_all, restarted_same, same_may}
 use Rattle.law_supervisor.proofs.Counts.{count, same_living, one_owns, owns_one}
 use Rattle.law_supervisor.proofs.Together.{told_each}
-use Rattle.law_supervisor.proofs.Changed.{texts_named, placed_all, newcomers_all, standing_all}
+use Rattle.law_supervisor.proofs.Changed.{texts_named, texts_same, placed_all, newcomers_all, standing_all, changed_sound, changed_counted}
 
 -- ---- what becomes of one
 
-texts_children : (f : Fitted) (p : ComponentState) → ((with_texts f p).children ≡ p.children) × ((with_texts f p).owed ≡ p.owed)
-texts_children f p = go (is_same_item f.item p.fitted.item)
-  where
-    go : (y : Bool) → (let q : ComponentState = (if y then record p { fitted = f } else p) in (q.children ≡ p.children) × (q.owed ≡ p.owed))
-    go false = (refl, refl)
-    go true = (refl, refl)
-
 -- the same name and children, and nothing new is owed
-record Same (p q : ComponentState) : Type 0 where
-  name : component_name q ≡ component_name p
-  children : q.children ≡ p.children
-  owed : p.owed ≡ None → q.owed ≡ None
+pub record Same (p q : ComponentState) : Type 0 where
+  pub name : component_name q ≡ component_name p
+  pub children : q.children ≡ p.children
+  pub owed : p.owed ≡ None → q.owed ≡ None
 
-same_leaving : (p : ComponentState) → Same p (leaving p)
+pub same_leaving : (p : ComponentState) → Same p (leaving p)
 same_leaving p = go p.life.gone (is_gone (under_way p.life))
   where
     go : (g u : Bool) → Same p (if g then p else (if u then record p { stop = None; next = None } else record p { stop = Some after.Gone; next = None }))
@@ -48,20 +44,23 @@ same_leaving p = go p.life.gone (is_gone (under_way p.life))
 same_meeting : (n : Coming) (p : ComponentState) → name_of n.0 ≡ component_name p → Same p (meeting n p)
 same_meeting n p e = go p.life.gone (is_replaced n.0 p) (stops_for_good (with_texts n.0 p).life)
   where
-    t : ((with_texts n.0 p).children ≡ p.children) × ((with_texts n.0 p).owed ≡ p.owed)
-    t = texts_children n.0 p
+    children : (with_texts n.0 p).children ≡ p.children
+    children = texts_same (λ q. q.children) (λ f q. refl) n.0 p
+
+    owed : p.owed ≡ None → (with_texts n.0 p).owed ≡ None
+    owed o = texts_same (λ q. q.owed) (λ f q. refl) n.0 p ∙ o
 
     go : (g y z : Bool) → Same p (if g then coming_again n p
         else (if y then (let q : ComponentState = with_texts n.0 p in if z then record q {
-          life = record q.life { stop = Some after.Again };
+          life = record q.life { stop = Some after.Restart };
           stop =
-              None;
+              Some after.Again;
           next = Some n;
         } else record q { stop = Some after.Again; next = Some n }) else staying n (with_texts n.0 p)))
     go true y z = record { name = e; children = refl; owed = λ o. refl }
-    go false true true = record { name = texts_named n.0 p e; children = t.0; owed = λ o. t.1 ∙ o }
-    go false true false = record { name = texts_named n.0 p e; children = t.0; owed = λ o. t.1 ∙ o }
-    go false false z = record { name = texts_named n.0 p e; children = t.0; owed = λ o. t.1 ∙ o }
+    go false true true = record { name = texts_named n.0 p e; children = children; owed = owed }
+    go false true false = record { name = texts_named n.0 p e; children = children; owed = owed }
+    go false false z = record { name = texts_named n.0 p e; children = children; owed = owed }
 
 found_name : (own : List ℕ) (ns : List Coming) → IfSome (coming_for own ns) (λ n. name_of n.0 ≡ own)
 found_name own [] = tt
@@ -78,8 +77,7 @@ same_fate ns p = go (coming_for (component_name p) ns) (found_name (component_na
 
 same_fates : {X : Type 0} (v : ComponentState → X) → ((p q : ComponentState) → Same p q → v q ≡ v p) → (ns : List Coming) (ps : List ComponentState) →
     map v (map (fate ns) ps) ≡ map v ps
-same_fates v m ns [] = refl
-same_fates v m ns (p ∷ ps) = ap (λ x. x ∷ map v (map (fate ns) ps)) (m p (fate ns p) (same_fate ns p)) ∙ ap (λ xs. v p ∷ xs) (same_fates v m ns ps)
+same_fates v m ns ps = mapped_same v (fate ns) (λ p. m p (fate ns p) (same_fate ns p)) ps
 
 same_replanned : {X : Type 0} (v : ComponentState → X) → ((p : ComponentState) → v (record p { stop = Some after.Restart }) ≡ v p) →
     (ps : List ComponentState) → map v (replanned ps) ≡ map v ps
@@ -138,13 +136,9 @@ changed_owns n items counts steady w =
 
 -- ---- what is owed
 
-owed_any : (ps : List ComponentState) → AllByRecursion (λ p. p.owed ≡ None) ps → list_any owes ps ≡ false
+pub owed_any : (ps : List ComponentState) → AllByRecursion (λ p. p.owed ≡ None) ps → list_any owes ps ≡ false
 owed_any [] a = refl
 owed_any (p ∷ ps) a = let x : owes p ≡ false = rw a.0 refl in rw x (owed_any ps a.1)
-
-fates_owed : (ns : List Coming) (ps : List ComponentState) → AllByRecursion (λ p. p.owed ≡ None) ps → AllByRecursion (λ p. p.owed ≡ None) (map (fate ns) ps)
-fates_owed ns [] a = tt
-fates_owed ns (p ∷ ps) a = ((same_fate ns p).owed a.0, fates_owed ns ps a.1)
 
 pub changed_told : (items : List Fitted) (counts : List ℕ) (steady : Bool) (w : Components) → IsTold w → IsTold (changed_to items counts steady w)
 changed_told items counts steady w t =
@@ -155,7 +149,8 @@ changed_told items counts steady w t =
     ns))
     (restarted_all (λ p. p.owed ≡ None) (λ p m e. e) may_replan same_may (flagged is_replacing (map (fate ns) (standing w.parts)))
     (subst (λ (qs : List ComponentState). AllByRecursion (λ p. p.owed ≡ None) qs) (sym (firsts_flagged is_replacing (map (fate ns) (standing w.parts))))
-    (fates_owed ns (standing w.parts) (standing_all (λ p. p.owed ≡ None) w.parts (from_places (λ p. p.owed ≡ None) w.parts (told_each w.parts t)))))))
+    (mapped_all (λ p. p.owed ≡ None) (λ p. p.owed ≡ None) (fate ns) (λ p o. (same_fate ns p).owed o) (standing w.parts)
+    (standing_all (λ p. p.owed ≡ None) w.parts (from_places (λ p. p.owed ≡ None) w.parts (told_each w.parts t)))))))
 
 -- ---- names
 
@@ -293,3 +288,35 @@ changed_names items counts steady w d h =
     (fresh_apart (λ (n : Coming). not (list_any (λ p. bytes_eq (component_name p) (name_of n.0)) (standing w.parts))) counts 0 items d)
     (not_met (standing w.parts) (replanned (map (fate ns) (standing w.parts))) same ns)
     (apart_names (standing w.parts) (replanned (map (fate ns) (standing w.parts))) same (standing_apart w.parts (apart_of w.parts h))))
+
+-- ---- what is kept
+
+pub few_counts : (counts : List ℕ) → All (λ (n : ℕ). n < 3) counts → (k : ℕ) → get_or counts k 0 < 3
+few_counts counts a = at counts (recursion_from_All (λ (n : ℕ). n < 3) counts a)
+  where
+    at : (ns : List ℕ) → AllByRecursion (λ (n : ℕ). n < 3) ns → (k : ℕ) → get_or ns k 0 < 3
+    at [] b k = omega arith
+    at (n ∷ ns) b zero = b.0
+    at (n ∷ ns) b (suc k) = at ns b.1 k
+
+pub changed_orderly : (items : List Fitted) (counts : List ℕ) (steady : Bool) (w : Components)
+    → ((k : ℕ) (f : Fitted) → slice_get items k ≡ Some f → get_or counts k 0 < 3) → ItemsDiffer items → IsOrderly w →
+    IsOrderly (changed_to items counts steady w)
+changed_orderly items counts steady w c n i = record {
+  sound = at_places IsSoundPart (changed_to items counts steady w).parts (changed_sound items counts steady w c i);
+  differ = subst Differ (sym (changed_living items counts steady w)) i.differ;
+  names = changed_names items counts steady w n i.names;
+}
+
+pub changed_keeps : (d : Device) (items : List Fitted) (counts : List ℕ) (w : Components) → IfSome d.pending (λ q. length q.failures ≡ 128) →
+    AreCounted d items counts → ItemsDiffer items → IsTold w → IsOrderly w → Keeps d (changed_to items counts false w)
+changed_keeps d items counts w m a n t i =
+    let o = changed_orderly items counts false w (λ k f e. (a k f e).1) n i in
+    record {
+      counted = at_places (IsCounted d) (changed_to items counts false w).parts (changed_counted d items counts false w a t i);
+      sound = o.sound;
+      differ = o.differ;
+      names = o.names;
+      driven = refl;
+      counts = m;
+    }

@@ -14,9 +14,10 @@ use Rattle.components.specs.Lives.{lived, lived_at, drops_at}
 use Rattle.components.specs.Events.{gone_by, is_orphan_at}
 use Rattle.components.specs.Turns.{owes}
 use Rattle.components.specs.Answers.{living_numbers}
-use Rattle.law_supervisor.specs.Sound.{IsSoundPart, AreSound, Differ, HaveOwnNames}
+use Rattle.law_supervisor.specs.Sound.{IsSoundPart, AreSound, Differ, HaveOwnNames, IsOrderly}
 use Rattle.law_supervisor.specs.Keeps.{IsCounted, Keeps, IsTold}
-use Rattle.law_supervisor.proofs.Lists.{none_of, some_same, no_some, from_places, at_places, changed_all, changed_same, twice, changed_nothing}
+use Rattle.law_supervisor.proofs.Lists.{none_of, some_same, no_some, from_places, at_places, changed_all, changed_same, changed_here, twice}
+use Rattle.law_supervisor.proofs.Lists.{changed_nothing, any_same}
 use Rattle.law_supervisor.proofs.Reached.{Marks, firsts_at, restarted_all, restarted_same, may_replan_of}
 use Rattle.law_supervisor.proofs.Items.{same_children}
 use Rattle.law_supervisor.proofs.Made.{MayBefall, begins, ends_fairly}
@@ -83,27 +84,33 @@ same_at ps qs e k q s = named (component_name q) (slice_get ps k)
 pub same_names : (ps qs : List ComponentState) → map component_name qs ≡ map component_name ps → HaveOwnNames ps → HaveOwnNames qs
 same_names ps qs e h = λ j k p q a b n. let x = same_at ps qs e j p a in let y = same_at ps qs e k q b in h j k x.0 y.0 x.1 y.1 (x.2 ∙ n ∙ sym y.2)
 
--- ---- of each: it is sound, and its count is that of the device
-
-abbrev pub Known : Device → ComponentState → Type 0
-Known d p = IsSoundPart p × IsCounted d p
-
-pub mark_known : (d : Device) → Marks (Known d)
-mark_known d p e k = (mark_sound p e k.0, mark_counted d p e k.1)
-
-pub known_of : (d : Device) (w : Components) → Keeps d w → AllByRecursion (Known d) w.parts
-known_of d w k = from_places (Known d) w.parts (λ j p e. (k.sound j p e, k.counted j p e))
+-- ---- what is kept of all
 
 pub sound_of : (w : Components) → AreSound w.parts → AllByRecursion IsSoundPart w.parts
 sound_of w s = from_places IsSoundPart w.parts s
 
-pub keep_from : (d : Device) (w v : Components) → Keeps d w → AllByRecursion (Known d) v.parts → map component_name v.parts ≡ map component_name w.parts →
-    Differ (living_numbers v.parts) → v.steady ≡ w.steady → Keeps d v
-keep_from d w v k a n f s = record {
-  counted = λ j p e. (at_places (Known d) v.parts a j p e).1;
-  sound = λ j p e. (at_places (Known d) v.parts a j p e).0;
-  differ = f;
-  names = same_names w.parts v.parts n k.names;
+pub orderly_from : (w v : Components) → IsOrderly w → AllByRecursion IsSoundPart v.parts → map component_name v.parts ≡ map component_name w.parts →
+    Differ (living_numbers v.parts) → IsOrderly v
+orderly_from w v i a n f = record { sound = at_places IsSoundPart v.parts a; differ = f; names = same_names w.parts v.parts n i.names }
+
+-- where all children stay
+pub orderly_same : (w v : Components) → IsOrderly w → AllByRecursion IsSoundPart v.parts → map component_name v.parts ≡ map component_name w.parts →
+    map (λ (p : ComponentState). p.children) v.parts ≡ map (λ (p : ComponentState). p.children) w.parts → IsOrderly v
+orderly_same w v i a n c = orderly_from w v i a n (subst Differ (sym (same_living w.parts v.parts c)) i.differ)
+
+pub order_of : (d : Device) (w : Components) → Keeps d w → IsOrderly w
+order_of d w k = record { sound = k.sound; differ = k.differ; names = k.names }
+
+pub counted_of : (d : Device) (w : Components) → Keeps d w → AllByRecursion (IsCounted d) w.parts
+counted_of d w k = from_places (IsCounted d) w.parts k.counted
+
+-- what is orderly, and where each count is that of the device
+pub keep_from : (d : Device) (w v : Components) → Keeps d w → IsOrderly v → AllByRecursion (IsCounted d) v.parts → v.steady ≡ w.steady → Keeps d v
+keep_from d w v k i a s = record {
+  counted = at_places (IsCounted d) v.parts a;
+  sound = i.sound;
+  differ = i.differ;
+  names = i.names;
   driven = s ∙ k.driven;
   counts = k.counts;
 }
@@ -114,18 +121,27 @@ told_each [] t k p e = no_some p e
 told_each (q ∷ qs) t zero p e = none_of p.owed (sym (ap owes (some_same q p e)) ∙ (or_parts (owes q) (list_any owes qs) t).0)
 told_each (q ∷ qs) t (suc k) p e = told_each qs (or_parts (owes q) (list_any owes qs) t).1 k p e
 
--- what befalls one that keeps its children
-pub plain_keeps : (d : Device) (k : ℕ) (e : LifeEvent) (w : Components) → IsTold w → Keeps d w
-    → ((p : ComponentState) → slice_get w.parts k ≡ Some p → IsSoundPart p → MayBefall e p × (ends_fairly e p ≡ true) ×
-    ((begins e && runs_in p.children) ≡ false)) → Keeps d (lived_at k e w)
-plain_keeps d k e w t i f = keep_from d w (lived_at k e w) i
-    (plain_all (Known d) (mark_known d) k e w (known_of d w i) (λ p q x.
-    let m = f p q x.0 in (
-      sound_lived w.steady e p p.children p.handed x.0 m.0 (run_lived w.steady e p (runs_in p.children) x.0 x.0.run m.2),
-      subst (λ (b : Bool). IsCounted d (lived b e p)) (sym i.driven) (counted_lived d e p p.children p.handed x.0 x.1 (told_each w.parts t k p q) m.0 m.1),
-    )))
+-- ---- what befalls one that keeps its children
+
+abbrev pub Befalls : LifeEvent → ComponentState → Type 0
+Befalls e p = MayBefall e p × (ends_fairly e p ≡ true) × ((begins e && runs_in p.children) ≡ false)
+
+abbrev pub BefallsAt : ℕ → LifeEvent → Components → Type 0
+BefallsAt k e w = (p : ComponentState) → slice_get w.parts k ≡ Some p → IsSoundPart p → Befalls e p
+
+pub plain_orderly : (k : ℕ) (e : LifeEvent) (w : Components) → IsOrderly w → BefallsAt k e w → IsOrderly (lived_at k e w)
+plain_orderly k e w i f = orderly_same w (lived_at k e w) i
+    (plain_all IsSoundPart mark_sound k e w (sound_of w i.sound) (λ p q x.
+    let m = f p q x in sound_lived w.steady e p p.children p.handed x m.0 (run_lived w.steady e p (runs_in p.children) x x.run m.2)))
     (event_names k e w (sound_of w i.sound))
-    (subst Differ (sym (same_living w.parts (lived_at k e w).parts (event_children k e w))) i.differ)
+    (event_children k e w)
+
+pub plain_keeps : (d : Device) (k : ℕ) (e : LifeEvent) (w : Components) → IsTold w → Keeps d w → BefallsAt k e w → Keeps d (lived_at k e w)
+plain_keeps d k e w t i f = keep_from d w (lived_at k e w) i (plain_orderly k e w (order_of d w i) f)
+    (plain_all (IsCounted d) (mark_counted d) k e w (counted_of d w i) (λ p q x.
+    let s = i.sound k p q in
+    let m = f p q s in subst (λ (b : Bool). IsCounted d (lived b e p)) (sym i.driven)
+    (counted_lived d e p p.children p.handed s x (told_each w.parts t k p q) m.0 m.1)))
     refl
 
 -- ---- a child that is gone
@@ -145,40 +161,47 @@ differ_gone k n ps d = few_differ (living_numbers (changed_at k (without_child n
         outside zero (p ∷ ps) e = no_some p (sym e)
         outside (suc k) (p ∷ ps) e = ap (λ (qs : List ComponentState). p ∷ qs) (outside k ps e)
 
-gone_known : (d : Device) (n : ℕ) (p : ComponentState) → Known d p → Known d (without_child n p)
-gone_known d n p x = (sound_these p (but n p.children) p.handed x.0 (run_but n p x.0), counted_these d p (but n p.children) p.handed x.1)
-
-child_gone_keeps : (d : Device) (k n : ℕ) (w : Components) → Keeps d w → Keeps d (child_gone k n w)
-child_gone_keeps d k n w i = keep_from d w (child_gone k n w) i
-    (changed_all (Known d) k (without_child n) w.parts (known_of d w i) (λ p q x. gone_known d n p x))
+child_gone_orderly : (k n : ℕ) (w : Components) → IsOrderly w → IsOrderly (child_gone k n w)
+child_gone_orderly k n w i = orderly_from w (child_gone k n w) i
+    (changed_all IsSoundPart k (without_child n) w.parts (sound_of w i.sound) (λ p q x. sound_these p (but n p.children) p.handed x (run_but n p x)))
     (changed_same component_name k (without_child n) w.parts (λ p q. refl))
     (differ_gone k n w.parts i.differ)
+
+child_gone_keeps : (d : Device) (k n : ℕ) (w : Components) → Keeps d w → Keeps d (child_gone k n w)
+child_gone_keeps d k n w i = keep_from d w (child_gone k n w) i (child_gone_orderly k n w (order_of d w i))
+    (changed_all (IsCounted d) k (without_child n) w.parts (counted_of d w i) (λ p q x. counted_these d p (but n p.children) p.handed x))
     refl
 
-event_gone_keeps : (d : Device) (k n : ℕ) (e : LifeEvent) (w : Components) → IsTold w → Keeps d w → begins e ≡ false
-    → ((p : ComponentState) → slice_get w.parts k ≡ Some p → IsSoundPart p → MayBefall e (without_child n p) × (ends_fairly e (without_child n p) ≡ true)) →
-    Keeps d (lived_at k e (child_gone k n w))
-event_gone_keeps d k n e w t i b f = keep_from d w (lived_at k e (child_gone k n w)) i
-    (event_all (Known d) (mark_known d) k e (without_child n) w (known_of d w i) (λ p q x.
-    let m = f p q x.0 in (
-      sound_lived w.steady e p (but n p.children) p.handed x.0 m.0
-          (run_lived w.steady e (without_child n p) (runs_in (but n p.children)) (gone_known d n p x).0 (run_but n p x.0) (rw b refl)),
-      subst (λ (y : Bool). IsCounted d (lived y e (without_child n p))) (sym i.driven)
-          (counted_lived d e p (but n p.children) p.handed x.0 x.1 (told_each w.parts t k p q) m.0 m.1),
-    )))
-    (event_names k e (child_gone k n w) (sound_of (child_gone k n w) (child_gone_keeps d k n w i).sound) ∙ changed_same component_name k
-    (without_child n) w.parts (λ p q. refl))
-    (subst Differ (sym (same_living (child_gone k n w).parts (lived_at k e (child_gone k n w)).parts (event_children k e (child_gone k n w))))
-    (differ_gone k n w.parts i.differ))
-    refl
+child_gone_told : (k n : ℕ) (w : Components) → IsTold w → IsTold (child_gone k n w)
+child_gone_told k n w t = any_same owes w.parts (child_gone k n w).parts (changed_same owes k (without_child n) w.parts (λ p q. refl)) ∙ t
 
-pub gone_by_keeps : (d : Device) (o : Option LifeEvent) (k : ℕ) (s : Step) (n : ℕ) (w : Components) → IsTold w → Keeps d w
-    → ((e : LifeEvent) → o ≡ Some e → is_orphan_at k s w ≡ false → (begins e ≡ false) ×
-    ((p : ComponentState) → slice_get w.parts k ≡ Some p → IsSoundPart p → MayBefall e (without_child n p) × (ends_fairly e (without_child n p) ≡ true)))
-    → Keeps d (gone_by o k s n w)
+-- what comes with the end of the child may befall its component without it
+abbrev pub GoesBy : Option LifeEvent → ℕ → Step → ℕ → Components → Type 0
+GoesBy o k s n w = (e : LifeEvent) → o ≡ Some e → (begins e ≡ false) ×
+    ((p : ComponentState) → slice_get w.parts k ≡ Some p → IsSoundPart p → MayBefall e (without_child n p) × (ends_fairly e (without_child n p) ≡ true))
+
+gone_befalls : (o : Option LifeEvent) (k : ℕ) (s : Step) (n : ℕ) (e : LifeEvent) (w : Components) → IsOrderly w → o ≡ Some e → GoesBy o k s n w →
+    BefallsAt k e (child_gone k n w)
+gone_befalls o k s n e w i y f q a x =
+    let h = changed_here k (without_child n) w.parts q a in
+    let g = f e y in
+    let m = g.1 h.0 h.1 (i.sound k h.0 h.1) in
+    subst (Befalls e) h.2 (m.0, m.1, rw g.0 refl)
+
+pub gone_by_orderly : (o : Option LifeEvent) (k : ℕ) (s : Step) (n : ℕ) (w : Components) → IsOrderly w → GoesBy o k s n w → IsOrderly (gone_by o k s n w)
+gone_by_orderly None k s n w i f = child_gone_orderly k n w i
+gone_by_orderly (Some e) k s n w i f = elim (is_orphan_at k s w)
+    as (λ (b : Bool). IsOrderly (if b then child_gone k n w else lived_at k e (child_gone k n w))) [
+      | true ↦ child_gone_orderly k n w i
+      | false ↦ plain_orderly k e (child_gone k n w) (child_gone_orderly k n w i) (gone_befalls (Some e) k s n e w i refl f)
+    ]
+
+pub gone_by_keeps : (d : Device) (o : Option LifeEvent) (k : ℕ) (s : Step) (n : ℕ) (w : Components) → IsTold w → Keeps d w → GoesBy o k s n w →
+    Keeps d (gone_by o k s n w)
 gone_by_keeps d None k s n w t i f = child_gone_keeps d k n w i
-gone_by_keeps d (Some e) k s n w t i f = elim (is_orphan_at k s w) as (λ (b : Bool). is_orphan_at k s w ≡ b →
-    Keeps d (if b then child_gone k n w else lived_at k e (child_gone k n w))) [
-      | true ↦ λ y. child_gone_keeps d k n w i
-      | false ↦ λ y. (let m = f e refl y in event_gone_keeps d k n e w t i m.0 m.1)
-    ] refl
+gone_by_keeps d (Some e) k s n w t i f = elim (is_orphan_at k s w)
+    as (λ (b : Bool). Keeps d (if b then child_gone k n w else lived_at k e (child_gone k n w))) [
+      | true ↦ child_gone_keeps d k n w i
+      | false ↦ plain_keeps d k e (child_gone k n w) (child_gone_told k n w t) (child_gone_keeps d k n w i)
+          (gone_befalls (Some e) k s n e w (order_of d w i) refl f)
+    ]

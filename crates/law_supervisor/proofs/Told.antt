@@ -18,13 +18,13 @@ use Rattle.components.specs.Components.{Components, ComponentState, At, changed_
 use Rattle.components.specs.Components.{under_way, owner, stops_for_good}
 use Rattle.components.specs.Events.{told_at}
 use Rattle.components.specs.Acts.{OwesAt}
-use Rattle.law_supervisor.specs.Sound.{IsSoundPart, Differ, is_waiting, is_to_begin_again}
+use Rattle.law_supervisor.specs.Sound.{IsSoundPart, IsOrderly, is_waiting, is_to_begin_again}
 use Rattle.law_supervisor.specs.Keeps.{Keeps, IsCounted, AgreesBy, count_of}
-use Rattle.law_supervisor.proofs.Lists.{either, clash, second_true, none_of, some_same, no_some, changed_same}
+use Rattle.law_supervisor.proofs.Lists.{either, clash, second_true, none_of, some_same, no_some, changed_all, changed_same}
 use Rattle.law_supervisor.proofs.Made.{Agrees}
 use Rattle.law_supervisor.proofs.Moved.{at_of}
-use Rattle.law_supervisor.proofs.Counts.{same_owner, same_living}
-use Rattle.law_supervisor.proofs.Together.{same_names}
+use Rattle.law_supervisor.proofs.Counts.{same_owner}
+use Rattle.law_supervisor.proofs.Together.{sound_of, order_of, orderly_same}
 
 -- ---- the device's counts
 
@@ -159,23 +159,28 @@ no_next p k s =
           (second_true (not (is_waiting p)) (is_to_begin_again p) k.waits (rw y refl)) t
     ])
 
+told_sound : (p : ComponentState) → IsSoundPart p → IsSoundPart (told p)
+told_sound p k = record {
+  few = k.few;
+  busy = k.busy;
+  runs = k.runs;
+  run = k.run;
+  bare = k.bare;
+  asks = k.asks;
+  waits = k.waits;
+  takes = k.takes;
+  coming =
+      k.coming;
+}
+
+pub told_orderly : (k : ℕ) (w : Components) → IsOrderly w → IsOrderly (told_at k w)
+told_orderly k w i = orderly_same w (told_at k w) i (changed_all IsSoundPart k told w.parts (sound_of w i.sound) (λ p q x. told_sound p x))
+    (changed_same component_name k told w.parts (λ p q. refl))
+    (changed_same (λ p. p.children) k told w.parts (λ p q. refl))
+
 module _ (d : Device) (n : List ℕ) (s : Step) (x : Exit) where
   abbrev new : Device
   new = applied d (StepFailed n s x)
-
-  told_sound : (p : ComponentState) → IsSoundPart p → IsSoundPart (told p)
-  told_sound p k = record {
-    few = k.few;
-    busy = k.busy;
-    runs = k.runs;
-    run = k.run;
-    bare = k.bare;
-    asks = k.asks;
-    waits = k.waits;
-    takes = k.takes;
-    coming =
-        k.coming;
-  }
 
   free : (p : ComponentState) → IsCounted d p → p.owed ≡ Some (s, x) → (is_spared p ≡ false) × (p.life.gone ≡ false)
   free p i o = (
@@ -220,22 +225,21 @@ pub told_keeps : (d : Device) (k : ℕ) (n : List ℕ) (s : Step) (e : Exit) (b 
     At k (λ p. component_name p ≡ n) w.parts → Keeps (applied d (StepFailed n s e)) (told_at k w)
 told_keeps d k n s e b w i o a = record {
   counted = λ j r h. by_which j r (which k w.parts j r h);
-  sound = λ j r h. by_sound j r (which k w.parts j r h);
-  differ = subst Differ (sym (same_living w.parts (told_at k w).parts (changed_same (λ p. p.children) k told w.parts (λ p q. refl)))) i.differ;
-  names = same_names w.parts (told_at k w).parts (changed_same component_name k told w.parts (λ p q. refl)) i.names;
+  sound = orderly.sound;
+  differ = orderly.differ;
+  names = orderly.names;
   driven = i.driven;
   counts = still_many d n s e i.counts;
 }
   where
+    orderly : IsOrderly (told_at k w)
+    orderly = told_orderly k w (order_of d w i)
+
     owed : (p : ComponentState) → slice_get w.parts k ≡ Some p → p.owed ≡ Some (s, e)
     owed p g = (at_of (λ q. (q.owed ≡ Some (s, e)) × (is_broken q.life.state ≡ b) × (place_of (component_name q) w.parts ≡ Some k)) k w.parts p g o).0
 
     its_name : (p : ComponentState) → slice_get w.parts k ≡ Some p → component_name p ≡ n
     its_name p g = at_of (λ q. component_name q ≡ n) k w.parts p g a
-
-    by_sound : (j : ℕ) (r : ComponentState) → Which k w.parts j r → IsSoundPart r
-    by_sound j r (itself p y g h) = subst IsSoundPart h (told_sound d n s e p (i.sound k p g))
-    by_sound j r (other ne g) = i.sound j r g
 
     there : (o : Option ComponentState) → IsSomeAnd o (λ q. component_name q ≡ n) → slice_get w.parts k ≡ o → (p : ComponentState) ×
         (slice_get w.parts k ≡ Some p)

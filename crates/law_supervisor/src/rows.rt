@@ -8,6 +8,7 @@ ghost use Rattle.components.specs.Acts.{Quietly, OwesAt};
 ghost use Rattle.law_supervisor.specs.Keeps.{Keeps, IsTold, Owns, count_of};
 ghost use Rattle.law_supervisor.specs.Sound.{IsOrderly};
 ghost use Rattle.law_supervisor.specs.Rows.{fitted_a, device_a, comes, begins, begun_a, lives, failed, recorded, told, stands, replaced};
+ghost use Rattle.law_supervisor.specs.Rows.{with_shutdown, leaves, comes_back, rests, stops_again, takes};
 
 /// A component comes, its install begins, its child lives and fails, and the failure is told and recorded: it is kept
 /// all the way, and the premises of each law are met.
@@ -30,4 +31,20 @@ pub fn one_is_replaced()
     ensures keeps { (m : Prepared) → Keeps device_a (replaced m) }
     ensures waits { (m : Prepared) → map (λ p. p.next) (replaced m).parts ≡ Some (fitted_a 49 m, 0) ∷ [] }
     ensures stops { (m : Prepared) → map (λ p. p.stop) (replaced m).parts ≡ Some after.Again ∷ [] }
+{}
+
+/// The same comes while version 2 is being stopped for good: that stop ends as one with `Restart`, which leaves version 2,
+/// and the stop that is given after it takes version 1 with the device's count.
+pub fn one_comes_back()
+    ensures orderly { (m : Prepared) → IsOrderly (leaves m) }
+    ensures keeps { (m : Prepared) → Keeps device_a (comes_back m) }
+    ensures under_way { (m : Prepared) → map (λ p. p.life.stop) (comes_back m).parts ≡ Some after.Restart ∷ [] }
+    ensures stops { (m : Prepared) → map (λ p. p.stop) (comes_back m).parts ≡ Some after.Again ∷ [] }
+    ensures waits { (m : Prepared) → map (λ p. p.next) (comes_back m).parts ≡ Some (fitted_a 49 m, 0) ∷ [] }
+    ensures rests { (m : Prepared) → map (λ p. p.fitted) (rests m).parts ≡ with_shutdown m ∷ [] }
+    ensures still_waits { (m : Prepared) → map (λ p. p.next) (rests m).parts ≡ Some (fitted_a 49 m, 0) ∷ [] }
+    ensures moves { (m : Prepared) → Quietly (rests m) (stops_again ∷ []) (takes m) }
+    ensures takes { (m : Prepared) → map (λ p. p.fitted) (takes m).parts ≡ fitted_a 49 m ∷ [] }
+    ensures counts { (m : Prepared) → map (λ p. p.life.failures) (takes m).parts ≡ 0 ∷ [] }
+    ensures kept { (m : Prepared) → Keeps device_a (takes m) }
 {}

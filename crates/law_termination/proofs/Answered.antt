@@ -1,11 +1,10 @@
 -- A start that was handed out and is answered is like one that was never handed out.
-use Rattle.std.proofs.Common.{◌≡◌, ◌+◌, false, ℕ, suc, zero, List, [], ◌∷◌, length, true, refl, ap}
+use Rattle.std.proofs.Common.{◌≡◌, false, ℕ, suc, zero, List, [], ◌∷◌, length, true, refl, ap}
 use Rattle.std.specs.List.{AllByRecursion}
 use Rattle.nuc_base.specs.declared.kinds.Step.{Step}
 use Rattle.components.specs.Components.{Components, ComponentState, At, changed_at}
 use Rattle.components.specs.Events.{answered_at, launched, started, with_child}
 use Rattle.components.specs.Turns.{is_begun}
-use Rattle.law_termination.specs.Rank.{part_rank, rank_of}
 
 abbrev pub unhanded : ComponentState → ComponentState
 unhanded p = record p { handed = false }
@@ -27,16 +26,6 @@ pub answered_all : (P : ComponentState → Type 0) → ((p : ComponentState) →
 answered_all P f k [] a = tt
 answered_all P f zero (p ∷ ps) a = (f p a.0, a.1)
 answered_all P f (suc k) (p ∷ ps) a = (a.0, answered_all P f k ps a.1)
-
-pub answered_rank : (k : ℕ) (ps : List ComponentState) → rank_of (changed_at k unhanded ps) ≡ rank_of ps
-answered_rank k [] = refl
-answered_rank zero (p ∷ ps) = refl
-answered_rank (suc k) (p ∷ ps) = ap (λ (n : ℕ). part_rank p + n) (answered_rank k ps)
-
-pub handed_rank : (k : ℕ) (ps : List ComponentState) → rank_of (changed_at k (λ p. record p { handed = true }) ps) ≡ rank_of ps
-handed_rank k [] = refl
-handed_rank zero (p ∷ ps) = refl
-handed_rank (suc k) (p ∷ ps) = ap (λ (n : ℕ). part_rank p + n) (handed_rank k ps)
 
 pub handed_all : (P : ComponentState → Type 0) → ((p : ComponentState) → P p → P (record p { handed = true })) → (k : ℕ) (ps : List ComponentState) →
     AllByRecursion P ps → AllByRecursion P (changed_at k (λ p. record p { handed = true }) ps)

@@ -1,234 +1,186 @@
--- Whatever befalls the components keeps what is kept.
-use Rattle.std.proofs.Common.{◌≡◌, ◌≤◌, ℕ, suc, zero, List, [], ◌∷◌, map, Option, Some, None, Bool, true, false, refl, sym, ap, ◌∙◌, arith, subst, slice_get}
-use Rattle.std.specs.Prelude.{◌&&◌, not, ◌==◌, filter, option_map, option_and_then, if◌then◌else◌, ⊤}
-use Rattle.std.specs.Option.{IsSomeAnd}
-use Rattle.std.specs.List.{list_all, AllByRecursion}
-use Rattle.std.proofs.lemmas.Bool.{and_parts}
-use Rattle.nuc_base.specs.declared.kinds.Step.{Step}
-use Rattle.nuc_base.specs.declared.kinds.Step.TheVariants as step
-use Rattle.nuc_base.specs.declared.kinds.Exit.{Exit}
-use Rattle.nuc_base.specs.declared.kinds.Exit.TheVariants as exits
-use Rattle.lifecycle.specs.Awaits.{is_awaited}
+-- Whatever befalls the components keeps what is kept, also where an item is taken.
+use Rattle.std.proofs.Common.{◌≡◌, ◌<◌, ℕ, List, Option, Some, None, Bool, true, false, refl, slice_get}
+use Rattle.std.specs.List.{AllByRecursion}
+use Rattle.std.specs.Str.{bytes_eq}
+use Rattle.lifecycle.specs.Awaits.{is_stopping}
 use Rattle.lifecycle.specs.declared.kinds.After.{After}
+use Rattle.lifecycle.specs.declared.kinds.After.TheVariants as after
 use Rattle.lifecycle.specs.declared.kinds.LifeEvent.{LifeEvent}
 use Rattle.lifecycle.specs.declared.kinds.LifeEvent.TheVariants as event
-use Rattle.components.specs.Fitted.{Fitted, limit_of, prepared_of}
-use Rattle.components.specs.Components.{Components, ComponentState, Child, At, changed_at, child_gone, child_of, is_broken, is_to_stop, owner, component_name}
-use Rattle.components.specs.Components.{place_of, stands_up, without_child}
-use Rattle.components.specs.Deadlines.{deadline_after}
-use Rattle.components.specs.Turns.{is_begun, is_met, may_begin, may_retry, may_stop, serves_softly}
-use Rattle.components.specs.Lives.{lived, lived_at}
-use Rattle.components.specs.Events.{ended, gone_by, handed_at, is_late_child, is_orphan_at, kill_event, kill_event_at, killed, later, refused, skipped}
-use Rattle.components.specs.Events.{started, told_at, with_child}
-use Rattle.components.specs.Acts.{HandsOut, MayKill, MayMove, Move, NextAct, OwesAt, Quietly, is_kill_due, spares}
-use Rattle.components.specs.declared.kinds.Act.{Act}
-use Rattle.components.specs.declared.kinds.Act.TheVariants as acts
-use Rattle.law_termination.specs.Kept.{AreKept, IsKeptPart, MayBefall}
-use Rattle.law_termination.proofs.Answered.{handed_all, handed_length}
-use Rattle.law_termination.proofs.Goes.{not_so}
-use Rattle.law_termination.proofs.Happens.{owner_at}
+use Rattle.components.specs.Components.{At, Child, ComponentState, Components, changed_at, is_again, is_gone, is_leaving, component_name}
+use Rattle.components.specs.Fitted.{Fitted}
+use Rattle.components.specs.Lives.{lived, lived_at, stop_in}
+use Rattle.components.specs.Turns.{is_held_far, hard_needs}
+use Rattle.law_supervisor.proofs.Made.{MayBefall}
+use Rattle.law_termination.specs.Drives.{GoesOn, IsInTime, IsBelow, IsDriven, Drives}
+use Rattle.law_termination.specs.Kept.{IsKeptPart, IsOrderedPart, newest, AreKept}
+use Rattle.law_termination.proofs.Carried.{AreCarried, IsCarried, IsSource, carried_event, carried_still, carried_on, source_needs}
+use Rattle.law_termination.proofs.Lists.{Has, clash, each_has}
+use Rattle.law_termination.proofs.Near.{all_front, all_more, all_of, at_from, at_some, has_at, same_bytes}
+use Rattle.law_termination.proofs.Reorder.{newest_below, newest_there, none_needs, order, re_served}
+use Rattle.law_termination.proofs.Still.{among, apart_lived, ends_lived, gone_lived, in_time_lived, needs_lived, next_hard, shown_lived, still_lived}
+use Rattle.law_termination.proofs.Still.{takes_lived}
 use Rattle.law_termination.proofs.Sums.{at_both, at_map}
-use Rattle.law_termination.proofs.Whole.{end_keeps, kill_keeps, later_keeps, move_keeps, refuse_keeps, skip_keeps, start_keeps, told_keeps}
-use Rattle.law_termination.specs.Drives.{Drives, GoesOn, IsDriven, IsInTime}
-use Rattle.law_termination.proofs.Same.{AreSame, IsSame, all_self, goes_on, goes_through, same_befallen, same_changed, same_lived, same_self}
 
--- ---- the children
+abbrev pub any : List ℕ → Type 0
+any n = Unit {0}
 
-in_time_but : (n : ℕ) (cs : List Child) → AllByRecursion IsInTime cs → AllByRecursion IsInTime (filter (λ (c : Child). not (c.number == n)) cs)
-in_time_but n [] h = tt
-in_time_but n (c ∷ cs) h = elim (c.number == n) as (λ (b : Bool). AllByRecursion IsInTime
-    (if not b then c ∷ filter (λ (c : Child). not (c.number == n)) cs else filter (λ (c : Child). not (c.number == n)) cs))
-    [ true ↦ in_time_but n cs h.1 | false ↦ (h.0, in_time_but n cs h.1) ]
+next_newest : (P : List ℕ → Type 0) (p : ComponentState) → AllByRecursion P (newest p).hard → AllByRecursion P (next_hard p.next)
+next_newest P p a = elim p.next as (λ (o : Option (Fitted × ℕ)). (let f : Fitted = (elim o [ None ↦ p.fitted | Some n ↦ n.0 ]) in AllByRecursion P f.hard) →
+    AllByRecursion P (next_hard o)) [ None ↦ λ b. tt | Some n ↦ λ b. b ] a
 
-deadline_in_time : (o : Option ℕ) (m n : ℕ) (s : Step) → IsInTime (record { number = n; of = s; deadline = deadline_after o m })
-deadline_in_time None m n s = tt
-deadline_in_time (Some l) m n s = omega arith
+module _ (w : Components) (i : Drives w) where
+  -- its stop may be given
+  pub record IsFree (a : After) (p : ComponentState) : Type 0 where
+    pub asked : p.stop ≡ Some a
+    pub stands : p.life.gone ≡ false
+    pub idle : is_stopping p.life.state ≡ false
+    pub free : is_held_far (component_name p) w.parts ≡ false
 
-at_self : (j : ℕ) (ps : List ComponentState) (P : ComponentState → Type 0) → At j P ps → At j (λ p. P p × (slice_get ps j ≡ Some p)) ps
-at_self j [] P a = absurd a
-at_self zero (p ∷ ps) P a = (a, refl)
-at_self (suc j) (p ∷ ps) P a = at_self j ps P a
+  abbrev pub Free : LifeEvent → ComponentState → Type 0
+  Free event.MayBegin p = Unit {0}
+  Free event.Launched p = Unit {0}
+  Free event.Skipped p = Unit {0}
+  Free (event.Ended s x) p = Unit {0}
+  Free (event.Stop after.Restart) p = Unit {0}
+  Free (event.Stop after.Again) p = IsFree after.Again p
+  Free (event.Stop after.Gone) p = IsFree after.Gone p
+  Free event.Retry p = Unit {0}
 
-module _ (w : Components) (d : Drives w) where
-  abbrev Known : ComponentState → Type 0
-  Known p = IsKeptPart p × IsDriven d.s w.parts p
+  pub record IsReady (e : LifeEvent) (cs : ComponentState → List Child) (hs : ComponentState → Bool) (p : ComponentState) : Type 0 where
+    pub may : MayBefall e (among (cs p) (hs p) p)
+    pub in_time : AllByRecursion IsInTime p.children → AllByRecursion IsInTime (cs p)
+    pub free : Free e p
 
-  known_at : (k : ℕ) (P Q : ComponentState → Type 0) → ((p : ComponentState) → Known p → P p → Q p) → At k P w.parts → At k Q w.parts
-  known_at k P Q f a = at_map k w.parts (λ p. IsKeptPart p × (IsDriven d.s w.parts p × P p)) Q (λ p x. f p (x.0, x.1.0) x.1.1)
-      (at_both k w.parts IsKeptPart (λ p. IsDriven d.s w.parts p × P p) d.alone.parts (at_both k w.parts (IsDriven d.s w.parts) P d.each a))
+  kept_at : (k : ℕ) (P : ComponentState → Type 0) → At k P w.parts → At k (λ p. IsKeptPart p × (IsDriven i.r w.parts p × P p)) w.parts
+  kept_at k P a = at_both k w.parts IsKeptPart (λ p. IsDriven i.r w.parts p × P p) i.alone (at_both k w.parts (IsDriven i.r w.parts) P i.each a)
 
-  -- an event, with nothing before it
-  alone_befalls : (k : ℕ) (e : LifeEvent) → At k (λ p. MayBefall e p) w.parts → AreSame w.parts (lived_at k e w).parts
-  alone_befalls k e a = subst (λ (ps : List ComponentState). AreSame w.parts (lived_at k e (record w { parts = ps })).parts) (changed_none k w.parts)
-      (same_befallen k w.moment w.steady e (λ p. p) w.parts (known_at k (λ p. MayBefall e p) (λ p. IsSame p (lived w.steady e p))
-      (λ p x m. same_lived w.steady e p p.children p.handed x.0 x.1.next m (λ h. h)) a))
-    where
-      changed_none : (j : ℕ) (ps : List ComponentState) → changed_at j (λ p. p) ps ≡ ps
-      changed_none j [] = refl
-      changed_none zero (p ∷ ps) = refl
-      changed_none (suc j) (p ∷ ps) = ap (λ (qs : List ComponentState). p ∷ qs) (changed_none j ps)
+  plain_source : (p : ComponentState) → IsDriven i.r w.parts p → IsSource any i.r w.parts p
+  plain_source p s = record { served = s; so = λ g. all_of any (hard_needs p) (λ n h. tt) }
 
-  may_of : (k : ℕ) (e : LifeEvent) → MayMove w k e → At k (λ p. MayBefall e p) w.parts
-  may_of k event.MayBegin a = at_map k w.parts (λ p. may_begin w p ≡ true) (λ p. is_to_stop p ≡ false) (λ p m.
-      let y = and_parts (is_awaited event.MayBegin p.life && not (is_to_stop p)) (list_all (is_met stands_up w.parts) p.fitted.hard &&
-      list_all (is_met serves_softly w.parts) p.fitted.soft) m in
-      not_so (is_to_stop p) (and_parts (is_awaited event.MayBegin p.life) (not (is_to_stop p)) y.0).1) a
-  may_of k event.Retry a = at_map k w.parts (λ p. may_retry p ≡ true) (λ p. is_to_stop p ≡ false)
-      (λ p m. not_so (is_to_stop p) (and_parts (is_awaited event.Retry p.life) (not (is_to_stop p)) m).1) a
-  may_of k (event.Stop s) a = at_map k w.parts (λ p. (may_stop w p ≡ true) × (p.stop ≡ Some s) × (spares (event.Stop s) p ≡ true)) (λ p. p.stop ≡ Some s)
-      (λ p m. m.1) a
-  may_of k event.Launched a = absurd a
-  may_of k event.Skipped a = absurd a
-  may_of k (event.Ended s x) a = absurd a
+  pub sources : AllByRecursion (IsSource any i.r w.parts) w.parts
+  sources = all_of (IsSource any i.r w.parts) w.parts (λ p h. plain_source p (each_has (IsDriven i.r w.parts) p w.parts h i.each))
 
-  pub move_on : (k : ℕ) (e : LifeEvent) → MayMove w k e → GoesOn w (lived_at k e w)
-  move_on k e m = goes_on w (lived_at k e w) d (move_keeps w d.alone k e m).kept (alone_befalls k e (may_of k e m))
+  -- the same order serves
+  pub same_order : (v : Components) → AreKept v → AreCarried any i.r w.parts w.parts v.parts → GoesOn w v
+  same_order v k a = carried_on any i.r w.parts i.s w v i.names i.ordered a k
 
-  pub told_on : (k : ℕ) (s : Step) (x : Exit) (b : Bool) → OwesAt w k s x b → GoesOn w (told_at k w)
-  told_on k s x b o = goes_on w (told_at k w) d (told_keeps w d.alone k s x b o).kept
-      (same_changed k (λ p. record p { owed = None }) w.parts
-      (known_at k (λ p. (p.owed ≡ Some (s, x)) × (is_broken p.life.state ≡ b) × (place_of (component_name p) w.parts ≡ Some k))
-      (λ p. IsSame p (record p { owed = None })) (λ p y m. record { fitted = refl; next = refl; leaving = refl; in_time = λ h. h }) o))
+  abbrev pub befallen : ℕ → LifeEvent → (ComponentState → List Child) → (ComponentState → Bool) → Components
+  befallen k e cs hs = lived_at k e (record w { parts = changed_at k (λ p. among (cs p) (hs p) p) w.parts })
 
-  unhanded_befalls : (k : ℕ) (t : Step) (e : LifeEvent) → ((p : ComponentState) → MayBefall e p) → At k (λ p. is_begun t p ≡ true) w.parts →
-      AreSame w.parts (lived_at k e (record w { parts = changed_at k (λ p. record p { handed = false }) w.parts })).parts
-  unhanded_befalls k t e f a = same_befallen k w.moment w.steady e (λ p. record p { handed = false }) w.parts
-      (known_at k (λ p. is_begun t p ≡ true) (λ p. IsSame p (lived w.steady e (record p { handed = false })))
-      (λ p x m. same_lived w.steady e p p.children false x.0 x.1.next (f (record p { handed = false })) (λ h. h)) a)
+  plainly : (k : ℕ) (e : LifeEvent) (cs : ComponentState → List Child) (hs : ComponentState → Bool) → is_again (stop_in e) ≡ false →
+      is_gone (stop_in e) ≡ false → At k (IsReady e cs hs) w.parts → AreKept (befallen k e cs hs) → GoesOn w (befallen k e cs hs)
+  plainly k e cs hs x y a alone = same_order (befallen k e cs hs) alone (carried_event any i.r w.parts k w.moment w.steady e (λ p. among (cs p) (hs p) p)
+      sources
+      (at_map k w.parts (λ p. IsKeptPart p × (IsDriven i.r w.parts p × IsReady e cs hs p)) (λ p. IsCarried any i.r w.parts p (lived w.steady e (among (cs p)
+      (hs p) p)))
+      (λ p z. carried_still any i.r w.parts p (lived w.steady e (among (cs p) (hs p) p)) (plain_source p z.1.0) (still_lived w.steady e p (cs p) (hs p) z.0
+      z.1.1.may x y z.1.1.in_time)) (kept_at k (IsReady e cs hs) a)))
 
-  pub refuse_on : (k : ℕ) (s : Step) → At k (λ p. is_begun s p ≡ true) w.parts → GoesOn w (refused k s w)
-  refuse_on k s a = goes_on w (refused k s w) d (refuse_keeps w d.alone k s a).kept (unhanded_befalls k s (event.Ended s exits.NotStarted) (λ p. tt) a)
+  -- ---- a stop with Again, which may take an item
 
-  pub skip_on : (k : ℕ) (s : Step) → At k (λ p. is_begun s p ≡ true) w.parts → GoesOn w (skipped k w)
-  skip_on k s a = goes_on w (skipped k w) d (skip_keeps w d.alone k s a).kept (unhanded_befalls k s event.Skipped (λ p. tt) a)
+  module _ (k : ℕ) (cs : ComponentState → List Child) (hs : ComponentState → Bool) (v : ComponentState) (here : Has v w.parts) (there : slice_get w.parts k
+      ≡ Some v) (kept : IsKeptPart v) (ready : IsReady (event.Stop after.Again) cs hs v) where
+    abbrev t : List ℕ → ℕ
+    t = order i.r i.s w.parts i.alone i.names i.ordered i.each v here ready.free.free
 
-  -- ---- a start
+    stays : is_leaving v ≡ false
+    stays = rw ready.free.stands (rw ready.free.asked (rw ready.free.idle refl))
 
-  abbrev born : ℕ → Step → ComponentState → ComponentState
-  born n s p = with_child n s w.moment (record p { handed = false })
+    again_served : (p : ComponentState) → Has p w.parts → IsDriven t w.parts p
+    again_served p h = re_served i.r i.s w.parts i.alone i.names i.ordered i.each v here ready.free.free p h
 
-  born_same : (k n : ℕ) (s : Step) → At k (λ p. is_begun s p ≡ true) w.parts → AreSame w.parts (changed_at k (born n s) w.parts)
-  born_same k n s a = same_changed k (born n s) w.parts (known_at k (λ p. is_begun s p ≡ true) (λ p. IsSame p (born n s p)) (λ p x m. record {
-    fitted = refl;
-    next = refl;
-    leaving = refl;
-    in_time = λ h. (deadline_in_time (limit_of (prepared_of p.fitted s)) w.moment n s, h);
-  }) a)
+    newest_so : AllByRecursion (IsBelow t w.parts (component_name v)) (newest v).hard
+    newest_so = newest_below i.r i.s w.parts i.alone i.names i.ordered i.each v here ready.free.free stays (newest_there i.r i.s w.parts i.alone i.names
+        i.ordered i.each v here ready.free.free stays)
 
-  start_same : (k n : ℕ) (s : Step) → At k (λ p. is_begun s p ≡ true) w.parts → AreSame w.parts (started k s n w).parts
-  start_same k n step.Run a = same_befallen k w.moment w.steady event.Launched (born n step.Run) w.parts
-      (known_at k (λ p. is_begun step.Run p ≡ true) (λ p. IsSame p (lived w.steady event.Launched (born n step.Run p))) (λ p x m.
-      same_lived w.steady event.Launched p (born n step.Run p).children false x.0 x.1.next tt
-      (λ h. (deadline_in_time (limit_of (prepared_of p.fitted step.Run)) w.moment n step.Run, h))) a)
-  start_same k n step.Install a = born_same k n step.Install a
-  start_same k n step.Startup a = born_same k n step.Startup a
-  start_same k n step.Shutdown a = born_same k n step.Shutdown a
-  start_same k n step.Recover a = born_same k n step.Recover a
-  start_same k n step.Bootstrap a = born_same k n step.Bootstrap a
+    source : (p : ComponentState) → Has p w.parts → IsSource any t w.parts p
+    source p h = record { served = again_served p h; so = λ g. all_of any (hard_needs p) (λ n m. tt) }
 
-  pub start_on : (k n : ℕ) (s : Step) → At k (λ p. is_begun s p ≡ true) w.parts → GoesOn w (started k s n w)
-  start_on k n s a = goes_on w (started k s n w) d (start_keeps w d.alone k n s a).kept (start_same k n s a)
+    new_ordered : AllByRecursion (IsOrderedPart t i.s w.parts) w.parts
+    new_ordered = all_of (IsOrderedPart t i.s w.parts) w.parts (λ p h. let o = each_has (IsOrderedPart i.r i.s w.parts) p w.parts h i.ordered in record {
+      stands = λ g. all_more (IsBelow t w.parts (component_name p)) (λ n. t n < t (component_name p)) p.fitted.hard (λ n x. x.0)
+          (all_front (IsBelow t w.parts (component_name p)) p.fitted.hard _ ((again_served p h).needs g));
+      hard = o.hard;
+      soft = o.soft;
+      hard_there = o.hard_there;
+      soft_there = o.soft_there;
+    })
 
-  -- ---- a child that is gone
+    again_one : AreKept (befallen k (event.Stop after.Again) cs hs) → GoesOn w (befallen k (event.Stop after.Again) cs hs)
+    again_one alone =
+        let q = lived w.steady (event.Stop after.Again) (among (cs v) (hs v) v) in
+        let src = source v here in
+        carried_on any t w.parts i.s w (befallen k (event.Stop after.Again) cs hs) i.names new_ordered (carried_event any t w.parts k w.moment w.steady
+        (event.Stop after.Again) (λ p. among (cs p) (hs p) p)
+        (all_of (IsSource any t w.parts) w.parts source)
+        (at_from k w.parts (λ p. IsCarried any t w.parts p (lived w.steady (event.Stop after.Again) (among (cs p) (hs p) p))) v there (record {
+          shown = shown_lived w.steady (event.Stop after.Again) v (cs v) (hs v) kept ready.may;
+          ends = λ z e. ends_lived w.steady (event.Stop after.Again) v (cs v) (hs v) kept refl e;
+          needs = λ g. needs_lived w.steady (event.Stop after.Again) v (cs v) (hs v) kept (λ n. IsBelow t w.parts (component_name v) n × any n)
+              (source_needs any t w.parts v src (gone_lived w.steady (event.Stop after.Again) v (cs v) (hs v) kept g))
+              (λ s. next_newest (λ n. IsBelow t w.parts (component_name v) n × any n) v (all_more (IsBelow t w.parts (component_name v))
+              (λ n. IsBelow t w.parts (component_name v) n × any n) (newest v).hard (λ n x. (x, tt)) newest_so));
+          apart = apart_lived w.steady (event.Stop after.Again) v (cs v) (hs v) kept ready.may src.served.apart;
+          takes = takes_lived w.steady (event.Stop after.Again) v (cs v) (hs v) kept ready.may src.served.takes;
+          in_time = in_time_lived w.steady (event.Stop after.Again) v (cs v) (hs v) kept ready.may ready.in_time src.served.in_time;
+        }))) alone
 
-  gone_same : (k n : ℕ) (Q : ComponentState → Type 0) → At k Q w.parts → AreSame w.parts (child_gone k n w).parts
-  gone_same k n Q a = same_changed k (without_child n) w.parts
-      (known_at k Q (λ p. IsSame p (without_child n p)) (λ p x m. record {
-        fitted = refl;
-        next = refl;
-        leaving = refl;
-        in_time =
-            λ h. in_time_but n p.children h;
-      }) a)
+  again : (k : ℕ) (cs : ComponentState → List Child) (hs : ComponentState → Bool) → At k (IsReady (event.Stop after.Again) cs hs) w.parts →
+      AreKept (befallen k (event.Stop after.Again) cs hs) → GoesOn w (befallen k (event.Stop after.Again) cs hs)
+  again k cs hs a alone =
+      let x = at_some k w.parts (λ p. IsKeptPart p × (IsDriven i.r w.parts p × IsReady (event.Stop after.Again) cs hs p))
+      (kept_at k (IsReady (event.Stop after.Again) cs hs) a) in
+      again_one k cs hs x.0 (has_at x.0 w.parts k x.1) x.1 x.2.0 x.2.1.1 alone
 
-  gone_by_same : (k n : ℕ) (s : Step) (e : LifeEvent) (Q : ComponentState → Type 0) → At k Q w.parts →
-      ((p : ComponentState) → Q p → MayBefall e (without_child n p)) → AreSame w.parts (gone_by (Some e) k s n w).parts
-  gone_by_same k n s e Q a f = elim (is_orphan_at k s w) as (λ (b : Bool). AreSame w.parts
-      (if b then child_gone k n w else lived_at k e (child_gone k n w)).parts) [
-        | true ↦ gone_same k n Q a
-        | false ↦ same_befallen k w.moment w.steady e (without_child n) w.parts (known_at k Q (λ p. IsSame p (lived w.steady e (without_child n p)))
-            (λ p x m. same_lived w.steady e p (without_child n p).children p.handed x.0 x.1.next (f p m) (λ h. in_time_but n p.children h)) a)
-      ]
+  -- ---- a stop with Gone
 
-  end_same : (n : ℕ) (x : Exit) (k : ℕ) (s : Step) → owner n w.parts ≡ Some (k, s) → AreSame w.parts (ended n x w).parts
-  end_same n x k s o = subst (λ (z : Option (ℕ × Step)). (let v : Components = (elim z [ None ↦ w | Some y ↦ gone_by (Some (event.Ended y.1 x)) y.0 y.1 n w ])
-      in AreSame w.parts v.parts)) (sym o)
-      (gone_by_same k n s (event.Ended s x) (λ p. IsSomeAnd (child_of n p.children) (λ c. c.of ≡ s)) (owner_at n w.parts k s o) (λ p q. tt))
+  module _ (k : ℕ) (cs : ComponentState → List Child) (hs : ComponentState → Bool) (v : ComponentState) (here : Has v w.parts) (there : slice_get w.parts k
+      ≡ Some v) (kept : IsKeptPart v) (ready : IsReady (event.Stop after.Gone) cs hs v) where
+    abbrev other : List ℕ → Type 0
+    other n = bytes_eq (component_name v) n ≡ false
 
-  pub end_on : (n : ℕ) (x : Exit) (k : ℕ) (s : Step) → owner n w.parts ≡ Some (k, s) → GoesOn w (ended n x w)
-  end_on n x k s o = goes_on w (ended n x w) d (end_keeps w d.alone n x k s o).kept (end_same n x k s o)
+    leaves : is_leaving v ≡ true
+    leaves = rw ready.free.stands (rw ready.free.asked refl)
 
-  kill_may : (n : ℕ) (s : Step) (p : ComponentState) (e : LifeEvent) → kill_event w.moment n s p ≡ Some e → MayBefall e (without_child n p)
-  kill_may n s p e = elim (is_late_child w.moment n p) as (λ b. (if b then Some (event.Ended s exits.TimedOut) else option_map (λ a. event.Stop a) p.stop)
-      ≡ Some e → MayBefall e (without_child n p)) [
-        | true ↦ λ y. subst (λ v. MayBefall v (without_child n p)) (some_same (event.Ended s exits.TimedOut) e y) tt
-        | false ↦ λ y. by_asked p.stop refl y
-      ]
-    where
-      some_same : (x y : LifeEvent) → Some x ≡ Some y → x ≡ y
-      some_same x y e = ap (λ o. elim o [ None ↦ x | Some z ↦ z ]) e
+    gone_source : (p : ComponentState) → Has p w.parts → IsSource other i.r w.parts p
+    gone_source p h = record {
+      served = each_has (IsDriven i.r w.parts) p w.parts h i.each;
+      so = λ g. all_of other (hard_needs p) (λ n m. none_needs i.r i.s w.parts i.alone i.names i.ordered i.each v here ready.free.free leaves p h g n m);
+    }
 
-      by_asked : (q : Option After) → p.stop ≡ q → option_map (λ a. event.Stop a) q ≡ Some e → MayBefall e (without_child n p)
-      by_asked None q y = absurd (cc)
-      by_asked (Some a) q y = subst (λ v. MayBefall v (without_child n p)) (some_same (event.Stop a) e y) q
+    gone_one : AreKept (befallen k (event.Stop after.Gone) cs hs) → GoesOn w (befallen k (event.Stop after.Gone) cs hs)
+    gone_one alone =
+        let src = gone_source v here in
+        carried_on other i.r w.parts i.s w (befallen k (event.Stop after.Gone) cs hs) i.names i.ordered (carried_event other i.r w.parts k w.moment w.steady
+        (event.Stop after.Gone) (λ p. among (cs p) (hs p) p)
+        (all_of (IsSource other i.r w.parts) w.parts gone_source)
+        (at_from k w.parts (λ p. IsCarried other i.r w.parts p (lived w.steady (event.Stop after.Gone) (among (cs p) (hs p) p))) v there (record {
+          shown = shown_lived w.steady (event.Stop after.Gone) v (cs v) (hs v) kept ready.may;
+          ends = λ z e. clash (bytes_eq (component_name v) (component_name v)) (same_bytes (component_name v)) z;
+          needs = λ g. needs_lived w.steady (event.Stop after.Gone) v (cs v) (hs v) kept (λ n. IsBelow i.r w.parts (component_name v) n × other n)
+              (source_needs other i.r w.parts v src (gone_lived w.steady (event.Stop after.Gone) v (cs v) (hs v) kept g)) (λ s. absurd (cc));
+          apart = apart_lived w.steady (event.Stop after.Gone) v (cs v) (hs v) kept ready.may src.served.apart;
+          takes = takes_lived w.steady (event.Stop after.Gone) v (cs v) (hs v) kept ready.may src.served.takes;
+          in_time = in_time_lived w.steady (event.Stop after.Gone) v (cs v) (hs v) kept ready.may ready.in_time src.served.in_time;
+        }))) alone
 
-  gone_for : (o : Option LifeEvent) (k n : ℕ) (s : Step) → At k (λ p. kill_event w.moment n s p ≡ o) w.parts → AreSame w.parts (gone_by o k s n w).parts
-  gone_for None k n s a = gone_same k n (λ p. kill_event w.moment n s p ≡ None) a
-  gone_for (Some e) k n s a = gone_by_same k n s e (λ p. kill_event w.moment n s p ≡ Some e) a (λ p q. kill_may n s p e q)
+  gone : (k : ℕ) (cs : ComponentState → List Child) (hs : ComponentState → Bool) → At k (IsReady (event.Stop after.Gone) cs hs) w.parts →
+      AreKept (befallen k (event.Stop after.Gone) cs hs) → GoesOn w (befallen k (event.Stop after.Gone) cs hs)
+  gone k cs hs a alone =
+      let x = at_some k w.parts (λ p. IsKeptPart p × (IsDriven i.r w.parts p × IsReady (event.Stop after.Gone) cs hs p))
+      (kept_at k (IsReady (event.Stop after.Gone) cs hs) a) in
+      gone_one k cs hs x.0 (has_at x.0 w.parts k x.1) x.1 x.2.0 x.2.1.1 alone
 
-  kill_same : (n k : ℕ) (s : Step) → MayKill w n k s → AreSame w.parts (killed n w).parts
-  kill_same n k s m = subst (λ (z : Option (ℕ × Step)). (let v : Components = (elim z [ None ↦ w | Some y ↦ gone_by (kill_event_at y.0 y.1 n w) y.0 y.1 n w ])
-      in AreSame w.parts v.parts)) (sym m.0)
-      (gone_for (kill_event_at k s n w) k n s (at_map k w.parts (λ p. (is_kill_due w n s p ≡ true) × (slice_get w.parts k ≡ Some p))
-      (λ p. kill_event w.moment n s p ≡ kill_event_at k s n w)
-      (λ p x. sym (ap (λ (o : Option ComponentState). option_and_then (kill_event w.moment n s) o) x.1))
-      (at_self k w.parts (λ p. is_kill_due w n s p ≡ true) m.1)))
+  -- ---- any event
 
-  pub kill_on : (n k : ℕ) (s : Step) → MayKill w n k s → GoesOn w (killed n w)
-  kill_on n k s m = goes_on w (killed n w) d (kill_keeps w d.alone n k s m).kept (kill_same n k s m)
-
-  pub later_on : (m : ℕ) → GoesOn w (later m w)
-  later_on m = goes_on w (later m w) d (later_keeps w d.alone m).kept (all_self w.parts)
-
--- ---- the next act
-
-handed_keeps : (p : ComponentState) → IsKeptPart p → IsKeptPart (record p { handed = true })
-handed_keeps p k = record {
-  sound = k.sound;
-  steps = k.steps;
-  runnable = k.runnable;
-  coming = k.coming;
-  timed = k.timed;
-  run = k.run;
-  gone = k.gone;
-  own =
-      k.own;
-  asks = k.asks;
-  waits = k.waits;
-}
-
-hand_same : (k : ℕ) (ps : List ComponentState) → AreSame ps (changed_at k (λ p. record p { handed = true }) ps)
-hand_same k [] = tt
-hand_same zero (p ∷ ps) = (record { fitted = refl; next = refl; leaving = refl; in_time = λ h. h }, all_self ps)
-hand_same (suc k) (p ∷ ps) = (same_self p, hand_same k ps)
-
-pub hand_on : (w : Components) (k : ℕ) → Drives w → GoesOn w (handed_at k w)
-hand_on w k d =
-    let l = handed_length k w.parts in
-    let f = d.alone.few in
-    goes_on w (handed_at k w) d (record { parts = handed_all IsKeptPart handed_keeps k w.parts d.alone.parts; few = omega (arith, l, f) }) (hand_same k w.parts)
-
-pub moves_on : (w v : Components) (ms : List Move) → Quietly w ms v → Drives w → GoesOn w v
-moves_on w v [] q d = subst (GoesOn w) (sym q) (record { drives = d; stays = refl })
-moves_on w v (m ∷ ms) q d = let g = move_on w d m.who m.what q.1 in goes_through w (lived_at m.who m.what w) v g
-    (moves_on (lived_at m.who m.what w) v ms q.2 g.drives)
-
-act_on : (w : Components) (act : Option Act) (v : Components) → Drives w → HandsOut w act v → GoesOn w v
-act_on w None v d h = subst (GoesOn w) (sym h.1) (record { drives = d; stays = refl })
-act_on w (Some (acts.Start k t)) v d h = subst (GoesOn w) (sym h.2) (hand_on w k d)
-act_on w (Some (acts.Kill n)) v d h = subst (GoesOn w) (sym h.4) (kill_on w d n h.0 h.1 h.3)
-act_on w (Some (acts.Failed k t e)) v d h = subst (GoesOn w) (sym h.1) (told_on w d k t e false h.0)
-act_on w (Some (acts.Broke k t e)) v d h = subst (GoesOn w) (sym h.1) (told_on w d k t e true h.0)
-
-pub next_on : (w v : Components) (act : Option Act) → NextAct w act v → Drives w → GoesOn w v
-next_on w v act n d = let g = moves_on w n.seen n.made n.quietly d in goes_through w n.seen v g (act_on n.seen act v g.drives n.hands)
+  pub event_on : (k : ℕ) (e : LifeEvent) (cs : ComponentState → List Child) (hs : ComponentState → Bool) → At k (IsReady e cs hs) w.parts →
+      AreKept (befallen k e cs hs) → GoesOn w (befallen k e cs hs)
+  event_on k event.MayBegin cs hs a alone = plainly k event.MayBegin cs hs refl refl a alone
+  event_on k event.Launched cs hs a alone = plainly k event.Launched cs hs refl refl a alone
+  event_on k event.Skipped cs hs a alone = plainly k event.Skipped cs hs refl refl a alone
+  event_on k (event.Ended s x) cs hs a alone = plainly k (event.Ended s x) cs hs refl refl a alone
+  event_on k (event.Stop after.Restart) cs hs a alone = plainly k (event.Stop after.Restart) cs hs refl refl a alone
+  event_on k (event.Stop after.Again) cs hs a alone = again k cs hs a alone
+  event_on k (event.Stop after.Gone) cs hs a alone = gone k cs hs a alone
+  event_on k event.Retry cs hs a alone = plainly k event.Retry cs hs refl refl a alone

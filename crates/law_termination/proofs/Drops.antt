@@ -1,22 +1,21 @@
 -- An error that takes a component down costs it a failure.
 use Rattle.std.proofs.Common.{◌≡◌, ◌≤◌, ◌+◌, ℕ, Bool, true, false, arith, List, Option}
+use Rattle.nuc_base.specs.declared.kinds.Exit.{Exit}
 use Rattle.nuc_base.specs.declared.kinds.Step.{Step}
 use Rattle.nuc_base.specs.declared.kinds.Step.TheVariants as step
-use Rattle.nuc_base.specs.declared.kinds.Exit.{Exit}
 use Rattle.lifecycle.specs.Life.{IsSound}
-use Rattle.lifecycle.specs.declared.kinds.StepSet.{StepSet}
-use Rattle.lifecycle.specs.declared.kinds.State.{State}
-use Rattle.lifecycle.specs.declared.kinds.State.TheVariants as state
 use Rattle.lifecycle.specs.declared.kinds.After.{After}
 use Rattle.lifecycle.specs.declared.kinds.After.TheVariants as after
 use Rattle.lifecycle.specs.declared.kinds.LifeEvent.{LifeEvent}
 use Rattle.lifecycle.specs.declared.kinds.LifeEvent.TheVariants as event
-use Rattle.components.specs.Fitted.{Fitted}
+use Rattle.lifecycle.specs.declared.kinds.State.{State}
+use Rattle.lifecycle.specs.declared.kinds.State.TheVariants as state
+use Rattle.lifecycle.specs.declared.kinds.StepSet.{StepSet}
 use Rattle.components.specs.Components.{Child}
+use Rattle.components.specs.Fitted.{Fitted}
 use Rattle.components.specs.Lives.{lived, drops}
-use Rattle.law_termination.specs.Kept.{MayBefall}
-use Rattle.law_termination.specs.Rank.{core}
-use Rattle.law_termination.proofs.Falls.{mk}
+use Rattle.law_supervisor.proofs.Made.{MayBefall, mk}
+use Rattle.law_termination.proofs.Cores.{core}
 
 module _ (f : Fitted) (steps : StepSet) (n : ℕ) (busy : Option Step) (runs inst : Bool) (way : Option After) (cs : List Child) (hd : Bool)
     (o : Option (Step × Exit)) (asked : Option After) (nx : Option (Fitted × ℕ)) where

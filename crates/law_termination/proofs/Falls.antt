@@ -1,40 +1,32 @@
 -- What falls in one component at each event of the table.
 use Rattle.std.proofs.Common.{◌≡◌, ◌≤◌, ◌+◌, ℕ, Bool, true, false, arith, is_some, List, Option}
+use Rattle.nuc_base.specs.declared.kinds.Exit.{Exit}
 use Rattle.nuc_base.specs.declared.kinds.Step.{Step}
 use Rattle.nuc_base.specs.declared.kinds.Step.TheVariants as step
-use Rattle.nuc_base.specs.declared.kinds.Exit.{Exit}
 use Rattle.lifecycle.specs.Life.{IsSound}
 use Rattle.lifecycle.specs.Table.{table}
-use Rattle.lifecycle.specs.declared.kinds.StepSet.{StepSet}
-use Rattle.lifecycle.specs.declared.kinds.State.{State}
-use Rattle.lifecycle.specs.declared.kinds.State.TheVariants as state
 use Rattle.lifecycle.specs.declared.kinds.After.{After}
 use Rattle.lifecycle.specs.declared.kinds.After.TheVariants as after
 use Rattle.lifecycle.specs.declared.kinds.LifeEvent.{LifeEvent}
 use Rattle.lifecycle.specs.declared.kinds.LifeEvent.TheVariants as event
-use Rattle.components.specs.Fitted.{Fitted}
+use Rattle.lifecycle.specs.declared.kinds.State.{State}
+use Rattle.lifecycle.specs.declared.kinds.State.TheVariants as state
+use Rattle.lifecycle.specs.declared.kinds.StepSet.{StepSet}
 use Rattle.components.specs.Components.{ComponentState, Child, under_way}
+use Rattle.components.specs.Fitted.{Fitted}
 use Rattle.components.specs.Lives.{lived}
-use Rattle.law_termination.specs.Kept.{MayBefall}
 use Rattle.law_supervisor.specs.Sound.{may_ask}
-use Rattle.law_termination.specs.Rank.{core, gain}
+use Rattle.law_supervisor.proofs.Made.{MayBefall, mk}
+use Rattle.law_termination.proofs.Cores.{core, gain}
 
 module _ (f : Fitted) (steps : StepSet) (n : ℕ) (busy : Option Step) (runs inst : Bool) (way : Option After) (cs : List Child) (hd : Bool)
     (o : Option (Step × Exit)) (asked : Option After) (nx : Option (Fitted × ℕ)) where
   -- a component that stands
-  abbrev pub mk : State → ComponentState
-  mk s = record {
-    fitted = f;
-    children = cs;
-    handed = hd;
-    owed = o;
-    stop = asked;
-    next = nx;
-    life = record { steps = steps; state = s; failures = n; busy = busy; runs = runs; install_failed = inst; stop = way; gone = false };
-  }
+  abbrev one : State → ComponentState
+  one s = mk f steps n busy runs inst way cs hd o asked nx s
 
-  pub falls_at : (s : State) (e : LifeEvent) → IsSound (mk s).life → may_ask (under_way (mk s).life) asked ≡ true → MayBefall e (mk s) →
-      is_some (table (mk s).life e) ≡ true → core (lived false e (mk s)) + gain e (lived false e (mk s)).life.busy ≤ core (mk s)
+  pub falls_at : (s : State) (e : LifeEvent) → IsSound (one s).life → may_ask (under_way (one s).life) asked ≡ true → MayBefall e (one s) →
+      is_some (table (one s).life e) ≡ true → core (lived false e (one s)) + gain e (lived false e (one s)).life.busy ≤ core (one s)
   falls_at state.New event.MayBegin k a m t = grind (arith, k, a, m, t)
   falls_at state.New event.Retry k a m t = grind (arith, k, a, m, t)
   falls_at state.New event.Launched k a m t = grind (arith, k, a, m, t)

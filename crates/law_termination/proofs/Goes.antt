@@ -1,4 +1,5 @@
--- The greatest that is to be stopped can be stopped; the least that is down can begin.
+-- Where nothing may act, what was to be is reached, or a deadline is still to come: the greatest that is to be stopped can be
+-- stopped, and the least that is down can begin.
 use Rattle.std.proofs.Common.{◌≡◌, ◌<◌, ◌≤◌, ℕ, List, [], ◌∷◌, Option, Some, None, Bool, true, false, refl, sym, ap, ◌∙◌, ◌⊎◌, inl, inr, arith, subst}
 use Rattle.std.specs.Prelude.{◌&&◌, ◌||◌, not, is_some, IfSome, IsSomeAnd}
 use Rattle.std.specs.List.{list_any, list_all}
@@ -7,27 +8,33 @@ use Rattle.std.proofs.lemmas.Bool.{or_parts, or_left, or_right, and_parts, and_f
 use Rattle.std.proofs.lemmas.Slice.Eq.{bytes_eq-Decides}
 use Rattle.nuc_base.specs.declared.kinds.Step.{Step}
 use Rattle.nuc_base.specs.declared.kinds.Step.TheVariants as step
-use Rattle.lifecycle.specs.Life.{Life, IsSound}
 use Rattle.lifecycle.specs.Awaits.{is_same_step, is_busy_with, is_stopping, is_awaited}
-use Rattle.lifecycle.specs.declared.kinds.State.{State}
-use Rattle.lifecycle.specs.declared.kinds.State.TheVariants as state
+use Rattle.lifecycle.specs.Life.{Life, IsSound}
 use Rattle.lifecycle.specs.declared.kinds.After.{After}
 use Rattle.lifecycle.specs.declared.kinds.LifeEvent.TheVariants as event
-use Rattle.components.specs.Fitted.{Fitted}
-use Rattle.components.specs.Components.{Components, ComponentState, Child, component_name, is_to_stop, is_over, has_orphan, is_leaving, is_settled}
-use Rattle.components.specs.Components.{has_broken, is_stopped, stands_up, is_up, is_broken, is_orphan, is_gone, is_again, under_way}
-use Rattle.components.specs.Deadlines.{has_passed, earlier, child_deadline, least_of}
+use Rattle.lifecycle.specs.declared.kinds.State.{State}
+use Rattle.lifecycle.specs.declared.kinds.State.TheVariants as state
 use Rattle.components.specs.Answers.{has_answered}
-use Rattle.components.specs.Turns.{IsQuiet, may_act, may_begin, may_retry, may_stop, is_late, is_unstarted, is_to_start, is_begun, is_met, is_held}
-use Rattle.components.specs.Turns.{serves_softly}
-use Rattle.law_termination.specs.Kept.{IsKept, IsKeptPart, IsOrderedPart, AllBelow, are_there, newest, is_timed}
-use Rattle.law_supervisor.specs.Sound.{is_waiting, is_bare}
+use Rattle.components.specs.Components.{Components, ComponentState, Child, component_name, is_to_stop, is_over, has_orphan, is_leaving, is_settled, is_spared}
+use Rattle.components.specs.Components.{is_stopped, stands_up, is_up, is_broken, is_orphan, is_gone, is_again, under_way}
+use Rattle.components.specs.Deadlines.{has_passed, earlier, child_deadline, least_of}
+use Rattle.components.specs.Fitted.{Fitted}
+use Rattle.components.specs.Turns.{hard_needs, may_begin, may_retry, is_late, is_unstarted, is_to_start, is_begun, is_met, serves_softly, IsQuiet}
+use Rattle.components.specs.Turns.{is_held_far, is_held_for, may_act, may_stop}
+use Rattle.components.proofs.Held.{none_for}
+use Rattle.law_supervisor.specs.Sound.{is_waiting}
+use Rattle.law_termination.specs.Drives.{Drives, IsBelow, IsDriven, has_failed, is_ending}
+use Rattle.law_termination.specs.Kept.{IsKeptPart, IsOrderedPart, AllBelow, are_there, newest, is_timed}
 use Rattle.law_termination.specs.Time.{HasTime}
+use Rattle.law_termination.proofs.Farther.{none_reaches}
 use Rattle.law_termination.proofs.Lists.{Has, either, clash, each_has, any_has, has_any, all_has, passing, none_any, Greatest, greatest, Least, least}
+use Rattle.law_termination.proofs.Near.{all_more, one_named}
+use Rattle.law_termination.proofs.Options.{none_of, not_so, of_some, same_self, second_true}
+use Rattle.law_termination.proofs.Parts.{bare_of}
 
 -- ---- time
 
-pub is_later : (m : ℕ) (o : Option ℕ) → has_passed m o ≡ false → IfSome o (λ d. m < d)
+is_later : (m : ℕ) (o : Option ℕ) → has_passed m o ≡ false → IfSome o (λ d. m < d)
 is_later m None e = tt
 is_later m (Some d) e = elim (cases_lt m d) [ inl lt ↦ lt | inr le ↦ grind (arith, e, le) ]
 
@@ -53,8 +60,8 @@ children_later m (c ∷ cs) e = let x = or_parts (has_passed m c.deadline) (list
 
 least_later : (m : ℕ) (ps : List ComponentState) → ((p : ComponentState) → Has p ps → is_late m p ≡ false) → IfSome (least_of ps) (λ d. m < d)
 least_later m [] h = tt
-least_later m (p ∷ ps) h = earlier_later m (child_deadline p.children) (least_of ps) (children_later m p.children (h p (inl refl)))
-    (least_later m ps (λ q i. h q (inr i)))
+least_later m (p ∷ ps) h = earlier_later m (child_deadline p.children) (least_of ps) (children_later m p.children (h p (inl refl))) (least_later m ps
+    (λ q i. h q (inr i)))
 
 child_some : (c : Child) (cs : List Child) → Has c cs → is_some c.deadline ≡ true → is_some (child_deadline cs) ≡ true
 child_some c [] h e = absurd h
@@ -63,8 +70,8 @@ child_some c (d ∷ ds) (inr h) e = some_right d.deadline (child_deadline ds) (c
 
 least_some : (p : ComponentState) (ps : List ComponentState) → Has p ps → is_some (child_deadline p.children) ≡ true → is_some (least_of ps) ≡ true
 least_some p [] h e = absurd h
-least_some p (q ∷ qs) (inl i) e = some_left (child_deadline q.children) (least_of qs)
-    (sym (ap (λ (x : ComponentState). is_some (child_deadline x.children)) i) ∙ e)
+least_some p (q ∷ qs) (inl i) e = some_left (child_deadline q.children) (least_of qs) (sym (ap (λ (x : ComponentState). is_some (child_deadline x.children))
+    i) ∙ e)
 least_some p (q ∷ qs) (inr h) e = some_right (child_deadline q.children) (least_of qs) (least_some p qs h e)
 
 some_and : (P : ℕ → Type 0) (o : Option ℕ) → is_some o ≡ true → IfSome o P → IsSomeAnd o P
@@ -72,14 +79,6 @@ some_and P None e i = absurd (cc)
 some_and P (Some d) e i = i
 
 -- ---- steps
-
-pub same_self : (s : Step) → is_same_step s s ≡ true
-same_self step.Install = refl
-same_self step.Run = refl
-same_self step.Startup = refl
-same_self step.Shutdown = refl
-same_self step.Recover = refl
-same_self step.Bootstrap = refl
 
 not_run : (s t : Step) → is_same_step s t ≡ true → is_same_step step.Run s ≡ false → is_same_step step.Run t ≡ false
 not_run s t e f = grind (arith, e, f)
@@ -116,22 +115,6 @@ begun_answered true true e f = refl
 begun_answered true false e f = absurd (cc)
 begun_answered false b e f = absurd (cc)
 
-pub not_so : (b : Bool) → not b ≡ true → b ≡ false
-not_so true e = absurd (cc)
-not_so false e = refl
-
-pub none_of : {X : Type 0} (o : Option X) → is_some o ≡ false → o ≡ None
-none_of None e = refl
-none_of (Some x) e = absurd (cc)
-
-pub of_some : {X : Type 0} (o : Option X) → is_some o ≡ true → (x : X) × (o ≡ Some x)
-of_some None e = absurd (cc)
-of_some (Some x) e = (x, refl)
-
-pub second_true : (a b : Bool) → (a || b) ≡ true → a ≡ false → b ≡ true
-second_true true b e f = absurd (cc)
-second_true false b e f = e
-
 unbegun : (p : ComponentState) (s : Step) → p.life.busy ≡ Some s → is_unstarted p ≡ false → list_any (λ (c : Child). is_same_step s c.of) p.children ≡ true
 unbegun p s b e =
     let x : is_begun s p ≡ false = subst (λ (o : Option Step). (elim o [ None ↦ false | Some t ↦ is_begun t p ]) ≡ false) b e in
@@ -140,36 +123,15 @@ unbegun p s b e =
 bytes_same : (a b : List ℕ) → bytes_eq a b ≡ true → a ≡ b
 bytes_same a b e = (bytes_eq-Decides a b).0 e
 
--- nobody of these needs names the greatest
-not_needed : (r : List ℕ → ℕ) (n : List ℕ) (k : ℕ) (ns : List (List ℕ)) → AllBelow r k ns → k ≤ r n → list_any (bytes_eq n) ns ≡ false
-not_needed r n k [] b l = refl
-not_needed r n k (m ∷ ms) b l = elim (either (bytes_eq n m)) [
-  | inl e ↦ (let f = ap r (bytes_same n m e) in absurd (omega (arith, f, b.0, l)))
-  | inr e ↦ rw e (not_needed r n k ms b.1 l)
-]
-
 shuts_down : (c : Life) → IsSound c → is_stopping c.state ≡ true → c.busy ≡ Some step.Shutdown
 shuts_down c sound e = grind (arith, sound.busy, e)
 
 starts : (c : Life) → IsSound c → c.state ≡ state.Starting → is_some c.busy ≡ true
 starts c sound e = grind (arith, sound.busy, e)
 
-pub bare_of : (p : ComponentState) → IsKeptPart p → p.life.gone ≡ true → (p.stop ≡ None) × (is_stopping p.life.state ≡ false) × (p.life.busy ≡ None) ×
-    (p.life.runs ≡ false)
-bare_of p k g =
-    let x = second_true (not p.life.gone) (is_bare p) k.gone (rw g refl) in
-    let y = and_parts (not (is_some p.stop) && not (is_stopping p.life.state)) (not (is_some p.life.busy) && not p.life.runs) x in
-    let a = and_parts (not (is_some p.stop)) (not (is_stopping p.life.state)) y.0 in
-    let b = and_parts (not (is_some p.life.busy)) (not p.life.runs) y.1 in (
-      none_of p.stop (not_so (is_some p.stop) a.0),
-      not_so (is_stopping p.life.state) a.1,
-      none_of p.life.busy (not_so (is_some p.life.busy) b.0),
-      not_so p.life.runs b.1,
-    )
-
-module _ (w : Components) (k : IsKept w) (quiet : IsQuiet w) (answered : has_answered w ≡ true) where
+module _ (w : Components) (k : Drives w) (quiet : IsQuiet w) (answered : has_answered w ≡ true) where
   kept : (p : ComponentState) → Has p w.parts → IsKeptPart p
-  kept p h = each_has IsKeptPart p w.parts h k.alone.parts
+  kept p h = each_has IsKeptPart p w.parts h k.alone
 
   order : (p : ComponentState) → Has p w.parts → IsOrderedPart k.r k.s w.parts p
   order p h = each_has (IsOrderedPart k.r k.s w.parts) p w.parts h k.ordered
@@ -178,8 +140,8 @@ module _ (w : Components) (k : IsKept w) (quiet : IsQuiet w) (answered : has_ans
   rests p h = still w p (any_has (λ q. q.handed) p w.parts h (not_so (list_any (λ q. q.handed) w.parts) answered)) (any_has (may_act w) p w.parts h quiet.none)
 
   time_of : (p : ComponentState) → Has p w.parts → (c : Child) → Has c p.children → is_some c.deadline ≡ true → HasTime w
-  time_of p h c i e = some_and (λ d. w.moment < d) (least_of w.parts) (least_some p w.parts h (child_some c p.children i e))
-      (least_later w.moment w.parts (λ q j. (rests q j).late))
+  time_of p h c i e = some_and (λ d. w.moment < d) (least_of w.parts) (least_some p w.parts h (child_some c p.children i e)) (least_later w.moment w.parts
+      (λ q j. (rests q j).late))
 
   -- a busy step lives, and has a deadline
   busy_time : (p : ComponentState) → Has p w.parts → (s : Step) → p.life.busy ≡ Some s → HasTime w
@@ -188,10 +150,10 @@ module _ (w : Components) (k : IsKept w) (quiet : IsQuiet w) (answered : has_ans
       elim (either (is_same_step step.Run s)) [
         | inl e ↦ (let q = run_only s e in
             let x : (is_busy_with step.Run (Some step.Run) && list_any (λ (c : Child). is_same_step step.Run c.of) p.children) ≡ false
-            = subst (λ (o : Option Step). (is_busy_with step.Run o && list_any (λ (c : Child). is_same_step step.Run c.of) p.children) ≡ false)
-            (b ∙ ap (λ (t : Step). Some t) q) (kept p h).run in
-            clash (list_any (λ (c : Child). is_same_step step.Run c.of) p.children)
-            (subst (λ (t : Step). list_any (λ (c : Child). is_same_step t c.of) p.children ≡ true) q lives) x)
+            = subst (λ (o : Option Step). (is_busy_with step.Run o && list_any (λ (c : Child). is_same_step step.Run c.of) p.children) ≡ false) (b
+            ∙ ap (λ (t : Step). Some t) q) (kept p h).run in
+            clash (list_any (λ (c : Child). is_same_step step.Run c.of) p.children) (subst (λ (t : Step). list_any (λ (c : Child). is_same_step t c.of)
+            p.children ≡ true) q lives) x)
         | inr e ↦ (let c = passing (λ (c : Child). is_same_step s c.of) p.children lives in
             let t = all_has is_timed c.one p.children c.here (kept p h).timed in
             time_of p h c.one c.here (second_true (is_same_step step.Run c.one.of) (is_some c.one.deadline) t (not_run s c.one.of c.passes e)))
@@ -205,11 +167,24 @@ module _ (w : Components) (k : IsKept w) (quiet : IsQuiet w) (answered : has_ans
     | inr n ↦ n
   ]
 
-  not_held : (n : List ℕ) → ((q : ComponentState) → Has q w.parts → is_to_stop q ≡ true → k.r (component_name q) ≤ k.r n) → is_held n w.parts ≡ false
-  not_held n g = none_any (λ q. is_to_stop q && list_any (bytes_eq n) q.fitted.hard) w.parts (λ q h. elim (either (is_to_stop q)) [
-    | inr e ↦ rw e refl
-    | inl e ↦ rw e (not_needed k.r n (k.r (component_name q)) q.fitted.hard ((order q h).stands (stands q h e)) (g q h e))
-  ])
+  driven : (p : ComponentState) → Has p w.parts → IsDriven k.r w.parts p
+  driven p h = each_has (IsDriven k.r w.parts) p w.parts h k.each
+
+  below : (p : ComponentState) → Has p w.parts → p.life.gone ≡ false → AllBelow k.r (k.r (component_name p)) (hard_needs p)
+  below p h e = all_more (IsBelow k.r w.parts (component_name p)) (λ m. k.r m < k.r (component_name p)) (hard_needs p) (λ m x. x.0) ((driven p h).needs e)
+
+  -- what it needs is not gone
+  needs_stand : (p : ComponentState) → Has p w.parts → p.life.gone ≡ false → (m : List ℕ) → Has m (hard_needs p) → (q : ComponentState) → Has q w.parts →
+      component_name q ≡ m → q.life.gone ≡ false
+  needs_stand p h e m x q j y =
+      let t = (each_has (IsBelow k.r w.parts (component_name p)) m (hard_needs p) x ((driven p h).needs e)).1 in
+      let o = passing (λ z. bytes_eq (component_name z) m && not (is_ending z)) w.parts t in
+      let z = and_parts (bytes_eq (component_name o.one) m) (not (is_ending o.one)) o.passes in
+      let same = one_named w.parts k.names o.one q o.here j (bytes_same (component_name o.one) m z.0 ∙ sym y) in
+      sym (ap (λ (v : ComponentState). v.life.gone) same) ∙ (or_parts o.one.life.gone (is_gone (under_way o.one.life)) (not_so (is_ending o.one) z.1)).0
+
+  not_held : (n : List ℕ) → ((q : ComponentState) → Has q w.parts → is_to_stop q ≡ true → k.r (component_name q) ≤ k.r n) → is_held_far n w.parts ≡ false
+  not_held n g = none_reaches k.r (λ p. p.life.gone) w.parts below needs_stand stands n g
 
   one_stops : Greatest is_to_stop (λ p. k.r (component_name p)) w.parts → HasTime w
   one_stops g = elim (either (is_stopping g.one.life.state)) [
@@ -218,24 +193,24 @@ module _ (w : Components) (k : IsKept w) (quiet : IsQuiet w) (answered : has_ans
         let a : is_some g.one.stop ≡ true = (let x : (is_some g.one.stop || (is_stopping g.one.life.state || has_orphan g.one)) ≡ true = g.passes in
         elim (either (is_some g.one.stop)) [
           | inl y ↦ y
-          | inr n ↦ clash (is_some g.one.stop || (is_stopping g.one.life.state || has_orphan g.one)) x
-              (rw n (rw e still.kills))
+          | inr n ↦ clash (is_some g.one.stop
+              || (is_stopping g.one.life.state || has_orphan g.one)) x (rw n (rw e still.kills))
         ]) in
         let s = of_some g.one.stop a in
-        let held = not_held (component_name g.one) g.greatest in
+        let held = none_for s.0 (component_name g.one) w.parts (not_held (component_name g.one) g.greatest) in
         let gone = stands g.one g.here g.passes in
         let can : (elim (Some s.0) [
           | None ↦ false
-          | Some a ↦ (is_awaited (event.Stop a) g.one.life && not (has_orphan g.one || is_unstarted g.one)) &&
-              not (is_held (component_name g.one) w.parts)
+          | Some a ↦ (is_awaited (event.Stop a) g.one.life && not (has_orphan g.one || is_unstarted g.one))
+              && not (is_held_for a (component_name g.one) w.parts)
         ]) ≡ false
         = subst (λ (o : Option After). (elim o [
           | None ↦ false
-          | Some a ↦ (is_awaited (event.Stop a) g.one.life &&
-              not (has_orphan g.one || is_unstarted g.one)) && not (is_held (component_name g.one) w.parts)
+          | Some a ↦ (is_awaited (event.Stop a) g.one.life
+              && not (has_orphan g.one || is_unstarted g.one)) && not (is_held_for a (component_name g.one) w.parts)
         ]) ≡ false) s.1 still.stops in
-        clash ((is_awaited (event.Stop s.0) g.one.life && not (has_orphan g.one || is_unstarted g.one)) && not (is_held (component_name g.one) w.parts))
-        (rw gone (rw e (rw still.kills (rw still.starts (rw held refl))))) can)
+        clash ((is_awaited (event.Stop s.0) g.one.life && not (has_orphan g.one || is_unstarted g.one))
+        && not (is_held_for s.0 (component_name g.one) w.parts)) (rw gone (rw e (rw still.kills (rw still.starts (rw held refl))))) can)
   ]
 
   no_children : (p : ComponentState) → Has p w.parts → p.life.gone ≡ true → is_over p ≡ true
@@ -243,8 +218,8 @@ module _ (w : Components) (k : IsKept w) (quiet : IsQuiet w) (answered : has_ans
       elim p.children as (λ (cs : List Child). list_any (λ (c : Child). is_orphan p.life c.of) cs ≡ false →
       (p.life.gone && elim cs [ [] ↦ true | ◌∷◌ c ds ↦ false ]) ≡ true) [
         | [] ↦ λ e. rw g refl
-        | ◌∷◌ c ds ↦ λ e. clash (is_orphan p.life c.of) (rw x.2 (rw x.3 (grind arith)))
-            (or_parts (is_orphan p.life c.of) (list_any (λ (c : Child). is_orphan p.life c.of) ds) e).0
+        | ◌∷◌ c ds ↦ λ e. clash (is_orphan p.life c.of) (rw x.2 (rw x.3 (grind arith))) (or_parts (is_orphan p.life c.of) (list_any (λ (c : Child). is_orphan
+            p.life c.of) ds) e).0
       ] (rests p h).kills
 
   pub stop_goes : list_all is_leaving w.parts ≡ true → (is_stopped w ≡ true) ⊎ HasTime w
@@ -274,8 +249,8 @@ module _ (w : Components) (k : IsKept w) (quiet : IsQuiet w) (answered : has_ans
 
     is_newest : (p : ComponentState) → Has p w.parts → newest p ≡ p.fitted
     is_newest p h = let i = idle p h in elim (either (is_some p.next)) [
-      | inl e ↦ clash (is_again p.stop || is_again (under_way p.life)) (second_true (not (is_waiting p)) (is_again p.stop || is_again (under_way p.life))
-          (kept p h).waits (rw e refl)) (rw i.0 (rw i.1 refl))
+      | inl e ↦ clash (is_again p.stop || is_again (under_way p.life)) (second_true (not (is_waiting p)) (is_again p.stop
+          || is_again (under_way p.life)) (kept p h).waits (rw e refl)) (rw i.0 (rw i.1 refl))
       | inr e ↦ rw (none_of p.next e) refl
     ]
 
@@ -316,13 +291,12 @@ module _ (w : Components) (k : IsKept w) (quiet : IsQuiet w) (answered : has_ans
       begins_now : is_awaited event.MayBegin g.one.life ≡ true → {A : Type 0} → A
       begins_now a {A} =
           let o = order g.one g.here in let l = stays g.one g.here stands_one in let e = is_newest g.one g.here in
-          let hard = all_met stands_up (k.s (component_name g.one)) up_below g.one.fitted.hard
-          (subst (λ (f : Fitted). AllBelow k.s (k.s (component_name g.one)) f.hard) e (o.hard l))
-          (subst (λ (f : Fitted). are_there w.parts f.hard ≡ true) e (o.hard_there l)) in
-          let soft = all_met serves_softly (k.s (component_name g.one))
-          (λ q h b n. or_left (stands_up q) (is_broken q.life.state && not (is_to_stop q || q.life.gone)) (up_below q h b n)) g.one.fitted.soft
-          (subst (λ (f : Fitted). AllBelow k.s (k.s (component_name g.one)) f.soft) e (o.soft l))
-          (subst (λ (f : Fitted). are_there w.parts f.soft ≡ true) e (o.soft_there l)) in
+          let hard = all_met stands_up (k.s (component_name g.one)) up_below g.one.fitted.hard (subst (λ (f : Fitted). AllBelow k.s
+          (k.s (component_name g.one)) f.hard) e (o.hard l)) (subst (λ (f : Fitted). are_there w.parts f.hard ≡ true) e (o.hard_there l)) in
+          let soft = all_met serves_softly (k.s (component_name g.one)) (λ q h b n. or_left (stands_up q) (is_broken q.life.state
+          && not (is_to_stop q || q.life.gone)) (up_below q h b n)) g.one.fitted.soft
+          (subst (λ (f : Fitted). AllBelow k.s (k.s (component_name g.one)) f.soft) e (o.soft l)) (subst (λ (f : Fitted). are_there w.parts f.soft ≡ true) e
+          (o.soft_there l)) in
           clash (may_begin w g.one) (rw a (rw (none g.one g.here) (rw hard (rw soft refl)))) (rests g.one g.here).begins
 
       tries_now : g.one.life.state ≡ state.Errored → g.one.life.busy ≡ None → {A : Type 0} → A
@@ -335,7 +309,7 @@ module _ (w : Components) (k : IsKept w) (quiet : IsQuiet w) (answered : has_ans
       idle_or None e n = n e
       idle_or (Some z) e n = busy_time g.one g.here z e
 
-      by_state : (x : State) → g.one.life.state ≡ x → (has_broken w ≡ true) ⊎ HasTime w
+      by_state : (x : State) → g.one.life.state ≡ x → (has_failed w ≡ true) ⊎ HasTime w
       by_state state.New e = inr (idle_or g.one.life.busy refl (λ b. begins_now (rw stands_one (rw e (rw b refl)))))
       by_state state.Installed e = inr (idle_or g.one.life.busy refl (λ b. begins_now (rw stands_one (rw e (rw b refl)))))
       by_state state.Starting e = let s = of_some g.one.life.busy (starts g.one.life (kept g.one g.here).sound e) in inr (busy_time g.one g.here s.0 s.1)
@@ -343,9 +317,11 @@ module _ (w : Components) (k : IsKept w) (quiet : IsQuiet w) (answered : has_ans
       by_state state.Finished e = not_up (rw e refl)
       by_state state.Stopping e = clash (is_stopping g.one.life.state) (rw e refl) (idle g.one g.here).1
       by_state state.Errored e = inr (idle_or g.one.life.busy refl (λ b. tries_now e b))
-      by_state state.Broken e = inl (has_any (λ p. is_broken p.life.state && not p.life.gone) g.one w.parts g.here (rw e (rw stands_one refl)))
+      by_state state.Broken e = let i = idle g.one g.here in inl (has_any (λ p. is_broken p.life.state
+          && not (is_spared p || is_leaving p)) g.one w.parts g.here
+          (rw i.0 (rw e (rw stands_one refl))))
 
-  pub begin_goes : (is_settled w ≡ true) ⊎ (has_broken w ≡ true) ⊎ HasTime w
+  pub begin_goes : (is_settled w ≡ true) ⊎ (has_failed w ≡ true) ⊎ HasTime w
   begin_goes = elim (greatest is_to_stop (λ p. k.r (component_name p)) w.parts) [
     | inr g ↦ inr (inr (one_stops g))
     | inl none ↦ elim (least is_down (λ p. k.s (component_name p)) w.parts) [

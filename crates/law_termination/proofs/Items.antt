@@ -3,13 +3,13 @@ use Rattle.std.proofs.Common.{◌≡◌, ℕ, List, Option, Some, None, Bool, tr
 use Rattle.std.specs.Prelude.{◌&&◌, if◌then◌else◌, IfSome}
 use Rattle.lifecycle.specs.Life.{Life, IsSound}
 use Rattle.lifecycle.specs.Table.{table}
-use Rattle.lifecycle.specs.declared.kinds.StepSet.{StepSet}
 use Rattle.lifecycle.specs.declared.kinds.LifeAct.{LifeAct}
 use Rattle.lifecycle.specs.declared.kinds.LifeAct.TheVariants as act
 use Rattle.lifecycle.specs.declared.kinds.LifeEvent.{LifeEvent}
 use Rattle.lifecycle.specs.declared.kinds.LifeEvent.TheVariants as event
-use Rattle.components.specs.Fitted.{Fitted, steps_of}
+use Rattle.lifecycle.specs.declared.kinds.StepSet.{StepSet}
 use Rattle.components.specs.Components.{ComponentState, Child, is_again, is_spared}
+use Rattle.components.specs.Fitted.{Fitted, steps_of}
 use Rattle.components.specs.Lives.{lived, after_row, succeeds, with_failures_forgotten, with_failure_owed, with_stop_given, with_new_item, completed}
 
 table_steps : (c : Life) (e : LifeEvent) → IsSound c → IfSome (table c e) (λ r. r.1.steps ≡ c.steps)
@@ -56,8 +56,7 @@ module _ (P : Fitted → Option (Fitted × ℕ) → StepSet → List Child → T
               | Some n ↦ record p {
                 fitted = n.0;
                 life = record p.life { steps = steps_of n.0; failures = n.1 };
-                next =
-                    None;
+                next = None;
               }
             ]) in P q.fitted q.next q.life.steps q.children))
             [ None ↦ λ e. h.0 | Some n ↦ λ e. h.1 n e ] refl

@@ -1,38 +1,42 @@
 -- What is kept of each component is kept by each event, and by marks.
-use Rattle.std.proofs.Common.{◌≡◌, ◌==◌, ℕ, suc, zero, List, [], ◌∷◌, length, Option, Some, None, Bool, true, false, refl, sym, ap, ◌∙◌, inl, inr, arith}
+use Rattle.std.proofs.Common.{◌≡◌, ◌<◌, ◌==◌, ℕ, suc, zero, List, [], ◌∷◌, length, Option, Some, None, Bool, true, false, refl, sym, ap, ◌∙◌, inl, inr, arith}
 use Rattle.std.proofs.Common.{subst, is_some}
 use Rattle.std.specs.Prelude.{◌&&◌, ◌||◌, not, if◌then◌else◌, IfSome, filter}
 use Rattle.std.specs.List.{list_any, list_all, AllByRecursion}
 use Rattle.std.proofs.lemmas.Bool.{or_parts, and_parts}
 use Rattle.nuc_base.specs.declared.kinds.Step.{Step}
 use Rattle.nuc_base.specs.declared.kinds.Step.TheVariants as step
-use Rattle.lifecycle.specs.Life.{Life, IsSound, may_be_busy, may_run}
-use Rattle.lifecycle.specs.Table.{table}
 use Rattle.lifecycle.specs.Awaits.{is_awaited, is_same_step, is_busy_with, is_stopping}
-use Rattle.lifecycle.specs.declared.kinds.StepSet.{StepSet}
+use Rattle.lifecycle.specs.Life.{HasOneMain, Life, IsSound, MayHave, may_be_busy, may_run}
+use Rattle.lifecycle.specs.Table.{table}
 use Rattle.lifecycle.specs.declared.kinds.After.TheVariants as after
 use Rattle.lifecycle.specs.declared.kinds.LifeAct.{LifeAct}
 use Rattle.lifecycle.specs.declared.kinds.LifeEvent.{LifeEvent}
 use Rattle.lifecycle.specs.declared.kinds.LifeEvent.TheVariants as event
-use Rattle.components.specs.Fitted.{Fitted, name_of, steps_of}
+use Rattle.lifecycle.specs.declared.kinds.StepSet.{StepSet}
 use Rattle.components.specs.Components.{ComponentState, Child, At, changed_at, is_to_stop, is_leaving, has_orphan, is_orphan, under_way, component_name}
 use Rattle.components.specs.Components.{is_again, is_starting, is_up}
+use Rattle.components.specs.Fitted.{Fitted, name_of, steps_of}
+use Rattle.components.specs.Lives.{lived, lived_at, drops_at as drops_in, after_row, with_failures_forgotten, with_failure_owed, with_stop_given}
+use Rattle.components.specs.Lives.{with_new_item}
 use Rattle.components.specs.Marks.{Flagged, flagged_at, reaching, marked, restarted, may_restart, may_replan}
-use Rattle.components.specs.Lives.{lived, lived_at, drops_at as drops_in, after_row, with_failures_forgotten, with_failure_owed, with_stop_given, with_new_item}
-use Rattle.law_termination.specs.Kept.{IsKeptPart, IsRunnable, IsComing, MayBefall, begins, is_own, is_timed}
-use Rattle.law_supervisor.specs.Sound.{may_ask, is_bare, is_waiting}
-use Rattle.law_termination.proofs.Lists.{either, clash, any_has, none_any}
-use Rattle.law_termination.proofs.Goes.{none_of, not_so, second_true}
+use Rattle.law_supervisor.specs.Sound.{may_ask, is_bare, is_to_begin_again, is_waiting}
+use Rattle.law_supervisor.proofs.KeptAsks.{asks_at}
+use Rattle.law_supervisor.proofs.KeptBare.{bare_at}
+use Rattle.law_supervisor.proofs.KeptBusy.{busy_at}
+use Rattle.law_supervisor.proofs.KeptFew.{few_at}
+use Rattle.law_supervisor.proofs.KeptLaunch.{launch_at}
+use Rattle.law_supervisor.proofs.KeptRun.{run_at}
+use Rattle.law_supervisor.proofs.KeptRuns.{runs_at}
+use Rattle.law_supervisor.proofs.KeptWaits.{waits_at}
+use Rattle.law_supervisor.proofs.Made.{MayBefall, begins}
+use Rattle.law_termination.specs.Kept.{IsKeptPart, IsRunnable, IsComing, is_timed}
 use Rattle.law_termination.proofs.Items.{by_lived}
-use Rattle.law_termination.proofs.Sums.{standing, IsFallingPart, firsts, firsts_reaching, firsts_at, twice}
-use Rattle.law_termination.proofs.KeepsSound.{sound_at}
-use Rattle.law_termination.proofs.KeepsOwn.{own_at}
-use Rattle.law_termination.proofs.KeepsAsks.{asks_at}
-use Rattle.law_termination.proofs.KeepsGone.{gone_at}
-use Rattle.law_termination.proofs.KeepsWaits.{waits_at}
-use Rattle.law_termination.proofs.KeepsRun.{run_at}
-use Rattle.law_termination.proofs.KeepsLaunch.{launch_at}
 use Rattle.law_termination.proofs.KeepsLeaving.{leaving_at}
+use Rattle.law_termination.proofs.Lives.{own_lived, stop_lived}
+use Rattle.law_termination.proofs.Lists.{either, clash, any_has, none_any}
+use Rattle.law_termination.proofs.Options.{none_of, not_so, second_true}
+use Rattle.law_termination.proofs.Sums.{standing, IsFallingPart, firsts, firsts_reaching, firsts_at, twice}
 
 table_none : (c : Life) (e : LifeEvent) → c.gone ≡ true → table c e ≡ None
 table_none c e g = rw g refl
@@ -57,8 +61,7 @@ with_children p cs k t r = record {
   timed = t;
   run = r;
   gone = k.gone;
-  own =
-      k.own;
+  own = k.own;
   asks = k.asks;
   waits = k.waits;
 }
@@ -70,11 +73,18 @@ pub run_keeps : (b : Bool) (e : LifeEvent) (q : ComponentState) (z : Bool) → I
     (begins e && z) ≡ false → (is_busy_with step.Run (lived b e q).life.busy && z) ≡ false
 run_keeps b e q z k h i = elim (either q.life.gone) [
   | inl g ↦ subst (λ (x : ComponentState). (is_busy_with step.Run x.life.busy && z) ≡ false) (sym (lived_gone b e q g)) h
-  | inr g ↦ standing (λ x. IsSound x.life → (is_busy_with step.Run x.life.busy && z) ≡ false → (begins e && z) ≡ false →
-      (is_busy_with step.Run (lived b e x).life.busy && z) ≡ false) q g
-      (run_at q.fitted q.life.steps q.life.failures q.life.busy q.life.runs q.life.install_failed q.life.stop q.children q.handed q.owed q.stop q.next
-      q.life.state e b z) k h i
+  | inr g ↦ standing (λ x. may_be_busy x.life.state x.life.busy ≡ true → may_run x.life.state x.life.runs ≡ true →
+      (is_busy_with step.Run x.life.busy && z) ≡ false → (begins e && z) ≡ false → (is_busy_with step.Run (lived b e x).life.busy && z) ≡ false) q g
+      (run_at q.fitted q.life.steps q.life.failures q.life.busy q.life.runs q.life.install_failed q.life.stop q.children q.handed q.owed q.stop q.next z
+      q.life.state e b) k.busy k.runs h i
 ]
+
+abbrev IsFew : List ℕ → Fitted × ℕ → Type 0
+IsFew own n = (name_of n.0 ≡ own) × (n.1 < 3)
+
+coming_few : (own : List ℕ) (o : Option (Fitted × ℕ)) → IfSome o (IsComing own) → IfSome o (IsFew own)
+coming_few own None h = tt
+coming_few own (Some n) h = (h.name, h.failures)
 
 pub lived_keeps : (b : Bool) (e : LifeEvent) (p : ComponentState) (cs : List Child) → IsKeptPart p → MayBefall e (record p { children = cs }) →
     list_all is_timed cs ≡ true
@@ -88,9 +98,22 @@ lived_keeps b e p cs k m t r = elim (either p.life.gone) [
         subst (λ (o : Option (Fitted × ℕ)). IfSome o (IsComing (component_name p))) q k.coming in (refl, c.runnable, tt, c.name, refl),
   ) in
       record {
-        sound = standing (λ x. IsSound x.life → IfSome x.next (IsComing (component_name x)) → IsSound (lived b e x).life) (record p { children = cs }) g
-            (sound_at p.fitted p.life.steps p.life.failures p.life.busy p.life.runs p.life.install_failed p.life.stop cs p.handed p.owed p.stop p.next
-            p.life.state e b) k.sound k.coming;
+        sound = record {
+          main = subst HasOneMain (sym items.0) items.1.main;
+          failures = standing (λ x. MayHave x.life.state x.life.failures → IfSome x.next (IsFew (component_name x)) →
+              MayHave (lived b e x).life.state (lived b e x).life.failures) (record p { children = cs }) g
+              (few_at p.fitted p.life.steps p.life.failures p.life.busy p.life.runs p.life.install_failed p.life.stop cs p.handed p.owed p.stop p.next
+              p.life.state e b) k.sound.failures (coming_few (component_name p) p.next k.coming);
+          busy = standing (λ x. may_be_busy x.life.state x.life.busy ≡ true → may_be_busy (lived b e x).life.state (lived b e x).life.busy ≡ true)
+              (record p { children = cs }) g
+              (busy_at p.fitted p.life.steps p.life.failures p.life.busy p.life.runs p.life.install_failed p.life.stop cs p.handed p.owed p.stop p.next
+              p.life.state e b) k.sound.busy;
+          runs = standing (λ x. may_run x.life.state x.life.runs ≡ true → may_run (lived b e x).life.state (lived b e x).life.runs ≡ true)
+              (record p { children = cs }) g
+              (runs_at p.fitted p.life.steps p.life.failures p.life.busy p.life.runs p.life.install_failed p.life.stop cs p.handed p.owed p.stop p.next
+              p.life.state e b) k.sound.runs;
+          stop = stop_lived b e (record p { children = cs }) k.sound;
+        };
         steps = items.0;
         runnable = items.1;
         coming = items.2;
@@ -98,21 +121,17 @@ lived_keeps b e p cs k m t r = elim (either p.life.gone) [
         run = subst (λ (ds : List Child). (is_busy_with step.Run (lived b e (record p { children = cs })).life.busy && runs_in ds) ≡ false) (sym items.4) r;
         gone = standing (λ x. may_be_busy x.life.state x.life.busy ≡ true → may_run x.life.state x.life.runs ≡ true → may_ask (under_way x.life) x.stop ≡ true
             → MayBefall e x → (not (lived b e x).life.gone || is_bare (lived b e x)) ≡ true) (record p { children = cs }) g
-            (gone_at p.fitted p.life.steps p.life.failures p.life.busy p.life.runs p.life.install_failed p.life.stop cs p.handed p.owed p.stop p.next
+            (bare_at p.fitted p.life.steps p.life.failures p.life.busy p.life.runs p.life.install_failed p.life.stop cs p.handed p.owed p.stop p.next
             p.life.state e b) k.sound.busy k.sound.runs k.asks m;
-        own = standing (λ x. IsSound x.life → is_own x.life ≡ true → is_own (lived b e x).life ≡ true) (record p { children = cs }) g
-            (own_at p.fitted p.life.steps p.life.failures p.life.busy p.life.runs p.life.install_failed p.life.stop cs p.handed p.owed p.stop p.next
-            p.life.state e b) k.sound k.own;
-        asks = standing (λ x. IsSound x.life → may_ask (under_way x.life) x.stop ≡ true → MayBefall e x →
+        own = own_lived b e (record p { children = cs }) k.sound k.own;
+        asks = standing (λ x. may_ask (under_way x.life) x.stop ≡ true → MayBefall e x →
             may_ask (under_way (lived b e x).life) (lived b e x).stop ≡ true) (record p { children = cs }) g
             (asks_at p.fitted p.life.steps p.life.failures p.life.busy p.life.runs p.life.install_failed p.life.stop cs p.handed p.owed p.stop p.next
-            p.life.state e b) k.sound k.asks m;
-        waits = standing (λ x. IsSound x.life → may_ask (under_way x.life) x.stop ≡ true → MayBefall e x →
-            (not (is_some x.next) || (is_again x.stop || is_again (under_way x.life))) ≡ true →
-            (not (is_some (lived b e x).next) || (is_again (lived b e x).stop || is_again (under_way (lived b e x).life))) ≡ true)
-            (record p { children = cs }) g
+            p.life.state e b) k.asks m;
+        waits = standing (λ x. may_ask (under_way x.life) x.stop ≡ true → MayBefall e x → (not (is_waiting x) || is_to_begin_again x) ≡ true →
+            (not (is_waiting (lived b e x)) || is_to_begin_again (lived b e x)) ≡ true) (record p { children = cs }) g
             (waits_at p.fitted p.life.steps p.life.failures p.life.busy p.life.runs p.life.install_failed p.life.stop cs p.handed p.owed p.stop p.next
-            p.life.state e b) k.sound k.asks m k.waits;
+            p.life.state e b) k.asks m k.waits;
       })
 ]
 
@@ -251,9 +270,9 @@ end_known d b e n p k m i = (
 
 launch_run : (b : Bool) (q : ComponentState) (z : Bool) → IsSound q.life → q.life.gone ≡ false →
     (is_busy_with step.Run (lived b event.Launched q).life.busy && z) ≡ false
-launch_run b q z k g = rw (standing (λ x. IsSound x.life → is_busy_with step.Run (lived b event.Launched x).life.busy ≡ false) q g
+launch_run b q z k g = rw (standing (λ x. may_be_busy x.life.state x.life.busy ≡ true → is_busy_with step.Run (lived b event.Launched x).life.busy ≡ false) q g
     (launch_at q.fitted q.life.steps q.life.failures q.life.busy q.life.runs q.life.install_failed q.life.stop q.children q.handed q.owed q.stop q.next
-    q.life.state b) k) refl
+    q.life.state b) k.busy) refl
 
 -- its run child lives
 pub launch_known : (d b : Bool) (c : Child) (p : ComponentState) → Known d p → p.life.gone ≡ false → c.of ≡ step.Run →

@@ -1,24 +1,23 @@
 -- Whoever leaves does not come up again, whether failures are forgotten or not.
 use Rattle.std.proofs.Common.{◌≡◌, ◌≤◌, ◌+◌, ℕ, Bool, true, arith, is_some, List, Option}
+use Rattle.nuc_base.specs.declared.kinds.Exit.{Exit}
 use Rattle.nuc_base.specs.declared.kinds.Step.{Step}
 use Rattle.nuc_base.specs.declared.kinds.Step.TheVariants as step
-use Rattle.nuc_base.specs.declared.kinds.Exit.{Exit}
 use Rattle.lifecycle.specs.Life.{IsSound}
 use Rattle.lifecycle.specs.Table.{table}
-use Rattle.lifecycle.specs.declared.kinds.StepSet.{StepSet}
-use Rattle.lifecycle.specs.declared.kinds.State.{State}
-use Rattle.lifecycle.specs.declared.kinds.State.TheVariants as state
 use Rattle.lifecycle.specs.declared.kinds.After.{After}
 use Rattle.lifecycle.specs.declared.kinds.After.TheVariants as after
 use Rattle.lifecycle.specs.declared.kinds.LifeEvent.{LifeEvent}
 use Rattle.lifecycle.specs.declared.kinds.LifeEvent.TheVariants as event
-use Rattle.components.specs.Fitted.{Fitted}
+use Rattle.lifecycle.specs.declared.kinds.State.{State}
+use Rattle.lifecycle.specs.declared.kinds.State.TheVariants as state
+use Rattle.lifecycle.specs.declared.kinds.StepSet.{StepSet}
 use Rattle.components.specs.Components.{Child, is_leaving, under_way}
+use Rattle.components.specs.Fitted.{Fitted}
 use Rattle.components.specs.Lives.{lived}
-use Rattle.law_termination.specs.Kept.{MayBefall}
 use Rattle.law_supervisor.specs.Sound.{may_ask}
-use Rattle.law_termination.specs.Rank.{core, gain}
-use Rattle.law_termination.proofs.Falls.{mk}
+use Rattle.law_supervisor.proofs.Made.{MayBefall, mk}
+use Rattle.law_termination.proofs.Cores.{core, gain}
 
 module _ (f : Fitted) (steps : StepSet) (n : ℕ) (busy : Option Step) (runs inst : Bool) (way : Option After) (cs : List Child) (hd : Bool)
     (o : Option (Step × Exit)) (asked : Option After) (nx : Option (Fitted × ℕ)) where

@@ -69,8 +69,7 @@ greatest {X} test r (p ∷ ps) = elim (either (test p)) [
       one = g.one;
       here = inr g.here;
       passes = g.passes;
-      greatest =
-          λ q h t. elim h [ inl i ↦ clash (test p) (sym (ap test i) ∙ t) e | inr j ↦ g.greatest q j t ];
+      greatest = λ q h t. elim h [ inl i ↦ clash (test p) (sym (ap test i) ∙ t) e | inr j ↦ g.greatest q j t ];
     })
   ]
   | inl e ↦ elim (greatest test r ps) [
@@ -78,16 +77,14 @@ greatest {X} test r (p ∷ ps) = elim (either (test p)) [
       one = p;
       here = inl refl;
       passes = e;
-      greatest =
-          λ q h t. elim h [ inl i ↦ (let f = ap r i in omega (arith, f)) | inr j ↦ clash (test q) t (none q j) ];
+      greatest = λ q h t. elim h [ inl i ↦ (let f = ap r i in omega (arith, f)) | inr j ↦ clash (test q) t (none q j) ];
     })
     | inr g ↦ elim (cases_lt (r g.one) (r p)) [
       | inr le ↦ inr (record {
         one = g.one;
         here = inr g.here;
         passes = g.passes;
-        greatest =
-            λ q h t. elim h [ inl i ↦ (let f = ap r i in omega (arith, f, le)) | inr j ↦ g.greatest q j t ];
+        greatest = λ q h t. elim h [ inl i ↦ (let f = ap r i in omega (arith, f, le)) | inr j ↦ g.greatest q j t ];
       })
       | inl lt ↦ inr (record {
         one = p;
@@ -116,8 +113,7 @@ least {X} test r (p ∷ ps) = elim (either (test p)) [
       one = g.one;
       here = inr g.here;
       passes = g.passes;
-      least =
-          λ q h t. elim h [ inl i ↦ clash (test p) (sym (ap test i) ∙ t) e | inr j ↦ g.least q j t ];
+      least = λ q h t. elim h [ inl i ↦ clash (test p) (sym (ap test i) ∙ t) e | inr j ↦ g.least q j t ];
     })
   ]
   | inl e ↦ elim (least test r ps) [
@@ -125,16 +121,14 @@ least {X} test r (p ∷ ps) = elim (either (test p)) [
       one = p;
       here = inl refl;
       passes = e;
-      least =
-          λ q h t. elim h [ inl i ↦ (let f = ap r i in omega (arith, f)) | inr j ↦ clash (test q) t (none q j) ];
+      least = λ q h t. elim h [ inl i ↦ (let f = ap r i in omega (arith, f)) | inr j ↦ clash (test q) t (none q j) ];
     })
     | inr g ↦ elim (cases_lt (r p) (r g.one)) [
       | inr le ↦ inr (record {
         one = g.one;
         here = inr g.here;
         passes = g.passes;
-        least =
-            λ q h t. elim h [ inl i ↦ (let f = ap r i in omega (arith, f, le)) | inr j ↦ g.least q j t ];
+        least = λ q h t. elim h [ inl i ↦ (let f = ap r i in omega (arith, f, le)) | inr j ↦ g.least q j t ];
       })
       | inl lt ↦ inr (record {
         one = p;

@@ -1,21 +1,24 @@
--- The small world.
-use Rattle.std.proofs.Common.{◌≡◌, ℕ, List, [], ◌∷◌, true, refl, arith}
-use Rattle.std.specs.Prelude.{is_some, if◌then◌else◌}
+-- The small world in which one waits for another.
+use Rattle.std.proofs.Common.{◌≤◌, ℕ, List, [], ◌∷◌, refl, arith}
+use Rattle.std.specs.Prelude.{if◌then◌else◌}
+use Rattle.std.specs.Option.{IsSomeAnd}
 use Rattle.std.specs.Str.{bytes_eq}
-use Rattle.components.specs.declared.kinds.Prepared.{Prepared}
 use Rattle.components.specs.Turns.{IsQuiet}
-use Rattle.law_termination.specs.Kept.{IsKept, IsKeptPart}
-use Rattle.law_termination.specs.Small.{part_a, part_b, one_waits}
+use Rattle.components.specs.declared.kinds.Prepared.{Prepared}
+use Rattle.law_termination.specs.Drives.{Drives}
+use Rattle.law_termination.specs.Kept.{IsKeptPart}
+use Rattle.law_termination.specs.Small.{fitted_a, fitted_b, one_waits, part_a, part_b}
 use Rattle.law_termination.specs.Time.{HasTime}
+use Rattle.law_termination.proofs.WorkedItems.{own_names, runnable}
 
-abbrev level : List ℕ → ℕ
-level n = if bytes_eq n (97 ∷ []) then 0 else 1
+abbrev order : List ℕ → ℕ
+order n = if bytes_eq n (97 ∷ []) then 0 else 1
 
-kept_a : (m : Prepared) → is_some m.limit_ms ≡ true → IsKeptPart (part_a m)
+kept_a : (m : Prepared) → IsSomeAnd m.limit_ms (λ l. 1 ≤ l) → IsKeptPart (part_a m)
 kept_a m e = record {
   sound = record { main = refl; failures = omega arith; busy = refl; runs = refl; stop = refl };
   steps = refl;
-  runnable = record { main = refl; install = e; startup = refl; shutdown = refl; recover = refl };
+  runnable = runnable (fitted_a m) refl tt e tt tt tt;
   coming = tt;
   timed = refl;
   run = refl;
@@ -29,7 +32,7 @@ kept_b : IsKeptPart part_b
 kept_b = record {
   sound = record { main = refl; failures = omega arith; busy = refl; runs = refl; stop = refl };
   steps = refl;
-  runnable = record { main = refl; install = refl; startup = refl; shutdown = refl; recover = refl };
+  runnable = runnable fitted_b refl tt tt tt tt tt;
   coming = tt;
   timed = refl;
   run = refl;
@@ -39,14 +42,19 @@ kept_b = record {
   waits = refl;
 }
 
-pub waits_kept : (m : Prepared) → is_some m.limit_ms ≡ true → IsKept (one_waits m)
+pub waits_kept : (m : Prepared) → IsSomeAnd m.limit_ms (λ l. 1 ≤ l) → Drives (one_waits m)
 waits_kept m e = record {
-  alone = record { parts = (kept_a m e, (kept_b, tt)); few = omega arith };
-  r = level;
-  s = level;
+  alone = (kept_a m e, (kept_b, tt));
+  names = own_names (one_waits m).parts refl;
+  r = order;
+  s = order;
   ordered = (
     record { stands = λ g. tt; hard = λ l. tt; soft = λ l. tt; hard_there = λ l. refl; soft_there = λ l. refl },
     (record { stands = λ g. (omega arith, tt); hard = λ l. (omega arith, tt); soft = λ l. tt; hard_there = λ l. refl; soft_there = λ l. refl }, tt),
+  );
+  each = (
+    record { needs = λ g. tt; apart = refl; takes = refl; in_time = (omega arith, tt) },
+    (record { needs = λ g. ((omega arith, refl), tt); apart = refl; takes = refl; in_time = tt }, tt),
   );
 }
 

@@ -1,126 +1,27 @@
 -- Whoever leaves takes nobody down.
 use Rattle.std.proofs.Common.{◌≡◌, ℕ, Bool, true, false, arith, List, Option}
-use Rattle.nuc_base.specs.declared.kinds.Step.{Step}
-use Rattle.nuc_base.specs.declared.kinds.Step.TheVariants as step
 use Rattle.nuc_base.specs.declared.kinds.Exit.{Exit}
+use Rattle.nuc_base.specs.declared.kinds.Step.{Step}
 use Rattle.lifecycle.specs.Life.{IsSound}
-use Rattle.lifecycle.specs.declared.kinds.StepSet.{StepSet}
+use Rattle.lifecycle.specs.declared.kinds.After.{After}
+use Rattle.lifecycle.specs.declared.kinds.LifeEvent.{LifeEvent}
 use Rattle.lifecycle.specs.declared.kinds.State.{State}
 use Rattle.lifecycle.specs.declared.kinds.State.TheVariants as state
-use Rattle.lifecycle.specs.declared.kinds.After.{After}
-use Rattle.lifecycle.specs.declared.kinds.After.TheVariants as after
-use Rattle.lifecycle.specs.declared.kinds.LifeEvent.{LifeEvent}
-use Rattle.lifecycle.specs.declared.kinds.LifeEvent.TheVariants as event
-use Rattle.components.specs.Fitted.{Fitted}
+use Rattle.lifecycle.specs.declared.kinds.StepSet.{StepSet}
 use Rattle.components.specs.Components.{Child, is_leaving}
+use Rattle.components.specs.Fitted.{Fitted}
 use Rattle.components.specs.Lives.{drops}
-use Rattle.law_termination.proofs.Falls.{mk}
+use Rattle.law_supervisor.proofs.Made.{mk}
 
 module _ (f : Fitted) (steps : StepSet) (n : ℕ) (busy : Option Step) (runs inst : Bool) (way : Option After) (cs : List Child) (hd : Bool)
     (o : Option (Step × Exit)) (asked : Option After) (nx : Option (Fitted × ℕ)) where
   pub no_drop : (s : State) (e : LifeEvent) → IsSound (mk f steps n busy runs inst way cs hd o asked nx s).life →
       is_leaving (mk f steps n busy runs inst way cs hd o asked nx s) ≡ true → drops true e (mk f steps n busy runs inst way cs hd o asked nx s) ≡ false
-  no_drop state.New event.MayBegin k l = grind (arith, k, l)
-  no_drop state.New event.Retry k l = grind (arith, k, l)
-  no_drop state.New event.Launched k l = grind (arith, k, l)
-  no_drop state.New event.Skipped k l = grind (arith, k, l)
-  no_drop state.New (event.Stop after.Restart) k l = grind (arith, k, l)
-  no_drop state.New (event.Stop after.Again) k l = grind (arith, k, l)
-  no_drop state.New (event.Stop after.Gone) k l = grind (arith, k, l)
-  no_drop state.New (event.Ended step.Install x) k l = grind (arith, k, l)
-  no_drop state.New (event.Ended step.Run x) k l = grind (arith, k, l)
-  no_drop state.New (event.Ended step.Startup x) k l = grind (arith, k, l)
-  no_drop state.New (event.Ended step.Shutdown x) k l = grind (arith, k, l)
-  no_drop state.New (event.Ended step.Recover x) k l = grind (arith, k, l)
-  no_drop state.New (event.Ended step.Bootstrap x) k l = grind (arith, k, l)
-  no_drop state.Installed event.MayBegin k l = grind (arith, k, l)
-  no_drop state.Installed event.Retry k l = grind (arith, k, l)
-  no_drop state.Installed event.Launched k l = grind (arith, k, l)
-  no_drop state.Installed event.Skipped k l = grind (arith, k, l)
-  no_drop state.Installed (event.Stop after.Restart) k l = grind (arith, k, l)
-  no_drop state.Installed (event.Stop after.Again) k l = grind (arith, k, l)
-  no_drop state.Installed (event.Stop after.Gone) k l = grind (arith, k, l)
-  no_drop state.Installed (event.Ended step.Install x) k l = grind (arith, k, l)
-  no_drop state.Installed (event.Ended step.Run x) k l = grind (arith, k, l)
-  no_drop state.Installed (event.Ended step.Startup x) k l = grind (arith, k, l)
-  no_drop state.Installed (event.Ended step.Shutdown x) k l = grind (arith, k, l)
-  no_drop state.Installed (event.Ended step.Recover x) k l = grind (arith, k, l)
-  no_drop state.Installed (event.Ended step.Bootstrap x) k l = grind (arith, k, l)
-  no_drop state.Starting event.MayBegin k l = grind (arith, k, l)
-  no_drop state.Starting event.Retry k l = grind (arith, k, l)
-  no_drop state.Starting event.Launched k l = grind (arith, k, l)
-  no_drop state.Starting event.Skipped k l = grind (arith, k, l)
-  no_drop state.Starting (event.Stop after.Restart) k l = grind (arith, k, l)
-  no_drop state.Starting (event.Stop after.Again) k l = grind (arith, k, l)
-  no_drop state.Starting (event.Stop after.Gone) k l = grind (arith, k, l)
-  no_drop state.Starting (event.Ended step.Install x) k l = grind (arith, k, l)
-  no_drop state.Starting (event.Ended step.Run x) k l = grind (arith, k, l)
-  no_drop state.Starting (event.Ended step.Startup x) k l = grind (arith, k, l)
-  no_drop state.Starting (event.Ended step.Shutdown x) k l = grind (arith, k, l)
-  no_drop state.Starting (event.Ended step.Recover x) k l = grind (arith, k, l)
-  no_drop state.Starting (event.Ended step.Bootstrap x) k l = grind (arith, k, l)
-  no_drop state.Running event.MayBegin k l = grind (arith, k, l)
-  no_drop state.Running event.Retry k l = grind (arith, k, l)
-  no_drop state.Running event.Launched k l = grind (arith, k, l)
-  no_drop state.Running event.Skipped k l = grind (arith, k, l)
-  no_drop state.Running (event.Stop after.Restart) k l = grind (arith, k, l)
-  no_drop state.Running (event.Stop after.Again) k l = grind (arith, k, l)
-  no_drop state.Running (event.Stop after.Gone) k l = grind (arith, k, l)
-  no_drop state.Running (event.Ended step.Install x) k l = grind (arith, k, l)
-  no_drop state.Running (event.Ended step.Run x) k l = grind (arith, k, l)
-  no_drop state.Running (event.Ended step.Startup x) k l = grind (arith, k, l)
-  no_drop state.Running (event.Ended step.Shutdown x) k l = grind (arith, k, l)
-  no_drop state.Running (event.Ended step.Recover x) k l = grind (arith, k, l)
-  no_drop state.Running (event.Ended step.Bootstrap x) k l = grind (arith, k, l)
-  no_drop state.Stopping event.MayBegin k l = grind (arith, k, l)
-  no_drop state.Stopping event.Retry k l = grind (arith, k, l)
-  no_drop state.Stopping event.Launched k l = grind (arith, k, l)
-  no_drop state.Stopping event.Skipped k l = grind (arith, k, l)
-  no_drop state.Stopping (event.Stop after.Restart) k l = grind (arith, k, l)
-  no_drop state.Stopping (event.Stop after.Again) k l = grind (arith, k, l)
-  no_drop state.Stopping (event.Stop after.Gone) k l = grind (arith, k, l)
-  no_drop state.Stopping (event.Ended step.Install x) k l = grind (arith, k, l)
-  no_drop state.Stopping (event.Ended step.Run x) k l = grind (arith, k, l)
-  no_drop state.Stopping (event.Ended step.Startup x) k l = grind (arith, k, l)
-  no_drop state.Stopping (event.Ended step.Shutdown x) k l = grind (arith, k, l)
-  no_drop state.Stopping (event.Ended step.Recover x) k l = grind (arith, k, l)
-  no_drop state.Stopping (event.Ended step.Bootstrap x) k l = grind (arith, k, l)
-  no_drop state.Finished event.MayBegin k l = grind (arith, k, l)
-  no_drop state.Finished event.Retry k l = grind (arith, k, l)
-  no_drop state.Finished event.Launched k l = grind (arith, k, l)
-  no_drop state.Finished event.Skipped k l = grind (arith, k, l)
-  no_drop state.Finished (event.Stop after.Restart) k l = grind (arith, k, l)
-  no_drop state.Finished (event.Stop after.Again) k l = grind (arith, k, l)
-  no_drop state.Finished (event.Stop after.Gone) k l = grind (arith, k, l)
-  no_drop state.Finished (event.Ended step.Install x) k l = grind (arith, k, l)
-  no_drop state.Finished (event.Ended step.Run x) k l = grind (arith, k, l)
-  no_drop state.Finished (event.Ended step.Startup x) k l = grind (arith, k, l)
-  no_drop state.Finished (event.Ended step.Shutdown x) k l = grind (arith, k, l)
-  no_drop state.Finished (event.Ended step.Recover x) k l = grind (arith, k, l)
-  no_drop state.Finished (event.Ended step.Bootstrap x) k l = grind (arith, k, l)
-  no_drop state.Errored event.MayBegin k l = grind (arith, k, l)
-  no_drop state.Errored event.Retry k l = grind (arith, k, l)
-  no_drop state.Errored event.Launched k l = grind (arith, k, l)
-  no_drop state.Errored event.Skipped k l = grind (arith, k, l)
-  no_drop state.Errored (event.Stop after.Restart) k l = grind (arith, k, l)
-  no_drop state.Errored (event.Stop after.Again) k l = grind (arith, k, l)
-  no_drop state.Errored (event.Stop after.Gone) k l = grind (arith, k, l)
-  no_drop state.Errored (event.Ended step.Install x) k l = grind (arith, k, l)
-  no_drop state.Errored (event.Ended step.Run x) k l = grind (arith, k, l)
-  no_drop state.Errored (event.Ended step.Startup x) k l = grind (arith, k, l)
-  no_drop state.Errored (event.Ended step.Shutdown x) k l = grind (arith, k, l)
-  no_drop state.Errored (event.Ended step.Recover x) k l = grind (arith, k, l)
-  no_drop state.Errored (event.Ended step.Bootstrap x) k l = grind (arith, k, l)
-  no_drop state.Broken event.MayBegin k l = grind (arith, k, l)
-  no_drop state.Broken event.Retry k l = grind (arith, k, l)
-  no_drop state.Broken event.Launched k l = grind (arith, k, l)
-  no_drop state.Broken event.Skipped k l = grind (arith, k, l)
-  no_drop state.Broken (event.Stop after.Restart) k l = grind (arith, k, l)
-  no_drop state.Broken (event.Stop after.Again) k l = grind (arith, k, l)
-  no_drop state.Broken (event.Stop after.Gone) k l = grind (arith, k, l)
-  no_drop state.Broken (event.Ended step.Install x) k l = grind (arith, k, l)
-  no_drop state.Broken (event.Ended step.Run x) k l = grind (arith, k, l)
-  no_drop state.Broken (event.Ended step.Startup x) k l = grind (arith, k, l)
-  no_drop state.Broken (event.Ended step.Shutdown x) k l = grind (arith, k, l)
-  no_drop state.Broken (event.Ended step.Recover x) k l = grind (arith, k, l)
-  no_drop state.Broken (event.Ended step.Bootstrap x) k l = grind (arith, k, l)
+  no_drop state.New e k l = grind (arith, k, l)
+  no_drop state.Installed e k l = grind (arith, k, l)
+  no_drop state.Starting e k l = grind (arith, k, l)
+  no_drop state.Running e k l = grind (arith, k, l)
+  no_drop state.Stopping e k l = grind (arith, k, l)
+  no_drop state.Finished e k l = grind (arith, k, l)
+  no_drop state.Errored e k l = grind (arith, k, l)
+  no_drop state.Broken e k l = grind (arith, k, l)

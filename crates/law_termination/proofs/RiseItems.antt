@@ -1,61 +1,40 @@
 -- Items of a sound device that were made ready may be brought up together.
-use Rattle.std.proofs.Common.{◌≡◌, ◌≢◌, ◌<◌, ◌≤◌, ◌⊎◌, ℕ, suc, zero, List, [], ◌∷◌, ◌++◌, length, map, Option, Some, None, is_some, Bool, true, false, refl}
+use Rattle.std.proofs.Common.{◌≤◌, ◌≡◌, ◌≢◌, ◌<◌, ◌⊎◌, ℕ, suc, zero, List, [], ◌∷◌, ◌++◌, length, map, Option, Some, None, is_some, Bool, true, false, refl}
 use Rattle.std.proofs.Common.{sym, ap, ◌∙◌, inl, inr, arith, subst, slice_get}
-use Rattle.std.specs.Prelude.{◌&&◌, ◌||◌, not, filter, if◌then◌else◌, IfSome, IsSome, Contains}
-use Rattle.std.specs.List.{AllByRecursion}
+use Rattle.std.specs.Prelude.{◌&&◌, ◌||◌, not, filter, if◌then◌else◌, IfSome, IsSome}
 use Rattle.std.specs.Str.{bytes_eq}
 use Rattle.std.proofs.lemmas.Bool.{or_left, or_right}
-use Rattle.std.proofs.lemmas.Option.{slice_get-get_or, slice_get_within}
+use Rattle.std.proofs.lemmas.Option.{slice_get_within}
 use Rattle.std.proofs.lemmas.Slice.Eq.{bytes_eq-Decides}
 use Rattle.serde_json.specs.Data.{Data}
-use Rattle.nuc_base.proofs.Leading.{leads_more}
 use Rattle.nuc_base.specs.declared.kinds.Step.{Step}
 use Rattle.nuc_base.specs.declared.kinds.Step.TheVariants as step
-use Rattle.nuc_base.specs.declared.platform.Platform.{Platform}
+use Rattle.nuc_base.proofs.Leading.{leads_more}
 use Rattle.records.specs.Stored.{Item}
 use Rattle.records.specs.declared.record.Origin.{Origin}
-use Rattle.recipe_reader.specs.OneRecipe.{Reads}
-use Rattle.recipe_reader.specs.Sound.{ReadsSound}
 use Rattle.recipe_reader.specs.Environment.{Variable}
+use Rattle.recipe_reader.specs.OneRecipe.{IsOneRecipe}
+use Rattle.recipe_reader.specs.Sound.{ReadsSound}
 use Rattle.recipe_reader.specs.Steps.{IsLimit, IsStep, step_of, usual_limit}
 use Rattle.recipe_reader.specs.declared.recipe.Dependency.{Dependency}
 use Rattle.recipe_reader.specs.declared.recipe.StepDef.{StepDef}
 use Rattle.interpolation.specs.declared.scope.Scope.{Scope}
-use Rattle.device.specs.Plans.{AreItems, IsMet, IsSupplied, NeedsByName}
+use Rattle.device.specs.Plans.{AreItems, IsSupplied, NeedsByName}
 use Rattle.lifecycle.specs.Awaits.{is_same_step}
-use Rattle.components.specs.Fitted.{Fitted, limit_of, name_of, prepared_of, steps_of}
-use Rattle.components.specs.Made.{AreFitted, IsFittedAt, IsPrepared, hard_names, soft_names}
+use Rattle.components.specs.Components.{Components}
+use Rattle.components.specs.Fitted.{Fitted, limit_of, name_of, prepared_of}
+use Rattle.components.specs.Made.{AreFitted, IsFittedAt, IsPrepared}
+use Rattle.components.specs.Platforms.{AllRunFor}
 use Rattle.components.specs.declared.kinds.Prepared.{Prepared}
-use Rattle.law_termination.specs.Kept.{AllBelow, IsRunnable, has_limit}
-use Rattle.law_termination.proofs.Lists.{Has, each_has, either}
-use Rattle.law_termination.specs.Drives.{IsAmong, IsPlaced, MayCome}
+use Rattle.components.proofs.Platforms.{keep_for, keep_needs, ready_for}
+use Rattle.law_termination.specs.Drives.{IsAmong, IsPlaced, MayCome, MayTakeOver}
+use Rattle.law_termination.specs.Kept.{IsRunnable, IsTimely, has_limit}
+use Rattle.law_termination.proofs.Limits.{IsLong, limits_are_long}
+use Rattle.law_termination.proofs.Lists.{Has, each_has}
+use Rattle.law_termination.proofs.Near.{all_of, contains_one, has_at, has_one, placed_at}
 use Rattle.law_termination.proofs.RiseOrders.{Needs, needs_below, needs_of, order_of}
 
 -- ---- lists
-
-has_one : {X : Type 0} (xs : List X) (x : X) → Contains xs x → Has x xs
-has_one [] x (k, less, is) = absurd (omega (arith, less))
-has_one (y ∷ ys) x (zero, less, is) = inl (sym is)
-has_one (y ∷ ys) x (suc k, less, is) = inr (has_one ys x (k, omega (arith, less), is))
-
-contains_one : {X : Type 0} (xs : List X) (x : X) → Has x xs → Contains xs x
-contains_one [] x h = absurd h
-contains_one (y ∷ ys) x (inl q) = (zero, omega arith, sym q)
-contains_one (y ∷ ys) x (inr h) = let c = contains_one ys x h in (suc c.0, omega (arith, c.1), c.2)
-
-place_of_one : {X : Type 0} (x : X) (xs : List X) → Has x xs → (k : ℕ) × (slice_get xs k ≡ Some x)
-place_of_one x [] h = absurd h
-place_of_one x (y ∷ ys) (inl q) = (zero, ap (λ z. Some z) (sym q))
-place_of_one x (y ∷ ys) (inr h) = let p = place_of_one x ys h in (suc p.0, p.1)
-
-one_at : {X : Type 0} (x : X) (xs : List X) (k : ℕ) → slice_get xs k ≡ Some x → Has x xs
-one_at x [] k e = absurd (cc)
-one_at x (y ∷ ys) zero e = inl (ap (λ o. elim o [ None ↦ x | Some z ↦ z ]) (sym e))
-one_at x (y ∷ ys) (suc k) e = inr (one_at x ys k e)
-
-all_from : {X : Type 0} (P : X → Type 0) (xs : List X) → ((x : X) → Has x xs → P x) → AllByRecursion P xs
-all_from P [] f = tt
-all_from P (x ∷ xs) f = (f x (inl refl), all_from P xs (λ y h. f y (inr h)))
 
 has_left : {X : Type 0} (x : X) (xs ys : List X) → Has x xs → Has x (xs ++ ys)
 has_left x [] ys h = absurd h
@@ -121,6 +100,12 @@ prepared_limit scope None made i l = subst (λ (o : Option Prepared). (not (is_s
 prepared_limit scope (Some def) made i l = subst (λ (o : Option Prepared). (not (is_some o) || is_some (limit_of o)) ≡ true) (sym i.1)
     (ap (λ (o : Option ℕ). is_some o) i.2.limit ∙ l)
 
+prepared_on_time : (scope : Scope) (def : Option StepDef) (made : Option Prepared) → IsPrepared scope def made → IfSome def IsLong →
+    IfSome (limit_of made) (λ l. 1 ≤ l)
+prepared_on_time scope None made i l = subst (λ (o : Option Prepared). IfSome (limit_of o) (λ l. 1 ≤ l)) (sym i) tt
+prepared_on_time scope (Some def) made i l = subst (λ (o : Option Prepared). IfSome (limit_of o) (λ l. 1 ≤ l)) (sym i.1)
+    (subst (λ (o : Option ℕ). IfSome o (λ l. 1 ≤ l)) (sym i.2.limit) l)
+
 one_main : (scope : Scope) (a b : Option StepDef) (x y : Option Prepared) → IsPrepared scope a x → IsPrepared scope b y → (IsSome a → IsSome b → ⊥) →
     (is_some x && is_some y) ≡ false
 one_main scope None b x y i j never = subst (λ (o : Option Prepared). (is_some o && is_some y) ≡ false) (sym i) refl
@@ -135,17 +120,30 @@ one_main scope (Some a) (Some b) x y i j never = absurd (never refl refl)
 
 module _ (sound : ReadsSound) (o : Origin) (items : List Item) (fitted : List Fitted) (are : AreItems o.platform items) (a : AreFitted o items fitted) where
   at_of : (f : Fitted) → Has f fitted → (k : ℕ) × IsFittedAt o items k f
-  at_of f h = let p = place_of_one f fitted h in (p.0, a.each p.0 f p.1)
+  at_of f h = let p = placed_at f fitted h in (p.0, a.each p.0 f p.1)
 
   has_limits : (f : Fitted) (k : ℕ) → IsFittedAt o items k f → (s : Step) → is_same_step step.Run s ≡ false → s ≢ step.Bootstrap → has_limit f s ≡ true
   has_limits f k i s n b = prepared_limit i.scope (step_of i.is_scope.recipe s) (prepared_of f s) (i.steps s b)
       (limited s i.is_scope.reads.3.steps.outer _ (step_of i.is_scope.recipe s) n (i.is_scope.reads.3.steps.steps s))
+
+  on_time : (f : Fitted) (k : ℕ) → IsFittedAt o items k f → (s : Step) → s ≢ step.Bootstrap → IfSome (limit_of (prepared_of f s)) (λ l. 1 ≤ l)
+  on_time f k i s b = prepared_on_time i.scope (step_of i.is_scope.recipe s) (prepared_of f s) (i.steps s b)
+      (limits_are_long i.is_scope.item.recipe o.platform i.is_scope.recipe i.is_scope.reads s)
+
+  timely : (f : Fitted) (k : ℕ) → IsFittedAt o items k f → IsTimely f
+  timely f k i step.Install = on_time f k i step.Install (λ e. absurd (cc))
+  timely f k i step.Run = on_time f k i step.Run (λ e. absurd (cc))
+  timely f k i step.Startup = on_time f k i step.Startup (λ e. absurd (cc))
+  timely f k i step.Shutdown = on_time f k i step.Shutdown (λ e. absurd (cc))
+  timely f k i step.Recover = on_time f k i step.Recover (λ e. absurd (cc))
+  timely f k i step.Bootstrap = tt
 
   runs_to_end : (f : Fitted) → Has f fitted → IsRunnable f
   runs_to_end f h = let x = at_of f h in let i = x.1 in record {
     main = one_main i.scope (step_of i.is_scope.recipe step.Run) (step_of i.is_scope.recipe step.Startup) f.run f.startup
         (i.steps step.Run (λ e. absurd (cc))) (i.steps step.Startup (λ e. absurd (cc)))
         (sound i.is_scope.item.recipe o.platform i.is_scope.recipe i.is_scope.reads).not_both;
+    timely = timely f x.0 i;
     install = has_limits f x.0 i step.Install refl (λ e. absurd (cc));
     startup = has_limits f x.0 i step.Startup refl (λ e. absurd (cc));
     shutdown = has_limits f x.0 i step.Shutdown refl (λ e. absurd (cc));
@@ -174,7 +172,7 @@ module _ (sound : ReadsSound) (o : Origin) (items : List Item) (fitted : List Fi
       let r = need_of n.item c n.is_one n.to in
       record {
         item = r.fit.is_scope.item;
-        is_one = contains_one items r.fit.is_scope.item (one_at r.fit.is_scope.item items r.k r.fit.is_scope.there);
+        is_one = contains_one items r.fit.is_scope.item (has_at r.fit.is_scope.item items r.k r.fit.is_scope.there);
         from = ap (λ (i : Item). i.name) (sym r.fit.item) ∙ n.from;
         dependency = r.dependency;
         names = record {
@@ -194,7 +192,7 @@ module _ (sound : ReadsSound) (o : Origin) (items : List Item) (fitted : List Fi
       let x = a.each k g.0 g.1 in
       let same : name_of g.0 ≡ n = ap (λ (z : Item). z.name) (x.item ∙ ap (λ (z : Option Item). elim z [ None ↦ i | Some y ↦ y ]) (sym x.is_scope.there ∙ e))
       ∙ q in
-      any_named fitted g.0 n (one_at g.0 fitted k g.1) same
+      any_named fitted g.0 n (has_at g.0 fitted k g.1) same
     where
       slice_get_cases : (xs : List Fitted) (j : ℕ) → j < length xs → (f : Fitted) × (slice_get xs j ≡ Some f)
       slice_get_cases [] j l = absurd (omega (arith, l))
@@ -210,22 +208,21 @@ module _ (sound : ReadsSound) (o : Origin) (items : List Item) (fitted : List Fi
   among f n h m =
       let r = need_of f n h m in
       let i = r.fit.is_scope.item in
-      let s = each_has (IsSupplied o.platform items) i items (one_at i items r.k r.fit.is_scope.there) are.supplied in
+      let s = each_has (IsSupplied o.platform items) i items (has_at i items r.k r.fit.is_scope.there) are.supplied in
       let y = s r.dependency (record {
         recipe = r.fit.is_scope.recipe;
         reads = r.fit.is_scope.reads;
-        named =
-            contains_one r.fit.is_scope.recipe.dependencies r.dependency r.is_one;
+        named = contains_one r.fit.is_scope.recipe.dependencies r.dependency r.is_one;
       }) in
-      let p = place_of_one y.item items (has_one items y.item y.is_one) in
+      let p = placed_at y.item items (has_one items y.item y.is_one) in
       among_at n y.item p.0 p.1 (y.meets.name ∙ r.name)
 
   placed : (f : Fitted) → Has f fitted → IsPlaced (order_of fitted) fitted f
   placed f h = record {
-    hard = all_from (λ n. order_of fitted n < order_of fitted (name_of f)) f.hard (λ n m. below n (has_left n f.hard f.soft m));
-    soft = all_from (λ n. order_of fitted n < order_of fitted (name_of f)) f.soft (λ n m. below n (has_right n f.hard f.soft m));
-    hard_there = all_from (IsAmong fitted) f.hard (λ n m. among f n h (has_left n f.hard f.soft m));
-    soft_there = all_from (IsAmong fitted) f.soft (λ n m. among f n h (has_right n f.hard f.soft m));
+    hard = all_of (λ n. order_of fitted n < order_of fitted (name_of f)) f.hard (λ n m. below n (has_left n f.hard f.soft m));
+    soft = all_of (λ n. order_of fitted n < order_of fitted (name_of f)) f.soft (λ n m. below n (has_right n f.hard f.soft m));
+    hard_there = all_of (IsAmong fitted) f.hard (λ n m. among f n h (has_left n f.hard f.soft m));
+    soft_there = all_of (IsAmong fitted) f.soft (λ n m. among f n h (has_right n f.hard f.soft m));
   }
     where
       below : (n : List ℕ) → Has n (needs_of f) → order_of fitted n < order_of fitted (name_of f)
@@ -233,11 +230,16 @@ module _ (sound : ReadsSound) (o : Origin) (items : List Item) (fitted : List Fi
 
   pub ready_come : MayCome fitted
   ready_come =
-      let l = are.few in
-      let m = a.many in
       record {
-        few = omega (arith, l, m);
-        runnable = all_from IsRunnable fitted runs_to_end;
+        runnable = all_of IsRunnable fitted runs_to_end;
         s = order_of fitted;
-        placed = all_from (IsPlaced (order_of fitted) fitted) fitted placed;
+        placed = all_of (IsPlaced (order_of fitted) fitted) fitted placed;
       }
+
+pub ready_take_over : ReadsSound → IsOneRecipe → (o : Origin) (items : List Item) (fitted : List Fitted) (w : Components) → AreItems o.platform items →
+    AreFitted o items fitted → AllRunFor o.platform w.parts → MayTakeOver fitted w.parts
+ready_take_over sound one o items fitted w are a runs = record {
+  come = ready_come sound o items fitted are a;
+  steps = keep_for one o.platform fitted w.parts (ready_for o items fitted a) runs;
+  needs = keep_needs one o.platform fitted w.parts (ready_for o items fitted a) runs;
+}

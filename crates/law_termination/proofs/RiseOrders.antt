@@ -1,18 +1,18 @@
 -- Needs without a cycle have an order: of each name, how many of the items it reaches.
 use Rattle.std.proofs.Common.{◌≡◌, ◌<◌, ◌≤◌, ◌+◌, ◌⊎◌, ℕ, suc, zero, List, [], ◌∷◌, ◌++◌, length, map, Bool, true, false, refl, sym, ap, ◌∙◌, inl, inr, arith}
 use Rattle.std.proofs.Common.{subst}
-use Rattle.std.specs.Prelude.{◌&&◌, ◌||◌, if◌then◌else◌, ⊤}
+use Rattle.std.specs.Prelude.{◌&&◌, ◌||◌, if◌then◌else◌}
 use Rattle.std.specs.List.{AllByRecursion}
 use Rattle.std.specs.Str.{bytes_eq}
 use Rattle.std.proofs.lemmas.Bool.{and_parts, or_left, or_right}
 use Rattle.std.proofs.lemmas.Slice.Eq.{bytes_eq-Decides}
 use Rattle.nuc_base.specs.Leads.{Leads}
 use Rattle.components.specs.Changes.{fresh_part}
-use Rattle.components.specs.Fitted.{Fitted, name_of}
-use Rattle.components.specs.Marks.{Flagged, IsClosedBack, Within, flagged, grown, is_flagged, needs_flagged, reaching}
 use Rattle.components.specs.Components.{ComponentState, component_name}
+use Rattle.components.specs.Fitted.{Fitted, name_of}
+use Rattle.components.specs.Marks.{Flagged, Within, flagged, grown, is_flagged, needs_flagged, reaching}
 use Rattle.components.proofs.Closes.{closes, most}
-use Rattle.law_termination.proofs.Lists.{Has, clash, either}
+use Rattle.law_termination.proofs.Lists.{Has, either}
 
 -- what an item needs, hard or soft
 abbrev pub needs_of : Fitted → List (List ℕ)

@@ -1,99 +1,34 @@
--- What the laws of progress say of what is kept, and the stop of all.
-use Rattle.std.proofs.Common.{◌≡◌, ◌⊎◌, ◌<◌, ◌≤◌, ◌+◌, ◌^◌, ℕ, List, [], ◌∷◌, map, Option, Some, None, Bool, true, false, refl, sym, ap, ◌∙◌, inl, inr, arith}
-use Rattle.std.proofs.Common.{subst}
-use Rattle.std.specs.Prelude.{if◌then◌else◌, IfSome, min, option_map}
-use Rattle.std.specs.Option.{IsSomeAnd}
+-- What progress says of what is kept; the end of a deployment, and the stop of all.
+use Rattle.std.proofs.Common.{◌≡◌, ◌⊎◌, ◌<◌, ◌+◌, ◌-◌, ◌^◌, ℕ, List, [], ◌∷◌, Option, Some, None, Bool, true, false, refl, sym, inl, inr, arith, subst, ap}
+use Rattle.std.proofs.Common.{◌∙◌, ◌++◌, map, is_some}
+use Rattle.std.specs.Prelude.{IfSome, ◌&&◌, not, if◌then◌else◌, ◌||◌, option_map}
 use Rattle.std.specs.List.{list_all, AllByRecursion}
+use Rattle.std.specs.Option.{IsSomeAnd}
+use Rattle.std.specs.Str.{bytes_eq}
+use Rattle.lifecycle.specs.Life.{IsSound, Life, MayHave}
+use Rattle.lifecycle.specs.declared.kinds.After.{After}
+use Rattle.lifecycle.specs.declared.kinds.After.TheVariants as after
+use Rattle.lifecycle.specs.declared.kinds.State.{State}
 use Rattle.components.specs.Answers.{has_answered}
 use Rattle.components.specs.Changes.{Coming, all_stopped, forgetting, leaving, steadied}
+use Rattle.components.specs.Components.{Child, ComponentState, Components, is_leaving, is_settled, is_stopped, is_gone, component_name, under_way, is_again}
 use Rattle.components.specs.Deadlines.{child_deadline, earlier, least_deadline, least_of}
 use Rattle.components.specs.Fitted.{Fitted, name_of}
-use Rattle.components.specs.Turns.{IsQuiet}
-use Rattle.components.specs.Components.{Child, ComponentState, Components, has_broken, is_gone, is_leaving, is_settled, is_stopped, component_name, under_way}
-use Rattle.law_termination.specs.Kept.{AllBelow, IsKept, IsOrderedPart, are_there, newest}
+use Rattle.components.specs.Turns.{IsQuiet, hard_needs, coming_needs, is_met}
+use Rattle.law_supervisor.specs.Sound.{HaveOwnNames, is_to_begin_again, is_waiting}
+use Rattle.law_supervisor.proofs.Together.{same_names}
+use Rattle.law_termination.specs.Drives.{IsInTime, IsDriven, Drives, IsBelow, is_ending, HasItemToTake, GoesOn, has_failed}
+use Rattle.law_termination.specs.Kept.{IsKeptPart, IsComing}
 use Rattle.law_termination.specs.Time.{HasTime}
+use Rattle.law_termination.proofs.Befalls.{any, same_order, sources}
+use Rattle.law_termination.proofs.Carried.{AreCarried, IsSource, carried_still}
 use Rattle.law_termination.proofs.Goes.{begin_goes, stop_goes}
-use Rattle.law_termination.proofs.Lists.{clash, either}
-use Rattle.law_termination.proofs.Stops.{steady_whole, stop_whole}
-use Rattle.law_termination.specs.Drives.{Drives, GoesOn, IsDriven, IsInTime}
-use Rattle.law_termination.proofs.Same.{AreSame, goes_on}
-
--- ---- one order serves both
-
-ordered : (s : List ℕ → ℕ) (all ps : List ComponentState) → AllByRecursion (IsDriven s all) ps → AllByRecursion (IsOrderedPart s s all) ps
-ordered s all [] d = tt
-ordered s all (p ∷ ps) d = (one, ordered s all ps d.1)
-  where
-    own : newest p ≡ p.fitted
-    own = ap (λ (o : Option (Fitted × ℕ)). elim o [ None ↦ p.fitted | Some n ↦ n.0 ]) d.0.next
-
-    one : IsOrderedPart s s all p
-    one = record {
-      stands = λ g. d.0.hard;
-      hard = λ l. subst (λ (f : Fitted). AllBelow s (s (component_name p)) f.hard) (sym own) d.0.hard;
-      soft = λ l. subst (λ (f : Fitted). AllBelow s (s (component_name p)) f.soft) (sym own) d.0.soft;
-      hard_there = λ l. subst (λ (f : Fitted). are_there all f.hard ≡ true) (sym own) (d.0.hard_there l);
-      soft_there = λ l. subst (λ (f : Fitted). are_there all f.soft ≡ true) (sym own) (d.0.soft_there l);
-    }
-
-pub whole : (w : Components) → Drives w → IsKept w
-whole w d = record { alone = d.alone; r = d.s; s = d.s; ordered = ordered d.s w.parts w.parts d.each }
-
--- ---- the stop of all, and the end of a deployment
-
-left_leaves : (p : ComponentState) → is_leaving (leaving p) ≡ true
-left_leaves p = grind arith
-
-record LeftSame (p : ComponentState) : Type 0 where
-  fitted : (leaving p).fitted ≡ p.fitted
-  children : (leaving p).children ≡ p.children
-  next : p.next ≡ None → (leaving p).next ≡ None
-
-left_same : (p : ComponentState) → LeftSame p
-left_same p = elim (either p.life.gone) [
-  | inl g ↦ record { fitted = rw g refl; children = rw g refl; next = λ n. rw g n }
-  | inr g ↦ elim (either (is_gone (under_way p.life))) [
-    | inl u ↦ record { fitted = rw g (rw u refl); children = rw g (rw u refl); next = λ n. rw g (rw u refl) }
-    | inr u ↦ record { fitted = rw g (rw u refl); children = rw g (rw u refl); next = λ n. rw g (rw u refl) }
-  ]
-]
-
-left_driven : (s : List ℕ → ℕ) (all new ps : List ComponentState) → AllByRecursion (IsDriven s all) ps → AllByRecursion (IsDriven s new) (map leaving ps)
-left_driven s all new [] d = tt
-left_driven s all new (p ∷ ps) d = (one, left_driven s all new ps d.1)
-  where
-    same : LeftSame p
-    same = left_same p
-
-    one : IsDriven s new (leaving p)
-    one = record {
-      next = same.next d.0.next;
-      in_time = subst (λ (cs : List Child). AllByRecursion IsInTime cs) (sym same.children) d.0.in_time;
-      hard = subst (λ (f : Fitted). AllBelow s (s (name_of f)) f.hard) (sym same.fitted) d.0.hard;
-      soft = subst (λ (f : Fitted). AllBelow s (s (name_of f)) f.soft) (sym same.fitted) d.0.soft;
-      hard_there = λ l. clash (is_leaving (leaving p)) (left_leaves p) l;
-      soft_there = λ l. clash (is_leaving (leaving p)) (left_leaves p) l;
-    }
-
-pub stop_drives : (w : Components) → Drives w → Drives (all_stopped w)
-stop_drives w d = record { alone = (stop_whole w (whole w d)).alone; s = d.s; each = left_driven d.s w.parts (map leaving w.parts) w.parts d.each }
-
-steady_same : (s : List ℕ → ℕ) (all ps : List ComponentState) → AllByRecursion (IsDriven s all) ps → AreSame ps (map forgetting ps)
-steady_same s all [] d = tt
-steady_same s all (p ∷ ps) d = (
-  record {
-    fitted = refl;
-    next = ap (λ (o : Option Coming). option_map (λ (n : Coming). (n.0, 0)) o) d.0.next ∙ sym d.0.next;
-    leaving = refl;
-    in_time = λ h. h;
-  },
-  steady_same s all ps d.1,
-)
-
-pub steady_on : (w : Components) → Drives w → GoesOn w (steadied w)
-steady_on w d = goes_on w (steadied w) d (steady_whole w (whole w d)).alone (steady_same d.s w.parts w.parts d.each)
-
--- ---- time
+use Rattle.law_termination.proofs.Lists.{Has, clash, either}
+use Rattle.law_termination.proofs.Near.{all_more, all_joined, all_front, all_own}
+use Rattle.law_termination.proofs.Options.{second_true}
+use Rattle.law_termination.proofs.Orders.{left_ordered, view}
+use Rattle.law_termination.proofs.Parts.{bare_of, left_keeps}
+use Rattle.law_termination.proofs.Still.{IsStill, next_hard}
 
 earlier_in_time : (a b : Option ℕ) → IfSome a (λ d. d < 2 ^ 62) → IfSome b (λ d. d < 2 ^ 62) → IfSome (earlier a b) (λ d. d < 2 ^ 62)
 earlier_in_time None b x y = y
@@ -104,10 +39,10 @@ children_in_time : (cs : List Child) → AllByRecursion IsInTime cs → IfSome (
 children_in_time [] h = tt
 children_in_time (c ∷ cs) h = earlier_in_time c.deadline (child_deadline cs) h.0 (children_in_time cs h.1)
 
-least_in_time : (s : List ℕ → ℕ) (all ps : List ComponentState) → AllByRecursion (IsDriven s all) ps → IfSome (least_of ps) (λ d. d < 2 ^ 62)
-least_in_time s all [] d = tt
-least_in_time s all (p ∷ ps) d = earlier_in_time (child_deadline p.children) (least_of ps) (children_in_time p.children d.0.in_time)
-    (least_in_time s all ps d.1)
+least_in_time : (r : List ℕ → ℕ) (all ps : List ComponentState) → AllByRecursion (IsDriven r all) ps → IfSome (least_of ps) (λ d. d < 2 ^ 62)
+least_in_time r all [] d = tt
+least_in_time r all (p ∷ ps) d = earlier_in_time (child_deadline p.children) (least_of ps) (children_in_time p.children d.0.in_time) (least_in_time r all ps
+    d.1)
 
 abbrev pub Goes : Components → Type 0
 Goes w = HasTime w × (w.moment + 1 < 2 ^ 62)
@@ -117,10 +52,201 @@ below m None t i = absurd t
 below m (Some d) t i = omega (arith, t, i)
 
 in_range : (w : Components) → Drives w → HasTime w → Goes w
-in_range w d t = (t, below w.moment (least_deadline w) t (least_in_time d.s w.parts w.parts d.each))
+in_range w i t = (t, below w.moment (least_deadline w) t (least_in_time i.r w.parts w.parts i.each))
 
-pub rises : (w : Components) → Drives w → has_answered w ≡ true → IsQuiet w → (is_settled w ≡ true) ⊎ (has_broken w ≡ true) ⊎ Goes w
-rises w d a q = elim (begin_goes w (whole w d) q a) [ inl x ↦ inl x | inr y ↦ elim y [ inl x ↦ inr (inl x) | inr t ↦ inr (inr (in_range w d t)) ] ]
+pub rises : (w : Components) → Drives w → has_answered w ≡ true → IsQuiet w → (is_settled w ≡ true) ⊎ (has_failed w ≡ true) ⊎ Goes w
+rises w i a q = elim (begin_goes w i q a) [ inl x ↦ inl x | inr y ↦ elim y [ inl x ↦ inr (inl x) | inr t ↦ inr (inr (in_range w i t)) ] ]
 
 pub leaves : (w : Components) → Drives w → list_all is_leaving w.parts ≡ true → has_answered w ≡ true → IsQuiet w → (is_stopped w ≡ true) ⊎ Goes w
-leaves w d l a q = elim (stop_goes w (whole w d) q a l) [ inl x ↦ inl x | inr t ↦ inr (in_range w d t) ]
+leaves w i l a q = elim (stop_goes w i q a l) [ inl x ↦ inl x | inr t ↦ inr (in_range w i t) ]
+
+-- ---- the end of a deployment
+
+forgotten_next : (y : Bool) (o : Option Coming) → (let z : Option Coming = option_map (λ (n : Coming). (n.0, 0)) o in
+    (if y then next_hard z else []) ≡ (if y then next_hard o else []))
+forgotten_next true None = refl
+forgotten_next true (Some n) = refl
+forgotten_next false o = refl
+
+abbrev none_failed : Coming → Coming
+none_failed n = (n.0, 0)
+
+forgotten_some : (o : Option Coming) → is_some (option_map none_failed o) ≡ is_some o
+forgotten_some None = refl
+forgotten_some (Some n) = refl
+
+forgotten_view : (p : ComponentState) → view (forgetting p) ≡ view p
+forgotten_view p = go p.next
+  where
+    go : (o : Option (Fitted × ℕ)) → view (record p {
+      life = record p.life { failures = 0 };
+      next = option_map (λ (n : Coming). (n.0, 0)) o;
+    }) ≡ view (record p { next = o })
+    go None = refl
+    go (Some n) = refl
+
+still_forgetting : (p : ComponentState) → IsStill p (forgetting p)
+still_forgetting p = record {
+  shown = forgotten_view p;
+  gone = λ g. g;
+  ends = λ e. e;
+  needs = subst (λ (ns : List (List ℕ)). AllByRecursion (λ n. Has n (hard_needs p)) ns) (sym same) (all_own (hard_needs p));
+  apart = λ a. ap (λ (y : Bool). y && is_leaving p) (forgotten_some p.next) ∙ a;
+  takes = λ a. subst (λ (y : Bool). (not (is_to_begin_again p) || (y || is_gone p.stop)) ≡ true) (sym (forgotten_some p.next)) a;
+  in_time = λ h. h;
+}
+  where
+    same : hard_needs (forgetting p) ≡ hard_needs p
+    same = ap (λ (ns : List (List ℕ)). p.fitted.hard ++ ns) (forgotten_next (is_again (under_way p.life)) p.next)
+
+forgotten_carried : (r : List ℕ → ℕ) (all ps : List ComponentState) → AllByRecursion (IsSource any r all) ps → AreCarried any r all ps (map forgetting ps)
+forgotten_carried r all [] a = tt
+forgotten_carried r all (p ∷ ps) a = (carried_still any r all p (forgetting p) a.0 (still_forgetting p), forgotten_carried r all ps a.1)
+
+still_sound : (c : Life) → IsSound c → IsSound (record c { failures = 0 })
+still_sound c k = record { main = k.main; failures = few c.state; busy = k.busy; runs = k.runs; stop = k.stop }
+  where
+    few : (s : State) → MayHave s 0
+    few s = grind arith
+
+still_coming : (own : List ℕ) (o : Option (Fitted × ℕ)) → IfSome o (IsComing own) → IfSome (option_map none_failed o) (IsComing own)
+still_coming own None h = tt
+still_coming own (Some n) h = record { name = h.name; runnable = h.runnable; failures = omega arith }
+
+still_keeps : (p : ComponentState) → IsKeptPart p → IsKeptPart (forgetting p)
+still_keeps p k = let w = forgotten_some p.next in record {
+  sound = still_sound p.life k.sound;
+  steps = k.steps;
+  runnable = k.runnable;
+  coming = still_coming (component_name p) p.next k.coming;
+  timed = k.timed;
+  run = k.run;
+  gone = k.gone;
+  own = k.own;
+  asks = k.asks;
+  waits = rw w k.waits;
+}
+
+still_sound_all : (ps : List ComponentState) → AllByRecursion IsKeptPart ps → AllByRecursion IsKeptPart (map forgetting ps)
+still_sound_all [] a = tt
+still_sound_all (p ∷ ps) a = (still_keeps p a.0, still_sound_all ps a.1)
+
+pub steady_on : (w : Components) → Drives w → GoesOn w (steadied w)
+steady_on w i = same_order w i (steadied w) (still_sound_all w.parts i.alone) (forgotten_carried i.r w.parts w.parts (sources w i))
+
+-- ---- the stop of all
+
+pub record IsLeft (p : ComponentState) : Type 0 where
+  pub life : (leaving p).life ≡ p.life
+  pub fitted : (leaving p).fitted ≡ p.fitted
+  pub children : (leaving p).children ≡ p.children
+  pub next : p.life.gone ≡ false → (leaving p).next ≡ None
+
+pub left_is : (p : ComponentState) → IsLeft p
+left_is p = elim (either p.life.gone) [
+  | inl g ↦ record { life = rw g refl; fitted = rw g refl; children = rw g refl; next = λ n. clash p.life.gone g n }
+  | inr g ↦ elim (either (is_gone (under_way p.life))) [
+    | inl u ↦ record { life = rw g (rw u refl); fitted = rw g (rw u refl); children = rw g (rw u refl); next = λ n. rw g (rw u refl) }
+    | inr u ↦ record { life = rw g (rw u refl); fitted = rw g (rw u refl); children = rw g (rw u refl); next = λ n. rw g (rw u refl) }
+  ]
+]
+
+pub left_leaves : (p : ComponentState) → is_leaving (leaving p) ≡ true
+left_leaves p = grind arith
+
+-- the same components end
+met_left : (ps : List ComponentState) (n : List ℕ) → is_met (λ q. not (is_ending q)) (map leaving ps) n ≡ is_met (λ q. not (is_ending q)) ps n
+met_left [] n = refl
+met_left (p ∷ ps) n = let x = left_is p in
+    ap (λ (y : Bool). y || is_met (λ q. not (is_ending q)) (map leaving ps) n)
+    (ap (λ (f : Fitted). bytes_eq (name_of f) n && not (is_ending (leaving p))) x.fitted ∙ ap (λ (c : Life). bytes_eq (component_name p) n
+    && not (c.gone || is_gone (under_way c))) x.life)
+    ∙ ap (λ (y : Bool). (bytes_eq (component_name p) n && not (is_ending p)) || y) (met_left ps n)
+
+-- one that is gone takes no item
+pub gone_apart : (p : ComponentState) → IsKeptPart p → p.life.gone ≡ true → is_some (leaving p).next ≡ false
+gone_apart p k g =
+    let b = bare_of p k g in
+    let n : is_some p.next ≡ false = elim (either (is_some p.next)) [
+      | inl y ↦ clash (is_again p.stop || is_again (under_way p.life)) (second_true (not (is_waiting p)) (is_again p.stop
+          || is_again (under_way p.life)) k.waits (rw y refl)) (rw b.0 (rw b.1 refl))
+      | inr y ↦ y
+    ] in rw g n
+
+pub left_takes : (p : ComponentState) → HasItemToTake p → HasItemToTake (leaving p)
+left_takes p a = go p.life.gone (is_gone (under_way p.life)) refl
+  where
+    no_again : (way : Option After) → is_gone way ≡ true → is_again way ≡ false
+    no_again way e = grind (arith, e)
+
+    or_true : (x : Bool) → (x || true) ≡ true
+    or_true true = refl
+    or_true false = refl
+
+    go : (g u : Bool) → is_gone (under_way p.life) ≡ u → HasItemToTake (if g then p else (if u then record p {
+      stop = None;
+      next = None;
+    } else record p { stop = Some after.Gone; next = None }))
+    go true u e = a
+    go false true e = rw (no_again (under_way p.life) e) refl
+    go false false e = or_true (not (is_again (under_way p.life)))
+
+left_served : (r : List ℕ → ℕ) (all ps : List ComponentState) → AllByRecursion IsKeptPart ps → AllByRecursion (IsDriven r all) ps →
+    AllByRecursion (IsDriven r (map leaving all)) (map leaving ps)
+left_served r all [] k a = tt
+left_served r all (p ∷ ps) k a = (one, left_served r all ps k.1 a.1)
+  where
+    x : IsLeft p
+    x = left_is p
+
+    needed : p.life.gone ≡ false → AllByRecursion (IsBelow r (map leaving all) (component_name p)) (hard_needs p)
+    needed g = all_more (IsBelow r all (component_name p)) (IsBelow r (map leaving all) (component_name p)) (hard_needs p) (λ n y. (
+      y.0,
+      met_left all n
+          ∙ y.1,
+    )) (a.0.needs g)
+
+    none_taken : (y : Bool) (o : Option Coming) → o ≡ None → (if y then next_hard o else []) ≡ []
+    none_taken true o e = ap next_hard e
+    none_taken false o e = refl
+
+    pulled : p.life.gone ≡ false → AllByRecursion (IsBelow r (map leaving all) (component_name p)) (hard_needs (leaving p))
+    pulled g = all_joined (IsBelow r (map leaving all) (component_name p)) (leaving p).fitted.hard (coming_needs (leaving p))
+        (subst (λ (f : Fitted). AllByRecursion (IsBelow r (map leaving all) (component_name p)) f.hard) (sym x.fitted)
+        (all_front (IsBelow r (map leaving all) (component_name p)) p.fitted.hard (coming_needs p) (needed g)))
+        (subst (λ (ns : List (List ℕ)). AllByRecursion (IsBelow r (map leaving all) (component_name p)) ns)
+        (sym (none_taken (is_again (under_way (leaving p).life)) (leaving p).next (x.next g))) tt)
+
+    apart : is_some (leaving p).next ≡ false
+    apart = elim (either p.life.gone) [ inl g ↦ gone_apart p k.0 g | inr g ↦ ap (λ (o : Option Coming). is_some o) (x.next g) ]
+
+    one : IsDriven r (map leaving all) (leaving p)
+    one = record {
+      needs = λ g. subst (λ (f : Fitted). AllByRecursion (IsBelow r (map leaving all) (name_of f)) (hard_needs (leaving p))) (sym x.fitted)
+          (pulled (sym (ap (λ (c : Life). c.gone) x.life) ∙ g));
+      apart = rw apart refl;
+      takes = left_takes p a.0.takes;
+      in_time = subst (λ (cs : List Child). AllByRecursion IsInTime cs) (sym x.children) a.0.in_time;
+    }
+
+left_all : (ps : List ComponentState) → AllByRecursion IsKeptPart ps → AllByRecursion IsKeptPart (map leaving ps)
+left_all [] a = tt
+left_all (p ∷ ps) a = (left_keeps p a.0, left_all ps a.1)
+
+left_names : (ps : List ComponentState) → HaveOwnNames ps → HaveOwnNames (map leaving ps)
+left_names ps n = same_names ps (map leaving ps) (names ps) n
+  where
+    names : (qs : List ComponentState) → map component_name (map leaving qs) ≡ map component_name qs
+    names [] = refl
+    names (q ∷ qs) = ap (λ (f : Fitted). name_of f ∷ map component_name (map leaving qs)) (left_is q).fitted
+        ∙ ap (λ (ns : List (List ℕ)). component_name q ∷ ns) (names qs)
+
+pub stop_drives : (w : Components) → Drives w → Drives (all_stopped w)
+stop_drives w i = record {
+  alone = left_all w.parts i.alone;
+  names = left_names w.parts i.names;
+  r = i.r;
+  s = i.s;
+  ordered = left_ordered i.r i.s w.parts w.parts i.ordered (map leaving w.parts);
+  each = left_served i.r w.parts w.parts i.alone i.each;
+}

@@ -4,31 +4,33 @@ use Rattle.std.proofs.Common.{is_some}
 use Rattle.std.specs.Prelude.{◌&&◌, ◌||◌, not, if◌then◌else◌, IsSomeAnd, slice_get, option_map, option_and_then}
 use Rattle.std.specs.List.{list_any, list_all, AllByRecursion}
 use Rattle.std.proofs.lemmas.Bool.{and_parts}
-use Rattle.nuc_base.specs.declared.kinds.Step.{Step}
-use Rattle.nuc_base.specs.declared.kinds.Step.TheVariants as step
 use Rattle.nuc_base.specs.declared.kinds.Exit.{Exit}
 use Rattle.nuc_base.specs.declared.kinds.Exit.TheVariants as exits
-use Rattle.lifecycle.specs.Laws.{has_step}
+use Rattle.nuc_base.specs.declared.kinds.Step.{Step}
+use Rattle.nuc_base.specs.declared.kinds.Step.TheVariants as step
 use Rattle.lifecycle.specs.Awaits.{is_awaited, is_same_step, is_busy_with}
+use Rattle.lifecycle.specs.Laws.{has_step}
 use Rattle.lifecycle.specs.declared.kinds.After.{After}
 use Rattle.lifecycle.specs.declared.kinds.LifeEvent.{LifeEvent}
 use Rattle.lifecycle.specs.declared.kinds.LifeEvent.TheVariants as event
-use Rattle.components.specs.Fitted.{prepared_of, limit_of, steps_of}
-use Rattle.components.specs.Components.{Components, ComponentState, Child, At, changed_at, is_to_stop, child_of, owner, without_child, child_gone, stands_up}
-use Rattle.components.specs.Turns.{may_begin, may_retry, may_stop, is_begun, is_met, serves_softly}
-use Rattle.components.specs.Marks.{Flagged, flagged_at, reaching, marked, restarted, may_restart}
-use Rattle.components.specs.Lives.{lived, lived_at, drops_at as drops_in}
-use Rattle.components.specs.Deadlines.{deadline_after}
 use Rattle.components.specs.Acts.{MayMove, MayKill, is_kill_due, spares, OwesAt}
-use Rattle.law_termination.proofs.Answered.{unhanded, plainly_started, started_is, answered_all, answered_length, answered_begun, handed_all}
+use Rattle.components.specs.Components.{Components, ComponentState, Child, At, changed_at, is_to_stop, child_of, owner, without_child, child_gone, stands_up}
+use Rattle.components.specs.Deadlines.{deadline_after}
 use Rattle.components.specs.Events.{answered_at, handed_at, started, refused, skipped, ended, killed, gone_by, is_orphan_at, kill_event, kill_event_at}
 use Rattle.components.specs.Events.{is_late_child, with_child, told_at}
-use Rattle.law_termination.specs.Kept.{IsKeptPart, MayBefall, begins}
-use Rattle.law_termination.proofs.Lists.{either, clash}
-use Rattle.law_termination.proofs.Goes.{not_so, bare_of}
-use Rattle.law_termination.proofs.Sums.{at_map, at_both, changed_same, length_changed, length_firsts, firsts_reaching, firsts_at}
+use Rattle.components.specs.Fitted.{prepared_of, limit_of, steps_of}
+use Rattle.components.specs.Lives.{lived, lived_at, drops_at as drops_in}
+use Rattle.components.specs.Marks.{Flagged, flagged_at, reaching, marked, restarted, may_restart}
+use Rattle.components.specs.Turns.{may_begin, may_retry, may_stop, is_begun, is_met, serves_softly}
+use Rattle.law_supervisor.proofs.Made.{MayBefall, begins}
+use Rattle.law_termination.specs.Kept.{IsKeptPart}
+use Rattle.law_termination.proofs.Answered.{unhanded, plainly_started, started_is, answered_all, answered_length, answered_begun, handed_all}
+use Rattle.law_termination.proofs.Children.{owner_at}
 use Rattle.law_termination.proofs.Keeps.{Known, stays_known, begins_bare, event_known, changed_known, gone_known, end_known, launch_known, child_known}
-use Rattle.law_termination.proofs.Happens.{owner_at, unhanded_kept}
+use Rattle.law_termination.proofs.Lists.{either, clash}
+use Rattle.law_termination.proofs.Options.{some_same, not_so}
+use Rattle.law_termination.proofs.Parts.{bare_of, unhanded_kept}
+use Rattle.law_termination.proofs.Sums.{at_self, at_map, at_both, changed_same, length_changed, length_firsts, firsts_reaching, firsts_at}
 
 plain_known : (d : Bool) (k : ℕ) (e : LifeEvent) (w : Components) → AllByRecursion (Known d) w.parts → At k (λ p. Known d (lived w.steady e p)) w.parts →
     AllByRecursion (Known d) (lived_at k e w).parts
@@ -80,8 +82,7 @@ module _ (d : Bool) (w : Components) (all : AllByRecursion (Known d) w.parts) wh
           coming = x.0.coming;
           timed = x.0.timed;
           run = x.0.run;
-          gone =
-              x.0.gone;
+          gone = x.0.gone;
           own = x.0.own;
           asks = x.0.asks;
           waits = x.0.waits;
@@ -156,11 +157,6 @@ module _ (d : Bool) (w : Components) (all : AllByRecursion (Known d) w.parts) wh
             (known_at k (λ p. Q p × (slice_get w.parts k ≡ Some p)) (λ p. Known d (lived w.steady e (without_child n p)))
             (λ p x m. let r = g p m.0 m.1 y in end_known d w.steady e n p x r.0 r.1) (at_self k w.parts Q a))
       ] refl
-    where
-      at_self : (j : ℕ) (ps : List ComponentState) (P : ComponentState → Type 0) → At j P ps → At j (λ p. P p × (slice_get ps j ≡ Some p)) ps
-      at_self j [] P a = absurd a
-      at_self zero (p ∷ ps) P a = (a, refl)
-      at_self (suc j) (p ∷ ps) P a = at_self j ps P a
 
   pub ended_known : (n : ℕ) (x : Exit) (k : ℕ) (s : Step) → owner n w.parts ≡ Some (k, s) → AllKnown (ended n x w)
   ended_known n x k s o = subst (λ (z : Option (ℕ × Step)). (let v : Components =
@@ -174,9 +170,6 @@ module _ (d : Bool) (w : Components) (all : AllByRecursion (Known d) w.parts) wh
         | false ↦ λ y. by_asked p.stop refl y
       ]
     where
-      some_same : (x y : LifeEvent) → Some x ≡ Some y → x ≡ y
-      some_same x y e = ap (λ o. elim o [ None ↦ x | Some z ↦ z ]) e
-
       by_asked : (q : Option After) → p.stop ≡ q → option_map (λ a. event.Stop a) q ≡ Some e → MayBefall e (without_child n p) × (begins e ≡ false)
       by_asked None q y = absurd (cc)
       by_asked (Some a) q y = subst (λ v. MayBefall v (without_child n p) × (begins v ≡ false)) (some_same (event.Stop a) e y) (q, refl)
@@ -215,8 +208,7 @@ handed_known d p k = (
     coming = k.0.coming;
     timed = k.0.timed;
     run = k.0.run;
-    gone =
-        k.0.gone;
+    gone = k.0.gone;
     own = k.0.own;
     asks = k.0.asks;
     waits = k.0.waits;

@@ -1,27 +1,24 @@
 -- What a call that tells a supervisor what befell makes of the number of the loops.
-use Rattle.std.proofs.Common.{◌≡◌, ◌⊎◌, ◌<◌, ◌≤◌, ◌+◌, ◌*◌, ◌-◌, ◌^◌, ℕ, suc, zero, List, [], ◌∷◌, Option, Some, None, Bool, true, false, refl, sym, ap, ◌∙◌}
-use Rattle.std.proofs.Common.{inl, inr, arith, subst}
-use Rattle.std.specs.Prelude.{IsSome, min}
+use Rattle.std.proofs.Common.{◌≡◌, ◌⊎◌, ◌<◌, ◌≤◌, ◌+◌, ◌-◌, ◌^◌, ℕ, Option, Some, None, true, refl, sym, inl, inr, arith, subst}
+use Rattle.std.specs.Prelude.{IsSome}
 use Rattle.std.specs.Option.{IsSomeAnd}
-use Rattle.std.specs.List.{list_any}
 use Rattle.nuc_base.specs.declared.kinds.Exit.{Exit}
 use Rattle.nuc_base.specs.declared.kinds.Step.{Step}
 use Rattle.components.specs.Acts.{NextAct}
 use Rattle.components.specs.Answers.{HasHanded}
+use Rattle.components.specs.Components.{At, Components, owner}
 use Rattle.components.specs.Deadlines.{least_deadline, until}
 use Rattle.components.specs.Events.{ended, later, refused, skipped, started}
 use Rattle.components.specs.Turns.{is_begun}
-use Rattle.components.specs.Components.{At, ComponentState, Components, is_leaving, owner}
 use Rattle.components.specs.declared.kinds.Act.{Act}
+use Rattle.law_termination.specs.Drives.{Drives, Falls, GoesOn, NotAbove}
 use Rattle.law_termination.specs.Kept.{IsFalling, is_done}
 use Rattle.law_termination.specs.Rank.{measure, rank}
 use Rattle.law_termination.specs.Time.{HasTime}
-use Rattle.law_termination.proofs.Happens.{ended_lowers, refused_lowers, skipped_lowers, started_lowers}
+use Rattle.law_termination.proofs.Events.{end_on, goes_through, later_on, next_on, refuse_on, skip_on, start_on}
+use Rattle.law_termination.proofs.Ranks.{ended_rank, refused_rank, skipped_rank, started_rank}
 use Rattle.law_termination.proofs.Sums.{at_map}
 use Rattle.law_termination.proofs.Whole.{next}
-use Rattle.law_termination.specs.Drives.{Drives, Falls, GoesOn, NotAbove, Rises}
-use Rattle.law_termination.proofs.Befalls.{end_on, later_on, next_on, refuse_on, skip_on, start_on}
-use Rattle.law_termination.proofs.Same.{goes_through, rises_on}
 
 -- ---- the next act
 
@@ -48,8 +45,7 @@ module _ (w : Components) (now : ℕ) (d : Drives w) (f : IsFalling w) where
       let l = (later_on w d now).drives in
       subst (Falls w) (sym e) (record {
         on = then_on (started k s n (later now w)) (start_on (later now w) l k n s (begun k s h));
-        less =
-            started_lowers (later now w) l.alone.parts l.alone.few f k n s (begun k s h);
+        less = started_rank (later now w) l.alone f k n s (begun k s h);
       })
 
   pub refuse_falls : (v : Components) (k : ℕ) (s : Step) → HasHanded k s w → v ≡ refused k s (later now w) → Falls w v
@@ -57,8 +53,7 @@ module _ (w : Components) (now : ℕ) (d : Drives w) (f : IsFalling w) where
       let l = (later_on w d now).drives in
       subst (Falls w) (sym e) (record {
         on = then_on (refused k s (later now w)) (refuse_on (later now w) l k s (begun k s h));
-        less =
-            refused_lowers (later now w) l.alone.parts l.alone.few f k s (begun k s h);
+        less = refused_rank (later now w) l.alone f k s (begun k s h);
       })
 
   pub skip_falls : (v : Components) (k : ℕ) (s : Step) → HasHanded k s w → v ≡ skipped k (later now w) → Falls w v
@@ -66,8 +61,7 @@ module _ (w : Components) (now : ℕ) (d : Drives w) (f : IsFalling w) where
       let l = (later_on w d now).drives in
       subst (Falls w) (sym e) (record {
         on = then_on (skipped k (later now w)) (skip_on (later now w) l k s (begun k s h));
-        less =
-            skipped_lowers (later now w) l.alone.parts l.alone.few f k s (begun k s h);
+        less = skipped_rank (later now w) l.alone f k s (begun k s h);
       })
 
   owned : (o : Option (ℕ × Step)) → IsSome o → (x : ℕ × Step) × (o ≡ Some x)
@@ -80,8 +74,7 @@ module _ (w : Components) (now : ℕ) (d : Drives w) (f : IsFalling w) where
       let o = owned (owner n w.parts) h in
       subst (Falls w) (sym e) (record {
         on = then_on (ended n x (later now w)) (end_on (later now w) l n x o.0.0 o.0.1 o.1);
-        less =
-            ended_lowers (later now w) l.alone.parts l.alone.few f n x o.0.0 o.0.1 o.1;
+        less = ended_rank (later now w) l.alone f n x o.0.0 o.0.1 o.1;
       })
 
 pub pass_not_above : (w v : Components) (now : ℕ) → Drives w → v ≡ later now w → NotAbove w v
@@ -94,9 +87,6 @@ not_above_on u v w a b = let x = a.least in let y = b.least in record { on = goe
 
 pub falls_after : (u v w : Components) → NotAbove u v → Falls v w → Falls u w
 falls_after u v w a b = let x = a.least in let y = b.less in record { on = goes_through u v w a.on b.on; less = omega (arith, x, y) }
-
-pub falls_then : (u v w : Components) → Falls u v → NotAbove v w → Falls u w
-falls_then u v w a b = let x = a.less in let y = b.least in record { on = goes_through u v w a.on b.on; less = omega (arith, x, y) }
 
 pub falls_not_above : (w v : Components) → Falls w v → NotAbove w v
 falls_not_above w v f = let x = f.less in record { on = f.on; least = omega (arith, x) }

@@ -1,28 +1,25 @@
--- What is kept of all, and what the next act makes of them.
-use Rattle.std.proofs.Common.{◌≡◌, ◌<◌, ◌≤◌, ℕ, List, [], ◌∷◌, length, Option, Some, None, Bool, true, false, refl, sym, ◌∙◌, inl, inr, arith, subst}
+-- What is kept of each, and what the next act makes of all, however many there are.
+use Rattle.std.proofs.Common.{◌≡◌, ◌<◌, ◌≤◌, ℕ, List, [], ◌∷◌, Option, Some, None, Bool, true, false, refl, sym, ◌∙◌, inl, inr, arith, subst}
 use Rattle.std.specs.Prelude.{if◌then◌else◌}
 use Rattle.std.specs.List.{list_all, AllByRecursion}
 use Rattle.std.proofs.lemmas.Bool.{and_parts}
+use Rattle.nuc_base.specs.declared.kinds.Exit.{Exit}
 use Rattle.nuc_base.specs.declared.kinds.Step.{Step}
 use Rattle.nuc_base.specs.declared.kinds.Step.TheVariants as step
-use Rattle.nuc_base.specs.declared.kinds.Exit.{Exit}
 use Rattle.lifecycle.specs.declared.kinds.LifeEvent.{LifeEvent}
 use Rattle.lifecycle.specs.declared.kinds.LifeEvent.TheVariants as event
-use Rattle.components.specs.Components.{Components, ComponentState, At, owner, is_leaving, child_gone}
-use Rattle.components.specs.Turns.{is_begun}
-use Rattle.components.specs.Lives.{lived_at}
-use Rattle.components.specs.Events.{handed_at, started, refused, skipped, ended, killed, gone_by, kill_event_at, is_orphan_at, told_at, later}
 use Rattle.components.specs.Acts.{MayMove, MayKill, OwesAt, NextAct, Quietly, HandsOut, Move}
+use Rattle.components.specs.Components.{Components, ComponentState, At, owner, is_leaving, child_gone}
+use Rattle.components.specs.Events.{handed_at, started, refused, skipped, ended, killed, gone_by, kill_event_at, is_orphan_at, told_at, later}
+use Rattle.components.specs.Lives.{lived_at}
+use Rattle.components.specs.Turns.{is_begun}
 use Rattle.components.specs.declared.kinds.Act.{Act}
 use Rattle.components.specs.declared.kinds.Act.TheVariants as acts
-use Rattle.law_termination.specs.Kept.{IsKeptPart, AreKept, IsFalling, StaysKept, is_done}
+use Rattle.law_termination.specs.Kept.{IsKeptPart, IsFalling, is_done, AreKept, StaysKept}
 use Rattle.law_termination.specs.Rank.{rank}
-use Rattle.law_termination.proofs.Sums.{length_changed}
-use Rattle.law_termination.proofs.Answered.{handed_length, handed_rank}
 use Rattle.law_termination.proofs.Keeps.{Known}
-use Rattle.law_termination.proofs.Happens.{move_lowers, killed_lowers, told_lowers}
-use Rattle.law_termination.proofs.Stays.{move_known, refused_known, skipped_known, told_known, started_known, ended_known, killed_known, length_lived}
-use Rattle.law_termination.proofs.Stays.{length_ended, length_killed, length_started, length_refused, length_skipped, handed_on}
+use Rattle.law_termination.proofs.Ranks.{move_rank, killed_rank, told_rank, handed_rank}
+use Rattle.law_termination.proofs.Stays.{move_known, refused_known, skipped_known, told_known, started_known, ended_known, killed_known, handed_on}
 
 plain : (ps : List ComponentState) → AllByRecursion IsKeptPart ps → AllByRecursion (Known false) ps
 plain [] a = tt
@@ -40,11 +37,11 @@ all_leave : (ps : List ComponentState) → AllByRecursion (Known true) ps → li
 all_leave [] a = refl
 all_leave (p ∷ ps) a = elim a.0.1 [ inl f ↦ absurd (cc) | inr l ↦ rw l (all_leave ps a.1) ]
 
-keep_from : (w v : Components) → length v.parts ≡ length w.parts → v.steady ≡ w.steady →
-    ((d : Bool) → AllByRecursion (Known d) w.parts → AllByRecursion (Known d) v.parts) → AreKept w → StaysKept w v
-keep_from w v l s f a = record {
-  kept = record { parts = alone false v.parts (f false (plain w.parts a.parts)); few = let x = a.few in omega (arith, l, x) };
-  falling = λ g. elim g [ inl y ↦ inl (s ∙ y) | inr y ↦ inr (all_leave v.parts (f true (leaving w.parts a.parts y))) ];
+keep_from : (w v : Components) → v.steady ≡ w.steady → ((d : Bool) → AllByRecursion (Known d) w.parts → AllByRecursion (Known d) v.parts) → AreKept w →
+    StaysKept w v
+keep_from w v s f a = record {
+  kept = alone false v.parts (f false (plain w.parts a));
+  falling = λ g. elim g [ inl y ↦ inl (s ∙ y) | inr y ↦ inr (all_leave v.parts (f true (leaving w.parts a y))) ];
 }
 
 steady_gone_by : (o : Option LifeEvent) (k : ℕ) (s : Step) (n : ℕ) (w : Components) → (gone_by o k s n w).steady ≡ w.steady
@@ -72,28 +69,28 @@ steady_started k n step.Bootstrap w = refl
 
 module _ (w : Components) (a : AreKept w) where
   pub move_keeps : (k : ℕ) (e : LifeEvent) → MayMove w k e → StaysKept w (lived_at k e w)
-  move_keeps k e m = keep_from w (lived_at k e w) (length_lived k e w) refl (λ d x. move_known d w x k e m) a
+  move_keeps k e m = keep_from w (lived_at k e w) refl (λ d x. move_known d w x k e m) a
 
   pub kill_keeps : (n k : ℕ) (s : Step) → MayKill w n k s → StaysKept w (killed n w)
-  kill_keeps n k s m = keep_from w (killed n w) (length_killed n w) (steady_killed n w) (λ d x. killed_known d w x n k s m) a
+  kill_keeps n k s m = keep_from w (killed n w) (steady_killed n w) (λ d x. killed_known d w x n k s m) a
 
   pub told_keeps : (k : ℕ) (s : Step) (x : Exit) (b : Bool) → OwesAt w k s x b → StaysKept w (told_at k w)
-  told_keeps k s x b m = keep_from w (told_at k w) (length_changed k (λ p. record p { owed = None }) w.parts) refl (λ d y. told_known d w y k s x b m) a
+  told_keeps k s x b m = keep_from w (told_at k w) refl (λ d y. told_known d w y k s x b m) a
 
   pub start_keeps : (k n : ℕ) (s : Step) → At k (λ p. is_begun s p ≡ true) w.parts → StaysKept w (started k s n w)
-  start_keeps k n s m = keep_from w (started k s n w) (length_started k n s w) (steady_started k n s w) (λ d x. started_known d w x k n s m) a
+  start_keeps k n s m = keep_from w (started k s n w) (steady_started k n s w) (λ d x. started_known d w x k n s m) a
 
   pub refuse_keeps : (k : ℕ) (s : Step) → At k (λ p. is_begun s p ≡ true) w.parts → StaysKept w (refused k s w)
-  refuse_keeps k s m = keep_from w (refused k s w) (length_refused k s w) refl (λ d x. refused_known d w x k s m) a
+  refuse_keeps k s m = keep_from w (refused k s w) refl (λ d x. refused_known d w x k s m) a
 
   pub skip_keeps : (k : ℕ) (s : Step) → At k (λ p. is_begun s p ≡ true) w.parts → StaysKept w (skipped k w)
-  skip_keeps k s m = keep_from w (skipped k w) (length_skipped k w) refl (λ d x. skipped_known d w x k s m) a
+  skip_keeps k s m = keep_from w (skipped k w) refl (λ d x. skipped_known d w x k s m) a
 
   pub end_keeps : (n : ℕ) (x : Exit) (k : ℕ) (s : Step) → owner n w.parts ≡ Some (k, s) → StaysKept w (ended n x w)
-  end_keeps n x k s m = keep_from w (ended n x w) (length_ended n x w) (steady_ended n x w) (λ d y. ended_known d w y n x k s m) a
+  end_keeps n x k s m = keep_from w (ended n x w) (steady_ended n x w) (λ d y. ended_known d w y n x k s m) a
 
   pub later_keeps : (m : ℕ) → StaysKept w (later m w)
-  later_keeps m = keep_from w (later m w) refl refl (λ d x. x) a
+  later_keeps m = keep_from w (later m w) refl (λ d x. x) a
 
 -- ---- the next act
 
@@ -106,7 +103,7 @@ quiet : (w v : Components) (ms : List Move) → Quietly w ms v → AreKept w →
 quiet w v [] q a f = subst (Reaches w) (sym q) (record { kept = a; falling = f; least = omega arith })
 quiet w v (m ∷ ms) q a f =
     let k = move_keeps w a m.who m.what q.1 in
-    let l = move_lowers w a.parts a.few f m.who m.what q.1 in
+    let l = move_rank w a f m.who m.what q.1 in
     let r = quiet (lived_at m.who m.what w) v ms q.2 k.kept (k.falling f) in
     let i = r.least in
     record { kept = r.kept; falling = r.falling; least = omega (arith, l, i) }
@@ -119,17 +116,17 @@ pub record Next (w v : Components) (done : Bool) : Type 0 where
   pub less : done ≡ true → rank v < rank w
 
 handed_keeps : (w : Components) (k : ℕ) → AreKept w → StaysKept w (handed_at k w)
-handed_keeps w k a = keep_from w (handed_at k w) (handed_length k w.parts) refl (λ d x. handed_on d w x k) a
+handed_keeps w k a = keep_from w (handed_at k w) refl (λ d x. handed_on d w x k) a
 
 hand : (w : Components) (act : Option Act) (v : Components) → AreKept w → IsFalling w → HandsOut w act v → Next w v (is_done act)
 hand w None v a f h = subst (λ (z : Components). Next w z false) (sym h.1) (record { kept = a; falling = f; least = omega arith; less = λ e. absurd (cc) })
-hand w (Some (acts.Start k t)) v a f h = let y = handed_keeps w k a in let r = handed_rank k w.parts in
+hand w (Some (acts.Start k t)) v a f h = let y = handed_keeps w k a in let r = handed_rank k w in
     subst (λ (z : Components). Next w z false) (sym h.2) (record { kept = y.kept; falling = y.falling f; least = omega (arith, r); less = λ e. absurd (cc) })
-hand w (Some (acts.Kill n)) v a f h = let k = kill_keeps w a n h.0 h.1 h.3 in let l = killed_lowers w a.parts a.few f n h.0 h.1 h.3 in
+hand w (Some (acts.Kill n)) v a f h = let k = kill_keeps w a n h.0 h.1 h.3 in let l = killed_rank w a f n h.0 h.1 h.3 in
     subst (λ (z : Components). Next w z true) (sym h.4) (record { kept = k.kept; falling = k.falling f; least = omega (arith, l); less = λ e. l })
-hand w (Some (acts.Failed k t e)) v a f h = let y = told_keeps w a k t e false h.0 in let l = told_lowers w a.parts a.few f k t e false h.0 in
+hand w (Some (acts.Failed k t e)) v a f h = let y = told_keeps w a k t e false h.0 in let l = told_rank w a f k t e false h.0 in
     subst (λ (z : Components). Next w z true) (sym h.1) (record { kept = y.kept; falling = y.falling f; least = omega (arith, l); less = λ x. l })
-hand w (Some (acts.Broke k t e)) v a f h = let y = told_keeps w a k t e true h.0 in let l = told_lowers w a.parts a.few f k t e true h.0 in
+hand w (Some (acts.Broke k t e)) v a f h = let y = told_keeps w a k t e true h.0 in let l = told_rank w a f k t e true h.0 in
     subst (λ (z : Components). Next w z true) (sym h.1) (record { kept = y.kept; falling = y.falling f; least = omega (arith, l); less = λ x. l })
 
 pub next : (w : Components) (act : Option Act) (v : Components) → AreKept w → IsFalling w → NextAct w act v → Next w v (is_done act)

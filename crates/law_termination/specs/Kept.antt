@@ -1,19 +1,17 @@
--- What is kept of the components: of each alone, and of what they need.
-use Rattle.std.specs.Prelude.{◌≡◌, ◌<◌, ◌≤◌, ℕ, Bool, true, false, not, ◌&&◌, ◌||◌, List, Option, Some, None, is_some, IfSome, ⊤, length, ◌⊎◌}
+-- What is kept of each component alone, and what is asked of the items that they need.
+use Rattle.std.specs.Prelude.{◌≡◌, ◌<◌, ◌≤◌, ℕ, Bool, true, false, not, ◌&&◌, ◌||◌, List, Option, Some, None, is_some, IfSome, ◌⊎◌}
 use Rattle.std.specs.List.{list_any, list_all, AllByRecursion}
 use Rattle.nuc_base.specs.declared.kinds.Step.{Step}
 use Rattle.nuc_base.specs.declared.kinds.Step.TheVariants as step
-use Rattle.lifecycle.specs.Life.{Life, IsSound, HasOneMain}
-use Rattle.lifecycle.specs.Laws.{has_step}
-use Rattle.lifecycle.specs.declared.kinds.LifeEvent.{LifeEvent}
-use Rattle.lifecycle.specs.declared.kinds.LifeEvent.TheVariants as event
 use Rattle.lifecycle.specs.Awaits.{is_same_step, is_busy_with}
-use Rattle.components.specs.Fitted.{Fitted, name_of, prepared_of, limit_of, steps_of, is_same_item}
-use Rattle.components.specs.Components.{Child, ComponentState, Components, component_name, is_to_stop, is_leaving, is_again, under_way}
+use Rattle.lifecycle.specs.Life.{IsSound, HasOneMain}
+use Rattle.components.specs.Components.{Child, ComponentState, Components, component_name, is_leaving, is_again, under_way}
+use Rattle.components.specs.Fitted.{Fitted, name_of, prepared_of, limit_of, steps_of}
+use Rattle.components.specs.Runs.{is_own}
 use Rattle.components.specs.Turns.{is_met}
-use Rattle.law_supervisor.specs.Sound.{may_ask, is_bare, is_waiting}
 use Rattle.components.specs.declared.kinds.Act.{Act}
 use Rattle.components.specs.declared.kinds.Act.TheVariants as acts
+use Rattle.law_supervisor.specs.Sound.{may_ask, is_bare, is_waiting}
 
 -- ---- of each component
 
@@ -21,9 +19,14 @@ use Rattle.components.specs.declared.kinds.Act.TheVariants as acts
 abbrev pub has_limit : Fitted → Step → Bool
 has_limit f s = not (is_some (prepared_of f s)) || is_some (limit_of (prepared_of f s))
 
+-- no step of it is late as it starts
+abbrev pub IsTimely : Fitted → Type 0
+IsTimely f = (s : Step) → IfSome (limit_of (prepared_of f s)) (λ l. 1 ≤ l)
+
 -- an item whose steps can be run to their ends
 pub record IsRunnable (f : Fitted) : Type 0 where
   pub main : HasOneMain (steps_of f)
+  pub timely : IsTimely f
   pub install : has_limit f step.Install ≡ true
   pub startup : has_limit f step.Startup ≡ true
   pub shutdown : has_limit f step.Shutdown ≡ true
@@ -38,10 +41,6 @@ pub record IsComing (own : List ℕ) (n : Fitted × ℕ) : Type 0 where
 abbrev pub is_timed : Child → Bool
 is_timed c = is_same_step step.Run c.of || is_some c.deadline
 
--- the step that it is busy with is one that it has
-abbrev pub is_own : Life → Bool
-is_own c = elim c.busy [ None ↦ true | Some s ↦ has_step s c.steps ]
-
 pub record IsKeptPart (p : ComponentState) : Type 0 where
   pub sound : IsSound p.life
   pub steps : p.life.steps ≡ steps_of p.fitted
@@ -53,28 +52,15 @@ pub record IsKeptPart (p : ComponentState) : Type 0 where
   pub run : (is_busy_with step.Run p.life.busy && list_any (λ (c : Child). is_same_step step.Run c.of) p.children) ≡ false
   -- of one that is gone nothing is left but children
   pub gone : (not p.life.gone || is_bare p) ≡ true
-  -- an item waits where a stop with Again is asked for, or is under way
+  -- the step that it is busy with is one that it has
   pub own : is_own p.life ≡ true
   pub asks : may_ask (under_way p.life) p.stop ≡ true
+  -- an item waits where a stop with Again is asked for, or is under way
   pub waits : (not (is_waiting p) || (is_again p.stop || is_again (under_way p.life))) ≡ true
 
--- what may befall a component: it begins and tries again where it is not to be stopped, and a stop is one that is asked for
-abbrev pub MayBefall : LifeEvent → ComponentState → Type 0
-MayBefall event.MayBegin p = is_to_stop p ≡ false
-MayBefall event.Retry p = is_to_stop p ≡ false
-MayBefall (event.Stop a) p = p.stop ≡ Some a
-MayBefall event.Launched p = ⊤
-MayBefall event.Skipped p = ⊤
-MayBefall (event.Ended s x) p = ⊤
-
-abbrev pub begins : LifeEvent → Bool
-begins event.MayBegin = true
-begins e = false
-
--- each alone is as it is kept, and there are not too many
-pub record AreKept (w : Components) : Type 0 where
-  pub parts : AllByRecursion IsKeptPart w.parts
-  pub few : length w.parts ≤ 256
+-- each alone is as it is kept, however many there are
+abbrev pub AreKept : Components → Type 0
+AreKept w = AllByRecursion IsKeptPart w.parts
 
 -- ---- of what they need
 
@@ -98,13 +84,6 @@ pub record IsOrderedPart (r s : List ℕ → ℕ) (all : List ComponentState) (p
   pub hard_there : is_leaving p ≡ false → are_there all (newest p).hard ≡ true
   pub soft_there : is_leaving p ≡ false → are_there all (newest p).soft ≡ true
 
--- what a supervisor keeps of its components
-pub record IsKept (w : Components) : Type 0 where
-  pub alone : AreKept w
-  pub r : List ℕ → ℕ
-  pub s : List ℕ → ℕ
-  pub ordered : AllByRecursion (IsOrderedPart r s w.parts) w.parts
-
 -- No failure is forgotten: a deployment is driven, or all are to leave.
 abbrev pub IsFalling : Components → Type 0
 IsFalling w = (w.steady ≡ false) ⊎ (list_all is_leaving w.parts ≡ true)
@@ -121,7 +100,3 @@ is_done (Some (acts.Start k s)) = false
 is_done (Some (acts.Kill n)) = true
 is_done (Some (acts.Failed k s x)) = true
 is_done (Some (acts.Broke k s x)) = true
-
--- one item has one set of steps
-abbrev pub HaveSameSteps : List Fitted → List ComponentState → Type 0
-HaveSameSteps items parts = AllByRecursion (λ p. AllByRecursion (λ f. is_same_item f.item p.fitted.item ≡ true → steps_of f ≡ steps_of p.fitted) items) parts

@@ -1,5 +1,9 @@
 pub mod Kept
 pub mod Rank
+pub mod TurnRank
 pub mod Time
-pub mod Small
 pub mod Drives
+pub mod Small
+pub mod Deeds
+pub mod Circle
+pub mod Replaced

@@ -1,15 +1,13 @@
--- A number that falls at whatever happens while no failure is forgotten.
-use Rattle.std.specs.Prelude.{◌+◌, ◌*◌, ◌-◌, ◌^◌, ℕ, length, List, [], ◌∷◌, Option, Some, None, ◌||◌, ◌&&◌, if◌then◌else◌, is_some}
+-- A number that falls at whatever happens while no failure is forgotten, however many components there are.
+use Rattle.std.specs.Prelude.{◌+◌, ◌*◌, ◌-◌, ◌^◌, ℕ, suc, zero, length, List, [], ◌∷◌, Option, Some, None, ◌||◌, ◌&&◌, if◌then◌else◌, is_some}
 use Rattle.std.specs.List.{list_any}
-use Rattle.nuc_base.specs.declared.kinds.Step.{Step}
 use Rattle.nuc_base.specs.declared.kinds.Exit.{Exit}
+use Rattle.nuc_base.specs.declared.kinds.Step.{Step}
 use Rattle.lifecycle.specs.Awaits.{is_same_step, is_stopping}
 use Rattle.lifecycle.specs.declared.kinds.State.{State}
 use Rattle.lifecycle.specs.declared.kinds.State.TheVariants as state
-use Rattle.lifecycle.specs.declared.kinds.LifeEvent.{LifeEvent}
-use Rattle.lifecycle.specs.declared.kinds.LifeEvent.TheVariants as event
-use Rattle.components.specs.Fitted.{Fitted}
 use Rattle.components.specs.Components.{Components, ComponentState, Child, is_again, is_gone, under_way}
+use Rattle.components.specs.Fitted.{Fitted}
 
 -- how far a component is from being up, where no stop is asked for
 abbrev pub way_weight : State → Option Step → ℕ
@@ -50,28 +48,30 @@ left p =
     if p.life.gone || (is_gone p.stop || is_gone (under_way p.life)) then 0
     else (if is_again p.stop || is_again (under_way p.life) then left_of p.next else 3 - p.life.failures)
 
--- what does not rest on its children
-abbrev pub core : ComponentState → ℕ
-core p = state_weight p + owed_weight p.owed + 50000 * left p
+-- ---- of all of them
 
-abbrev pub part_rank : ComponentState → ℕ
-part_rank p = core p + (start_weight p.life.busy p.children + 3 * length p.children)
+abbrev pub times : ℕ → ℕ → ℕ
+times zero c = 0
+times (suc n) c = c + times n c
 
-abbrev pub rank_of : List ComponentState → ℕ
-rank_of [] = 0
-rank_of (p ∷ ps) = part_rank p + rank_of ps
+abbrev pub sum_by : (ComponentState → ℕ) → List ComponentState → ℕ
+sum_by f [] = 0
+sum_by f (p ∷ ps) = f p + sum_by f ps
 
--- the number of a world of components
+-- what does not rest on its children, where a failure that is still to come weighs so much
+abbrev pub core_by : ℕ → ComponentState → ℕ
+core_by c p = state_weight p + owed_weight p.owed + times (left p) c
+
+abbrev pub weight_by : ℕ → ComponentState → ℕ
+weight_by c p = core_by c p + (start_weight p.life.busy p.children + 3 * length p.children)
+
+-- A failure pays for the marks of all others. No event but a change to other items makes them more.
+abbrev pub one_failure : List ComponentState → ℕ
+one_failure ps = 1000 + 200 * length ps
+
+-- the number of the components
 abbrev pub rank : Components → ℕ
-rank w = rank_of w.parts
-
--- what an event takes away besides what it makes of the children: enough for a start where a step is busy after it
-abbrev pub gain : LifeEvent → Option Step → ℕ
-gain event.MayBegin busy = 5
-gain event.Retry busy = 5
-gain (event.Stop a) busy = 5
-gain e None = 0
-gain e (Some s) = 5
+rank w = sum_by (weight_by (one_failure w.parts)) w.parts
 
 -- the number of a loop that drives components until a moment that is out of range
 abbrev pub measure : Components → ℕ

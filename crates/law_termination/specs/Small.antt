@@ -20,8 +20,7 @@ fitted_a install = record {
   run = None;
   startup = None;
   shutdown = None;
-  recover =
-      None;
+  recover = None;
 }
 
 abbrev pub fitted_b : Fitted

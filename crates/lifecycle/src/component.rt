@@ -1,4 +1,4 @@
-ghost use Rattle.std.specs.Prelude.{◌≡◌, ◌<◌, ◌≤◌, ◌↔◌, IsTrue, Some, None, true, false, IfSome, IsSome, if◌then◌else◌};
+ghost use Rattle.std.specs.Prelude.{◌≡◌, ◌⊎◌, ◌<◌, ◌≤◌, ◌↔◌, IsTrue, Some, None, true, false, IfSome, IsSome, if◌then◌else◌};
 ghost use Rattle.lifecycle.specs.Life.{Life, IsSound, HasOneMain, MayHave, begun, back, rested, failed, stopped, retried, may_be_busy};
 ghost use Rattle.lifecycle.specs.Table.{table, HasRow, failure, ends_in, kill_of, shut_down};
 ghost use Rattle.lifecycle.specs.Awaits.{is_awaited};
@@ -180,12 +180,13 @@ impl Component {
         self.failures = failures;
     }
 
-    /// One that is being stopped with `Gone` is replaced: `Again` takes the place of `Gone`, and all else stays.
+    /// One that is being stopped with `Again` or `Gone` is replaced: that stop ends as one with `Restart`, and all else
+    /// stays. The stop with `Again` that the replacement wants comes after it.
     pub fn replace_gone(&mut self)
-        requires { self.old.stop ≡ Some After.Gone }
-        ensures { self.new ≡ record self.old { stop = Some After.Again } }
+        requires { (self.old.stop ≡ Some After.Again) ⊎ (self.old.stop ≡ Some After.Gone) }
+        ensures { self.new ≡ record self.old { stop = Some After.Restart } }
     {
-        self.stop = Some(After::Again);
+        self.stop = Some(After::Restart);
     }
 
     fn begin(&mut self) -> LifeAct

@@ -111,7 +111,7 @@ owner_from_is j (suc k) i (q ∷ ps) p c s a e h =
 
 -- ---- what it has to do may be done
 
-at_from : (P : ComponentState → Type 0) (k : ℕ) (ps : List ComponentState) (p : ComponentState) → slice_get ps k ≡ Some p → P p → At k P ps
+pub at_from : (P : ComponentState → Type 0) (k : ℕ) (ps : List ComponentState) (p : ComponentState) → slice_get ps k ≡ Some p → P p → At k P ps
 at_from P k ps p e h = subst (λ (o : Option ComponentState). IsSomeAnd o P) (sym e) h
 
 some_is : (st : Option After) (a : After) (p : ComponentState) → st ≡ Some a → IfSome st (λ b. (p.stop ≡ Some b) × (is_stop_ready p ≡ true)) → p.stop ≡ Some a
@@ -265,7 +265,7 @@ turns_over w v t f = record { made = t.made; seen = v; quietly = t.quietly; hand
 -- ---- failures
 
 -- it is the first one of its name
-place_is : (j k : ℕ) (p : ComponentState) (ps : List ComponentState) → slice_get ps k ≡ Some p → AreNamesApart (map component_name ps) →
+pub place_is : (j k : ℕ) (p : ComponentState) (ps : List ComponentState) → slice_get ps k ≡ Some p → AreNamesApart (map component_name ps) →
     place_from j (component_name p) ps ≡ Some (j + k)
 place_is j k p [] e u = absurd (cc)
 place_is j zero p (q ∷ ps) e u =
@@ -283,7 +283,7 @@ place_is j (suc k) p (q ∷ ps) e u =
           (or_parts (bytes_eq n (component_name x)) (list_any (bytes_eq n) (map component_name qs)) h).0
       other_name (suc i) (x ∷ qs) g n h = other_name i qs g n (or_parts (bytes_eq n (component_name x)) (list_any (bytes_eq n) (map component_name qs)) h).1
 
-part_at : (P : ComponentState → Type 0) (k : ℕ) (ps : List ComponentState) → At k P ps → (p : ComponentState) × (slice_get ps k ≡ Some p) × P p
+pub part_at : (P : ComponentState → Type 0) (k : ℕ) (ps : List ComponentState) → At k P ps → (p : ComponentState) × (slice_get ps k ≡ Some p) × P p
 part_at P k ps h = by_part (slice_get ps k) refl h where
   by_part : (o : Option ComponentState) → slice_get ps k ≡ o → IsSomeAnd o P → (p : ComponentState) × (slice_get ps k ≡ Some p) × P p
   by_part None e i = absurd i

@@ -3,6 +3,7 @@ pub mod Deeds
 pub mod Flags
 pub mod Found
 pub mod Goings
+pub mod Held
 pub mod Merged
 pub mod Once
 pub mod Owners

@@ -1,5 +1,5 @@
 -- A component that meets what comes for it.
-use Rattle.std.proofs.Common.{◌≡◌, ◌<◌, ℕ, Bool, true, false, Option, Some, None, refl, sym, ap, ◌∙◌, subst}
+use Rattle.std.proofs.Common.{◌≡◌, ◌<◌, ℕ, Bool, true, false, Option, Some, None, refl, sym, ap, ◌∙◌, ◌⊎◌, inl, inr, subst}
 use Rattle.std.specs.Prelude.{◌||◌, if◌then◌else◌, IfSome}
 use Rattle.lifecycle.specs.Life.{Life}
 use Rattle.lifecycle.specs.Awaits.{is_stopping}
@@ -9,40 +9,30 @@ use Rattle.components.specs.Changes.{Coming, coming_again, fresh_part, is_replac
 use Rattle.components.specs.Fitted.{Fitted, is_same_item, steps_of}
 use Rattle.components.specs.Readied.{IsFresh, coming_of}
 use Rattle.components.specs.Runs.{IsKeptPart}
-use Rattle.components.specs.Components.{ComponentState, is_again, is_gone, stops_for_good, under_way}
+use Rattle.components.specs.Components.{ComponentState, is_again, is_gone, stops_for_good}
 
 -- ---- a stop that is under way
 
-gone_at : (b : Bool) (o : Option After) → is_gone (if b then o else None) ≡ true → o ≡ Some after.Gone
-gone_at true None e = absurd (cc)
-gone_at true (Some after.Restart) e = absurd (cc)
-gone_at true (Some after.Again) e = absurd (cc)
-gone_at true (Some after.Gone) e = refl
-gone_at false o e = absurd (cc)
+good_at : (b : Bool) (o : Option After) → (is_again (if b then o else None) || is_gone (if b then o else None)) ≡ true →
+    (o ≡ Some after.Again) ⊎ (o ≡ Some after.Gone)
+good_at true None e = absurd (cc)
+good_at true (Some after.Restart) e = absurd (cc)
+good_at true (Some after.Again) e = inl refl
+good_at true (Some after.Gone) e = inr refl
+good_at false o e = absurd (cc)
 
-pub gone_stop : (c : Life) → is_gone (under_way c) ≡ true → c.stop ≡ Some after.Gone
-gone_stop c e = gone_at (is_stopping c.state) c.stop e
-
-again_at : (b : Bool) (o : Option After) → is_gone (if b then o else None) ≡ false → (is_again (if b then o else None) || is_gone (if b then o else None))
-    ≡ true → o ≡ Some after.Again
-again_at true None e f = absurd (cc)
-again_at true (Some after.Restart) e f = absurd (cc)
-again_at true (Some after.Again) e f = refl
-again_at true (Some after.Gone) e f = absurd (cc)
-again_at false o e f = absurd (cc)
-
-pub again_stop : (c : Life) → is_gone (under_way c) ≡ false → stops_for_good c ≡ true → c ≡ record c { stop = Some after.Again }
-again_stop c e f = ap (λ (o : Option After). record c { stop = o }) (again_at (is_stopping c.state) c.stop e f)
+pub good_stop : (c : Life) → stops_for_good c ≡ true → (c.stop ≡ Some after.Again) ⊎ (c.stop ≡ Some after.Gone)
+good_stop c e = good_at (is_stopping c.state) c.stop e
 
 pub replacing_plain : (n : Coming) (p : ComponentState) → stops_for_good p.life ≡ false → record p { stop = Some after.Again; next = Some n } ≡ replacing n p
-replacing_plain n p e = sym (ap (λ (b : Bool). if b then record p { life = record p.life { stop = Some after.Again }; stop = None; next = Some n }
+replacing_plain n p e = sym (ap (λ (b : Bool). if b then record p { life = record p.life { stop = Some after.Restart }; stop = Some after.Again; next = Some n }
     else record p { stop = Some after.Again; next = Some n }) e)
 
-pub replacing_good : (n : Coming) (p : ComponentState) (d : Life) → stops_for_good p.life ≡ true → d ≡ record p.life { stop = Some after.Again } →
-    record p { life = d; stop = None; next = Some n } ≡ replacing n p
+pub replacing_good : (n : Coming) (p : ComponentState) (d : Life) → stops_for_good p.life ≡ true → d ≡ record p.life { stop = Some after.Restart } →
+    record p { life = d; stop = Some after.Again; next = Some n } ≡ replacing n p
 replacing_good n p d e f =
-    ap (λ (x : Life). record p { life = x; stop = None; next = Some n }) f
-    ∙ sym (ap (λ (b : Bool). if b then record p { life = record p.life { stop = Some after.Again }; stop = None; next = Some n } else record p
+    ap (λ (x : Life). record p { life = x; stop = Some after.Again; next = Some n }) f
+    ∙ sym (ap (λ (b : Bool). if b then record p { life = record p.life { stop = Some after.Restart }; stop = Some after.Again; next = Some n } else record p
     { stop = Some after.Again; next = Some n }) e)
 
 -- ---- its item as it is expanded now

@@ -21,7 +21,7 @@ whole_texts true f p h = record { may = h.may; run = h.run }
 whole_texts false f p h = h
 
 whole_replacing : (b : Bool) (n : Coming) (p : ComponentState) → IsWhole p
-    → IsWhole (if b then record p { life = record p.life { stop = Some after.Again }; stop = None; next = Some n } else record p
+    → IsWhole (if b then record p { life = record p.life { stop = Some after.Restart }; stop = Some after.Again; next = Some n } else record p
     { stop = Some after.Again; next = Some n })
 whole_replacing true n p h = record { may = h.may; run = h.run }
 whole_replacing false n p h = record { may = h.may; run = h.run }

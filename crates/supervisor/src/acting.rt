@@ -1,5 +1,5 @@
 //! What is handed out next.
-ghost use Rattle.std.specs.Prelude.{◌≡◌, ◌<◌, ◌^◌, ◌&&◌, ℕ, Bool, true, false, None, Some, is_some, length, map, IfSome};
+ghost use Rattle.std.specs.Prelude.{◌≡◌, ◌<◌, ◌^◌, ◌&&◌, ◌||◌, ℕ, Bool, true, false, None, Some, is_some, length, map, IfSome};
 ghost use Rattle.std.specs.List.{list_any, list_all};
 ghost use Rattle.std.specs.Str.{bytes_eq};
 ghost use Rattle.components.specs.Acts.{HandsOut, NextAct};
@@ -8,13 +8,16 @@ ghost use Rattle.supervisor.specs.Deeds.{MayDo, IsFirst, IsDone, IsOwed, IsOwing
 ghost use Rattle.components.specs.Flags.{at_moment};
 ghost use Rattle.components.specs.Readied.{AreApart, AreNamesApart, HaveNames, IsKept};
 ghost use Rattle.components.specs.Rows.{is_stop_ready};
-ghost use Rattle.components.specs.Turns.{may_act, may_begin as may_begin_among, may_stop, is_met, is_held as is_held_among, serves_softly, owes};
+ghost use Rattle.components.specs.Turns.{may_act, may_begin as may_begin_among, may_stop, is_met, is_held_far, serves_softly, owes};
+ghost use Rattle.components.specs.Turns.{is_held_for as is_held_for_among};
 ghost use Rattle.components.specs.Whole.{AreWhole};
-ghost use Rattle.components.specs.Components.{At, changed_at, component_name, is_to_stop, stands_up as stands};
+ghost use Rattle.components.specs.Components.{At, changed_at, component_name, is_again, is_gone, stands_up as stands};
+ghost use Rattle.supervisor.specs.Holds.{ShowAsked, asks_for_good};
 
 use crate::befall::{kill_child, live_at};
-use crate::needs::{Need, User};
-use crate::places::{found_place, user_after};
+use crate::holds::{find_held, is_held};
+use crate::needs::Need;
+use crate::places::found_place;
 use crate::slot::Slot;
 use components::Act;
 use lifecycle::{After, LifeEvent};
@@ -125,74 +128,30 @@ fn may_begin(slots: &[Slot], slot: &Slot) -> bool
     slot.waits() && (are_up(slots, slot) && are_served(slots, slot.soft()))
 }
 
-/// Whether it needs this name hard.
-fn needs(slot: &Slot, name: &Name) -> bool
-    ensures { result ≡ list_any (bytes_eq name.now) slot.now.fitted.hard }
+/// Whether others hold it back from this stop: from one with Restart those that need it directly, from another one all that
+/// reach it, by its flag.
+fn is_held_for(slots: &[Slot], slot: &Slot, flag: bool, after: After) -> bool
+    requires { (is_again (Some after) || is_gone (Some after)) ≡ true → flag ≡ is_held_far (component_name slot.now) slots.now }
+    ensures { result ≡ is_held_for_among after (component_name slot.now) slots.now }
 {
-    slot.hard().iter().any(|need| *name == *need.name())
-}
-
-/// Whether it is to be stopped and needs this name hard.
-fn holds(slot: &Slot, name: &Name) -> bool
-    ensures { result ≡ (is_to_stop slot.now && list_any (bytes_eq name.now) slot.now.fitted.hard) }
-{
-    slot.is_to_stop() && needs(slot, name)
-}
-
-/// Whether the need of this number is one of this name.
-fn is_need_at(needs: &[Need], at: usize, name: &Name) -> bool
-    ensures { result ≡ true → list_any (bytes_eq name.now) needs.now ≡ true }
-{
-    at < needs.len() && *name == *needs[at].name()
-}
-
-/// Whether this user of this name is to be stopped.
-fn is_held_by(slots: &[Slot], user: User, name: &Name) -> bool
-    ensures { result ≡ true → is_held_among name.now slots.now ≡ true }
-{
-    if user.component >= slots.len() {
-        return false;
+    match after {
+        After::Restart => is_held(slots, slot),
+        After::Again => flag,
+        After::Gone => flag,
     }
-    let slot = &slots[user.component];
-    slot.is_to_stop() && is_need_at(slot.hard(), user.need, name)
 }
 
-/// Whether one of those that are known to need it is to be stopped.
-fn is_held_by_user(slots: &[Slot], slot: &Slot) -> bool
-    ensures { result ≡ true → is_held_among (component_name slot.now) slots.now ≡ true }
-{
-    let mut user = slot.first_user();
-    for turn in 0..slots.len() {
-        let Some(this) = user else {
-            return false;
-        };
-        if is_held_by(slots, this, slot.name()) {
-            return true;
-        }
-        user = user_after(slots, this);
-    }
-    false
-}
-
-/// Whether one that needs it hard is to be stopped. Those that are known are asked first.
-fn is_held(slots: &[Slot], slot: &Slot) -> bool
-    ensures { result ≡ is_held_among (component_name slot.now) slots.now }
-{
-    if is_held_by_user(slots, slot) {
-        return true;
-    }
-    slots.iter().any(|other| holds(other, slot.name()))
-}
-
-/// The stop of the component that may be given among these.
-fn stop_of(slots: &[Slot], slot: &Slot) -> Option<After>
+/// The stop of the component that may be given among these. Where it asks for one for good, the flag is whether one that
+/// reaches it is to be stopped.
+fn stop_of(slots: &[Slot], slot: &Slot, flag: bool) -> Option<After>
+    requires { asks_for_good slot.now ≡ true → flag ≡ is_held_far (component_name slot.now) slots.now }
     ensures given { IfSome result (λ a. (slot.now.stop ≡ Some a) × (is_stop_ready slot.now ≡ true)) }
     ensures may { is_some result ≡ may_stop (at_moment slots.now 0 true) slot.now }
 {
     match slot.due_stop() {
         None => None,
         Some(after) => {
-            if is_held(slots, slot) {
+            if is_held_for(slots, slot, flag, after) {
                 None
             } else {
                 Some(after)
@@ -202,8 +161,10 @@ fn stop_of(slots: &[Slot], slot: &Slot) -> Option<After>
 }
 
 /// What the component there has to do.
-fn deed_at(slots: &[Slot], at: u32, moment: u64) -> Option<Deed>
+fn deed_at(slots: &[Slot], flags: &[bool], at: u32, moment: u64) -> Option<Deed>
     requires at { at < length slots.now }
+    requires many { length flags.now ≡ length slots.now }
+    requires held { ShowAsked slots.now flags.now }
     requires apart { AreApart (living_numbers slots.now) }
     requires names { AreNamesApart (map component_name slots.now) }
     requires whole { AreWhole slots.now }
@@ -212,20 +173,22 @@ fn deed_at(slots: &[Slot], at: u32, moment: u64) -> Option<Deed>
 {
     let slot = &slots[at as usize];
     let begins = may_begin(slots, slot);
-    let stop = stop_of(slots, slot);
+    let stop = stop_of(slots, slot, flags[at as usize]);
     slot.deed(moment, begins, stop)
 }
 
 /// The first component that has something to do, and what it is.
-fn first_deed(slots: &[Slot], moment: u64) -> Option<(u32, Deed)>
+fn first_deed(slots: &[Slot], flags: &[bool], moment: u64) -> Option<(u32, Deed)>
     requires few { length slots.now < 2 ^ 32 }
+    requires many { length flags.now ≡ length slots.now }
+    requires held { ShowAsked slots.now flags.now }
     requires apart { AreApart (living_numbers slots.now) }
     requires names { AreNamesApart (map component_name slots.now) }
     requires whole { AreWhole slots.now }
     ensures { IsFirst (at_moment slots.now moment true) result }
 {
     for at in 0..slots.len() as u32 {
-        if let Some(deed) = deed_at(slots, at, moment) {
+        if let Some(deed) = deed_at(slots, flags, at, moment) {
             return Some((at, deed));
         }
     }
@@ -339,7 +302,8 @@ fn act_first(slots: &mut [Slot], flags: &mut [bool], moment: u64, steady: bool) 
     ensures many { length flags.new ≡ length slots.new }
 {
     'turns: loop {
-        let Some((at, deed)) = first_deed(slots, moment) else {
+        find_held(slots, flags);
+        let Some((at, deed)) = first_deed(slots, flags, moment) else {
             return None;
         };
         let act = perform(slots, flags, at, deed, moment, steady);

@@ -11,6 +11,7 @@ mod befall;
 mod changing;
 mod children;
 mod fitted;
+mod holds;
 mod lives;
 mod marks;
 mod merging;

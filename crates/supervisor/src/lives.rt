@@ -224,13 +224,10 @@ pub(crate) fn keep_next(
     }
 }
 
-/// Again takes the place of Gone in a stop that is under way.
-pub(crate) fn stop_again(life: &mut Component)
+/// A stop for good that is under way ends as one with Restart.
+pub(crate) fn end_as_restart(life: &mut Component)
     requires { is_stopped_for_good life.old ≡ true }
-    ensures { life.new ≡ record life.old { stop = Some After.Again } }
+    ensures { life.new ≡ record life.old { stop = Some After.Restart } }
 {
-    if !is_gone(under_way(life)) {
-        return;
-    }
     life.replace_gone();
 }

@@ -8,10 +8,10 @@ ghost use Rattle.components.specs.Flags.{with_flags};
 ghost use Rattle.components.specs.Marks.{flagged};
 ghost use Rattle.components.specs.Merges.{has_name, unmet, without};
 ghost use Rattle.components.specs.Readied.{AreFresh, AreNamesApart, HaveNames, KeepSteps, coming_of};
-ghost use Rattle.components.specs.Components.{At, ComponentState, component_name, place_of as place_of_name};
+ghost use Rattle.components.specs.Components.{At, ComponentState, component_name};
 
 use crate::marks::replan;
-use crate::places::{is_named_at, link};
+use crate::places::{link, place_of};
 use crate::ready::Ready;
 use crate::slot::Slot;
 use components::Mode;
@@ -51,18 +51,6 @@ fn drop_over(slots: &mut Vec<Slot>)
     ensures { slots.new.items ≡ standing slots.old.items }
 {
     slots.retain(|slot| !slot.is_over());
-}
-
-/// The place of the first one of this name.
-fn place_of(slots: &[Slot], name: &Name) -> Option<usize>
-    ensures { result ≡ place_of_name name.now slots.now }
-{
-    for at in 0..slots.len() {
-        if is_named_at(slots, at, name) {
-            return Some(at);
-        }
-    }
-    None
 }
 
 /// Takes what comes for this name.

@@ -1,7 +1,8 @@
 //! Where those stand that are needed, and who needs them. All of it only saves searches: whoever goes by it compares names.
-ghost use Rattle.std.specs.Prelude.{◌≡◌, ◌<◌, true, length, IfSome};
+ghost use Rattle.std.specs.Prelude.{◌≡◌, ◌<◌, ◌||◌, true, is_some, length, map, IfSome};
 ghost use Rattle.std.specs.Str.{bytes_eq};
-ghost use Rattle.components.specs.Components.{At, component_name};
+ghost use Rattle.components.specs.Components.{At, component_name, place_of as place_of_name};
+ghost use Rattle.components.specs.Readied.{AreNamesApart};
 
 use crate::needs::{Need, User};
 use crate::slot::Slot;
@@ -73,7 +74,9 @@ pub(crate) fn put_where(
     is_one: bool,
     at: usize,
     first: Option<usize>,
-) -> Option<usize> {
+) -> Option<usize>
+    ensures { at < length slots.now → is_some result ≡ (is_one || is_some first) }
+{
     if !is_one {
         return first;
     }
@@ -109,5 +112,28 @@ pub(crate) fn found_place(slots: &[Slot], need: &Need) -> Option<usize>
         Some(at)
     } else {
         None
+    }
+}
+
+/// The place of the first one of this name.
+pub(crate) fn place_of(slots: &[Slot], name: &Name) -> Option<usize>
+    ensures { result ≡ place_of_name name.now slots.now }
+{
+    for at in 0..slots.len() {
+        if is_named_at(slots, at, name) {
+            return Some(at);
+        }
+    }
+    None
+}
+
+/// Where the one that is needed stands.
+pub(crate) fn place_of_need(slots: &[Slot], need: &Need) -> Option<usize>
+    requires { AreNamesApart (map component_name slots.now) }
+    ensures { result ≡ place_of_name need.now slots.now }
+{
+    match found_place(slots, need) {
+        Some(at) => Some(at),
+        None => place_of(slots, need.name()),
     }
 }

@@ -3,7 +3,7 @@ ghost use Rattle.std.specs.Prelude.{◌≡◌, ℕ, Bool, ◌<◌, ◌≤◌, �
 ghost use Rattle.components.specs.Fitted.{prepared_of, limit_of, steps_of, is_same_item};
 ghost use Rattle.components.specs.Components.{component_name, without_child, is_orphan, is_up as is_state_up, is_running as is_state_running};
 ghost use Rattle.components.specs.Components.{is_broken as is_state_broken, is_to_stop, stands_up, is_over, has_orphan as has_an_orphan, is_spared};
-ghost use Rattle.components.specs.Turns.{may_retry, serves_softly, is_begun, is_late, is_unstarted, is_to_start};
+ghost use Rattle.components.specs.Turns.{may_retry, serves_softly, is_begun, is_late, is_unstarted, is_to_start, coming_needs};
 ghost use Rattle.components.specs.Lives.{lived, drops};
 ghost use Rattle.components.specs.Runs.{IsShort};
 ghost use Rattle.components.specs.Rows.{is_begin_ready, is_stop_ready, taken_item};
@@ -15,6 +15,7 @@ ghost use Rattle.components.specs.Flags.{may_by};
 ghost use Rattle.components.specs.Marks.{may_restart, may_replan};
 ghost use Rattle.components.specs.Acts.{HasStart, kills};
 ghost use Rattle.supervisor.specs.Deeds.{HasChild, IsFor, has_deed};
+ghost use Rattle.supervisor.specs.Holds.{asks_for_good};
 ghost use Rattle.components.specs.Whole.{IsWhole};
 ghost use Rattle.lifecycle.specs.Awaits.{is_awaited};
 
@@ -268,6 +269,16 @@ impl Slot {
         }
     }
 
+    /// Whether it asks for a stop with Again or Gone, and its turn has come but for those that reach it.
+    pub(crate) fn asks_for_good(&self) -> bool
+        ensures { result ≡ asks_for_good self.now }
+    {
+        match self.due_stop() {
+            None => false,
+            Some(after) => !matches!(after, After::Restart),
+        }
+    }
+
     /// The step whose start is to be handed out.
     #[tactic(auto, using(crate::proofs::Asked::start_of))]
     fn to_start(&self) -> Option<Step>
@@ -489,6 +500,22 @@ impl Slot {
         }
     }
 
+    /// The item that it takes at the end of the stop that is under way.
+    pub(crate) fn taken(&self) -> Option<&FittedItem>
+        ensures { coming_needs self.now ≡ elim (option_map (λ f. f.now) result) [ None ↦ [] | Some f ↦ f.hard ] }
+    {
+        if !lives::is_again(lives::under_way(&self.life)) {
+            return None;
+        }
+        match &self.next {
+            None => None,
+            Some(next) => match &next.0 {
+                None => Some(&self.fitted),
+                Some(item) => Some(item),
+            },
+        }
+    }
+
     pub(crate) fn first_user(&self) -> Option<User> {
         self.first_user.get()
     }
@@ -578,12 +605,11 @@ impl Slot {
         ensures { self.new ≡ replacing (taken_item self.old.fitted item, failures) self.old }
     {
         self.next = Some((item, failures));
+        self.stop = Some(After::Again);
         if !lives::stops_for_good(&self.life) {
-            self.stop = Some(After::Again);
             return;
         }
-        lives::stop_again(&mut self.life);
-        self.stop = None;
+        lives::end_as_restart(&mut self.life);
     }
 
     /// It stays as it is, with these failures.

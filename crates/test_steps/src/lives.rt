@@ -346,6 +346,22 @@ const TO_THE_SHUTDOWN: [Moved; 4] = [
     ),
 ];
 
+/// It was replaced in its shutdown: that stop ends as one with Restart, and the one with Again comes after it.
+const REPLACED: [Moved; 2] = [
+    (
+        LifeEvent::Ended(Step::Shutdown, BAD),
+        LifeAct::Kill,
+        State::Installed,
+        2,
+    ),
+    (
+        LifeEvent::Stop(After::Again),
+        LifeAct::Nothing,
+        State::New,
+        0,
+    ),
+];
+
 /// Whether a component moves so.
 fn moves(component: &mut Component, table: &[Moved]) -> bool {
     for &(event, act, state, failures) in table {
@@ -452,6 +468,5 @@ fn the_next_item_is_taken_after_a_stop(rt: HostRuntime) {
     if matches!(component.stop(), Some(After::Gone)) {
         component.replace_gone();
     }
-    let event = LifeEvent::Ended(Step::Shutdown, BAD);
-    assert!(rt; moves(&mut component, &[(event, LifeAct::Kill, State::New, 0)]));
+    assert!(rt; moves(&mut component, &REPLACED));
 }

@@ -1,8 +1,11 @@
-use Rattle.components.proofs.Platforms.{keep_for, ready_for, run_change, run_next, run_noticed, run_steadied, run_stopped}
+use Rattle.components.proofs.Platforms.{keep_for, keep_needs, ready_for, run_change, run_next, run_noticed, run_steadied, run_stopped}
 use Rattle.components.proofs.laws.one_platform.Goals as goal
 
 pub returns-clause-same : goal.returns-clause-same
 returns-clause-same c = keep_for c.recipe_laws.ensures.one_recipe
+
+pub returns-clause-needs : goal.returns-clause-needs
+returns-clause-needs c = keep_needs c.recipe_laws.ensures.one_recipe
 
 pub returns-clause-ready : goal.returns-clause-ready
 returns-clause-ready c = ready_for

@@ -1,9 +1,18 @@
-use Rattle.law_termination.proofs.Befalls.{end_on, later_on, next_on, refuse_on, skip_on, start_on}
+use Rattle.law_termination.proofs.Events.{end_on, kill_on, later_on, move_on, next_on, refuse_on, skip_on, start_on, told_on}
 use Rattle.law_termination.proofs.Stands.{steady_on}
 use Rattle.law_termination.proofs.driving.drives_keep.Goals as goal
 
 pub returns-clause-acts : goal.returns-clause-acts
 returns-clause-acts c = next_on
+
+pub returns-clause-moves : goal.returns-clause-moves
+returns-clause-moves c = move_on
+
+pub returns-clause-kills : goal.returns-clause-kills
+returns-clause-kills c = kill_on
+
+pub returns-clause-tells : goal.returns-clause-tells
+returns-clause-tells c = told_on
 
 pub returns-clause-starts : goal.returns-clause-starts
 returns-clause-starts c = start_on

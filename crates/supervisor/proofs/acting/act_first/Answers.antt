@@ -1,4 +1,4 @@
-use Rattle.std.proofs.Common.{sym, true}
+use Rattle.std.proofs.Common.{◌∙◌, sym, true}
 use Rattle.components.specs.Flags.{at_moment}
 use Rattle.components.specs.Components.{Components}
 use Rattle.supervisor.proofs.Deeds.{do_below, first_in_any, no_turns, none_in_any, turn_last, turn_more, turns_over}
@@ -10,6 +10,18 @@ turns-init c = record {
   so_far = no_turns (at_moment c.args.slots.now c.args.moment c.args.steady) c.requires.kept c.requires.whole
       c.requires.told;
 }
+
+pub find_held-requires-clause-names : goal.find_held-requires-clause-names
+find_held-requires-clause-names c = c.turns.invariant.so_far.sound.kept.names
+
+pub first_deed-requires-clause-many : goal.first_deed-requires-clause-many
+first_deed-requires-clause-many c = c.find_held.ensures.many ∙ c.turns.invariant.many
+
+pub perform-act-requires-clause-many : goal.perform-act-requires-clause-many
+perform-act-requires-clause-many c = c.find_held.ensures.many ∙ c.turns.invariant.many
+
+pub returns-in_default-clause-many : goal.returns-in_default-clause-many
+returns-in_default-clause-many c = c.find_held.ensures.many ∙ c.turns.invariant.many
 
 pub first_deed-requires-clause-few : goal.first_deed-requires-clause-few
 first_deed-requires-clause-few c = c.turns.invariant.so_far.sound.kept.few

@@ -7,11 +7,15 @@ use Rattle.components.specs.Components.{ComponentState}
 use Rattle.components.proofs.Each.{at_is}
 use Rattle.components.proofs.Whole.{each_at}
 use Rattle.supervisor.proofs.Deeds.{may_do_all, no_deed_by}
+use Rattle.supervisor.proofs.Held.{shown_at}
 use Rattle.supervisor.proofs.acting.deed_at.Goals as goal
 
 pub deed-requires-clause-whole : goal.deed-requires-clause-whole
 deed-requires-clause-whole c = each_at IsWhole c.args.at c.args.slots.now c.index-slots-at.result c.requires.whole
     (slice_get-get_or c.args.slots.now c.args.at c.index-slots-at.result c.requires.at ∙ ap (λ (p : ComponentState). Some p) (sym c.index-slots-at.is))
+
+pub stop_of-stop-requires : goal.stop_of-stop-requires
+stop_of-stop-requires c = shown_at c.args.slots.now c.args.flags.now c.args.at c.index-slots-at.result c.requires.at c.index-slots-at.is c.requires.held
 
 pub returns-clause-none : goal.returns-clause-none
 returns-clause-none c = λ e. at_is (λ p. may_act (at_moment c.args.slots.now c.args.moment true) p ≡ false) c.args.slots.now c.args.at c.index-slots-at.result

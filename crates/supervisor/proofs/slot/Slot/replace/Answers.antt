@@ -34,5 +34,6 @@ returns c =
       next =
           next_of i.fitted i.next;
     } in
-    replacing_good (taken_item i.fitted c.args.item, c.args.failures) p c.stop_again.new.life (sym c.if-not-stops_for_good.ensures) c.stop_again.ensures ∙ ap
+    replacing_good (taken_item i.fitted c.args.item, c.args.failures) p c.end_as_restart.new.life (sym c.if-not-stops_for_good.ensures)
+    c.end_as_restart.ensures ∙ ap
     (λ (q : ComponentState). replacing (taken_item q.fitted c.args.item, c.args.failures) q) c.self.view_is
