@@ -506,6 +506,7 @@ module _ {D : Type 0} {is_modelled : Bool} {seen : D → Image} {may_leave : D �
       stands = call.stands;
       doubt = call.doubt;
       once = call.once;
+      quits = call.quits;
     }
 
     module _ (p : SessionState) (start : ℕ → ℕ) (taken : Result code.Plan Declined) where

@@ -30,7 +30,7 @@ use disk_model::Disk;
 use edges::{ReadFault, Sink, Source, read_up_to};
 use library_core::Library;
 use nuc_base::{Copied, DOCUMENT_LIMIT, Status};
-use session::{resume as resume_on, run_document};
+use session::{resume_to_end, run_document_to_end};
 use std::alloc::Global;
 use step_runner::Runner;
 use supervisor::Supervisor;
@@ -180,7 +180,7 @@ fn deploy_document<D: Disk, L: Library, K: Sink, R: Runner>(
     needed_files_stay();
     plans_are_met();
     let mut supervisor = Supervisor::new(alloc);
-    run_document(
+    run_document_to_end(
         alloc,
         idle,
         document,
@@ -310,7 +310,7 @@ pub(crate) fn resume<D: Disk, K: Sink, R: Runner>(
             // The journal does not lie among the files of artifacts.
             needed_files_stay();
             let mut supervisor = Supervisor::new(alloc);
-            resume_on(alloc, state, disk, sink, runner, &mut supervisor)
+            resume_to_end(alloc, state, disk, sink, runner, &mut supervisor)
         }
         Err(answer) => {
             let status = answer.tell(sink);

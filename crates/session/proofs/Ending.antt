@@ -1,5 +1,6 @@
 -- How a call ends, and the whole of it.
 use Rattle.std.specs.Prelude.{ℕ, Bool, List, [], ◌∷◌, ◌++◌, true, false, Option, Some, None, Result, Ok, Err, IfOk, OnErr, IsErrOf, option_map}
+use Rattle.std.specs.List.{AllByRecursion, list_any}
 use Rattle.std.specs.Option.{IsSome, IsSomeAnd}
 use Rattle.std.specs.Io.KnownBytes.{Appends}
 use Rattle.std.proofs.Common.{◌≡◌, ◌≢◌, ◌≤◌, ◌⊎◌, ◌∙◌, inl, inr, refl, sym, ap, subst, arith}
@@ -22,11 +23,17 @@ use Rattle.artifact_store.specs.Holding.{AllHoldDevice, HoldsDevice}
 use Rattle.artifact_store.proofs.Walking.{start_spares}
 use Rattle.step_runner.specs.Entries.{Told}
 use Rattle.step_runner.specs.declared.entries.RunnerEntry.{RunnerEntry}
+use Rattle.step_runner.specs.declared.entries.Seen.{Seen}
+use Rattle.step_runner.specs.declared.entries.Seen.TheVariants as seen
+use Rattle.components.specs.declared.kinds.Prepared.{Prepared}
 use Rattle.components.specs.Components.{Components}
-use Rattle.histories.specs.Courses.{IsBare, IsEnd, is_restart, leaves_open}
-use Rattle.histories.specs.TraceEvents.{TraceEvent, Recorded, records_of}
+use Rattle.histories.specs.Courses.{IsBare, IsEnd, gives_up, leaves_open}
+use Rattle.histories.specs.Phases.{Generation}
+use Rattle.histories.specs.Follows.{IsLast, IsProper}
+use Rattle.histories.specs.TraceEvents.{TraceEvent, Ran as RanEntry, Booted as BootedEntry, WaitElapsed, KilledOnAbort, Recorded, Moved, Asked, Heard}
+use Rattle.histories.specs.TraceEvents.{InboxAsked, Changed, StopsAll, records_of}
 use Rattle.histories.specs.Once.{TakesOnce}
-use Rattle.histories.specs.States.{SessionState, state_after}
+use Rattle.histories.specs.States.{SessionState, booted as booted_by, cut_off, leaves as left_of, state_after}
 use Rattle.histories.proofs.Joined.{left-append, records-append}
 use Rattle.histories.proofs.Once.{takes_once}
 use Rattle.deploy_state.proofs.Steps.{in_hand_stands}
@@ -40,10 +47,14 @@ use Rattle.session_boots.specs.declared.ends.Booted.{Booted}
 use Rattle.session_boots.specs.declared.ends.Booted.TheVariants as booted
 use Rattle.session_boots.specs.declared.ends.SessionFault.{SessionFault}
 use Rattle.session_boots.specs.declared.ends.SessionFault.TheVariants as over
-use Rattle.session_boots.proofs.Acting.{acts_none, grows_none}
+use Rattle.session_boots.proofs.Acting.{grows_none}
 use Rattle.session_boots.proofs.Joins.{acted, records_opened, went_on}
 use Rattle.session_boots.proofs.Told.{all_told, left_joined, lines_at_joined, stops_last}
-use Rattle.session_startup.specs.Ended.{ClosesAs}
+use Rattle.session_startup.specs.Ended.{ClosesAs, ClosesLast}
+use Rattle.session_transitions.specs.Kills.{KeepsRest}
+use Rattle.session_transitions.specs.Fails.{IsGivenUp}
+use Rattle.session_transitions.proofs.Ended.{killed_ends}
+use Rattle.components.specs.Turns.{owes}
 use Rattle.session_admission.specs.Accepts.{IsOpen}
 use Rattle.session_admission.proofs.Opening.{accept_went}
 use Rattle.admission.specs.Takes.{LieElsewhere}
@@ -52,18 +63,20 @@ use Rattle.admission.proofs.Staying.{hand_stays}
 use Rattle.session_rollout.specs.Driven.{Course, DrivenLeft, OwnsDriven, driven_device}
 use Rattle.session_rollout.specs.declared.driven.Driven.{Driven}
 use Rattle.session_rollout.specs.declared.driven.Driven.TheVariants as driven
-use Rattle.session_rollout.proofs.Joining.{Holds, went_acting}
-use Rattle.session.specs.Calls.{AllHoldBoth, AnswersFor, AnswersOver, Call, Ends, EndsClosed, EndsFor, IsOrEdge, IsPendingAs, Prints, SaysEnding, SaysLine}
+use Rattle.session_rollout.proofs.Joining.{Holds, left_killed, stops_killed, went_acting}
+use Rattle.session.specs.Calls.{AllHoldBoth, AnswersFor, AnswersOver, EndsClosed, EndsFor, IsOrEdge, IsPendingAs, Prints, SaysEnding, SaysLine}
 use Rattle.session.specs.Calls.{SaysRefusal, ChangesArtifactsAlone, StandsBehind, StandsWhole, opening_line}
 use Rattle.session.specs.Declines.{line_of_declined, status_of_declined}
-use Rattle.session.specs.Documents.{Begins, DrivesPlan, DrivesTaken, FitsFrom, Follows, KeepsArtifacts}
+use Rattle.session.specs.Documents.{Begins, FitsFrom, Follows}
+use Rattle.session.specs.Parts.{EndsPart, IsOver, IsUnbegun, Part, RanLeft, status_of_ran}
+use Rattle.session.specs.declared.ran.Ran.{Ran}
+use Rattle.session.specs.declared.ran.Ran.TheVariants as ran
 use Rattle.session.specs.Endings.{Ending, Closes, Restarts, Reboots, Fails, Breaks, Forgets, Starves, Declines, Full, Idle, IsBegun, is_failing}
 use Rattle.session.specs.Endings.{line_of_ending, status_of_ending}
-use Rattle.session.proofs.Holding.{HoldsBefore, all_before, spared_whole, went_holds, went_whole}
-use Rattle.session.proofs.Places.{IsShut, serves_on, shut_ends}
-use Rattle.session.proofs.Printing.{all_prints, ending_over, opening_none, over_prints, said_prints, starved_prints}
+use Rattle.session.proofs.Holding.{HoldsAll, HoldsBefore, all_before, spared_whole, went_holds, went_whole}
+use Rattle.session.proofs.Printing.{all_prints, ending_over, opening_none, over_prints, prints_as, said_prints, starved_prints}
 use Rattle.session.proofs.Resuming.{loaded_hand}
-use Rattle.session.proofs.Statuses.{declined_no_restart, disk_opens, no_restart, opens_gives}
+use Rattle.session.proofs.Statuses.{disk_opens, opens_gives}
 
 -- ---- the last record
 
@@ -89,6 +102,13 @@ some_behind : (name : List ℕ) (exit : Exit) (p : Option Pending) → IsSomeAnd
 some_behind name exit None may = absurd may
 some_behind name exit (Some q) may = refl
 
+-- the last that happened is the last record
+pub closes_as : (o : Outcome) (h : List TraceEvent) → ClosesLast o h → ClosesAs o (records_of h)
+closes_as o h last = (records_of last.0, ap records_of last.1)
+
+closes_stops : (o : Outcome) (h : List TraceEvent) → ClosesLast o h → StopsAt h
+closes_stops o h last = record { cuts = []; last = Closed o; before = last.0; split = last.1; kills = tt }
+
 -- behind the end of a bootstrap the deployment is
 asked_some : (d e : Device) (end : Booted) (records : List Record) → AsksFor end records e → Run d records e → IsSome e.pending
 asked_some d e end records asks run =
@@ -108,9 +128,9 @@ pending_as d e some same = subst (λ (x : Device). IsPendingAs (id_of x) d) same
 
 module _ {J : Type 0} where
   pub begun_for : (r : Result (Driven J) SessionFault) (ending : Ending) → EndsFor r ending → IsBegun ending
-  begun_for (Ok (driven.Closed s o)) ending (inl is) = subst IsBegun (sym is) tt
-  begun_for (Ok (driven.Closed s o)) ending (inr (inl is)) = subst IsBegun (sym is) tt
-  begun_for (Ok (driven.Closed s o)) ending (inr (inr is)) = subst IsBegun (sym is) tt
+  begun_for (Ok (driven.Closed s o w)) ending (inl is) = subst IsBegun (sym is) tt
+  begun_for (Ok (driven.Closed s o w)) ending (inr (inl is)) = subst IsBegun (sym is) tt
+  begun_for (Ok (driven.Closed s o w)) ending (inr (inr is)) = subst IsBegun (sym is) tt
   begun_for (Ok (driven.Restart s)) ending is = subst IsBegun (sym is) tt
   begun_for (Ok (driven.Reboot s)) ending is = subst IsBegun (sym is) tt
   begun_for (Err over.Disk) ending is = subst IsBegun (sym is) tt
@@ -123,12 +143,63 @@ ending_is J over.Edge ending is = is
 begun_fed : (ending : Ending) → IsBegun ending → ending ≢ Starves
 begun_fed ending begun is = subst IsBegun is begun
 
-pub over_ends : (e : SessionFault) (h : List TraceEvent) (q : SessionState) → Ends (ending_over e) h q
-over_ends over.Disk h q = tt
-over_ends over.Edge h q = tt
+over_ends : (p : SessionState) (e : SessionFault) (h : List TraceEvent) → EndsPart p (ending_over e) h
+over_ends p over.Disk h = tt
+over_ends p over.Edge h = tt
+
+-- where it was given up nothing is done behind the last record
+over_stops : {D : Type 0} (entries : Image → List (List ℕ) → Type 0) (may_leave : D → Image → Type 0) (disk : D) (e : SessionFault) (p : SessionState)
+    (h : List TraceEvent) → LeftAt entries may_leave disk p h e → StopsAt h
+over_stops entries may_leave disk over.Disk p h left = left.0
+over_stops entries may_leave disk over.Edge p h left = left.0
+
+-- behind a record after which the call ends nothing happened
+seen_booted : (s : Seen) (m : Prepared) (p : SessionState) → (booted_by s m p).over ≡ p.over
+seen_booted (seen.Started n c) m p = refl
+seen_booted (seen.Refused c) m p = refl
+seen_booted (seen.Killed n) m p = refl
+seen_booted (seen.Exists x true) m p = refl
+seen_booted (seen.Exists x false) m p = refl
+seen_booted (seen.OnPath x true) m p = refl
+seen_booted (seen.OnPath x false) m p = refl
+seen_booted (seen.Ended n e l) m p = refl
+seen_booted (seen.Elapsed l) m p = refl
+
+seen_cut : (s : Seen) (p : SessionState) → (cut_off s p).over ≡ p.over
+seen_cut (seen.Started n c) p = refl
+seen_cut (seen.Refused c) p = refl
+seen_cut (seen.Killed n) p = refl
+seen_cut (seen.Exists x b) p = refl
+seen_cut (seen.OnPath x b) p = refl
+seen_cut (seen.Ended n e l) p = refl
+seen_cut (seen.Elapsed l) p = refl
+
+over_at : (q : SessionState) (e : TraceEvent) (h : List TraceEvent) → q.over ≡ false → (left_of q e).over ≡ true → StopsAt (e ∷ h)
+over_at q (Recorded r) h fresh is = record { cuts = []; last = r; before = h; split = refl; kills = tt }
+over_at q (RanEntry e k s) h fresh is = absurd (false≢true (sym fresh ∙ is))
+over_at q (BootedEntry e m) h fresh is = absurd (false≢true (sym fresh ∙ sym (seen_booted e.seen m q) ∙ is))
+over_at q (WaitElapsed e) h fresh is = absurd (false≢true (sym fresh ∙ is))
+over_at q (KilledOnAbort e) h fresh is = absurd (false≢true (sym fresh ∙ sym (seen_cut e.seen q) ∙ is))
+over_at q (Moved k e) h fresh is = absurd (false≢true (sym fresh ∙ is))
+over_at q (Asked m) h fresh is = absurd (false≢true (sym fresh ∙ is))
+over_at q (Heard k) h fresh is = absurd (false≢true (sym fresh ∙ is))
+over_at q (InboxAsked a) h fresh is = absurd (false≢true (sym fresh ∙ is))
+over_at q (Changed f c b) h fresh is = absurd (false≢true (sym fresh ∙ is))
+over_at q StopsAll h fresh is = absurd (false≢true (sym fresh ∙ is))
+
+over_last : (p : SessionState) (h : List TraceEvent) → p.over ≡ false → IsProper p h → (state_after p h).over ≡ true → StopsAt h
+over_last p [] fresh proper is = absurd (false≢true (sym fresh ∙ is))
+over_last p (e ∷ h) fresh proper is = over_at (state_after p h) e h proper.0.2 is
+
+-- behind the course of a deployment that went to an end
+driven_stops : {J : Type 0} (x : Driven J) (p : SessionState) (h : List TraceEvent) (world : Components) (told : Told) (living : List ℕ) → p.over ≡ false →
+    IsProper p h → DrivenLeft x h (state_after p h) world told living → StopsAt h
+driven_stops (driven.Closed s o w) p h world told living fresh proper left = closes_stops o h left.closed
+driven_stops (driven.Restart s) p h world told living fresh proper left = over_last p h fresh proper left.1
+driven_stops (driven.Reboot s) p h world told living fresh proper left = over_last p h fresh proper left.1
 
 -- the disk is told as one that failed only by its ending
-end_rises : (q : SessionState) (status : Status) (rose : Bool) → IsEnd q status false → IsEnd q status rose
+pub end_rises : (q : SessionState) (status : Status) (rose : Bool) → IsEnd q status false → IsEnd q status rose
 end_rises q status rose e = record {
   bare = e.bare;
   stopped = e.stopped;
@@ -171,40 +242,66 @@ over_end : {D : Type 0} (entries : Image → List (List ℕ) → Type 0) (may_le
 over_end entries may_leave disk over.Disk p h status bare left answers = open_end (state_after p h) status true bare (over_opens over.Disk status answers)
     (inr refl)
 over_end entries may_leave disk over.Edge p h status bare left answers = open_end (state_after p h) status false bare (over_opens over.Edge status answers)
-    (inl left.0)
+    (inl left.1)
+
+over_left : {J : Type 0} (before : Generation) (r : Ran J) (rose : Bool) (q : SessionState) (world : Components) (told : Told) (living : List ℕ) → IsOver r →
+    IsEnd q (status_of_ran r) rose → RanLeft before r rose q world told living
+over_left before (ran.Back s status standing) rose q world told living is end = absurd is
+over_left before (ran.Over status) rose q world told living is end = end
+
+-- where children were killed the call ends
+pub quits_left : {J : Type 0} (p : SessionState) (before : Generation) (world : Components) (told : Told) (living : List ℕ) (next : Components) (now : Told)
+    (lives : List ℕ) (status : Status) (r : Ran J) (rose : Bool) (k : List TraceEvent) → r ≡ ran.Over status → IsGivenUp p world told living
+    → KeepsRest p (state_after p k) → IsBare (state_after p k) → gives_up status ≡ true → (leaves_open status ≡ false → list_any owes p.world.parts ≡ false)
+    → RanLeft before r rose (state_after p k) next now lives
+quits_left p before world told living next now lives status r rose k is given keeps bare gives owed =
+    subst (λ (x : Ran _). RanLeft before x rose (state_after p k) next now lives) (sym is)
+    (killed_ends p (state_after p k) world told living status rose given keeps bare gives owed)
+
+-- so it does where an acceptance is in doubt, or was not acknowledged
+pub doubt_left : {J D : Type 0} (entries : Image → List (List ℕ) → Type 0) (may_leave : D → Image → Type 0) (e : SessionFault) (disk : D) (p : SessionState)
+    (k : List TraceEvent) (plan : Plan) (before : Generation) (world : Components) (told : Told) (living : List ℕ) (status : Status) (r : Ran J)
+    → r ≡ ran.Over status → IsBare (state_after (state_after p (Recorded (Accepted plan) ∷ [])) k)
+    → LeftAt entries may_leave disk p (k ++ Recorded (Accepted plan) ∷ []) e → AnswersOver e status
+    → RanLeft before r (is_failing (ending_over e)) (state_after p (k ++ Recorded (Accepted plan) ∷ [])) world told living
+doubt_left entries may_leave e disk p k plan before world told living status r is bare left answers =
+    subst (λ (x : Ran _). RanLeft before x (is_failing (ending_over e)) (state_after p (k ++ Recorded (Accepted plan) ∷ [])) world told living) (sym is)
+    (over_end entries may_leave disk e p (k ++ Recorded (Accepted plan) ∷ []) status
+    (subst (λ (q : SessionState). IsBare q) (sym (left-append p k (Recorded (Accepted plan) ∷ []))) bare) left answers)
 
 pub over_answers : (e : SessionFault) (status : Status) → AnswersOver e status → IsOrEdge status (status_of_ending (ending_over e))
 over_answers over.Disk status answers = answers
 over_answers over.Edge status answers = inl answers
 
 -- behind the course of a deployment that went to an end
-module _ (h k : List TraceEvent) (d : Device) (q r : SessionState) (none : records_of k ≡ []) (same : r.device ≡ q.device)
-    (run : Run d (records_of (k ++ h)) r.device) where
+module _ (p : SessionState) (h k : List TraceEvent) (q : SessionState) (none : records_of k ≡ []) (same : (state_after p (k ++ h)).device ≡ q.device)
+    (run : Run p.device (records_of (k ++ h)) (state_after p (k ++ h)).device) where
   closes_on : (o : Outcome) → ClosesAs o (records_of h) → ClosesAs o (records_of (k ++ h))
   closes_on o closes = subst (λ (l : List Record). ClosesAs o l) (sym (records_opened h k none)) closes
 
-  asks_on : (end : Booted) (e : Device) → q.device ≡ e → AsksFor end (records_of h) e → AsksFor end (records_of (k ++ h)) r.device
+  asks_on : (end : Booted) (e : Device) → q.device ≡ e → AsksFor end (records_of h) e → AsksFor end (records_of (k ++ h)) (state_after p (k ++ h)).device
   asks_on end e is asks =
-      subst (λ (l : List Record). AsksFor end l r.device) (sym (records_opened h k none))
+      subst (λ (l : List Record). AsksFor end l (state_after p (k ++ h)).device) (sym (records_opened h k none))
       (subst (λ (x : Device). AsksFor end (records_of h) x) (sym (same ∙ is)) asks)
 
-  again_on : (end : Booted) (e : Device) → q.device ≡ e → AsksFor end (records_of h) e → AsksFor end (records_of (k ++ h)) r.device ×
-      IsPendingAs (id_of e) r.device
+  again_on : (end : Booted) (e : Device) → q.device ≡ e → AsksFor end (records_of h) e → AsksFor end (records_of (k ++ h)) (state_after p (k ++ h)).device ×
+      IsPendingAs (id_of e) (state_after p (k ++ h)).device
   again_on end e is asks =
       let on = asks_on end e is asks in
-      (on, pending_as r.device e (asked_some d r.device end (records_of (k ++ h)) on run) (same ∙ is))
+      (on, pending_as (state_after p (k ++ h)).device e (asked_some p.device (state_after p (k ++ h)).device end (records_of (k ++ h)) on run) (same ∙ is))
 
   pub driven_ends : {J : Type 0} (world : Components) (told : Told) (living : List ℕ) (x : Driven J) (ending : Ending) → DrivenLeft x h q world told living →
-      EndsFor {J = J} (Ok x) ending → Ends ending (k ++ h) r
-  driven_ends world told living (driven.Closed s o) ending left (inl is) =
-      let on = closes_on o left.closed in
-      subst (λ (e : Ending). Ends e (k ++ h) r) (sym is) (on, closed_none d r.device o (records_of (k ++ h)) on run)
-  driven_ends world told living (driven.Closed s o) ending left (inr (inl is)) = subst (λ (e : Ending). Ends e (k ++ h) r) (sym is) (o, closes_on o left.closed)
-  driven_ends world told living (driven.Closed s o) ending left (inr (inr is)) = subst (λ (e : Ending). Ends e (k ++ h) r) (sym is) tt
+      EndsFor {J = J} (Ok x) ending → EndsPart p ending (k ++ h)
+  driven_ends world told living (driven.Closed s o w) ending left (inl is) =
+      let on = closes_on o (closes_as o h left.closed) in
+      subst (λ (e : Ending). EndsPart p e (k ++ h)) (sym is) (on, closed_none p.device (state_after p (k ++ h)).device o (records_of (k ++ h)) on run)
+  driven_ends world told living (driven.Closed s o w) ending left (inr (inl is)) =
+      subst (λ (e : Ending). EndsPart p e (k ++ h)) (sym is) (o, closes_on o (closes_as o h left.closed))
+  driven_ends world told living (driven.Closed s o w) ending left (inr (inr is)) = subst (λ (e : Ending). EndsPart p e (k ++ h)) (sym is) tt
   driven_ends world told living (driven.Restart s) ending left is =
-      subst (λ (e : Ending). Ends e (k ++ h) r) (sym is) (again_on booted.Restart (loaded_device s) left.0.stands.device_is left.2)
+      subst (λ (e : Ending). EndsPart p e (k ++ h)) (sym is) (again_on booted.Restart (loaded_device s) left.0.stands.device_is left.2)
   driven_ends world told living (driven.Reboot s) ending left is =
-      subst (λ (e : Ending). Ends e (k ++ h) r) (sym is) (again_on booted.Reboot (loaded_device s) left.0.stands.device_is left.2)
+      subst (λ (e : Ending). EndsPart p e (k ++ h)) (sym is) (again_on booted.Reboot (loaded_device s) left.0.stands.device_is left.2)
 
 -- ---- what the disk holds at the end
 
@@ -225,29 +322,33 @@ module _ (entries : Image → List (List ℕ) → Type 0) {D : Type 0} (may_leav
   pub over_most : (e : SessionFault) (disk : D) (p : SessionState) (h : List TraceEvent) → Run p.device (records_of h) (state_after p h).device →
       LeftAt entries may_leave disk p h e → (c : Image) → may_leave disk c → StandsForMost entries p.device (records_of h) c
   over_most over.Disk disk p h run left = left.1
-  over_most over.Edge disk p h run left = most_of disk p h run left.1
+  over_most over.Edge disk p h run left = most_of disk p h run left.2
 
   pub edge_behind : (e : SessionFault) (disk : D) (p : SessionState) (h : List TraceEvent) → e ≡ over.Edge → LeftAt entries may_leave disk p h e →
       StandsBehind entries may_leave disk p h
   edge_behind over.Disk disk p h is left = absurd cc
-  edge_behind over.Edge disk p h is left = left.1
+  edge_behind over.Edge disk p h is left = left.2
 
   -- nothing is started behind a record that is in doubt
-  over_doubt : (e : SessionFault) (disk : D) (p : SessionState) (h : List TraceEvent) → LeftAt entries may_leave disk p h e →
-      StandsBehind entries may_leave disk p h ⊎ StopsAt h
-  over_doubt over.Disk disk p h left = inr left.0
-  over_doubt over.Edge disk p h left = inl left.1
+  over_doubt : (e : SessionFault) (disk : D) (p : SessionState) (h : List TraceEvent) (status : Status) → AnswersOver e status →
+      LeftAt entries may_leave disk p h e →
+      StandsBehind entries may_leave disk p h ⊎ ((gives_up status ≡ true) × StopsAt h)
+  over_doubt over.Disk disk p h status answers left = inr ((opens_gives status (over_opens over.Disk status answers)).0, left.0)
+  over_doubt over.Edge disk p h status answers left = inl left.2
 
 module _ (entries : Image → List (List ℕ) → Type 0) (files : List ℕ → Type 0) {D : Type 0} (may_leave : D → Image → Type 0) (moment : D → ℕ)
-    (left_since : D → ℕ → Image → Type 0) where
-  -- such a call that drives a deployment with these records
-  abbrev pub CallFor : D → D → Option (List RunnerEntry) → Option (List RunnerEntry) → Option (List ℕ) → Option (List ℕ) → SessionState → Status →
-      List Record → (Ending → Type 0) → Type 0
-  CallFor old new a c u x p status records because =
-      (call : Call entries files may_leave moment left_since old new a c u x p status) × IsBegun call.ending × (records_of call.history ≡ records)
-      × (((i : Image) → may_leave old i → HoldsBefore i p.device records) → KeepsArtifacts entries files may_leave moment left_since old new a c u x p status
-      call)
-      × because call.ending
+    (left_since : D → ℕ → Image → Type 0) (old new : D) (a c : Option (List RunnerEntry)) (u x : Option (List ℕ)) (p : SessionState) (status : Status)
+    (leaves : Ending → SessionState → Type 0) where
+  -- a part at whose moments the artifacts are there
+  abbrev pub HasFiles : Part entries files may_leave moment left_since old new a c u x p status leaves → Type 0
+  HasFiles part = Leaves moment left_since old new (StandsWhole entries p.device (records_of part.history))
+
+  -- such a part that drives a deployment with these records
+  abbrev pub PartFor : List Record → (Ending → Type 0) → Type 0
+  PartFor records because =
+      (part : Part entries files may_leave moment left_since old new a c u x p status leaves) × IsBegun part.ending × (records_of part.history ≡ records)
+      × (((i : Image) → may_leave old i → HoldsBefore i p.device records) → HasFiles part)
+      × because part.ending
 
 -- a part behind another one that goes on, with its history
 module _ (entries : Image → List (List ℕ) → Type 0) (files : List ℕ → Type 0) {D : Type 0} {may_leave : D → Image → Type 0} {moment : D → ℕ} {left_since : D →
@@ -313,46 +414,49 @@ module _ {D J : Type 0} {is_modelled : Bool} {seen : D → Image} {may_leave : D
   -- behind a deployment that was driven
   driven_hand : (x : Driven J) (disk : D) → OwnsDriven is_modelled may_leave stands end x disk → (log : J) ×
       OwnsJournal is_modelled may_leave stands end log disk (driven_device x)
-  driven_hand (driven.Closed s o) disk hand = (s.log, hand.0)
+  driven_hand (driven.Closed s o w) disk hand = (s.log, hand.0)
   driven_hand (driven.Restart s) disk hand = loaded_hand is_modelled may_leave stands end s disk hand
   driven_hand (driven.Reboot s) disk hand = loaded_hand is_modelled may_leave stands end s disk hand
 
   driven_is : (x : Driven J) (h : List TraceEvent) (q : SessionState) (world : Components) (told : Told) (living : List ℕ) →
       DrivenLeft x h q world told living → q.device ≡ driven_device x
-  driven_is (driven.Closed s o) h q world told living left = left.stands.device_is
+  driven_is (driven.Closed s o w) h q world told living left = left.stands.device_is
   driven_is (driven.Restart s) h q world told living left = left.0.stands.device_is
   driven_is (driven.Reboot s) h q world told living left = left.0.stands.device_is
 
   -- ---- where it ends
 
   module _ (world : Components) (told : Told) (living : List ℕ) where
-    -- from there the call may end
+    -- from there it comes back
     pub placed_at : (old new : D) (a b : Option (List RunnerEntry)) (u v : Option (List ℕ)) (p : SessionState) (r : Result (Driven J) SessionFault) →
-        Course entries files may_leave moment left_since old new a b u v p r (λ x h q. DrivenLeft x h q world told living) → p.serves ≡ false
-        → IfOk r (λ x. (q : SessionState) × (h : List TraceEvent) × DrivenLeft x h q world told living × (q.serves ≡ false))
-    placed_at old new a b u v p (Ok x) course serves = (state_after p course.history, course.history, course.left, serves_on p course.history serves)
-    placed_at old new a b u v p (Err e) course serves = tt
+        Course entries files may_leave moment left_since old new a b u v p r (λ x h q. DrivenLeft x h q world told living)
+        → IfOk r (λ x. (q : SessionState) × (h : List TraceEvent) × DrivenLeft x h q world told living)
+    placed_at old new a b u v p (Ok x) course = (state_after p course.history, course.history, course.left)
+    placed_at old new a b u v p (Err e) course = tt
 
     -- ---- the whole
 
     -- the course of a deployment, and files that are swept behind it
-    pub called : (old to new : D) (a b c : Option (List RunnerEntry)) (u v w x : Option (List ℕ)) (p : SessionState) (r : Result (Driven J) SessionFault)
-        (status : Status) (because : Ending → Type 0)
+    pub parted : (old to new : D) (a b c : Option (List RunnerEntry)) (u v w x : Option (List ℕ)) (p : SessionState) (r : Result (Driven J) SessionFault)
+        (ran : Ran J) (last : Components) (now : Told) (lives : List ℕ) (because : Ending → Type 0)
         → Appends u v (opening_line p.device) → (course : Course entries files may_leave moment left_since old to a b v w p r
-        (λ y h q. DrivenLeft y h q world told living)) → p.serves ≡ false
+        (λ y h q. DrivenLeft y h q world told living)) → p.over ≡ false
         → IfOk r (λ y. OwnsDriven is_modelled may_leave stands end y to)
-        → IfOk r (λ y. (q : SessionState) → (h : List TraceEvent) → DrivenLeft y h q world told living → q.serves ≡ false → (k : List TraceEvent) ×
-        Acts q k b c × IsEnd (state_after q k) status false)
-        → OnErr r (c ≡ b) → ChangesArtifactsAlone may_leave moment left_since to new →
+        → IfOk r (λ y. (q : SessionState) → (h : List TraceEvent) → (before : Generation) → DrivenLeft y h q world told living → (k : List TraceEvent) ×
+        Acts q k b c × IsUnbegun q k × ((rose : Bool) → RanLeft before ran rose (state_after q k) last now lives))
+        → OnErr r (IsOver ran) → OnErr r (c ≡ b) → ChangesArtifactsAlone may_leave moment left_since to new →
         IfOk r (λ y. AllHoldDevice (may_leave to) (driven_device y) → Leaves moment left_since to new (λ i. HoldsDevice i (driven_device y))) →
-        OnErr r (new ≡ to) → SaysEnding w x status (λ e. EndsFor r e × because e) → (IsErrOf r over.Edge → x ≡ w) → AnswersFor r status
-        → CallFor entries files may_leave moment left_since old new a c u x p status (records_of course.history) because
-    called old to new a b c u v w x p (Ok y) status because started course serves held ends still after safe unswept says silent answers =
+        OnErr r (new ≡ to) → SaysEnding w x (status_of_ran ran) (λ e. EndsFor r e × because e) → (IsErrOf r over.Edge → x ≡ w) →
+        AnswersFor r (status_of_ran ran)
+        → PartFor entries files may_leave moment left_since old new a c u x p (status_of_ran ran)
+        (λ ending q. RanLeft p.generation ran (is_failing ending) q last now lives) (records_of course.history) because
+    parted old to new a b c u v w x p (Ok y) ran last now lives because started course fresh held ends over_is still after safe unswept says silent answers =
         let h = course.history in
         let q = state_after p h in
-        let e = ends q h course.left (serves_on p h serves) in
+        let e = ends q h p.generation course.left in
         let k = e.0 in
         let ending = says.0 in
+        let status = status_of_ran ran in
         let same = records_opened h k e.1.none in
         let device = ap (λ (z : SessionState). z.device) (left-append p k h) ∙ e.1.device in
         let trace = went_acting entries files old to a b c p h k course.trace e.1 in
@@ -373,12 +477,13 @@ module _ {D J : Type 0} {is_modelled : Bool} {seen : D → Image} {may_leave : D
             answers = says.3;
             prints = all_prints (StandsBehind entries may_leave new p (k ++ h)) u v w x p.device records ending status behind (begun_fed ending begun) started
                 (subst (λ (l : List Record). Appends v w (lines_of p.device l)) (sym same) course.lines) says.2;
-            ends = driven_ends h k p.device q (state_after p (k ++ h)) e.1.none device trace.run world told living y ending course.left says.1.0;
-            end = subst (λ (z : SessionState). IsEnd z status (is_failing ending)) (sym (left-append p k h))
-                (end_rises (state_after q k) status (is_failing ending) e.2);
+            ends = driven_ends p h k q e.1.none device trace.run world told living y ending course.left says.1.0;
+            left = subst (λ (z : SessionState). RanLeft p.generation ran (is_failing ending) z last now lives) (sym (left-append p k h))
+                (e.3 (is_failing ending));
             stands = most_of entries may_leave new p (k ++ h) trace.run behind;
             doubt = inl behind;
-            once = takes_once p (k ++ h) serves trace.proper;
+            once = λ serves. takes_once p (k ++ h) serves trace.proper;
+            quits = λ gives. inr (stops_killed h k e.2.0 (driven_stops y p h world told living fresh course.trace.proper course.left));
           },
           begun,
           same,
@@ -393,8 +498,9 @@ module _ {D J : Type 0} {is_modelled : Bool} {seen : D → Image} {may_leave : D
               (λ i w. w) (λ i w. w)),
           says.1.1,
         )
-    called old to new a b c u v w x p (Err e) status because started course serves held ends still after safe unswept says silent answers =
+    parted old to new a b c u v w x p (Err e) ran last now lives because started course fresh held ends over_is still after safe unswept says silent answers =
         let ending = ending_over e in
+        let status = status_of_ran ran in
         let is = ending_is J e says.0 says.1.0 in (
           record {
             from = old;
@@ -410,13 +516,15 @@ module _ {D J : Type 0} {is_modelled : Bool} {seen : D → Image} {may_leave : D
                 (λ edge. subst (λ (z : D). StandsBehind entries may_leave z p course.history) (sym unswept)
                 (edge_behind entries may_leave e to p course.history edge course.left))
                 started course.lines (subst (λ (f : Ending). SaysLine w x status (line_of_ending f)) is says.2) (λ edge. silent (ap Err edge)) answers;
-            ends = over_ends e course.history (state_after p course.history);
-            end = over_end entries may_leave to e p course.history status course.bare course.left answers;
+            ends = over_ends p e course.history;
+            left = over_left p.generation ran (is_failing ending) (state_after p course.history) last now lives over_is
+                (over_end entries may_leave to e p course.history status course.bare course.left answers);
             stands = subst (λ (z : D). (i : Image) → may_leave z i → StandsForMost entries p.device (records_of course.history) i) (sym unswept)
                 (over_most entries may_leave e to p course.history course.trace.run course.left);
-            doubt = subst (λ (z : D). StandsBehind entries may_leave z p course.history ⊎ StopsAt course.history) (sym unswept)
-                (over_doubt entries may_leave e to p course.history course.left);
-            once = takes_once p course.history serves course.trace.proper;
+            doubt = subst (λ (z : D). StandsBehind entries may_leave z p course.history ⊎ ((gives_up status ≡ true) × StopsAt course.history)) (sym unswept)
+                (over_doubt entries may_leave e to p course.history status answers course.left);
+            once = λ serves. takes_once p course.history serves course.trace.proper;
+            quits = λ gives. inr (over_stops entries may_leave to e p course.history course.left);
           },
           subst IsBegun is (begun_for {J = J} (Err e) says.0 says.1.0),
           refl,
@@ -438,85 +546,111 @@ module _ {D : Type 0} (entries : Image → List (List ℕ) → Type 0) (files : 
       (λ c left. (record { front = []; rest = []; split = refl; device = p.device; run = refl; stands = stands c left }, holds c left))
       (at_start laws d)
 
-  -- files may be taken in
-  abbrev pub nothing_called : (old new : D) (l : Option (List RunnerEntry)) (u v : Option (List ℕ)) (p : SessionState) (ending : Ending) (status : Status) →
-      ChangesArtifactsAlone may_leave moment left_since old new → ((c : Image) → may_leave new c → StandsFor entries c p.device)
-      → IsShut p → IsOrEdge status (status_of_ending ending) → Prints u v p.device [] ending status (StandsBehind entries may_leave new p []) →
-      Ends ending [] p → is_restart (status_of_ending ending) ≡ false
-      → Call entries files may_leave moment left_since old new l l u v p status
-  nothing_called old new l u v p ending status before stands shut answers prints ends other = record {
-    from = new;
-    to = new;
-    before = before;
-    history = [];
-    trace = acted entries files laws new l l p [] stands (acts_none p l l refl);
-    after = start_spares laws (IsBelow artifacts) new;
-    ending = ending;
-    answers = answers;
-    prints = prints;
-    ends = ends;
-    end = shut_ends p status (is_failing ending) shut (no_restart status (status_of_ending ending) answers other);
-    stands = most_of entries may_leave new p [] refl stands;
-    doubt = inl stands;
-    once = tt;
-  }
+  pub still_files : (d : D) (p : SessionState) (records : List Record) → records ≡ [] → ((c : Image) → may_leave d c → StandsFor entries c p.device) →
+      AllHoldDevice (may_leave d) p.device → Leaves moment left_since d d (StandsWhole entries p.device records)
+  still_files d p records none stands holds = subst (λ (l : List Record). Leaves moment left_since d d (StandsWhole entries p.device l)) (sym none)
+      (still_whole d p stands holds)
 
-  -- The document is not taken: that is said, or there is no memory for its line.
-  pub declined_called : (start : ℕ → ℕ) (old new : D) (l : Option (List RunnerEntry)) (u v : Option (List ℕ)) (p : SessionState) (declined : Declined)
-      (status : Status) → ChangesArtifactsAlone may_leave moment left_since old new → ((c : Image) → may_leave new c → StandsFor entries c p.device)
-      → IsShut p → p.device.pending ≡ None → SaysRefusal u v status (status_of_declined declined) (line_of_declined declined)
-      → (t : DrivesTaken entries files may_leave moment left_since old new l l u v p status start (Err declined)) × (records_of t.0.history ≡ []) ×
-      (t.0.ending ≢ Fails)
-  declined_called start old new l u v p declined status before stands shut none (inl said) = (
-    (
-      nothing_called old new l u v p (Declines declined) status before stands shut said.1
-          (said_prints (StandsBehind entries may_leave new p []) u v p.device (Declines declined) status stands (λ is. cc) none said.0) refl
-          (declined_no_restart declined),
-      (inl refl, refl),
-    ),
-    refl,
-    (λ is. cc),
-  )
-  declined_called start old new l u v p declined status before stands shut none (inr short) = (
-    (
-      nothing_called old new l u v p Starves status before stands shut (inl short.0)
-          (starved_prints (StandsBehind entries may_leave new p []) u v p.device status stands short.1) refl refl,
-      (inr refl, refl),
-    ),
-    refl,
-    (λ is. cc),
-  )
+  -- the same status, which the result has
+  module _ (old new : D) (l m : Option (List RunnerEntry)) (u v : Option (List ℕ)) (p : SessionState) (status given : Status) (same : status ≡ given)
+      (leaves : Ending → SessionState → Type 0) where
+    -- files may be taken in, and children may be killed
+    nothing_part : (ending : Ending) (k : List TraceEvent) → ChangesArtifactsAlone may_leave moment left_since old new
+        → ((c : Image) → may_leave new c → StandsFor entries c p.device) → Acts p k l m → IsUnbegun p k → IsOrEdge given (status_of_ending ending)
+        → Prints u v p.device [] ending given (StandsBehind entries may_leave new p []) → EndsPart p ending k → leaves ending (state_after p k)
+        → Part entries files may_leave moment left_since old new l m u v p status leaves
+    nothing_part ending k before stands acts unbegun answers prints ends left =
+        let trace = acted entries files laws new l m p k stands acts in
+        let behind : StandsBehind entries may_leave new p k = λ c may. subst (λ (d : Device). StandsFor entries c d) (sym acts.device) (stands c may) in
+        record {
+          from = new;
+          to = new;
+          before = before;
+          history = k;
+          trace = trace;
+          after = start_spares laws (IsBelow artifacts) new;
+          ending = ending;
+          answers = subst (λ (s : Status). IsOrEdge s (status_of_ending ending)) (sym same) answers;
+          prints = prints_as u v p.device (records_of k) ending status given (StandsBehind entries may_leave new p []) (StandsBehind entries may_leave new p k)
+              acts.none same (λ sure. behind) prints;
+          ends = ends;
+          left = left;
+          stands = most_of entries may_leave new p k trace.run behind;
+          doubt = inl behind;
+          once = λ serves. takes_once p k serves trace.proper;
+          quits = λ gives. inl unbegun;
+        }
+
+    pub nothing_parted : (ending : Ending) (k : List TraceEvent) → ChangesArtifactsAlone may_leave moment left_since old new
+        → ((c : Image) → may_leave new c → StandsFor entries c p.device) → Acts p k l m → IsUnbegun p k → IsOrEdge given (status_of_ending ending)
+        → Prints u v p.device [] ending given (StandsBehind entries may_leave new p []) → EndsPart p ending k → leaves ending (state_after p k)
+        → (part : Part entries files may_leave moment left_since old new l m u v p status leaves) × (part.ending ≡ ending) × (records_of part.history ≡ [])
+    unfolding nothing_part
+    nothing_parted ending k before stands acts unbegun answers prints ends left =
+        (nothing_part ending k before stands acts unbegun answers prints ends left, refl, acts.none)
+
+    -- The document is not taken: that is said, or there is no memory for its line.
+    pub declined_parted : (start : ℕ → ℕ) (declined : Declined) (k : List TraceEvent) → ChangesArtifactsAlone may_leave moment left_since old new
+        → ((c : Image) → may_leave new c → StandsFor entries c p.device) → Acts p k l m → IsUnbegun p k → p.device.pending ≡ None
+        → SaysRefusal u v given (status_of_declined declined) (line_of_declined declined) → ((ending : Ending) → leaves ending (state_after p k))
+        → (part : Part entries files may_leave moment left_since old new l m u v p status leaves) × Follows start (Err declined) part.ending
+        (records_of part.history) × (records_of part.history ≡ []) × (part.ending ≢ Fails)
+    unfolding nothing_part
+    declined_parted start declined k before stands acts unbegun none (inl said) left = (
+      nothing_part (Declines declined) k before stands acts unbegun said.1
+          (said_prints (StandsBehind entries may_leave new p []) u v p.device (Declines declined) given stands (λ is. cc) none said.0) unbegun
+          (left (Declines declined)),
+      (inl refl, acts.none),
+      acts.none,
+      (λ is. cc),
+    )
+    declined_parted start declined k before stands acts unbegun none (inr short) left = (
+      nothing_part Starves k before stands acts unbegun (inl short.0)
+          (starved_prints (StandsBehind entries may_leave new p []) u v p.device given stands short.1) unbegun (left Starves),
+      (inr refl, acts.none),
+      acts.none,
+      (λ is. cc),
+    )
 
   -- the journal does not lie among the files of artifacts
   module _ (apart : LieElsewhere files) where
     -- A plan is given back for want of memory, where the journal may have been begun anew with the device.
-    pub starved_called : (old new : D) (l : Option (List RunnerEntry)) (u v : Option (List ℕ)) (p : SessionState) (plan : Plan) →
-        Leaves moment left_since old new (LeavesSame may_leave files entries old p.device) → ((c : Image) → may_leave new c → StandsFor entries c p.device)
-        → IsShut p → v ≡ u → (c : Call entries files may_leave moment left_since old new l l u v p statuses.Memory)
-        × (c.ending ≡ Starves) × (records_of c.history ≡ []) ×
-        (AllHoldBoth (may_leave old) p.device plan.items → KeepsArtifacts entries files may_leave moment left_since old new l l u v p statuses.Memory c)
-    starved_called old new l u v p plan leaves stands shut silent = (
+    pub starved_parted : (old new : D) (l m : Option (List RunnerEntry)) (u v : Option (List ℕ)) (p : SessionState) (status : Status)
+        (leaves : Ending → SessionState → Type 0) (plan : Plan) (k : List TraceEvent) → status ≡ statuses.Memory
+        → Leaves moment left_since old new (LeavesSame may_leave files entries old p.device) → ((c : Image) → may_leave new c → StandsFor entries c p.device)
+        → Acts p k l m → IsUnbegun p k → v ≡ u → leaves Starves (state_after p k)
+        → (part : Part entries files may_leave moment left_since old new l m u v p status leaves)
+        × (part.ending ≡ Starves) × (records_of part.history ≡ []) ×
+        (AllHoldBoth (may_leave old) p.device plan.items → HasFiles entries files may_leave moment left_since old new l m u v p status leaves part)
+    starved_parted old new l m u v p status leaves plan k same leaving stands acts unbegun silent left = (
       record {
         from = old;
         to = new;
         before = start_spares laws (IsBelow artifacts) old;
-        history = [];
-        trace = trace;
+        history = k;
+        trace = whole;
         after = start_spares laws (IsBelow artifacts) new;
         ending = Starves;
-        answers = inl refl;
-        prints = starved_prints (StandsBehind entries may_leave new p []) u v p.device statuses.Memory stands silent;
-        ends = refl;
-        end = shut_ends p statuses.Memory false shut refl;
-        stands = most_of entries may_leave new p [] refl stands;
-        doubt = inl stands;
-        once = tt;
+        answers = inl same;
+        prints = prints_as u v p.device (records_of k) Starves status statuses.Memory (StandsBehind entries may_leave new p [])
+            (StandsBehind entries may_leave new p k) acts.none same (λ sure. behind)
+            (starved_prints (StandsBehind entries may_leave new p []) u v p.device statuses.Memory stands silent);
+        ends = unbegun;
+        left = left;
+        stands = most_of entries may_leave new p k whole.run behind;
+        doubt = inl behind;
+        once = λ serves. takes_once p k serves whole.proper;
+        quits = λ gives. inl unbegun;
       },
       refl,
-      refl,
-      (λ holds. went_whole laws files entries apart old new l l p [] trace (λ c left. record { device = (holds c left).0; plans = tt })),
+      acts.none,
+      (λ holds. went_whole laws files entries apart old new l m p k whole
+          (λ c may. record { device = (holds c may).0; plans = subst (λ (r : List Record). HoldsAll c r) (sym acts.none) tt })),
     )
       where
+        behind : StandsBehind entries may_leave new p k
+        behind = λ c may. subst (λ (d : Device). StandsFor entries c d) (sym acts.device) (stands c may)
+
         trace : IsTrace entries files may_leave moment left_since old new l l p []
         trace = record {
           proper = tt;
@@ -531,52 +665,65 @@ module _ {D : Type 0} (entries : Image → List (List ℕ) → Type 0) (files : 
                   others = was.2.others;
                 },
               ))
-              leaves;
+              leaving;
           list = grows_none l l refl;
         }
 
+        whole : IsTrace entries files may_leave moment left_since old new l m p k
+        whole = subst (λ (h : List TraceEvent). IsTrace entries files may_leave moment left_since old new l m p h) (append-nil k)
+            (went_acting entries files old new l l m p [] k trace acts)
+
     -- the plan's entry is in doubt, or its line was not printed
-    pub doubt_called : (start : ℕ → ℕ) (e : SessionFault) (old new : D) (list : Option (List RunnerEntry)) (u v w : Option (List ℕ)) (p : SessionState)
-        (d : Device) (world : Components) (told : Told) (living : List ℕ) (plan : Plan) (h : List TraceEvent) (status : Status)
-        → FitsFrom start plan → IsOpen p d world told living → p.serves ≡ false → IsBare p → Allowed d (Accepted plan) →
+    pub doubt_parted : (start : ℕ → ℕ) (e : SessionFault) (old new : D) (list now : Option (List RunnerEntry)) (u v w : Option (List ℕ)) (p : SessionState)
+        (d : Device) (world : Components) (told : Told) (living : List ℕ) (plan : Plan) (h k : List TraceEvent) (status : Status)
+        (leaves : Ending → SessionState → Type 0)
+        → FitsFrom start plan → IsOpen p d world told living → Allowed d (Accepted plan) →
         Leaves moment left_since old new (LeavesEither may_leave files entries old d (applied d (Accepted plan)))
         → d.pending ≡ None → records_of h ≡ Accepted plan ∷ [] → Run p.device (records_of h) (state_after p h).device → LinesAt u v p.device (records_of h) e
-        → LeftAt entries may_leave new p h e
+        → LeftAt entries may_leave new p h e → Acts (state_after p (Recorded (Accepted plan) ∷ [])) k list now → AllByRecursion IsLast k
+        → KeepsRest (state_after p (Recorded (Accepted plan) ∷ [])) (state_after (state_after p (Recorded (Accepted plan) ∷ [])) k)
         → SaysLine v w status (line_of_ending (ending_over e)) → (e ≡ over.Edge → w ≡ v) → AnswersOver e status
-        → (t : DrivesPlan entries files may_leave moment left_since old new list list u w p status start plan)
-        × (AllHoldBoth (may_leave old) p.device plan.items → KeepsArtifacts entries files may_leave moment left_since old new list list u w p status t.0)
+        → ((LeftAt entries may_leave new p (k ++ Recorded (Accepted plan) ∷ []) e) → leaves (ending_over e)
+        (state_after p (k ++ Recorded (Accepted plan) ∷ [])))
+        → (t : (part : Part entries files may_leave moment left_since old new list now u w p status leaves) × Begins start plan part.ending
+        (records_of part.history))
+        × (AllHoldBoth (may_leave old) p.device plan.items → HasFiles entries files may_leave moment left_since old new list now u w p status leaves t.0)
         × (t.0.ending ≡ ending_over e)
-    doubt_called start e old new list u v w p d world told living plan h status fits opens serves bare allowed notes none records run lines left says silent
-        answers =
+    doubt_parted start e old new list now u v w p d world told living plan h k status leaves fits opens allowed notes none records run lines left acts
+        kills keeps says silent answers ends =
         let one = Accepted plan ∷ [] in
         let on = Recorded (Accepted plan) ∷ [] in
         let device = one_device p.device (state_after p h).device (Accepted plan)
         (subst (λ (l : List Record). Run p.device l (state_after p h).device) records run) in
-        let trace = accept_went entries files laws old new list p d world told living plan opens allowed notes in
-        let behind = left_as e device records left in (
+        let first = accept_went entries files laws old new list p d world told living plan opens allowed notes in
+        let trace = went_acting entries files old new list list now p on k first acts in
+        let same = records_opened on k acts.none in
+        let behind = left_killed entries may_leave new p on k e list now acts keeps kills (left_as e device records left) in (
           (
             record {
               from = old;
               to = new;
               before = start_spares laws (IsBelow artifacts) old;
-              history = on;
+              history = k ++ on;
               trace = trace;
               after = start_spares laws (IsBelow artifacts) new;
               ending = ending_over e;
               answers = over_answers e status answers;
-              prints = over_prints (StandsBehind entries may_leave new p on) e u u v w p.device one status
-                  (λ edge. edge_behind entries may_leave e new p on edge behind)
+              prints = over_prints (StandsBehind entries may_leave new p (k ++ on)) e u u v w p.device (records_of (k ++ on)) status
+                  (λ edge. edge_behind entries may_leave e new p (k ++ on) edge behind)
                   (opening_none u p.device (ap (λ (x : Device). x.pending) opens.stands.device_is ∙ none))
-                  (subst (λ (l : List Record). LinesAt u v p.device l e) records lines) says silent answers;
-              ends = over_ends e on (state_after p on);
-              end = over_end entries may_leave new e p on status (record { parts = bare.parts; boot = bare.boot }) behind answers;
-              stands = over_most entries may_leave e new p on trace.run behind;
-              doubt = over_doubt entries may_leave e new p on behind;
-              once = takes_once p on serves trace.proper;
+                  (subst (λ (l : List Record). LinesAt u v p.device l e) (records ∙ sym same) lines) says silent answers;
+              ends = over_ends p e (k ++ on);
+              left = ends behind;
+              stands = over_most entries may_leave e new p (k ++ on) trace.run behind;
+              doubt = over_doubt entries may_leave e new p (k ++ on) status answers behind;
+              once = λ serves. takes_once p (k ++ on) serves trace.proper;
+              quits = λ gives. inr (over_stops entries may_leave new e p (k ++ on) behind);
             },
-            begins_by start plan (ending_over e) one [] (over_begun e) fits refl tt,
+            begins_by start plan (ending_over e) (records_of (k ++ on)) [] (over_begun e) fits same tt,
           ),
-          (λ holds. went_whole laws files entries apart old new list list p on trace (all_before (may_leave old) p.device plan one [] refl tt holds)),
+          (λ holds. went_whole laws files entries apart old new list now p (k ++ on) trace
+              (all_before (may_leave old) p.device plan (records_of (k ++ on)) [] same tt holds)),
           refl,
         )
       where
@@ -591,13 +738,18 @@ module _ {D : Type 0} (entries : Image → List (List ℕ) → Type 0) (files : 
           λ c may. subst (λ (l : List Record). StandsForMost entries p.device l c) records
               (left.1 c may),
         )
-        left_as over.Edge device records left = (opens.boot_end, λ c may. subst (λ (x : Device). StandsFor entries c x) device (left.1 c may))
+        left_as over.Edge device records left = (
+          stops_last (Accepted plan),
+          opens.boot_end,
+          λ c may. subst (λ (x : Device). StandsFor entries c x) device (left.2 c may),
+        )
 
   -- with files that are taken in before it
-  abbrev called_behind : (old mid new : D) (a b : Option (List RunnerEntry)) (u v : Option (List ℕ)) (p : SessionState) (status : Status) →
-      ChangesArtifactsAlone may_leave moment left_since old mid
-      → Call entries files may_leave moment left_since mid new a b u v p status → Call entries files may_leave moment left_since old new a b u v p status
-  called_behind old mid new a b u v p status first c = record {
+  abbrev pub parted_behind : (old mid new : D) (a b : Option (List RunnerEntry)) (u v : Option (List ℕ)) (p : SessionState) (status : Status)
+      (leaves : Ending → SessionState → Type 0) → ChangesArtifactsAlone may_leave moment left_since old mid
+      → Part entries files may_leave moment left_since mid new a b u v p status leaves →
+      Part entries files may_leave moment left_since old new a b u v p status leaves
+  parted_behind old mid new a b u v p status leaves first c = record {
     from = c.from;
     to = c.to;
     before = then_spares laws (IsBelow artifacts) old mid c.from first c.before;
@@ -608,27 +760,30 @@ module _ {D : Type 0} (entries : Image → List (List ℕ) → Type 0) (files : 
     answers = c.answers;
     prints = c.prints;
     ends = c.ends;
-    end = c.end;
+    left = c.left;
     stands = c.stands;
     doubt = c.doubt;
     once = c.once;
+    quits = c.quits;
   }
 
   -- a plan that was taken in is driven
   pub taken_behind : {X Y : Type 0} (start : ℕ → ℕ) (old mid new : D) (a b : Option (List RunnerEntry)) (u v : Option (List ℕ)) (p : SessionState)
-      (status : Status) (plan : code.Plan) → ChangesArtifactsAlone may_leave moment left_since old mid
+      (status : Status) (leaves : Ending → SessionState → Type 0) (plan : code.Plan) → ChangesArtifactsAlone may_leave moment left_since old mid
       → (AllHoldDevice (may_leave old) p.device → (records : List Record) → Leaves moment left_since old mid (StandsWhole entries p.device records))
       → (AllHoldDevice (may_leave old) p.device → AllHoldBoth (may_leave mid) p.device (plan_view plan).items)
-      → (s : DrivesPlan entries files may_leave moment left_since mid new a b u v p status start (plan_view plan))
-      × (AllHoldBoth (may_leave mid) p.device (plan_view plan).items → KeepsArtifacts entries files may_leave moment left_since mid new a b u v p status s.0)
+      → (s : (part : Part entries files may_leave moment left_since mid new a b u v p status leaves) × Begins start (plan_view plan) part.ending
+      (records_of part.history))
+      × (AllHoldBoth (may_leave mid) p.device (plan_view plan).items → HasFiles entries files may_leave moment left_since mid new a b u v p status leaves s.0)
       × (s.0.ending ≡ Fails → X) → (X → Y)
-      → (t : DrivesTaken entries files may_leave moment left_since old new a b u v p status start (Ok plan))
-      × (AllHoldDevice (may_leave old) p.device → KeepsArtifacts entries files may_leave moment left_since old new a b u v p status t.0)
+      → (t : (part : Part entries files may_leave moment left_since old new a b u v p status leaves) × Follows start (Ok plan) part.ending
+      (records_of part.history))
+      × (AllHoldDevice (may_leave old) p.device → HasFiles entries files may_leave moment left_since old new a b u v p status leaves t.0)
       × (t.0.ending ≡ Fails → Y)
-  taken_behind start old mid new a b u v p status plan first whole gives drives on =
+  taken_behind start old mid new a b u v p status leaves plan first whole gives drives on =
       let c = drives.0.0 in
       let is = StandsWhole entries p.device (records_of c.history) in (
-        (called_behind old mid new a b u v p status first c, drives.0.1),
+        (parted_behind old mid new a b u v p status leaves first c, drives.0.1),
         (λ holds. joined laws old mid new is is is (whole holds (records_of c.history)) (drives.1 (gives holds)) (λ i w. w) (λ i w. w)),
         (λ fails. on (drives.2 fails)),
       )

@@ -30,11 +30,11 @@ use Rattle.session.specs.Calls.{AllHoldBoth, ChangesArtifactsAlone, StandsWhole}
 -- ---- along records
 
 -- the image has the artifacts of a plan that the record accepts
-abbrev HoldsAccepted : Image → Record → Type 0
+abbrev pub HoldsAccepted : Image → Record → Type 0
 HoldsAccepted image (Accepted plan) = HoldsItems image plan.items
 HoldsAccepted image r = Unit {0}
 
-abbrev HoldsAll : Image → List Record → Type 0
+abbrev pub HoldsAll : Image → List Record → Type 0
 HoldsAll image records = AllByRecursion (HoldsAccepted image) records
 
 holds_on : (f : Pending → Pending) → ((q : Pending) → (f q).plan ≡ q.plan) → (image : Image) (d : Device) → HoldsDevice image d →

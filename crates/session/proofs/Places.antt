@@ -1,5 +1,5 @@
 -- Where a call is that drives one deployment: from its start, and behind its close.
-use Rattle.std.specs.Prelude.{ℕ, ◌+◌, zero, Bool, true, false, not, ◌||◌, List, [], ◌∷◌, Option, Some, None, Contains, if◌then◌else◌}
+use Rattle.std.specs.Prelude.{ℕ, ◌+◌, zero, Bool, true, false, not, ◌||◌, List, [], ◌∷◌, Option, Some, None, Contains, is_some}
 use Rattle.std.specs.List.{list_any}
 use Rattle.std.specs.Option.{IsSome, IsSomeAnd}
 use Rattle.std.proofs.Common.{◌≡◌, ◌⊎◌, ◌∙◌, inl, inr, refl, sym, ap, subst, arith}
@@ -7,8 +7,8 @@ use Rattle.std.proofs.lemmas.Bool.{false≢true}
 use Rattle.nuc_base.specs.declared.kinds.Outcome.{Outcome}
 use Rattle.nuc_base.specs.declared.kinds.Step.{Step}
 use Rattle.nuc_base.specs.declared.status.Status.{Status}
-use Rattle.records.specs.Stored.{Record}
-use Rattle.device.specs.Devices.{Device}
+use Rattle.records.specs.Stored.{Plan, Accepted}
+use Rattle.device.specs.Devices.{Device, Pending}
 use Rattle.step_runner.specs.Entries.{Told}
 use Rattle.step_runner.specs.declared.entries.Seen.{Seen}
 use Rattle.step_runner.specs.declared.entries.Seen.TheVariants as seen
@@ -17,7 +17,7 @@ use Rattle.components.specs.Answers.{living_numbers}
 use Rattle.components.specs.Turns.{owes}
 use Rattle.components.specs.declared.kinds.Prepared.{Prepared}
 use Rattle.law_supervisor.specs.Sound.{AreSound, Differ, HaveOwnNames, IsOrderly}
-use Rattle.histories.specs.Phases.{Phase, activating, backing, booting, duty_of, previous, idle, is_idle, draining, rolling}
+use Rattle.histories.specs.Phases.{Generation, Phase, duty_of, idle, is_shutting_down}
 use Rattle.histories.specs.TraceEvents.{TraceEvent, Ran, Booted, WaitElapsed, KilledOnAbort, Recorded, Moved, Asked, Heard, InboxAsked, Changed, StopsAll}
 use Rattle.histories.specs.States.{SessionState, booted, cut_off, leaves, state_after}
 use Rattle.histories.specs.Follows.{Lives, MayStopAll}
@@ -27,12 +27,13 @@ use Rattle.session_boots.proofs.Entries.{never}
 use Rattle.session_boots.proofs.Still.{childless}
 use Rattle.session_startup.specs.Ended.{HasClosed}
 use Rattle.session_shutdown.specs.Stops.{HasStopped, MayStop}
-use Rattle.session_transitions.specs.Fails.{IsGivenUp}
 use Rattle.session_transitions.proofs.Closing.{no_other}
-use Rattle.session_admission.specs.Accepts.{IsOpen, IsOpened, generation_of}
-use Rattle.refusal_lines.specs.Statuses.{status_of_outcome}
+use Rattle.session_admission.specs.Accepts.{IsOpen}
+use Rattle.components.specs.Changes.{standing}
+use Rattle.session_transitions.specs.Enters.{RunOn}
+use Rattle.session_transitions.proofs.Rising.{orderly_at, run_none}
 use Rattle.session.specs.Calls.{IsOrEdge}
-use Rattle.session.proofs.Statuses.{outcome_no_restart}
+use Rattle.session.specs.Parts.{IsReturned, IsShut, MayGiveUp}
 
 -- ---- whether the call serves an inbox
 
@@ -131,30 +132,131 @@ orderly_none w none = record {
   names = subst (λ (ps : List ComponentState). HaveOwnNames ps) (sym none) (λ j k p q at_first at_last same. absurd cc);
 }
 
+-- what runs is none
+pub run_standing_none : (d : Device) (w : Components) → w.parts ≡ [] → RunOn d (standing w.parts)
+run_standing_none d w none = run_none d w (stopped_none w none)
+
 -- a moment brings none
 none_there : (p : SessionState) (d : Device) (world : Components) (told : Told) (living : List ℕ) → Stands p d world told living → world.parts ≡ [] →
     p.world.parts ≡ []
 none_there p d world told living s none = ap (λ (w : Components). w.parts) s.world_is ∙ none
 
--- Nothing is open, no failure is owed, and all components are stopped.
-pub record IsShut (p : SessionState) : Type 0 where
-  pub stopped : is_stopped p.world ≡ true
-  pub told : list_any owes p.world.parts ≡ false
-  pub boot : p.boot ≡ None
-  pub boot_end : p.boot_end ≡ None
-  pub over : p.over ≡ false
-  pub cut : p.cut ≡ false
+pub none_stopped : (p : SessionState) (d : Device) (world : Components) (told : Told) (living : List ℕ) → Stands p d world told living → world.parts ≡ [] →
+    is_stopped p.world ≡ true
+none_stopped p d world told living s none = stopped_none p.world (none_there p d world told living s none)
 
-pub open_shut : (p : SessionState) (d : Device) (world : Components) (told : Told) (living : List ℕ) → world.parts ≡ [] → IsOpen p d world told living →
-    IsShut p
-open_shut p d world told living none o = record {
-  stopped = stopped_none p.world (none_there p d world told living o.stands none);
-  told = o.quiet.told;
-  boot = o.boot;
-  boot_end = o.boot_end;
-  over = o.over;
-  cut = o.cut;
-}
+-- ---- where the device is in hand
+
+idle_phase : (d : Device) → d.pending ≡ None → (duty_of d).phase ≡ idle
+idle_phase d is = by d.pending is
+  where
+    by : (o : Option Pending) → o ≡ None → (duty_of (record d { pending = o })).phase ≡ idle
+    by None none = refl
+    by (Some q) none = absurd cc
+
+module _ (p : SessionState) (d : Device) (world : Components) (told : Told) (living : List ℕ) where
+  pub open_returned : IsOpen p d world told living → IsOrderly world → d.pending ≡ None → IsReturned p d world told living
+  open_returned o orderly none = record {
+    stands = o.stands;
+    quiet = o.quiet;
+    orderly = orderly_at p d world told living o.stands orderly;
+    idle_is = none;
+    going = o.going;
+    boot = o.boot;
+    boot_end = o.boot_end;
+    over = o.over;
+    cut = o.cut;
+  }
+
+  pub front_returned : IsAtBootStage p d world told living → IsOrderly world → d.pending ≡ None → IsReturned p d world told living
+  front_returned f orderly none =
+      let still = f.between.still in
+      record {
+        stands = f.between.stands;
+        quiet = still.quiet;
+        orderly = orderly_at p d world told living f.between.stands orderly;
+        idle_is = none;
+        going = ap (λ (c : Generation). is_shutting_down c) still.generation;
+        boot = f.between.boot;
+        boot_end = f.between.boot_end;
+        over = f.over;
+        cut = still.cut;
+      }
+
+  pub closed_returned : (o : Outcome) (generation : Generation) (h : List TraceEvent) → HasClosed o generation h p d world told living → d.pending ≡ None →
+      IsReturned p d world told living
+  closed_returned o generation h c none = record {
+    stands = c.stands;
+    quiet = c.quiet;
+    orderly = c.orderly;
+    idle_is = none;
+    going = c.back.going;
+    boot = c.back.boot;
+    boot_end = c.back.boot_end;
+    over = c.back.over;
+    cut = c.back.cut;
+  }
+
+  module _ (r : IsReturned p d world told living) where
+    pub returned_may : MayGiveUp p world told living
+    returned_may = (
+      record {
+        moment = sym (ap (λ (w : Components). w.moment) r.stands.world_is);
+        asked = r.stands.asked;
+        boot = r.boot;
+        boot_end = r.boot_end;
+        over = r.over;
+        cut = r.cut;
+        differ = r.orderly.differ;
+        owners = λ n. sym (ap (λ (w : Components). owner n w.parts) r.stands.world_is);
+        children = λ n. no_other p n living r.boot (r.stands.children n);
+      },
+      ap (λ (w : Components). is_stopped w) r.stands.world_is,
+    )
+
+    pub returned_shut : is_stopped p.world ≡ true → IsShut p
+    returned_shut stopped = record { stopped = stopped; told = r.quiet.told; boot = r.boot; boot_end = r.boot_end; over = r.over; cut = r.cut }
+
+    -- all may be stopped
+    pub returned_stops : p.serves ≡ false → MayStop p d world told living
+    returned_stops serves = record {
+      stands = r.stands;
+      may = subst (λ (f : Phase). MayStopAll (duty_of p.device) f p.generation p)
+          (sym (ap (λ (x : Device). (duty_of x).phase) r.stands.device_is ∙ idle_phase d r.idle_is))
+          (λ on. absurd (never p.serves serves on));
+      orderly = r.orderly;
+      owed = r.quiet.told;
+      boot = r.boot;
+      boot_end = r.boot_end;
+      over = r.over;
+      cut = r.cut;
+    }
+
+  -- once all were
+  pub stopped_shut : HasStopped p d world told living → IsShut p
+  stopped_shut s = record { stopped = s.stopped; told = s.quiet.told; boot = s.bare.boot; boot_end = s.boot_end; over = s.over; cut = s.cut }
+
+-- the acceptance was recorded, and the call gives up
+pub accepted_may : (p : SessionState) (d : Device) (world : Components) (told : Told) (living : List ℕ) (plan : Plan) → IsOpen p d world told living →
+    IsOrderly world → MayGiveUp (leaves p (Recorded (Accepted plan))) world told living
+accepted_may p d world told living plan o orderly =
+    let s = o.stands in
+    let own = orderly_at p d world told living s orderly in (
+      record {
+        moment = sym (ap (λ (w : Components). w.moment) s.world_is);
+        asked = s.asked;
+        boot = o.boot;
+        boot_end = o.boot_end;
+        over = refl;
+        cut = o.cut;
+        differ = own.differ;
+        owners = λ n. sym (ap (λ (w : Components). owner n w.parts) s.world_is);
+        children = λ n. no_other p n living o.boot (s.children n);
+      },
+      ap (λ (w : Components). is_stopped w) s.world_is,
+    )
+
+-- ---- nothing is done from there
 
 pub front_shut : (p : SessionState) (d : Device) (world : Components) (told : Told) (living : List ℕ) → IsAtBootStage p d world told living → IsShut p
 front_shut p d world told living f = record {
@@ -181,88 +283,16 @@ shut_ends p status rose s other = record {
   over = λ is. absurd (never p.over s.over is);
 }
 
-pub open_bare : (p : SessionState) (d : Device) (world : Components) (told : Told) (living : List ℕ) → world.parts ≡ [] → IsOpen p d world told living →
-    IsBare p
-open_bare p d world told living none o = shut_bare p (open_shut p d world told living none o)
+-- ---- no child lives
 
-pub open_none : (p : SessionState) (d : Device) (world : Components) (told : Told) (living : List ℕ) → world.parts ≡ [] → IsOpen p d world told living →
-    living ≡ []
-open_none p d world told living none o = bare_none p d world told living o.stands (open_bare p d world told living none o)
+pub quit_bare : (p : SessionState) (world : Components) (told : Told) (living : List ℕ) → MayGiveUp p world told living → is_stopped world ≡ true → IsBare p
+quit_bare p world told living m stopped = record { parts = childless p.world (m.1 ∙ stopped); boot = m.0.boot }
 
-leaving_is : (w : Components) → is_stopped w ≡ true → generation_of w ≡ draining
-leaving_is w stopped = ap (λ (b : Bool). if b then draining else previous) stopped
+pub quit_none : (p : SessionState) (world : Components) (told : Told) (living : List ℕ) → MayGiveUp p world told living → is_stopped world ≡ true → living ≡ []
+quit_none p world told living m stopped = empty living (λ n h. none_lives p n (quit_bare p world told living m stopped) (inl ((m.0.children n).0 h)))
 
--- a deployment that was accepted is at its front
-pub opened_front : (p : SessionState) (d : Device) (world : Components) (told : Told) (living : List ℕ) → world.parts ≡ [] → IsOpened p d world told living →
-    IsAtBootStage p d world told living
-opened_front p d world told living none o =
-    let stopped = stopped_none p.world (none_there p d world told living o.stands none) in
-    record {
-      between = record {
-        stands = o.stands;
-        still = record { stopped = stopped; quiet = o.quiet; generation = o.generation ∙ leaving_is p.world stopped; cut = o.cut };
-        boot = o.boot;
-        boot_end = o.boot_end;
-        probed = o.probed;
-      };
-      over = o.over;
-    }
+-- ---- a bootstrap asks that the call ends
 
--- ---- behind a close
-
-idle_phase : (f : Phase) → is_idle f ≡ true → f ≡ idle
-idle_phase idle is = refl
-idle_phase booting is = absurd (false≢true is)
-idle_phase activating is = absurd (false≢true is)
-idle_phase backing is = absurd (false≢true is)
-idle_phase rolling is = absurd (false≢true is)
-
-module _ (o : Outcome) (records : List Record) (p : SessionState) (d : Device) (world : Components) (told : Told) (living : List ℕ)
-    (c : HasClosed o records p d world told living) where
-  -- all may be stopped
-  pub closed_stops : p.serves ≡ false → MayStop p d world told living
-  closed_stops serves = record {
-    stands = c.stands;
-    may = subst (λ (f : Phase). MayStopAll (duty_of p.device) f p.generation p) (sym (idle_phase (duty_of p.device).phase c.back.idle_is))
-        (λ on. absurd (never p.serves serves on));
-    orderly = c.orderly;
-    owed = c.back.told;
-    boot = c.back.boot;
-    boot_end = c.back.boot_end;
-    over = c.back.over;
-    cut = c.back.cut;
-  }
-
-  -- or their children killed
-  pub closed_given_up : IsGivenUp p world told living
-  closed_given_up = record {
-    moment = sym (ap (λ (w : Components). w.moment) c.stands.world_is);
-    asked = c.stands.asked;
-    boot = c.back.boot;
-    boot_end = c.back.boot_end;
-    over = c.back.over;
-    cut = c.back.cut;
-    differ = c.orderly.differ;
-    owners = λ n. sym (ap (λ (w : Components). owner n w.parts) c.stands.world_is);
-    children = λ n. no_other p n living c.back.boot (c.stands.children n);
-  }
-
--- behind the stop of all
-pub stopped_ends : (o : Outcome) (p : SessionState) (d : Device) (world : Components) (told : Told) (living : List ℕ) (status : Status) →
-    HasStopped p d world told living → status ≡ status_of_outcome o → IsEnd p status false
-stopped_ends o p d world told living status s is =
-    subst (λ (x : Status). IsEnd p x false) (sym is)
-    (shut_ends p (status_of_outcome o) false (record {
-      stopped = s.stopped;
-      told = s.quiet.told;
-      boot = s.bare.boot;
-      boot_end = s.boot_end;
-      over =
-          s.over;
-      cut = s.cut;
-    }) (outcome_no_restart o))
-
--- where a bootstrap asks that the call ends
 pub restart_ends : (p : SessionState) (d : Device) (world : Components) (told : Told) (living : List ℕ) (status again : Status) →
     IsBetween p d world told living → p.over ≡ true → is_restart again ≡ true → IsOrEdge status again → IsEnd p status false
 restart_ends p d world told living status again b over restarts answers = record {
@@ -278,3 +308,32 @@ restart_ends p d world told living status again b over restarts answers = record
     ends : IsOrEdge status again → (is_restart status ≡ true) ⊎ (gives_up status ≡ true)
     ends (inl same) = inl (ap is_restart same ∙ restarts)
     ends (inr edge) = inr (ap gives_up edge)
+
+-- ---- what was taken before
+
+-- the same place, in which a document was taken exactly where one is pending
+abbrev pub untaken : SessionState → SessionState
+untaken p = record p { taken = is_some p.device.pending }
+
+pub untaken_front : (p : SessionState) (d : Device) (world : Components) (told : Told) (living : List ℕ) → IsAtBootStage p d world told living →
+    IsAtBootStage (untaken p) d world told living
+untaken_front p d world told living f =
+    let s = f.between.stands in
+    let still = f.between.still in
+    record {
+      between = record {
+        stands = record {
+          device_is = s.device_is;
+          world_is = s.world_is;
+          answered = s.answered;
+          not_before = s.not_before;
+          asked = s.asked;
+          children = s.children;
+        };
+        still = record { stopped = still.stopped; quiet = still.quiet; generation = still.generation; cut = still.cut };
+        boot = f.between.boot;
+        boot_end = f.between.boot_end;
+        probed = f.between.probed;
+      };
+      over = f.over;
+    }

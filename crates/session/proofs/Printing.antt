@@ -180,3 +180,18 @@ over_prints sure over.Disk a b c f d records status stable before lines says sil
 over_prints sure over.Edge a b c f d records status stable before lines says silent answers =
     subst (λ (x : Option (List ℕ)). Prints a x d records Breaks status sure) (sym (silent refl))
     (edge_prints sure a b c d records status (stable refl) before lines answers)
+
+-- of the same records, and with the same status
+pub prints_as : {base : List Record} (a b : Option (List ℕ)) (d : Device) (records : List Record) (ending : Ending) (status given : Status)
+    (sure more : Type 0) → records ≡ base → status ≡ given → (sure → more) → Prints a b d base ending given sure → Prints a b d records ending status more
+prints_as {base} a b d records ending status given sure more none same on p =
+    subst (λ (l : List Record). Prints a b d l ending status more) (sym none) (subst (λ (s : Status). Prints a b d base ending s more) (sym same) (record {
+      told = p.told;
+      rest = p.rest;
+      split = p.split;
+      few = p.few;
+      all = p.all;
+      front = p.front;
+      whole = p.whole;
+      stable = λ is. on (p.stable is);
+    }))

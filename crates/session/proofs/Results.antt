@@ -69,10 +69,10 @@ not_edge {A} r e is disk edge = by e disk (subst (λ (z : Result A SessionFault)
 
 module _ {J : Type 0} (status : Status) where
   pub answers_own : (r : Result (Driven J) SessionFault) → AnswersFor r status → status ≡ statuses.Library → ⊥
-  answers_own (Ok (driven.Closed s o)) (inl is) lib = no_outcome o statuses.Library refl (sym is ∙ lib)
-  answers_own (Ok (driven.Closed s o)) (inr (inl is)) lib = cc
-  answers_own (Ok (driven.Closed s o)) (inr (inr (inl is))) lib = cc
-  answers_own (Ok (driven.Closed s o)) (inr (inr (inr is))) lib = cc
+  answers_own (Ok (driven.Closed s o w)) (inl is) lib = no_outcome o statuses.Library refl (sym is ∙ lib)
+  answers_own (Ok (driven.Closed s o w)) (inr (inl is)) lib = cc
+  answers_own (Ok (driven.Closed s o w)) (inr (inr (inl is))) lib = cc
+  answers_own (Ok (driven.Closed s o w)) (inr (inr (inr is))) lib = cc
   answers_own (Ok (driven.Restart s)) (inl is) lib = cc
   answers_own (Ok (driven.Restart s)) (inr is) lib = cc
   answers_own (Ok (driven.Reboot s)) (inl is) lib = cc

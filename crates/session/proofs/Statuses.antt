@@ -265,3 +265,17 @@ pub told_said : (status given s : Status) → Told status given → given ≡ s 
 told_said status given s (inl same) is memory other edge = other (same ∙ is)
 told_said status given s (inr (inl same)) is memory other edge = memory same
 told_said status given s (inr (inr same)) is memory other edge = edge same
+
+-- with a close, or a sweep behind it that failed, nothing is restarted
+pub closed_no_restart : (o : Outcome) (status : Status) → (status ≡ status_of_outcome o) ⊎ (status ≡ statuses.Memory) ⊎ (status ≡ statuses.Disk) ⊎
+    (status ≡ statuses.Edge) → is_restart status ≡ false
+closed_no_restart o status (inl is) = ap is_restart is ∙ outcome_no_restart o
+closed_no_restart o status (inr (inl is)) = ap is_restart is
+closed_no_restart o status (inr (inr (inl is))) = ap is_restart is
+closed_no_restart o status (inr (inr (inr is))) = ap is_restart is
+
+-- with the status of a refusal, or for want of memory or of the sink, neither
+pub told_no_restart : (status given : Status) → Told status given → is_restart given ≡ false → is_restart status ≡ false
+told_no_restart status given (inl is) other = ap is_restart is ∙ other
+told_no_restart status given (inr (inl is)) other = ap is_restart is
+told_no_restart status given (inr (inr is)) other = ap is_restart is

@@ -89,7 +89,7 @@ module _ {D J : Type 0} {is_modelled : Bool} {seen : D → Image} {may_leave : D
 
   driven_in : (x : Driven J) (disk : D) → OwnsDriven is_modelled may_leave stands end x disk → (log : J) ×
       OwnsJournal is_modelled may_leave stands end log disk (driven_device x)
-  driven_in (driven.Closed s o) disk hand = (s.log, hand.0)
+  driven_in (driven.Closed s o w) disk hand = (s.log, hand.0)
   driven_in (driven.Restart s) disk hand = loaded_hand is_modelled may_leave stands end s disk hand
   driven_in (driven.Reboot s) disk hand = loaded_hand is_modelled may_leave stands end s disk hand
 

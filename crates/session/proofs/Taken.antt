@@ -20,7 +20,8 @@ use Rattle.components.specs.Components.{Components}
 use Rattle.components.specs.Fitted.{Fitted}
 use Rattle.components.specs.declared.kinds.Prepared.{Prepared}
 use Rattle.histories.specs.States.{SessionState}
-use Rattle.session_admission.specs.Accepts.{HasTaken, OwnsTaken, IsFullAt, IsFullOrShort, IsOpened, IsTakenOf, Opened}
+use Rattle.session_boots.specs.Stands.{IsOpened}
+use Rattle.session_admission.specs.Accepts.{HasTaken, OwnsTaken, IsFullAt, IsFullOrShort, IsTakenOf, Opened}
 use Rattle.session_admission.specs.declared.accepting.Taken.{Taken}
 use Rattle.session_admission.specs.declared.accepting.Taken.TheVariants as taken
 use Rattle.session_admission.specs.Readied.{AreReadiedFor}
@@ -61,6 +62,13 @@ module _ {J : Type 0} (x : Taken J) where
   module _ (s : Idle J) (at : ℕ) (is : x ≡ taken.Full s at) where
     pub full_back : HasTaken {J = J} (Ok x) → ⊥
     full_back has = subst (λ (y : Taken J). HasTaken {J = J} (Ok y)) is has
+
+    pub full_device : (d : Device) (plan : Plan) → IsTakenOf d plan x → idle_device s ≡ d
+    full_device d plan of = subst (λ (y : Taken J). IsTakenOf d plan y) is of
+
+    pub full_held : {D : Type 0} (is_modelled : Bool) (may_leave : D → Image → Type 0) (stands : J → Image → List (List ℕ) → Type 0) (end : J → ℕ) (disk : D)
+        → OwnsTaken is_modelled may_leave stands end x disk → OwnsIdle is_modelled may_leave stands end s disk
+    full_held is_modelled may_leave stands end disk held = subst (λ (y : Taken J). OwnsTaken is_modelled may_leave stands end y disk) is held
 
     pub full_at : IsFullAt {J = J} (Ok x) at
     full_at = subst (λ (y : Taken J). IsFullAt {J = J} (Ok y) at) (sym is) refl

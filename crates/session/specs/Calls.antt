@@ -1,5 +1,5 @@
 -- One deployment in one call: what happens, what is printed, and how the call ends.
-use Rattle.std.specs.Prelude.{◌≡◌, ◌≢◌, ◌⊎◌, ◌≤◌, ◌-◌, ◌^◌, min, ℕ, List, [], ◌++◌, length, Option, Some, None, Result, Ok, Err, ⊤, codes}
+use Rattle.std.specs.Prelude.{◌≡◌, ◌≢◌, ◌⊎◌, ◌≤◌, ◌-◌, ◌^◌, min, ℕ, true, List, [], ◌++◌, length, Option, Some, None, Result, Ok, Err, ⊤, codes}
 use Rattle.std.specs.Option.{IsSomeAnd}
 use Rattle.std.specs.Io.KnownBytes.{Appends}
 use Rattle.artifact_store.specs.Holding.{HoldsDevice, HoldsItems}
@@ -16,7 +16,7 @@ use Rattle.device.specs.Devices.{Device}
 use Rattle.device.specs.Standing.{StandsFor}
 use Rattle.deploy_state.specs.States.{loaded_device}
 use Rattle.step_runner.specs.declared.entries.RunnerEntry.{RunnerEntry}
-use Rattle.histories.specs.Courses.{IsEnd}
+use Rattle.histories.specs.Courses.{IsEnd, gives_up}
 use Rattle.histories.specs.TraceEvents.{TraceEvent, records_of}
 use Rattle.histories.specs.Once.{TakesOnce}
 use Rattle.histories.specs.States.{SessionState, state_after}
@@ -107,6 +107,10 @@ module _ (entries : Image → List (List ℕ) → Type 0) {D : Type 0} (may_leav
   abbrev pub StandsBehind : D → SessionState → List TraceEvent → Type 0
   StandsBehind disk p h = (c : Image) → may_leave disk c → StandsFor entries c (state_after p h).device
 
+-- Nothing happened; or nothing was done behind the last record but that children were killed and a moment was asked for.
+abbrev pub QuitsAt : List TraceEvent → Type 0
+QuitsAt h = (h ≡ []) ⊎ StopsAt h
+
 -- ---- files of artifacts
 
 -- the image stands for the device that a front of the records leaves, and has each artifact of that device
@@ -130,7 +134,7 @@ module _ (entries : Image → List (List ℕ) → Type 0) (files : List ℕ → 
   -- up; with another status than 5 and 6 each failure is recorded, and each end of a bootstrap but where the disk failed. How the call
   -- ends gives its status, its lines, its last record, and what the disk holds: each image stands for the device of all records, or of
   -- all but the last, whose line is then not written, and behind which nothing is started. One plan is accepted at most, and none where
-  -- one was pending.
+  -- one was pending. A call that gives up does nothing behind its last record but that it kills its children.
   pub record Call (old new : D) (old_list new_list : Option (List RunnerEntry)) (old_held new_held : Option (List ℕ)) (p : SessionState)
       (status : Status) : Type 0 where
     pub from : D
@@ -147,6 +151,7 @@ module _ (entries : Image → List (List ℕ) → Type 0) (files : List ℕ → 
     pub stands : (c : Image) → may_leave new c → StandsForMost entries p.device (records_of history) c
     pub doubt : StandsBehind entries may_leave new p history ⊎ StopsAt history
     pub once : TakesOnce p.taken (records_of history)
+    pub quits : gives_up status ≡ true → QuitsAt history
 
 -- ---- counts of faults
 
@@ -166,7 +171,7 @@ EndsClosed o ending = (ending ≡ Closes o) ⊎ (ending ≡ Forgets) ⊎ (ending
 
 -- how a call ends whose deployment was driven so
 abbrev pub EndsFor : {J : Type 0} → Result (Driven J) SessionFault → Ending → Type 0
-EndsFor (Ok (driven.Closed s o)) ending = EndsClosed o ending
+EndsFor (Ok (driven.Closed s o c)) ending = EndsClosed o ending
 EndsFor (Ok (driven.Restart s)) ending = ending ≡ Restarts (id_of (loaded_device s))
 EndsFor (Ok (driven.Reboot s)) ending = ending ≡ Reboots (id_of (loaded_device s))
 EndsFor (Err over.Disk) ending = ending ≡ Fails
@@ -183,7 +188,7 @@ AnswersOver over.Edge status = status ≡ statuses.Edge
 
 -- with which status a call ends whose deployment was driven so
 abbrev pub AnswersFor : {J : Type 0} → Result (Driven J) SessionFault → Status → Type 0
-AnswersFor (Ok (driven.Closed s o)) status = (status ≡ status_of_outcome o) ⊎ (status ≡ statuses.Memory) ⊎ (status ≡ statuses.Disk) ⊎ (status ≡ statuses.Edge)
+AnswersFor (Ok (driven.Closed s o c)) status = (status ≡ status_of_outcome o) ⊎ (status ≡ statuses.Memory) ⊎ (status ≡ statuses.Disk) ⊎ (status ≡ statuses.Edge)
 AnswersFor (Ok (driven.Restart s)) status = (status ≡ statuses.Restart) ⊎ (status ≡ statuses.Edge)
 AnswersFor (Ok (driven.Reboot s)) status = (status ≡ statuses.Reboot) ⊎ (status ≡ statuses.Edge)
 AnswersFor (Err e) status = AnswersOver e status

@@ -1,5 +1,5 @@
 // Behind a close.
-ghost use Rattle.std.specs.Prelude.{◌≡◌, ◌≢◌, ◌⊎◌, ◌≤◌, [], List, false, IsTrue};
+ghost use Rattle.std.specs.Prelude.{◌≡◌, ◌≢◌, ◌⊎◌, ◌≤◌, [], Bool, List, IsTrue};
 ghost use Rattle.nuc_base.specs.Faults.{Rose};
 ghost use Rattle.nuc_base.specs.declared.status.Status.TheVariants as statuses;
 ghost use Rattle.artifact_store.specs.Holding.{AllHoldDevice, HoldsDevice};
@@ -7,22 +7,23 @@ ghost use Rattle.artifact_store.specs.Swept.{IsSwept, items_of};
 ghost use Rattle.disk_model.specs.Disk.{Leaves};
 ghost use Rattle.disk_model.specs.Listing.{artifacts, IsBelow};
 ghost use Rattle.disk_model.specs.Spares.{Spares};
-ghost use Rattle.records.specs.Stored.{Record};
-ghost use Rattle.device.specs.Devices.{Device};
-ghost use Rattle.deploy_state.specs.States.{idle_device};
-ghost use Rattle.histories.specs.Courses.{IsEnd};
+ghost use Rattle.deploy_state.specs.States.{OwnsIdle, idle_device};
+ghost use Rattle.admission.specs.Takes.{LieElsewhere};
+ghost use Rattle.session_rollout.specs.Driven.{generation_left};
+ghost use Rattle.session.specs.Parts.{IsOver, IsUnbegun, OwnsRan, RanLeft, standing_of, status_of_ran};
+ghost use Rattle.histories.specs.Phases.{Generation};
 ghost use Rattle.histories.specs.TraceEvents.{TraceEvent};
 ghost use Rattle.histories.specs.States.{SessionState, state_after};
 ghost use Rattle.session_boots.specs.Traces.{Acts};
 ghost use Rattle.session_startup.specs.Ended.{HasClosed};
-ghost use Rattle.law_termination.specs.Drives.{Drives};
-ghost use Rattle.session_shutdown.specs.Stops.{MayStop};
 ghost use Rattle.refusal_lines.specs.Statuses.{status_of_outcome};
 ghost use Rattle.session.specs.Calls.{EndsClosed, SaysEnding, ChangesArtifactsAlone};
 ghost use Rattle.session.specs.Endings.{Fails};
-ghost use Rattle.session_boots.specs.Stages.{AsTold};
+ghost use Rattle.session_boots.specs.Stages.{AsTold, Holds};
 
+use crate::giving::back_or_over;
 use crate::lines::say_disk;
+use crate::ran::{Ran, Standing};
 use artifact_store::{SweepFault, sweep};
 use components::Supervise;
 use deploy_state::Idle;
@@ -31,42 +32,18 @@ use edges::Sink;
 use gate_log::Journal;
 use nuc_base::{Outcome, Status};
 use refusal_lines::outcome_status;
-use session_shutdown::stop_components;
-use session_transitions::kill_all;
+use session_rollout::Presence;
 use std::alloc::Global;
 use step_runner::Runner;
 
-/// Stops all components, and answers how the deployment closed.
-fn stop<R: Runner, S: Supervise>(outcome: Outcome, runner: &mut R, supervisor: &mut S) -> Status
-    requires drives { Drives (S.world supervisor.old) }
-    requires placed { (p : SessionState) × (d : Device) × AsTold R.Runner runner.old (MayStop p d (S.world supervisor.old)) }
-    ensures trace { (p : SessionState) → (d : Device) → AsTold R.Runner runner.old (MayStop p d (S.world supervisor.old)) →
-        (h : List TraceEvent) × Acts p h (R.list runner.old) (R.list runner.new) × IsEnd (state_after p h) result false }
-    ensures answers { result ≡ status_of_outcome outcome }
-    ensures none { R.living runner.new ≡ [] }
-{
-    stop_components(runner, supervisor);
-    outcome_status(outcome)
-}
-
-/// Sweeps stray files, stops all components, and answers how the deployment closed. Where the sweep fails all children are
-/// killed.
-pub(crate) fn end_closed<D: Disk, J: Journal + Drop, K: Sink, R: Runner, S: Supervise>(
+/// Sweeps stray files, and answers how the deployment closed, or that the sweep failed.
+fn sweep_behind<D: Disk, J: Journal + Drop, K: Sink>(
     alloc: Global,
     idle: &Idle<J>,
     outcome: Outcome,
     disk: &mut D,
     sink: &mut K,
-    runner: &mut R,
-    supervisor: &mut S,
 ) -> Status
-    requires drives { Drives (S.world supervisor.old) }
-    requires placed { (p : SessionState) × (records : List Record) ×
-        AsTold R.Runner runner.old (HasClosed outcome records p (idle_device idle.now) (S.world supervisor.old)) × (p.serves ≡ false) }
-    ensures trace { (p : SessionState) → (records : List Record) →
-        AsTold R.Runner runner.old (HasClosed outcome records p (idle_device idle.now) (S.world supervisor.old)) → (p.serves ≡ false) →
-        (h : List TraceEvent) × Acts p h (R.list runner.old) (R.list runner.new) × IsEnd (state_after p h) result false }
-    ensures none { R.living runner.new ≡ [] }
     ensures spared { ChangesArtifactsAlone D.may_leave D.moment D.left_since disk.old disk.new }
     // The device has its artifacts at each moment.
     ensures safe { AllHoldDevice (D.may_leave disk.old) (idle_device idle.now) → Leaves D.moment D.left_since disk.old disk.new
@@ -84,14 +61,60 @@ pub(crate) fn end_closed<D: Disk, J: Journal + Drop, K: Sink, R: Runner, S: Supe
     ensures swept { IsTrue D.is_modelled → result ≡ status_of_outcome outcome → IsSwept (items_of (idle_device idle.now)) (D.seen disk.new) }
 {
     match sweep(alloc, disk, idle.device()) {
-        Ok(()) => stop(outcome, runner, supervisor),
-        Err(SweepFault::Disk) => {
-            kill_all(runner, supervisor);
-            say_disk(sink)
-        }
-        Err(SweepFault::NoMemory) => {
-            kill_all(runner, supervisor);
-            Status::Memory
-        }
+        Ok(()) => outcome_status(outcome),
+        Err(SweepFault::Disk) => say_disk(sink),
+        Err(SweepFault::NoMemory) => Status::Memory,
     }
+}
+
+fn standing_of(presence: Presence) -> Standing
+    ensures { result ≡ standing_of presence }
+{
+    match presence {
+        Presence::Present => Standing::OfSet,
+        Presence::Absent => Standing::Nobody,
+    }
+}
+
+/// Sweeps stray files, and comes back with how the deployment closed, the components as they are. Where the sweep fails all
+/// children are killed, where they are, and the call ends.
+pub(crate) fn end_closed<D: Disk, J: Journal + Drop, K: Sink, R: Runner, S: Supervise>(
+    alloc: Global,
+    idle: Idle<J>,
+    outcome: Outcome,
+    presence: Presence,
+    disk: &mut D,
+    sink: &mut K,
+    runner: &mut R,
+    supervisor: &S,
+) -> Ran<J>
+    requires held { Holds D.Disk J.Journal OwnsIdle idle disk.old }
+    requires apart { LieElsewhere J.files }
+    requires placed { (p : SessionState) × (h : List TraceEvent) ×
+        AsTold R.Runner runner.old (HasClosed outcome (generation_left presence) h p (idle_device idle) (S.world supervisor.now)) }
+    ensures trace { (p : SessionState) → (h : List TraceEvent) → (before : Generation) →
+        AsTold R.Runner runner.old (HasClosed outcome (generation_left presence) h p (idle_device idle) (S.world supervisor.now)) →
+        (k : List TraceEvent) × Acts p k (R.list runner.old) (R.list runner.new) × IsUnbegun p k ×
+        ((rose : Bool) → AsTold R.Runner runner.new (RanLeft before result rose (state_after p k) (S.world supervisor.now))) }
+    ensures none { IsOver result → R.living runner.new ≡ [] }
+    ensures held { Holds D.Disk J.Journal OwnsRan result disk.new }
+    ensures spared { ChangesArtifactsAlone D.may_leave D.moment D.left_since disk.old disk.new }
+    // The device has its artifacts at each moment.
+    ensures safe { AllHoldDevice (D.may_leave disk.old) (idle_device idle) → Leaves D.moment D.left_since disk.old disk.new
+        (λ c. HoldsDevice c (idle_device idle)) }
+    ensures others { IsTrue D.is_modelled → Spares (IsBelow artifacts) (D.seen disk.old) (D.seen disk.new) }
+    ensures ends { SaysEnding (K.held sink.old) (K.held sink.new) (status_of_ran result)
+        (λ e. EndsClosed outcome e × (e ≡ Fails → Rose (D.faults disk.old) (D.faults disk.new))) }
+    ensures answers { (status_of_ran result ≡ status_of_outcome outcome) ⊎ (status_of_ran result ≡ statuses.Memory) ⊎ (status_of_ran result ≡ statuses.Disk) ⊎
+        (status_of_ran result ≡ statuses.Edge) }
+    ensures disk { status_of_ran result ≡ statuses.Disk → Rose (D.faults disk.old) (D.faults disk.new) }
+    ensures edge { status_of_ran result ≡ statuses.Edge → Rose (K.faults sink.old) (K.faults sink.new) }
+    ensures quiet_disk { status_of_ran result ≢ statuses.Disk → status_of_ran result ≢ statuses.Edge → D.faults disk.new ≡ D.faults disk.old }
+    ensures quiet_sink { status_of_ran result ≢ statuses.Edge → K.faults sink.new ≡ K.faults sink.old }
+    ensures later { (D.faults disk.old ≤ D.faults disk.new) × (K.faults sink.old ≤ K.faults sink.new) }
+    // No stray file is left behind the close.
+    ensures swept { IsTrue D.is_modelled → status_of_ran result ≡ status_of_outcome outcome → IsSwept (items_of (idle_device idle)) (D.seen disk.new) }
+{
+    let status = sweep_behind(alloc, &idle, outcome, disk, sink);
+    back_or_over(idle, status, standing_of(presence), runner, supervisor)
 }

@@ -1,18 +1,24 @@
-//! One deployment in one call: from its document, or from where a call before left it, to the end of the call.
+//! One deployment of a call: from its document, or from where a call before left it, to its close, or to the end of the call.
 //!
 //! It joins the checks and files of a document (`admission`), what is made ready for it and its acceptance
-//! (`session_admission`), its course (`session_rollout`), and what follows its close: the sweep of stray files and the stop of
-//! all components.
+//! (`session_admission`), its course (`session_rollout`), and the sweep of stray files behind its close. A deployment comes back
+//! with the device in hand and its components as they are, or it ends the call, and then no child lives. A call that does nothing
+//! more stops all components behind it.
 #![tactic(auto)]
 
 mod closes;
 mod declines;
 mod ends;
+mod giving;
 mod lines;
+mod ran;
 mod resumes;
 mod runs;
+mod whole;
 
+pub use ran::{Ran, Standing};
 pub use resumes::resume;
 pub use runs::{run_deployment, run_document};
 pub use session_boots::acknowledge;
 pub use session_shutdown::stop_components;
+pub use whole::{finish, resume_to_end, run_document_to_end};

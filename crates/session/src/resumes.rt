@@ -1,5 +1,5 @@
 //! A pending deployment is driven on.
-ghost use Rattle.std.specs.Prelude.{◌≡◌, ◌≢◌, ◌≤◌, [], false, IsSome, IsTrue, IfOk, is_some};
+ghost use Rattle.std.specs.Prelude.{◌≡◌, ◌≢◌, ◌≤◌, [], IsSome, IsTrue, IfOk};
 ghost use Rattle.artifact_store.specs.Holding.{AllHoldDevice};
 ghost use Rattle.artifact_store.specs.Swept.{IsSwept, items_of};
 ghost use Rattle.nuc_base.specs.Faults.{Rose};
@@ -12,14 +12,19 @@ ghost use Rattle.session_boots.specs.Stands.{IsAtBootStage};
 ghost use Rattle.histories.specs.States.{SessionState};
 ghost use Rattle.session_admission.specs.Readied.{AreReadiedFor};
 ghost use Rattle.admission.specs.Takes.{LieElsewhere};
-ghost use Rattle.session.specs.Calls.{Call, Elsewhere, IsOrEdge, SaysLine, Stays, resumed_line};
-ghost use Rattle.session.specs.Documents.{KeepsArtifacts};
+ghost use Rattle.session.specs.Calls.{Elsewhere, IsOrEdge, SaysLine, Stays, resumed_line};
+ghost use Rattle.session.specs.Parts.{HasArtifacts, IsBack, IsOver, OwnsRan, RunsPart, TakesNone, status_of_ran};
+ghost use Rattle.law_supervisor.specs.Sound.{IsOrderly};
+ghost use Rattle.law_termination.specs.Drives.{Drives};
+ghost use Rattle.step_runner.specs.Entries.{Listed};
 ghost use Rattle.session.specs.Endings.{Fails, Resumes};
 ghost use Rattle.session.specs.Sweeping.{LeavesNoStray};
 ghost use Rattle.session_boots.specs.Stages.{AsTold, Holds};
 
 use crate::ends::end_call;
+use crate::giving::back_or_over;
 use crate::lines::{pending_id, say};
+use crate::ran::{Ran, Standing};
 use components::Supervise;
 use deploy_state::Loaded;
 use device::Device;
@@ -62,7 +67,122 @@ fn say_resumed<J: Journal + Drop, K: Sink>(state: &Loaded<J>, sink: &mut K) -> S
     say(sink, &["resumed ", pending_id(state), "\n"], Status::Done)
 }
 
-/// Drives the pending deployment on, from its recorded stage to the end of the call. Where none is pending nothing is done.
+/// Says that the pending deployment is resumed, for which all was made ready, and drives it on.
+fn resume_ready<D: Disk, J: Journal + Drop, K: Sink, R: Runner, S: Supervise>(
+    alloc: Global,
+    state: Loaded<J>,
+    ready: Readied<S::Ready>,
+    disk: &mut D,
+    sink: &mut K,
+    runner: &mut R,
+    supervisor: &mut S,
+) -> Ran<J>
+where
+    S::Ready: Drop,
+    requires held { Holds D.Disk J.Journal OwnsLoaded state disk.old }
+    requires pending { IsSome (loaded_device state).pending }
+    requires ready { AreReadiedFor (loaded_device state) ready.boots ready.backs (S.coming ready.items) (S.coming ready.earlier) }
+    // The journal does not lie among the files of artifacts.
+    requires apart { LieElsewhere J.files }
+    requires drives { Drives (S.world supervisor.old) }
+    requires orderly { IsOrderly (S.world supervisor.old) }
+    requires placed { (p : SessionState) × AsTold R.Runner runner.old (IsAtBootStage p (loaded_device state) (S.world supervisor.old)) }
+    // Where the images at the start have the device's artifacts, each of each moment has those of the device for which it stands.
+    // The call ends as one whose disk failed only where the disk's count rose.
+    ensures call { (p : SessionState) → AsTold R.Runner runner.old (IsAtBootStage p (loaded_device state) (S.world supervisor.old)) → TakesNone p →
+        (c : RunsPart J.entries J.files D.may_leave D.moment D.left_since disk.old disk.new (R.list runner.old) (R.list runner.new) (K.held sink.old)
+        (K.held sink.new) p result (S.world supervisor.new) (Listed R.list R.told R.asked runner.new) (R.living runner.new)) ×
+        Resumes (loaded_device state) c.ending
+        × (AllHoldDevice (D.may_leave disk.old) p.device → HasArtifacts J.entries J.files D.may_leave D.moment D.left_since disk.old disk.new
+        (R.list runner.old) (R.list runner.new) (K.held sink.old) (K.held sink.new) p result (S.world supervisor.new)
+        (Listed R.list R.told R.asked runner.new) (R.living runner.new) c)
+        × (c.ending ≡ Fails → Rose (D.faults disk.old) (D.faults disk.new)) }
+    ensures own { status_of_ran result ≢ statuses.Library }
+    // Where it comes back the components are as the deployment left them, and else no child lives.
+    ensures none { IsOver result → R.living runner.new ≡ [] }
+    ensures drives { IsBack result → Drives (S.world supervisor.new) }
+    ensures held { Holds D.Disk J.Journal OwnsRan result disk.new }
+    ensures others { IsTrue D.is_modelled → Elsewhere J.files (D.seen disk.old) (D.seen disk.new) }
+    ensures disk { status_of_ran result ≡ statuses.Disk → Rose (D.faults disk.old) (D.faults disk.new) }
+    ensures edge { status_of_ran result ≡ statuses.Edge → Rose (K.faults sink.old) (K.faults sink.new) }
+    ensures quiet_disk { status_of_ran result ≢ statuses.Disk → status_of_ran result ≢ statuses.Edge → D.faults disk.new ≡ D.faults disk.old }
+    ensures quiet_sink { status_of_ran result ≢ statuses.Edge → K.faults sink.new ≡ K.faults sink.old }
+    ensures later { Stays (D.faults disk.old) (D.faults disk.new) × Stays (K.faults sink.old) (K.faults sink.new) }
+    // No stray file is left where none was there at the start.
+    ensures swept { (IsTrue D.is_modelled → IsSwept (items_of (loaded_device state)) (D.seen disk.old)) →
+        LeavesNoStray D.is_modelled J.entries (status_of_ran result)
+        (D.seen disk.new) }
+{
+    match say_resumed(&state, sink) {
+        Status::Done => {
+            let driven = drive(state, ready, disk, sink, runner, supervisor);
+            end_call(alloc, driven, disk, sink, runner, supervisor)
+        }
+        status => {
+            drop(ready);
+            drop(state);
+            Ran::Over(status)
+        }
+    }
+}
+
+/// Makes all ready for the pending deployment, and drives it on.
+fn resume_pending<D: Disk, J: Journal + Drop, K: Sink, R: Runner, S: Supervise>(
+    alloc: Global,
+    state: Loaded<J>,
+    disk: &mut D,
+    sink: &mut K,
+    runner: &mut R,
+    supervisor: &mut S,
+) -> Ran<J>
+where
+    S::Ready: Drop,
+    requires held { Holds D.Disk J.Journal OwnsLoaded state disk.old }
+    requires pending { IsSome (loaded_device state).pending }
+    // The journal does not lie among the files of artifacts.
+    requires apart { LieElsewhere J.files }
+    requires drives { Drives (S.world supervisor.old) }
+    requires orderly { IsOrderly (S.world supervisor.old) }
+    requires placed { (p : SessionState) × AsTold R.Runner runner.old (IsAtBootStage p (loaded_device state) (S.world supervisor.old)) }
+    // Where the images at the start have the device's artifacts, each of each moment has those of the device for which it stands.
+    // The call ends as one whose disk failed only where the disk's count rose.
+    ensures call { (p : SessionState) → AsTold R.Runner runner.old (IsAtBootStage p (loaded_device state) (S.world supervisor.old)) → TakesNone p →
+        (c : RunsPart J.entries J.files D.may_leave D.moment D.left_since disk.old disk.new (R.list runner.old) (R.list runner.new) (K.held sink.old)
+        (K.held sink.new) p result (S.world supervisor.new) (Listed R.list R.told R.asked runner.new) (R.living runner.new)) ×
+        Resumes (loaded_device state) c.ending
+        × (AllHoldDevice (D.may_leave disk.old) p.device → HasArtifacts J.entries J.files D.may_leave D.moment D.left_since disk.old disk.new
+        (R.list runner.old) (R.list runner.new) (K.held sink.old) (K.held sink.new) p result (S.world supervisor.new)
+        (Listed R.list R.told R.asked runner.new) (R.living runner.new) c)
+        × (c.ending ≡ Fails → Rose (D.faults disk.old) (D.faults disk.new)) }
+    ensures own { status_of_ran result ≢ statuses.Library }
+    // Where it comes back the components are as the deployment left them, and else no child lives.
+    ensures none { IsOver result → R.living runner.new ≡ [] }
+    ensures drives { IsBack result → Drives (S.world supervisor.new) }
+    ensures held { Holds D.Disk J.Journal OwnsRan result disk.new }
+    ensures others { IsTrue D.is_modelled → Elsewhere J.files (D.seen disk.old) (D.seen disk.new) }
+    ensures disk { status_of_ran result ≡ statuses.Disk → Rose (D.faults disk.old) (D.faults disk.new) }
+    ensures edge { status_of_ran result ≡ statuses.Edge → Rose (K.faults sink.old) (K.faults sink.new) }
+    ensures quiet_disk { status_of_ran result ≢ statuses.Disk → status_of_ran result ≢ statuses.Edge → D.faults disk.new ≡ D.faults disk.old }
+    ensures quiet_sink { status_of_ran result ≢ statuses.Edge → K.faults sink.new ≡ K.faults sink.old }
+    ensures later { Stays (D.faults disk.old) (D.faults disk.new) × Stays (K.faults sink.old) (K.faults sink.new) }
+    // No stray file is left where none was there at the start.
+    ensures swept { (IsTrue D.is_modelled → IsSwept (items_of (loaded_device state)) (D.seen disk.old)) →
+        LeavesNoStray D.is_modelled J.entries (status_of_ran result)
+        (D.seen disk.new) }
+{
+    match ready_again(alloc, state.device(), supervisor) {
+        Ok(ready) => resume_ready(alloc, state, ready, disk, sink, runner, supervisor),
+        Err(_) => {
+            drop(state);
+            Ran::Over(Status::Memory)
+        }
+    }
+}
+
+/// Drives the pending deployment on, from its recorded stage to its close. Where none is pending that is said, and nothing is
+/// done. No component stands before.
+///
+/// Comes back with 0, 10, 11 and 12, and else ends the call.
 pub fn resume<D: Disk, J: Journal + Drop, K: Sink, R: Runner, S: Supervise>(
     alloc: Global,
     state: Loaded<J>,
@@ -70,47 +190,46 @@ pub fn resume<D: Disk, J: Journal + Drop, K: Sink, R: Runner, S: Supervise>(
     sink: &mut K,
     runner: &mut R,
     supervisor: &mut S,
-) -> Status
+) -> Ran<J>
 where
     S::Ready: Drop,
     requires held { Holds D.Disk J.Journal OwnsLoaded state disk.old }
     // The journal does not lie among the files of artifacts.
     requires apart { LieElsewhere J.files }
-    // No component stands.
-    requires empty { (S.world supervisor.old).parts ≡ [] }
-    requires placed { (p : SessionState) × AsTold R.Runner runner.old (IsAtBootStage p (loaded_device state) (S.world supervisor.old)) × (p.serves ≡ false) }
+    requires drives { Drives (S.world supervisor.old) }
+    requires orderly { IsOrderly (S.world supervisor.old) }
+    requires placed { (p : SessionState) × AsTold R.Runner runner.old (IsAtBootStage p (loaded_device state) (S.world supervisor.old)) }
     // Where the images at the start have the device's artifacts, each of each moment has those of the device for which it stands.
     // The call ends as one whose disk failed only where the disk's count rose.
-    ensures call { (p : SessionState) → AsTold R.Runner runner.old (IsAtBootStage p (loaded_device state) (S.world supervisor.old)) → (p.serves ≡ false) →
-        (p.taken ≡ is_some p.device.pending) →
-        (c : Call J.entries J.files D.may_leave D.moment D.left_since disk.old disk.new (R.list runner.old) (R.list runner.new) (K.held sink.old)
-        (K.held sink.new) p result) × Resumes (loaded_device state) c.ending
-        × (AllHoldDevice (D.may_leave disk.old) p.device → KeepsArtifacts J.entries J.files D.may_leave D.moment D.left_since disk.old disk.new
-        (R.list runner.old) (R.list runner.new) (K.held sink.old) (K.held sink.new) p result c)
+    ensures call { (p : SessionState) → AsTold R.Runner runner.old (IsAtBootStage p (loaded_device state) (S.world supervisor.old)) → TakesNone p →
+        (c : RunsPart J.entries J.files D.may_leave D.moment D.left_since disk.old disk.new (R.list runner.old) (R.list runner.new) (K.held sink.old)
+        (K.held sink.new) p result (S.world supervisor.new) (Listed R.list R.told R.asked runner.new) (R.living runner.new)) ×
+        Resumes (loaded_device state) c.ending
+        × (AllHoldDevice (D.may_leave disk.old) p.device → HasArtifacts J.entries J.files D.may_leave D.moment D.left_since disk.old disk.new
+        (R.list runner.old) (R.list runner.new) (K.held sink.old) (K.held sink.new) p result (S.world supervisor.new)
+        (Listed R.list R.told R.asked runner.new) (R.living runner.new) c)
         × (c.ending ≡ Fails → Rose (D.faults disk.old) (D.faults disk.new)) }
-    ensures own { result ≢ statuses.Library }
-    ensures none { R.living runner.new ≡ [] }
+    ensures own { status_of_ran result ≢ statuses.Library }
+    // Where it comes back the components are as the deployment left them, and else no child lives.
+    ensures none { IsOver result → R.living runner.new ≡ [] }
+    ensures drives { IsBack result → Drives (S.world supervisor.new) }
+    ensures held { Holds D.Disk J.Journal OwnsRan result disk.new }
     ensures others { IsTrue D.is_modelled → Elsewhere J.files (D.seen disk.old) (D.seen disk.new) }
-    ensures disk { result ≡ statuses.Disk → Rose (D.faults disk.old) (D.faults disk.new) }
-    ensures edge { result ≡ statuses.Edge → Rose (K.faults sink.old) (K.faults sink.new) }
-    ensures quiet_disk { result ≢ statuses.Disk → result ≢ statuses.Edge → D.faults disk.new ≡ D.faults disk.old }
-    ensures quiet_sink { result ≢ statuses.Edge → K.faults sink.new ≡ K.faults sink.old }
+    ensures disk { status_of_ran result ≡ statuses.Disk → Rose (D.faults disk.old) (D.faults disk.new) }
+    ensures edge { status_of_ran result ≡ statuses.Edge → Rose (K.faults sink.old) (K.faults sink.new) }
+    ensures quiet_disk { status_of_ran result ≢ statuses.Disk → status_of_ran result ≢ statuses.Edge → D.faults disk.new ≡ D.faults disk.old }
+    ensures quiet_sink { status_of_ran result ≢ statuses.Edge → K.faults sink.new ≡ K.faults sink.old }
     ensures later { Stays (D.faults disk.old) (D.faults disk.new) × Stays (K.faults sink.old) (K.faults sink.new) }
     // No stray file is left where none was there at the start.
-    ensures swept { (IsTrue D.is_modelled → IsSwept (items_of (loaded_device state)) (D.seen disk.old)) → LeavesNoStray D.is_modelled J.entries result
+    ensures swept { (IsTrue D.is_modelled → IsSwept (items_of (loaded_device state)) (D.seen disk.old)) →
+        LeavesNoStray D.is_modelled J.entries (status_of_ran result)
         (D.seen disk.new) }
 {
-    if let Loaded::Idle(_) = &state {
-        return say(sink, &["idle\n"], Status::Done);
-    }
-    let Ok(ready) = ready_again(alloc, state.device(), supervisor) else {
-        return Status::Memory;
-    };
-    match say_resumed(&state, sink) {
-        Status::Done => {
-            let driven = drive(state, ready, disk, sink, runner, supervisor);
-            end_call(alloc, driven, disk, sink, runner, supervisor)
+    match state {
+        Loaded::Idle(idle) => {
+            let status = say(sink, &["idle\n"], Status::Done);
+            back_or_over(idle, status, Standing::AsBefore, runner, supervisor)
         }
-        status => status,
+        state => resume_pending(alloc, state, disk, sink, runner, supervisor),
     }
 }

@@ -1,5 +1,5 @@
 //! A document is deployed.
-ghost use Rattle.std.specs.Prelude.{◌≡◌, ◌≢◌, ◌≤◌, [], false, Some, IsTrue, IfOk, Result};
+ghost use Rattle.std.specs.Prelude.{◌≡◌, ◌≢◌, ◌≤◌, [], Some, IsTrue, IfOk, Result};
 ghost use Rattle.artifact_store.specs.Holding.{AllHoldDevice};
 ghost use Rattle.artifact_store.specs.Swept.{IsSwept, items_of};
 ghost use Rattle.nuc_base.specs.Faults.{Rose};
@@ -21,14 +21,23 @@ ghost use Rattle.session_admission.specs.Accepts.{IsOpen};
 ghost use Rattle.admission.specs.Takes.{HasDiskFailed, HasLibraryFailed, LieElsewhere, TakesIn};
 ghost use Rattle.admission.specs.declared.fault.Declined.{Declined};
 ghost use Rattle.session.specs.Calls.{AllHoldBoth, Elsewhere, IsReadiedOn, Stays};
-ghost use Rattle.session.specs.Documents.{DrivesPlan, DrivesTaken, KeepsArtifacts, TakesRead};
+ghost use Rattle.session.specs.Documents.{TakesRead};
+ghost use Rattle.session.specs.Parts.{HasArtifacts, IsBack, IsOver, OwnsRan, RunsPlan, RunsTaken, TakesLast, status_of_ran};
+ghost use Rattle.session_transitions.specs.Enters.{RunOn};
+ghost use Rattle.law_supervisor.specs.Sound.{IsOrderly};
+ghost use Rattle.law_termination.specs.Drives.{Drives};
+ghost use Rattle.components.specs.Answers.{standing_count};
+ghost use Rattle.components.specs.Changes.{standing};
+ghost use Rattle.step_runner.specs.Entries.{Listed};
 ghost use Rattle.session.specs.Endings.{Fails};
 ghost use Rattle.session.specs.Sweeping.{LeavesNoStray};
 ghost use Rattle.session_boots.specs.Stages.{AsTold, Holds};
 
 use crate::declines::{say_declined, say_full, say_refusal};
 use crate::ends::end_call;
+use crate::giving::{back_or_over, give_up};
 use crate::lines::say_disk;
+use crate::ran::{Ran, Standing};
 use admission::take_in;
 use components::Supervise;
 use deploy_state::Idle;
@@ -42,7 +51,7 @@ use plan_core::Refusal;
 use records::Plan;
 use session_admission::{Readied, Taken, accept_plan, prepare};
 use session_boots::SessionFault;
-use session_rollout::boot;
+use session_rollout::begin;
 use std::alloc::Global;
 use step_runner::Runner;
 
@@ -59,7 +68,8 @@ where
     requires regular_device { IsRegularDevice (idle_device idle.now) }
     requires lawful { Allowed (idle_device idle.now) (stored.Accepted (plan_view plan.now)) }
     requires regular { IsRegularRecord (stored.Accepted (plan_view plan.now)) }
-    ensures { IfOk result (λ r. IsReadiedOn (idle_device idle.now) (plan_view plan.now) r.boots r.backs (S.coming r.items) (S.coming r.earlier)) }
+    ensures ready { IfOk result (λ r. IsReadiedOn (idle_device idle.now) (plan_view plan.now) r.boots r.backs (S.coming r.items) (S.coming r.earlier)) }
+    ensures room { IfOk result (λ r. standing_count (S.world supervisor.now) ≤ S.room r.items) }
 {
     let device = idle.device();
     let Some(origin) = &device.origin else {
@@ -68,7 +78,8 @@ where
     prepare(alloc, supervisor, origin, &device.set, plan)
 }
 
-/// Accepts the plan, and drives its deployment to the end of the call. For want of memory the plan may be given back.
+/// Accepts the plan, and drives its deployment to its close, whether or not components stand. For want of memory the plan may be
+/// given back.
 fn run_plan<D: Disk, J: Journal + Drop, K: Sink, R: Runner, S: Supervise>(
     alloc: Global,
     idle: Idle<J>,
@@ -78,7 +89,7 @@ fn run_plan<D: Disk, J: Journal + Drop, K: Sink, R: Runner, S: Supervise>(
     sink: &mut K,
     runner: &mut R,
     supervisor: &mut S,
-) -> Status
+) -> Ran<J>
 where
     S::Ready: Drop,
     requires held { Holds D.Disk J.Journal OwnsIdle idle disk.old }
@@ -86,53 +97,65 @@ where
     requires lawful { Allowed (idle_device idle) (stored.Accepted (plan_view plan)) }
     requires regular { IsRegularRecord (stored.Accepted (plan_view plan)) }
     requires ready { IsReadiedOn (idle_device idle) (plan_view plan) ready.boots ready.backs (S.coming ready.items) (S.coming ready.earlier) }
-    requires empty { (S.world supervisor.old).parts ≡ [] }
-    requires placed { (p : SessionState) × AsTold R.Runner runner.old (IsOpen p (idle_device idle) (S.world supervisor.old)) × (p.serves ≡ false) }
+    requires room { standing_count (S.world supervisor.old) ≤ S.room ready.items }
+    requires drives { Drives (S.world supervisor.old) }
+    requires orderly { IsOrderly (S.world supervisor.old) }
+    requires made { RunOn (idle_device idle) (standing (S.world supervisor.old).parts) }
+    requires placed { (p : SessionState) × AsTold R.Runner runner.old (IsOpen p (idle_device idle) (S.world supervisor.old)) }
     // Where the images at the start have the artifacts that are needed, so has each of each moment. The call ends as one whose
     // disk failed only where the disk's count rose.
-    ensures call { (p : SessionState) → AsTold R.Runner runner.old (IsOpen p (idle_device idle) (S.world supervisor.old)) → (p.serves ≡ false) →
-        (t : DrivesPlan J.entries J.files D.may_leave D.moment D.left_since disk.old disk.new (R.list runner.old) (R.list runner.new) (K.held sink.old)
-        (K.held sink.new) p result (start_of J.end J.number J.turns (idle_log idle) (idle_device idle)) (plan_view plan))
-        × (AllHoldBoth (D.may_leave disk.old) p.device (plan_view plan).items → KeepsArtifacts J.entries J.files D.may_leave D.moment D.left_since disk.old
-        disk.new (R.list runner.old) (R.list runner.new) (K.held sink.old) (K.held sink.new) p result t.0)
+    ensures call { (p : SessionState) → AsTold R.Runner runner.old (IsOpen p (idle_device idle) (S.world supervisor.old)) → TakesLast p →
+        (t : RunsPlan J.entries J.files D.may_leave D.moment D.left_since disk.old disk.new (R.list runner.old) (R.list runner.new) (K.held sink.old)
+        (K.held sink.new) p result (S.world supervisor.new) (Listed R.list R.told R.asked runner.new) (R.living runner.new)
+        (start_of J.end J.number J.turns (idle_log idle) (idle_device idle)) (plan_view plan))
+        × (AllHoldBoth (D.may_leave disk.old) p.device (plan_view plan).items → HasArtifacts J.entries J.files D.may_leave D.moment D.left_since disk.old
+        disk.new (R.list runner.old) (R.list runner.new) (K.held sink.old) (K.held sink.new) p result (S.world supervisor.new)
+        (Listed R.list R.told R.asked runner.new) (R.living runner.new) t.0)
         × (t.0.ending ≡ Fails → Rose (D.faults disk.old) (D.faults disk.new)) }
-    ensures own { result ≢ statuses.Library }
-    ensures none { R.living runner.new ≡ [] }
+    ensures own { status_of_ran result ≢ statuses.Library }
+    // Where it comes back the components are as the deployment left them, and else no child lives.
+    ensures none { IsOver result → R.living runner.new ≡ [] }
+    ensures drives { IsBack result → Drives (S.world supervisor.new) }
+    ensures held { Holds D.Disk J.Journal OwnsRan result disk.new }
     ensures others { IsTrue D.is_modelled → Elsewhere J.files (D.seen disk.old) (D.seen disk.new) }
-    ensures disk { result ≡ statuses.Disk → Rose (D.faults disk.old) (D.faults disk.new) }
-    ensures edge { result ≡ statuses.Edge → Rose (K.faults sink.old) (K.faults sink.new) }
-    ensures quiet_disk { result ≢ statuses.Disk → result ≢ statuses.Edge → D.faults disk.new ≡ D.faults disk.old }
-    ensures quiet_sink { result ≢ statuses.Edge → K.faults sink.new ≡ K.faults sink.old }
+    ensures disk { status_of_ran result ≡ statuses.Disk → Rose (D.faults disk.old) (D.faults disk.new) }
+    ensures edge { status_of_ran result ≡ statuses.Edge → Rose (K.faults sink.old) (K.faults sink.new) }
+    ensures quiet_disk { status_of_ran result ≢ statuses.Disk → status_of_ran result ≢ statuses.Edge → D.faults disk.new ≡ D.faults disk.old }
+    ensures quiet_sink { status_of_ran result ≢ statuses.Edge → K.faults sink.new ≡ K.faults sink.old }
     ensures later { Stays (D.faults disk.old) (D.faults disk.new) × Stays (K.faults sink.old) (K.faults sink.new) }
-    ensures swept { LeavesNoStray D.is_modelled J.entries result (D.seen disk.new) }
+    ensures swept { LeavesNoStray D.is_modelled J.entries (status_of_ran result) (D.seen disk.new) }
 {
     match accept_plan(alloc, idle, plan, disk, sink) {
         Ok(Taken::Accepted(state)) => {
-            let driven = boot(state, ready, disk, sink, runner, supervisor);
+            let driven = begin(state, ready, disk, sink, runner, supervisor);
             end_call(alloc, driven, disk, sink, runner, supervisor)
         }
         Ok(Taken::Full(idle, at)) => {
-            drop(idle);
             drop(ready);
-            say_full(at, sink)
+            let status = say_full(at, sink);
+            back_or_over(idle, status, Standing::AsBefore, runner, supervisor)
         }
         Ok(Taken::NoMemory(idle)) => {
             drop(idle);
             drop(ready);
-            Status::Memory
+            give_up(Status::Memory, runner, supervisor)
         }
         Err(SessionFault::Disk) => {
             drop(ready);
-            say_disk(sink)
+            let status = say_disk(sink);
+            give_up(status, runner, supervisor)
         }
         Err(SessionFault::Edge) => {
             drop(ready);
-            Status::Edge
+            give_up(Status::Edge, runner, supervisor)
         }
     }
 }
 
-/// Takes a document in, and deploys it. It is refused by name where a check fails, and then the device is as before.
+/// Takes a document in, and deploys it, whether or not components stand. It is refused by name where a check fails, and then the
+/// device is as before, and so are the components, unless the status is one by which the call gives up: 5, 6 or 15.
+///
+/// Comes back with 0, 2, 3, 7, 10, 11, 12, 13, 14 and 18, and else ends the call.
 pub fn run_deployment<D: Disk, J: Journal + Drop, L: Library, K: Sink, R: Runner, S: Supervise>(
     alloc: Global,
     idle: Idle<J>,
@@ -142,51 +165,57 @@ pub fn run_deployment<D: Disk, J: Journal + Drop, L: Library, K: Sink, R: Runner
     sink: &mut K,
     runner: &mut R,
     supervisor: &mut S,
-) -> Status
+) -> Ran<J>
 where
     S::Ready: Drop,
     requires held { Holds D.Disk J.Journal OwnsIdle idle disk.old }
     // The journal does not lie among the files of artifacts.
     requires apart { LieElsewhere J.files }
     requires roots { AreSound document.now.roots }
-    // No component stands.
-    requires empty { (S.world supervisor.old).parts ≡ [] }
-    requires placed { (p : SessionState) × AsTold R.Runner runner.old (IsOpen p (idle_device idle) (S.world supervisor.old)) × (p.serves ≡ false) }
+    requires drives { Drives (S.world supervisor.old) }
+    requires orderly { IsOrderly (S.world supervisor.old) }
+    requires made { RunOn (idle_device idle) (standing (S.world supervisor.old).parts) }
+    requires placed { (p : SessionState) × AsTold R.Runner runner.old (IsOpen p (idle_device idle) (S.world supervisor.old)) }
     // Where the images at the start have the artifacts that are needed, so has each of each moment. The call ends as one whose
     // disk failed only where the disk's count rose, and its document is declined for the disk or for the library only where the
     // count of that rose.
-    ensures call { (p : SessionState) → AsTold R.Runner runner.old (IsOpen p (idle_device idle) (S.world supervisor.old)) → (p.serves ≡ false) →
+    ensures call { (p : SessionState) → AsTold R.Runner runner.old (IsOpen p (idle_device idle) (S.world supervisor.old)) → TakesLast p →
         (taken : Result code.Plan Declined) × ((o : Origin) → (idle_device idle).origin ≡ Some o → TakesIn (idle_device idle) o (L.content library.old)
         (L.faults library.old) (L.faults library.new) document.now taken)
-        × (t : DrivesTaken J.entries J.files D.may_leave D.moment D.left_since disk.old disk.new (R.list runner.old) (R.list runner.new) (K.held sink.old)
-        (K.held sink.new) p result (start_of J.end J.number J.turns (idle_log idle) (idle_device idle)) taken)
-        × (AllHoldDevice (D.may_leave disk.old) p.device → KeepsArtifacts J.entries J.files D.may_leave D.moment D.left_since disk.old disk.new
-        (R.list runner.old) (R.list runner.new) (K.held sink.old) (K.held sink.new) p result t.0)
+        × (t : RunsTaken J.entries J.files D.may_leave D.moment D.left_since disk.old disk.new (R.list runner.old) (R.list runner.new) (K.held sink.old)
+        (K.held sink.new) p result (S.world supervisor.new) (Listed R.list R.told R.asked runner.new) (R.living runner.new)
+        (start_of J.end J.number J.turns (idle_log idle) (idle_device idle)) taken)
+        × (AllHoldDevice (D.may_leave disk.old) p.device → HasArtifacts J.entries J.files D.may_leave D.moment D.left_since disk.old disk.new
+        (R.list runner.old) (R.list runner.new) (K.held sink.old) (K.held sink.new) p result (S.world supervisor.new)
+        (Listed R.list R.told R.asked runner.new) (R.living runner.new) t.0)
         × (t.0.ending ≡ Fails → Rose (D.faults disk.old) (D.faults disk.new))
         × (HasDiskFailed taken → Rose (D.faults disk.old) (D.faults disk.new))
         × (HasLibraryFailed taken → Rose (L.faults library.old) (L.faults library.new)) }
-    ensures none { R.living runner.new ≡ [] }
+    // Where it comes back the components are as the deployment left them, and else no child lives.
+    ensures none { IsOver result → R.living runner.new ≡ [] }
+    ensures drives { IsBack result → Drives (S.world supervisor.new) }
+    ensures held { Holds D.Disk J.Journal OwnsRan result disk.new }
     ensures others { IsTrue D.is_modelled → Elsewhere J.files (D.seen disk.old) (D.seen disk.new) }
-    ensures disk { result ≡ statuses.Disk → Rose (D.faults disk.old) (D.faults disk.new) }
-    ensures edge { result ≡ statuses.Edge → Rose (K.faults sink.old) (K.faults sink.new) }
-    ensures quiet_disk { result ≢ statuses.Disk → result ≢ statuses.Edge → D.faults disk.new ≡ D.faults disk.old }
-    ensures quiet_sink { result ≢ statuses.Edge → K.faults sink.new ≡ K.faults sink.old }
+    ensures disk { status_of_ran result ≡ statuses.Disk → Rose (D.faults disk.old) (D.faults disk.new) }
+    ensures edge { status_of_ran result ≡ statuses.Edge → Rose (K.faults sink.old) (K.faults sink.new) }
+    ensures quiet_disk { status_of_ran result ≢ statuses.Disk → status_of_ran result ≢ statuses.Edge → D.faults disk.new ≡ D.faults disk.old }
+    ensures quiet_sink { status_of_ran result ≢ statuses.Edge → K.faults sink.new ≡ K.faults sink.old }
     ensures later { Stays (D.faults disk.old) (D.faults disk.new) × Stays (K.faults sink.old) (K.faults sink.new) }
     // No stray file is left where none was there at the start.
-    ensures swept { (IsTrue D.is_modelled → IsSwept (items_of (idle_device idle)) (D.seen disk.old)) → LeavesNoStray D.is_modelled J.entries result
+    ensures swept { (IsTrue D.is_modelled → IsSwept (items_of (idle_device idle)) (D.seen disk.old)) →
+        LeavesNoStray D.is_modelled J.entries (status_of_ran result)
         (D.seen disk.new) }
-    ensures library { result ≡ statuses.Library → Rose (L.faults library.old) (L.faults library.new) }
+    ensures library { status_of_ran result ≡ statuses.Library → Rose (L.faults library.old) (L.faults library.new) }
     ensures kept { L.content library.new ≡ L.content library.old }
-    ensures library_quiet { result ≢ statuses.Library → result ≢ statuses.Edge → L.faults library.new ≡ L.faults library.old }
+    ensures library_quiet { status_of_ran result ≢ statuses.Library → status_of_ran result ≢ statuses.Edge → L.faults library.new ≡ L.faults library.old }
     ensures library_later { L.faults library.old ≤ L.faults library.new }
 {
     let plan = match take_in(alloc, &idle, document, disk, library) {
         Ok(plan) => plan,
         Err(declined) => {
-            drop(idle);
             let status = say_declined(alloc, &declined, sink);
             drop(declined);
-            return status;
+            return back_or_over(idle, status, Standing::AsBefore, runner, supervisor);
         }
     };
     match ready_for(alloc, &idle, &plan, supervisor) {
@@ -194,7 +223,7 @@ where
         Err(_) => {
             drop(plan);
             drop(idle);
-            Status::Memory
+            give_up(Status::Memory, runner, supervisor)
         }
     }
 }
@@ -209,57 +238,63 @@ pub fn run_document<D: Disk, J: Journal + Drop, L: Library, K: Sink, R: Runner, 
     sink: &mut K,
     runner: &mut R,
     supervisor: &mut S,
-) -> Status
+) -> Ran<J>
 where
     S::Ready: Drop,
     requires held { Holds D.Disk J.Journal OwnsIdle idle disk.old }
     // The journal does not lie among the files of artifacts.
     requires apart { LieElsewhere J.files }
-    // No component stands.
-    requires empty { (S.world supervisor.old).parts ≡ [] }
-    requires placed { (p : SessionState) × AsTold R.Runner runner.old (IsOpen p (idle_device idle) (S.world supervisor.old)) × (p.serves ≡ false) }
+    requires drives { Drives (S.world supervisor.old) }
+    requires orderly { IsOrderly (S.world supervisor.old) }
+    requires made { RunOn (idle_device idle) (standing (S.world supervisor.old).parts) }
+    requires placed { (p : SessionState) × AsTold R.Runner runner.old (IsOpen p (idle_device idle) (S.world supervisor.old)) }
     // Where the images at the start have the artifacts that are needed, so has each of each moment. The call ends as one whose
     // disk failed only where the disk's count rose, and its document is declined for the disk or for the library only where the
     // count of that rose.
-    ensures call { (p : SessionState) → AsTold R.Runner runner.old (IsOpen p (idle_device idle) (S.world supervisor.old)) → (p.serves ≡ false) →
+    ensures call { (p : SessionState) → AsTold R.Runner runner.old (IsOpen p (idle_device idle) (S.world supervisor.old)) → TakesLast p →
         (taken : Result code.Plan Declined) × ((o : Origin) → (idle_device idle).origin ≡ Some o → TakesRead (idle_device idle) o (L.content library.old)
         (L.faults library.old) (L.faults library.new) document.now taken)
-        × (t : DrivesTaken J.entries J.files D.may_leave D.moment D.left_since disk.old disk.new (R.list runner.old) (R.list runner.new) (K.held sink.old)
-        (K.held sink.new) p result (start_of J.end J.number J.turns (idle_log idle) (idle_device idle)) taken)
-        × (AllHoldDevice (D.may_leave disk.old) p.device → KeepsArtifacts J.entries J.files D.may_leave D.moment D.left_since disk.old disk.new
-        (R.list runner.old) (R.list runner.new) (K.held sink.old) (K.held sink.new) p result t.0)
+        × (t : RunsTaken J.entries J.files D.may_leave D.moment D.left_since disk.old disk.new (R.list runner.old) (R.list runner.new) (K.held sink.old)
+        (K.held sink.new) p result (S.world supervisor.new) (Listed R.list R.told R.asked runner.new) (R.living runner.new)
+        (start_of J.end J.number J.turns (idle_log idle) (idle_device idle)) taken)
+        × (AllHoldDevice (D.may_leave disk.old) p.device → HasArtifacts J.entries J.files D.may_leave D.moment D.left_since disk.old disk.new
+        (R.list runner.old) (R.list runner.new) (K.held sink.old) (K.held sink.new) p result (S.world supervisor.new)
+        (Listed R.list R.told R.asked runner.new) (R.living runner.new) t.0)
         × (t.0.ending ≡ Fails → Rose (D.faults disk.old) (D.faults disk.new))
         × (HasDiskFailed taken → Rose (D.faults disk.old) (D.faults disk.new))
         × (HasLibraryFailed taken → Rose (L.faults library.old) (L.faults library.new)) }
-    ensures none { R.living runner.new ≡ [] }
+    // Where it comes back the components are as the deployment left them, and else no child lives.
+    ensures none { IsOver result → R.living runner.new ≡ [] }
+    ensures drives { IsBack result → Drives (S.world supervisor.new) }
+    ensures held { Holds D.Disk J.Journal OwnsRan result disk.new }
     ensures others { IsTrue D.is_modelled → Elsewhere J.files (D.seen disk.old) (D.seen disk.new) }
-    ensures disk { result ≡ statuses.Disk → Rose (D.faults disk.old) (D.faults disk.new) }
-    ensures edge { result ≡ statuses.Edge → Rose (K.faults sink.old) (K.faults sink.new) }
-    ensures quiet_disk { result ≢ statuses.Disk → result ≢ statuses.Edge → D.faults disk.new ≡ D.faults disk.old }
-    ensures quiet_sink { result ≢ statuses.Edge → K.faults sink.new ≡ K.faults sink.old }
+    ensures disk { status_of_ran result ≡ statuses.Disk → Rose (D.faults disk.old) (D.faults disk.new) }
+    ensures edge { status_of_ran result ≡ statuses.Edge → Rose (K.faults sink.old) (K.faults sink.new) }
+    ensures quiet_disk { status_of_ran result ≢ statuses.Disk → status_of_ran result ≢ statuses.Edge → D.faults disk.new ≡ D.faults disk.old }
+    ensures quiet_sink { status_of_ran result ≢ statuses.Edge → K.faults sink.new ≡ K.faults sink.old }
     ensures later { Stays (D.faults disk.old) (D.faults disk.new) × Stays (K.faults sink.old) (K.faults sink.new) }
     // No stray file is left where none was there at the start.
-    ensures swept { (IsTrue D.is_modelled → IsSwept (items_of (idle_device idle)) (D.seen disk.old)) → LeavesNoStray D.is_modelled J.entries result
+    ensures swept { (IsTrue D.is_modelled → IsSwept (items_of (idle_device idle)) (D.seen disk.old)) →
+        LeavesNoStray D.is_modelled J.entries (status_of_ran result)
         (D.seen disk.new) }
-    ensures library { result ≡ statuses.Library → Rose (L.faults library.old) (L.faults library.new) }
+    ensures library { status_of_ran result ≡ statuses.Library → Rose (L.faults library.old) (L.faults library.new) }
     ensures kept { L.content library.new ≡ L.content library.old }
-    ensures library_quiet { result ≢ statuses.Library → result ≢ statuses.Edge → L.faults library.new ≡ L.faults library.old }
+    ensures library_quiet { status_of_ran result ≢ statuses.Library → status_of_ran result ≢ statuses.Edge → L.faults library.new ≡ L.faults library.old }
     ensures library_later { L.faults library.old ≤ L.faults library.new }
 {
     match Document::read(alloc, document) {
         Ok(document) => {
-            let status = run_deployment(
+            let ran = run_deployment(
                 alloc, idle, &document, disk, library, sink, runner, supervisor,
             );
             drop(document);
-            status
+            ran
         }
         Err(fault) => {
-            drop(idle);
             let refusal = Refusal::from(fault);
             let status = say_refusal(alloc, &refusal, sink);
             drop(refusal);
-            status
+            back_or_over(idle, status, Standing::AsBefore, runner, supervisor)
         }
     }
 }

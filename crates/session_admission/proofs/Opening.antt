@@ -21,13 +21,14 @@ use Rattle.histories.specs.States.{SessionState, leaves}
 use Rattle.histories.specs.Follows.{MayFollow}
 use Rattle.session_boots.specs.Lines.{accepted_line, lines_of}
 use Rattle.session_boots.specs.Ends.{Left, Lines}
+use Rattle.session_boots.specs.Stands.{IsOpened}
 use Rattle.session_boots.specs.Traces.{IsTrace}
 use Rattle.session_boots.specs.declared.ends.SessionFault.TheVariants as over
 use Rattle.session_boots.proofs.Entries.{never}
 use Rattle.session_boots.proofs.Joins.{kept_one}
 use Rattle.session_boots.proofs.Records.{doubt_at}
 use Rattle.session_boots.proofs.Told.{last_untold}
-use Rattle.session_admission.specs.Accepts.{Answer, HasTaken, OwnsTaken, IsFullAt, IsFullOrShort, IsOpen, IsOpened, IsTakenOf, Opened, answer_of}
+use Rattle.session_admission.specs.Accepts.{Answer, HasTaken, OwnsTaken, IsFullAt, IsFullOrShort, IsOpen, IsTakenOf, Opened, answer_of}
 
 -- ---- it may come there, and what it leaves
 

@@ -1,5 +1,5 @@
 -- A deployment begins: from where it may, and what its acceptance leaves.
-use Rattle.std.specs.Prelude.{◌≡◌, ℕ, Bool, true, false, List, None, Result, Ok, Err, ⊤, if◌then◌else◌}
+use Rattle.std.specs.Prelude.{◌≡◌, ℕ, Bool, false, List, None, Result, Ok, Err, ⊤}
 use Rattle.disk_model.specs.Disk.{Image}
 use Rattle.records.specs.Stored.{Plan, Accepted}
 use Rattle.device.specs.Devices.{Device}
@@ -8,12 +8,13 @@ use Rattle.deploy_state.specs.States.{OwnsBooting, OwnsIdle, booting_device, idl
 use Rattle.deploy_state.specs.declared.fault.AcceptRefusal.{AcceptRefusal}
 use Rattle.deploy_state.specs.declared.fault.AcceptRefusal.TheVariants as refused
 use Rattle.step_runner.specs.Entries.{Told}
-use Rattle.components.specs.Components.{Components, is_stopped}
+use Rattle.components.specs.Components.{Components}
 use Rattle.components.specs.Turns.{IsQuiet}
-use Rattle.histories.specs.Phases.{Generation, previous, draining, is_shutting_down}
+use Rattle.histories.specs.Phases.{is_shutting_down}
 use Rattle.histories.specs.States.{SessionState}
 use Rattle.histories.specs.Courses.{Stands}
 use Rattle.histories.specs.Follows.{MayTakeBy}
+use Rattle.session_boots.specs.Stands.{IsOpened}
 use Rattle.session_boots.specs.declared.ends.SessionFault.{SessionFault}
 use Rattle.session_boots.specs.declared.ends.SessionFault.TheVariants as over
 use Rattle.session_admission.specs.declared.accepting.Taken.{Taken}
@@ -29,23 +30,6 @@ pub record IsOpen (p : SessionState) (d : Device) (world : Components) (told : T
   pub boot : p.boot ≡ None
   pub boot_end : p.boot_end ≡ None
   pub takes : MayTakeBy p.serves p
-  pub over : p.over ≡ false
-  pub cut : p.cut ≡ false
-
--- ---- what its acceptance leaves
-
--- those that stand are to be stopped before the first bootstrap; where none stands, all are stopped already
-abbrev pub generation_of : Components → Generation
-generation_of w = if is_stopped w then draining else previous
-
--- The deployment is pending, and nothing of it was done.
-pub record IsOpened (p : SessionState) (d : Device) (world : Components) (told : Told) (living : List ℕ) : Type 0 where
-  pub stands : Stands p d world told living
-  pub quiet : IsQuiet p.world
-  pub generation : p.generation ≡ generation_of p.world
-  pub boot : p.boot ≡ None
-  pub boot_end : p.boot_end ≡ None
-  pub probed : p.probed ≡ false
   pub over : p.over ≡ false
   pub cut : p.cut ≡ false
 

@@ -3,6 +3,7 @@ pub mod Acting
 pub mod Joins
 pub mod Told
 pub mod Still
+pub mod Opened
 pub mod Entries
 pub mod Duties
 pub mod Records

@@ -105,6 +105,7 @@ left_joined entries may_leave disk p w t over.Disk run h = (
       (most_behind entries p.device (records_of w) (records_of t) (state_after p w).device c run (h.1 c left)),
 )
 left_joined entries may_leave disk p w t over.Edge run h = (
-  subst (λ (x : SessionState). x.boot_end ≡ None) (sym (left-append p t w)) h.0,
-  λ c left. subst (λ (x : SessionState). StandsFor entries c x.device) (sym (left-append p t w)) (h.1 c left),
+  stops_behind w t h.0,
+  subst (λ (x : SessionState). x.boot_end ≡ None) (sym (left-append p t w)) h.1,
+  λ c left. subst (λ (x : SessionState). StandsFor entries c x.device) (sym (left-append p t w)) (h.2 c left),
 )

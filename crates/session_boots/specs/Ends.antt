@@ -38,11 +38,11 @@ pub record StopsAt (h : List TraceEvent) : Type 0 where
   pub split : h ≡ cuts ++ Recorded last ∷ before
   pub kills : AllByRecursion IsLast cuts
 
--- Where the disk failed the last record is in doubt, and nothing is started behind it; where a line was not written each end of
--- a bootstrap is recorded, and each image stands for the device of all records.
+-- Nothing is started behind the last record. Where the disk failed it is in doubt; where a line was not written each end of a
+-- bootstrap is recorded, and each image stands for the device of all records.
 abbrev pub LeftAt : {D : Type 0} → (Image → List (List ℕ) → Type 0) → (D → Image → Type 0) → D → SessionState → List TraceEvent → SessionFault → Type 0
 LeftAt entries may_leave disk p h over.Disk = StopsAt h × ((c : Image) → may_leave disk c → StandsForMost entries p.device (records_of h) c)
-LeftAt entries may_leave disk p h over.Edge = ((state_after p h).boot_end ≡ None) ×
+LeftAt entries may_leave disk p h over.Edge = StopsAt h × ((state_after p h).boot_end ≡ None) ×
     ((c : Image) → may_leave disk c → StandsFor entries c (state_after p h).device)
 
 -- where the session goes on, the value is where the history leaves it

@@ -9,8 +9,10 @@ use Rattle.std.proofs.lemmas.Bool.Decides.{nat_tests}
 use Rattle.std.proofs.lemmas.List.{length-map}
 use Rattle.std.proofs.lemmas.List.Quantifiers.{position-Some}
 use Rattle.std.proofs.lemmas.Option.{slice_get-get_or}
+use Rattle.records.specs.Stored as stored
 use Rattle.records.specs.Stored.{Item}
 use Rattle.device.specs.Devices.{Device, Pending}
+use Rattle.device.specs.Lawful.{applied}
 use Rattle.device.specs.Sound.{AreCounts, IsInStage, IsSound, IsUnderWay}
 use Rattle.device.specs.declared.staged.Stage.{Stage}
 use Rattle.device.specs.declared.staged.Stage.TheVariants as stages
@@ -106,3 +108,11 @@ pub three_of_broken : {A : Type 0} (f : A → List ℕ) (r : Option A) (none b :
     IsIn stages.Rolling d → option_map f r ≡ broken_item d → is_some r ≡ not none → none ≡ b → has_three (duty_of d).counts ≡ not b
 three_of_broken f r none b d sound is told is_modelled none_is = sym (three_told d sound is) ∙ sym (ap (λ (o : Option (List ℕ)). is_some o) told) ∙
     some_mapped f r ∙ is_modelled ∙ ap not none_is
+
+-- where the items of a plan begin to come up none of them has failed
+pub few_activated : (d : Device) → IsIn stages.Booting d → has_three (duty_of (applied d stored.Activating)).counts ≡ false
+few_activated d is = by d.pending is
+  where
+    by : (o : Option Pending) → IsSomeAnd o (λ q. q.stage ≡ stages.Booting) → has_three (duty_of (applied (pends d o) stored.Activating)).counts ≡ false
+    by None is = absurd is
+    by (Some q) is = refl

@@ -93,7 +93,7 @@ last_both : (k h : List TraceEvent) → AllByRecursion IsLast k → AllByRecursi
 last_both [] h one two = two
 last_both (e ∷ k) h one two = (one.0, last_both k h one.1 two)
 
-stops_killed : (h k : List TraceEvent) → AllByRecursion IsLast k → StopsAt h → StopsAt (k ++ h)
+pub stops_killed : (h k : List TraceEvent) → AllByRecursion IsLast k → StopsAt h → StopsAt (k ++ h)
 stops_killed h k kills s = record {
   cuts = k ++ s.cuts;
   last = s.last;
@@ -102,7 +102,7 @@ stops_killed h k kills s = record {
   kills = last_both k s.cuts kills s.kills;
 }
 
-left_killed : {D : Type 0} (entries : Image → List (List ℕ) → Type 0) (may_leave : D → Image → Type 0) (disk : D) (p : SessionState) (h k : List TraceEvent)
+pub left_killed : {D : Type 0} (entries : Image → List (List ℕ) → Type 0) (may_leave : D → Image → Type 0) (disk : D) (p : SessionState) (h k : List TraceEvent)
     (e : SessionFault) (a b : Option (List RunnerEntry)) → Acts (state_after p h) k a b
     → KeepsRest (state_after p h) (state_after (state_after p h) k) → AllByRecursion IsLast k → LeftAt entries may_leave disk p h e →
     LeftAt entries may_leave disk p (k ++ h) e
@@ -111,8 +111,9 @@ left_killed entries may_leave disk p h k over.Disk a b acts keeps kills left = (
   λ c may. subst (λ (l : List Record). StandsForMost entries p.device l c) (sym (records_opened h k acts.none)) (left.1 c may),
 )
 left_killed entries may_leave disk p h k over.Edge a b acts keeps kills left = (
-  ap (λ (q : SessionState). q.boot_end) (left-append p k h) ∙ keeps.boot_end ∙ left.0,
-  λ c may. subst (λ (x : Device). StandsFor entries c x) (sym (ap (λ (q : SessionState). q.device) (left-append p k h) ∙ acts.device)) (left.1 c may),
+  stops_killed h k kills left.0,
+  ap (λ (q : SessionState). q.boot_end) (left-append p k h) ∙ keeps.boot_end ∙ left.1,
+  λ c may. subst (λ (x : Device). StandsFor entries c x) (sym (ap (λ (q : SessionState). q.device) (left-append p k h) ∙ acts.device)) (left.2 c may),
 )
 
 -- ---- a part that gives up

@@ -6,5 +6,6 @@ mod Stopping
 mod Endings
 mod Entering
 mod Counts
+mod Fresh
 mod Deployment
 mod BackBoots

@@ -1,5 +1,5 @@
 -- All components are stopped between two stages.
-use Rattle.std.specs.Prelude.{ℕ, Bool, true, false, List, Option, Some, None}
+use Rattle.std.specs.Prelude.{ℕ, Bool, true, false, List, Option, Some, None, IsSome, if◌then◌else◌}
 use Rattle.std.specs.Option.{IsSomeAnd}
 use Rattle.std.proofs.Common.{◌≡◌, ◌≤◌, ◌∙◌, refl, sym, ap, subst}
 use Rattle.std.proofs.lemmas.Bool.{false≢true}
@@ -11,11 +11,13 @@ use Rattle.deploy_state.specs.States.{InBrokeOff, IsIn, backing_device, broken_d
 use Rattle.deploy_state.specs.declared.state.BrokeOff.{BrokeOff}
 use Rattle.deploy_state.specs.declared.state.BrokeOff.TheVariants as broken
 use Rattle.step_runner.specs.Entries.{Told}
-use Rattle.components.specs.Components.{Components}
+use Rattle.components.specs.Components.{Components, is_stopped}
 use Rattle.law_supervisor.specs.Sound.{IsOrderly}
-use Rattle.histories.specs.Phases.{Generation, Phase, activating, backing, booting, duty_in, duty_of, idle, is_idle, draining, rolling}
+use Rattle.histories.specs.Phases.{Duty, Generation, Phase, activating, backing, booting, duty_in, duty_of, idle, is_idle, previous, draining, rolling}
 use Rattle.histories.specs.States.{SessionState}
-use Rattle.session_boots.specs.Stands.{IsAtBootStage}
+use Rattle.histories.specs.Follows.{MayClear, MayStopAll}
+use Rattle.session_boots.specs.Stands.{IsAtBootStage, IsOpened, generation_of}
+use Rattle.session_transitions.proofs.Rising.{orderly_at}
 use Rattle.session_transitions.specs.Fails.{IsTurned}
 use Rattle.session_shutdown.specs.Runs.{IsAtTurnStart, IsGoing}
 use Rattle.session_shutdown.specs.Stops.{HasStopped, MayStop}
@@ -31,7 +33,7 @@ busy_at d q stages.Activating = refl
 busy_at d q stages.Backing = refl
 busy_at d q stages.Rolling = refl
 
-busy_in : (s : Stage) (d : Device) → IsIn s d → is_idle (duty_of d).phase ≡ false
+pub busy_in : (s : Stage) (d : Device) → IsIn s d → is_idle (duty_of d).phase ≡ false
 busy_in s d is = by d.pending is
   where
     by : (o : Option Pending) → IsSomeAnd o (λ q. q.stage ≡ s) → is_idle (duty_of (pends d o)).phase ≡ false
@@ -54,6 +56,18 @@ going activating c busy h = absurd h
 going backing c busy h = h
 going rolling c busy h = h
 
+-- before the first bootstrap of a plan all may be stopped
+boots_phase : (d : Device) → IsIn stages.Booting d → (duty_of d).phase ≡ booting
+boots_phase d is = by d.pending is
+  where
+    by : (o : Option Pending) → IsSomeAnd o (λ q. q.stage ≡ stages.Booting) → (duty_of (pends d o)).phase ≡ booting
+    by None h = absurd h
+    by (Some q) h = subst (λ (s : Stage). (duty_in (pends d (Some q)) (record q { stage = s })).phase ≡ booting) (sym h) refl
+
+may_clear : (d : Duty) (b : Bool) (p : SessionState) → MayClear d p → MayStopAll d booting (if b then draining else previous) p
+may_clear d true p clear = clear
+may_clear d false p clear = clear
+
 -- ---- the places
 
 module _ (p : SessionState) (d : Device) (world : Components) (told : Told) (living : List ℕ) where
@@ -68,6 +82,25 @@ module _ (p : SessionState) (d : Device) (world : Components) (told : Told) (liv
     over = t.over;
     cut = t.cut;
   }
+
+  -- those that stand before the first bootstrap
+  pub opened_stops : IsOpened p d world told living → IsOrderly world → IsIn stages.Booting d → IsSome (duty_of d).turn → MayStop p d world told living
+  opened_stops o orderly is turn =
+      let same = o.stands.device_is in
+      let phase : (duty_of p.device).phase ≡ booting = ap (λ (x : Device). (duty_of x).phase) same ∙ boots_phase d is in
+      let some : IsSome (duty_of p.device).turn = subst (λ (x : Device). IsSome (duty_of x).turn) (sym same) turn in
+      record {
+        stands = o.stands;
+        may = subst (λ (c : Generation). MayStopAll (duty_of p.device) (duty_of p.device).phase c p) (sym o.generation)
+            (subst (λ (f : Phase). MayStopAll (duty_of p.device) f (generation_of p.world) p) (sym phase)
+            (may_clear (duty_of p.device) (is_stopped p.world) p (some, o.boot, o.boot_end)));
+        orderly = orderly_at p d world told living o.stands orderly;
+        owed = o.quiet.told;
+        boot = o.boot;
+        boot_end = o.boot_end;
+        over = o.over;
+        cut = o.cut;
+      }
 
   pub stopped_front : is_idle (duty_of d).phase ≡ false → HasStopped p d world told living → IsAtBootStage p d world told living
   stopped_front busy s = record {

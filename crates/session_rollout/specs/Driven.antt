@@ -11,6 +11,7 @@ use Rattle.step_runner.specs.Entries.{Told}
 use Rattle.step_runner.specs.declared.entries.RunnerEntry.{RunnerEntry}
 use Rattle.components.specs.Components.{Components}
 use Rattle.histories.specs.Courses.{IsBare}
+use Rattle.histories.specs.Phases.{Generation, current, draining}
 use Rattle.histories.specs.TraceEvents.{TraceEvent, records_of}
 use Rattle.histories.specs.States.{SessionState, state_after}
 use Rattle.session_boots.specs.Booted.{BootsLeft}
@@ -21,21 +22,28 @@ use Rattle.session_boots.specs.declared.ends.Booted.TheVariants as booted
 use Rattle.session_startup.specs.Ended.{HasClosed}
 use Rattle.session_rollout.specs.declared.driven.Driven.{Driven}
 use Rattle.session_rollout.specs.declared.driven.Driven.TheVariants as driven
+use Rattle.session_rollout.specs.declared.driven.Presence.{Presence}
+use Rattle.session_rollout.specs.declared.driven.Presence.TheVariants as presences
+
+-- who the components are behind a close: those of the set, or none stands
+abbrev pub generation_left : Presence → Generation
+generation_left presences.Present = current
+generation_left presences.Absent = draining
 
 -- It closed, and the components are as they were; or a bootstrap's end asks that the call ends.
 abbrev pub DrivenLeft : {J : Type 0} → Driven J → List TraceEvent → SessionState → Components → Told → List ℕ → Type 0
-DrivenLeft (driven.Closed s o) h q world told living = HasClosed o (records_of h) q (idle_device s) world told living
+DrivenLeft (driven.Closed s o c) h q world told living = HasClosed o (generation_left c) h q (idle_device s) world told living
 DrivenLeft (driven.Restart s) h q world told living = BootsLeft booted.Restart (records_of h) q (loaded_device s) world told living
 DrivenLeft (driven.Reboot s) h q world told living = BootsLeft booted.Reboot (records_of h) q (loaded_device s) world told living
 
 abbrev pub driven_device : {J : Type 0} → Driven J → Device
-driven_device (driven.Closed s o) = idle_device s
+driven_device (driven.Closed s o c) = idle_device s
 driven_device (driven.Restart s) = loaded_device s
 driven_device (driven.Reboot s) = loaded_device s
 
 module _ {J D : Type 0} (is_modelled : Bool) (may_leave : D → Image → Type 0) (stands : J → Image → List (List ℕ) → Type 0) (end : J → ℕ) where
   abbrev pub OwnsDriven : Driven J → D → Type 0
-  OwnsDriven (driven.Closed s o) disk = OwnsIdle is_modelled may_leave stands end s disk
+  OwnsDriven (driven.Closed s o c) disk = OwnsIdle is_modelled may_leave stands end s disk
   OwnsDriven (driven.Restart s) disk = OwnsLoaded is_modelled may_leave stands end s disk
   OwnsDriven (driven.Reboot s) disk = OwnsLoaded is_modelled may_leave stands end s disk
 

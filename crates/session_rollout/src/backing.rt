@@ -12,7 +12,7 @@ ghost use Rattle.histories.specs.States.{SessionState};
 ghost use Rattle.law_supervisor.specs.Sound.{IsOrderly};
 ghost use Rattle.session_boots.specs.Stages.{AsTold, Holds, KeepsOthers};
 
-use crate::driven::Driven;
+use crate::driven::{Driven, Presence};
 use crate::rolling::roll_on;
 use components::{Prepared, Supervise};
 use deploy_state::{Backed, Backing, BrokeOff, Loaded};
@@ -68,7 +68,7 @@ where
         Backed::Backing(state) => {
             drop(ready);
             match close_failed_backing(state, disk, sink, supervisor) {
-                Ok(idle) => Ok(Driven::Closed(idle, Outcome::UnableToRollback)),
+                Ok(idle) => Ok(Driven::Closed(idle, Outcome::UnableToRollback, Presence::Absent)),
                 Err(over) => Err(over),
             }
         }

@@ -1,25 +1,27 @@
 //! The bootstraps of the plan run, and then its items come up.
 ghost use Rattle.law_termination.specs.Drives.{Drives};
-ghost use Rattle.std.specs.Prelude.{◌≡◌, [], IfOk, OnErr, IsErrOf, None, true, false};
+ghost use Rattle.std.specs.Prelude.{◌≡◌, ◌≤◌, [], IfOk, OnErr, IsErrOf, None, true, false};
 ghost use Rattle.nuc_base.specs.Faults.{Rose};
+ghost use Rattle.components.specs.Answers.{standing_count};
+ghost use Rattle.components.specs.Changes.{standing};
 ghost use Rattle.deploy_state.specs.Fields.{has_failed};
 ghost use Rattle.deploy_state.specs.States.{OwnsBooting, booting_device};
 ghost use Rattle.session_rollout.specs.Backwards.{HasWayBack};
 ghost use Rattle.session_rollout.specs.Driven.{IsCourse, DrivenLeft, OwnsDriven};
 ghost use Rattle.device.specs.Lawful.{applied};
-ghost use Rattle.session_boots.specs.Stands.{IsAtBootStage};
+ghost use Rattle.session_boots.specs.Stands.{IsAtBootStage, IsOpened};
 ghost use Rattle.session_admission.specs.Readied.{AreReadiedFor};
 ghost use Rattle.records.specs.Stored as stored;
 ghost use Rattle.histories.specs.Phases.{duty_of};
 ghost use Rattle.histories.specs.States.{SessionState};
-ghost use Rattle.session_transitions.specs.Enters.{AreReady};
+ghost use Rattle.session_transitions.specs.Enters.{AreReady, RunOn};
 ghost use Rattle.session_transitions.specs.Fails.{is_to_roll_back};
 ghost use Rattle.law_supervisor.specs.Sound.{IsOrderly};
 ghost use Rattle.session_boots.specs.Stages.{AsTold, Holds, KeepsOthers};
 
 use crate::backing::roll_back;
-use crate::driven::Driven;
-use crate::items::activate_on;
+use crate::driven::{Driven, Presence};
+use crate::items::raise_plan;
 use components::{Prepared, Supervise};
 use deploy_state::{Booting, Loaded};
 use disk_model::Disk;
@@ -29,7 +31,7 @@ use nuc_base::Outcome;
 use session_admission::Readied;
 use session_boots::{Booted, SessionFault, run_boots};
 use session_transitions::{
-    begin_items, begin_rollback_of_booting, close_failed_booting, is_to_roll_back,
+    begin_items, begin_rollback_of_booting, close_failed_booting, is_to_roll_back, kill_all,
 };
 use step_runner::Runner;
 
@@ -105,13 +107,13 @@ where
     }
     drop(ready);
     match close_failed_booting(state, disk, sink, supervisor) {
-        Ok(idle) => Ok(Driven::Closed(idle, Outcome::RollbackNotRequested)),
+        Ok(idle) => Ok(Driven::Closed(idle, Outcome::RollbackNotRequested, Presence::Absent)),
         Err(over) => Err(over),
     }
 }
 
-/// Behind the last bootstrap the plan's items come up.
-fn end_boots<D: Disk, J: Journal + Drop, K: Sink, R: Runner, S: Supervise>(
+/// Behind the last bootstrap, or where the plan has none, its items come up. Where none ran those of before may stand.
+pub(crate) fn end_boots<D: Disk, J: Journal + Drop, K: Sink, R: Runner, S: Supervise>(
     state: Booting<J>,
     items: S::Ready,
     backs: &[Prepared],
@@ -129,8 +131,10 @@ where
     requires ready { HasWayBack (booting_device state) backs.now (S.coming ready) }
     requires drives { Drives (S.world supervisor.old) }
     requires orderly { IsOrderly (S.world supervisor.old) }
-    requires placed { (p : SessionState) × AsTold R.Runner runner.old (IsAtBootStage p (booting_device state) (S.world supervisor.old)) }
-    ensures course { (p : SessionState) → AsTold R.Runner runner.old (IsAtBootStage p (booting_device state) (S.world supervisor.old)) →
+    requires room { standing_count (S.world supervisor.old) ≤ S.room items }
+    requires made { RunOn (booting_device state) (standing (S.world supervisor.old).parts) }
+    requires placed { (p : SessionState) × AsTold R.Runner runner.old (IsOpened p (booting_device state) (S.world supervisor.old)) }
+    ensures course { (p : SessionState) → AsTold R.Runner runner.old (IsOpened p (booting_device state) (S.world supervisor.old)) →
         IsCourse D.Disk J.Journal K.Sink R.Runner disk.old disk.new sink.old sink.new runner.old runner.new p result
         (λ x h q. AsTold R.Runner runner.new (DrivenLeft x h q (S.world supervisor.new))) }
     ensures none { OnErr result (R.living runner.new ≡ []) }
@@ -143,8 +147,11 @@ where
     ensures quiet_sink { ¬ (IsErrOf result SessionFault.Edge) → K.faults sink.new ≡ K.faults sink.old }
 {
     match begin_items(state, disk) {
-        Ok(state) => activate_on(state, items, backs, ready, disk, sink, runner, supervisor),
-        Err(over) => Err(over),
+        Ok(state) => raise_plan(state, items, backs, ready, disk, sink, runner, supervisor),
+        Err(over) => {
+            kill_all(runner, supervisor);
+            Err(over)
+        }
     }
 }
 

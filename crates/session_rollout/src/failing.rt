@@ -15,7 +15,7 @@ ghost use Rattle.law_supervisor.specs.Sound.{IsOrderly};
 ghost use Rattle.session_boots.specs.Stages.{AsTold, Holds, KeepsOthers};
 
 use crate::backing::roll_back;
-use crate::driven::Driven;
+use crate::driven::{Driven, Presence};
 use components::{Prepared, Supervise};
 use deploy_state::{Activating, BrokeOff};
 use disk_model::Disk;
@@ -127,7 +127,7 @@ where
     ensures quiet_sink { ¬ (IsErrOf result SessionFault.Edge) → K.faults sink.new ≡ K.faults sink.old }
 {
     match close_failed_activating(state, disk, sink, supervisor) {
-        Ok(idle) => Ok(Driven::Closed(idle, Outcome::RollbackNotRequested)),
+        Ok(idle) => Ok(Driven::Closed(idle, Outcome::RollbackNotRequested, Presence::Present)),
         Err(over) => {
             kill_all(runner, supervisor);
             Err(over)
@@ -209,7 +209,7 @@ where
     }
     drop(ready);
     match close_failed_again(state, disk, sink, supervisor) {
-        Ok(idle) => Ok(Driven::Closed(idle, Outcome::RollbackNotRequested)),
+        Ok(idle) => Ok(Driven::Closed(idle, Outcome::RollbackNotRequested, Presence::Absent)),
         Err(over) => Err(over),
     }
 }

@@ -1,20 +1,22 @@
 //! The plan's items come up.
-ghost use Rattle.law_termination.specs.Drives.{Drives, Rises};
-ghost use Rattle.std.specs.Prelude.{◌≡◌, [], IfOk, OnErr, IsErrOf, false};
+ghost use Rattle.law_termination.specs.Drives.{Drives};
+ghost use Rattle.std.specs.Prelude.{◌≡◌, ◌≤◌, [], IfOk, OnErr, IsErrOf, false};
 ghost use Rattle.nuc_base.specs.Faults.{Rose};
+ghost use Rattle.components.specs.Answers.{standing_count};
+ghost use Rattle.components.specs.Changes.{standing};
 ghost use Rattle.session_startup.specs.Runs.{IsAtTurnStart};
 ghost use Rattle.deploy_state.specs.States.{OwnsActivating, activating_device};
 ghost use Rattle.session_rollout.specs.Backwards.{HasWayBack};
 ghost use Rattle.session_rollout.specs.Driven.{IsCourse, DrivenLeft, OwnsDriven};
-ghost use Rattle.session_boots.specs.Stands.{IsAtBootStage};
+ghost use Rattle.session_boots.specs.Stands.{IsAtBootStage, IsOpened};
 ghost use Rattle.histories.specs.Phases.{duty_of};
 ghost use Rattle.histories.specs.States.{SessionState};
 ghost use Rattle.histories.specs.Waits.{has_three};
-ghost use Rattle.session_transitions.specs.Enters.{AreReady};
+ghost use Rattle.session_transitions.specs.Enters.{AreReady, RunOn};
 ghost use Rattle.law_supervisor.specs.Sound.{IsOrderly};
 ghost use Rattle.session_boots.specs.Stages.{AsTold, Holds, KeepsOthers};
 
-use crate::driven::Driven;
+use crate::driven::{Driven, Presence};
 use crate::failing::{fail_again, fail_items};
 use components::{Prepared, Supervise};
 use deploy_state::Activating;
@@ -39,7 +41,7 @@ fn bring_up<D: Disk, J: Journal + Drop, K: Sink, R: Runner, S: Supervise>(
 ) -> Result<Driven<J>, SessionFault>
 where
     S::Ready: Drop,
-    requires rises { Rises (S.world supervisor.old) }
+    requires drives { Drives (S.world supervisor.old) }
     requires held { Holds D.Disk J.Journal OwnsActivating state disk.old }
     requires ready { HasWayBack (activating_device state) backs.now (S.coming ready) }
     requires placed { (p : SessionState) × AsTold R.Runner runner.old (IsAtTurnStart p (activating_device state) (S.world supervisor.old)) }
@@ -56,7 +58,11 @@ where
     ensures quiet_sink { ¬ (IsErrOf result SessionFault.Edge) → K.faults sink.new ≡ K.faults sink.old }
 {
     match activate(state, disk, sink, runner, supervisor) {
-        Ok(Activated::Closed(idle)) => Ok(Driven::Closed(idle, Outcome::Successful)),
+        Ok(Activated::Closed(idle)) => Ok(Driven::Closed(
+            idle,
+            Outcome::Successful,
+            Presence::Present,
+        )),
         Ok(Activated::Broken(state)) => {
             fail_items(state, backs, ready, disk, sink, runner, supervisor)
         }
@@ -67,8 +73,8 @@ where
     }
 }
 
-/// The plan's items, none of which failed three times, take their places and come up.
-fn raise_plan<D: Disk, J: Journal + Drop, K: Sink, R: Runner, S: Supervise>(
+/// The plan's items, none of which failed three times, take their places, whether or not those of before stand, and come up.
+pub(crate) fn raise_plan<D: Disk, J: Journal + Drop, K: Sink, R: Runner, S: Supervise>(
     state: Activating<J>,
     items: S::Ready,
     backs: &[Prepared],
@@ -86,8 +92,10 @@ where
     requires ready { HasWayBack (activating_device state) backs.now (S.coming ready) }
     requires drives { Drives (S.world supervisor.old) }
     requires orderly { IsOrderly (S.world supervisor.old) }
-    requires placed { (p : SessionState) × AsTold R.Runner runner.old (IsAtBootStage p (activating_device state) (S.world supervisor.old)) }
-    ensures course { (p : SessionState) → AsTold R.Runner runner.old (IsAtBootStage p (activating_device state) (S.world supervisor.old)) →
+    requires room { standing_count (S.world supervisor.old) ≤ S.room items }
+    requires made { RunOn (activating_device state) (standing (S.world supervisor.old).parts) }
+    requires placed { (p : SessionState) × AsTold R.Runner runner.old (IsOpened p (activating_device state) (S.world supervisor.old)) }
+    ensures course { (p : SessionState) → AsTold R.Runner runner.old (IsOpened p (activating_device state) (S.world supervisor.old)) →
         IsCourse D.Disk J.Journal K.Sink R.Runner disk.old disk.new sink.old sink.new runner.old runner.new p result
         (λ x h q. AsTold R.Runner runner.new (DrivenLeft x h q (S.world supervisor.new))) }
     ensures none { OnErr result (R.living runner.new ≡ []) }

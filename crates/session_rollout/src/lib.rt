@@ -7,6 +7,7 @@
 #![tactic(auto)]
 
 mod backing;
+mod beginning;
 mod boots;
 mod driven;
 mod failing;
@@ -14,6 +15,7 @@ mod items;
 mod resuming;
 mod rolling;
 
+pub use beginning::begin;
 pub use boots::boot;
-pub use driven::Driven;
+pub use driven::{Driven, Presence};
 pub use resuming::drive;

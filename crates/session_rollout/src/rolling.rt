@@ -12,7 +12,7 @@ ghost use Rattle.session_transitions.specs.Enters.{AreReady};
 ghost use Rattle.law_supervisor.specs.Sound.{IsOrderly};
 ghost use Rattle.session_boots.specs.Stages.{AsTold, Holds, KeepsOthers};
 
-use crate::driven::Driven;
+use crate::driven::{Driven, Presence};
 use components::Supervise;
 use deploy_state::Rolling;
 use disk_model::Disk;
@@ -55,7 +55,7 @@ where
 {
     change_items(state.device(), ready, supervisor);
     match roll(state, disk, sink, runner, supervisor) {
-        Ok((idle, outcome)) => Ok(Driven::Closed(idle, outcome)),
+        Ok((idle, outcome)) => Ok(Driven::Closed(idle, outcome, Presence::Present)),
         Err(over) => {
             kill_all(runner, supervisor);
             Err(over)
@@ -96,7 +96,7 @@ where
     }
     drop(ready);
     match close_again(state, disk, sink, supervisor) {
-        Ok(idle) => Ok(Driven::Closed(idle, Outcome::UnableToRollback)),
+        Ok(idle) => Ok(Driven::Closed(idle, Outcome::UnableToRollback, Presence::Absent)),
         Err(over) => Err(over),
     }
 }

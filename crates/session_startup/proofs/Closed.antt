@@ -43,6 +43,7 @@ use Rattle.session_startup.specs.Ended.{HasClosed}
 use Rattle.session_startup.specs.Runs.{MayAbort, HasNoActLeft}
 use Rattle.session_startup.proofs.Answered.{free_is, free_steadied, is_free}
 use Rattle.session_startup.proofs.Entering.{later_same, never, no_boot, without_boot}
+use Rattle.session_startup.proofs.Quiet.{quiet_steadied}
 
 -- ---- a third failure
 
@@ -147,7 +148,7 @@ not_closing c is = rw is refl
 
 pub closed_at : (p : SessionState) (d e : Device) (b : Bool) (o : Outcome) (world : Components) (told : Told) (living : List ℕ) → IsSome d.pending →
     HasNoActLeft p d b world told living → e ≡ applied d (stored.Closed o)
-    → HasClosed o (records_of (Recorded (stored.Closed o) ∷ [])) (leaves p (Recorded (stored.Closed o))) e (steadied world) told living
+    → HasClosed o current (Recorded (stored.Closed o) ∷ []) (leaves p (Recorded (stored.Closed o))) e (steadied world) told living
 closed_at p d e b o world told living pending r same =
     let w = r.runs.within in
     let on = w.on in
@@ -174,6 +175,8 @@ closed_at p d e b o world told living pending r same =
         over = refl;
         cut = on.cut;
       };
+      generation_is = on.generation;
+      quiet = quiet_steadied p.world r.quiet;
       orderly = closed_orderly p.device p.world w.keeps;
       closed = ([], refl);
     }

@@ -1,7 +1,7 @@
 -- What is kept of the components while a turn goes, and the number of the loops.
 use Rattle.std.specs.Prelude.{Err, IsErrOf, ℕ, suc, zero, ◌==◌, Bool, true, false, not, ◌&&◌, ◌||◌, List, [], ◌∷◌, Option, Some, None, slice_get}
 use Rattle.std.specs.Prelude.{option_and_then, is_some}
-use Rattle.std.specs.List.{AllByRecursion, list_any}
+use Rattle.std.specs.List.{list_any}
 use Rattle.std.proofs.Common.{◌≡◌, ◌⊎◌, ◌<◌, ◌+◌, ◌^◌, ◌∙◌, inl, inr, refl, sym, ap, subst}
 use Rattle.std.proofs.lemmas.Bool.{and_parts, or_parts, or_right}
 use Rattle.device.specs.Devices.{Device, Pending}
@@ -12,16 +12,14 @@ use Rattle.nuc_base.specs.declared.kinds.Exit.{Exit}
 use Rattle.nuc_base.specs.declared.kinds.Step.{Step}
 use Rattle.step_runner.specs.Entries.{Told}
 use Rattle.components.specs.Turns.{owes}
-use Rattle.components.specs.Components.{ComponentState, Components, has_broken, is_again, is_broken, is_gone, is_leaving, is_settled, is_spared}
-use Rattle.components.specs.Components.{component_name, under_way}
+use Rattle.components.specs.Components.{ComponentState, Components, component_name, is_broken, is_gone, is_leaving, is_settled, is_spared, under_way}
 use Rattle.law_supervisor.specs.Keeps.{AgreesBy, Keeps, count_of}
-use Rattle.law_supervisor.specs.Sound.{IsSoundPart, is_to_begin_again, is_waiting}
 use Rattle.histories.specs.Phases.{duty_in, duty_of}
 use Rattle.histories.specs.States.{SessionState}
 use Rattle.histories.specs.Waits.{has_three}
 use Rattle.law_termination.specs.Kept.{IsFalling}
 use Rattle.law_termination.specs.Time.{HasTime}
-use Rattle.law_termination.specs.Drives.{IsDriven, Rises}
+use Rattle.law_termination.specs.Drives.{Drives, has_failed}
 use Rattle.law_termination.proofs.Stands.{rises}
 use Rattle.session_startup.specs.Runs.{IsReadyToWait, IsInTurn}
 use Rattle.session_startup.specs.declared.acts.Did.{Did}
@@ -67,19 +65,6 @@ not_false : (b : Bool) → not b ≡ true → b ≡ false
 not_false true e = absurd (cc)
 not_false false e = refl
 
--- whoever is to begin again waits for an item, or leaves
-begins_not : (b w g : Bool) → (not b || (w || g)) ≡ true → w ≡ false → g ≡ false → b ≡ false
-begins_not true w g e x y = absurd (cc)
-begins_not false w g e x y = refl
-
-stands_unspared : (p : ComponentState) → IsSoundPart p → p.next ≡ None → is_leaving p ≡ false → is_spared p ≡ false
-stands_unspared p s n l =
-    let x = or_parts p.life.gone (is_gone p.stop || is_gone (under_way p.life)) l in
-    let y = or_parts (is_gone p.stop) (is_gone (under_way p.life)) x.1 in
-    let w : is_waiting p ≡ false = ap (λ (o : Option _). is_some o) n in
-    let z = or_parts (is_again p.stop) (is_again (under_way p.life)) (begins_not (is_to_begin_again p) (is_waiting p) (is_gone p.stop) s.takes w y.0) in
-    rw z.0 (rw y.0 (rw z.1 y.1))
-
 three_in : (o : Option ℕ) (counts : List ℕ) → option_and_then (slice_get counts) o ≡ Some 3 → has_three counts ≡ true
 three_in None counts e = absurd (cc)
 three_in (Some k) counts e = by k counts e
@@ -110,26 +95,17 @@ agreed : (d : Device) (n : List ℕ) (f : ℕ) (o : Option (Step × Exit)) → o
 agreed d n f None e a = a
 agreed d n f (Some x) e a = absurd (cc)
 
-driven_at : (s : List ℕ → ℕ) (all ps : List ComponentState) (k : ℕ) (p : ComponentState) → AllByRecursion (IsDriven s all) ps → slice_get ps k ≡ Some p →
-    p.next ≡ None
-driven_at s all [] k p a e = absurd (cc)
-driven_at s all (q ∷ qs) zero p a e = subst (λ (x : ComponentState). x.next ≡ None) (ap (λ (o : Option ComponentState). elim o [ None ↦ q | Some x ↦ x ]) e)
-    a.0.next
-driven_at s all (q ∷ qs) (suc k) p a e = driven_at s all qs k p a.1 e
-
-pub broken_three : (d : Device) (w : Components) → Keeps d w → Rises w → list_any owes w.parts ≡ false → has_broken w ≡ true →
-    has_three (duty_of d).counts ≡ true
-broken_three d w keeps r told e =
-    let o = one_of (λ p. is_broken p.life.state && not p.life.gone) w.parts e in
+pub broken_three : (d : Device) (w : Components) → Keeps d w → list_any owes w.parts ≡ false → has_failed w ≡ true → has_three (duty_of d).counts ≡ true
+broken_three d w keeps told e =
+    let o = one_of (λ p. is_broken p.life.state && not (is_spared p || is_leaving p)) w.parts e in
     let p = o.part in
-    let x = and_parts (is_broken p.life.state) (not p.life.gone) o.passes in
-    let gone = not_false p.life.gone x.1 in
-    let spared = stands_unspared p (keeps.sound o.k p o.there) (driven_at r.drives.s w.parts w.parts o.k p r.drives.each o.there)
-    (none_at is_leaving w.parts o.k p o.there r.stays) in
+    let x = and_parts (is_broken p.life.state) (not (is_spared p || is_leaving p)) o.passes in
+    let y = or_parts (is_spared p) (is_leaving p) (not_false (is_spared p || is_leaving p) x.1) in
+    let gone = (or_parts p.life.gone (is_gone p.stop || is_gone (under_way p.life)) y.1).0 in
     let c = keeps.counted o.k p o.there in
     let owed = none_of p.owed (none_at owes w.parts o.k p o.there told) in
-    counts_three d (component_name p) (agreed d (component_name p) p.life.failures p.owed owed (c.own spared gone) ∙ ap (λ (n : ℕ). Some n)
-    (c.broken spared gone x.0))
+    counts_three d (component_name p) (agreed d (component_name p) p.life.failures p.owed owed (c.own y.0 gone) ∙ ap (λ (n : ℕ). Some n)
+    (c.broken y.0 gone x.0))
 
 -- ---- no act is left, and there is something to wait for
 
@@ -145,15 +121,13 @@ at_work false false e = (refl, refl)
 abbrev Goes : Components → Type 0
 Goes w = HasTime w × (w.moment + 1 < 2 ^ 62)
 
-pub sits_time : (p : SessionState) (world : Components) (told : Told) (living : List ℕ) → IsReadyToWait p world told living → Rises world → Goes world
-sits_time p world told living s r = subst (λ (w : Components). Goes w) (sym s.runs.world_is) (by (rises p.world own.drives s.runs.within.answered s.quiet))
+pub sits_time : (p : SessionState) (world : Components) (told : Told) (living : List ℕ) → IsReadyToWait p world told living → Drives world → Goes world
+sits_time p world told living s d = subst (λ (w : Components). Goes w) (sym s.runs.world_is)
+    (by (rises p.world (subst (λ (w : Components). Drives w) s.runs.world_is d) s.runs.within.answered s.quiet))
   where
-    own : Rises p.world
-    own = subst (λ (w : Components). Rises w) s.runs.world_is r
-
-    by : (is_settled p.world ≡ true) ⊎ (has_broken p.world ≡ true) ⊎ Goes p.world → Goes p.world
+    by : (is_settled p.world ≡ true) ⊎ (has_failed p.world ≡ true) ⊎ Goes p.world → Goes p.world
     by (inl e) = clash (is_settled p.world) e (at_work (is_settled p.world) (has_three (duty_of p.device).counts) s.work).0
-    by (inr (inl e)) = clash (has_three (duty_of p.device).counts) (broken_three p.device p.world s.runs.within.keeps own s.quiet.told e)
+    by (inr (inl e)) = clash (has_three (duty_of p.device).counts) (broken_three p.device p.world s.runs.within.keeps s.quiet.told e)
         (at_work (is_settled p.world) (has_three (duty_of p.device).counts) s.work).1
     by (inr (inr t)) = t
 

@@ -7,6 +7,7 @@ pub mod Waiting
 pub mod Failed
 pub mod Recorded
 pub mod Turning
+pub mod Quiet
 pub mod Closed
 pub mod Stages
 pub mod Written

@@ -1,20 +1,20 @@
 -- A stage by itself, behind what was done in it as one of both.
-use Rattle.std.specs.Prelude.{ℕ, Bool, true, false, Some, List, [], ◌∷◌, ◌++◌}
-use Rattle.std.proofs.Common.{◌≡◌, ◌∙◌, sym, ap, subst, append_assoc}
+use Rattle.std.specs.Prelude.{ℕ, Bool, true, false, Some, List, ◌++◌}
+use Rattle.std.proofs.Common.{◌≡◌, sym, ap, subst}
 use Rattle.disk_model.specs.Disk.{Image}
 use Rattle.nuc_base.specs.declared.kinds.Outcome.{Outcome}
-use Rattle.records.specs.Stored.{Record, Closed}
 use Rattle.device.specs.Devices.{Device}
 use Rattle.deploy_state.specs.States.{OwnsActivating, OwnsRolling, activating_device, rolling_device}
 use Rattle.deploy_state.specs.declared.state.Activating.{Activating}
 use Rattle.deploy_state.specs.declared.state.Rolling.{Rolling}
 use Rattle.step_runner.specs.Entries.{Told}
 use Rattle.components.specs.Components.{Components}
+use Rattle.histories.specs.Phases.{Generation}
 use Rattle.histories.specs.TraceEvents.{TraceEvent, records_of}
 use Rattle.histories.specs.States.{SessionState, state_after}
-use Rattle.histories.proofs.Joined.{left-append, records-append}
+use Rattle.histories.proofs.Joined.{left-append}
 use Rattle.session_startup.specs.Coming.{OwnsComing, coming_device}
-use Rattle.session_startup.specs.Ended.{ClosesAs, HasBroken, HasClosed}
+use Rattle.session_startup.specs.Ended.{ClosesAs, ClosesLast, HasBroken, HasClosed}
 use Rattle.session_startup.specs.Runs.{HasNoActLeft}
 use Rattle.session_startup.proofs.Entering.{comes_of}
 use Rattle.session_startup.specs.Turns.{TurnLeft}
@@ -44,19 +44,24 @@ pub held_set : {J D : Type 0} (is_modelled : Bool) (may_leave : D → Image → 
     (a : Rolling J) (disk : D) → s ≡ coming.Set a → OwnsComing is_modelled may_leave stands end s disk → OwnsRolling is_modelled may_leave stands end a disk
 held_set is_modelled may_leave stands end s a disk is h = subst (λ (x : Coming _). OwnsComing is_modelled may_leave stands end x disk) is h
 
--- the last record of the second part is that of both
-closes_on : (o : Outcome) (h g : List TraceEvent) → ClosesAs o (records_of g) → ClosesAs o (records_of (g ++ h))
-closes_on o h g e = (
-  records_of h ++ e.0,
-  records-append g h ∙ ap (λ (l : List Record). records_of h ++ l) e.1 ∙ sym
-      (append_assoc (records_of h) e.0 (Closed o ∷ [])),
-)
+-- where it closed last, that is the last record
+pub closes_as : (o : Outcome) (h : List TraceEvent) → ClosesLast o h → ClosesAs o (records_of h)
+closes_as o h last = (records_of last.0, ap (λ (l : List TraceEvent). records_of l) last.1)
 
-pub closed_on : (o : Outcome) (p : SessionState) (h g : List TraceEvent) (d : Device) (world : Components) (told : Told) (living : List ℕ) →
-    HasClosed o (records_of g) (state_after (state_after p h) g) d world told living → HasClosed o (records_of (g ++ h)) (state_after p (g ++ h)) d world told
-    living
-closed_on o p h g d world told living c = subst (λ (q : SessionState). HasClosed o (records_of (g ++ h)) q d world told living) (sym (left-append p g h))
-    (record { stands = c.stands; back = c.back; orderly = c.orderly; closed = closes_on o h g c.closed })
+-- the last of the second part is that of both
+pub closes_on : (o : Outcome) (h g : List TraceEvent) → ClosesLast o g → ClosesLast o (g ++ h)
+closes_on o h g last = (last.0 ++ h, ap (λ (l : List TraceEvent). l ++ h) last.1)
+
+pub closed_on : (o : Outcome) (c : Generation) (p : SessionState) (h g : List TraceEvent) (d : Device) (world : Components) (told : Told) (living : List ℕ) →
+    HasClosed o c g (state_after (state_after p h) g) d world told living → HasClosed o c (g ++ h) (state_after p (g ++ h)) d world told living
+closed_on o c p h g d world told living is = subst (λ (q : SessionState). HasClosed o c (g ++ h) q d world told living) (sym (left-append p g h)) (record {
+  stands = is.stands;
+  back = is.back;
+  generation_is = is.generation_is;
+  quiet = is.quiet;
+  orderly = is.orderly;
+  closed = closes_on o h g is.closed;
+})
 
 pub broken_of : (q : SessionState) (d : Device) (world : Components) (told : Told) (living : List ℕ) → HasNoActLeft q d true world told living →
     HasBroken q d world told living

@@ -10,8 +10,8 @@ use Rattle.step_runner.specs.Entries.{Told}
 use Rattle.components.specs.Components.{Components}
 use Rattle.components.specs.Turns.{IsQuiet}
 use Rattle.law_supervisor.specs.Sound.{IsOrderly}
-use Rattle.histories.specs.Phases.{duty_of}
-use Rattle.histories.specs.TraceEvents.{TraceEvent, records_of}
+use Rattle.histories.specs.Phases.{Generation, current, duty_of}
+use Rattle.histories.specs.TraceEvents.{TraceEvent, Recorded}
 use Rattle.histories.specs.States.{SessionState}
 use Rattle.histories.specs.Waits.{has_three}
 use Rattle.histories.specs.Courses.{IsBack, Stands}
@@ -24,13 +24,20 @@ use Rattle.session_startup.specs.declared.activating.Activated.TheVariants as ac
 abbrev pub ClosesAs : Outcome → List Record → Type 0
 ClosesAs outcome records = (front : List Record) × (records ≡ front ++ Closed outcome ∷ [])
 
--- Nothing is pending any more, and the components are as they were.
-pub record HasClosed (outcome : Outcome) (records : List Record) (q : SessionState) (d : Device) (world : Components) (told : Told) (living : List ℕ) : Type 0
-  where
-    pub stands : Stands q d world told living
-    pub back : IsBack q
-    pub orderly : IsOrderly q.world
-    pub closed : ClosesAs outcome records
+-- the last that happened is that it closed so
+abbrev pub ClosesLast : Outcome → List TraceEvent → Type 0
+ClosesLast outcome h = (before : List TraceEvent) × (h ≡ Recorded (Closed outcome) ∷ before)
+
+-- Nothing is pending any more, and no component may act. The components are as they were: those of the stage that closed, or
+-- ones that are all stopped.
+pub record HasClosed (outcome : Outcome) (generation : Generation) (h : List TraceEvent) (q : SessionState) (d : Device) (world : Components) (told : Told)
+    (living : List ℕ) : Type 0 where
+  pub stands : Stands q d world told living
+  pub back : IsBack q
+  pub generation_is : q.generation ≡ generation
+  pub quiet : IsQuiet q.world
+  pub orderly : IsOrderly q.world
+  pub closed : ClosesLast outcome h
 
 -- No act is left, and a component failed three times.
 pub record HasBroken (q : SessionState) (d : Device) (world : Components) (told : Told) (living : List ℕ) : Type 0 where
@@ -39,7 +46,7 @@ pub record HasBroken (q : SessionState) (d : Device) (world : Components) (told 
   pub counts : has_three (duty_of q.device).counts ≡ true
 
 abbrev pub ActivatedLeft : {J : Type 0} → Activated J → List TraceEvent → SessionState → Components → Told → List ℕ → Type 0
-ActivatedLeft (activated.Closed s) h q world told living = HasClosed outcomes.Successful (records_of h) q (idle_device s) world told living
+ActivatedLeft (activated.Closed s) h q world told living = HasClosed outcomes.Successful current h q (idle_device s) world told living
 ActivatedLeft (activated.Broken s) h q world told living = HasBroken q (activating_device s) world told living
 
 -- where the deployment is pending still, it is the same

@@ -3,7 +3,7 @@ ghost use Rattle.std.specs.Prelude.{◌≡◌, IfOk, IsErrOf};
 ghost use Rattle.nuc_base.specs.Faults.{Rose};
 ghost use Rattle.deploy_state.specs.States.{OwnsActivating, activating_device};
 ghost use Rattle.histories.specs.States.{SessionState};
-ghost use Rattle.law_termination.specs.Drives.{Drives, Rises};
+ghost use Rattle.law_termination.specs.Drives.{Drives};
 ghost use Rattle.session_startup.specs.Ended.{ActivatedLeft, ActivatedSame, OwnsActivated};
 ghost use Rattle.session_startup.specs.Runs.{IsAtTurnStart, MayAbort};
 ghost use Rattle.session_boots.specs.Stages.{AsTold, HasTrace, Holds, KeepsOthers};
@@ -38,7 +38,7 @@ pub fn activate<D: Disk, J: Journal + Drop, K: Sink, R: Runner, S: Supervise>(
     supervisor: &mut S,
 ) -> Result<Activated<J>, SessionFault>
     requires held { Holds D.Disk J.Journal OwnsActivating state disk.old }
-    requires rises { Rises (S.world supervisor.old) }
+    requires drives { Drives (S.world supervisor.old) }
     requires placed { (p : SessionState) × AsTold R.Runner runner.old (IsAtTurnStart p (activating_device state) (S.world supervisor.old)) }
     ensures trace { (p : SessionState) → AsTold R.Runner runner.old (IsAtTurnStart p (activating_device state) (S.world supervisor.old)) →
         HasTrace D.Disk J.Journal K.Sink R.Runner disk.old disk.new sink.old sink.new runner.old runner.new p

@@ -5,6 +5,7 @@ ghost use Rattle.nuc_base.specs.declared.kinds.Outcome.TheVariants as outcomes;
 ghost use Rattle.deploy_state.specs.States.{OwnsActivating, OwnsIdle, OwnsRolling, activating_device, idle_device, rolling_device};
 ghost use Rattle.step_runner.specs.Entries.{Told};
 ghost use Rattle.components.specs.Components.{is_settled};
+ghost use Rattle.histories.specs.Phases.{current};
 ghost use Rattle.histories.specs.TraceEvents.{TraceEvent, records_of};
 ghost use Rattle.histories.specs.States.{SessionState, state_after};
 ghost use Rattle.session_boots.specs.Ends.{Lines};
@@ -36,7 +37,7 @@ pub(crate) fn close_plan<D: Disk, J: Journal + Drop, K: Sink, S: Supervise>(
         living → (is_settled p.world ≡ true) →
         (h : List TraceEvent) × IsTraceOver D.Disk J.Journal disk.old disk.new told.list told.list p h
         × Lines (K.held sink.old) (K.held sink.new) p.device (records_of h) result
-        × LeftOver D.Disk J.Journal disk.new p h (λ s q. HasClosed outcomes.Successful (records_of h) q (idle_device s) (S.world supervisor.new) told living)
+        × LeftOver D.Disk J.Journal disk.new p h (λ s q. HasClosed outcomes.Successful current h q (idle_device s) (S.world supervisor.new) told living)
         result
         × OnErr result (MayAbort (state_after p h) (S.world supervisor.new) told living) }
     ensures drives { Drives (S.world supervisor.new) }
@@ -78,7 +79,7 @@ pub(crate) fn close_set<D: Disk, J: Journal + Drop, K: Sink, S: Supervise>(
         (S.world supervisor.old) told living → (broken ≡ false → is_settled p.world ≡ true) →
         (h : List TraceEvent) × IsTraceOver D.Disk J.Journal disk.old disk.new told.list told.list p h
         × Lines (K.held sink.old) (K.held sink.new) p.device (records_of h) result
-        × LeftOver D.Disk J.Journal disk.new p h (λ s q. HasClosed (if broken then outcomes.UnableToRollback else outcomes.RollbackComplete) (records_of h) q
+        × LeftOver D.Disk J.Journal disk.new p h (λ s q. HasClosed (if broken then outcomes.UnableToRollback else outcomes.RollbackComplete) current h q
         (idle_device s) (S.world supervisor.new) told living) result
         × OnErr result (MayAbort (state_after p h) (S.world supervisor.new) told living) }
     ensures drives { Drives (S.world supervisor.new) }

@@ -2,9 +2,9 @@
 ghost use Rattle.std.specs.Prelude.{◌≡◌, IfOk, IsErrOf};
 ghost use Rattle.nuc_base.specs.Faults.{Rose};
 ghost use Rattle.deploy_state.specs.States.{OwnsIdle, OwnsRolling, idle_device, rolling_device};
-ghost use Rattle.histories.specs.TraceEvents.{records_of};
+ghost use Rattle.histories.specs.Phases.{current};
 ghost use Rattle.histories.specs.States.{SessionState};
-ghost use Rattle.law_termination.specs.Drives.{Drives, Rises};
+ghost use Rattle.law_termination.specs.Drives.{Drives};
 ghost use Rattle.session_startup.specs.Ended.{HasClosed};
 ghost use Rattle.session_startup.specs.Runs.{IsAtTurnStart, MayAbort};
 ghost use Rattle.session_boots.specs.Stages.{AsTold, HasTrace, Holds, KeepsOthers};
@@ -32,11 +32,11 @@ pub fn roll<D: Disk, J: Journal + Drop, K: Sink, R: Runner, S: Supervise>(
     supervisor: &mut S,
 ) -> Result<(Idle<J>, Outcome), SessionFault>
     requires held { Holds D.Disk J.Journal OwnsRolling state disk.old }
-    requires rises { Rises (S.world supervisor.old) }
+    requires drives { Drives (S.world supervisor.old) }
     requires placed { (p : SessionState) × AsTold R.Runner runner.old (IsAtTurnStart p (rolling_device state) (S.world supervisor.old)) }
     ensures trace { (p : SessionState) → AsTold R.Runner runner.old (IsAtTurnStart p (rolling_device state) (S.world supervisor.old)) →
         HasTrace D.Disk J.Journal K.Sink R.Runner disk.old disk.new sink.old sink.new runner.old runner.new p
-        (λ x h q. AsTold R.Runner runner.new (HasClosed x.1 (records_of h) q (idle_device x.0) (S.world supervisor.new)))
+        (λ x h q. AsTold R.Runner runner.new (HasClosed x.1 current h q (idle_device x.0) (S.world supervisor.new)))
         (λ q. AsTold R.Runner runner.new (MayAbort q (S.world supervisor.new))) result }
     ensures drives { Drives (S.world supervisor.new) }
     ensures held { IfOk result (λ x. Holds D.Disk J.Journal OwnsIdle x.0 disk.new) }

@@ -5,7 +5,7 @@ ghost use Rattle.histories.specs.States.{SessionState};
 ghost use Rattle.session_boots.specs.Same.{IsSameDeployment};
 ghost use Rattle.components.specs.Events.{later};
 ghost use Rattle.law_termination.specs.Rank.{measure};
-ghost use Rattle.law_termination.specs.Drives.{Drives, Falls, NotAbove, Rises};
+ghost use Rattle.law_termination.specs.Drives.{Drives, Falls, NotAbove};
 ghost use Rattle.session_startup.specs.Coming.{OwnsComing, coming_device, is_plan};
 ghost use Rattle.session_startup.specs.Did.{ActLeft};
 ghost use Rattle.session_startup.specs.Runs.{IsAtTurnStart, MayAbort, IsInTurn};
@@ -127,7 +127,7 @@ fn turn<D: Disk, J: Journal + Drop, K: Sink, R: Runner, S: Supervise>(
     supervisor: &mut S,
 ) -> Result<(Coming<J>, Option<Turned>), SessionFault>
     requires held { Holds D.Disk J.Journal OwnsComing state disk.old }
-    requires rises { Rises (S.world supervisor.old) }
+    requires drives { Drives (S.world supervisor.old) }
     requires placed { (p : SessionState) × AsTold R.Runner runner.old (IsAtTurnStart p (coming_device state) (S.world supervisor.old)) }
     ensures trace { (p : SessionState) → AsTold R.Runner runner.old (IsAtTurnStart p (coming_device state) (S.world supervisor.old)) →
         HasTrace D.Disk J.Journal K.Sink R.Runner disk.old disk.new sink.old sink.new runner.old runner.new p
@@ -141,7 +141,7 @@ fn turn<D: Disk, J: Journal + Drop, K: Sink, R: Runner, S: Supervise>(
     ensures edge { IsErrOf result SessionFault.Edge → Rose (K.faults sink.old) (K.faults sink.new) }
     ensures quiet_disk { ¬ (IsErrOf result SessionFault.Disk) → D.faults disk.new ≡ D.faults disk.old }
     ensures quiet_sink { ¬ (IsErrOf result SessionFault.Edge) → K.faults sink.new ≡ K.faults sink.old }
-    ensures rises { Rises (S.world supervisor.new) }
+    ensures drives { Drives (S.world supervisor.new) }
     ensures falls { IfOk result (λ s. s.1 ≡ None → measure (later (R.clock runner.new) (S.world supervisor.new)) < measure
         (later (R.clock runner.old) (S.world supervisor.old))) }
     ensures later { (D.faults disk.old ≤ D.faults disk.new) × (K.faults sink.old ≤ K.faults sink.new) }
@@ -171,7 +171,7 @@ pub(crate) fn come_up<D: Disk, J: Journal + Drop, K: Sink, R: Runner, S: Supervi
     supervisor: &mut S,
 ) -> Result<(Coming<J>, Turned), SessionFault>
     requires held { Holds D.Disk J.Journal OwnsComing state disk.old }
-    requires rises { Rises (S.world supervisor.old) }
+    requires drives { Drives (S.world supervisor.old) }
     requires placed { (p : SessionState) × AsTold R.Runner runner.old (IsAtTurnStart p (coming_device state) (S.world supervisor.old)) }
     ensures trace { (p : SessionState) → AsTold R.Runner runner.old (IsAtTurnStart p (coming_device state) (S.world supervisor.old)) →
         HasTrace D.Disk J.Journal K.Sink R.Runner disk.old disk.new sink.old sink.new runner.old runner.new p
@@ -185,7 +185,7 @@ pub(crate) fn come_up<D: Disk, J: Journal + Drop, K: Sink, R: Runner, S: Supervi
     ensures edge { IsErrOf result SessionFault.Edge → Rose (K.faults sink.old) (K.faults sink.new) }
     ensures quiet_disk { ¬ (IsErrOf result SessionFault.Disk) → D.faults disk.new ≡ D.faults disk.old }
     ensures quiet_sink { ¬ (IsErrOf result SessionFault.Edge) → K.faults sink.new ≡ K.faults sink.old }
-    ensures rises { Rises (S.world supervisor.new) }
+    ensures drives { Drives (S.world supervisor.new) }
     ensures later { (D.faults disk.old ≤ D.faults disk.new) × (K.faults sink.old ≤ K.faults sink.new) }
 {
     let mut state = state;

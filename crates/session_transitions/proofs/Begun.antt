@@ -1,7 +1,7 @@
 -- The record that the plan's items are to run, in a history.
 use Rattle.std.specs.Prelude.{ℕ, Bool, true, false, List, [], ◌∷◌, Option, Some, None, if◌then◌else◌}
 use Rattle.std.specs.Option.{IsSomeAnd, option_map_or}
-use Rattle.std.proofs.Common.{◌≡◌, sym, subst}
+use Rattle.std.proofs.Common.{◌≡◌, ◌∙◌, refl, sym, ap, subst}
 use Rattle.std.proofs.lemmas.Bool.{false≢true}
 use Rattle.disk_model.specs.Disk.{Image, Leaves, DiskLaws}
 use Rattle.records.specs.Stored as stored
@@ -14,16 +14,18 @@ use Rattle.deploy_state.specs.Owned.{LeavesEither}
 use Rattle.deploy_state.specs.States.{IsIn}
 use Rattle.step_runner.specs.Entries.{Told}
 use Rattle.step_runner.specs.declared.entries.RunnerEntry.{RunnerEntry}
-use Rattle.components.specs.Components.{Components}
-use Rattle.histories.specs.Phases.{Duty, duty_in, duty_of}
+use Rattle.components.specs.Components.{Components, is_stopped, owner}
+use Rattle.histories.specs.Phases.{Duty, draining, duty_in, duty_of, is_shutting_down, previous}
 use Rattle.histories.specs.Phases as phases
 use Rattle.histories.specs.TraceEvents.{TraceEvent, Recorded}
-use Rattle.histories.specs.States.{SessionState}
+use Rattle.histories.specs.States.{SessionState, leaves}
 use Rattle.histories.specs.Follows.{MayFollow}
-use Rattle.session_boots.specs.Stands.{IsAtBootStage}
+use Rattle.law_supervisor.specs.Sound.{IsOrderly}
+use Rattle.session_boots.specs.Stands.{IsOpened}
 use Rattle.session_boots.specs.Traces.{IsTrace}
 use Rattle.session_boots.proofs.Entries.{never}
-use Rattle.session_transitions.proofs.Closing.{boot_clear}
+use Rattle.session_transitions.specs.Fails.{IsGivenUp}
+use Rattle.session_transitions.proofs.Closing.{no_other}
 use Rattle.session_transitions.proofs.Turned.{turn_went}
 
 abbrev pub Begin : TraceEvent
@@ -65,8 +67,55 @@ can_activate d is none well = by d.pending is none well
 
 -- ---- in a history
 
-begin_follows : (p : SessionState) (d : Device) (world : Components) (told : Told) (living : List ℕ) → IsAtBootStage p d world told living → MayFollow p Begin
-begin_follows p d world told living f = (boot_clear p d world told living f, (λ cut. absurd (never p.cut f.between.still.cut cut)), f.over)
+goes_on : (b : Bool) → is_shutting_down (if b then draining else previous) ≡ false
+goes_on true = refl
+goes_on false = refl
+
+module _ (p : SessionState) (d : Device) (world : Components) (told : Told) (living : List ℕ) (o : IsOpened p d world told living) where
+  begin_follows : MayFollow p Begin
+  begin_follows = (
+    record { told = o.quiet.told; alone = o.boot; no_end = o.boot_end; on = ap is_shutting_down o.generation ∙ goes_on (is_stopped p.world) },
+    (λ cut. absurd (never p.cut o.cut cut)),
+    o.over,
+  )
+
+  -- the next stage begins there
+  pub begun_opened : (e : Device) → e ≡ applied d stored.Activating → IsOpened (leaves p Begin) e world told living
+  begun_opened e same =
+      let s = o.stands in
+      record {
+        stands = record {
+          device_is = ap (λ (x : Device). applied x stored.Activating) s.device_is ∙ sym same;
+          world_is = s.world_is;
+          answered = s.answered;
+          not_before = s.not_before;
+          asked = s.asked;
+          children = s.children;
+        };
+        quiet = o.quiet;
+        generation = refl;
+        boot = o.boot;
+        boot_end = o.boot_end;
+        probed = refl;
+        over = refl;
+        cut = o.cut;
+      }
+
+  -- and the call may give up there
+  pub begun_given_up : IsOrderly p.world → IsGivenUp (leaves p Begin) world told living
+  begun_given_up orderly =
+      let s = o.stands in
+      record {
+        moment = sym (ap (λ (w : Components). w.moment) s.world_is);
+        asked = s.asked;
+        boot = o.boot;
+        boot_end = o.boot_end;
+        over = refl;
+        cut = o.cut;
+        differ = orderly.differ;
+        owners = λ n. sym (ap (λ (w : Components). owner n w.parts) s.world_is);
+        children = λ n. no_other p n living o.boot (s.children n);
+      }
 
 -- ---- over a disk
 
@@ -74,8 +123,8 @@ module _ (entries : Image → List (List ℕ) → Type 0) (files : List ℕ → 
     ℕ → Image → Type 0} {is_modelled : Bool} {seen : D → Image}
     (laws : DiskLaws is_modelled seen may_leave moment left_since) where
   pub begin_went : (old new : D) (list : Option (List RunnerEntry)) (p : SessionState) (d : Device) (world : Components) (told : Told) (living : List ℕ) →
-      IsAtBootStage p d world told living → Allowed d stored.Activating
+      IsOpened p d world told living → Allowed d stored.Activating
       → Leaves moment left_since old new (LeavesEither may_leave files entries old d (applied d stored.Activating)) →
       IsTrace entries files may_leave moment left_since old new list list p (Begin ∷ [])
-  begin_went old new list p d world told living f allowed notes = turn_went entries files laws old new list p d stored.Activating f.between.stands.device_is
-      (begin_follows p d world told living f) allowed notes
+  begin_went old new list p d world told living o allowed notes = turn_went entries files laws old new list p d stored.Activating o.stands.device_is
+      (begin_follows p d world told living o) allowed notes

@@ -16,7 +16,7 @@ use Rattle.step_runner.specs.declared.entries.RunnerEntry.{RunnerEntry}
 use Rattle.components.specs.Components.{Components, ComponentState, is_over, is_stopped, owner}
 use Rattle.components.specs.Changes.{forgetting, steadied}
 use Rattle.histories.specs.Phases.{Generation, duty_of, is_shutting_down, is_idle, is_current, draining, current}
-use Rattle.histories.specs.TraceEvents.{Recorded, records_of}
+use Rattle.histories.specs.TraceEvents.{Recorded}
 use Rattle.histories.specs.States.{SessionState, leaves}
 use Rattle.histories.specs.Follows.{IsBootChild, IsClear, Lives, MayClose as MayEnd, MayFollow}
 use Rattle.histories.specs.Courses.{IsBare, Stands}
@@ -33,6 +33,7 @@ use Rattle.law_supervisor.proofs.Steadied.{closed_orderly, living_steadied, owes
 use Rattle.session_startup.specs.Ended.{HasBroken, HasClosed}
 use Rattle.session_startup.proofs.Answered.{free_is, free_steadied, is_free}
 use Rattle.session_startup.proofs.Entering.{no_boot, without_boot}
+use Rattle.session_startup.proofs.Quiet.{quiet_steadied}
 use Rattle.session_transitions.specs.Fails.{IsGivenUp}
 
 abbrev Unasked : Record
@@ -93,7 +94,7 @@ module _ (p : SessionState) (d : Device) (o : Outcome) (world : Components) (tol
   boot_follows may = ((boot_clear p d world told living f, may), (λ cut. absurd (never p.cut f.between.still.cut cut)), f.over)
 
   pub boot_closed : (e : Device) → IsOrderly p.world → IsSome d.pending → e ≡ applied d (stored.Closed o) →
-      HasClosed o (records_of (Recorded (stored.Closed o) ∷ [])) (leaves p (Recorded (stored.Closed o))) e (steadied world) told living
+      HasClosed o draining (Recorded (stored.Closed o) ∷ []) (leaves p (Recorded (stored.Closed o))) e (steadied world) told living
   boot_closed e orderly pending same = record {
     stands = stands_closed p d e o world told living f.between.stands same;
     back = record {
@@ -106,6 +107,8 @@ module _ (p : SessionState) (d : Device) (o : Outcome) (world : Components) (tol
       over = refl;
       cut = f.between.still.cut;
     };
+    generation_is = f.between.still.generation;
+    quiet = quiet_steadied p.world f.between.still.quiet;
     orderly = steadied_orderly p.world orderly;
     closed = ([], refl);
   }
@@ -125,7 +128,7 @@ module _ (p : SessionState) (d : Device) (world : Components) (told : Told) (liv
   items_follow : MayFollow p (Recorded Unasked)
   items_follow = ((items_clear, tt), (λ cut. absurd (never p.cut b.comes.on.cut cut)), b.comes.on.over)
 
-  pub items_closed : (e : Device) → IsSome d.pending → e ≡ applied d Unasked → HasClosed outcomes.RollbackNotRequested (records_of (Recorded Unasked ∷ []))
+  pub items_closed : (e : Device) → IsSome d.pending → e ≡ applied d Unasked → HasClosed outcomes.RollbackNotRequested current (Recorded Unasked ∷ [])
       (leaves p (Recorded Unasked)) e (steadied world) told living
   items_closed e pending same = record {
     stands = stands_closed p d e outcomes.RollbackNotRequested world told living b.comes.stands same;
@@ -140,6 +143,8 @@ module _ (p : SessionState) (d : Device) (world : Components) (told : Told) (liv
       over = refl;
       cut = b.comes.on.cut;
     };
+    generation_is = b.comes.on.generation;
+    quiet = quiet_steadied p.world b.quiet;
     orderly = closed_orderly p.device p.world b.comes.keeps;
     closed = ([], refl);
   }

@@ -6,6 +6,7 @@ pub mod Policies
 pub mod Closing
 pub mod Turned
 pub mod Rising
+pub mod Standing
 pub mod Begun
 pub mod Numbers
 pub mod Gone

@@ -1,29 +1,30 @@
--- Nothing stands at a front, so the items of its stage may be brought up.
+-- Where a stage begins its items may be brought up.
 use Rattle.std.specs.Prelude.{ℕ, Bool, true, false, not, ◌&&◌, ◌||◌, List, [], ◌∷◌, length, Option, Some, None, if◌then◌else◌}
 use Rattle.std.specs.List.{list_any}
 use Rattle.std.specs.Option.{IsSomeAnd}
 use Rattle.std.proofs.Common.{◌≡◌, ◌≤◌, ◌⊎◌, ◌∙◌, inl, inr, refl, sym, ap, subst, arith}
 use Rattle.std.proofs.lemmas.Bool.{false≢true}
-use Rattle.nuc_base.proofs.Lists.{in_nil}
+use Rattle.nuc_base.specs.declared.platform.Platform.{Platform}
 use Rattle.device.specs.Devices.{Device, Pending}
 use Rattle.device.specs.declared.staged.Stage.{Stage}
 use Rattle.device.specs.declared.staged.Stage.TheVariants as stages
 use Rattle.deploy_state.specs.States.{IsIn}
 use Rattle.step_runner.specs.Entries.{Told}
-use Rattle.components.specs.Fitted.{Fitted}
 use Rattle.components.specs.Answers.{has_answered, standing_count}
 use Rattle.components.specs.Changes.{standing}
 use Rattle.components.specs.Events.{later}
-use Rattle.components.specs.Readied.{KeepSteps}
+use Rattle.components.specs.Platforms.{AllRunFor}
 use Rattle.components.specs.Turns.{is_late, is_to_start, is_unstarted, may_act, may_begin, may_retry, may_stop}
 use Rattle.components.specs.Components.{ComponentState, Components, has_orphan, is_over, is_stopped}
 use Rattle.law_supervisor.specs.Sound.{IsOrderly}
-use Rattle.histories.specs.Phases.{Generation, Phase, activating, backing, booting, duty_in, duty_of, idle, draining, rolling}
+use Rattle.histories.specs.Phases.{Generation, Phase, activating, backing, booting, duty_in, duty_of, idle, draining, previous, rolling}
 use Rattle.histories.specs.States.{SessionState}
 use Rattle.histories.specs.Follows.{MayChangeIn}
-use Rattle.session_boots.specs.Stands.{IsAtBootStage}
+use Rattle.histories.specs.Courses.{Stands}
+use Rattle.session_boots.specs.Stands.{IsAtBootStage, IsOpened}
+use Rattle.session_boots.proofs.Opened.{opened_at}
 use Rattle.session_startup.specs.Runs.{rises}
-use Rattle.session_transitions.specs.Enters.{MayEnter}
+use Rattle.session_transitions.specs.Enters.{MayEnter, RunOn}
 
 -- ---- the stage
 
@@ -46,6 +47,20 @@ may_rise booting c p up generation stopped = absurd (false≢true up)
 may_rise activating c p up generation stopped = subst (λ (x : Generation). MayChangeIn activating x p) (sym generation) tt
 may_rise backing c p up generation stopped = absurd (false≢true up)
 may_rise rolling c p up generation stopped = subst (λ (x : Generation). MayChangeIn rolling x p) (sym generation) stopped
+
+-- the plan's items may come whether or not those of before stand
+may_activate : (d : Device) → IsIn stages.Activating d → (b : Bool) (p : SessionState) → MayChangeIn (duty_of d).phase (if b then draining else previous) p
+may_activate d is b p = by d.pending is
+  where
+    either : (b : Bool) → MayChangeIn activating (if b then draining else previous) p
+    either true = tt
+    either false = tt
+
+    by : (o : Option Pending) → IsSomeAnd o (λ q. q.stage ≡ stages.Activating) →
+        MayChangeIn (duty_of (pends d o)).phase (if b then draining else previous) p
+    by None is = absurd is
+    by (Some q) is = subst (λ (s : Stage). MayChangeIn (duty_in (pends d (Some q)) (record q { stage = s })).phase (if b then draining else previous) p)
+        (sym is) (either b)
 
 -- ---- where none may act and each start is answered, none is open
 
@@ -80,34 +95,38 @@ none_begun w (p ∷ ps) quiet shut =
 answered_at : (w v : Components) (m : ℕ) → w ≡ later m v → has_answered v ≡ true → has_answered w ≡ true
 answered_at w v m is answered = ap has_answered is ∙ answered
 
--- ---- from a front
+-- ---- from where a stage begins
 
-module _ (p : SessionState) (d : Device) (world : Components) (told : Told) (living : List ℕ) (f : IsAtBootStage p d world told living) where
-  enters : IsOrderly p.world → rises (duty_of d).phase ≡ true → MayEnter p d world told living
-  enters orderly up =
-      let s = f.between.stands in
-      let still = f.between.still in
-      record {
-        stands = s;
-        stage = may_rise (duty_of d).phase p.generation p up still.generation still.stopped;
-        recorded = still.quiet.told;
-        begun = none_begun p.world p.world.parts still.quiet.none (answered_at p.world world told.moment s.world_is s.answered);
-        orderly = orderly;
-        boot = f.between.boot;
-        boot_end = f.between.boot_end;
-        over = f.over;
-        cut = still.cut;
-      }
-
+module _ (p : SessionState) (d : Device) (world : Components) (told : Told) (living : List ℕ) where
   -- what the supervisor knows of is orderly where the place is: a moment changes no component
-  pub orderly_at : IsOrderly world → IsOrderly p.world
-  orderly_at orderly = subst IsOrderly (sym f.between.stands.world_is) (record { sound = orderly.sound; differ = orderly.differ; names = orderly.names })
+  pub orderly_at : Stands p d world told living → IsOrderly world → IsOrderly p.world
+  orderly_at s orderly = subst IsOrderly (sym s.world_is) (record { sound = orderly.sound; differ = orderly.differ; names = orderly.names })
 
-  pub may_enter : IsOrderly world → IsIn stages.Activating d ⊎ IsIn stages.Rolling d → MayEnter p d world told living
-  may_enter orderly is = enters (orderly_at orderly) (rises_in d is)
+  enters : IsOpened p d world told living → IsOrderly world → MayChangeIn (duty_of d).phase p.generation p → MayEnter p d world told living
+  enters o orderly stage = record {
+    stands = o.stands;
+    stage = stage;
+    recorded = o.quiet.told;
+    begun = none_begun p.world p.world.parts o.quiet.none (answered_at p.world world told.moment o.stands.world_is o.stands.answered);
+    orderly = orderly_at o.stands orderly;
+    boot = o.boot;
+    boot_end = o.boot_end;
+    over = o.over;
+    cut = o.cut;
+  }
 
-  pub stopped_in : is_stopped world ≡ true
-  stopped_in = sym (ap (λ (w : Components). is_stopped w) f.between.stands.world_is) ∙ f.between.still.stopped
+  -- the plan's items, while those of before stand
+  pub opened_enters : IsOpened p d world told living → IsOrderly world → IsIn stages.Activating d → MayEnter p d world told living
+  opened_enters o orderly is = enters o orderly
+      (subst (λ (c : Generation). MayChangeIn (duty_of d).phase c p) (sym o.generation) (may_activate d is (is_stopped p.world) p))
+
+  -- where none stands, those of either stage
+  pub may_enter : IsAtBootStage p d world told living → IsOrderly world → IsIn stages.Activating d ⊎ IsIn stages.Rolling d → MayEnter p d world told living
+  may_enter f orderly is = enters (opened_at p d world told living f) orderly
+      (may_rise (duty_of d).phase p.generation p (rises_in d is) f.between.still.generation f.between.still.stopped)
+
+  pub stopped_in : IsAtBootStage p d world told living → is_stopped world ≡ true
+  stopped_in f = sym (ap (λ (w : Components). is_stopped w) f.between.stands.world_is) ∙ f.between.still.stopped
 
 -- ---- what a change to other items asks where none stands
 
@@ -123,9 +142,20 @@ none_in (p ∷ ps) stopped = by (not (is_over p)) stopped (none_in ps)
 none_standing : (w : Components) → is_stopped w ≡ true → standing w.parts ≡ []
 none_standing w stopped = none_in w.parts stopped
 
-pub keeps_none : (coming : List Fitted) (w : Components) → is_stopped w ≡ true → KeepSteps coming (standing w.parts)
-keeps_none coming w stopped = subst (λ (ps : List ComponentState). KeepSteps coming ps) (sym (none_standing w stopped))
-    (λ f p comes stands same. absurd (in_nil p stands))
+-- what runs for a platform
+runs_standing : (platform : Platform) (ps : List ComponentState) → AllRunFor platform ps → AllRunFor platform (standing ps)
+runs_standing platform [] a = tt
+runs_standing platform (p ∷ ps) a = by (not (is_over p)) (runs_standing platform ps a.1)
+  where
+    by : (b : Bool) → AllRunFor platform (standing ps) → AllRunFor platform (if b then p ∷ standing ps else standing ps)
+    by true rest = (a.0, rest)
+    by false rest = rest
+
+pub run_standing : (d : Device) (ps : List ComponentState) → RunOn d ps → RunOn d (standing ps)
+run_standing d ps run = λ o is. runs_standing o.platform ps (run o is)
+
+pub run_none : (d : Device) (w : Components) → is_stopped w ≡ true → RunOn d (standing w.parts)
+run_none d w stopped = subst (λ (ps : List ComponentState). RunOn d ps) (sym (none_standing w stopped)) (λ o is. tt)
 
 pub room_for_none : (w : Components) (room : ℕ) → is_stopped w ≡ true → standing_count w ≤ room
 room_for_none w room stopped = let none = ap (λ (ps : List ComponentState). length ps) (none_standing w stopped) in omega (arith, none)

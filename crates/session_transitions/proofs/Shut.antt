@@ -10,7 +10,7 @@ use Rattle.components.specs.Components.{Components, ComponentState, is_gone, is_
 use Rattle.components.specs.Marks.{Flagged, HasFirst, Within, flagged, marked, may_replan, reaching}
 use Rattle.components.specs.Answers.{has_answered}
 use Rattle.components.specs.Changes.{Coming, changed_to, coming_again, coming_for, counted, fate, fresh_part, is_replaced, is_replacing, leaving, meeting}
-use Rattle.components.specs.Changes.{newcomers, placed, replanned, standing, staying, with_newcomers, with_texts}
+use Rattle.components.specs.Changes.{newcomers, placed, replacing, replanned, standing, staying, with_newcomers, with_texts}
 
 abbrev IsShut : ComponentState → Type 0
 IsShut p = p.handed ≡ false
@@ -49,23 +49,24 @@ shut_texts f p s = go (is_same_item f.item p.fitted.item)
     go false = s
     go true = s
 
+shut_replacing : (n : Coming) (q : ComponentState) → IsShut q → IsShut (replacing n q)
+shut_replacing n q s = go (stops_for_good q.life)
+  where
+    go : (z : Bool) → IsShut (if z then record q { life = record q.life { stop = Some after.Restart }; stop = Some after.Again; next = Some n }
+        else record q { stop = Some after.Again; next = Some n })
+    go true = s
+    go false = s
+
 shut_meeting : (n : Coming) (p : ComponentState) → IsShut p → IsShut (meeting n p)
-shut_meeting n p s = go p.life.gone (is_replaced n.0 p) (stops_for_good (with_texts n.0 p).life)
+shut_meeting n p s = go p.life.gone (is_replaced n.0 p)
   where
     t : IsShut (with_texts n.0 p)
     t = shut_texts n.0 p s
 
-    go : (g y z : Bool) → IsShut (if g then coming_again n p
-        else (if y then (let q : ComponentState = with_texts n.0 p in if z then record q {
-          life = record q.life { stop = Some after.Again };
-          stop =
-              None;
-          next = Some n;
-        } else record q { stop = Some after.Again; next = Some n }) else staying n (with_texts n.0 p)))
-    go true y z = refl
-    go false true true = t
-    go false true false = t
-    go false false z = t
+    go : (g y : Bool) → IsShut (if g then coming_again n p else (if y then replacing n (with_texts n.0 p) else staying n (with_texts n.0 p)))
+    go true y = refl
+    go false true = shut_replacing n (with_texts n.0 p) t
+    go false false = t
 
 shut_fate : (ns : List Coming) (p : ComponentState) → IsShut p → IsShut (fate ns p)
 shut_fate ns p s = go (coming_for (component_name p) ns)

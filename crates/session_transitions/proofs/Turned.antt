@@ -24,15 +24,16 @@ use Rattle.histories.specs.States.{SessionState, leaves}
 use Rattle.histories.specs.Follows.{HasNoBacks, IsClear, MayFollow, MayStopAll}
 use Rattle.histories.specs.Courses.{IsBare, Stands}
 use Rattle.session_boots.specs.Lines.{lines_of}
-use Rattle.session_boots.specs.Stands.{IsAtBootStage}
+use Rattle.session_boots.specs.Stands.{IsAtBootStage, generation_of}
 use Rattle.session_boots.specs.Ends.{LeftAt}
 use Rattle.session_boots.specs.Traces.{IsTrace}
 use Rattle.session_boots.specs.declared.ends.SessionFault.TheVariants as over
 use Rattle.session_boots.proofs.Entries.{never}
 use Rattle.session_boots.proofs.Joins.{kept_one}
+use Rattle.session_boots.proofs.Opened.{generation_stopped}
 use Rattle.session_boots.proofs.Records.{doubt_at, front_bare}
 use Rattle.session_startup.specs.Ended.{HasBroken}
-use Rattle.session_transitions.specs.Fails.{IsGivenUp, IsTurned, generation_of}
+use Rattle.session_transitions.specs.Fails.{IsGivenUp, IsTurned}
 use Rattle.session_transitions.proofs.Closing.{boot_clear, items_clear, moment_now, no_other, owners_now}
 
 abbrev pends : Device → Option Pending → Device
@@ -137,9 +138,6 @@ stands_turned p d e r world told living s same = record {
   children = s.children;
 }
 
-generation_is : (w : Components) → is_stopped w ≡ true → generation_of w ≡ draining
-generation_is w stopped = rw stopped refl
-
 -- all may be stopped: before the first of the backs, and where none runs again
 clear_by : (d : Device) (q : Pending) (n : List ℕ) (l : List (List ℕ)) → backs_now d q ≡ l → (c : Bool) (p : SessionState) → p.boot ≡ None → p.boot_end ≡ None
     → MayStopAll (duty_of (applied (pends d (Some q)) (break_by l n))) (duty_of (applied (pends d (Some q)) (break_by l n))).phase
@@ -172,7 +170,7 @@ front_turned p d e world told living f r same = record {
     still = record {
       stopped = f.between.still.stopped;
       quiet = f.between.still.quiet;
-      generation = generation_is p.world f.between.still.stopped;
+      generation = generation_stopped p.world f.between.still.stopped;
       cut =
           f.between.still.cut;
     };

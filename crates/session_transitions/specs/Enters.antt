@@ -6,8 +6,9 @@ use Rattle.device.specs.Devices.{Device}
 use Rattle.step_runner.specs.Entries.{Told}
 use Rattle.components.specs.Fitted.{Fitted}
 use Rattle.components.specs.Made.{AreFitted}
+use Rattle.components.specs.Platforms.{AllRunFor}
 use Rattle.components.specs.Turns.{is_unstarted, owes}
-use Rattle.components.specs.Components.{Components}
+use Rattle.components.specs.Components.{ComponentState, Components}
 use Rattle.histories.specs.Phases.{duty_of}
 use Rattle.histories.specs.States.{SessionState}
 use Rattle.histories.specs.Courses.{Stands}
@@ -17,6 +18,10 @@ use Rattle.law_supervisor.specs.Sound.{IsOrderly}
 -- the items of the stage, made ready for the device
 abbrev pub AreReady : Device → List Fitted → Type 0
 AreReady d fitted = (o : Origin) × (d.origin ≡ Some o) × AreFitted o (duty_of d).items fitted
+
+-- each of them runs its item, and the one that it is to take, as the recipe says for the device's platform
+abbrev pub RunOn : Device → List ComponentState → Type 0
+RunOn d parts = (o : Origin) → d.origin ≡ Some o → AllRunFor o.platform parts
 
 -- Other items may take the place of those that stand: no start is open, and no failure is still to be told.
 pub record MayEnter (p : SessionState) (d : Device) (world : Components) (told : Told) (living : List ℕ) : Type 0 where

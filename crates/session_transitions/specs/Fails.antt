@@ -1,5 +1,5 @@
 -- A deployment fails: what its plan wants then, and what the one record of that leaves.
-use Rattle.std.specs.Prelude.{◌≡◌, ◌↔◌, ℕ, Bool, true, false, List, None, IsSome, Contains, if◌then◌else◌}
+use Rattle.std.specs.Prelude.{◌≡◌, ◌↔◌, ℕ, Bool, true, false, List, None, IsSome, Contains}
 use Rattle.std.specs.Option.{option_map_or}
 use Rattle.nuc_base.specs.declared.kinds.Policy.{Policy}
 use Rattle.nuc_base.specs.declared.kinds.Policy.TheVariants as policies
@@ -8,14 +8,15 @@ use Rattle.device.specs.Devices.{Device}
 use Rattle.device.specs.Lawful.{applied}
 use Rattle.deploy_state.specs.Fields.{IsBreak}
 use Rattle.step_runner.specs.Entries.{Told}
-use Rattle.components.specs.Components.{Components, is_stopped, owner}
+use Rattle.components.specs.Components.{Components, owner}
 use Rattle.components.specs.Turns.{IsQuiet}
 use Rattle.components.specs.Answers.{living_numbers}
-use Rattle.histories.specs.Phases.{Generation, previous, draining, duty_of}
+use Rattle.histories.specs.Phases.{duty_of}
 use Rattle.histories.specs.States.{SessionState}
 use Rattle.histories.specs.Courses.{Stands}
 use Rattle.histories.specs.Follows.{MayStopAll}
 use Rattle.law_supervisor.specs.Sound.{Differ, IsOrderly}
+use Rattle.session_boots.specs.Stands.{generation_of}
 
 -- ---- what the plan wants
 
@@ -32,10 +33,6 @@ is_to_roll_back d = option_map_or (λ q. is_rollback q.plan.policy) d.pending fa
 -- one record turned the deployment back
 abbrev pub Breaks : Device → Device → Type 0
 Breaks d e = (r : Record) × IsBreak d r × (e ≡ applied d r)
-
--- those that stand are to be stopped before the stage begins; where none stands, all are stopped already
-abbrev pub generation_of : Components → Generation
-generation_of w = if is_stopped w then draining else previous
 
 -- The way back begins: nothing of it was done, no component may act, and all may be stopped.
 pub record IsTurned (p : SessionState) (d : Device) (world : Components) (told : Told) (living : List ℕ) : Type 0 where

@@ -11,7 +11,7 @@ ghost use Rattle.step_runner.specs.Entries.{Told};
 ghost use Rattle.law_supervisor.specs.Sound.{IsOrderly};
 ghost use Rattle.histories.specs.Courses.{IsBare};
 ghost use Rattle.histories.specs.TraceEvents.{TraceEvent, records_of};
-ghost use Rattle.histories.specs.Phases.{duty_of};
+ghost use Rattle.histories.specs.Phases.{current, draining, duty_of};
 ghost use Rattle.histories.specs.States.{SessionState, state_after};
 ghost use Rattle.histories.specs.Waits.{has_three};
 ghost use Rattle.session_boots.specs.Ends.{Lines};
@@ -57,7 +57,7 @@ pub fn close_failed_booting<D: Disk, J: Journal + Drop, K: Sink, S: Supervise>(
         IsOrderly p.world →
         (h : List TraceEvent) × IsTraceOver D.Disk J.Journal disk.old disk.new told.list told.list p h
         × Lines (K.held sink.old) (K.held sink.new) p.device (records_of h) result
-        × LeftOver D.Disk J.Journal disk.new p h (λ s q. HasClosed outcomes.RollbackNotRequested (records_of h) q (idle_device s) (S.world supervisor.new)
+        × LeftOver D.Disk J.Journal disk.new p h (λ s q. HasClosed outcomes.RollbackNotRequested draining h q (idle_device s) (S.world supervisor.new)
         told living) result
         × OnErr result (IsBare (state_after p h)) }
     ensures taken { IfOk result (λ s. idle_device s ≡ applied (booting_device state) (stored.Closed outcomes.RollbackNotRequested)) }
@@ -100,7 +100,7 @@ pub fn close_failed_activating<D: Disk, J: Journal + Drop, K: Sink, S: Supervise
     ensures trace { (p : SessionState) → (told : Told) → (living : List ℕ) → HasBroken p (activating_device state) (S.world supervisor.old) told living →
         (h : List TraceEvent) × IsTraceOver D.Disk J.Journal disk.old disk.new told.list told.list p h
         × Lines (K.held sink.old) (K.held sink.new) p.device (records_of h) result
-        × LeftOver D.Disk J.Journal disk.new p h (λ s q. HasClosed outcomes.RollbackNotRequested (records_of h) q (idle_device s) (S.world supervisor.new)
+        × LeftOver D.Disk J.Journal disk.new p h (λ s q. HasClosed outcomes.RollbackNotRequested current h q (idle_device s) (S.world supervisor.new)
         told living) result
         × OnErr result (IsGivenUp (state_after p h) (S.world supervisor.new) told living) }
     ensures taken { IfOk result (λ s. idle_device s ≡ applied (activating_device state) (stored.Closed outcomes.RollbackNotRequested)) }
@@ -143,7 +143,7 @@ pub fn close_failed_backing<D: Disk, J: Journal + Drop, K: Sink, S: Supervise>(
         IsOrderly p.world →
         (h : List TraceEvent) × IsTraceOver D.Disk J.Journal disk.old disk.new told.list told.list p h
         × Lines (K.held sink.old) (K.held sink.new) p.device (records_of h) result
-        × LeftOver D.Disk J.Journal disk.new p h (λ s q. HasClosed outcomes.UnableToRollback (records_of h) q (idle_device s) (S.world supervisor.new) told
+        × LeftOver D.Disk J.Journal disk.new p h (λ s q. HasClosed outcomes.UnableToRollback draining h q (idle_device s) (S.world supervisor.new) told
         living) result
         × OnErr result (IsBare (state_after p h)) }
     ensures taken { IfOk result (λ s. idle_device s ≡ applied (backing_device state) (stored.Closed outcomes.UnableToRollback)) }

@@ -13,17 +13,17 @@ use Rattle.nucleus_top.proofs.Proposals.{some_of}
 use Rattle.nucleus_top.proofs.Whole.{held_whole}
 use Rattle.nucleus_top.proofs.driving.deploy_document.Goals as goal
 
-pub run_document-requires-clause-held : goal.run_document-requires-clause-held
-run_document-requires-clause-held g c = c.requires.held
+pub run_document_to_end-requires-clause-held : goal.run_document_to_end-requires-clause-held
+run_document_to_end-requires-clause-held g c = c.requires.held
 
-pub run_document-requires-clause-apart : goal.run_document-requires-clause-apart
-run_document-requires-clause-apart g c = slots_elsewhere c.needed_files_stay.ensures.journals
+pub run_document_to_end-requires-clause-apart : goal.run_document_to_end-requires-clause-apart
+run_document_to_end-requires-clause-apart g c = slots_elsewhere c.needed_files_stay.ensures.journals
 
-pub run_document-requires-clause-empty : goal.run_document-requires-clause-empty
-run_document-requires-clause-empty g c = ap (λ (w : Components). w.parts) c.new-supervisor.ensures
+pub run_document_to_end-requires-clause-empty : goal.run_document_to_end-requires-clause-empty
+run_document_to_end-requires-clause-empty g c = ap (λ (w : Components). w.parts) c.new-supervisor.ensures
 
-pub run_document-requires-clause-placed : goal.run_document-requires-clause-placed
-run_document-requires-clause-placed g c =
+pub run_document_to_end-requires-clause-placed : goal.run_document_to_end-requires-clause-placed
+run_document_to_end-requires-clause-placed g c =
     let told = Listed g.R.Runner.list g.R.Runner.told g.R.Runner.asked c.args.runner.now in (
       begun (idle_device c.args.idle) told,
       open_begun (idle_device c.args.idle) c.new-supervisor.result told (g.R.Runner.living c.args.runner.now)
@@ -36,7 +36,7 @@ returns-clause-driven g c =
     let told = Listed g.R.Runner.list g.R.Runner.told g.R.Runner.asked c.args.runner.now in
     let d = idle_device c.args.idle in
     let place = begun d told in
-    let run = c.run_document.ensures.call place (open_begun d c.new-supervisor.result told (g.R.Runner.living c.args.runner.now) c.new-supervisor.ensures
+    let run = c.run_document_to_end.ensures.call place (open_begun d c.new-supervisor.result told (g.R.Runner.living c.args.runner.now) c.new-supervisor.ensures
     c.requires.none c.requires.held.1) refl in
     let origin = some_of d.origin c.requires.held.0.origin in
     record {
@@ -54,54 +54,54 @@ returns-clause-driven g c =
       failed = run.4;
       disk_cause = run.5;
       library_cause = run.6;
-      images = kept_fronts g.met.D.Disk.laws (slots_elsewhere c.needed_files_stay.ensures.journals) c.args.disk.now c.run_document.new.disk
-          (g.R.Runner.list c.args.runner.now) (g.R.Runner.list c.run_document.new.runner) (g.K.Sink.held c.args.sink.now)
-          (g.K.Sink.held c.run_document.new.sink) place c.run_document.result
+      images = kept_fronts g.met.D.Disk.laws (slots_elsewhere c.needed_files_stay.ensures.journals) c.args.disk.now c.run_document_to_end.new.disk
+          (g.R.Runner.list c.args.runner.now) (g.R.Runner.list c.run_document_to_end.new.runner) (g.K.Sink.held c.args.sink.now)
+          (g.K.Sink.held c.run_document_to_end.new.sink) place c.run_document_to_end.result
           (held_stands g.met.D.Disk.laws c.args.idle.log c.args.disk.now d c.requires.held.0) run.2.0;
-      whole = held_whole g.met.D.Disk.laws c.args.disk.now c.run_document.new.disk d (records_of run.2.0.history)
+      whole = held_whole g.met.D.Disk.laws c.args.disk.now c.run_document_to_end.new.disk d (records_of run.2.0.history)
           (held_stands g.met.D.Disk.laws c.args.idle.log c.args.disk.now d c.requires.held.0) run.3;
       met = brought_stay_met d (records_of run.2.0.history)
           (deployed_brings c.plans_are_met.ensures d origin.0 (g.L.Library.content c.args.library.now) (g.L.Library.faults c.args.library.now)
-          (g.L.Library.faults c.run_document.new.library)
+          (g.L.Library.faults c.run_document_to_end.new.library)
           c.args.document.now c.requires.held.0.sound (slots_start c.args.idle.log d) run.2.0.ending (records_of run.2.0.history) run.0
           (run.1 origin.0 origin.1) run.2.1);
-      lasts = call_lasts g.D.Disk.may_leave g.D.Disk.moment g.D.Disk.left_since c.args.disk.now c.run_document.new.disk
-          (g.R.Runner.list c.args.runner.now) (g.R.Runner.list c.run_document.new.runner) (g.K.Sink.held c.args.sink.now)
-          (g.K.Sink.held c.run_document.new.sink) place c.run_document.result run.2.0;
+      lasts = call_lasts g.D.Disk.may_leave g.D.Disk.moment g.D.Disk.left_since c.args.disk.now c.run_document_to_end.new.disk
+          (g.R.Runner.list c.args.runner.now) (g.R.Runner.list c.run_document_to_end.new.runner) (g.K.Sink.held c.args.sink.now)
+          (g.K.Sink.held c.run_document_to_end.new.sink) place c.run_document_to_end.result run.2.0;
     }
 
 pub returns-clause-none : goal.returns-clause-none
-returns-clause-none g c = c.run_document.ensures.none
+returns-clause-none g c = c.run_document_to_end.ensures.none
 
 pub returns-clause-others : goal.returns-clause-others
-returns-clause-others g c = c.run_document.ensures.others
+returns-clause-others g c = c.run_document_to_end.ensures.others
 
 pub returns-clause-disk : goal.returns-clause-disk
-returns-clause-disk g c = c.run_document.ensures.disk
+returns-clause-disk g c = c.run_document_to_end.ensures.disk
 
 pub returns-clause-edge : goal.returns-clause-edge
-returns-clause-edge g c = c.run_document.ensures.edge
+returns-clause-edge g c = c.run_document_to_end.ensures.edge
 
 pub returns-clause-quiet_disk : goal.returns-clause-quiet_disk
-returns-clause-quiet_disk g c = c.run_document.ensures.quiet_disk
+returns-clause-quiet_disk g c = c.run_document_to_end.ensures.quiet_disk
 
 pub returns-clause-quiet_sink : goal.returns-clause-quiet_sink
-returns-clause-quiet_sink g c = c.run_document.ensures.quiet_sink
+returns-clause-quiet_sink g c = c.run_document_to_end.ensures.quiet_sink
 
 pub returns-clause-later : goal.returns-clause-later
-returns-clause-later g c = c.run_document.ensures.later
+returns-clause-later g c = c.run_document_to_end.ensures.later
 
 pub returns-clause-library : goal.returns-clause-library
-returns-clause-library g c = c.run_document.ensures.library
+returns-clause-library g c = c.run_document_to_end.ensures.library
 
 pub returns-clause-library_quiet : goal.returns-clause-library_quiet
-returns-clause-library_quiet g c = c.run_document.ensures.library_quiet
+returns-clause-library_quiet g c = c.run_document_to_end.ensures.library_quiet
 
 pub returns-clause-library_later : goal.returns-clause-library_later
-returns-clause-library_later g c = c.run_document.ensures.library_later
+returns-clause-library_later g c = c.run_document_to_end.ensures.library_later
 
 pub returns-clause-kept : goal.returns-clause-kept
-returns-clause-kept g c = c.run_document.ensures.kept
+returns-clause-kept g c = c.run_document_to_end.ensures.kept
 
 pub returns-clause-swept : goal.returns-clause-swept
-returns-clause-swept g c = c.run_document.ensures.swept
+returns-clause-swept g c = c.run_document_to_end.ensures.swept

@@ -15,17 +15,17 @@ use Rattle.nucleus_top.proofs.driving.resume.Goals as goal
 
 -- ---- the device is there
 
-pub resume-requires-clause-held : goal.resume-requires-clause-held
-resume-requires-clause-held g c = c.in-Ok.ensures.held
+pub resume_to_end-requires-clause-held : goal.resume_to_end-requires-clause-held
+resume_to_end-requires-clause-held g c = c.in-Ok.ensures.held
 
-pub resume-requires-clause-apart : goal.resume-requires-clause-apart
-resume-requires-clause-apart g c = slots_elsewhere c.needed_files_stay.ensures.journals
+pub resume_to_end-requires-clause-apart : goal.resume_to_end-requires-clause-apart
+resume_to_end-requires-clause-apart g c = slots_elsewhere c.needed_files_stay.ensures.journals
 
-pub resume-requires-clause-empty : goal.resume-requires-clause-empty
-resume-requires-clause-empty g c = ap (λ (w : Components). w.parts) c.new-supervisor.ensures
+pub resume_to_end-requires-clause-empty : goal.resume_to_end-requires-clause-empty
+resume_to_end-requires-clause-empty g c = ap (λ (w : Components). w.parts) c.new-supervisor.ensures
 
-pub resume-requires-clause-placed : goal.resume-requires-clause-placed
-resume-requires-clause-placed g c =
+pub resume_to_end-requires-clause-placed : goal.resume_to_end-requires-clause-placed
+resume_to_end-requires-clause-placed g c =
     let told = Listed g.R.Runner.list g.R.Runner.told g.R.Runner.asked c.args.runner.now in
     let d = loaded_device c.in-Ok.state in
     (begun d told, front_begun d c.new-supervisor.result told (g.R.Runner.living c.args.runner.now) c.new-supervisor.ensures c.requires.none, refl)
@@ -34,14 +34,16 @@ pub returns-in-Ok-clause-ran : goal.returns-in-Ok-clause-ran
 returns-in-Ok-clause-ran g c =
     let told = Listed g.R.Runner.list g.R.Runner.told g.R.Runner.asked c.args.runner.now in
     let d = loaded_device c.in-Ok.state in
-    let printed : Printed = printed_of g.K.Sink.held g.K.Sink.faults c.args.sink.now c.resume.new.sink in
-    let call = c.resume.ensures.call (begun d told) (front_begun d c.new-supervisor.result told (g.R.Runner.living c.args.runner.now) c.new-supervisor.ensures
+    let printed : Printed = printed_of g.K.Sink.held g.K.Sink.faults c.args.sink.now c.resume_to_end.new.sink in
+    let call = c.resume_to_end.ensures.call (begun d told) (front_begun d c.new-supervisor.result told (g.R.Runner.living c.args.runner.now)
+    c.new-supervisor.ensures
     c.requires.none) refl refl in
     inr (
       d,
       c.in-Ok.ensures.opened,
-      resumed_on g.met.D.Disk.laws c.args.disk.now c.open_swept.new.disk c.resume.new.disk c.open_swept.ensures.spared
-          (g.R.Runner.list c.args.runner.now) (g.R.Runner.list c.resume.new.runner) printed c.resume.result g.D.Disk.faults c.open_swept.ensures.later d
+      resumed_on g.met.D.Disk.laws c.args.disk.now c.open_swept.new.disk c.resume_to_end.new.disk c.open_swept.ensures.spared
+          (g.R.Runner.list c.args.runner.now) (g.R.Runner.list c.resume_to_end.new.runner) printed c.resume_to_end.result g.D.Disk.faults
+          c.open_swept.ensures.later d
           (same_fronts g.met.D.Disk.laws c.args.disk.now c.open_swept.new.disk d (λ is_modelled. (c.in-Ok.ensures.opened is_modelled).1)
           c.open_swept.ensures.images)
           (λ is_modelled. (c.in-Ok.ensures.opened is_modelled).1) c.open_swept.ensures.whole
@@ -54,11 +56,12 @@ returns-in-Ok-clause-ran g c =
             resumes = call.1;
             history = record { start = refl; proper = call.0.trace.proper; run = call.0.trace.run };
             failed = call.3;
-            images = kept_fronts g.met.D.Disk.laws (slots_elsewhere c.needed_files_stay.ensures.journals) c.open_swept.new.disk c.resume.new.disk
-                (g.R.Runner.list c.args.runner.now) (g.R.Runner.list c.resume.new.runner) (g.K.Sink.held c.args.sink.now) (g.K.Sink.held c.resume.new.sink)
-                (begun d told) c.resume.result
+            images = kept_fronts g.met.D.Disk.laws (slots_elsewhere c.needed_files_stay.ensures.journals) c.open_swept.new.disk c.resume_to_end.new.disk
+                (g.R.Runner.list c.args.runner.now) (g.R.Runner.list c.resume_to_end.new.runner) (g.K.Sink.held c.args.sink.now)
+                (g.K.Sink.held c.resume_to_end.new.sink)
+                (begun d told) c.resume_to_end.result
                 (loaded_stands g.met.D.Disk.laws c.in-Ok.state c.open_swept.new.disk c.in-Ok.ensures.held) call.0;
-            whole = held_whole g.met.D.Disk.laws c.open_swept.new.disk c.resume.new.disk d (records_of call.0.history)
+            whole = held_whole g.met.D.Disk.laws c.open_swept.new.disk c.resume_to_end.new.disk d (records_of call.0.history)
                 (loaded_stands g.met.D.Disk.laws c.in-Ok.state c.open_swept.new.disk c.in-Ok.ensures.held) call.2;
             met = brought_stay_met d (records_of call.0.history)
                 (resumed_brings d d.pending call.0.ending call.0.history (state_after (begun d told) call.0.history) call.1 call.0.ends call.0.once);
@@ -66,34 +69,35 @@ returns-in-Ok-clause-ran g c =
     )
 
 pub returns-in-Ok-clause-none : goal.returns-in-Ok-clause-none
-returns-in-Ok-clause-none g c = c.resume.ensures.none
+returns-in-Ok-clause-none g c = c.resume_to_end.ensures.none
 
 pub returns-in-Ok-clause-others : goal.returns-in-Ok-clause-others
-returns-in-Ok-clause-others g c = λ told name apart outside. c.resume.ensures.others told name apart outside ∙ c.open_swept.ensures.others told name apart
+returns-in-Ok-clause-others g c = λ told name apart outside. c.resume_to_end.ensures.others told name apart outside ∙
+    c.open_swept.ensures.others told name apart
     outside
 
 pub returns-in-Ok-clause-disk : goal.returns-in-Ok-clause-disk
 returns-in-Ok-clause-disk g c = λ is.
-    let rose : Rose (g.D.Disk.faults c.args.disk.now) (g.D.Disk.faults c.resume.new.disk) =
-    omega (arith, c.resume.ensures.disk is, c.open_swept.ensures.later) in rose
+    let rose : Rose (g.D.Disk.faults c.args.disk.now) (g.D.Disk.faults c.resume_to_end.new.disk) =
+    omega (arith, c.resume_to_end.ensures.disk is, c.open_swept.ensures.later) in rose
 
 pub returns-in-Ok-clause-edge : goal.returns-in-Ok-clause-edge
-returns-in-Ok-clause-edge g c = c.resume.ensures.edge
+returns-in-Ok-clause-edge g c = c.resume_to_end.ensures.edge
 
 pub returns-in-Ok-clause-own : goal.returns-in-Ok-clause-own
-returns-in-Ok-clause-own g c = c.resume.ensures.own
+returns-in-Ok-clause-own g c = c.resume_to_end.ensures.own
 
 pub returns-in-Ok-clause-quiet_disk : goal.returns-in-Ok-clause-quiet_disk
-returns-in-Ok-clause-quiet_disk g c = λ other more. c.resume.ensures.quiet_disk other more ∙ c.in-Ok.ensures.quiet (λ is. cc)
+returns-in-Ok-clause-quiet_disk g c = λ other more. c.resume_to_end.ensures.quiet_disk other more ∙ c.in-Ok.ensures.quiet (λ is. cc)
 
 pub returns-in-Ok-clause-quiet_sink : goal.returns-in-Ok-clause-quiet_sink
-returns-in-Ok-clause-quiet_sink g c = c.resume.ensures.quiet_sink
+returns-in-Ok-clause-quiet_sink g c = c.resume_to_end.ensures.quiet_sink
 
 pub returns-in-Ok-clause-later : goal.returns-in-Ok-clause-later
 returns-in-Ok-clause-later g c = (
-  stays_on (g.D.Disk.faults c.args.disk.now) (g.D.Disk.faults c.open_swept.new.disk) (g.D.Disk.faults c.resume.new.disk) c.open_swept.ensures.later
-      c.resume.ensures.later.0,
-  c.resume.ensures.later.1,
+  stays_on (g.D.Disk.faults c.args.disk.now) (g.D.Disk.faults c.open_swept.new.disk) (g.D.Disk.faults c.resume_to_end.new.disk) c.open_swept.ensures.later
+      c.resume_to_end.ensures.later.0,
+  c.resume_to_end.ensures.later.1,
 )
 
 -- ---- the journal gives no device
@@ -161,7 +165,7 @@ returns-in-Err-clause-later g c = (
 -- ---- no stray file is left behind a close
 
 pub returns-in-Ok-clause-swept : goal.returns-in-Ok-clause-swept
-returns-in-Ok-clause-swept g c = c.resume.ensures.swept c.in-Ok.ensures.clean
+returns-in-Ok-clause-swept g c = c.resume_to_end.ensures.swept c.in-Ok.ensures.clean
 
 pub returns-in-Err-clause-swept : goal.returns-in-Err-clause-swept
 returns-in-Err-clause-swept g c =

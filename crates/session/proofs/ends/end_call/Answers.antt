@@ -5,6 +5,7 @@ use Rattle.artifact_store.proofs.Walking.{start_spares}
 use Rattle.session_boots.specs.declared.ends.SessionFault.TheVariants as over
 use Rattle.session.proofs.Printing.{says_none}
 use Rattle.session.specs.Endings.{Breaks, Fails}
+use Rattle.session.specs.Parts.{status_of_ran}
 use Rattle.session.proofs.Results.{answers_err, answers_ok, ends_err, ends_ok, err_if, err_on, if_ok, not_edge, ok_if, ok_on, on_err}
 use Rattle.session.proofs.ends.end_call.Goals as goal
 
@@ -13,8 +14,11 @@ use Rattle.session.proofs.ends.end_call.Goals as goal
 pub end_driven-requires-clause-placed : goal.end_driven-requires-clause-placed
 end_driven-requires-clause-placed g c = if_ok _ c.args.driven c.in-Ok.driven c.in-Ok.driven c.in-Ok.is refl c.requires.placed
 
-pub end_driven-requires-clause-drives : goal.end_driven-requires-clause-drives
-end_driven-requires-clause-drives g c = if_ok _ c.args.driven c.in-Ok.driven c.in-Ok.driven c.in-Ok.is refl c.requires.drives
+pub end_driven-requires-clause-held : goal.end_driven-requires-clause-held
+end_driven-requires-clause-held g c = if_ok _ c.args.driven c.in-Ok.driven c.in-Ok.driven c.in-Ok.is refl c.requires.held
+
+pub returns-in-Ok-clause-over : goal.returns-in-Ok-clause-over
+returns-in-Ok-clause-over g c = ok_on _ c.args.driven c.in-Ok.driven c.in-Ok.is
 
 pub returns-in-Ok-clause-trace : goal.returns-in-Ok-clause-trace
 returns-in-Ok-clause-trace g c = ok_if _ c.args.driven c.in-Ok.driven c.in-Ok.driven c.in-Ok.is refl c.end_driven.ensures.trace
@@ -29,7 +33,8 @@ pub returns-in-Ok-clause-safe : goal.returns-in-Ok-clause-safe
 returns-in-Ok-clause-safe g c = ok_if _ c.args.driven c.in-Ok.driven c.in-Ok.driven c.in-Ok.is refl c.end_driven.ensures.safe
 
 pub returns-in-Ok-clause-answers : goal.returns-in-Ok-clause-answers
-returns-in-Ok-clause-answers g c = answers_ok c.end_driven.result c.args.driven c.in-Ok.driven c.in-Ok.driven c.in-Ok.is refl c.end_driven.ensures.answers
+returns-in-Ok-clause-answers g c =
+    answers_ok (status_of_ran c.end_driven.result) c.args.driven c.in-Ok.driven c.in-Ok.driven c.in-Ok.is refl c.end_driven.ensures.answers
 
 pub returns-in-Ok-clause-disk : goal.returns-in-Ok-clause-disk
 returns-in-Ok-clause-disk g c = λ is. inr (c.end_driven.ensures.disk is)
@@ -40,7 +45,8 @@ returns-in-Ok-clause-edge g c = λ is. inr (c.end_driven.ensures.edge is)
 pub returns-in-Ok-clause-ends : goal.returns-in-Ok-clause-ends
 returns-in-Ok-clause-ends g c =
     let s = c.end_driven.ensures.ends in
-    ends_ok c.end_driven.result (g.K.Sink.held c.args.sink.now) (g.K.Sink.held c.end_driven.new.sink) c.args.driven c.in-Ok.driven c.in-Ok.driven c.in-Ok.is
+    ends_ok (status_of_ran c.end_driven.result) (g.K.Sink.held c.args.sink.now) (g.K.Sink.held c.end_driven.new.sink) c.args.driven c.in-Ok.driven
+    c.in-Ok.driven c.in-Ok.is
     refl (s.0, (s.1.0, λ fails. inr (s.1.1 fails)), s.2, s.3)
 
 pub returns-in-Ok-clause-unswept : goal.returns-in-Ok-clause-unswept
@@ -54,8 +60,11 @@ returns-in-Err-Disk-clause-trace g c = err_if _ c.args.driven c.in-Err-Disk.fiel
 pub returns-in-Err-Disk-clause-still : goal.returns-in-Err-Disk-clause-still
 returns-in-Err-Disk-clause-still g c = err_on _ c.args.driven c.in-Err-Disk.field-0 c.in-Err-Disk.is refl
 
+pub returns-in-Err-Disk-clause-over : goal.returns-in-Err-Disk-clause-over
+returns-in-Err-Disk-clause-over g c = err_on _ c.args.driven c.in-Err-Disk.field-0 c.in-Err-Disk.is tt
+
 pub returns-in-Err-Disk-clause-none : goal.returns-in-Err-Disk-clause-none
-returns-in-Err-Disk-clause-none g c = on_err _ c.args.driven c.in-Err-Disk.field-0 c.in-Err-Disk.is c.requires.none
+returns-in-Err-Disk-clause-none g c = λ over. on_err _ c.args.driven c.in-Err-Disk.field-0 c.in-Err-Disk.is c.requires.none
 
 pub returns-in-Err-Disk-clause-spared : goal.returns-in-Err-Disk-clause-spared
 returns-in-Err-Disk-clause-spared g c = start_spares g.met.D.Disk.laws (IsBelow artifacts) c.args.disk.now
@@ -83,8 +92,14 @@ returns-in-Err-Disk-clause-unswept g c = err_on _ c.args.driven c.in-Err-Disk.fi
 
 -- ---- a line was not written
 
-pub returns-clause-ends : goal.returns-clause-ends
-returns-clause-ends g c =
+pub returns-in-Err-Edge-clause-over : goal.returns-in-Err-Edge-clause-over
+returns-in-Err-Edge-clause-over g c = err_on _ c.args.driven c.in-Err-Edge.field-0 c.in-Err-Edge.is tt
+
+pub returns-in-Err-Edge-clause-none : goal.returns-in-Err-Edge-clause-none
+returns-in-Err-Edge-clause-none g c = λ over. on_err _ c.args.driven c.in-Err-Edge.field-0 c.in-Err-Edge.is c.requires.none
+
+pub returns-in-Err-Edge-clause-ends : goal.returns-in-Err-Edge-clause-ends
+returns-in-Err-Edge-clause-ends g c =
     let held = g.K.Sink.held c.args.sink.now in
     ends_err statuses.Edge held held c.args.driven c.in-Err-Edge.field-0 over.Edge c.in-Err-Edge.is (rw c.in-Err-Edge.is at c.in-Err-Edge.field-0-is)
     (Breaks, (refl, λ fails. absurd cc), says_none held held statuses.Edge refl, inl refl)
@@ -97,5 +112,5 @@ returns-in-Ok-clause-swept g c = λ told. ok_if _ c.args.driven c.in-Ok.driven c
 pub returns-in-Err-Disk-clause-swept : goal.returns-in-Err-Disk-clause-swept
 returns-in-Err-Disk-clause-swept g c = λ told. err_if _ c.args.driven c.in-Err-Disk.field-0 c.in-Err-Disk.is
 
-pub returns-clause-swept : goal.returns-clause-swept
-returns-clause-swept g c = λ told. err_if _ c.args.driven c.in-Err-Edge.field-0 c.in-Err-Edge.is
+pub returns-in-Err-Edge-clause-swept : goal.returns-in-Err-Edge-clause-swept
+returns-in-Err-Edge-clause-swept g c = λ told. err_if _ c.args.driven c.in-Err-Edge.field-0 c.in-Err-Edge.is

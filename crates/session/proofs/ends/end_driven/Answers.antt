@@ -10,10 +10,11 @@ use Rattle.artifact_store.proofs.Sparing.{still_safe}
 use Rattle.artifact_store.proofs.Walking.{start_spares}
 use Rattle.deploy_state.specs.States.{loaded_device}
 use Rattle.step_runner.specs.Entries.{Listed}
-use Rattle.histories.specs.TraceEvents.{records_of}
 use Rattle.session_boots.proofs.Acting.{acts_none}
 use Rattle.session_boots.specs.Lines.{id_of}
-use Rattle.session_rollout.specs.Driven.{DrivenLeft, driven_device}
+use Rattle.session_rollout.specs.Driven.{DrivenLeft, OwnsDriven, driven_device}
+use Rattle.session.specs.Parts.{status_of_ran}
+use Rattle.session.proofs.Ending.{end_rises}
 use Rattle.session_rollout.specs.declared.driven.Driven.{Driven}
 use Rattle.session.specs.Calls.{AnswersFor, EndsFor, SaysEnding}
 use Rattle.session.specs.Endings.{Fails, Reboots, Restarts}
@@ -24,8 +25,9 @@ use Rattle.session.proofs.ends.end_driven.Goals as goal
 
 -- ---- it closed
 
-pub end_closed-requires-clause-drives : goal.end_closed-requires-clause-drives
-end_closed-requires-clause-drives g c = c.requires.drives
+pub end_closed-requires-clause-held : goal.end_closed-requires-clause-held
+end_closed-requires-clause-held g c = subst (λ (x : Driven _). OwnsDriven g.D.Disk.is_modelled g.D.Disk.may_leave g.J.Journal.stands g.J.Journal.end x
+    c.args.disk.now) c.in-Closed.is c.requires.held
 
 pub end_closed-requires-clause-placed : goal.end_closed-requires-clause-placed
 end_closed-requires-clause-placed g c =
@@ -33,14 +35,14 @@ end_closed-requires-clause-placed g c =
     let told = Listed g.R.Runner.list g.R.Runner.told g.R.Runner.asked c.args.runner.now in
     let l = subst (λ (x : Driven _). DrivenLeft x q.1 q.0 (g.S.Supervise.world c.args.supervisor.now) told (g.R.Runner.living c.args.runner.now))
     c.in-Closed.is q.2 in
-    (q.0, records_of q.1, l, q.3)
+    (q.0, q.1, l)
 
 pub returns-in-Closed-clause-trace : goal.returns-in-Closed-clause-trace
-returns-in-Closed-clause-trace g c = λ p h left serves.
+returns-in-Closed-clause-trace g c = λ p h before left.
     let told = Listed g.R.Runner.list g.R.Runner.told g.R.Runner.asked c.args.runner.now in
     let l = subst (λ (x : Driven _). DrivenLeft x h p (g.S.Supervise.world c.args.supervisor.now) told (g.R.Runner.living c.args.runner.now)) c.in-Closed.is
     left in
-    c.end_closed.ensures.trace p (records_of h) l serves
+    c.end_closed.ensures.trace p h before l
 
 pub returns-in-Closed-clause-safe : goal.returns-in-Closed-clause-safe
 returns-in-Closed-clause-safe g c =
@@ -49,31 +51,30 @@ returns-in-Closed-clause-safe g c =
     c.end_closed.ensures.safe
 
 pub returns-in-Closed-clause-answers : goal.returns-in-Closed-clause-answers
-returns-in-Closed-clause-answers g c = subst (λ (x : Driven _). AnswersFor (Ok x) c.end_closed.result) (sym c.in-Closed.is) c.end_closed.ensures.answers
+returns-in-Closed-clause-answers g c =
+    subst (λ (x : Driven _). AnswersFor (Ok x) (status_of_ran c.end_closed.result)) (sym c.in-Closed.is) c.end_closed.ensures.answers
 
 pub returns-in-Closed-clause-ends : goal.returns-in-Closed-clause-ends
 returns-in-Closed-clause-ends g c =
-    subst (λ (x : Driven _). SaysEnding (g.K.Sink.held c.args.sink.now) (g.K.Sink.held c.end_closed.new.sink) c.end_closed.result
+    subst (λ (x : Driven _). SaysEnding (g.K.Sink.held c.args.sink.now) (g.K.Sink.held c.end_closed.new.sink) (status_of_ran c.end_closed.result)
     (λ e. EndsFor (Ok x) e × (e ≡ Fails → Rose (g.D.Disk.faults c.args.disk.now) (g.D.Disk.faults c.end_closed.new.disk)))) (sym c.in-Closed.is)
     c.end_closed.ensures.ends
 
 -- ---- it ends for a restart
 
 pub returns-in-Restart-clause-trace : goal.returns-in-Restart-clause-trace
-returns-in-Restart-clause-trace g c = λ p h left serves.
+returns-in-Restart-clause-trace g c = λ p h before left.
     let list = g.R.Runner.list c.args.runner.now in
     let told = Listed g.R.Runner.list g.R.Runner.told g.R.Runner.asked c.args.runner.now in
     let world = g.S.Supervise.world c.args.supervisor.now in
     let living = g.R.Runner.living c.args.runner.now in
-    let l = subst (λ (x : Driven _). DrivenLeft x h p world told living) c.in-Restart.is left in (
-      [],
-      acts_none p list list refl,
-      restart_ends p (loaded_device c.in-Restart.state) world told living c.say_again.result statuses.Restart l.0 l.1 refl
-          c.say_again.ensures.answers,
-    )
+    let l = subst (λ (x : Driven _). DrivenLeft x h p world told living) c.in-Restart.is left in
+    let end = restart_ends p (loaded_device c.in-Restart.state) world told living c.say_again-status.result statuses.Restart l.0 l.1 refl
+    c.say_again-status.ensures.answers in
+    ([], acts_none p list list refl, (tt, λ stopped. refl), λ rose. end_rises p c.say_again-status.result rose end)
 
 pub returns-in-Restart-clause-none : goal.returns-in-Restart-clause-none
-returns-in-Restart-clause-none g c =
+returns-in-Restart-clause-none g c = λ over.
     let q = c.requires.placed in
     let d = loaded_device c.in-Restart.state in
     let told = Listed g.R.Runner.list g.R.Runner.told g.R.Runner.asked c.args.runner.now in
@@ -92,35 +93,35 @@ returns-in-Restart-clause-safe g c =
     (still_safe g.met.D.Disk.laws (loaded_device c.in-Restart.state) c.args.disk.now)
 
 pub returns-in-Restart-clause-answers : goal.returns-in-Restart-clause-answers
-returns-in-Restart-clause-answers g c = subst (λ (x : Driven _). AnswersFor (Ok x) c.say_again.result) (sym c.in-Restart.is) c.say_again.ensures.answers
+returns-in-Restart-clause-answers g c =
+    subst (λ (x : Driven _). AnswersFor (Ok x) c.say_again-status.result) (sym c.in-Restart.is) c.say_again-status.ensures.answers
 
 pub returns-in-Restart-clause-ends : goal.returns-in-Restart-clause-ends
 returns-in-Restart-clause-ends g c =
-    subst (λ (x : Driven _). SaysEnding (g.K.Sink.held c.args.sink.now) (g.K.Sink.held c.say_again.new.sink) c.say_again.result
+    subst (λ (x : Driven _). SaysEnding (g.K.Sink.held c.args.sink.now) (g.K.Sink.held c.say_again-status.new.sink) c.say_again-status.result
     (λ e. EndsFor (Ok x) e × (e ≡ Fails → Rose (g.D.Disk.faults c.args.disk.now) (g.D.Disk.faults c.args.disk.now)))) (sym c.in-Restart.is)
-    (Restarts (id_of (loaded_device c.in-Restart.state)), (refl, λ fails. absurd cc), c.say_again.ensures.says, c.say_again.ensures.answers)
+    (Restarts (id_of (loaded_device c.in-Restart.state)), (refl, λ fails. absurd cc), c.say_again-status.ensures.says, c.say_again-status.ensures.answers)
 
 pub returns-in-Restart-clause-disk : goal.returns-in-Restart-clause-disk
-returns-in-Restart-clause-disk g c = λ is. absurd (two_never c.say_again.result statuses.Restart statuses.Edge statuses.Disk c.say_again.ensures.answers
+returns-in-Restart-clause-disk g c = λ is. absurd (two_never c.say_again-status.result statuses.Restart statuses.Edge statuses.Disk
+    c.say_again-status.ensures.answers
     (λ e. cc) (λ e. cc) is)
 
 -- ---- for a reboot
 
 pub returns-in-Reboot-clause-trace : goal.returns-in-Reboot-clause-trace
-returns-in-Reboot-clause-trace g c = λ p h left serves.
+returns-in-Reboot-clause-trace g c = λ p h before left.
     let list = g.R.Runner.list c.args.runner.now in
     let told = Listed g.R.Runner.list g.R.Runner.told g.R.Runner.asked c.args.runner.now in
     let world = g.S.Supervise.world c.args.supervisor.now in
     let living = g.R.Runner.living c.args.runner.now in
-    let l = subst (λ (x : Driven _). DrivenLeft x h p world told living) c.in-Reboot.is left in (
-      [],
-      acts_none p list list refl,
-      restart_ends p (loaded_device c.in-Reboot.state) world told living c.say_again-in-Reboot.result statuses.Reboot l.0 l.1
-          refl c.say_again-in-Reboot.ensures.answers,
-    )
+    let l = subst (λ (x : Driven _). DrivenLeft x h p world told living) c.in-Reboot.is left in
+    let end = restart_ends p (loaded_device c.in-Reboot.state) world told living c.say_again-status-in-Reboot.result statuses.Reboot l.0 l.1 refl
+    c.say_again-status-in-Reboot.ensures.answers in
+    ([], acts_none p list list refl, (tt, λ stopped. refl), λ rose. end_rises p c.say_again-status-in-Reboot.result rose end)
 
 pub returns-in-Reboot-clause-none : goal.returns-in-Reboot-clause-none
-returns-in-Reboot-clause-none g c =
+returns-in-Reboot-clause-none g c = λ over.
     let q = c.requires.placed in
     let d = loaded_device c.in-Reboot.state in
     let told = Listed g.R.Runner.list g.R.Runner.told g.R.Runner.asked c.args.runner.now in
@@ -139,28 +140,34 @@ returns-in-Reboot-clause-safe g c =
     (still_safe g.met.D.Disk.laws (loaded_device c.in-Reboot.state) c.args.disk.now)
 
 pub returns-in-Reboot-clause-answers : goal.returns-in-Reboot-clause-answers
-returns-in-Reboot-clause-answers g c = subst (λ (x : Driven _). AnswersFor (Ok x) c.say_again-in-Reboot.result) (sym c.in-Reboot.is)
-    c.say_again-in-Reboot.ensures.answers
+returns-in-Reboot-clause-answers g c = subst (λ (x : Driven _). AnswersFor (Ok x) c.say_again-status-in-Reboot.result) (sym c.in-Reboot.is)
+    c.say_again-status-in-Reboot.ensures.answers
 
 pub returns-in-Reboot-clause-ends : goal.returns-in-Reboot-clause-ends
 returns-in-Reboot-clause-ends g c =
-    subst (λ (x : Driven _). SaysEnding (g.K.Sink.held c.args.sink.now) (g.K.Sink.held c.say_again-in-Reboot.new.sink) c.say_again-in-Reboot.result
-    (λ e. EndsFor (Ok x) e × (e ≡ Fails → Rose (g.D.Disk.faults c.args.disk.now) (g.D.Disk.faults c.args.disk.now)))) (sym c.in-Reboot.is)
-    (Reboots (id_of (loaded_device c.in-Reboot.state)), (refl, λ fails. absurd cc), c.say_again-in-Reboot.ensures.says, c.say_again-in-Reboot.ensures.answers)
+    subst (λ (x : Driven _). SaysEnding (g.K.Sink.held c.args.sink.now) (g.K.Sink.held c.say_again-status-in-Reboot.new.sink)
+    c.say_again-status-in-Reboot.result
+    (λ e. EndsFor (Ok x) e × (e ≡ Fails → Rose (g.D.Disk.faults c.args.disk.now) (g.D.Disk.faults c.args.disk.now)))) (sym c.in-Reboot.is) (
+      Reboots (id_of (loaded_device c.in-Reboot.state)),
+      (refl, λ fails. absurd cc),
+      c.say_again-status-in-Reboot.ensures.says,
+      c.say_again-status-in-Reboot.ensures.answers,
+    )
 
 pub returns-in-Reboot-clause-disk : goal.returns-in-Reboot-clause-disk
-returns-in-Reboot-clause-disk g c = λ is. absurd (two_never c.say_again-in-Reboot.result statuses.Reboot statuses.Edge statuses.Disk
-    c.say_again-in-Reboot.ensures.answers (λ e. cc) (λ e. cc) is)
+returns-in-Reboot-clause-disk g c = λ is. absurd (two_never c.say_again-status-in-Reboot.result statuses.Reboot statuses.Edge statuses.Disk
+    c.say_again-status-in-Reboot.ensures.answers (λ e. cc) (λ e. cc) is)
 
 -- ---- no stray file is left behind a close
 
 pub returns-in-Closed-clause-swept : goal.returns-in-Closed-clause-swept
 returns-in-Closed-clause-swept g c = λ told o is.
     subst (λ (x : Driven _). IsSwept (items_of (driven_device x)) (g.D.Disk.seen c.end_closed.new.disk)) (sym c.in-Closed.is)
-    (c.end_closed.ensures.swept told (close_is _ o c.end_closed.result c.end_closed.ensures.answers is))
+    (c.end_closed.ensures.swept told (close_is _ o (status_of_ran c.end_closed.result) c.end_closed.ensures.answers is))
 
 pub returns-in-Restart-clause-swept : goal.returns-in-Restart-clause-swept
-returns-in-Restart-clause-swept g c = λ told o is. absurd (no_close o c.say_again.result statuses.Restart refl c.say_again.ensures.answers is)
+returns-in-Restart-clause-swept g c = λ told o is. absurd (no_close o c.say_again-status.result statuses.Restart refl c.say_again-status.ensures.answers is)
 
 pub returns-in-Reboot-clause-swept : goal.returns-in-Reboot-clause-swept
-returns-in-Reboot-clause-swept g c = λ told o is. absurd (no_close o c.say_again-in-Reboot.result statuses.Reboot refl c.say_again-in-Reboot.ensures.answers is)
+returns-in-Reboot-clause-swept g c = λ told o is. absurd (no_close o c.say_again-status-in-Reboot.result statuses.Reboot refl
+    c.say_again-status-in-Reboot.ensures.answers is)

@@ -12,6 +12,7 @@ use Rattle.device.specs.Standing.{StandsFor}
 use Rattle.records.specs.Stored.{Accepted, plan_view}
 use Rattle.histories.specs.TraceEvents.{Recorded}
 use Rattle.session_boots.specs.Lines.{accepted_line}
+use Rattle.session_boots.proofs.Told.{stops_last}
 use Rattle.session_admission.specs.Accepts.{Answer, HasTaken, OwnsTaken, IsFullAt, IsFullOrShort, IsTakenOf}
 use Rattle.session_admission.proofs.Opening.{accept_went, line_is, opened_by, refusal_back, refusal_edge, refusal_fills, refusal_full, refusal_held}
 use Rattle.session_admission.proofs.Opening.{refusal_stops, refusal_taken, stopped_answer, stops_refusal}
@@ -46,6 +47,7 @@ returns-in-Err-acknowledge-clause-trace g c = λ taken p world told living opens
       subst (λ (l : List ℕ). AppendsPrefix (g.K.Sink.held c.args.sink.now) (g.K.Sink.held c.acknowledge.new.sink) l)
           (ap accepted_line c.in-Ok.ensures.receipt ∙ line_is p.device plan) c.in-Err-acknowledge.ensures.line,
       (
+        stops_last (Accepted plan),
         opens.boot_end,
         λ i left. subst (λ (y : Device). StandsFor g.J.Journal.entries i y) back
             (in_hand_stands g.met.D.Disk.laws g.met.J.Journal.laws _ c.accept.new.disk e c.in-Ok.ensures.held.0.0 i left),

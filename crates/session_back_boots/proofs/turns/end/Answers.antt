@@ -15,7 +15,7 @@ use Rattle.session_back_boots.proofs.Duties.{allowed_ended, in_turn, mark_ended,
 use Rattle.session_boots.proofs.Records.{bare_ended, between_ended, doubt_at, end_went, over_ended}
 use Rattle.session_back_boots.proofs.Records.{line_ended}
 use Rattle.session_back_boots.proofs.Staged.{backed_by, still_by}
-use Rattle.session_boots.proofs.Told.{last_untold}
+use Rattle.session_boots.proofs.Told.{last_untold, stops_last}
 use Rattle.session_back_boots.proofs.turns.end.Goals as goal
 
 pub ended-requires-clause-may : goal.ended-requires-clause-may
@@ -68,6 +68,7 @@ returns-in-Err-tell_end-clause-trace g c = λ p world told living h.
           (line_ended p d e n.0 x h.stands.device_is same)
           (c.in-Err-tell_end.ensures.line n.0 (λ fails. ap next_name same ∙ still_named d n.0 x t fails)),
       (
+        stops_last r,
         refl,
         λ i left. subst (λ (y : Device). StandsFor g.J.Journal.entries i y) back (
             backed_by g.D.Disk.is_modelled g.D.Disk.may_leave g.J.Journal.stands g.J.Journal.end c.ended.new.disk (λ y. StandsFor g.J.Journal.entries i y)

@@ -12,7 +12,7 @@ use Rattle.histories.specs.TraceEvents.{Recorded}
 use Rattle.histories.specs.Phases.{duty_of}
 use Rattle.session_boots.proofs.Duties.{allowed_ended, in_turn, mark_ended, may_end, named, still_named}
 use Rattle.session_boots.proofs.Records.{bare_ended, between_ended, doubt_at, end_went, line_ended, over_ended}
-use Rattle.session_boots.proofs.Told.{last_untold}
+use Rattle.session_boots.proofs.Told.{last_untold, stops_last}
 use Rattle.session_boots.proofs.turns.end.Goals as goal
 
 pub ended-requires-clause-may : goal.ended-requires-clause-may
@@ -66,6 +66,7 @@ returns-in-Err-tell_end-clause-trace g c = λ p world told living h.
           (line_ended p d e n.0 x c.requires.held.1 h.stands.device_is same)
           (c.in-Err-tell_end.ensures.line n.0 (λ fails. ap next_name same ∙ still_named d n.0 x t fails)),
       (
+        stops_last r,
         refl,
         λ i left. subst (λ (y : Device). StandsFor g.J.Journal.entries i y) back
             (in_hand_stands g.met.D.Disk.laws g.met.J.Journal.laws _ c.ended.new.disk e c.in-Ok.ensures.held.0.0 i left),

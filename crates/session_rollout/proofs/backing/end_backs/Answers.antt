@@ -11,6 +11,7 @@ use Rattle.session_transitions.proofs.Rising.{orderly_at}
 use Rattle.session_rollout.specs.Backwards.{EndsBacks}
 use Rattle.session_rollout.specs.Driven.{DrivenLeft}
 use Rattle.session_rollout.specs.declared.driven.Driven.TheVariants as driven
+use Rattle.session_rollout.specs.declared.driven.Presence.TheVariants as presences
 use Rattle.session_rollout.proofs.Endings.{ended}
 use Rattle.session_rollout.proofs.Joining.{given_up}
 use Rattle.session_rollout.proofs.backing.end_backs.Goals as goal
@@ -54,9 +55,9 @@ returns-in-Ok-clause-course g c = λ p from.
     let told = Listed g.R.Runner.list g.R.Runner.told g.R.Runner.asked c.args.runner.now in
     let living = g.R.Runner.living c.args.runner.now in
     let front = subst (λ (b : Backed _). IsAtBootStage p (backed_device b) world told living) c.in-Backing.is from in
-    let t = c.in-Ok.ensures.trace p told living front (orderly_at p d world told living front c.requires.orderly) in
+    let t = c.in-Ok.ensures.trace p told living front (orderly_at p d world told living front.between.stands c.requires.orderly) in
     ended g.J.Journal.entries g.J.Journal.files c.args.disk.now c.close_failed_backing.new.disk told.list told.list
-    (g.K.Sink.held c.args.sink.now) (g.K.Sink.held c.close_failed_backing.new.sink) p t.0 (driven.Closed c.in-Ok.idle outcomes.UnableToRollback)
+    (g.K.Sink.held c.args.sink.now) (g.K.Sink.held c.close_failed_backing.new.sink) p t.0 (driven.Closed c.in-Ok.idle outcomes.UnableToRollback presences.Absent)
     (λ x h q. DrivenLeft x h q (g.S.Supervise.world c.close_failed_backing.new.supervisor) told living)
     t.1 t.2 t.3
 
@@ -67,7 +68,7 @@ returns-in-Err-clause-course g c = λ p from.
     let told = Listed g.R.Runner.list g.R.Runner.told g.R.Runner.asked c.args.runner.now in
     let living = g.R.Runner.living c.args.runner.now in
     let front = subst (λ (b : Backed _). IsAtBootStage p (backed_device b) world told living) c.in-Backing.is from in
-    let t = c.in-Err.ensures.trace p told living front (orderly_at p d world told living front c.requires.orderly) in
+    let t = c.in-Err.ensures.trace p told living front (orderly_at p d world told living front.between.stands c.requires.orderly) in
     given_up g.J.Journal.entries g.J.Journal.files c.args.disk.now c.close_failed_backing.new.disk told.list told.list
     (g.K.Sink.held c.args.sink.now) (g.K.Sink.held c.close_failed_backing.new.sink) p t.0 c.in-Err.over
     (λ x h q. DrivenLeft x h q (g.S.Supervise.world c.close_failed_backing.new.supervisor) told living)

@@ -6,6 +6,8 @@ use Rattle.components.specs.declared.kinds.Prepared.{Prepared}
 use Rattle.histories.specs.TraceEvents.{records_of}
 use Rattle.histories.specs.States.{state_after}
 use Rattle.session_admission.proofs.Serving.{plan_ready}
+use Rattle.session_boots.proofs.Opened.{opened_at}
+use Rattle.session_transitions.proofs.Rising.{room_for_none, run_none, stopped_in}
 use Rattle.session_rollout.specs.Backwards.{HasWayBack}
 use Rattle.session_rollout.proofs.BackBoots.{boots_front}
 use Rattle.session_rollout.proofs.Deployment.{ready_behind, shut, shut_front, shut_takes}
@@ -55,12 +57,29 @@ pub end_boots-requires-clause-placed : goal.end_boots-requires-clause-placed
 end_boots-requires-clause-placed g c =
     let q = c.requires.placed in
     let world = g.S.Supervise.world c.args.supervisor.now in
+    let new = Listed g.R.Runner.list g.R.Runner.told g.R.Runner.asked c.run_boots.new.runner in
+    let living = g.R.Runner.living c.run_boots.new.runner in
+    let e = booting_device c.in-Ok-default-Through.state in
     let t = c.in-Ok-default-Through.ensures.trace q.0 world q.1 in (
       state_after q.0 t.0,
-      boots_front _ (records_of t.0) (state_after q.0 t.0) (booting_device c.in-Ok-default-Through.state) world
-          (Listed g.R.Runner.list g.R.Runner.told g.R.Runner.asked c.run_boots.new.runner) (g.R.Runner.living c.run_boots.new.runner)
-          (inl c.in-Ok-default-Through.field-0-1-is) t.3,
+      opened_at (state_after q.0 t.0) e world new living
+          (boots_front _ (records_of t.0) (state_after q.0 t.0) e world new living (inl c.in-Ok-default-Through.field-0-1-is) t.3),
     )
+
+-- nothing stands
+pub end_boots-requires-clause-room : goal.end_boots-requires-clause-room
+end_boots-requires-clause-room g c =
+    let q = c.requires.placed in
+    let world = g.S.Supervise.world c.args.supervisor.now in
+    room_for_none world (g.S.Supervise.room c.args.ready.items) (stopped_in q.0 (booting_device c.args.state) world
+    (Listed g.R.Runner.list g.R.Runner.told g.R.Runner.asked c.args.runner.now) (g.R.Runner.living c.args.runner.now) q.1)
+
+pub end_boots-requires-clause-made : goal.end_boots-requires-clause-made
+end_boots-requires-clause-made g c =
+    let q = c.requires.placed in
+    let world = g.S.Supervise.world c.args.supervisor.now in
+    run_none (booting_device c.in-Ok-default-Through.state) world (stopped_in q.0 (booting_device c.args.state) world
+    (Listed g.R.Runner.list g.R.Runner.told g.R.Runner.asked c.args.runner.now) (g.R.Runner.living c.args.runner.now) q.1)
 
 pub returns-in-Ok-default-Through-clause-course : goal.returns-in-Ok-default-Through-clause-course
 returns-in-Ok-default-Through-clause-course g c = λ p front.
@@ -69,8 +88,10 @@ returns-in-Ok-default-Through-clause-course g c = λ p front.
     let new = Listed g.R.Runner.list g.R.Runner.told g.R.Runner.asked c.run_boots.new.runner in
     let last = Listed g.R.Runner.list g.R.Runner.told g.R.Runner.asked c.end_boots.new.runner in
     let t = c.in-Ok-default-Through.ensures.trace p world front in
-    let next = boots_front _ (records_of t.0) (state_after p t.0) (booting_device c.in-Ok-default-Through.state) world new
-    (g.R.Runner.living c.run_boots.new.runner) (inl c.in-Ok-default-Through.field-0-1-is) t.3 in
+    let e = booting_device c.in-Ok-default-Through.state in
+    let living = g.R.Runner.living c.run_boots.new.runner in
+    let next = opened_at (state_after p t.0) e world new living
+    (boots_front _ (records_of t.0) (state_after p t.0) e world new living (inl c.in-Ok-default-Through.field-0-1-is) t.3) in
     joined g.J.Journal.entries g.J.Journal.files g.met.D.Disk.laws c.args.disk.now c.run_boots.new.disk c.end_boots.new.disk told.list new.list last.list
     (g.K.Sink.held c.args.sink.now) (g.K.Sink.held c.run_boots.new.sink) (g.K.Sink.held c.end_boots.new.sink) p t.0 c.end_boots.result _
     t.1 t.2

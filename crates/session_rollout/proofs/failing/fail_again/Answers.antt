@@ -10,6 +10,7 @@ use Rattle.session_boots.proofs.Told.{none_at, nothing_told}
 use Rattle.session_transitions.specs.Fails.{is_to_roll_back}
 use Rattle.session_transitions.proofs.Rising.{orderly_at}
 use Rattle.session_rollout.specs.declared.driven.Driven.TheVariants as driven
+use Rattle.session_rollout.specs.declared.driven.Presence.TheVariants as presences
 use Rattle.session_rollout.proofs.Endings.{ended}
 use Rattle.session_rollout.proofs.Joining.{given_up, joined}
 use Rattle.session_rollout.proofs.Leaving.{driven_on}
@@ -71,10 +72,10 @@ returns-in-Ok-close_failed_again-clause-course g c = λ p front.
     let world = g.S.Supervise.world c.args.supervisor.now in
     let told = Listed g.R.Runner.list g.R.Runner.told g.R.Runner.asked c.args.runner.now in
     let living = g.R.Runner.living c.args.runner.now in
-    let t = c.in-Ok-close_failed_again.ensures.trace p told living front (orderly_at p d world told living front c.requires.orderly) in
+    let t = c.in-Ok-close_failed_again.ensures.trace p told living front (orderly_at p d world told living front.between.stands c.requires.orderly) in
     ended g.J.Journal.entries g.J.Journal.files c.args.disk.now c.close_failed_again.new.disk told.list told.list
     (g.K.Sink.held c.args.sink.now) (g.K.Sink.held c.close_failed_again.new.sink) p t.0
-    (driven.Closed c.in-Ok-close_failed_again.idle outcomes.RollbackNotRequested) _
+    (driven.Closed c.in-Ok-close_failed_again.idle outcomes.RollbackNotRequested presences.Absent) _
     t.1 t.2 t.3
 
 pub returns-in-Err-close_failed_again-clause-course : goal.returns-in-Err-close_failed_again-clause-course
@@ -83,7 +84,7 @@ returns-in-Err-close_failed_again-clause-course g c = λ p front.
     let world = g.S.Supervise.world c.args.supervisor.now in
     let told = Listed g.R.Runner.list g.R.Runner.told g.R.Runner.asked c.args.runner.now in
     let living = g.R.Runner.living c.args.runner.now in
-    let t = c.in-Err-close_failed_again.ensures.trace p told living front (orderly_at p d world told living front c.requires.orderly) in
+    let t = c.in-Err-close_failed_again.ensures.trace p told living front (orderly_at p d world told living front.between.stands c.requires.orderly) in
     given_up g.J.Journal.entries g.J.Journal.files c.args.disk.now c.close_failed_again.new.disk told.list told.list
     (g.K.Sink.held c.args.sink.now) (g.K.Sink.held c.close_failed_again.new.sink) p t.0 c.in-Err-close_failed_again.over _
     t.1 t.2 t.3 t.4

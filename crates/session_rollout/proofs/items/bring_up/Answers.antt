@@ -11,6 +11,7 @@ use Rattle.session_startup.specs.declared.activating.Activated.{Activated}
 use Rattle.session_startup.specs.declared.activating.Activated.TheVariants as activated
 use Rattle.session_transitions.proofs.GivenUp.{quits_given_up}
 use Rattle.session_rollout.specs.declared.driven.Driven.TheVariants as driven
+use Rattle.session_rollout.specs.declared.driven.Presence.TheVariants as presences
 use Rattle.session_rollout.proofs.Endings.{ended}
 use Rattle.session_rollout.proofs.Joining.{cut_off, joined}
 use Rattle.session_rollout.proofs.Leaving.{driven_on}
@@ -31,7 +32,7 @@ returns-in-Ok-Closed-clause-course g c = λ p comes.
     let left = left_as c.in-Ok-Closed.field-0 (activated.Closed c.in-Ok-Closed.idle) t.0 (state_after p t.0) (g.S.Supervise.world c.activate.new.supervisor)
     new (g.R.Runner.living c.activate.new.runner) c.in-Ok-Closed.field-0-is t.3 in
     ended g.J.Journal.entries g.J.Journal.files c.args.disk.now c.activate.new.disk told.list new.list
-    (g.K.Sink.held c.args.sink.now) (g.K.Sink.held c.activate.new.sink) p t.0 (driven.Closed c.in-Ok-Closed.idle outcomes.Successful) _
+    (g.K.Sink.held c.args.sink.now) (g.K.Sink.held c.activate.new.sink) p t.0 (driven.Closed c.in-Ok-Closed.idle outcomes.Successful presences.Present) _
     t.1 t.2 left
 
 -- ---- one failed three times

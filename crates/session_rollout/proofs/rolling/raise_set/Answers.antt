@@ -10,10 +10,11 @@ use Rattle.histories.specs.Waits.{has_three}
 use Rattle.session_startup.specs.Runs.{rises}
 use Rattle.session_startup.proofs.Turning.{no_lines}
 use Rattle.session_transitions.specs.Enters.{AreReady}
-use Rattle.session_transitions.proofs.Rising.{keeps_none, rises_in, room_for_none, stopped_in}
+use Rattle.session_transitions.proofs.Rising.{rises_in, room_for_none, run_none, stopped_in}
 use Rattle.session_transitions.proofs.GivenUp.{quits_given_up}
 use Rattle.session_rollout.specs.Driven.{DrivenLeft}
 use Rattle.session_rollout.specs.declared.driven.Driven.TheVariants as driven
+use Rattle.session_rollout.specs.declared.driven.Presence.TheVariants as presences
 use Rattle.session_rollout.proofs.Endings.{ended}
 use Rattle.session_rollout.proofs.Entering.{entered}
 use Rattle.session_rollout.proofs.Hands.{acted_held}
@@ -47,19 +48,12 @@ change_items-requires-clause-sound g c = subst IsSound (sym c.device.ensures) c.
 pub change_items-requires-clause-answered : goal.change_items-requires-clause-answered
 change_items-requires-clause-answered g c = c.requires.placed.1.between.stands.answered
 
-pub change_items-requires-clause-same : goal.change_items-requires-clause-same
-change_items-requires-clause-same g c =
+pub change_items-requires-clause-made : goal.change_items-requires-clause-made
+change_items-requires-clause-made g c =
     let q = c.requires.placed in
     let world = g.S.Supervise.world c.args.supervisor.now in
-    keeps_none (g.S.Supervise.coming c.args.ready) world (stopped_in
-    q.0 (rolling_device c.args.state) world (Listed g.R.Runner.list g.R.Runner.told g.R.Runner.asked c.args.runner.now)
-    (g.R.Runner.living c.args.runner.now) q.1)
-
-pub change_items-requires-clause-none : goal.change_items-requires-clause-none
-change_items-requires-clause-none g c =
-    let q = c.requires.placed in
-    stopped_in q.0 (rolling_device c.args.state) (g.S.Supervise.world c.args.supervisor.now)
-    (Listed g.R.Runner.list g.R.Runner.told g.R.Runner.asked c.args.runner.now) (g.R.Runner.living c.args.runner.now) q.1
+    run_none (device_view c.device.result.now) world (stopped_in q.0 (rolling_device c.args.state) world
+    (Listed g.R.Runner.list g.R.Runner.told g.R.Runner.asked c.args.runner.now) (g.R.Runner.living c.args.runner.now) q.1)
 
 -- ---- they come up
 
@@ -84,7 +78,7 @@ returns-in-Ok-clause-course g c = λ p front.
     living
     c.device.ensures front c.requires.orderly (inr c.requires.held.1) c.change_items.ensures.trace in
     let u = c.in-Ok.ensures.trace (state_after p t.0) t.2 in
-    let x = driven.Closed c.in-Ok.idle c.in-Ok.outcome in
+    let x = driven.Closed c.in-Ok.idle c.in-Ok.outcome presences.Present in
     joined g.J.Journal.entries g.J.Journal.files g.met.D.Disk.laws c.args.disk.now c.args.disk.now c.roll.new.disk told.list told.list last.list
     (g.K.Sink.held c.args.sink.now) (g.K.Sink.held c.args.sink.now) (g.K.Sink.held c.roll.new.sink) p t.0 (Ok x) (λ y h r. DrivenLeft y h r world last next)
     (acted_held g.met.D.Disk.laws g.met.J.Journal.laws _ c.args.disk.now told.list told.list p d t.0 front.between.stands.device_is c.requires.held.0.0 t.1)
@@ -94,8 +88,8 @@ returns-in-Ok-clause-course g c = λ p front.
     (g.K.Sink.held c.roll.new.sink) (state_after p t.0) u.0 x (λ y h r. DrivenLeft y h r world last next)
     u.1 u.2 u.3)
 
-pub roll-requires-clause-rises : goal.roll-requires-clause-rises
-roll-requires-clause-rises g c = c.change_items.ensures.rises
+pub roll-requires-clause-drives : goal.roll-requires-clause-drives
+roll-requires-clause-drives g c = c.change_items.ensures.drives
 
 pub returns-in-Ok-clause-drives : goal.returns-in-Ok-clause-drives
 returns-in-Ok-clause-drives g c = c.roll.ensures.drives

@@ -6,6 +6,7 @@ use Rattle.session_boots.proofs.Between.{no_living}
 use Rattle.session_transitions.proofs.Rising.{orderly_at}
 use Rattle.session_rollout.specs.Driven.{DrivenLeft}
 use Rattle.session_rollout.specs.declared.driven.Driven.TheVariants as driven
+use Rattle.session_rollout.specs.declared.driven.Presence.TheVariants as presences
 use Rattle.session_rollout.proofs.Counts.{three_of_broken}
 use Rattle.session_rollout.proofs.Endings.{ended}
 use Rattle.session_rollout.proofs.Joining.{given_up}
@@ -27,9 +28,9 @@ returns-in-Ok-clause-course g c = λ p front.
     let world = g.S.Supervise.world c.args.supervisor.now in
     let told = Listed g.R.Runner.list g.R.Runner.told g.R.Runner.asked c.args.runner.now in
     let living = g.R.Runner.living c.args.runner.now in
-    let t = c.in-Ok.ensures.trace p told living front (orderly_at p d world told living front c.requires.orderly) in
+    let t = c.in-Ok.ensures.trace p told living front (orderly_at p d world told living front.between.stands c.requires.orderly) in
     ended g.J.Journal.entries g.J.Journal.files c.args.disk.now c.close_again.new.disk told.list told.list
-    (g.K.Sink.held c.args.sink.now) (g.K.Sink.held c.close_again.new.sink) p t.0 (driven.Closed c.in-Ok.idle outcomes.UnableToRollback)
+    (g.K.Sink.held c.args.sink.now) (g.K.Sink.held c.close_again.new.sink) p t.0 (driven.Closed c.in-Ok.idle outcomes.UnableToRollback presences.Absent)
     (λ x h q. DrivenLeft x h q (g.S.Supervise.world c.close_again.new.supervisor) told living)
     t.1 t.2 t.3
 
@@ -39,7 +40,7 @@ returns-in-Err-clause-course g c = λ p front.
     let world = g.S.Supervise.world c.args.supervisor.now in
     let told = Listed g.R.Runner.list g.R.Runner.told g.R.Runner.asked c.args.runner.now in
     let living = g.R.Runner.living c.args.runner.now in
-    let t = c.in-Err.ensures.trace p told living front (orderly_at p d world told living front c.requires.orderly) in
+    let t = c.in-Err.ensures.trace p told living front (orderly_at p d world told living front.between.stands c.requires.orderly) in
     given_up g.J.Journal.entries g.J.Journal.files c.args.disk.now c.close_again.new.disk told.list told.list
     (g.K.Sink.held c.args.sink.now) (g.K.Sink.held c.close_again.new.sink) p t.0 c.in-Err.over
     (λ x h q. DrivenLeft x h q (g.S.Supervise.world c.close_again.new.supervisor) told living)

@@ -1,6 +1,7 @@
 use Rattle.std.proofs.Common.{◌++◌, ap, subst}
 use Rattle.device.specs.Devices.{Device}
 use Rattle.step_runner.specs.Entries.{Listed}
+use Rattle.histories.specs.Phases.{current}
 use Rattle.histories.specs.States.{state_after}
 use Rattle.nuc_base.specs.declared.kinds.Outcome.TheVariants as outcomes
 use Rattle.deploy_state.specs.States.{activating_device, idle_device}
@@ -63,7 +64,7 @@ returns-in-Ok-close_plan-clause-trace g c = λ p comes.
       went_on g.J.Journal.entries g.J.Journal.files g.met.D.Disk.laws c.args.disk.now c.come_up.new.disk c.close_plan.new.disk
           (g.R.Runner.list c.args.runner.now) (g.R.Runner.list c.come_up.new.runner) (g.R.Runner.list c.come_up.new.runner) p t.0 u.0 t.1 u.1,
       all_told (g.K.Sink.held c.args.sink.now) (g.K.Sink.held c.come_up.new.sink) (g.K.Sink.held c.close_plan.new.sink) p t.0 u.0 t.1.run t.2 u.2,
-      closed_on outcomes.Successful p t.0 u.0 (idle_device c.in-Ok-close_plan.idle) (g.S.Supervise.world c.close_plan.new.supervisor) told living u.3,
+      closed_on outcomes.Successful current p t.0 u.0 (idle_device c.in-Ok-close_plan.idle) (g.S.Supervise.world c.close_plan.new.supervisor) told living u.3,
       tt,
     )
 
@@ -90,10 +91,10 @@ returns-in-Err-clause-trace g c = λ p comes.
     (t.0, t.1, t.2, t.3, t.4)
 
 pub close_plan-requires-clause-drives : goal.close_plan-requires-clause-drives
-close_plan-requires-clause-drives g c = c.come_up.ensures.rises.drives
+close_plan-requires-clause-drives g c = c.come_up.ensures.drives
 
 pub returns-in-Broken-clause-drives : goal.returns-in-Broken-clause-drives
-returns-in-Broken-clause-drives g c = c.come_up.ensures.rises.drives
+returns-in-Broken-clause-drives g c = c.come_up.ensures.drives
 
 pub returns-in-Err-clause-drives : goal.returns-in-Err-clause-drives
-returns-in-Err-clause-drives g c = c.come_up.ensures.rises.drives
+returns-in-Err-clause-drives g c = c.come_up.ensures.drives

@@ -10,10 +10,11 @@ use Rattle.device.specs.declared.staged.Stage.TheVariants as stages
 use Rattle.deploy_state.proofs.Steps.{in_hand_stands}
 use Rattle.deploy_state.specs.States.{activating_device, idle_device}
 use Rattle.components.specs.Components.{Components}
-use Rattle.histories.specs.TraceEvents.{Recorded, records_of}
+use Rattle.histories.specs.Phases.{current}
+use Rattle.histories.specs.TraceEvents.{Recorded}
 use Rattle.histories.specs.States.{leaves}
 use Rattle.session_boots.specs.Lines.{id_of}
-use Rattle.session_boots.proofs.Told.{last_untold}
+use Rattle.session_boots.proofs.Told.{last_untold, stops_last}
 use Rattle.law_termination.specs.Drives.{Drives}
 use Rattle.law_termination.proofs.Stands.{steady_on}
 use Rattle.session_startup.specs.Ended.{HasClosed}
@@ -40,7 +41,7 @@ returns-in-Ok-tell_close-clause-trace g c = λ p told living r up.
           (ends_up p d _ world told living r up) allowed c.complete.ensures.moments,
       subst (λ (l : List ℕ). Appends (g.K.Sink.held c.args.sink.now) (g.K.Sink.held c.tell_close.new.sink) l) (line_closed p d o r.device_is)
           (c.in-Ok-tell_close.ensures.line d.closed (id_of d) o (ap (λ (x : Device). x.closed) c.device.ensures ∙ last_closed d e o pending taken)),
-      subst (λ (w : Components). HasClosed o (records_of (Recorded (stored.Closed o) ∷ [])) (leaves p (Recorded (stored.Closed o))) e w told living)
+      subst (λ (w : Components). HasClosed o current (Recorded (stored.Closed o) ∷ []) (leaves p (Recorded (stored.Closed o))) e w told living)
           (sym c.steady.ensures) (closed_at p d e _ o world told living pending r taken),
       tt,
     )
@@ -61,6 +62,7 @@ returns-in-Err-tell_close-clause-trace g c = λ p told living r up.
       subst (λ (l : List ℕ). AppendsPrefix (g.K.Sink.held c.args.sink.now) (g.K.Sink.held c.tell_close.new.sink) l) (line_closed p d o r.device_is)
           (c.in-Err-tell_close.ensures.line d.closed (id_of d) o (ap (λ (x : Device). x.closed) c.device.ensures ∙ last_closed d e o pending taken)),
       (
+        stops_last (stored.Closed o),
         r.runs.within.on.boot_end,
         λ i left. subst (λ (y : Device). StandsFor g.J.Journal.entries i y) back
             (in_hand_stands g.met.D.Disk.laws g.met.J.Journal.laws _ c.complete.new.disk e c.in-Ok.ensures.held.0 i left),

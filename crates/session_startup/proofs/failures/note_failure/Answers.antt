@@ -9,7 +9,7 @@ use Rattle.histories.specs.TraceEvents.{Recorded}
 use Rattle.histories.specs.States.{state_after}
 use Rattle.session_boots.specs.Same.{IsSameDeployment}
 use Rattle.session_boots.proofs.Same.{same_counted}
-use Rattle.session_boots.proofs.Told.{last_untold}
+use Rattle.session_boots.proofs.Told.{last_untold, stops_last}
 use Rattle.session_startup.specs.Coming.{coming_device}
 use Rattle.session_startup.proofs.Stages.{coming_stands, is_pending}
 use Rattle.session_startup.proofs.Failed.{can_tell, within_told}
@@ -73,6 +73,7 @@ returns-in-Err-tell_failed-clause-trace g c = λ p told living h device.
       subst (λ (l : List ℕ). AppendsPrefix (g.K.Sink.held c.args.sink.now) (g.K.Sink.held c.tell_failed.new.sink) l)
           (line_failed p d e n c.args.step c.args.exit device c.in-Ok.ensures.taken) c.in-Err-tell_failed.ensures.line,
       (
+        stops_last r,
         h.within.on.boot_end,
         λ i left. subst (λ (y : Device). StandsFor g.J.Journal.entries i y) back
             (coming_stands g.met.D.Disk.laws g.met.J.Journal.laws c.in-Ok.next c.failed.new.disk c.in-Ok.ensures.held i left),

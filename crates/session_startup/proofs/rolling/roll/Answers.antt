@@ -1,5 +1,6 @@
 use Rattle.std.proofs.Common.{◌++◌, true, false}
 use Rattle.step_runner.specs.Entries.{Listed}
+use Rattle.histories.specs.Phases.{current}
 use Rattle.histories.specs.States.{state_after}
 use Rattle.nuc_base.specs.declared.kinds.Outcome.TheVariants as outcomes
 use Rattle.deploy_state.specs.States.{idle_device}
@@ -42,7 +43,8 @@ returns-in-Ok-close_set-clause-trace g c = λ p comes.
       went_on g.J.Journal.entries g.J.Journal.files g.met.D.Disk.laws c.args.disk.now c.come_up.new.disk c.close_set.new.disk
           (g.R.Runner.list c.args.runner.now) (g.R.Runner.list c.come_up.new.runner) (g.R.Runner.list c.come_up.new.runner) p t.0 u.0 t.1 u.1,
       all_told (g.K.Sink.held c.args.sink.now) (g.K.Sink.held c.come_up.new.sink) (g.K.Sink.held c.close_set.new.sink) p t.0 u.0 t.1.run t.2 u.2,
-      closed_on outcomes.RollbackComplete p t.0 u.0 (idle_device c.in-Ok-close_set.idle) (g.S.Supervise.world c.close_set.new.supervisor) told living u.3,
+      closed_on outcomes.RollbackComplete current p t.0 u.0 (idle_device c.in-Ok-close_set.idle) (g.S.Supervise.world c.close_set.new.supervisor) told
+          living u.3,
       tt,
     )
 
@@ -89,8 +91,8 @@ returns-in-Ok-close_set-2-clause-trace g c = λ p comes.
       went_on g.J.Journal.entries g.J.Journal.files g.met.D.Disk.laws c.args.disk.now c.come_up.new.disk c.close_set-in-Broken.new.disk
           (g.R.Runner.list c.args.runner.now) (g.R.Runner.list c.come_up.new.runner) (g.R.Runner.list c.come_up.new.runner) p t.0 u.0 t.1 u.1,
       all_told (g.K.Sink.held c.args.sink.now) (g.K.Sink.held c.come_up.new.sink) (g.K.Sink.held c.close_set-in-Broken.new.sink) p t.0 u.0 t.1.run t.2 u.2,
-      closed_on outcomes.UnableToRollback p t.0 u.0 (idle_device c.in-Ok-close_set-2.idle) (g.S.Supervise.world c.close_set-in-Broken.new.supervisor) told
-          living u.3,
+      closed_on outcomes.UnableToRollback current p t.0 u.0 (idle_device c.in-Ok-close_set-2.idle) (g.S.Supervise.world c.close_set-in-Broken.new.supervisor)
+          told living u.3,
       tt,
     )
 
@@ -117,10 +119,10 @@ returns-in-Err-clause-trace g c = λ p comes.
     (t.0, t.1, t.2, t.3, t.4)
 
 pub close_set-requires-clause-drives : goal.close_set-requires-clause-drives
-close_set-requires-clause-drives g c = c.come_up.ensures.rises.drives
+close_set-requires-clause-drives g c = c.come_up.ensures.drives
 
 pub close_set-requires-in-Broken-clause-drives : goal.close_set-requires-in-Broken-clause-drives
-close_set-requires-in-Broken-clause-drives g c = c.come_up.ensures.rises.drives
+close_set-requires-in-Broken-clause-drives g c = c.come_up.ensures.drives
 
 pub returns-in-Err-clause-drives : goal.returns-in-Err-clause-drives
-returns-in-Err-clause-drives g c = c.come_up.ensures.rises.drives
+returns-in-Err-clause-drives g c = c.come_up.ensures.drives

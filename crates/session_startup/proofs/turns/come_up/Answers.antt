@@ -27,7 +27,7 @@ turns-init g c = record {
   others = λ is_modelled name other. refl;
   quiet_disk = refl;
   quiet_sink = refl;
-  rises = c.requires.rises;
+  drives = c.requires.drives;
   trace = λ p comes. (
     [],
     acted g.J.Journal.entries g.J.Journal.files g.met.D.Disk.laws c.args.disk.now (g.R.Runner.list c.args.runner.now) (g.R.Runner.list c.args.runner.now) p []
@@ -57,7 +57,7 @@ turns-preserved g c = record {
   others = λ is_modelled name other. c.turn.ensures.others is_modelled name other ∙ c.turns.invariant.others is_modelled name other;
   quiet_disk = c.in-Ok.ensures.quiet_disk (not_err (c.in-Ok.next, c.in-Ok.turned) over.Disk) ∙ c.turns.invariant.quiet_disk;
   quiet_sink = c.in-Ok.ensures.quiet_sink (not_err (c.in-Ok.next, c.in-Ok.turned) over.Edge) ∙ c.turns.invariant.quiet_sink;
-  rises = c.turn.ensures.rises;
+  drives = c.turn.ensures.drives;
   trace = λ p comes.
       let w = c.turns.invariant.trace p comes in
       let t = c.in-Ok.ensures.trace (state_after p w.0) w.3 in
@@ -114,8 +114,8 @@ returns-in-Err-clause-disk g c = λ is. let r = c.in-Err.ensures.disk (same_err 
 pub returns-in-Err-clause-edge : goal.returns-in-Err-clause-edge
 returns-in-Err-clause-edge g c = λ is. let r = c.in-Err.ensures.edge (same_err c.in-Err.over over.Edge is) in omega (arith, r, c.turns.invariant.quiet_sink)
 
-pub turn-requires-clause-rises : goal.turn-requires-clause-rises
-turn-requires-clause-rises g c = c.turns.invariant.rises
+pub turn-requires-clause-drives : goal.turn-requires-clause-drives
+turn-requires-clause-drives g c = c.turns.invariant.drives
 
 pub turns-smaller : goal.turns-smaller
 turns-smaller g c = c.in-Ok.ensures.falls c.in-None.is

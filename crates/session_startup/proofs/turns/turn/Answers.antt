@@ -7,7 +7,6 @@ use Rattle.histories.proofs.Joined.{left-append}
 use Rattle.session_boots.proofs.Joins.{acted, went_on}
 use Rattle.session_boots.proofs.Told.{all_told, left_joined, lines_at_joined}
 use Rattle.law_termination.specs.Rank.{rank}
-use Rattle.law_termination.proofs.Same.{rises_on}
 use Rattle.law_termination.proofs.Steps.{measure_less, not_above_on, turn_goes}
 use Rattle.session_startup.specs.Coming.{coming_device}
 use Rattle.session_startup.specs.Did.{ActLeft}
@@ -157,7 +156,7 @@ returns-else-settled-clause-trace g c = λ p comes.
 -- ---- the number
 
 pub pass-now-requires-clause-drives : goal.pass-now-requires-clause-drives
-pass-now-requires-clause-drives g c = c.requires.rises.drives
+pass-now-requires-clause-drives g c = c.requires.drives
 
 pub take_acts-requires-clause-drives : goal.take_acts-requires-clause-drives
 take_acts-requires-clause-drives g c = c.pass-now.ensures.not_above.on.drives
@@ -186,44 +185,20 @@ wait_once-requires-clause-time g c =
     let living = g.R.Runner.living c.take_acts.new.runner in
     let x = state_after (state_after p w.0) t.0 in
     let r = rests x e world new living true c.is_broken.result false t.3 refl c.is_broken.ensures c.if-is_broken.false in
-    let old = g.S.Supervise.world c.args.supervisor.now in
-    let told = g.S.Supervise.world c.pass-now.new.supervisor in
-    let acts = g.S.Supervise.world c.take_acts.new.supervisor in
-    let n = not_above_on old told acts c.pass-now.ensures.not_above c.take_acts.ensures.not_above in
-    sits_time x world new living (sits x e world new living c.settled.result r c.settled.ensures c.if-settled.false) (rises_on old acts n.on c.requires.rises)
+    sits_time x world new living (sits x e world new living c.settled.result r c.settled.ensures c.if-settled.false)
+    c.take_acts.ensures.not_above.on.drives
 
-pub returns-in-Err-clause-rises : goal.returns-in-Err-clause-rises
-returns-in-Err-clause-rises g c =
-    let old = g.S.Supervise.world c.args.supervisor.now in
-    let told = g.S.Supervise.world c.pass-now.new.supervisor in
-    let acts = g.S.Supervise.world c.take_acts.new.supervisor in
-    let n = not_above_on old told acts c.pass-now.ensures.not_above c.take_acts.ensures.not_above in
-    rises_on old acts n.on c.requires.rises
+pub returns-in-Err-clause-drives : goal.returns-in-Err-clause-drives
+returns-in-Err-clause-drives g c = c.take_acts.ensures.not_above.on.drives
 
-pub returns-then-is_broken-clause-rises : goal.returns-then-is_broken-clause-rises
-returns-then-is_broken-clause-rises g c =
-    let old = g.S.Supervise.world c.args.supervisor.now in
-    let told = g.S.Supervise.world c.pass-now.new.supervisor in
-    let acts = g.S.Supervise.world c.take_acts.new.supervisor in
-    let n = not_above_on old told acts c.pass-now.ensures.not_above c.take_acts.ensures.not_above in
-    rises_on old acts n.on c.requires.rises
+pub returns-then-is_broken-clause-drives : goal.returns-then-is_broken-clause-drives
+returns-then-is_broken-clause-drives g c = c.take_acts.ensures.not_above.on.drives
 
-pub returns-then-settled-clause-rises : goal.returns-then-settled-clause-rises
-returns-then-settled-clause-rises g c =
-    let old = g.S.Supervise.world c.args.supervisor.now in
-    let told = g.S.Supervise.world c.pass-now.new.supervisor in
-    let acts = g.S.Supervise.world c.take_acts.new.supervisor in
-    let n = not_above_on old told acts c.pass-now.ensures.not_above c.take_acts.ensures.not_above in
-    rises_on old acts n.on c.requires.rises
+pub returns-then-settled-clause-drives : goal.returns-then-settled-clause-drives
+returns-then-settled-clause-drives g c = c.take_acts.ensures.not_above.on.drives
 
-pub returns-else-settled-clause-rises : goal.returns-else-settled-clause-rises
-returns-else-settled-clause-rises g c =
-    let old = g.S.Supervise.world c.args.supervisor.now in
-    let told = g.S.Supervise.world c.pass-now.new.supervisor in
-    let acts = g.S.Supervise.world c.take_acts.new.supervisor in
-    let n = not_above_on old told acts c.pass-now.ensures.not_above c.take_acts.ensures.not_above in
-    let last = g.S.Supervise.world c.wait_once.new.supervisor in
-    rises_on old last (not_above_on old acts last n c.wait_once.ensures.not_above).on c.requires.rises
+pub returns-else-settled-clause-drives : goal.returns-else-settled-clause-drives
+returns-else-settled-clause-drives g c = c.wait_once.ensures.not_above.on.drives
 
 pub returns-then-is_broken-clause-falls : goal.returns-then-is_broken-clause-falls
 returns-then-is_broken-clause-falls g c = λ none. absurd (cc)

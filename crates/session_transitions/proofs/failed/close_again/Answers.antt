@@ -11,10 +11,11 @@ use Rattle.device.specs.declared.staged.Stage.TheVariants as stages
 use Rattle.deploy_state.proofs.Steps.{in_hand_stands}
 use Rattle.deploy_state.specs.States.{idle_device, rolling_device}
 use Rattle.components.specs.Components.{Components}
-use Rattle.histories.specs.TraceEvents.{Recorded, records_of}
+use Rattle.histories.specs.Phases.{draining}
+use Rattle.histories.specs.TraceEvents.{Recorded}
 use Rattle.histories.specs.States.{leaves}
 use Rattle.session_boots.specs.Lines.{id_of}
-use Rattle.session_boots.proofs.Told.{last_untold}
+use Rattle.session_boots.proofs.Told.{last_untold, stops_last}
 use Rattle.session_startup.specs.Ended.{HasClosed}
 use Rattle.session_startup.proofs.Closed.{last_closed, line_closed, outcome_of, pends_in, roll_allowed}
 use Rattle.law_termination.specs.Drives.{Drives}
@@ -44,7 +45,7 @@ returns-in-Ok-tell_close-clause-trace g c = λ p told living from orderly.
           notes,
       subst (λ (l : List ℕ). Appends (g.K.Sink.held c.args.sink.now) (g.K.Sink.held c.tell_close.new.sink) l) (line_closed p d o from.between.stands.device_is)
           (c.in-Ok-tell_close.ensures.line d.closed (id_of d) o (ap (λ (x : Device). x.closed) c.device.ensures ∙ last_closed d e o pending taken)),
-      subst (λ (w : Components). HasClosed o (records_of (Recorded (stored.Closed o) ∷ [])) (leaves p (Recorded (stored.Closed o))) e w told living)
+      subst (λ (w : Components). HasClosed o draining (Recorded (stored.Closed o) ∷ []) (leaves p (Recorded (stored.Closed o))) e w told living)
           (sym c.steady.ensures) (boot_closed p d o world told living from e orderly pending taken),
       tt,
     )
@@ -69,6 +70,7 @@ returns-in-Err-tell_close-clause-trace g c = λ p told living from orderly.
           (line_closed p d o from.between.stands.device_is)
           (c.in-Err-tell_close.ensures.line d.closed (id_of d) o (ap (λ (x : Device). x.closed) c.device.ensures ∙ last_closed d e o pending taken)),
       (
+        stops_last (stored.Closed o),
         from.between.boot_end,
         λ i left. subst (λ (y : Device). StandsFor g.J.Journal.entries i y) back
             (in_hand_stands g.met.D.Disk.laws g.met.J.Journal.laws _ c.close.new.disk e c.in-Ok.ensures.held.0 i left),

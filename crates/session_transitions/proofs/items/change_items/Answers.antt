@@ -1,5 +1,6 @@
 use Rattle.std.proofs.Common.{◌≡◌, ℕ, List, false, sym, subst}
 use Rattle.device.specs.Devices.{device_view, pending_view}
+use Rattle.components.specs.Changes.{standing}
 use Rattle.components.specs.Components.{Components}
 use Rattle.histories.specs.TraceEvents.{TraceEvent}
 use Rattle.histories.specs.Phases.{duty_of}
@@ -7,9 +8,9 @@ use Rattle.histories.specs.States.{state_after}
 use Rattle.session_boots.specs.Traces.{Acts}
 use Rattle.session_startup.specs.Runs.{IsAtTurnStart}
 use Rattle.histories.specs.Waits.{has_three}
-use Rattle.law_termination.specs.Drives.{Rises}
-use Rattle.law_termination.proofs.Comes.{begins}
+use Rattle.law_termination.specs.Drives.{Drives}
 use Rattle.session_transitions.proofs.Entered.{entered}
+use Rattle.session_transitions.proofs.Standing.{change_standing, drives_standing, standing_of}
 use Rattle.session_transitions.proofs.Stage.{long_pending, pending_is, stage_with}
 use Rattle.session_transitions.proofs.items.change_items.Goals as goal
 
@@ -18,6 +19,14 @@ change-requires-clause-few g c =
     let d = device_view c.args.device.now in
     (stage_with d c.requires.ready.0 c.requires.ready.1 c.requires.sound (pending_view c.in-Some.pending)
     (pending_is c.args.device.now.pending c.in-Some.pending c.in-Some.is) c.requires.stage c.requires.few).below
+
+pub change-requires-clause-same : goal.change-requires-clause-same
+change-requires-clause-same g c =
+    let d = device_view c.args.device.now in
+    let ready = c.requires.ready in
+    let fitted = g.S.Supervise.coming c.args.ready in
+    c.one_platform.ensures.same ready.0.platform fitted (standing (g.S.Supervise.world c.args.supervisor.now).parts)
+    (c.one_platform.ensures.ready ready.0 (duty_of d).items fitted ready.2) (c.requires.made ready.0 ready.1)
 
 pub returns-clause-trace : goal.returns-clause-trace
 returns-clause-trace g c = λ p told living enters.
@@ -37,8 +46,8 @@ returns-clause-trace g c = λ p told living enters.
     (sym stage.counts) few keeps
     (λ n. c.changes_keep.ensures.owners n fitted counts false p.world))
 
-pub returns-clause-rises : goal.returns-clause-rises
-returns-clause-rises g c =
+pub returns-clause-drives : goal.returns-clause-drives
+returns-clause-drives g c =
     let d = device_view c.args.device.now in
     let q = pending_view c.in-Some.pending in
     let is = pending_is c.args.device.now.pending c.in-Some.pending c.in-Some.is in
@@ -46,5 +55,10 @@ returns-clause-rises g c =
     let fitted = g.S.Supervise.coming c.args.ready in
     let counts : List ℕ = c.in-Some.pending.failures in
     let stage = stage_with d ready.0 ready.1 c.requires.sound q is c.requires.stage c.requires.few in
-    subst (λ (w : Components). Rises w) (sym c.change.ensures) (begins fitted counts false (g.S.Supervise.world c.args.supervisor.now) c.requires.none
-    (c.ready_items_may_come.ensures ready.0 (duty_of d).items fitted stage.are_items ready.2) stage.below_each)
+    let differ = c.ready_items_are_counted.ensures.differ ready.0 (duty_of d).items fitted stage.rise ready.2 in
+    let world = g.S.Supervise.world c.args.supervisor.now in
+    let old = standing_of world in
+    let over = c.ready_items_may_come.ensures.take_over ready.0 (duty_of d).items fitted old stage.are_items ready.2 (c.requires.made ready.0 ready.1) in
+    let new = c.changes_drive.ensures fitted counts false old (drives_standing world c.requires.drives) over stage.below_each differ in
+    subst (λ (w : Components). Drives w) (sym c.change.ensures)
+    (subst (λ (w : Components). Drives w) (change_standing fitted counts false world) new)

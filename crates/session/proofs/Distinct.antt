@@ -1,0 +1,25 @@
+-- Endings of a call that differ. Each stands alone, since a search for what differs is slow where much else is known.
+use Rattle.std.proofs.Common.{◌≡◌, ℕ, sym, ◌∙◌}
+use Rattle.session.specs.Endings.{Ending, Breaks, Fails, Full, Idle, Starves}
+
+-- one that is the first is not the second, where these differ
+pub differs : (ending first second : Ending) → ending ≡ first → (first ≡ second → ⊥) → ending ≡ second → ⊥
+differs ending first second is apart other = apart (sym is ∙ other)
+
+pub starves_fails : Starves ≡ Fails → ⊥
+starves_fails is = cc
+
+pub breaks_fails : Breaks ≡ Fails → ⊥
+breaks_fails is = cc
+
+pub idle_fails : Idle ≡ Fails → ⊥
+idle_fails is = cc
+
+pub idle_starves : Idle ≡ Starves → ⊥
+idle_starves is = cc
+
+pub full_fails : (at : ℕ) → Full at ≡ Fails → ⊥
+full_fails at is = cc
+
+pub full_starves : (at : ℕ) → Full at ≡ Starves → ⊥
+full_starves at is = cc

@@ -1,0 +1,110 @@
+-- A call that comes back or ends, by its status, and the documents that it may still take.
+use Rattle.std.specs.Prelude.{ℕ, Bool, true, false, List, ◌∷◌, Option, Result, Ok, Err, IfOk, OnErr, is_none, is_some, if◌then◌else◌}
+use Rattle.std.proofs.Common.{◌≡◌, ◌⊎◌, ◌∙◌, inl, inr, refl, sym, ap, subst}
+use Rattle.std.proofs.lemmas.Bool.{false≢true}
+use Rattle.disk_model.specs.Disk.{Image}
+use Rattle.nuc_base.specs.declared.status.Status.{Status}
+use Rattle.records.specs.Stored.{Plan, Record, Accepted}
+use Rattle.device.specs.Devices.{Device}
+use Rattle.deploy_state.specs.States.{OwnsIdle}
+use Rattle.deploy_state.specs.declared.state.Idle.{Idle}
+use Rattle.step_runner.specs.Entries.{Told}
+use Rattle.components.specs.Components.{Components}
+use Rattle.histories.specs.Courses.{gives_up}
+use Rattle.histories.specs.Phases.{Generation}
+use Rattle.histories.specs.Follows.{IsProper, MayTakeBy}
+use Rattle.histories.specs.TraceEvents.{Answer, TraceEvent, records_of}
+use Rattle.histories.specs.Once.{TakesOnce}
+use Rattle.histories.specs.States.{SessionState}
+use Rattle.histories.proofs.Once.{takes_once}
+use Rattle.law_histories.proofs.Serving.{given_open, last_unasked, serving_once}
+use Rattle.session_admission.specs.Accepts.{IsOpen}
+use Rattle.session_rollout.specs.Driven.{generation_left}
+use Rattle.session_rollout.specs.declared.driven.Presence.{Presence}
+use Rattle.session_rollout.specs.declared.driven.Presence.TheVariants as presences
+use Rattle.session.specs.Parts.{IsBack, IsGeneration, IsOver, OwnsRan, TakesLast, TakesNone, came_of, standing_of, status_of_ran}
+use Rattle.session.specs.declared.ran.Ran.{Ran}
+use Rattle.session.specs.declared.ran.Ran.TheVariants as ran
+use Rattle.session.specs.declared.ran.Standing.{Standing}
+use Rattle.session.proofs.Ending.{once_after}
+
+-- ---- by its status
+
+module _ {J : Type 0} (idle : Idle J) (status : Status) (standing : Standing) where
+  status_by : (b : Bool) → status_of_ran (if b then ran.Over status else ran.Back idle status standing) ≡ status
+  status_by true = refl
+  status_by false = refl
+
+  pub status_came : (r : Ran J) → r ≡ came_of idle status standing → status_of_ran r ≡ status
+  status_came r is = ap status_of_ran is ∙ status_by (gives_up status)
+
+  pub came_over : gives_up status ≡ true → came_of idle status standing ≡ ran.Over status
+  came_over gives = ap (λ (b : Bool). if b then ran.Over status else ran.Back idle status standing) gives
+
+  pub came_back : gives_up status ≡ false → came_of idle status standing ≡ ran.Back idle status standing
+  came_back gives = ap (λ (b : Bool). if b then ran.Over status else ran.Back idle status standing) gives
+
+  module _ {D : Type 0} (is_modelled : Bool) (may_leave : D → Image → Type 0) (stands : J → Image → List (List ℕ) → Type 0) (end : J → ℕ) (disk : D) where
+    held_by : (b : Bool) → OwnsIdle is_modelled may_leave stands end idle disk →
+        OwnsRan is_modelled may_leave stands end (if b then ran.Over status else ran.Back idle status standing) disk
+    held_by true held = tt
+    held_by false held = held
+
+    pub came_held : (r : Ran J) → r ≡ came_of idle status standing → OwnsIdle is_modelled may_leave stands end idle disk →
+        OwnsRan is_modelled may_leave stands end r disk
+    came_held r is held = subst (λ (x : Ran J). OwnsRan is_modelled may_leave stands end x disk) (sym is) (held_by (gives_up status) held)
+
+module _ {J : Type 0} (status : Status) (r : Ran J) (is : r ≡ ran.Over status) where
+  pub over_status : status_of_ran r ≡ status
+  over_status = ap status_of_ran is
+
+  pub over_is : IsOver r
+  over_is = subst IsOver (sym is) tt
+
+  pub over_never : IsBack r → ⊥
+  over_never back = subst IsBack is back
+
+  pub over_held : {D : Type 0} (is_modelled : Bool) (may_leave : D → Image → Type 0) (stands : J → Image → List (List ℕ) → Type 0) (end : J → ℕ) (disk : D)
+      → OwnsRan is_modelled may_leave stands end r disk
+  over_held is_modelled may_leave stands end disk = subst (λ (x : Ran J). OwnsRan is_modelled may_leave stands end x disk) (sym is) tt
+
+-- it comes back only from a deployment that was driven
+pub back_driven : {A J E : Type 0} (X : Type 0) (driven : Result A E) (r : Ran J) → IfOk driven (λ x. X) → OnErr driven (IsOver r) → IsBack r → X
+back_driven X (Ok x) r kept over back = kept
+back_driven X (Err e) r kept over back = absurd (both r over back)
+  where
+    both : {J : Type 0} (r : Ran J) → IsOver r → IsBack r → ⊥
+    both (ran.Back s status standing) over back = over
+    both (ran.Over status) over back = back
+
+-- ---- who the components are
+
+left_by : (presence : Presence) (before now : Generation) → now ≡ generation_left presence → IsGeneration (standing_of presence) before now
+left_by presences.Present before now is = is
+left_by presences.Absent before now is = is
+
+pub generation_by : (presence : Presence) (standing : Standing) (before now : Generation) → standing ≡ standing_of presence → now ≡ generation_left presence →
+    IsGeneration standing before now
+generation_by presence standing before now same is = subst (λ (s : Standing). IsGeneration s before now) (sym same) (left_by presence before now is)
+
+-- ---- the documents that it may still take
+
+-- behind the document that was accepted
+pub once_open : (p : SessionState) (d : Device) (world : Components) (told : Told) (living : List ℕ) (h : List TraceEvent) (plan : Plan) (rest : List Record) →
+    IsOpen p d world told living → TakesLast p → IsProper p h → records_of h ≡ Accepted plan ∷ rest → TakesOnce true rest
+once_open p d world told living h plan rest o last proper is = by p.serves refl last
+  where
+    by : (b : Bool) → p.serves ≡ b → TakesLast p → TakesOnce true rest
+    by false serves taken =
+        once_after p.taken plan (records_of h) rest (subst (λ (b : Bool). MayTakeBy b p) serves o.takes) is (takes_once p h serves proper)
+    by true serves (inl other) = absurd (false≢true (sym other ∙ serves))
+    by true serves (inr none) =
+        once_after (is_none p.answer) plan (records_of h) rest (given_open p.answer (subst (λ (b : Bool). MayTakeBy b p) serves o.takes).given) is
+        (serving_once p h serves (last_unasked p h none proper) proper)
+
+-- where a deployment is pending
+pub once_pending : (p : SessionState) (h : List TraceEvent) → TakesNone p → is_some p.device.pending ≡ true → IsProper p h → TakesOnce true (records_of h)
+once_pending p h (inl none) some proper = subst (λ (b : Bool). TakesOnce b (records_of h)) (none.1 ∙ some) (takes_once p h none.0 proper)
+once_pending p h (inr none) some proper =
+    subst (λ (b : Bool). TakesOnce b (records_of h)) (ap (λ (a : Option Answer). is_none a) none.2)
+    (serving_once p h none.0 (last_unasked p h none.1 proper) proper)

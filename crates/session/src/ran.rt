@@ -1,0 +1,25 @@
+//! How a deployment leaves the call that ran it.
+use deploy_state::Idle;
+use gate_log::Journal;
+use nuc_base::Status;
+use session_rollout::Presence;
+
+/// Whose the components are behind a deployment.
+#[derive(Clone, Copy, Debug, PartialEq, Eq)]
+pub enum Standing {
+    /// Those that stood before: nothing was deployed.
+    AsBefore,
+    /// Those of the set.
+    OfSet,
+    /// None stands: all are stopped.
+    Nobody,
+}
+
+/// How a deployment leaves the call that ran it.
+#[derive(Drop)]
+pub enum Ran<J: Journal + Drop> {
+    /// The call may go on, with the device in hand: it answered so, and the components are these.
+    Back(Idle<J>, Status, Standing),
+    /// The call ends with this status, and no child lives.
+    Over(Status),
+}

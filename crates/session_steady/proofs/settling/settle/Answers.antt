@@ -1,0 +1,83 @@
+use Rattle.std.proofs.Common.{◌++◌, true, refl, sym, subst, arith}
+use Rattle.step_runner.specs.Entries.{Listed}
+use Rattle.histories.specs.States.{SessionState, state_after}
+use Rattle.histories.proofs.Joined.{left-append}
+use Rattle.session_boots.proofs.Acting.{acts_on}
+use Rattle.session_steady.specs.Acting.{ActLeft}
+use Rattle.session_steady.proofs.Serving.{asking_on, idle_of, serving_on, start_of}
+use Rattle.session_steady.proofs.Staying.{stays_on, steady_on}
+use Rattle.session_steady.proofs.settling.settle.Goals as goal
+
+pub pass-now-requires-clause-drives : goal.pass-now-requires-clause-drives
+pass-now-requires-clause-drives g c = c.requires.drives.0
+
+pub pass-now-requires-clause-placed : goal.pass-now-requires-clause-placed
+pass-now-requires-clause-placed g c =
+    let q = c.requires.placed in
+    let told = Listed g.R.Runner.list g.R.Runner.told g.R.Runner.asked c.args.runner.now in
+    (q.0, q.0, start_of q.0 q.1 (g.S.Supervise.world c.args.supervisor.now) told (g.R.Runner.living c.args.runner.now) q.2)
+
+pub returns-then-is_last-clause-last : goal.returns-then-is_last-clause-last
+returns-then-is_last-clause-last g c =
+    let last = c.is_last.ensures.last c.if-is_last.true in
+    omega (arith, last, c.pass-now.ensures.now.0)
+
+pub returns-then-is_last-clause-trace : goal.returns-then-is_last-clause-trace
+returns-then-is_last-clause-trace g c = λ p d serving.
+    let old = Listed g.R.Runner.list g.R.Runner.told g.R.Runner.asked c.args.runner.now in
+    let told = Listed g.R.Runner.list g.R.Runner.told g.R.Runner.asked c.pass-now.new.runner in
+    let world = g.S.Supervise.world c.args.supervisor.now in
+    let lived = g.R.Runner.living c.args.runner.now in
+    let w = c.pass-now.ensures.trace p p (start_of p d world old lived serving) in (
+      w.0,
+      w.1,
+      serving_on p d world old lived serving (state_after p w.0) (g.S.Supervise.world c.pass-now.new.supervisor) told
+          (g.R.Runner.living c.pass-now.new.runner) w.2,
+    )
+
+pub returns-then-is_last-clause-clock : goal.returns-then-is_last-clause-clock
+returns-then-is_last-clause-clock g c = omega (arith, c.pass-now.ensures.now.0, c.pass-now.ensures.clock)
+
+pub take_acts-requires-clause-now : goal.take_acts-requires-clause-now
+take_acts-requires-clause-now g c =
+    (c.pass-now.ensures.now.0, c.is_last.ensures.early c.if-is_last.false c.pass-now.ensures.now.1)
+
+pub take_acts-requires-clause-drives : goal.take_acts-requires-clause-drives
+take_acts-requires-clause-drives g c =
+    let s = c.pass-now.ensures.stays in
+    (s.drives, steady_on (g.S.Supervise.world c.args.supervisor.now) (g.S.Supervise.world c.pass-now.new.supervisor) c.requires.drives.1 s)
+
+pub take_acts-requires-clause-placed : goal.take_acts-requires-clause-placed
+take_acts-requires-clause-placed g c =
+    let q = c.requires.placed in
+    let told = Listed g.R.Runner.list g.R.Runner.told g.R.Runner.asked c.args.runner.now in
+    let living = g.R.Runner.living c.args.runner.now in
+    let world = g.S.Supervise.world c.args.supervisor.now in
+    let w = c.pass-now.ensures.trace q.0 q.0 (start_of q.0 q.1 world told living q.2) in
+    (q.0, state_after q.0 w.0, w.2, idle_of q.0 q.1 world told living q.2)
+
+pub returns-clause-now : goal.returns-clause-now
+returns-clause-now g c = (c.take_acts.ensures.now, c.is_last.ensures.early c.if-is_last.false c.pass-now.ensures.now.1)
+
+pub returns-clause-trace : goal.returns-clause-trace
+returns-clause-trace g c = λ p d serving.
+    let old = Listed g.R.Runner.list g.R.Runner.told g.R.Runner.asked c.args.runner.now in
+    let new = Listed g.R.Runner.list g.R.Runner.told g.R.Runner.asked c.take_acts.new.runner in
+    let world = g.S.Supervise.world c.args.supervisor.now in
+    let last = g.S.Supervise.world c.take_acts.new.supervisor in
+    let lived = g.R.Runner.living c.args.runner.now in
+    let living = g.R.Runner.living c.take_acts.new.runner in
+    let w = c.pass-now.ensures.trace p p (start_of p d world old lived serving) in
+    let t = c.take_acts.ensures.trace p (state_after p w.0) w.2 (idle_of p d world old lived serving) in (
+      t.0 ++ w.0,
+      acts_on p w.0 t.0 (g.R.Runner.list c.args.runner.now) (g.R.Runner.list c.pass-now.new.runner) (g.R.Runner.list c.take_acts.new.runner) w.1 t.1,
+      asking_on p d world old lived serving (state_after p (t.0 ++ w.0)) true last new living
+          (subst (λ (s : SessionState). ActLeft p s true last new living) (sym (left-append p t.0 w.0)) t.2) refl,
+    )
+
+pub returns-clause-stays : goal.returns-clause-stays
+returns-clause-stays g c = stays_on (g.S.Supervise.world c.args.supervisor.now) (g.S.Supervise.world c.pass-now.new.supervisor)
+    (g.S.Supervise.world c.take_acts.new.supervisor) c.pass-now.ensures.stays c.take_acts.ensures.no_wilder.stays
+
+pub returns-clause-clock : goal.returns-clause-clock
+returns-clause-clock g c = omega (arith, c.take_acts.ensures.now, c.pass-now.ensures.clock)

@@ -1,0 +1,5 @@
+pub mod Acting
+pub mod Laws
+pub mod Runs
+pub mod Serves
+pub mod Stays

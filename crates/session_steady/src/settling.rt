@@ -1,0 +1,48 @@
+// What is due is done.
+ghost use Rattle.std.specs.Prelude.{◌≡◌, ◌≤◌, ◌<◌, ◌+◌, ◌^◌, List, true, false, IfSome, IfNone};
+ghost use Rattle.device.specs.Devices.{Device};
+ghost use Rattle.histories.specs.TraceEvents.{TraceEvent};
+ghost use Rattle.histories.specs.States.{SessionState, state_after};
+ghost use Rattle.session_boots.specs.Stages.{AsTold};
+ghost use Rattle.session_boots.specs.Traces.{Acts};
+ghost use Rattle.law_termination.specs.Drives.{Drives};
+ghost use Rattle.session_steady.specs.Serves.{IsServing, SettledLeft};
+ghost use Rattle.session_steady.specs.Stays.{Stays};
+
+use crate::acts::take_acts;
+use crate::starts::pass;
+use components::Supervise;
+use step_runner::Runner;
+
+/// The moment at which a runner's clock stands still.
+const LAST_MOMENT: u64 = (1 << 62) - 1;
+
+/// Whether a runner's clock stands still from this moment on.
+fn is_last(now: u64) -> bool
+    ensures last { result ≡ true → now + 1 ≡ 2 ^ 62 }
+    ensures early { result ≡ false → now < 2 ^ 62 → now + 1 < 2 ^ 62 }
+{
+    now == LAST_MOMENT
+}
+
+/// Asks for the moment and tells it, and takes every act that is due: steps are started, late ones are killed, and who failed
+/// is tried again or breaks. Of that nothing is recorded and no line is written. Gives the moment. At the clock's end, where
+/// a step that has a limit is late as it starts and could be tried again for ever, no act is taken, and None is given.
+pub fn settle<R: Runner, S: Supervise>(runner: &mut R, supervisor: &mut S) -> Option<u64>
+    requires drives { Drives (S.world supervisor.old) × ((S.world supervisor.old).steady ≡ true) }
+    requires placed { (p : SessionState) × (d : Device) × AsTold R.Runner runner.old (IsServing p d (S.world supervisor.old)) }
+    ensures now { IfSome result (λ now. (R.told runner.new ≡ now) × (now + 1 < 2 ^ 62)) }
+    ensures last { IfNone result (R.told runner.new + 1 ≡ 2 ^ 62) }
+    ensures trace { (p : SessionState) → (d : Device) → AsTold R.Runner runner.old (IsServing p d (S.world supervisor.old)) →
+        (h : List TraceEvent) × Acts p h (R.list runner.old) (R.list runner.new)
+        × AsTold R.Runner runner.new (SettledLeft p result (state_after p h) d (S.world supervisor.new)) }
+    ensures stays { Stays (S.world supervisor.old) (S.world supervisor.new) }
+    ensures clock { R.clock runner.old ≤ R.told runner.new }
+{
+    let now = pass(runner, supervisor);
+    if is_last(now) {
+        return None;
+    }
+    take_acts(runner, supervisor, now);
+    Some(now)
+}
