@@ -199,7 +199,7 @@ free_texts true f p h = h
 free_texts false f p h = h
 
 free_replacing : (b : Bool) (n : Coming) (p : ComponentState) → IsFree p
-    → IsFree (if b then record p { life = record p.life { stop = Some after.Again }; stop = None; next = Some n } else record p
+    → IsFree (if b then record p { life = record p.life { stop = Some after.Restart }; stop = Some after.Again; next = Some n } else record p
     { stop = Some after.Again; next = Some n })
 free_replacing true n p h = h
 free_replacing false n p h = h

@@ -85,6 +85,79 @@ const CASES: &[(&str, &str, &str)] = &[
 4|3=signal|failed A Startup Signal;A Startup s as 4;|due 120004
 5|4=1|broke A Startup Code(1);|broken A",
     ),
+    // The same with slow shutdowns, and others come meanwhile: b reaches v and x, but was to be stopped before. It is stopped
+    // before y, and v is not given its stop: x reaches it by b, and waits for y still. Once y is stopped each is stopped and takes
+    // its new needs. Then the first ones come again, and all leave.
+    (
+        "b 1.0.0 {} run b shutdown p hard v;v 1.0.0 {} run v;x 1.0.0 {} run x recover r hard b;y 1.0.0 {} run y shutdown q hard x",
+        "b 1.0.0 {} run b shutdown p hard v;v 2.0.0 {} run vv hard x;x 2.0.0 {} run xx recover r;y 1.0.0 {} run y shutdown q hard x",
+        "0|begin|v Run v as 0;b Run b as 1;x Run x as 2;y Run y as 3;|up
+1|2=1|failed x Run Code(1);x Recover r as 4;y Shutdown q as 5;|due 15001
+2|0=1|failed v Run Code(1);b Shutdown p as 6;v Run v as 7;|due 15001
+3|change||due 15001
+4|6=0|kill 1;|due 15001
+5|5=0|kill 3;kill 4;kill 7;x Run xx as 8;v Run vv as 9;b Run b as 10;y Run y as 11;|up
+6|begin|b Shutdown p as 12;y Shutdown q as 13;|due 15006
+7|13=0|kill 11;|due 15006
+8|12=0|kill 10;kill 9;v Run v as 14;b Run b as 15;kill 8;x Run x as 16;y Run y as 17;|up
+9|stop|y Shutdown q as 18;|due 15009
+10|18=0|kill 17;kill 16;b Shutdown p as 19;|due 15010
+11|19=0|kill 15;kill 14;|down",
+    ),
+    // The same, and one that comes beside them fails three times, so that all leave while y is being stopped.
+    (
+        "b 1.0.0 {} run b shutdown p hard v;v 1.0.0 {} run v;x 1.0.0 {} run x recover r hard b;y 1.0.0 {} run y shutdown q hard x",
+        "b 1.0.0 {} run b shutdown p hard v;v 2.0.0 {} run vv hard x;x 2.0.0 {} run xx recover r;y 1.0.0 {} run y shutdown q hard x;\
+        z 1.0.0 {} startup no",
+        "0|begin|v Run v as 0;b Run b as 1;x Run x as 2;y Run y as 3;|up
+1|2=1|failed x Run Code(1);x Recover r as 4;y Shutdown q as 5;|due 15001
+2|0=1|failed v Run Code(1);b Shutdown p as 6;v Run v as 7;|due 15001
+3|change|z Startup no refused;failed z Startup NotStarted;z Startup no refused;failed z Startup NotStarted;z Startup no refused;\
+        broke z Startup NotStarted;|broken z due 15001
+4|6=0|kill 1;|broken z due 15001
+5|stop||due 15001
+6|4=0||due 15001
+7|5=0|kill 3;kill 7;|down",
+    ),
+    // One that goes away is shutting down, and it comes again: that ends as a restart. Then it is to begin again, and waits for
+    // another one that is about to need it.
+    (
+        "a 1.0.0 {} run a shutdown p;d 1.0.0 {} run d shutdown q hard a",
+        "d 2.0.0 {} run dd shutdown q",
+        "0|begin|a Run a as 0;d Run d as 1;|up
+1|change|d Shutdown q as 2;|due 15001
+2|2=0|a Shutdown p as 3;kill 1;d Run dd as 4;|due 15002
+3|begin|d Shutdown q as 5;|due 15002
+4|3=0|kill 0;|due 15003
+5|5=0|kill 4;a Run a as 6;d Run d as 7;|up
+6|stop|d Shutdown q as 8;|due 15006
+7|8=0|kill 7;a Shutdown p as 9;|due 15007
+8|9=0|kill 6;|down",
+    ),
+    // One that is replaced is shutting down, and the first one comes again, so that the second one never runs; then it is
+    // replaced once more, and is to leave meanwhile.
+    (
+        "a 1.0.0 {} run a shutdown p",
+        "a 2.0.0 {} run aa shutdown p",
+        "0|begin|a Run a as 0;|up
+1|change|a Shutdown p as 1;|due 15001
+2|begin||due 15001
+3|1=0|kill 0;a Run a as 2;|up
+4|change|a Shutdown p as 3;|due 15004
+5|stop||due 15004
+6|3=1|kill 2;|down",
+    ),
+    // One is gone and comes again: in the moment in which its shutdown ends, while its run child is still to be killed, and later.
+    (
+        "a 1.0.0 {} run a shutdown p;d 1.0.0 {} run d",
+        "d 1.0.0 {} run d",
+        "0|begin|a Run a as 0;d Run d as 1;|up
+1|change|a Shutdown p as 2;|due 15001
+2|2=0 begin|kill 0;a Run a as 3;|up
+3|change|a Shutdown p as 4;|due 15003
+4|4=0|kill 3;|up
+5|begin|a Run a as 5;|up",
+    ),
 ];
 
 /// How the components stand, in words.
@@ -242,13 +315,13 @@ fn is_line(
 }
 
 /// The first line of which something else comes, or none, from moment 0 on.
-fn first_wrong_of(
+fn first_wrong_of<'a>(
     alloc: Global,
     supervisor: &mut Supervisor,
     seen: &mut Seen,
     device: &Device,
-    lines: &'static str,
-) -> Result<&'static str, NoMemory>
+    lines: &'a str,
+) -> Result<&'a str, NoMemory>
     requires sound { IsSound (device_view device.now) }
     requires regular { IsRegularDevice (device_view device.now) }
     requires moment { supervisor.old.moment ≡ 0 }
@@ -264,11 +337,7 @@ fn first_wrong_of(
 }
 
 /// The same where no component runs yet.
-fn first_wrong(
-    alloc: Global,
-    device: &Device,
-    lines: &'static str,
-) -> Result<&'static str, NoMemory>
+fn first_wrong<'a>(alloc: Global, device: &Device, lines: &'a str) -> Result<&'a str, NoMemory>
     requires sound { IsSound (device_view device.now) }
     requires regular { IsRegularDevice (device_view device.now) }
 {
@@ -281,12 +350,12 @@ fn first_wrong(
 }
 
 /// The same of a case.
-fn wrong_of(
+pub(crate) fn wrong_of<'a>(
     alloc: Global,
     set: &str,
     plan: &str,
-    lines: &'static str,
-) -> Result<&'static str, Fail> {
+    lines: &'a str,
+) -> Result<&'a str, Fail> {
     let device = device_of(alloc, set, plan)?;
     let wrong = first_wrong(alloc, &device, lines);
     drop(device);

@@ -11,6 +11,14 @@ mod cases;
 #[cfg(test)]
 mod devices;
 #[cfg(test)]
+mod drawn;
+#[cfg(test)]
+mod model;
+#[cfg(test)]
+mod plain;
+#[cfg(test)]
+mod rows;
+#[cfg(test)]
 mod shapes;
 #[cfg(test)]
 mod steps;
