@@ -5,24 +5,33 @@ use Rattle.nuc_base.specs.declared.status.Status.{Status}
 use Rattle.nuc_base.specs.declared.status.Status.TheVariants as status
 use Rattle.nuc_base.specs.Faults.{Rose}
 use Rattle.disk_model.specs.Disk.{Image}
+use Rattle.edges.specs.Pieces.{AppendsPrefix}
+use Rattle.recipe_reader.specs.Members.{members}
+use Rattle.device.specs.Devices.{Device}
+use Rattle.why_not.specs.Reasons.{seen as certificate}
 use Rattle.command_words.specs.Laws.{AsksOnce}
 use Rattle.command_words.specs.declared.order.Order.{Order}
-use Rattle.command_words.specs.declared.order.Order.TheVariants.{Init, Status as Show, Plan, Audit}
-use Rattle.nucleus_top.specs.Words.{AsksNothing}
+use Rattle.command_words.specs.declared.order.Order.TheVariants.{Init, Status as Show, Plan, Audit, ConfigGet, Why as AskWhy, Workload}
+use Rattle.nucleus_top.specs.Why.{IsTextual, TellsReply, WhyParts, answer_of, impossible, why_bytes}
+use Rattle.nucleus_top.specs.Words.{Asks, AsksNothing}
+use Rattle.nucleus_top.specs.declared.reply.Reply.{Reply}
+use Rattle.nucleus_top.specs.declared.reply.Reply.TheVariants as reply
 use Rattle.nucleus_top.specs.Answers.{Store, Input, Shelf, Printed, Told, IsUnchanged, HasRisen, IsQuiet, IsStill, IsCutShort, Prints, Yields, usage_line}
 use Rattle.nucleus_top.specs.Answers.{library_line, status_of}
 use Rattle.nucleus_top.specs.Leaving.{IsDurable, Keeps}
 use Rattle.nucleus_top.specs.Parts.{Comes, ComesOf, IsSourceFault, Parts}
 use Rattle.nucleus_top.specs.declared.answer.Answer.{Answer}
 use Rattle.nucleus_top.specs.declared.answer.Answer.TheVariants.{Unplanned, WrongWords, DiskFailed, SourceFailed, LibraryFailed, NoMemory}
-use Rattle.nucleus_top.proofs.Orders.{comes_of}
+use Rattle.nucleus_top.proofs.Orders.{comes_of, one_order}
 use Rattle.nucleus_top.proofs.AuditEnds.{audit_parts}
+use Rattle.nucleus_top.proofs.GetEnds.{get_parts}
 use Rattle.nucleus_top.proofs.InitEnds.{init_parts}
 use Rattle.nucleus_top.proofs.PlanEnds.{plan_parts}
 use Rattle.nucleus_top.proofs.Standing.{same_device}
 use Rattle.nucleus_top.proofs.StatusEnds.{status_parts}
 use Rattle.nucleus_top.proofs.Unrefused.{no_refusal, silent}
-use Rattle.refusal_lines.specs.Lines.{refusal_line}
+use Rattle.nucleus_top.proofs.WorkloadEnds.{workload_parts}
+use Rattle.nucleus_top.proofs.WhyEnds.{Says, begun_why, impossible_on, why_parts}
 use Rattle.refusal_lines.specs.Statuses.{status_of_refusal}
 use Rattle.plan_core.specs.declared.fault.Refusal.{Refusal}
 
@@ -32,11 +41,17 @@ risen (Init origin) store input library comes = comes.0
 risen (Show json) store input library comes = comes.1
 risen Plan store input library comes = comes.1
 risen Audit store input library comes = comes.1
+risen (ConfigGet name at) store input library comes = comes.1
+risen (Workload seed) store input library comes = absurd comes.1
+risen AskWhy store input library comes = comes.1
 risen _ store input library comes = absurd comes
 
 unread : (order : Order) (store : Store) (input : Input) (library : Shelf) → ComesOf order store input library SourceFailed →
     Rose input.faults_before input.faults_after
 unread Plan store input library comes = comes.1.2.1
+unread AskWhy store input library comes = comes.1.2.1
+unread (Workload seed) store input library comes = absurd comes.1
+unread (ConfigGet name at) store input library comes = absurd comes.1.2
 unread Audit store input library comes = absurd comes
 unread (Init origin) store input library comes = absurd comes
 unread (Show json) store input library comes = absurd comes
@@ -45,18 +60,36 @@ unread _ store input library comes = absurd comes
 ungiven : (order : Order) (store : Store) (input : Input) (library : Shelf) → ComesOf order store input library LibraryFailed →
     Rose library.faults_before library.faults_after
 ungiven Plan store input library comes = comes.1.2.1
+ungiven AskWhy store input library comes = comes.1.2.1
+ungiven (Workload seed) store input library comes = absurd comes.1
+ungiven (ConfigGet name at) store input library comes = absurd comes.1.2
 ungiven Audit store input library comes = absurd comes
 ungiven (Init origin) store input library comes = absurd comes
 ungiven (Show json) store input library comes = absurd comes
 ungiven _ store input library comes = absurd comes
 
--- what a refusal of a document prints, and of which status it is not
+-- that a refusal of a document prints nothing for want of memory, and of which status it is not
 abbrev Refuses : Store → Refusal → List ℕ → Type 0
-Refuses store r text = IsUnchanged store × (text ≡ refusal_line r) × (status_of_refusal r ≢ status.Library)
+Refuses store r text = IsUnchanged store × (status_of_refusal r ≡ status.Memory → text ≡ codes "") × (status_of_refusal r ≢ status.Library)
+
+-- of a document that is refused with its line, or without any set
+says : (d : Device) (store : Store) (input : Input) (library : Shelf) (r : Refusal) (text : List ℕ) → IsUnchanged store → Says d input library r text →
+    Refuses store r text
+says d store input library r text same (inl declined) = (same, λ is. declined.text_is ∙ silent r is, declined.told)
+says d store input library r text same (inr told) =
+    let is : status_of_refusal r ≡ status.NoVersion = ap status_of_refusal told.0 in (
+      same,
+      λ memory. let other : status.NoVersion ≡ status.Memory = sym is ∙ memory in cc,
+      λ failed. let other : status.NoVersion ≡ status.Library =
+          sym is ∙ failed in cc,
+    )
 
 unplanned : (order : Order) (store : Store) (input : Input) (library : Shelf) (r : Refusal) (text : List ℕ) →
     ComesOf order store input library (Unplanned r text) → Refuses store r text
-unplanned Plan store input library r text comes = (comes.0, comes.1.2.1, comes.1.2.2)
+unplanned Plan store input library r text comes = (comes.0, λ is. comes.1.2.1 ∙ silent r is, comes.1.2.2)
+unplanned AskWhy store input library r text comes = says comes.1.0 store input library r text comes.0 comes.1.2
+unplanned (Workload seed) store input library r text comes = absurd comes.1
+unplanned (ConfigGet name at) store input library r text comes = absurd comes.1.2
 unplanned Audit store input library r text comes = absurd comes
 unplanned (Init origin) store input library r text comes = absurd comes
 unplanned (Show json) store input library r text comes = absurd comes
@@ -67,6 +100,9 @@ untouched (Init origin) store input library comes = comes
 untouched (Show json) store input library comes = comes
 untouched Plan store input library comes = comes
 untouched Audit store input library comes = comes
+untouched (Workload seed) store input library comes = comes
+untouched (ConfigGet name at) store input library comes = comes
+untouched AskWhy store input library comes = comes
 untouched _ store input library comes = absurd comes
 
 no_usage : (order : Order) (store : Store) (input : Input) (library : Shelf) → ComesOf order store input library WrongWords → ⊥
@@ -74,6 +110,9 @@ no_usage (Init origin) store input library comes = comes
 no_usage (Show json) store input library comes = comes
 no_usage Plan store input library comes = comes.1.2
 no_usage Audit store input library comes = comes
+no_usage (Workload seed) store input library comes = comes.1
+no_usage (ConfigGet name at) store input library comes = comes.1.2
+no_usage AskWhy store input library comes = comes.1.2
 no_usage _ store input library comes = absurd comes
 
 module _ (words : List (List ℕ)) (store : Store) (input : Input) (library : Shelf) (printed : Printed) (result : Status) where
@@ -169,7 +208,7 @@ module _ (words : List (List ℕ)) (store : Store) (input : Input) (library : Sh
   memory NoMemory comes (inl told) is = (same comes, told.1)
   memory (Unplanned r text) comes (inl told) is =
       let r_is = refuses r text comes in
-      (r_is.0, subst (λ (t : List ℕ). Prints printed t) (r_is.1 ∙ silent r (sym told.0 ∙ is)) told.1)
+      (r_is.0, subst (λ (t : List ℕ). Prints printed t) (r_is.1 (sym told.0 ∙ is)) told.1)
   memory a comes (inl told) is = cc
   memory a comes (inr told) is = cc
 
@@ -184,16 +223,63 @@ module _ (words : List (List ℕ)) (store : Store) (input : Input) (library : Sh
     edges_stay = edges_stay a quiet told;
     library_failed = given a comes told;
     library_stays = library_stays a still told;
-    memory = memory a comes told;
+    memory = λ is. let none = memory a comes told is in (none.0, inl none.1);
     one_device = same_device store.before;
     init = λ origin is. init_parts origin store printed result a (comes_of once words (Init origin) store input library a is comes) told;
     status = λ json is. status_parts json store printed result a (comes_of once words (Show json) store input library a is comes) told;
     plan = λ is. plan_parts store input library printed result a (comes_of once words Plan store input library a is comes) told;
     audit = λ is. audit_parts store printed result a (comes_of once words Audit store input library a is comes) told;
+    config_get = λ name at is. get_parts name at store printed result a (comes_of once words (ConfigGet name at) store input library a is comes) told;
+    workload = λ seed is. workload_parts seed store printed result a (comes_of once words (Workload seed) store input library a is comes) told;
+    why = λ is. why_parts store input library printed result a (comes_of once words AskWhy store input library a is comes) told;
   }
+
+  -- memory ran out behind a front of the text of a certificate
+  begun_parts : AsksOnce → (text : List ℕ) → Asks words AskWhy → Comes words store input library (impossible text) → IsQuiet store input (impossible text) →
+      IsStill library (impossible text)
+      → result ≡ status.Memory → AppendsPrefix printed.before printed.after text → printed.faults_after ≡ printed.faults_before →
+      Parts words store input library printed result
+  begun_parts once text asks comes quiet still is front stays =
+      let on = comes_of once words AskWhy store input library (impossible text) asks comes in
+      record {
+        usage = λ other. let clash : status.Memory ≡ status.Usage = sym is ∙ other in cc;
+        usage_comes = λ nothing. inr (inr is);
+        disk = λ other. let clash : status.Memory ≡ status.Disk = sym is ∙ other in cc;
+        disk_stays = λ other more. quiet.disk (λ same. cc);
+        edge = λ other. let clash : status.Memory ≡ status.Edge = sym is ∙ other in cc;
+        edges_stay = λ other. (quiet.source (λ same. cc), stays);
+        library_failed = λ other. let clash : status.Memory ≡ status.Library = sym is ∙ other in cc;
+        library_stays = λ other more. still (λ same. cc);
+        memory = λ memory. (on.0, inr (record { asks = asks; text = text; impossible = impossible_on store input library text on; front = front }));
+        one_device = same_device store.before;
+        init = λ origin other. let same : Init origin ≡ AskWhy = one_order once words (Init origin) AskWhy other asks in cc;
+        status = λ json other. let same : Show json ≡ AskWhy = one_order once words (Show json) AskWhy other asks in cc;
+        plan = λ other. let same : Plan ≡ AskWhy = one_order once words Plan AskWhy other asks in cc;
+        audit = λ other. let same : Audit ≡ AskWhy = one_order once words Audit AskWhy other asks in cc;
+        config_get = λ name at other. let same : ConfigGet name at ≡ AskWhy = one_order once words (ConfigGet name at) AskWhy other asks in cc;
+        workload = λ seed other. let same : Workload seed ≡ AskWhy = one_order once words (Workload seed) AskWhy other asks in cc;
+        why = λ other. subst (λ (s : Status). WhyParts store input library printed s) (sym is) (begun_why store input library printed text on);
+      }
+
+  pub reply_parts : AsksOnce → (r : Reply) → Comes words store input library (answer_of r) → (IsTextual r → Asks words AskWhy) →
+      IsQuiet store input (answer_of r) → IsStill library (answer_of r)
+      → TellsReply printed result r → Parts words store input library printed result
+  reply_parts once (reply.Answered a) comes textual quiet still told = parts once a comes quiet still told
+  reply_parts once (reply.Impossible q why) comes textual quiet still (inl told) =
+      parts once (impossible (why_bytes (members q.candidates) (certificate why))) comes quiet still told
+  reply_parts once (reply.Impossible q why) comes textual quiet still (inr begun) =
+      begun_parts once (why_bytes (members q.candidates) (certificate why)) (textual tt) comes quiet still begun.0 begun.1 begun.2
 
 -- 0 is answered only where the work is done
 pub durable : (order : Order) (images : Image → Type 0) (seen : Image) (printed : Printed) (result : Status) (a : Answer)
     → Told printed result a → Keeps order images seen a → result ≡ status.Done → IsDurable order images seen
 durable order images seen printed result a (inl told) keeps is = keeps (sym told.0 ∙ is)
 durable order images seen printed result a (inr told) keeps is = cc
+
+pub reply_durable : (order : Order) (images : Image → Type 0) (seen : Image) (printed : Printed) (result : Status) (r : Reply)
+    → TellsReply printed result r → Keeps order images seen (answer_of r) → result ≡ status.Done → IsDurable order images seen
+reply_durable order images seen printed result (reply.Answered a) told keeps is = durable order images seen printed result a told keeps is
+reply_durable order images seen printed result (reply.Impossible q why) (inl told) keeps is =
+    durable order images seen printed result (impossible (why_bytes (members q.candidates) (certificate why))) told keeps is
+reply_durable order images seen printed result (reply.Impossible q why) (inr begun) keeps is =
+    let clash : status.Memory ≡ status.Done = sym begun.0 ∙ is in cc

@@ -6,19 +6,27 @@ mod Driven
 mod Ends
 mod Faults
 mod Forms
+mod Fronts
+mod GetEnds
 mod Images
 mod InitEnds
 mod Lasting
+mod Looked
 mod Meeting
 mod Orders
 mod Origins
 mod PlanEnds
 mod Printed
 mod Proposals
+mod Questions
 mod Reading
+mod Replies
+mod Requested
 mod Series
 mod Standing
 pub mod Unrefused
 mod StatusEnds
 mod Told
 mod Whole
+mod WhyEnds
+mod WorkloadEnds

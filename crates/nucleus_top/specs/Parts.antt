@@ -3,18 +3,22 @@ use Rattle.std.specs.Prelude.{◌≡◌, ◌≢◌, ◌⊎◌, ℕ, Bool, List, 
 use Rattle.nuc_base.specs.declared.status.Status.{Status}
 use Rattle.nuc_base.specs.declared.status.Status.TheVariants as status
 use Rattle.nuc_base.specs.Faults.{Rose}
+use Rattle.edges.specs.Pieces.{AppendsPrefix}
 use Rattle.records.specs.declared.record.Origin.{Origin}
 use Rattle.device.specs.Devices.{Device}
 use Rattle.nucleus_top.specs.Opening.{Stands}
 use Rattle.command_words.specs.declared.order.Order.{Order}
-use Rattle.command_words.specs.declared.order.Order.TheVariants.{Init, Status as Show, Plan, Audit}
+use Rattle.command_words.specs.declared.order.Order.TheVariants.{Init, Status as Show, Plan, Audit, ConfigGet, Why as AskWhy, Workload}
 use Rattle.nucleus_top.specs.Words.{Asks, AsksNothing}
 use Rattle.nucleus_top.specs.Answers.{Store, Input, Shelf, Printed, IsUnchanged, HasRisen, IsQuiet, IsStill, IsCutShort, Prints, Yields, usage_line}
 use Rattle.nucleus_top.specs.Answers.{library_line}
 use Rattle.nucleus_top.specs.Audits.{Audits, AuditParts}
+use Rattle.nucleus_top.specs.Gets.{Gets, GetParts}
 use Rattle.nucleus_top.specs.Inits.{Inits, InitParts}
 use Rattle.nucleus_top.specs.Planning.{Plans, PlanParts}
 use Rattle.nucleus_top.specs.Shows.{Shows, StatusParts}
+use Rattle.nucleus_top.specs.Why.{IsImpossibleOn, Whys, WhyParts}
+use Rattle.nucleus_top.specs.Workloads.{Draws, WorkloadParts}
 use Rattle.nucleus_top.specs.declared.answer.Answer.{Answer}
 use Rattle.nucleus_top.specs.declared.answer.Answer.TheVariants.{WrongWords, SourceFailed, NoMemory}
 
@@ -24,6 +28,9 @@ ComesOf (Init origin) store input library = Inits origin store
 ComesOf (Show json) store input library = Shows json store
 ComesOf Plan store input library = Plans store input library
 ComesOf Audit store input library = Audits store
+ComesOf (ConfigGet name at) store input library = Gets name at store
+ComesOf (Workload seed) store input library = Draws seed store
+ComesOf AskWhy store input library = Whys store input library
 ComesOf _ store input library = λ answer. ⊥
 
 -- Why an answer comes, of words that drive no deployment: by the command that they ask, since they ask none, or for want of memory.
@@ -42,6 +49,13 @@ pub record IsSourceFault (words : List (List ℕ)) (store : Store) (input : Inpu
   pub library_stays : library.faults_after ≡ library.faults_before
   pub sink_stays : printed.faults_after ≡ printed.faults_before
 
+-- memory ran out behind a front of the text of a certificate, where the words ask why
+pub record IsBegun (words : List (List ℕ)) (store : Store) (input : Input) (library : Shelf) (printed : Printed) : Type 0 where
+  pub asks : Asks words AskWhy
+  pub text : List ℕ
+  pub impossible : IsImpossibleOn store input library text
+  pub front : AppendsPrefix printed.before printed.after text
+
 pub record Parts (words : List (List ℕ)) (store : Store) (input : Input) (library : Shelf) (printed : Printed) (result : Status) : Type 0 where
   -- 1 comes exactly where the words ask no command.
   pub usage : result ≡ status.Usage → AsksNothing words × IsUnchanged store × Prints printed usage_line
@@ -58,8 +72,8 @@ pub record Parts (words : List (List ℕ)) (store : Store) (input : Input) (libr
   -- 7 comes exactly where the library's count rose, unless the sink fails besides.
   pub library_failed : result ≡ status.Library → Rose library.faults_before library.faults_after × Prints printed library_line
   pub library_stays : result ≢ status.Library → result ≢ status.Edge → library.faults_after ≡ library.faults_before
-  -- With 15 nothing was printed, and every file reads as before.
-  pub memory : result ≡ status.Memory → IsUnchanged store × Prints printed (codes "")
+  -- With 15 every file reads as before, and nothing was printed, but perhaps a front of the text of a certificate.
+  pub memory : result ≡ status.Memory → IsUnchanged store × (Prints printed (codes "") ⊎ IsBegun words store input library printed)
   -- The journal stands for one device at most.
   pub one_device : (d e : Device) → Stands store.before d → Stands store.before e → d ≡ e
   -- What each command promises.
@@ -67,3 +81,6 @@ pub record Parts (words : List (List ℕ)) (store : Store) (input : Input) (libr
   pub status : (json : Bool) → Asks words (Show json) → StatusParts json store printed result
   pub plan : Asks words Plan → PlanParts store input library printed result
   pub audit : Asks words Audit → AuditParts store printed result
+  pub config_get : (name : List ℕ) (at : List (List ℕ)) → Asks words (ConfigGet name at) → GetParts name at store printed result
+  pub workload : (seed : ℕ) → Asks words (Workload seed) → WorkloadParts seed store printed result
+  pub why : Asks words AskWhy → WhyParts store input library printed result

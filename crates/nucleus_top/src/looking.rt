@@ -1,4 +1,4 @@
-// The commands that drive no component: `init`, `status`, `plan` and `audit`.
+// The commands that drive no component: `init`, `status`, `plan`, `audit`, `config-get`, `why` and `workload`.
 ghost use Rattle.std.specs.Prelude.{◌≡◌, ◌≢◌, ◌≤◌, ℕ, List, map, string_bytes, IsTrue};
 ghost use Rattle.disk_model.specs.Disk.{Leaves};
 ghost use Rattle.nuc_base.specs.declared.status.Status.TheVariants as status;
@@ -9,12 +9,17 @@ ghost use Rattle.nucleus_top.specs.Words.{Asks};
 ghost use Rattle.nucleus_top.specs.Answers.{store_of, input_of, shelf_of, printed_of, IsQuiet, IsStill};
 ghost use Rattle.nucleus_top.specs.Leaving.{IsDurable, Keeps, MayLeave, files_of};
 ghost use Rattle.nucleus_top.specs.Parts.{Comes, Parts};
+ghost use Rattle.nucleus_top.specs.Why.{IsTextual, answer_of};
 
 use crate::answer::Answer;
 use crate::auditing::audit;
+use crate::config_getting::get;
 use crate::init::init;
 use crate::planning::plan;
+use crate::reply::Reply;
 use crate::status::status;
+use crate::why::why;
+use crate::workload_run::draw_workload;
 use command_words::{Order, WordsFault, read_words, words_ask_one_thing};
 use disk_model::Disk;
 use edges::{Sink, Source};
@@ -24,22 +29,29 @@ use std::alloc::Global;
 
 /// Does all but the printing.
 #[tactic(auto, using(crate::proofs::Reading::reads_none))]
-fn answer<D: Disk, L: Library, S: Source>(
+fn reply<D: Disk, L: Library, S: Source>(
     alloc: Global,
     words: &Vec<String>,
     disk: &mut D,
     library: &mut L,
     source: &mut S,
-) -> Answer
+) -> Reply
     ensures comes { Comes (map string_bytes words.now.items) (store_of D.is_modelled D.seen D.faults disk.old disk.new)
-        (input_of S.left S.faults source.old source.new) (shelf_of L.content L.faults library.old library.new) result }
-    ensures quiet { IsQuiet (store_of D.is_modelled D.seen D.faults disk.old disk.new) (input_of S.left S.faults source.old source.new) result }
-    ensures still { IsStill (shelf_of L.content L.faults library.old library.new) result }
-    ensures unread { (Asks (map string_bytes words.now.items) order.Plan → ⊥) → source.new ≡ source.old }
-    ensures unasked { (Asks (map string_bytes words.now.items) order.Plan → ⊥) → library.new ≡ library.old }
+        (input_of S.left S.faults source.old source.new) (shelf_of L.content L.faults library.old library.new) (answer_of result) }
+    // Only `why` has a text that is written piece by piece.
+    ensures textual { IsTextual result → Asks (map string_bytes words.now.items) order.Why }
+    ensures quiet { IsQuiet (store_of D.is_modelled D.seen D.faults disk.old disk.new) (input_of S.left S.faults source.old source.new) (answer_of result) }
+    ensures still { IsStill (shelf_of L.content L.faults library.old library.new) (answer_of result) }
+    ensures unread { (Asks (map string_bytes words.now.items) order.Plan → ⊥) → (Asks (map string_bytes words.now.items) order.Why → ⊥)
+        → source.new ≡ source.old }
+    ensures unasked { (Asks (map string_bytes words.now.items) order.Plan → ⊥) → (Asks (map string_bytes words.now.items) order.Why → ⊥)
+        → library.new ≡ library.old }
+    // `workload` does not touch the disk.
+    ensures alone { (seed : ℕ) → Asks (map string_bytes words.now.items) (order.Workload seed) → disk.new ≡ disk.old }
     ensures kept { L.content library.new ≡ L.content library.old }
     ensures moments { Leaves D.moment D.left_since disk.old disk.new (MayLeave (map string_bytes words.now.items) (D.may_leave disk.old)) }
-    ensures keeps { (order : Order) → Asks (map string_bytes words.now.items) order → Keeps order (D.may_leave disk.new) (D.seen disk.new) result }
+    ensures keeps { (order : Order) → Asks (map string_bytes words.now.items) order → Keeps order (D.may_leave disk.new) (D.seen disk.new)
+        (answer_of result) }
     ensures others { (order : Order) → Asks (map string_bytes words.now.items) order → IsTrue D.is_modelled →
         (name : List ℕ) → ¬ (files_of order name) → D.seen disk.new name ≡ D.seen disk.old name }
     ensures disk_later { D.faults disk.old ≤ D.faults disk.new }
@@ -50,23 +62,23 @@ fn answer<D: Disk, L: Library, S: Source>(
     words_ask_one_thing();
     let order = match read_words(alloc, words) {
         Ok((_root, order)) => order,
-        Err(WordsFault::Usage) => return Answer::WrongWords,
-        Err(WordsFault::NoMemory) => return Answer::NoMemory,
+        Err(WordsFault::Usage) => return Reply::Answered(Answer::WrongWords),
+        Err(WordsFault::NoMemory) => return Reply::Answered(Answer::NoMemory),
     };
     match order {
-        Order::Init(origin) => init(alloc, origin, disk),
-        Order::Status(json) => status(alloc, json, disk),
-        Order::Plan => plan(alloc, disk, library, source),
-        Order::Audit => audit(alloc, disk),
+        Order::Init(origin) => Reply::Answered(init(alloc, origin, disk)),
+        Order::Status(json) => Reply::Answered(status(alloc, json, disk)),
+        Order::Plan => Reply::Answered(plan(alloc, disk, library, source)),
+        Order::Audit => Reply::Answered(audit(alloc, disk)),
+        Order::ConfigGet(name, at) => Reply::Answered(get(alloc, &name, &at, disk)),
+        Order::Workload(seed) => Reply::Answered(draw_workload(alloc, seed)),
+        Order::Why => why(alloc, disk, library, source),
         // These drive components: they are dispatched before.
-        Order::Deploy | Order::Resume => Answer::WrongWords,
-        // These are not built yet.
-        Order::Serve(_)
-        | Order::Workload(_)
-        | Order::Local
-        | Order::ConfigGet(..)
-        | Order::ConfigSet(_)
-        | Order::Why => Answer::WrongWords,
+        Order::Deploy | Order::Resume | Order::Local | Order::ConfigSet(_) => {
+            Reply::Answered(Answer::WrongWords)
+        }
+        // This is not built yet.
+        Order::Serve(_) => { Reply::Answered(Answer::WrongWords) }
     }
 }
 
@@ -83,9 +95,13 @@ pub(crate) fn look<D: Disk, L: Library, S: Source, K: Sink>(
     ensures parts { Parts (map string_bytes words.now.items) (store_of D.is_modelled D.seen D.faults disk.old disk.new)
         (input_of S.left S.faults source.old source.new) (shelf_of L.content L.faults library.old library.new)
         (printed_of K.held K.faults sink.old sink.new) result }
-    // `plan` alone reads from the source and asks the library.
-    ensures unread { (Asks (map string_bytes words.now.items) order.Plan → ⊥) → source.new ≡ source.old }
-    ensures unasked { (Asks (map string_bytes words.now.items) order.Plan → ⊥) → library.new ≡ library.old }
+    // `plan` and `why` alone read from the source and ask the library.
+    ensures unread { (Asks (map string_bytes words.now.items) order.Plan → ⊥) → (Asks (map string_bytes words.now.items) order.Why → ⊥)
+        → source.new ≡ source.old }
+    ensures unasked { (Asks (map string_bytes words.now.items) order.Plan → ⊥) → (Asks (map string_bytes words.now.items) order.Why → ⊥)
+        → library.new ≡ library.old }
+    // `workload` does not touch the disk.
+    ensures alone { (seed : ℕ) → Asks (map string_bytes words.now.items) (order.Workload seed) → disk.new ≡ disk.old }
     ensures library_kept { L.content library.new ≡ L.content library.old }
     // Whenever a crash comes during the call, it leaves an image that the start allowed, or what the command may make of one.
     ensures moments { Leaves D.moment D.left_since disk.old disk.new (MayLeave (map string_bytes words.now.items) (D.may_leave disk.old)) }
@@ -101,8 +117,8 @@ pub(crate) fn look<D: Disk, L: Library, S: Source, K: Sink>(
     ensures sink_later { K.faults sink.old ≤ K.faults sink.new }
 {
     words_ask_one_thing();
-    let answer = answer(alloc, words, disk, library, source);
-    let status = answer.tell(sink);
-    drop(answer);
+    let reply = reply(alloc, words, disk, library, source);
+    let status = reply.tell(alloc, sink);
+    drop(reply);
     status
 }

@@ -98,6 +98,14 @@ fn comes(rt: &HostRuntime, path: &str) -> bool {
     false
 }
 
+/// Whether the runner finds `setsid`: on the PATH, and without one in the usual folders.
+fn has_setsid<R: Runner>(rt: &HostRuntime, runner: &mut R) -> Result<bool, NoMemory> {
+    let is_usual = fs::exists(rt, "/bin/setsid").unwrap_or(false)
+        || fs::exists(rt, "/usr/bin/setsid").unwrap_or(false);
+    let is_on_path = runner.on_path(&text(rt.alloc(), "setsid")?);
+    Ok(is_on_path || (is_usual && env::var(rt, "PATH").is_err()))
+}
+
 /// Whether a kill ends what the child started too, where there is `setsid`.
 fn ends_group<R: Runner>(rt: &HostRuntime, runner: &mut R, folder: &str) -> Result<bool, NoMemory> {
     let alloc = rt.alloc();
@@ -110,7 +118,7 @@ fn ends_group<R: Runner>(rt: &HostRuntime, runner: &mut R, folder: &str) -> Resu
     runner.kill(child);
     thread::sleep(rt, Duration::from_millis(3_000));
     let is_late = runner.exists(&text(alloc, "runner-of-a-test/late")?);
-    Ok(is_begun && is_late != runner.on_path(&text(alloc, "setsid")?))
+    Ok(is_begun && is_late != has_setsid(rt, runner)?)
 }
 
 #[test]
@@ -135,8 +143,8 @@ fn children_run_in_their_folder_and_end(rt: HostRuntime) -> Result<(), Fail> {
         is_made && is_killed && code == Some(Exit::Code(3)) && signal == Some(Exit::Signal)
     );
     assert!(rt; is_told_late && ends_group);
+    assert!(rt; off_path == Some(Exit::Code(3)));
     let has_path = env::var(&rt, "PATH").is_ok();
-    assert!(rt; off_path == Some(Exit::Code(3)) || !has_path);
     let is_found = runner.on_path(&text(alloc, "sh")?) == has_path;
     assert!(rt; is_found && !runner.on_path(&text(alloc, "no-such")?));
     Ok(())

@@ -1,0 +1,17 @@
+pub mod Rounding
+pub mod Joining
+pub mod Asking
+pub mod Turning
+pub mod Doing
+pub mod Places
+pub mod Steady
+pub mod Held
+pub mod Images
+pub mod Deploying
+pub mod Up
+pub mod Entered
+pub mod Finishing
+pub mod Again
+pub mod Hearing
+pub mod Ending
+pub mod Opens

@@ -1,0 +1,6 @@
+pub mod Rounds
+pub mod Parts
+pub mod Documents
+pub mod Places
+pub mod Turns
+pub mod Served
