@@ -1,3 +1,4 @@
 pub mod Ends
 pub mod Real
+pub mod Started
 pub mod Untold

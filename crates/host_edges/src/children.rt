@@ -6,11 +6,11 @@ ghost use Rattle.step_runner.specs.Entries.{without};
 ghost use Rattle.step_runner.specs.Waits.{is_own};
 ghost use Rattle.host_edges.specs.Ends.{ended_as, is_own_or_none};
 
-use crate::programs::silent;
+use crate::programs::group_killer;
 use nuc_base::Exit;
 use std::alloc::Global;
+use std::io;
 use std::process::{Child, OpenProcess, Processes};
-use std::{io, process};
 
 /// A child that lives: it has not ended, or its end was not told yet.
 #[derive(Drop)]
@@ -158,16 +158,9 @@ pub(crate) fn remove_numbered<R: Processes>(
 
 /// Ends what lives in the group that this process leads. It was not waited for, so its number is still its own.
 fn end_group<R: Processes>(rt: &R, alloc: Global, leader: u32) -> io::Result<()> {
-    let group = format!(in alloc; "-{leader}")?;
-    let mut killer = silent(alloc, "sh")?;
-    let killed = kill_group(rt, &mut killer, group.as_str());
+    let mut killer = group_killer(alloc, leader)?;
+    let ended = killer.status(rt);
     drop(killer);
-    killed
-}
-
-/// Has this shell end the group.
-fn kill_group<R: Processes>(rt: &R, killer: &mut process::Command, group: &str) -> io::Result<()> {
-    killer.arg("-c")?.arg("kill -s KILL -- \"$0\"")?.arg(group)?;
-    killer.status(rt)?;
+    ended?;
     Ok(())
 }

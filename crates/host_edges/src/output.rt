@@ -1,4 +1,6 @@
 //! Where the output of children goes.
+ghost use Rattle.std.specs.Process.{SameProgramAndArgs, SameEnv, SameDir};
+
 use std::alloc::Global;
 use std::fs::{File, Files, OpenOptions};
 use std::io::ErrorKind;
@@ -20,7 +22,11 @@ pub(crate) fn direct_output<R: Files<File = File>>(
     root: &str,
     folder: &str,
     child: &mut process::Command,
-) {
+)
+    ensures call { SameProgramAndArgs child.old child.new }
+    ensures env { SameEnv child.old child.new }
+    ensures folder { SameDir child.old child.new }
+{
     if let Ok((out, errors)) = open_log(files, alloc, root, folder) {
         child.stdout(Stdio::from(out));
         child.stderr(Stdio::from(errors));

@@ -5,7 +5,6 @@ ghost use Rattle.step_runner.specs.Waits.{RoseAtLost, is_own};
 
 use crate::children::{Running, first_ended, look_at, remove_numbered};
 use crate::clock::{LAST_MOMENT, millis_since, moment_at, pause_after};
-use crate::output::direct_output;
 use crate::programs::{Shell, is_on_path, prepared};
 use nuc_base::{Exit, Text};
 use std::alloc::Global;
@@ -23,11 +22,11 @@ const FOLDER_MODE: u32 = 0o700;
 
 /// Runs each command as `sh -c SCRIPT` in its folder, which is made as needed, with the command's variables added to
 /// the environment. `sh` is that of the PATH with which the program was started, whatever PATH the command sets, the first
-/// that may be executed. A child reads nothing. What it prints is appended to the log of its component where there is a
-/// folder of logs, and else dropped, on the standard error too: what it starts may live on, and whoever reads this
-/// program's output would wait for that. Where the system has the program `setsid`, each child leads a process group of
-/// its own. A kill ends the child and what else lives in its group, and waits for the child. Ends are found by looking at
-/// all children, with a pause between that grows while nothing stirs. It tells no list.
+/// that may be executed; without a PATH it is that of /bin or /usr/bin. A child reads nothing. What it prints is appended to
+/// the log of its component where there is a folder of logs, and else dropped, on the standard error too: what it starts may
+/// live on, and whoever reads this program's output would wait for that. Where the program `setsid` is found in the same way,
+/// each child leads a process group of its own. A kill ends the child and what else lives in its group, and waits for the
+/// child. Ends are found by looking at all children, with a pause between that grows while nothing stirs. It tells no list.
 ///
 /// Moments are milliseconds of a clock that stands still where this program did not look: it goes on where a look found
 /// that no child has ended, and from a start, from which the time of a step counts, as the moment told before. So the ends
@@ -109,10 +108,8 @@ fn spawn<R: Processes + Files<File = File>>(
     shell: &Shell,
     command: &Command,
 ) -> io::Result<Child<R::Started>> {
-    let folder = command.folder.as_str();
-    make_folder(rt, folder)?;
-    let mut prepared = prepared(alloc, shell, command)?;
-    direct_output(rt, alloc, root, folder, &mut prepared);
+    make_folder(rt, command.folder.as_str())?;
+    let mut prepared = prepared(rt, alloc, root, shell, command)?;
     let child = prepared.spawn(rt);
     drop(prepared);
     child

@@ -1,85 +1,109 @@
-use artifact_store::sweep;
+ghost use Rattle.std.specs.Prelude.{◌≡◌, [], ◌∷◌, IfOk};
+ghost use Rattle.records.specs.Stored.{draft_item_view};
+ghost use Rattle.artifact_store.specs.Paths.{IsNamedDraft};
+ghost use Rattle.artifact_store.specs.Staged.{HasItsFiles};
+
+use artifact_store::{stage, sweep};
 use device::Device;
 use disk_model::Disk;
 use host_edges::{Access, FileDisk, FolderLibrary, ShellRunner};
-use library_core::{Library, Piece};
+use library_core::Library;
 use npm_ranges::Version;
-use nuc_base::{Label, List, Name, NoMemory, Text};
+use nuc_base::{Artifact, Bytes, Label, List, Name, NoMemory, Policy, Text};
+use records::{Draft, DraftItem};
 use std::alloc::{AllocError, Global};
 use std::fs;
 use std::os::unix::fs::symlink;
 use std::test::Fail;
 use step_runner::{Command, Runner, Waited};
+use tree_core::Tree;
 
-/// How many bytes are asked for at once.
-const PIECE: usize = 65_536;
+/// How many bytes the staged artifact has, more than three pieces.
+const COUNT: usize = 200_000;
 
-/// What the name of an artifact consists of.
-#[derive(Drop)]
-struct Parts {
-    name: Name,
-    version: Version,
-    file: Label,
-}
+/// The SHA-256 (FIPS 180-4) of the 200,000 bytes that count up to 250 over and over, by another program.
+const DIGEST: [u8; 32] = [
+    0xe2, 0x4b, 0xc6, 0x23, 0x81, 0xf1, 0x22, 0x4f, 0xbb, 0xb7, 0x46, 0x88, 0x66, 0x3f, 0x8f, 0x97,
+    0x43, 0xb9, 0x68, 0x0b, 0x19, 0x3e, 0xdd, 0x66, 0x68, 0x35, 0xe9, 0x7b, 0x06, 0xe7, 0x30, 0xeb,
+];
 
-/// The parts of the artifact `f` of `A` in version 1.0.0.
-fn parts_of_f(alloc: Global) -> Result<Parts, Fail> {
-    Ok(Parts {
-        name: Name::read(alloc, b"A")?,
-        version: Version::read(alloc, b"1.0.0")?,
-        file: Label::read(alloc, b"f")?,
-    })
-}
-
-/// The artifact put together from its pieces, of which there are at most eight.
-fn whole<L: Library>(alloc: Global, library: &mut L, parts: &Parts) -> Result<Vec<u8>, AllocError> {
-    let mut into = vec![in alloc; 0; PIECE]?;
-    let mut bytes = Vec::new(alloc);
-    for _ in 0..8 {
-        let from = bytes.len() as u64;
-        let piece = library.artifact(
-            alloc,
-            &parts.name,
-            &parts.version,
-            &parts.file,
-            from,
-            into.as_mut_slice(),
-        );
-        match piece {
-            Ok(Piece::Bytes(count)) if count > 0 && count <= into.len() => {
-                bytes.extend_from_slice(&into[..count])?;
-            }
-            _ => break,
-        }
-    }
-    Ok(bytes)
-}
-
-/// Bytes that differ from those 65,536 places before.
-fn long_bytes(alloc: Global, count: usize) -> Result<Vec<u8>, AllocError> {
-    let mut bytes = Vec::with_capacity(alloc, count)?;
-    for at in 0..count {
+/// These bytes. They differ from those 65,536 places before.
+fn counted_bytes(alloc: Global) -> Result<Vec<u8>, AllocError> {
+    let mut bytes = Vec::with_capacity(alloc, COUNT)?;
+    for at in 0..COUNT {
         bytes.push((at % 251) as u8)?;
     }
     Ok(bytes)
 }
 
+/// `A` in version 1.0.0 with the artifact `f`, whose recipe gives that digest.
+fn draft_item(alloc: Global) -> Result<DraftItem, Fail>
+    ensures named { IfOk result (λ i. IsNamedDraft (draft_item_view i)) }
+    ensures differ { IfOk result (λ i. HasItsFiles (draft_item_view i)) }
+{
+    let artifact = Artifact {
+        file: Label::read(alloc, b"f")?,
+        digest: Some(DIGEST),
+    };
+    let mut artifacts = List::empty(alloc);
+    artifacts.push(artifact)?;
+    Ok(DraftItem {
+        name: Name::read(alloc, b"A")?,
+        version: Version::read(alloc, b"1.0.0")?,
+        recipe: Bytes::from_slice(alloc, b"")?,
+        config: Tree::Fields(Vec::new(alloc)),
+        artifacts,
+    })
+}
+
+/// The draft of that item.
+fn draft_of(alloc: Global, item: DraftItem) -> Result<Draft, Fail>
+    ensures { IfOk result (λ d. d.items ≡ item ∷ []) }
+{
+    let mut items = List::empty(alloc);
+    items.push(item)?;
+    Ok(Draft {
+        id: Label::read(alloc, b"d1")?,
+        group: Label::read(alloc, b"g")?,
+        revision: 1,
+        policy: Policy::Rollback,
+        requirements: List::empty(alloc),
+        items,
+        boots: List::empty(alloc),
+    })
+}
+
+/// Whether that draft's file is taken in, on a device that has no items.
+fn is_staged<D: Disk, L: Library>(
+    alloc: Global,
+    disk: &mut D,
+    library: &mut L,
+) -> Result<bool, Fail> {
+    let item = draft_item(alloc)?;
+    let draft = draft_of(alloc, item)?;
+    let kept = List::empty(alloc);
+    let staged = stage(alloc, disk, library, &kept, draft).is_ok();
+    drop(kept);
+    Ok(staged)
+}
+
 #[test]
-fn an_artifact_of_four_pieces_is_given_whole(rt: HostRuntime) -> Result<(), Fail> {
+fn an_artifact_of_four_pieces_is_staged_whole(rt: HostRuntime) -> Result<(), Fail> {
     let alloc = rt.alloc();
     let root = "pieces-of-a-test";
-    let bytes = long_bytes(alloc, 200_000)?;
+    let bytes = counted_bytes(alloc)?;
     fs::create_dir_all(&rt, "pieces-of-a-test/library/artifacts/A/1.0.0")?;
     fs::write(
         &rt,
         "pieces-of-a-test/library/artifacts/A/1.0.0/f",
         bytes.as_slice(),
     )?;
-    let parts = parts_of_f(alloc)?;
     let mut library = FolderLibrary::new(&rt, root)?;
-    let given = whole(alloc, &mut library, &parts)?;
+    let mut disk = FileDisk::new(&rt, root, Access::Write)?;
+    let is_staged = is_staged(alloc, &mut disk, &mut library)?;
+    let staged = fs::read(&rt, "pieces-of-a-test/packages/artifacts/A/1.0.0/f")?;
     fs::remove_dir_all(&rt, root)?;
-    assert!(rt; given.as_slice() == bytes.as_slice());
+    assert!(rt; is_staged && staged.as_slice() == bytes.as_slice());
     Ok(())
 }
 

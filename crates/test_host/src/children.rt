@@ -98,6 +98,14 @@ fn comes(rt: &HostRuntime, path: &str) -> bool {
     false
 }
 
+/// Whether the runner finds `setsid`: on the PATH, and without one in the usual folders.
+fn has_setsid<R: Runner>(rt: &HostRuntime, runner: &mut R) -> Result<bool, NoMemory> {
+    let is_usual = fs::exists(rt, "/bin/setsid").unwrap_or(false)
+        || fs::exists(rt, "/usr/bin/setsid").unwrap_or(false);
+    let is_on_path = runner.on_path(&text(rt.alloc(), "setsid")?);
+    Ok(is_on_path || (is_usual && env::var(rt, "PATH").is_err()))
+}
+
 /// Whether a kill ends what the child started too, where there is `setsid`.
 fn ends_group<R: Runner>(rt: &HostRuntime, runner: &mut R, folder: &str) -> Result<bool, NoMemory> {
     let alloc = rt.alloc();
@@ -110,7 +118,7 @@ fn ends_group<R: Runner>(rt: &HostRuntime, runner: &mut R, folder: &str) -> Resu
     runner.kill(child);
     thread::sleep(rt, Duration::from_millis(3_000));
     let is_late = runner.exists(&text(alloc, "runner-of-a-test/late")?);
-    Ok(is_begun && is_late != runner.on_path(&text(alloc, "setsid")?))
+    Ok(is_begun && is_late != has_setsid(rt, runner)?)
 }
 
 #[test]
@@ -135,8 +143,8 @@ fn children_run_in_their_folder_and_end(rt: HostRuntime) -> Result<(), Fail> {
         is_made && is_killed && code == Some(Exit::Code(3)) && signal == Some(Exit::Signal)
     );
     assert!(rt; is_told_late && ends_group);
+    assert!(rt; off_path == Some(Exit::Code(3)));
     let has_path = env::var(&rt, "PATH").is_ok();
-    assert!(rt; off_path == Some(Exit::Code(3)) || !has_path);
     let is_found = runner.on_path(&text(alloc, "sh")?) == has_path;
     assert!(rt; is_found && !runner.on_path(&text(alloc, "no-such")?));
     Ok(())
@@ -161,35 +169,47 @@ fn ends_are_told_as_they_are(rt: HostRuntime) -> Result<(), Fail> {
     Ok(())
 }
 
-/// The number of a child that ends by itself, behind a kill of one that was started after it.
+/// The number of a child that ends by itself, behind a kill of one that was started after it, or before it.
 fn left_by_a_kill<R: Runner>(
     alloc: Global,
     runner: &mut R,
     folder: &str,
+    is_older: bool,
 ) -> Result<Option<u64>, NoMemory> {
-    let older = command(alloc, folder, "sleep 0.3; exit $END")?;
-    let newer = command(alloc, folder, "exec sleep 30")?;
-    let Ok(first) = runner.start(&older) else {
+    let ends = command(alloc, folder, "sleep 0.3; exit $END")?;
+    let stays = command(alloc, folder, "exec sleep 30")?;
+    let Ok(first) = runner.start(if is_older { &ends } else { &stays }) else {
         return Ok(None);
     };
-    let Ok(second) = runner.start(&newer) else {
+    let Ok(second) = runner.start(if is_older { &stays } else { &ends }) else {
         return Ok(None);
     };
-    runner.kill(second);
-    Ok(Some(first))
+    runner.kill(if is_older { second } else { first });
+    Ok(Some(if is_older { first } else { second }))
+}
+
+/// Whether its end is told, and no other.
+fn is_told_alone<R: Runner>(
+    alloc: Global,
+    runner: &mut R,
+    folder: &str,
+    is_older: bool,
+) -> Result<bool, NoMemory> {
+    let Some(left) = left_by_a_kill(alloc, runner, folder, is_older)? else {
+        return Ok(false);
+    };
+    let told = runner.wait(10_000);
+    Ok(told == Waited::Ended(left, Exit::Code(3)) && runner.wait(50) == Waited::Elapsed)
 }
 
 #[test]
 fn a_kill_ends_its_child_alone(rt: HostRuntime) -> Result<(), Fail> {
     let root = "pair-of-a-test";
     let mut runner = ShellRunner::new(&rt, root);
-    let older = left_by_a_kill(rt.alloc(), &mut runner, root)?;
-    let told = runner.wait(10_000);
-    let is_over = runner.wait(50) == Waited::Elapsed;
+    let is_older_told = is_told_alone(rt.alloc(), &mut runner, root, true)?;
+    let is_newer_told = is_told_alone(rt.alloc(), &mut runner, root, false)?;
     fs::remove_dir_all(&rt, root)?;
-    assert!(rt;
-        older.is_some() && told == Waited::Ended(older.unwrap_or(0), Exit::Code(3)) && is_over
-    );
+    assert!(rt; is_older_told && is_newer_told);
     Ok(())
 }
 

@@ -33,7 +33,9 @@ pub fn reads<D: Disk>(disk: &mut D, file: &str, at: u64, bytes: &[u8]) -> Result
 
 /// Whether two files are kept, cut, listed and removed as they should.
 fn stores(alloc: Global, disk: &mut FileDisk<'_, HostRuntime>) -> Result<bool, DiskFault> {
-    disk.write_at("journal", 0, b"abcd")?;
+    disk.write_at("journal", 0, b"a#cd")?;
+    let is_written = reads(disk, "journal", 0, b"a#cd")?;
+    disk.write_at("journal", 1, b"b")?;
     disk.cut("journal", 3)?;
     disk.sync("journal")?;
     disk.write_at(FILE, 0, b"xyz")?;
@@ -43,7 +45,7 @@ fn stores(alloc: Global, disk: &mut FileDisk<'_, HostRuntime>) -> Result<bool, D
     disk.remove(FILE)?;
     disk.sync(FILE)?;
     disk.sync("packages/artifacts/B/1.0.0/f")?;
-    Ok(is_kept && is_listed && disk.length(FILE)? == 0)
+    Ok(is_written && is_kept && is_listed && disk.length(FILE)? == 0)
 }
 
 /// Makes an empty file by a cut, and another one twice, which is removed in between with its folders.
@@ -176,7 +178,7 @@ fn a_reader_sees_one_turn(rt: HostRuntime) -> Result<(), Fail> {
     Ok(())
 }
 
-/// Whether two recipes are given in the order of their names.
+/// Whether three recipes are given in the order of their names, of the last, which is too long, its first 65,537 bytes.
 fn gives_recipes(
     alloc: Global,
     library: &mut FolderLibrary<'_, HostRuntime>,
@@ -184,7 +186,9 @@ fn gives_recipes(
     let count = library.count(alloc)?;
     let first = library.recipe(alloc, 0)?;
     let second = library.recipe(alloc, 1)?;
-    Ok(count == 2 && first.as_slice() == b"{}".as_slice() && second.as_slice() == b"[]".as_slice())
+    let third = library.recipe(alloc, 2)?;
+    let are_whole = first.as_slice() == b"{}".as_slice() && second.as_slice() == b"[]".as_slice();
+    Ok(count == 3 && are_whole && third.len() == 65_537)
 }
 
 /// What is given of a file of `A` in version 1.0.0, from its second byte on.
@@ -213,14 +217,24 @@ fn a_library_gives_its_files(rt: HostRuntime) -> Result<(), Fail> {
     fs::write(&rt, "library-of-a-test/library/recipes/b.json", "[]")?;
     fs::write(&rt, "library-of-a-test/library/recipes/a.json", "{}")?;
     fs::write(&rt, "library-of-a-test/library/recipes/a.json.old", "x")?;
+    let long = vec![in alloc; b' '; 70_000]?;
+    fs::write(
+        &rt,
+        "library-of-a-test/library/recipes/c.json",
+        long.as_slice(),
+    )?;
     fs::write(&rt, "library-of-a-test/library/artifacts/A/1.0.0/f", "xyz")?;
+    fs::write(&rt, "library-of-a-test/library/artifacts/A/1.0.0/h", "uvw")?;
     let mut library = FolderLibrary::new(&rt, root)?;
     let mut into = [b'#'; 4];
     let are_given = gives_recipes(alloc, &mut library) == Ok(true);
     let is_missing = piece(alloc, &mut library, "g", &mut into)? == Some(Piece::Missing);
     let is_given = piece(alloc, &mut library, "f", &mut into)? == Some(Piece::Bytes(2));
+    let is_whole = into == *b"yz##";
+    let is_next = piece(alloc, &mut library, "h", &mut into)? == Some(Piece::Bytes(2));
     fs::remove_dir_all(&rt, root)?;
-    assert!(rt; are_given && is_missing && is_given && into == *b"yz##");
+    assert!(rt; are_given && is_missing && is_given && is_whole);
+    assert!(rt; is_next && into == *b"vw##");
     Ok(())
 }
 
