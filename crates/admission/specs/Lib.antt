@@ -1,3 +1,4 @@
 pub mod Drafts
+pub mod Requests
 pub mod Takes
 pub mod Taken

@@ -17,7 +17,7 @@ use Rattle.artifact_store.specs.Staged.{IsOutside, draft_lines}
 use Rattle.artifact_store.specs.declared.fault.StageFault.{StageFault}
 use Rattle.artifact_store.specs.declared.fault.StageFault.TheVariants as stage
 use Rattle.admission.specs.declared.fault.Declined.{Declined}
-use Rattle.admission.specs.declared.fault.Declined.TheVariants.{Refused, Unstaged}
+use Rattle.admission.specs.declared.fault.Declined.TheVariants.{Refused, Unstaged, Unasked}
 
 -- ---- the files of a draft
 
@@ -37,16 +37,18 @@ abbrev pub Takes : Facts → Result code.Plan Declined → Type 0
 Takes f (Ok plan) = PassesAll f plan_checks × IsFilled f.content f.device.set f.draft (plan_view plan)
 Takes f (Err (Refused a)) = Stops f plan_checks a
 Takes f (Err (Unstaged a)) = PassesAll f plan_checks × IsUnfilled f.content f.device.set f.draft a
+Takes f (Err (Unasked u)) = ⊥
 
 -- by some candidates and a draft
 abbrev pub TakesIn : Device → Origin → Option Content → ℕ → ℕ → Document → Result code.Plan Declined → Type 0
 TakesIn d o content before after document result = (cs : List Candidate) × (draft : Draft) × Takes (facts d o content before after document cs draft) result
 
--- a check fails
+-- a check fails, or there is no document
 abbrev pub IsRefused : Result code.Plan Declined → Type 0
 IsRefused (Ok plan) = ⊥
 IsRefused (Err (Refused a)) = ⊤
 IsRefused (Err (Unstaged f)) = ⊥
+IsRefused (Err (Unasked u)) = ⊤
 
 -- ---- what failed outside
 
@@ -54,11 +56,13 @@ abbrev pub HasDiskFailed : Result code.Plan Declined → Type 0
 HasDiskFailed (Ok plan) = ⊥
 HasDiskFailed (Err (Refused a)) = ⊥
 HasDiskFailed (Err (Unstaged f)) = f ≡ stage.Disk
+HasDiskFailed (Err (Unasked u)) = ⊥
 
 abbrev pub HasLibraryFailed : Result code.Plan Declined → Type 0
 HasLibraryFailed (Ok plan) = ⊥
 HasLibraryFailed (Err (Refused a)) = a ≡ refusal.Candidates gather.Library
 HasLibraryFailed (Err (Unstaged f)) = f ≡ stage.Library
+HasLibraryFailed (Err (Unasked u)) = ⊥
 
 -- ---- where the journal lies
 

@@ -7,10 +7,16 @@
 //! its device then ask.
 #![tactic(auto)]
 
+mod ask;
 mod fault;
 mod laws;
+mod requests;
 mod takes;
+mod unasked;
 
+pub use ask::Ask;
 pub use fault::Declined;
 pub use laws::plans_are_met;
+pub use requests::make_document;
 pub use takes::take_in;
+pub use unasked::Unasked;

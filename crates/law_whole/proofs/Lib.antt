@@ -8,6 +8,7 @@ pub mod Keeping
 pub mod Lone
 pub mod Own
 pub mod Owning
+pub mod Requested
 pub mod Rising
 pub mod Stepping
 pub mod Taken

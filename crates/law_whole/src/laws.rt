@@ -1,6 +1,7 @@
 //! Laws of whole devices.
 ghost use Rattle.device.specs.Devices.{no_device};
 ghost use Rattle.law_whole.specs.Whole.{Whole};
+ghost use Rattle.law_whole.specs.Requested.{ChangesKeepAll, LocalsMoveOneList, PlansMoveOneGroup};
 ghost use Rattle.law_whole.specs.Taking.{BroughtStayWhole, ChangesKeepGroup, KeptGroupAsksTheSame, KeptGroupStays, OneItemIsWhole, OtherGroupsStay};
 ghost use Rattle.law_whole.specs.Taking.{OwnConfigStays, OwnIsGathered, OwnItemsStay, OwnNeedsNoFile, OwnSetIsChosen, OwnSetIsThere};
 ghost use Rattle.law_whole.specs.Taking.{PlansAreWhole, RunsStayWhole, StaysWhole, TakenAreWhole};
@@ -55,3 +56,14 @@ pub fn groups_stay()
     ensures kept { KeptGroupStays }
     ensures others { OtherGroupsStay }
 {}
+
+/// A request of the group of the device itself moves that group's list and no other, and a change of one configuration, on a whole
+/// device and over no library, that configuration alone; it is declined for no candidates, no version and no file. It does nothing.
+pub fn requests_keep_the_rest()
+    ensures run { PlansMoveOneGroup }
+    ensures local { LocalsMoveOneList }
+    ensures change { ChangesKeepAll }
+{
+    recipe_laws();
+    set_laws();
+}

@@ -8,6 +8,6 @@
 mod laws;
 
 pub use laws::{
-    changes_keep_groups, groups_stay, own_sets_are_chosen, plans_are_whole,
+    changes_keep_groups, groups_stay, own_sets_are_chosen, plans_are_whole, requests_keep_the_rest,
     whole_devices_stay_whole,
 };

@@ -10,7 +10,8 @@ use Rattle.nucleus_top.specs.Opening.{Stands, HasEntry, StandsForNone}
 use Rattle.nucleus_top.specs.Inits.{IsRefusedAt}
 use Rattle.nucleus_top.specs.Audits.{Compares, IsWhole, IsDifferent, Audits, AuditParts}
 use Rattle.nucleus_top.specs.declared.answer.Answer.{Answer}
-use Rattle.nucleus_top.specs.declared.answer.Answer.TheVariants.{Made, Shown, Planned, Unplanned, Whole, Differs, DiskFailed, NotInitialised, Damaged, NoMemory}
+use Rattle.nucleus_top.specs.declared.answer.Answer.TheVariants.{Made, Shown, Planned, Unplanned, Whole, Differs}
+use Rattle.nucleus_top.specs.declared.answer.Answer.TheVariants.{DiskFailed, NotInitialised, Damaged, NoMemory, Possible, Got, Drawn}
 use Rattle.nucleus_top.proofs.Standing.{none_stands, same_device}
 use Rattle.nucleus_top.proofs.Told.{told_of}
 
@@ -57,6 +58,9 @@ module _ (store : Store) (printed : Printed) (result : Status) where
   done (Made thing) comes (inl told) is = absurd comes
   done (Shown text) comes (inl told) is = absurd comes
   done (Planned text) comes (inl told) is = absurd comes
+  done Possible comes (inl told) is = absurd comes
+  done (Got text) comes (inl told) is = absurd comes
+  done (Drawn text) comes (inl told) is = absurd comes
   done (Unplanned r text) comes (inl told) is = absurd comes
   done Whole comes (inl told) is = (comes.1, told.1)
   done a comes (inl told) is = cc

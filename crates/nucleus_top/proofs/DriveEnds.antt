@@ -12,7 +12,9 @@ use Rattle.refusal_lines.specs.Statuses.{status_of_refusal}
 use Rattle.device.specs.Devices.{Device, Pending as PendingPlan, no_device}
 use Rattle.artifact_store.specs.declared.fault.StageFault.TheVariants as stage
 use Rattle.step_runner.specs.declared.entries.RunnerEntry.{RunnerEntry}
-use Rattle.admission.specs.declared.fault.Declined.TheVariants.{Refused, Unstaged}
+use Rattle.admission.specs.declared.fault.Declined.TheVariants.{Refused, Unstaged, Unasked}
+use Rattle.admission.specs.declared.ask.Ask.{Ask}
+use Rattle.admission.specs.declared.unasked.Unasked.TheVariants as unasked
 use Rattle.session.specs.Calls.{IsOrEdge, IsPendingAs}
 use Rattle.session.specs.Endings.{Ending, Closes, Restarts, Reboots, Fails, Breaks, Forgets, Starves, Declines, Full, Idle, status_of_ending}
 use Rattle.nucleus_top.specs.Answers.{Store, Input, Shelf, Printed, Told, Prints, Expects, none_line, damaged_line, pending_line}
@@ -58,6 +60,12 @@ of_ending (Declines (Unstaged (stage.Missing file))) = refl
 of_ending (Declines (Unstaged (stage.TooLarge file bytes))) = refl
 of_ending (Declines (Unstaged (stage.Mismatch file digest))) = refl
 of_ending (Declines (Unstaged stage.NoMemory)) = refl
+of_ending (Declines (Unasked (unasked.Local fault))) = refl
+of_ending (Declines (Unasked (unasked.NotLocal name))) = refl
+of_ending (Declines (Unasked (unasked.TooManyLocal count))) = refl
+of_ending (Declines (Unasked (unasked.Unlisted name))) = refl
+of_ending (Declines (Unasked (unasked.NoComponent name))) = refl
+of_ending (Declines (Unasked (unasked.NotListed name))) = refl
 of_ending (Full at) = refl
 of_ending Idle = refl
 
@@ -75,10 +83,10 @@ pub record IsOn (store : Store) (result : Status) : Type 0 where
 
 module _ {D : Type 0} (may_leave : D → Image → Type 0) (moment : D → ℕ) (left_since : D → ℕ → Image → Type 0) (faults : D → ℕ) (old new : D)
     (old_list new_list : Option (List RunnerEntry)) (printed : Printed) (result : Status) (store : Store) where
-  pub deployed_is_on : (input : Input) (library : Shelf) → IsDeployed may_leave moment left_since faults old new old_list new_list printed result store input
-      library
+  pub deployed_is_on : (what : Ask) (input : Input) (library : Shelf) → IsDeployed may_leave moment left_since faults old new old_list new_list printed result
+      what store input library
       → (on : IsOn store result) × (on.device.pending ≡ None)
-  deployed_is_on input library trace =
+  deployed_is_on what input library trace =
       let on = trace.4.2 in (
         record {
           device = trace.0;
@@ -160,7 +168,7 @@ module _ (store : Store) (input : Input) (printed : Printed) (result : Status) w
       let clash : None ≡ Some q = sym none ∙ is in cc
 
   -- nor is the one before its first record
-  busy_none : (d : Device) (q : PendingPlan) → slots_none store.before → Stands store.before d → d.pending ≡ Some q → ⊥
+  pub busy_none : (d : Device) (q : PendingPlan) → slots_none store.before → Stands store.before d → d.pending ≡ Some q → ⊥
   busy_none d q holds_none stands is =
       let same : d ≡ no_device = same_device store.before d no_device stands (none_stands store.before holds_none) in
       let clash : None ≡ Some q = sym (ap (λ (x : Device). x.pending) same) ∙ is in cc

@@ -1,4 +1,4 @@
--- What the steps of `deploy` and `resume` come to.
+-- What the steps of the commands that drive a deployment come to.
 use Rattle.std.proofs.Common.{◌≡◌, ◌≢◌, ◌∙◌, ◌⊎◌, inl, inr, ℕ, ◌<◌, List, [], length, take, refl, sym, ap, subst, arith, Some, None, IfSome}
 use Rattle.std.specs.Option.{IsSomeAnd}
 use Rattle.std.specs.Prelude.{◌≤◌, ⊤, Bool, false, is_some, IsTrue, Option, Result, Ok, Err, true, IfOk, IfErr, IsErrOf, Contains}
@@ -44,18 +44,26 @@ use Rattle.histories.specs.TraceEvents.{records_of}
 use Rattle.histories.specs.Follows.{Lives}
 use Rattle.histories.specs.States.{SessionState, beginning}
 use Rattle.session_boots.specs.Stands.{IsAtBootStage}
+use Rattle.admission.specs.Requests.{Makes, Requests, TakesBy, TakesMade}
 use Rattle.admission.specs.Takes.{LieElsewhere}
+use Rattle.admission.specs.declared.ask.Ask.{Ask}
+use Rattle.admission.specs.declared.ask.Ask.TheVariants as ask
 use Rattle.admission.specs.declared.fault.Declined.{Declined}
+use Rattle.admission.specs.declared.fault.Declined.TheVariants.{Refused}
+use Rattle.plan_core.specs.declared.fault.Refusal.TheVariants as refusal
 use Rattle.admission.proofs.Staying.{hand_stays}
 use Rattle.session_admission.specs.Accepts.{IsOpen}
 use Rattle.session.specs.Calls.{Call, IsOrEdge, ChangesArtifactsAlone, Stays}
-use Rattle.session.specs.Documents.{DrivesTaken, TakesRead}
+use Rattle.session.specs.Documents.{DrivesTaken}
+use Rattle.deployment_doc.specs.declared.document.Document.{Document}
 use Rattle.session.specs.Sweeping.{LeavesNoStray}
 use Rattle.session.proofs.Sweeping.{never_closes}
 use Rattle.nucleus_top.specs.Answers.{HasRisen, Input, IsUnchanged, Printed, Prints, Shelf, Store, Told, status_of}
 use Rattle.nucleus_top.specs.Asked.{AsksFor, asked_of}
 use Rattle.nucleus_top.specs.Crashes.{KeepsJournal, KeepsSameWhole, LeavesPrefixes, LeavesSame}
-use Rattle.nucleus_top.specs.Drives.{DeploysOn, DriveParts, Drives, GoesUnread, IsDeployed, IsDeployedOn, IsResumedOn, IsRefusedBefore, IsUnread, IsUnswept}
+use Rattle.nucleus_top.specs.Drives.{AsksTo, DeploysOn, DeploysOver, DriveParts, Drives}
+use Rattle.nucleus_top.specs.Drives.{GoesUnread, IsDeployed, IsDeployedOn, IsMade, IsResumedOn, IsRefusedBefore}
+use Rattle.nucleus_top.specs.Drives.{IsUnread, IsUnswept, ask_of, shelf_for}
 use Rattle.nucleus_top.specs.Drives.{NamesPendingOf, StartsFrom, TellsSweep, TellsUnread, TurnsAway, MayNotOpen, MayNotOpenIdle, slots_start}
 use Rattle.nucleus_top.specs.Opening.{HasEntry, Stands as StandsFor}
 use Rattle.nucleus_top.specs.Parts.{Parts}
@@ -67,7 +75,7 @@ use Rattle.nucleus_top.specs.declared.asking.Asked.{Asked}
 use Rattle.nucleus_top.specs.declared.answer.Answer.TheVariants.{Damaged, DiskFailed, NoMemory, NotInitialised, Pending, SourceFailed}
 use Rattle.nucleus_top.proofs.Crashes.{fronts_on, same_fronts}
 use Rattle.nucleus_top.proofs.Ends.{parts}
-use Rattle.nucleus_top.proofs.Proposals.{front_is_long, too_long}
+use Rattle.nucleus_top.proofs.Fronts.{front_asks}
 use Rattle.nucleus_top.proofs.Standing.{none_of}
 use Rattle.nucleus_top.proofs.Whole.{whole_on}
 
@@ -363,59 +371,101 @@ starts_from s disk image held left some = record {
 
 -- ---- the document
 
-module _ (d : Device) (origin : Origin) (content : Option Content) (before after : ℕ) (taken : Result code.Plan Declined) where
-  -- the first 524,289 bytes are enough
-  whole_takes : (whole front : List ℕ) → front ≡ take 524289 whole → TakesRead d origin content before after front taken → TakesRead d origin
-      content before after whole taken
-  whole_takes whole front is takes =
-      elim (cases_lt 524288 (length whole)) [
-        | inl long ↦ by long takes
-        | inr short ↦ subst (λ (bytes : List ℕ). TakesRead d origin content before after bytes taken) (is ∙ take_all 524289 whole (omega (arith, short))) takes
-      ]
+-- what holds of one request holds of another, where each answer of the one is an answer of the other, or want of memory
+module _ (d : Device) (origin : Origin) (content : Option Content) (before after : ℕ) (taken : Result code.Plan Declined)
+    (first second : Device → Result Document Declined → Type 0)
+    (gives : (r : Result Document Declined) → first d r → (r ≡ Err (Refused refusal.NoMemory)) ⊎ second d r) where
+  takes_on : TakesBy first d origin content before after taken → TakesBy second d origin content before after taken
+  takes_on (inl memory) = inl memory
+  takes_on (inr (inl (x, asks, is))) = elim (gives (Err x) asks) [
+    | inl memory ↦ inl (is ∙ ap err_again memory)
+    | inr asked ↦ inr (inl (x, asked, is))
+  ]
     where
-      by : 524288 < length whole → TakesRead d origin content before after front taken → TakesRead d origin content before after whole taken
-      by long (inl memory) = inl memory
-      by long (inr (inl fails)) = inr (inl (fails.0, too_long whole front is long fails.0 fails.1, fails.2))
-      by long (inr (inr reads)) = absurd (omega (arith, front_is_long whole front is long, reads.1.1.within))
-
-  pub document_takes : (left : Option (List ℕ)) (front : List ℕ) → IfSome left (λ whole. front ≡ take 524289 whole) → TakesRead d origin
-      content before after front taken
-      → (bytes : List ℕ) × ((whole : List ℕ) → left ≡ Some whole → bytes ≡ whole) × TakesRead d origin content before after bytes taken
-  document_takes None front is takes = (front, λ whole told. cc, takes)
-  document_takes (Some document) front is takes = (document, λ whole told. cc, whole_takes document front is takes)
+      err_again : Result Document Declined → Result code.Plan Declined
+      err_again (Ok document) = taken
+      err_again (Err x) = Err x
+  takes_on (inr (inr (document, asks, sound, takes))) = elim (gives (Ok document) asks) [
+    | inl memory ↦ absurd cc
+    | inr asked ↦ inr (inr (document, asked, sound, takes))
+  ]
 
 module _ {D : Type 0} (may_leave : D → Image → Type 0) (moment : D → ℕ) (left_since : D → ℕ → Image → Type 0) (faults : D → ℕ) (old new : D)
     (old_list new_list : Option (List RunnerEntry)) (printed : Printed) (result : Status)
-    (d : Device) (start : ℕ → ℕ) (input : Input) (library : Shelf) where
-  -- the document of the source, where its front was deployed
-  pub document_deploys : input.faults_after ≡ input.faults_before → (front : List ℕ) → IfSome input.document (λ whole. front ≡ take 524289 whole)
-      → IsDeployedOn may_leave moment left_since faults old new old_list new_list printed result d start library front
-      → DeploysOn may_leave moment left_since faults old new old_list new_list printed result d start input library
-  document_deploys quiet front is h =
-      let document = document_takes d h.origin library.content library.faults_before library.faults_after h.taken input.document front is h.takes in (
-        document.0,
-        record { whole = document.1; quiet = quiet },
-        record {
-          place = h.place;
-          serves = h.serves;
-          device_is = h.device_is;
-          sound = h.sound;
-          idle = h.idle;
-          origin = h.origin;
-          origin_is = h.origin_is;
-          taken = h.taken;
-          takes = document.2;
-          call = h.call;
-          history = h.history;
-          failed = h.failed;
-          disk_cause = h.disk_cause;
-          library_cause = h.library_cause;
-          images = h.images;
-          whole = h.whole;
-          met = h.met;
-          lasts = h.lasts;
-        },
-      )
+    (d : Device) (start : ℕ → ℕ) (library : Shelf) (first second : Device → Result Document Declined → Type 0)
+    (gives : (r : Result Document Declined) → first d r → (r ≡ Err (Refused refusal.NoMemory)) ⊎ second d r) where
+  -- so it is with a whole deployment
+  pub deployed_as : IsDeployedOn may_leave moment left_since faults old new old_list new_list printed result d start library first
+      → IsDeployedOn may_leave moment left_since faults old new old_list new_list printed result d start library second
+  deployed_as h = record {
+    place = h.place;
+    serves = h.serves;
+    device_is = h.device_is;
+    sound = h.sound;
+    idle = h.idle;
+    origin = h.origin;
+    origin_is = h.origin_is;
+    taken = h.taken;
+    takes = takes_on d h.origin library.content library.faults_before library.faults_after h.taken first second gives h.takes;
+    call = h.call;
+    history = h.history;
+    failed = h.failed;
+    disk_cause = h.disk_cause;
+    library_cause = h.library_cause;
+    images = h.images;
+    whole = h.whole;
+    met = h.met;
+    stays = h.stays;
+    lasts = h.lasts;
+  }
+
+-- what is made is taken in so
+pub made_takes : (d : Device) (origin : Origin) (content : Option Content) (before after : ℕ) (made : Result Document Declined)
+    (taken : Result code.Plan Declined) → TakesMade d origin content before after made taken → TakesBy (IsMade made) d origin content before after taken
+made_takes d origin content before after (Ok document) taken takes = inr (inr (document, refl, takes.0, takes.1))
+made_takes d origin content before after (Err x) taken takes = inr (inl (x, refl, takes))
+
+-- the document to which a request came
+pub made_asks : (what : Ask) (bytes : List ℕ) (d : Device) (made : Result Document Declined) → Makes what bytes d made → (r : Result Document Declined)
+    → IsMade made d r → (r ≡ Err (Refused refusal.NoMemory)) ⊎ Requests what bytes d r
+made_asks what bytes d made makes r is = subst (λ (x : Result Document Declined). Makes what bytes d x) (sym is) makes
+
+-- what bytes ask, over the library over which that is deployed
+module _ {D : Type 0} (may_leave : D → Image → Type 0) (moment : D → ℕ) (left_since : D → ℕ → Image → Type 0) (faults : D → ℕ) (old new : D)
+    (old_list new_list : Option (List RunnerEntry)) (printed : Printed) (result : Status) (d : Device) (start : ℕ → ℕ) where
+  pub bytes_deployed : (what : Ask) (bytes : List ℕ) (made : Result Document Declined) → Makes what bytes d made → (shelf over : Shelf)
+      → shelf_for what shelf ≡ over
+      → IsDeployedOn may_leave moment left_since faults old new old_list new_list printed result d start over (IsMade made)
+      → IsDeployedOn may_leave moment left_since faults old new old_list new_list printed result d start (shelf_for what shelf) (Requests what bytes)
+  bytes_deployed what bytes made makes shelf over is h =
+      subst (λ (l : Shelf). IsDeployedOn may_leave moment left_since faults old new old_list new_list printed result d start l (Requests what bytes)) (sym is)
+      (deployed_as may_leave moment left_since faults old new old_list new_list printed result d start over (IsMade made) (Requests what bytes)
+      (made_asks what bytes d made makes) h)
+
+-- what is no change of a configuration is deployed over the library that is given
+pub over_given : (what : Ask) (shelf : Shelf) → (what ≡ ask.Document) ⊎ (what ≡ ask.Local) → shelf_for what shelf ≡ shelf
+over_given what shelf (inl is) = ap (λ (a : Ask). shelf_for a shelf) is
+over_given what shelf (inr is) = ap (λ (a : Ask). shelf_for a shelf) is
+
+-- the request of the source, where its front was deployed
+module _ {D : Type 0} (may_leave : D → Image → Type 0) (moment : D → ℕ) (left_since : D → ℕ → Image → Type 0) (faults : D → ℕ) (old new : D)
+    (old_list new_list : Option (List RunnerEntry)) (printed : Printed) (result : Status)
+    (what : Ask) (d : Device) (start : ℕ → ℕ) (input : Input) (library : Shelf) (quiet : input.faults_after ≡ input.faults_before) (front : List ℕ) where
+  by_whole : (left : Option (List ℕ)) → input.document ≡ left → IfSome left (λ whole. front ≡ take 524289 whole)
+      → IsDeployedOn may_leave moment left_since faults old new old_list new_list printed result d start library (Requests what front)
+      → DeploysOn may_leave moment left_since faults old new old_list new_list printed result what d start input library
+  by_whole None same is h = (front, record { whole = λ whole told. cc; quiet = quiet }, h)
+  by_whole (Some document) same is h = (
+    document,
+    record { whole = λ whole told. cc; quiet = quiet },
+    deployed_as may_leave moment left_since faults old new old_list new_list printed result d start library (Requests what front) (Requests what document)
+        (λ r asks. inr (front_asks what document front is d r asks)) h,
+  )
+
+  pub document_deploys : IfSome input.document (λ whole. front ≡ take 524289 whole)
+      → IsDeployedOn may_leave moment left_since faults old new old_list new_list printed result d start library (Requests what front)
+      → DeploysOn may_leave moment left_since faults old new old_list new_list printed result what d start input library
+  document_deploys is h = by_whole input.document refl is h
 
 -- ---- a call begins
 
@@ -519,11 +569,11 @@ module _ {D : Type 0} {is_modelled : Bool} {seen : D → Image} {may_leave : D �
       (printed : Printed) (result : Status) (faults : D → ℕ) (later : faults old ≤ faults mid) (d : Device)
       (images : LeavesPrefixes may_leave moment left_since old mid d []) (stands : IsTrue is_modelled → StandsFor (seen old) d)
       (whole : KeepsSameWhole may_leave moment left_since seen old mid) where
-    pub deployed_on : (start : ℕ → ℕ) (library : Shelf) (bytes : List ℕ) → IsDeployedOn may_leave moment left_since faults mid new old_list new_list printed
-        result d start library bytes
-        → IsDeployedOn may_leave moment left_since faults old new old_list new_list printed result d start library bytes
+    pub deployed_on : (start : ℕ → ℕ) (library : Shelf) (request : Device → Result Document Declined → Type 0)
+        → IsDeployedOn may_leave moment left_since faults mid new old_list new_list printed result d start library request
+        → IsDeployedOn may_leave moment left_since faults old new old_list new_list printed result d start library request
     unfolding taken_on call_on
-    deployed_on start library bytes h = record {
+    deployed_on start library request h = record {
       place = h.place;
       serves = h.serves;
       device_is = h.device_is;
@@ -541,6 +591,7 @@ module _ {D : Type 0} {is_modelled : Bool} {seen : D → Image} {may_leave : D �
       images = fronts_on laws old mid new d (records_of h.call.0.history) images h.images;
       whole = whole_on laws old mid new d (records_of h.call.0.history) stands whole h.whole;
       met = h.met;
+      stays = h.stays;
       lasts = h.lasts;
     }
 
@@ -559,19 +610,20 @@ module _ {D : Type 0} {is_modelled : Bool} {seen : D → Image} {may_leave : D �
       images = fronts_on laws old mid new d (records_of h.call.history) images h.images;
       whole = whole_on laws old mid new d (records_of h.call.history) stands whole h.whole;
       met = h.met;
+      stays = h.stays;
     }
 
   -- its document is not read behind such a call, or goes on with the device for which the journal stood
   pub ran_on : (old mid new : D) (first : ChangesArtifactsAlone may_leave moment left_since old mid) (old_list new_list : Option (List RunnerEntry))
       (printed : Printed) (result : Status)
-      (faults : D → ℕ) (store : Store) (input : Input) (library : Shelf) (d : Device) (start : ℕ → ℕ) (Same : Type 0) → faults old ≤ faults mid
+      (faults : D → ℕ) (store : Store) (what : Ask) (input : Input) (library : Shelf) (d : Device) (start : ℕ → ℕ) (Same : Type 0) → faults old ≤ faults mid
       → IsFound store d → d.pending ≡ None → (IsTrue store.is_modelled → StartsFrom store.before d start) → (IsTrue is_modelled → StandsFor (seen old) d)
       → LeavesSame may_leave moment left_since seen old mid → KeepsSameWhole may_leave moment left_since seen old mid → KeepsJournal may_leave seen old mid
-      → (IsUnread mid new input printed result × Same) ⊎ DeploysOn may_leave moment left_since faults mid new old_list new_list printed result d start input
-      library
+      → (IsUnread mid new input printed result × Same) ⊎ DeploysOn may_leave moment left_since faults mid new old_list new_list printed result what d start
+      input (shelf_for what library)
       → (IsRefusedBefore seen may_leave moment left_since (λ a. TurnsAway store input a) old new printed result × Same) ⊎
-      IsDeployed may_leave moment left_since faults old new old_list new_list printed result store input library
-  ran_on old mid new first old_list new_list printed result faults store input library d start Same later found idle starts stands images whole ends
+      IsDeployed may_leave moment left_since faults old new old_list new_list printed result what store input library
+  ran_on old mid new first old_list new_list printed result faults store what input library d start Same later found idle starts stands images whole ends
       (inl away) = inl (
         record {
           answer = away.0.answer;
@@ -585,7 +637,7 @@ module _ {D : Type 0} {is_modelled : Bool} {seen : D → Image} {may_leave : D �
         },
         away.1,
       )
-  ran_on old mid new first old_list new_list printed result faults store input library d start Same later found idle starts stands images whole ends
+  ran_on old mid new first old_list new_list printed result faults store what input library d start Same later found idle starts stands images whole ends
       (inr trace) = inr (
         d,
         start,
@@ -595,32 +647,60 @@ module _ {D : Type 0} {is_modelled : Bool} {seen : D → Image} {may_leave : D �
           trace.0,
           trace.1,
           deployed_on old mid new first old_list new_list printed result faults later d (same_fronts laws old mid d stands images) stands whole
-              start library trace.0 trace.2,
+              start (shelf_for what library) (Requests what trace.0) trace.2,
         ),
       )
 
 -- ---- words
+
+some_same : {A : Type 0} (a b : A) → Some a ≡ Some b → a ≡ b
+some_same a b same = cc
+
+deploys_none : (order : Order) (what : Ask) → ask_of order ≡ Some what → DrivesNone order → ⊥
+deploys_none orders.Deploy what asks none = none
+deploys_none orders.Local what asks none = none
+deploys_none (orders.ConfigSet name) what asks none = none
+deploys_none order what asks none = absurd cc
 
 -- words that ask this command ask none that drives no deployment
 pub no_quiet : AsksOnce → (words : List (List ℕ)) (root : List ℕ) (order other : Order) → (DrivesNone other → ⊥) → IsOrder words root other →
     Asks words order → ⊥
 no_quiet once words root order other unbuilt is asks = unbuilt (subst DrivesNone (once words asks.root root order other asks.is_order is).1 asks.drives_none)
 
--- nor do words that ask to deploy ask to resume
-pub not_both : AsksOnce → (words : List (List ℕ)) (root other : List ℕ) → IsOrder words root orders.Deploy → IsOrder words other orders.Resume → ⊥
-not_both once words root other deploys resumes = let same : orders.Deploy ≡ orders.Resume =
-    (once words root other orders.Deploy orders.Resume deploys resumes).1 in cc
+-- nor do words that ask to deploy something
+pub no_quiet_deploy : AsksOnce → (words : List (List ℕ)) (what : Ask) (order : Order) → AsksTo words what → Asks words order → ⊥
+no_quiet_deploy once words what order (root, other, is, asks) quiet = no_quiet once words root order other (λ none. deploys_none other what asks none) is quiet
+
+-- a change of a configuration leaves the library
+pub unasked_by : (words : List (List ℕ)) (what : Ask) → AsksTo words what → (DeploysOver words → ⊥) → (Same : Type 0)
+    → ((name : List ℕ) → what ≡ ask.Change name → Same) → Same
+unasked_by words ask.Document asks other Same unasked = absurd (other (inl asks))
+unasked_by words ask.Local asks other Same unasked = absurd (other (inr asks))
+unasked_by words (ask.Change name) asks other Same unasked = unasked name refl
+
+-- words that ask to deploy ask one thing
+pub asks_one : AsksOnce → (words : List (List ℕ)) (a b : Ask) → AsksTo words a → AsksTo words b → a ≡ b
+asks_one once words a b (root, order, is, asks) (other, second, more, wants) =
+    some_same a b (sym asks ∙ ap ask_of (once words root other order second is more).1 ∙ wants)
+
+-- and none ask to resume
+pub not_both : AsksOnce → (words : List (List ℕ)) (what : Ask) (other : List ℕ) → AsksTo words what → IsOrder words other orders.Resume → ⊥
+not_both once words what other (root, order, is, asks) resumes =
+    let none : None ≡ Some what = sym (ap ask_of (once words root other order orders.Resume is resumes).1) ∙ asks in cc
 
 -- nor do words that ask another command ask to drive
-pub no_drive : AsksOnce → (words : List (List ℕ)) (root : List ℕ) (order : Order) → IsOrder words root order → order ≢ orders.Deploy → order ≢ orders.Resume →
+pub no_drive : AsksOnce → (words : List (List ℕ)) (root : List ℕ) (order : Order) → IsOrder words root order → ask_of order ≡ None → order ≢ orders.Resume →
     Drives words → ⊥
-no_drive once words root order is deploys resumes (other, inl drives) = deploys (once words root other order orders.Deploy is drives).1
-no_drive once words root order is deploys resumes (other, inr drives) = resumes (once words root other order orders.Resume is drives).1
+no_drive once words root order is deploys resumes (inl (what, (other, second, more, asks))) =
+    let none : None ≡ Some what = sym deploys ∙ ap ask_of (once words root other order second is more).1 ∙ asks in cc
+no_drive once words root order is deploys resumes (inr (other, drives)) = resumes (once words root other order orders.Resume is drives).1
 
 asks_by : AsksOnce → (words : List (List ℕ)) (root : List ℕ) (order : Order) → IsOrder words root order → AsksFor words (asked_of order)
-asks_by once words root orders.Deploy is = (root, is)
+asks_by once words root orders.Deploy is = (root, orders.Deploy, is, refl)
+asks_by once words root orders.Local is = (root, orders.Local, is, refl)
+asks_by once words root (orders.ConfigSet name) is = (root, orders.ConfigSet name, is, refl)
 asks_by once words root orders.Resume is = (root, is)
-asks_by once words root order is = no_drive once words root order is (λ same. cc) (λ same. cc)
+asks_by once words root order is = no_drive once words root order is refl (λ same. cc)
 
 -- what the words ask by the command that is read from them
 pub asks_for : AsksOnce → (words : List (List ℕ)) (root : List ℕ) (order : Order) (a : Asked) → IsOrder words root order → a ≡ asked_of order → AsksFor words a

@@ -5,10 +5,11 @@ use Rattle.nuc_base.specs.declared.status.Status.{Status}
 use Rattle.nuc_base.specs.declared.status.Status.TheVariants as status
 use Rattle.nuc_base.specs.Faults.{Rose}
 use Rattle.disk_model.specs.Disk.{Image}
+use Rattle.device.specs.Devices.{Device}
 use Rattle.command_words.specs.Laws.{AsksOnce}
 use Rattle.command_words.specs.declared.order.Order.{Order}
-use Rattle.command_words.specs.declared.order.Order.TheVariants.{Init, Status as Show, Plan, Audit}
-use Rattle.nucleus_top.specs.Words.{AsksNothing}
+use Rattle.command_words.specs.declared.order.Order.TheVariants.{Init, Status as Show, Plan, Audit, ConfigGet, Why as AskWhy, Workload}
+use Rattle.nucleus_top.specs.Words.{Asks, AsksNothing}
 use Rattle.nucleus_top.specs.Answers.{Store, Input, Shelf, Printed, Told, IsUnchanged, HasRisen, IsQuiet, IsStill, IsCutShort, Prints, Yields, usage_line}
 use Rattle.nucleus_top.specs.Answers.{library_line, status_of}
 use Rattle.nucleus_top.specs.Leaving.{IsDurable, Keeps}
@@ -17,12 +18,14 @@ use Rattle.nucleus_top.specs.declared.answer.Answer.{Answer}
 use Rattle.nucleus_top.specs.declared.answer.Answer.TheVariants.{Unplanned, WrongWords, DiskFailed, SourceFailed, LibraryFailed, NoMemory}
 use Rattle.nucleus_top.proofs.Orders.{comes_of}
 use Rattle.nucleus_top.proofs.AuditEnds.{audit_parts}
+use Rattle.nucleus_top.proofs.GetEnds.{get_parts}
 use Rattle.nucleus_top.proofs.InitEnds.{init_parts}
 use Rattle.nucleus_top.proofs.PlanEnds.{plan_parts}
 use Rattle.nucleus_top.proofs.Standing.{same_device}
 use Rattle.nucleus_top.proofs.StatusEnds.{status_parts}
 use Rattle.nucleus_top.proofs.Unrefused.{no_refusal, silent}
-use Rattle.refusal_lines.specs.Lines.{refusal_line}
+use Rattle.nucleus_top.proofs.WorkloadEnds.{workload_parts}
+use Rattle.nucleus_top.proofs.WhyEnds.{Says, why_parts}
 use Rattle.refusal_lines.specs.Statuses.{status_of_refusal}
 use Rattle.plan_core.specs.declared.fault.Refusal.{Refusal}
 
@@ -32,11 +35,17 @@ risen (Init origin) store input library comes = comes.0
 risen (Show json) store input library comes = comes.1
 risen Plan store input library comes = comes.1
 risen Audit store input library comes = comes.1
+risen (ConfigGet name at) store input library comes = comes.1
+risen (Workload seed) store input library comes = absurd comes.1
+risen AskWhy store input library comes = comes.1
 risen _ store input library comes = absurd comes
 
 unread : (order : Order) (store : Store) (input : Input) (library : Shelf) → ComesOf order store input library SourceFailed →
     Rose input.faults_before input.faults_after
 unread Plan store input library comes = comes.1.2.1
+unread AskWhy store input library comes = comes.1.2.1
+unread (Workload seed) store input library comes = absurd comes.1
+unread (ConfigGet name at) store input library comes = absurd comes.1.2
 unread Audit store input library comes = absurd comes
 unread (Init origin) store input library comes = absurd comes
 unread (Show json) store input library comes = absurd comes
@@ -45,18 +54,36 @@ unread _ store input library comes = absurd comes
 ungiven : (order : Order) (store : Store) (input : Input) (library : Shelf) → ComesOf order store input library LibraryFailed →
     Rose library.faults_before library.faults_after
 ungiven Plan store input library comes = comes.1.2.1
+ungiven AskWhy store input library comes = comes.1.2.1
+ungiven (Workload seed) store input library comes = absurd comes.1
+ungiven (ConfigGet name at) store input library comes = absurd comes.1.2
 ungiven Audit store input library comes = absurd comes
 ungiven (Init origin) store input library comes = absurd comes
 ungiven (Show json) store input library comes = absurd comes
 ungiven _ store input library comes = absurd comes
 
--- what a refusal of a document prints, and of which status it is not
+-- that a refusal of a document prints nothing for want of memory, and of which status it is not
 abbrev Refuses : Store → Refusal → List ℕ → Type 0
-Refuses store r text = IsUnchanged store × (text ≡ refusal_line r) × (status_of_refusal r ≢ status.Library)
+Refuses store r text = IsUnchanged store × (status_of_refusal r ≡ status.Memory → text ≡ codes "") × (status_of_refusal r ≢ status.Library)
+
+-- of a document that is refused with its line, or without any set
+says : (d : Device) (store : Store) (input : Input) (library : Shelf) (r : Refusal) (text : List ℕ) → IsUnchanged store → Says d input library r text →
+    Refuses store r text
+says d store input library r text same (inl declined) = (same, λ is. declined.text_is ∙ silent r is, declined.told)
+says d store input library r text same (inr told) =
+    let is : status_of_refusal r ≡ status.NoVersion = ap status_of_refusal told.0 in (
+      same,
+      λ memory. let other : status.NoVersion ≡ status.Memory = sym is ∙ memory in cc,
+      λ failed. let other : status.NoVersion ≡ status.Library =
+          sym is ∙ failed in cc,
+    )
 
 unplanned : (order : Order) (store : Store) (input : Input) (library : Shelf) (r : Refusal) (text : List ℕ) →
     ComesOf order store input library (Unplanned r text) → Refuses store r text
-unplanned Plan store input library r text comes = (comes.0, comes.1.2.1, comes.1.2.2)
+unplanned Plan store input library r text comes = (comes.0, λ is. comes.1.2.1 ∙ silent r is, comes.1.2.2)
+unplanned AskWhy store input library r text comes = says comes.1.0 store input library r text comes.0 comes.1.2
+unplanned (Workload seed) store input library r text comes = absurd comes.1
+unplanned (ConfigGet name at) store input library r text comes = absurd comes.1.2
 unplanned Audit store input library r text comes = absurd comes
 unplanned (Init origin) store input library r text comes = absurd comes
 unplanned (Show json) store input library r text comes = absurd comes
@@ -67,6 +94,9 @@ untouched (Init origin) store input library comes = comes
 untouched (Show json) store input library comes = comes
 untouched Plan store input library comes = comes
 untouched Audit store input library comes = comes
+untouched (Workload seed) store input library comes = comes
+untouched (ConfigGet name at) store input library comes = comes
+untouched AskWhy store input library comes = comes
 untouched _ store input library comes = absurd comes
 
 no_usage : (order : Order) (store : Store) (input : Input) (library : Shelf) → ComesOf order store input library WrongWords → ⊥
@@ -74,6 +104,9 @@ no_usage (Init origin) store input library comes = comes
 no_usage (Show json) store input library comes = comes
 no_usage Plan store input library comes = comes.1.2
 no_usage Audit store input library comes = comes
+no_usage (Workload seed) store input library comes = comes.1
+no_usage (ConfigGet name at) store input library comes = comes.1.2
+no_usage AskWhy store input library comes = comes.1.2
 no_usage _ store input library comes = absurd comes
 
 module _ (words : List (List ℕ)) (store : Store) (input : Input) (library : Shelf) (printed : Printed) (result : Status) where
@@ -169,7 +202,7 @@ module _ (words : List (List ℕ)) (store : Store) (input : Input) (library : Sh
   memory NoMemory comes (inl told) is = (same comes, told.1)
   memory (Unplanned r text) comes (inl told) is =
       let r_is = refuses r text comes in
-      (r_is.0, subst (λ (t : List ℕ). Prints printed t) (r_is.1 ∙ silent r (sym told.0 ∙ is)) told.1)
+      (r_is.0, subst (λ (t : List ℕ). Prints printed t) (r_is.1 (sym told.0 ∙ is)) told.1)
   memory a comes (inl told) is = cc
   memory a comes (inr told) is = cc
 
@@ -190,6 +223,9 @@ module _ (words : List (List ℕ)) (store : Store) (input : Input) (library : Sh
     status = λ json is. status_parts json store printed result a (comes_of once words (Show json) store input library a is comes) told;
     plan = λ is. plan_parts store input library printed result a (comes_of once words Plan store input library a is comes) told;
     audit = λ is. audit_parts store printed result a (comes_of once words Audit store input library a is comes) told;
+    config_get = λ name at is. get_parts name at store printed result a (comes_of once words (ConfigGet name at) store input library a is comes) told;
+    workload = λ seed is. workload_parts seed store printed result a (comes_of once words (Workload seed) store input library a is comes) told;
+    why = λ is. why_parts store input library printed result a (comes_of once words AskWhy store input library a is comes) told;
   }
 
 -- 0 is answered only where the work is done

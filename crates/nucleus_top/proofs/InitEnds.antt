@@ -12,7 +12,8 @@ use Rattle.command_words.specs.declared.order.Order.{Order}
 use Rattle.nucleus_top.specs.Leaving.{IsDurable}
 use Rattle.disk_model.specs.Disk.{Image}
 use Rattle.nucleus_top.specs.declared.answer.Answer.{Answer}
-use Rattle.nucleus_top.specs.declared.answer.Answer.TheVariants.{Made, Shown, Planned, Unplanned, Whole, DiskFailed, Damaged, Initialised, NoMemory}
+use Rattle.nucleus_top.specs.declared.answer.Answer.TheVariants.{Made, Shown, Planned, Unplanned, Whole, DiskFailed}
+use Rattle.nucleus_top.specs.declared.answer.Answer.TheVariants.{Damaged, Initialised, NoMemory, Possible, Got, Drawn}
 use Rattle.nucleus_top.proofs.Standing.{none_stands}
 use Rattle.nucleus_top.proofs.Told.{told_of}
 
@@ -22,6 +23,9 @@ module _ (origin : Origin) (store : Store) (printed : Printed) (result : Status)
   done (Shown text) comes (inl told) is = absurd comes
   done (Made thing) comes (inl told) is = (comes.1, subst (λ (t : List ℕ). Prints printed (made_line t)) comes.0 told.1)
   done (Planned text) comes (inl told) is = absurd comes
+  done Possible comes (inl told) is = absurd comes
+  done (Got text) comes (inl told) is = absurd comes
+  done (Drawn text) comes (inl told) is = absurd comes
   done Whole comes (inl told) is = absurd comes
   done (Unplanned r text) comes (inl told) is = absurd comes
   done a comes (inl told) is = cc

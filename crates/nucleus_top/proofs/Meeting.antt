@@ -1,11 +1,11 @@
--- Devices stay met along the records of a call.
+-- Devices stay met, and whole, along the records of a call.
 use Rattle.std.specs.Prelude.{true, false, ℕ, Option, Some, None, is_some, Result, Ok, Err}
 use Rattle.std.proofs.Common.{◌≡◌, List, [], ◌∷◌, ◌++◌, inl, inr, refl, subst, sym}
 use Rattle.records.specs.Stored.{Plan, Record, Accepted, plan_view}
 use Rattle.records.specs.declared.record.Plan as code
 use Rattle.records.specs.declared.record.Origin.{Origin}
 use Rattle.library_core.specs.Library.{Content}
-use Rattle.device.specs.Devices.{Device, Pending}
+use Rattle.device.specs.Devices.{Device, IsRegularDevice, Pending}
 use Rattle.device.specs.Lawful.{applied}
 use Rattle.device.specs.Met.{BringMet, BringsMet}
 use Rattle.device.specs.Sound.{IsSound}
@@ -13,10 +13,15 @@ use Rattle.device.proofs.Meeting.{after_run}
 use Rattle.histories.specs.TraceEvents.{TraceEvent, records_of}
 use Rattle.histories.specs.Once.{TakesOnce}
 use Rattle.histories.specs.States.{SessionState}
+use Rattle.admission.specs.Requests.{TakesBy}
 use Rattle.admission.specs.declared.fault.Declined.{Declined}
 use Rattle.admission.specs.Taken.{TakenAreMet}
+use Rattle.deployment_doc.specs.declared.document.Document.{Document}
+use Rattle.law_whole.specs.Taking.{StayWhole, TakenAreWhole}
+use Rattle.law_whole.specs.Whole.{BringWhole, BringsWhole, Whole}
+use Rattle.law_whole.proofs.Taken.{brought_stay_whole}
 use Rattle.session.specs.Calls.{Ends}
-use Rattle.session.specs.Documents.{Begins, Follows, TakesRead}
+use Rattle.session.specs.Documents.{Begins, Follows}
 use Rattle.session.specs.Endings.{Ending, ResumesBy}
 use Rattle.nucleus_top.specs.Meeting.{BroughtStayMet}
 
@@ -44,16 +49,51 @@ resumed_brings d None ending h q resumes ends once =
     subst (λ (l : List TraceEvent). BringMet d (records_of l)) (sym none) tt
 resumed_brings d (Some p) ending h q resumes ends once = once_brings d (records_of h) once
 
-module _ (law : TakenAreMet) (d : Device) (o : Origin) (content : Option Content) (before after : ℕ) (bytes : List ℕ) (sound : IsSound d) (start : ℕ → ℕ)
-    (ending : Ending) (records : List Record) where
+-- the same of what is whole
+pub once_wholes : (d : Device) (records : List Record) → TakesOnce true records → BringWhole d records
+once_wholes d [] once = tt
+once_wholes d (Accepted p ∷ records) once = let never : true ≡ false = once.0 refl in cc
+once_wholes d (r ∷ records) once = (λ whole. tt, once_wholes (applied d r) records once.1)
+
+resumed_wholes : (d : Device) (o : Option Pending) (ending : Ending) (h : List TraceEvent) (q : SessionState) → ResumesBy o ending → Ends ending h q →
+    TakesOnce (is_some o) (records_of h) → BringWhole d (records_of h)
+resumed_wholes d None ending h q resumes ends once =
+    let none : h ≡ [] = (subst (λ (e : Ending). Ends e h q) resumes ends).0 in
+    subst (λ (l : List TraceEvent). BringWhole d (records_of l)) (sym none) tt
+resumed_wholes d (Some p) ending h q resumes ends once = once_wholes d (records_of h) once
+
+pub resumed_stay : (d : Device) (o : Option Pending) (ending : Ending) (h : List TraceEvent) (q : SessionState) → ResumesBy o ending → Ends ending h q →
+    TakesOnce (is_some o) (records_of h) → StayWhole d (records_of h)
+resumed_stay d o ending h q resumes ends once = brought_stay_whole d (records_of h) (resumed_wholes d o ending h q resumes ends once)
+
+module _ (request : Device → Result Document Declined → Type 0) (d : Device) (o : Origin) (content : Option Content) (before after : ℕ) (sound : IsSound d)
+    (start : ℕ → ℕ) (ending : Ending) (records : List Record) where
   begun_brings : (plan : Plan) → BringsMet d (Accepted plan) → Begins start plan ending records → BringMet d records
   begun_brings plan met (inl off) = subst (BringMet d) (sym off.1) tt
   begun_brings plan met (inr on) = subst (BringMet d) (sym on.2.1) (met, once_brings (applied d (Accepted plan)) on.2.0 on.2.2)
 
   -- one that deploys: the plan of its document, and no other
-  pub deployed_brings : (taken : Result code.Plan Declined) → TakesRead d o content before after bytes taken → Follows start taken ending records →
-      BringMet d records
-  deployed_brings (Err a) takes follows = subst (BringMet d) (sym follows.1) tt
-  deployed_brings (Ok plan) (inl memory) follows = cc
-  deployed_brings (Ok plan) (inr (inl fault)) follows = let wrong = fault.2 in cc
-  deployed_brings (Ok plan) (inr (inr reads)) follows = begun_brings (plan_view plan) (law d o content before after reads.0 plan sound reads.2) follows
+  pub deployed_brings : TakenAreMet → (taken : Result code.Plan Declined) → TakesBy request d o content before after taken → Follows start taken ending
+      records → BringMet d records
+  deployed_brings law (Err a) takes follows = subst (BringMet d) (sym follows.1) tt
+  deployed_brings law (Ok plan) (inl memory) follows = cc
+  deployed_brings law (Ok plan) (inr (inl fault)) follows = let wrong = fault.2 in cc
+  deployed_brings law (Ok plan) (inr (inr made)) follows =
+      begun_brings (plan_view plan) (law d o content before after made.0 plan sound made.3) follows
+
+  begun_wholes : (plan : Plan) → (Whole d → BringsWhole d (Accepted plan)) → Begins start plan ending records → BringWhole d records
+  begun_wholes plan whole (inl off) = subst (BringWhole d) (sym off.1) tt
+  begun_wholes plan whole (inr on) = subst (BringWhole d) (sym on.2.1) (whole, once_wholes (applied d (Accepted plan)) on.2.0 on.2.2)
+
+  -- and where the device is whole
+  deployed_wholes : TakenAreWhole → IsRegularDevice d → d.origin ≡ Some o → (taken : Result code.Plan Declined)
+      → TakesBy request d o content before after taken → Follows start taken ending records → BringWhole d records
+  deployed_wholes law regular is (Err a) takes follows = subst (BringWhole d) (sym follows.1) tt
+  deployed_wholes law regular is (Ok plan) (inl memory) follows = cc
+  deployed_wholes law regular is (Ok plan) (inr (inl fault)) follows = let wrong = fault.2 in cc
+  deployed_wholes law regular is (Ok plan) (inr (inr made)) follows =
+      begun_wholes (plan_view plan) (λ whole. law d o content before after made.0 plan sound regular whole is made.2 made.3) follows
+
+  pub deployed_stay : TakenAreWhole → IsRegularDevice d → d.origin ≡ Some o → (taken : Result code.Plan Declined)
+      → TakesBy request d o content before after taken → Follows start taken ending records → StayWhole d records
+  deployed_stay law regular is taken takes follows = brought_stay_whole d records (deployed_wholes law regular is taken takes follows)

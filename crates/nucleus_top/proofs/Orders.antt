@@ -2,7 +2,7 @@
 use Rattle.std.proofs.Common.{◌≡◌, inl, inr, ℕ, List, sym, subst}
 use Rattle.command_words.specs.Laws.{AsksOnce}
 use Rattle.command_words.specs.declared.order.Order.{Order}
-use Rattle.command_words.specs.declared.order.Order.TheVariants.{Init, Status, Plan, Audit}
+use Rattle.command_words.specs.declared.order.Order.TheVariants.{Init, Status, Plan, Audit, ConfigGet, Why, Workload}
 use Rattle.nucleus_top.specs.Words.{Asks, DrivesNone}
 use Rattle.nucleus_top.specs.Answers.{Store, Input, Shelf, IsUnchanged}
 use Rattle.nucleus_top.specs.Parts.{Comes, ComesOf}
@@ -18,6 +18,9 @@ memory_of (Init o) store input library built same = same
 memory_of (Status json) store input library built same = same
 memory_of Plan store input library built same = same
 memory_of Audit store input library built same = same
+memory_of (ConfigGet name at) store input library built same = same
+memory_of (Workload seed) store input library built same = same
+memory_of Why store input library built same = same
 memory_of _ store input library built same = absurd built
 
 pub comes_of : AsksOnce → (words : List (List ℕ)) (order : Order) (store : Store) (input : Input) (library : Shelf) (a : Answer) → Asks words order →

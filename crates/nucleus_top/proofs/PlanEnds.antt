@@ -17,7 +17,7 @@ use Rattle.nucleus_top.specs.Inits.{IsRefusedAt}
 use Rattle.nucleus_top.specs.Planning.{IsProposed, IsFound, Plans, IsPlanPrinted, IsClosePrinted, IsPending, PlanParts}
 use Rattle.nucleus_top.specs.declared.answer.Answer.{Answer}
 use Rattle.nucleus_top.specs.declared.answer.Answer.TheVariants.{Made, Shown, Planned, Unplanned, Whole, Pending, DiskFailed, SourceFailed, LibraryFailed}
-use Rattle.nucleus_top.specs.declared.answer.Answer.TheVariants.{NotInitialised, Damaged, NoMemory}
+use Rattle.nucleus_top.specs.declared.answer.Answer.TheVariants.{NotInitialised, Damaged, NoMemory, Possible, Got, Drawn}
 use Rattle.nucleus_top.proofs.Unrefused.{no_refusal, only_successful}
 
 module _ (store : Store) (input : Input) (library : Shelf) (printed : Printed) (result : Status) where
@@ -49,6 +49,9 @@ module _ (store : Store) (input : Input) (library : Shelf) (printed : Printed) (
   done (Made thing) comes (inl told) is = absurd comes.1.2
   done (Shown text) comes (inl told) is = absurd comes.1.2
   done Whole comes (inl told) is = absurd comes.1.2
+  done Possible comes (inl told) is = absurd comes.1.2
+  done (Got text) comes (inl told) is = absurd comes.1.2
+  done (Drawn text) comes (inl told) is = absurd comes.1.2
   done (Planned text) comes (inl told) is =
       let on = comes.1.2 in
       inl (comes.1.0, on.0, comes.1.1, on.1, subst (λ (t : List ℕ). Prints printed t) on.2 told.1)
@@ -80,7 +83,7 @@ module _ (store : Store) (input : Input) (library : Shelf) (printed : Printed) (
   pending a comes (inr told) is = cc
 
   -- a device without a pending deployment is not the one that the journal stands for
-  busy : (d e : Device) (q : PendingPlan) → IsTrue store.is_modelled → IsFound store e → e.pending ≡ None → Stands store.before d → d.pending ≡ Some q → ⊥
+  pub busy : (d e : Device) (q : PendingPlan) → IsTrue store.is_modelled → IsFound store e → e.pending ≡ None → Stands store.before d → d.pending ≡ Some q → ⊥
   busy d e q is_modelled found idle stands is =
       let same : d ≡ e = same_device store.before d e stands (found is_modelled).1 in
       let none : d.pending ≡ None = ap (λ (x : Device). x.pending) same ∙ idle in

@@ -33,7 +33,7 @@ module _ (whole front : List ℕ) (is : front ≡ take 524289 whole) (long : 524
   pub front_is_long : 524288 < length front
   front_is_long = omega (arith, ap length is, length-take 524289 whole)
 
-  tree_too_long : (t : TreeFault) → (t ≡ tree.NoMemory → ⊥) → IsFirstFault front 524288 t → IsFirstFault whole 524288 t
+  pub tree_too_long : (t : TreeFault) → (t ≡ tree.NoMemory → ⊥) → IsFirstFault front 524288 t → IsFirstFault whole 524288 t
   tree_too_long tree.TooLarge other fault = long
   tree_too_long tree.NotJson other fault = absurd (omega (arith, front_is_long, fault.0))
   tree_too_long tree.TooDeep other fault = absurd (omega (arith, front_is_long, fault.0))

@@ -9,7 +9,8 @@ use Rattle.nucleus_top.specs.Opening.{Stands, HasEntry, StandsForNone}
 use Rattle.nucleus_top.specs.Inits.{IsRefusedAt}
 use Rattle.nucleus_top.specs.Shows.{IsShown, ShowsDevice, Shows, StatusParts}
 use Rattle.nucleus_top.specs.declared.answer.Answer.{Answer}
-use Rattle.nucleus_top.specs.declared.answer.Answer.TheVariants.{Made, Shown, Planned, Unplanned, Whole, DiskFailed, NotInitialised, Damaged, NoMemory}
+use Rattle.nucleus_top.specs.declared.answer.Answer.TheVariants.{Made, Shown, Planned, Unplanned, Whole, DiskFailed}
+use Rattle.nucleus_top.specs.declared.answer.Answer.TheVariants.{NotInitialised, Damaged, NoMemory, Possible, Got, Drawn}
 use Rattle.nucleus_top.proofs.Standing.{none_stands}
 use Rattle.nucleus_top.proofs.Told.{told_of}
 
@@ -43,6 +44,9 @@ module _ (json : Bool) (store : Store) (printed : Printed) (result : Status) whe
   done (Made thing) comes (inl told) is = absurd comes
   done (Shown text) comes (inl told) is = (text, comes.1, told.1)
   done (Planned text) comes (inl told) is = absurd comes
+  done Possible comes (inl told) is = absurd comes
+  done (Got text) comes (inl told) is = absurd comes
+  done (Drawn text) comes (inl told) is = absurd comes
   done Whole comes (inl told) is = absurd comes
   done (Unplanned r text) comes (inl told) is = absurd comes
   done a comes (inl told) is = cc

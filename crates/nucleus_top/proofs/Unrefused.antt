@@ -107,6 +107,28 @@ only_successful (Plan (plan.ConfigTooLarge name n)) is = cc
 only_successful (Plan plan.NoMemory) is = cc
 only_successful NoMemory is = cc
 
+-- that no version exists alone has its status
+pub only_no_version : (r : Refusal) → status_of_refusal r ≡ status.NoVersion → r ≡ Plan plan.NoVersion
+only_no_version (Document fault) is = cc
+only_no_version (Repeated id outcome.Successful) is = cc
+only_no_version (Repeated id outcome.RollbackComplete) is = cc
+only_no_version (Repeated id outcome.RollbackNotRequested) is = cc
+only_no_version (Repeated id outcome.UnableToRollback) is = cc
+only_no_version (Stale id revision) is = cc
+only_no_version (Candidates gather.Library) is = cc
+only_no_version (Candidates (gather.TooManyRecipes n)) is = cc
+only_no_version (Candidates (gather.Recipe at fault)) is = cc
+only_no_version (Candidates (gather.RecipeDiffers name version)) is = cc
+only_no_version (Candidates (gather.TwoRecipes name version)) is = cc
+only_no_version (Candidates gather.NoMemory) is = cc
+only_no_version (Plan (plan.TooManyClosed n)) is = cc
+only_no_version (Plan (plan.TooManyGroups n)) is = cc
+only_no_version (Plan plan.NoVersion) is = refl
+only_no_version (Plan (plan.TooManyComponents n)) is = cc
+only_no_version (Plan (plan.ConfigTooLarge name n)) is = cc
+only_no_version (Plan plan.NoMemory) is = cc
+only_no_version NoMemory is = cc
+
 -- want of memory prints nothing
 pub silent : (r : Refusal) → status_of_refusal r ≡ status.Memory → refusal_line r ≡ codes ""
 silent (Document fault) is = cc

@@ -11,13 +11,18 @@ use Rattle.library_core.specs.Library.{Content}
 use Rattle.refusal_lines.specs.Statuses.{status_of_refusal}
 use Rattle.nucleus_top.specs.declared.answer.Answer.{Answer}
 use Rattle.nucleus_top.specs.declared.answer.Answer.TheVariants.{Made, Shown, Planned, Unplanned, Whole, Differs, Pending, WrongWords, DiskFailed}
-use Rattle.nucleus_top.specs.declared.answer.Answer.TheVariants.{SourceFailed, LibraryFailed, NotInitialised, Damaged, Initialised, NoMemory}
+use Rattle.nucleus_top.specs.declared.answer.Answer.TheVariants.{SourceFailed, LibraryFailed, NotInitialised, Damaged, Initialised}
+use Rattle.nucleus_top.specs.declared.answer.Answer.TheVariants.{NoMemory, Possible, Got, Absent, Drawn}
 
 abbrev pub status_of : Answer → Status
 status_of (Made thing) = status.Done
 status_of (Shown text) = status.Done
 status_of (Planned text) = status.Done
 status_of (Unplanned refusal text) = status_of_refusal refusal
+status_of Possible = status.Done
+status_of (Drawn text) = status.Done
+status_of (Got text) = status.Done
+status_of (Absent text) = status.Absent
 status_of Whole = status.Done
 status_of (Differs text) = status.Differs
 status_of (Pending id) = status.PendingStands
@@ -42,6 +47,9 @@ pending_line id = codes "refused 4 pending " ++ id ++ codes "\n"
 abbrev pub whole_line : List ℕ
 whole_line = codes "whole\n"
 
+abbrev pub possible_line : List ℕ
+possible_line = codes "possible\n"
+
 abbrev pub library_line : List ℕ
 library_line = codes "refused 7 library\n"
 
@@ -60,6 +68,10 @@ lines_of (Made thing) = made_line thing
 lines_of (Shown text) = text
 lines_of (Planned text) = text
 lines_of (Unplanned refusal text) = text
+lines_of Possible = possible_line
+lines_of (Drawn text) = text
+lines_of (Got text) = text
+lines_of (Absent text) = text
 lines_of Whole = whole_line
 lines_of (Differs text) = text
 lines_of (Pending id) = pending_line id

@@ -1,4 +1,4 @@
--- The commands that drive a deployment, `deploy` and `resume`, and what such a call promises.
+-- The commands that drive a deployment, and what such a call promises.
 use Rattle.std.specs.Prelude.{◌≡◌, ◌≢◌, ◌⊎◌, ℕ, ◌+◌, false, IsTrue, List, Option, Some, None, Result, ⊤}
 use Rattle.std.specs.Ordering.{is_lt, nat_cmp}
 use Rattle.disk_model.specs.Disk.{Image}
@@ -8,7 +8,8 @@ use Rattle.nuc_base.specs.declared.status.Status.TheVariants as status
 use Rattle.checkpoint_log.specs.Slots.{IsLive, slots_entries, slots_files, slots_none, slots_turn}
 use Rattle.checkpoint_log.specs.declared.slots.Slots.{Slots}
 use Rattle.command_words.specs.Words.{IsOrder}
-use Rattle.command_words.specs.declared.order.Order.TheVariants.{Deploy, Resume}
+use Rattle.command_words.specs.declared.order.Order.{Order}
+use Rattle.command_words.specs.declared.order.Order.TheVariants.{ConfigSet, Deploy, Local, Resume}
 use Rattle.records.specs.declared.record.Origin.{Origin}
 use Rattle.records.specs.declared.record.Plan as code
 use Rattle.artifact_store.specs.Swept.{IsSwept, items_of}
@@ -23,10 +24,16 @@ use Rattle.step_runner.specs.declared.entries.RunnerEntry.{RunnerEntry}
 use Rattle.histories.specs.TraceEvents.{records_of}
 use Rattle.histories.specs.States.{SessionState}
 use Rattle.law_histories.specs.Stood.{IsHistory}
+use Rattle.admission.specs.Requests.{Requests, TakesBy}
 use Rattle.admission.specs.Takes.{HasDiskFailed, HasLibraryFailed}
+use Rattle.admission.specs.declared.ask.Ask.{Ask}
+use Rattle.admission.specs.declared.ask.Ask.TheVariants as ask
 use Rattle.admission.specs.declared.fault.Declined.{Declined}
+use Rattle.deployment_doc.specs.declared.document.Document.{Document}
+use Rattle.law_whole.specs.Taking.{StayWhole}
+use Rattle.library_core.specs.Nothing.{no_content}
 use Rattle.session.specs.Calls.{Call, Elsewhere, IsPendingAs, ChangesArtifactsAlone}
-use Rattle.session.specs.Documents.{DrivesTaken, TakesRead}
+use Rattle.session.specs.Documents.{DrivesTaken}
 use Rattle.session.specs.Endings.{Fails, Resumes}
 use Rattle.session.specs.Sweeping.{LeavesNoStray}
 use Rattle.nucleus_top.specs.Answers.{Expects, HasRisen, Input, Printed, Prints, Shelf, Store, Told, damaged_line, none_line, pending_line}
@@ -40,13 +47,28 @@ use Rattle.nucleus_top.specs.Refusing.{Refuses}
 use Rattle.nucleus_top.specs.declared.answer.Answer.{Answer}
 use Rattle.nucleus_top.specs.declared.answer.Answer.TheVariants.{Damaged, DiskFailed, NoMemory, NotInitialised, Pending, SourceFailed}
 
--- the words ask to deploy, at some root
-abbrev pub Deploys : List (List ℕ) → Type 0
-Deploys words = (root : List ℕ) × IsOrder words root Deploy
+-- what an order deploys, where it deploys what the source has
+abbrev pub ask_of : Order → Option Ask
+ask_of Deploy = Some ask.Document
+ask_of Local = Some ask.Local
+ask_of (ConfigSet name) = Some (ask.Change name)
+ask_of _ = None
 
--- the words ask to deploy or to resume, at some root
+-- the words ask to deploy such a thing, at some root
+abbrev pub AsksTo : List (List ℕ) → Ask → Type 0
+AsksTo words what = (root : List ℕ) × (order : Order) × IsOrder words root order × (ask_of order ≡ Some what)
+
+-- they ask to deploy something
+abbrev pub Deploys : List (List ℕ) → Type 0
+Deploys words = (what : Ask) × AsksTo words what
+
+-- they do so, and its recipes may be the library's
+abbrev pub DeploysOver : List (List ℕ) → Type 0
+DeploysOver words = AsksTo words ask.Document ⊎ AsksTo words ask.Local
+
+-- they ask to deploy something, or to resume
 abbrev pub Drives : List (List ℕ) → Type 0
-Drives words = (root : List ℕ) × (IsOrder words root Deploy ⊎ IsOrder words root Resume)
+Drives words = Deploys words ⊎ ((root : List ℕ) × IsOrder words root Resume)
 
 -- ---- why a call is turned away
 
@@ -68,7 +90,7 @@ abbrev pub MayNotOpenIdle : Store → Answer → Type 0
 MayNotOpenIdle store (Pending id) = (d : Device) × IsFound store d × IsPendingAs id d × (IsTrue store.is_modelled → IsSwept (items_of d) store.after)
 MayNotOpenIdle store answer = MayNotOpen store answer
 
--- Why `deploy` is turned away: there is none, and where one is pending the source is left as it was; or the source failed.
+-- Why a call that deploys is turned away: there is none, and where one is pending the source is left as it was; or the source failed.
 abbrev pub TurnsAway : Store → Input → Answer → Type 0
 TurnsAway store input (Pending id) = MayNotOpenIdle store (Pending id) × (input.rest ≡ input.document)
 TurnsAway store input SourceFailed = ((d : Device) × IsFound store d × (d.pending ≡ None)) × Rose input.faults_before input.faults_after
@@ -125,7 +147,20 @@ module _ {D : Type 0} (seen : D → Image) (may_leave : D → Image → Type 0) 
     pub ends : (new ≡ old) ⊎ (answer ≢ DiskFailed → KeepsJournal may_leave seen old new)
     pub reads : KeepsJournalOrFiles may_leave seen old new
 
--- ---- `deploy`
+-- ---- `deploy`, `local` and `config-set`
+
+-- a library without recipes and artifacts, which never fails
+abbrev pub no_shelf : Shelf
+no_shelf = record { content = Some no_content; faults_before = 0; faults_after = 0 }
+
+-- A change of a configuration is deployed over no library.
+abbrev pub shelf_for : Ask → Shelf → Shelf
+shelf_for (ask.Change name) shelf = no_shelf
+shelf_for _ shelf = shelf
+
+-- it is this
+abbrev pub IsMade : Result Document Declined → Device → Result Document Declined → Type 0
+IsMade made d result = result ≡ made
 
 -- from where an entry of so many bytes would be written in the journal that is in hand
 abbrev pub slots_start : Slots → Device → ℕ → ℕ
@@ -148,10 +183,10 @@ pub record IsDocument (input : Input) (bytes : List ℕ) : Type 0 where
 
 module _ {D : Type 0} (may_leave : D → Image → Type 0) (moment : D → ℕ) (left_since : D → ℕ → Image → Type 0) (faults : D → ℕ) (old new : D)
     (old_list new_list : Option (List RunnerEntry)) (printed : Printed) (result : Status) where
-  -- Nothing is pending on this device. The document is taken in on it or not, by the checks in their order, and then from the start of the call one
-  -- deployment goes on by its plan, or the plan is put off. A crash leaves what a front of the records makes of the device, with
-  -- all artifacts of that, where the images at the start had theirs.
-  pub record IsDeployedOn (d : Device) (start : ℕ → ℕ) (library : Shelf) (bytes : List ℕ) : Type 0 where
+  -- Nothing is pending on this device. The request comes to a document or not, and that is taken in on the device or not, by the checks in their
+  -- order, and then from the start of the call one deployment goes on by its plan, or the plan is put off. A crash leaves what a front
+  -- of the records makes of the device, with all artifacts of that, where the images at the start had theirs.
+  pub record IsDeployedOn (d : Device) (start : ℕ → ℕ) (library : Shelf) (request : Device → Result Document Declined → Type 0) : Type 0 where
     pub place : SessionState
     pub serves : place.serves ≡ false
     pub device_is : place.device ≡ d
@@ -160,7 +195,7 @@ module _ {D : Type 0} (may_leave : D → Image → Type 0) (moment : D → ℕ) 
     pub origin : Origin
     pub origin_is : d.origin ≡ Some origin
     pub taken : Result code.Plan Declined
-    pub takes : TakesRead d origin library.content library.faults_before library.faults_after bytes taken
+    pub takes : TakesBy request d origin library.content library.faults_before library.faults_after taken
     pub call : DrivesTaken slots_entries slots_files may_leave moment left_since old new old_list new_list printed.before printed.after place result start taken
     pub history : IsHistory place call.0.history
     -- it ends as one whose disk failed only where the disk's count rose, and its document is declined for the disk or for the
@@ -170,19 +205,20 @@ module _ {D : Type 0} (may_leave : D → Image → Type 0) (moment : D → ℕ) 
     pub library_cause : HasLibraryFailed taken → Rose library.faults_before library.faults_after
     pub images : LeavesPrefixes may_leave moment left_since old new d (records_of call.0.history)
     pub whole : KeepsWhole may_leave moment left_since old new d (records_of call.0.history)
-    -- what meets its groups and its items does at each record
+    -- what meets its groups and its items does at each record, and what is whole is so
     pub met : StayMet d (records_of call.0.history)
+    pub stays : StayWhole d (records_of call.0.history)
     -- what was printed lasts
     pub lasts : Lasts (may_leave new) call.0.prints.told
 
-  -- so it is with the document of the source
-  abbrev pub DeploysOn : Device → (ℕ → ℕ) → Input → Shelf → Type 0
-  DeploysOn d start input library = (bytes : List ℕ) × IsDocument input bytes × IsDeployedOn d start library bytes
+  -- so it is with what the source has, which is of this kind
+  abbrev pub DeploysOn : Ask → Device → (ℕ → ℕ) → Input → Shelf → Type 0
+  DeploysOn what d start input library = (bytes : List ℕ) × IsDocument input bytes × IsDeployedOn d start library (Requests what bytes)
 
   -- and with the device for which the journal stands, where the disk tells it
-  abbrev pub IsDeployed : Store → Input → Shelf → Type 0
-  IsDeployed store input library = (d : Device) × (start : ℕ → ℕ) × IsFound store d × (IsTrue store.is_modelled → StartsFrom store.before d start) ×
-      DeploysOn d start input library
+  abbrev pub IsDeployed : Ask → Store → Input → Shelf → Type 0
+  IsDeployed what store input library = (d : Device) × (start : ℕ → ℕ) × IsFound store d × (IsTrue store.is_modelled → StartsFrom store.before d start) ×
+      DeploysOn what d start input (shelf_for what library)
 
   -- ---- `resume`
 
@@ -200,6 +236,7 @@ module _ {D : Type 0} (may_leave : D → Image → Type 0) (moment : D → ℕ) 
     pub images : LeavesPrefixes may_leave moment left_since old new d (records_of call.history)
     pub whole : KeepsWhole may_leave moment left_since old new d (records_of call.history)
     pub met : StayMet d (records_of call.history)
+    pub stays : StayWhole d (records_of call.history)
 
   -- so it is with the device for which the journal stands, where the disk tells it
   abbrev pub IsResumed : Store → Type 0

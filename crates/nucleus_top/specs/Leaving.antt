@@ -1,10 +1,10 @@
 -- What a crash may leave of a call.
-use Rattle.std.specs.Prelude.{◌≡◌, ◌⊎◌, ℕ, List}
+use Rattle.std.specs.Prelude.{◌≡◌, ◌⊎◌, ℕ, List, ⊤}
 use Rattle.nuc_base.specs.declared.status.Status.TheVariants as status
 use Rattle.disk_model.specs.Disk.{Image, After, Settled}
 use Rattle.checkpoint_log.specs.Slots.{slots_files}
 use Rattle.command_words.specs.declared.order.Order.{Order}
-use Rattle.command_words.specs.declared.order.Order.TheVariants.{Init}
+use Rattle.command_words.specs.declared.order.Order.TheVariants.{Init, Workload}
 use Rattle.nucleus_top.specs.Opening.{Stands}
 use Rattle.nucleus_top.specs.Answers.{status_of}
 use Rattle.nucleus_top.specs.Begun.{begun_device, Begins}
@@ -29,9 +29,10 @@ abbrev pub files_of : Order → List ℕ → Type 0
 files_of order = slots_files
 
 -- A crash does not undo the work of a command that is done: after `init` each image stands for the new device, and
--- after the others the journal's files are as they read.
+-- after the others the journal's files are as they read. `workload` has nothing to do with the disk.
 abbrev pub IsDurable : Order → (Image → Type 0) → Image → Type 0
 IsDurable (Init origin) images seen = (c : Image) → images c → Stands c (begun_device origin)
+IsDurable (Workload seed) images seen = ⊤
 IsDurable _ images seen = (name : List ℕ) → slots_files name → Settled images name (seen name)
 
 -- where an answer says that the work is done

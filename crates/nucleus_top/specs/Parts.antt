@@ -7,14 +7,17 @@ use Rattle.records.specs.declared.record.Origin.{Origin}
 use Rattle.device.specs.Devices.{Device}
 use Rattle.nucleus_top.specs.Opening.{Stands}
 use Rattle.command_words.specs.declared.order.Order.{Order}
-use Rattle.command_words.specs.declared.order.Order.TheVariants.{Init, Status as Show, Plan, Audit}
+use Rattle.command_words.specs.declared.order.Order.TheVariants.{Init, Status as Show, Plan, Audit, ConfigGet, Why as AskWhy, Workload}
 use Rattle.nucleus_top.specs.Words.{Asks, AsksNothing}
 use Rattle.nucleus_top.specs.Answers.{Store, Input, Shelf, Printed, IsUnchanged, HasRisen, IsQuiet, IsStill, IsCutShort, Prints, Yields, usage_line}
 use Rattle.nucleus_top.specs.Answers.{library_line}
 use Rattle.nucleus_top.specs.Audits.{Audits, AuditParts}
+use Rattle.nucleus_top.specs.Gets.{Gets, GetParts}
 use Rattle.nucleus_top.specs.Inits.{Inits, InitParts}
 use Rattle.nucleus_top.specs.Planning.{Plans, PlanParts}
 use Rattle.nucleus_top.specs.Shows.{Shows, StatusParts}
+use Rattle.nucleus_top.specs.Why.{Whys, WhyParts}
+use Rattle.nucleus_top.specs.Workloads.{Draws, WorkloadParts}
 use Rattle.nucleus_top.specs.declared.answer.Answer.{Answer}
 use Rattle.nucleus_top.specs.declared.answer.Answer.TheVariants.{WrongWords, SourceFailed, NoMemory}
 
@@ -24,6 +27,9 @@ ComesOf (Init origin) store input library = Inits origin store
 ComesOf (Show json) store input library = Shows json store
 ComesOf Plan store input library = Plans store input library
 ComesOf Audit store input library = Audits store
+ComesOf (ConfigGet name at) store input library = Gets name at store
+ComesOf (Workload seed) store input library = Draws seed store
+ComesOf AskWhy store input library = Whys store input library
 ComesOf _ store input library = λ answer. ⊥
 
 -- Why an answer comes, of words that drive no deployment: by the command that they ask, since they ask none, or for want of memory.
@@ -58,7 +64,7 @@ pub record Parts (words : List (List ℕ)) (store : Store) (input : Input) (libr
   -- 7 comes exactly where the library's count rose, unless the sink fails besides.
   pub library_failed : result ≡ status.Library → Rose library.faults_before library.faults_after × Prints printed library_line
   pub library_stays : result ≢ status.Library → result ≢ status.Edge → library.faults_after ≡ library.faults_before
-  -- With 15 nothing was printed, and every file reads as before.
+  -- With 15 every file reads as before, and nothing was printed.
   pub memory : result ≡ status.Memory → IsUnchanged store × Prints printed (codes "")
   -- The journal stands for one device at most.
   pub one_device : (d e : Device) → Stands store.before d → Stands store.before e → d ≡ e
@@ -67,3 +73,6 @@ pub record Parts (words : List (List ℕ)) (store : Store) (input : Input) (libr
   pub status : (json : Bool) → Asks words (Show json) → StatusParts json store printed result
   pub plan : Asks words Plan → PlanParts store input library printed result
   pub audit : Asks words Audit → AuditParts store printed result
+  pub config_get : (name : List ℕ) (at : List (List ℕ)) → Asks words (ConfigGet name at) → GetParts name at store printed result
+  pub workload : (seed : ℕ) → Asks words (Workload seed) → WorkloadParts seed store printed result
+  pub why : Asks words AskWhy → WhyParts store input library printed result

@@ -3,8 +3,8 @@ ghost use Rattle.nuc_base.specs.Faults.{HasCause};
 ghost use Rattle.edges.specs.Pieces.{Writes};
 ghost use Rattle.nucleus_top.specs.Answers.{status_of, lines_of, printed_of, Told};
 
-use edges::{EdgeFault, Sink, write_pieces};
-use nuc_base::{Label, Status, Text};
+use edges::{EdgeFault, Sink, write_all, write_pieces};
+use nuc_base::{Bytes, Label, Status, Text};
 use plan_core::Refusal;
 use refusal_lines::refusal_status;
 
@@ -19,6 +19,14 @@ pub enum Answer {
     Planned(Text),
     /// The document comes to no plan, as this text says.
     Unplanned(Refusal, Text),
+    /// The deployments of a workload closed as this line says.
+    Drawn(Text),
+    /// A set of the candidates is valid.
+    Possible,
+    /// The node of the configuration is this text.
+    Got(Text),
+    /// There is no such node, as this line says.
+    Absent(Bytes),
     /// Each artifact has its digest.
     Whole,
     /// A file of an artifact has another digest, as this text says.
@@ -48,6 +56,10 @@ impl Answer {
             Answer::Shown(_) => Status::Done,
             Answer::Planned(_) => Status::Done,
             Answer::Unplanned(refusal, _) => refusal_status(refusal),
+            Answer::Drawn(_) => Status::Done,
+            Answer::Possible => Status::Done,
+            Answer::Got(_) => Status::Done,
+            Answer::Absent(_) => Status::Absent,
             Answer::Whole => Status::Done,
             Answer::Differs(_) => Status::Differs,
             Answer::Pending(_) => Status::PendingStands,
@@ -73,6 +85,10 @@ impl Answer {
             Answer::Shown(text) => write_pieces(sink, &[text.as_str()]),
             Answer::Planned(text) => write_pieces(sink, &[text.as_str()]),
             Answer::Unplanned(_, text) => write_pieces(sink, &[text.as_str()]),
+            Answer::Drawn(text) => write_pieces(sink, &[text.as_str()]),
+            Answer::Possible => write_pieces(sink, &["possible\n"]),
+            Answer::Got(text) => write_pieces(sink, &[text.as_str()]),
+            Answer::Absent(line) => write_all(sink, line.as_slice()),
             Answer::Whole => write_pieces(sink, &["whole\n"]),
             Answer::Differs(text) => write_pieces(sink, &[text.as_str()]),
             Answer::Pending(id) => {

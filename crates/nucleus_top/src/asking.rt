@@ -2,13 +2,15 @@
 ghost use Rattle.std.specs.Prelude.{◌≡◌, map, string_bytes};
 ghost use Rattle.nucleus_top.specs.Asked.{AsksFor, asked_of};
 
+use admission::Ask;
 use command_words::{Order, WordsFault, read_words, words_ask_one_thing};
 use std::alloc::Global;
 
 /// What the words ask.
-#[derive(Clone, Copy, Debug, PartialEq, Eq)]
+#[derive(Debug, Drop, PartialEq, Eq)]
 pub enum Asked {
-    Deploy,
+    /// To deploy what the source has, which is of this kind.
+    Deploy(Ask),
     Resume,
     /// Another command, or nothing.
     Other,
@@ -16,11 +18,13 @@ pub enum Asked {
     NoMemory,
 }
 
-fn asked_by(order: &Order) -> Asked
-    ensures { result ≡ asked_of order.now }
+fn asked_by(order: Order) -> Asked
+    ensures { result ≡ asked_of order }
 {
     match order {
-        Order::Deploy => Asked::Deploy,
+        Order::Deploy => Asked::Deploy(Ask::Document),
+        Order::Local => Asked::Deploy(Ask::Local),
+        Order::ConfigSet(name) => Asked::Deploy(Ask::Change(name)),
         Order::Resume => Asked::Resume,
         Order::Init(_)
         | Order::Status(_)
@@ -28,9 +32,7 @@ fn asked_by(order: &Order) -> Asked
         | Order::Serve(_)
         | Order::Workload(_)
         | Order::Audit
-        | Order::Local
         | Order::ConfigGet(..)
-        | Order::ConfigSet(_)
         | Order::Why => Asked::Other,
     }
 }
@@ -41,7 +43,7 @@ pub(crate) fn read_asked(alloc: Global, words: &Vec<String>) -> Asked
 {
     words_ask_one_thing();
     match read_words(alloc, words) {
-        Ok((_root, order)) => asked_by(&order),
+        Ok((_root, order)) => asked_by(order),
         Err(WordsFault::Usage) => Asked::Other,
         Err(WordsFault::NoMemory) => Asked::NoMemory,
     }

@@ -1,5 +1,8 @@
-// The commands that drive a deployment: `deploy` and `resume`.
-ghost use Rattle.std.specs.Prelude.{◌≡◌, ◌≢◌, ◌⊎◌, ◌≤◌, [], IsTrue, IfOk, IfErr, IsErrOf};
+// The commands that drive a deployment: those that deploy what the source has, and `resume`.
+ghost use Rattle.std.specs.Prelude.{◌≡◌, ◌≢◌, ◌⊎◌, ◌≤◌, [], ℕ, List, IsTrue, IfOk, IfErr, IsErrOf};
+ghost use Rattle.admission.specs.Requests.{IsInside, Requests};
+ghost use Rattle.admission.specs.declared.ask.Ask.TheVariants as asks;
+ghost use Rattle.deployment_doc.specs.Sound.{AreSound};
 ghost use Rattle.artifact_store.specs.Holding.{AllHoldDevice, HoldsDevice};
 ghost use Rattle.artifact_store.specs.Swept.{IsSwept, items_of};
 ghost use Rattle.disk_model.specs.Disk.{Leaves};
@@ -17,20 +20,23 @@ ghost use Rattle.edges.specs.Reading.{ReadsUpTo};
 ghost use Rattle.nucleus_top.specs.Answers.{input_of, printed_of, shelf_of, store_of};
 ghost use Rattle.nucleus_top.specs.Crashes.{KeepsJournal, KeepsJournalOrFiles, KeepsSameWhole, LeavesSame};
 ghost use Rattle.nucleus_top.specs.Opening.{HasEntry, Stands};
-ghost use Rattle.nucleus_top.specs.Drives.{DeploysOn, IsDeployed, IsDeployedOn, IsResumed, IsRefusedBefore, IsUnread, IsUnswept, NamesPendingOf, StartsFrom};
-ghost use Rattle.nucleus_top.specs.Drives.{TellsSweep, TellsUnread, TurnsAway, MayNotOpen, MayNotOpenIdle, slots_start};
+ghost use Rattle.nucleus_top.specs.Drives.{DeploysOn, IsDeployed, IsDeployedOn};
+ghost use Rattle.nucleus_top.specs.Drives.{IsResumed, IsRefusedBefore, IsMade, IsUnread, IsUnswept, NamesPendingOf, StartsFrom};
+ghost use Rattle.nucleus_top.specs.Drives.{TellsSweep, TellsUnread, TurnsAway, MayNotOpen, MayNotOpenIdle, shelf_for, slots_start};
 
 use crate::answer::Answer;
 use crate::opening::{HasDevice, open, refused};
-use admission::plans_are_met;
+use admission::{Ask, Declined, make_document, plans_are_met};
 use artifact_store::{SweepFault, needed_files_stay, sweep};
 use checkpoint_log::Slots;
 use deploy_state::{Idle, Loaded};
+use deployment_doc::Document;
 use disk_model::Disk;
 use edges::{ReadFault, Sink, Source, read_up_to};
-use library_core::Library;
+use law_whole::plans_are_whole;
+use library_core::{Library, NoLibrary};
 use nuc_base::{Copied, DOCUMENT_LIMIT, Status};
-use session::{resume_to_end, run_document_to_end};
+use session::{resume_to_end, run_made_to_end};
 use std::alloc::Global;
 use step_runner::Runner;
 use supervisor::Supervisor;
@@ -146,11 +152,11 @@ fn unread(fault: ReadFault) -> Answer
     }
 }
 
-/// Deploys the document in these bytes, with no component from before.
-fn deploy_document<D: Disk, L: Library, K: Sink, R: Runner>(
+/// Deploys the document to which a request came, with no component from before.
+fn deploy_made<D: Disk, L: Library, K: Sink, R: Runner>(
     alloc: Global,
     idle: Idle<Slots>,
-    document: &[u8],
+    made: Result<Document, Declined>,
     disk: &mut D,
     library: &mut L,
     sink: &mut K,
@@ -158,9 +164,12 @@ fn deploy_document<D: Disk, L: Library, K: Sink, R: Runner>(
 ) -> Status
     requires held { OwnsIdle D.is_modelled D.may_leave slots_stands (λ log. log.live.end) idle disk.old }
     requires none { R.living runner.old ≡ [] }
+    requires roots { IfOk made (λ document. AreSound document.roots) }
+    requires inside { IfErr made (λ x. IsInside x) }
     ensures driven { IsDeployedOn D.may_leave D.moment D.left_since D.faults disk.old disk.new (R.list runner.old) (R.list runner.new)
         (printed_of K.held K.faults sink.old sink.new) result
-        (idle_device idle) (slots_start (idle_log idle) (idle_device idle)) (shelf_of L.content L.faults library.old library.new) document.now }
+        (idle_device idle) (slots_start (idle_log idle) (idle_device idle)) (shelf_of L.content L.faults library.old library.new)
+        (IsMade made) }
     ensures none { R.living runner.new ≡ [] }
     ensures others { IsTrue D.is_modelled → Elsewhere slots_files (D.seen disk.old) (D.seen disk.new) }
     ensures disk { result ≡ statuses.Disk → Rose (D.faults disk.old) (D.faults disk.new) }
@@ -176,14 +185,15 @@ fn deploy_document<D: Disk, L: Library, K: Sink, R: Runner>(
     ensures swept { (IsTrue D.is_modelled → IsSwept (items_of (idle_device idle)) (D.seen disk.old)) → LeavesNoStray D.is_modelled slots_entries result
         (D.seen disk.new) }
 {
-    // The journal does not lie among the files of artifacts, and a plan that is taken in is met.
+    // The journal does not lie among the files of artifacts, and a plan that is taken in is met and whole.
     needed_files_stay();
     plans_are_met();
+    plans_are_whole();
     let mut supervisor = Supervisor::new(alloc);
-    run_document_to_end(
+    run_made_to_end(
         alloc,
         idle,
-        document,
+        made,
         disk,
         library,
         sink,
@@ -192,9 +202,50 @@ fn deploy_document<D: Disk, L: Library, K: Sink, R: Runner>(
     )
 }
 
-/// Deploys the document that the source has.
+/// Deploys what these bytes ask, with no component from before. A change of a configuration is deployed over no library.
+fn deploy_bytes<D: Disk, L: Library, K: Sink, R: Runner>(
+    alloc: Global,
+    what: &Ask,
+    idle: Idle<Slots>,
+    bytes: &[u8],
+    disk: &mut D,
+    library: &mut L,
+    sink: &mut K,
+    runner: &mut R,
+) -> Status
+    requires held { OwnsIdle D.is_modelled D.may_leave slots_stands (λ log. log.live.end) idle disk.old }
+    requires none { R.living runner.old ≡ [] }
+    ensures driven { IsDeployedOn D.may_leave D.moment D.left_since D.faults disk.old disk.new (R.list runner.old) (R.list runner.new)
+        (printed_of K.held K.faults sink.old sink.new) result
+        (idle_device idle) (slots_start (idle_log idle) (idle_device idle)) (shelf_for what.now (shelf_of L.content L.faults library.old library.new))
+        (Requests what.now bytes.now) }
+    ensures none { R.living runner.new ≡ [] }
+    ensures others { IsTrue D.is_modelled → Elsewhere slots_files (D.seen disk.old) (D.seen disk.new) }
+    ensures disk { result ≡ statuses.Disk → Rose (D.faults disk.old) (D.faults disk.new) }
+    ensures edge { result ≡ statuses.Edge → Rose (K.faults sink.old) (K.faults sink.new) }
+    ensures quiet_disk { result ≢ statuses.Disk → result ≢ statuses.Edge → D.faults disk.new ≡ D.faults disk.old }
+    ensures quiet_sink { result ≢ statuses.Edge → K.faults sink.new ≡ K.faults sink.old }
+    ensures later { Stays (D.faults disk.old) (D.faults disk.new) × Stays (K.faults sink.old) (K.faults sink.new) }
+    ensures library { result ≡ statuses.Library → Rose (L.faults library.old) (L.faults library.new) }
+    ensures library_quiet { result ≢ statuses.Library → result ≢ statuses.Edge → L.faults library.new ≡ L.faults library.old }
+    ensures library_later { L.faults library.old ≤ L.faults library.new }
+    ensures kept { L.content library.new ≡ L.content library.old }
+    ensures unasked { (name : List ℕ) → what.now ≡ asks.Change name → library.new ≡ library.old }
+    // No stray file is left where none was there at the start.
+    ensures swept { (IsTrue D.is_modelled → IsSwept (items_of (idle_device idle)) (D.seen disk.old)) → LeavesNoStray D.is_modelled slots_entries result
+        (D.seen disk.new) }
+{
+    let made = make_document(alloc, what, idle.device(), bytes);
+    match what {
+        Ask::Document | Ask::Local => deploy_made(alloc, idle, made, disk, library, sink, runner),
+        Ask::Change(_) => deploy_made(alloc, idle, made, disk, &mut NoLibrary, sink, runner),
+    }
+}
+
+/// Deploys what the source has.
 fn deploy_read<D: Disk, L: Library, S: Source, K: Sink, R: Runner>(
     alloc: Global,
+    what: &Ask,
     idle: Idle<Slots>,
     disk: &mut D,
     library: &mut L,
@@ -207,9 +258,9 @@ fn deploy_read<D: Disk, L: Library, S: Source, K: Sink, R: Runner>(
     ensures ran { (IsUnread disk.old disk.new (input_of S.left S.faults source.old source.new) (printed_of K.held K.faults sink.old sink.new) result ×
         (runner.new ≡ runner.old))
         ⊎ DeploysOn D.may_leave D.moment D.left_since D.faults disk.old disk.new (R.list runner.old) (R.list runner.new)
-        (printed_of K.held K.faults sink.old sink.new) result
+        (printed_of K.held K.faults sink.old sink.new) result what.now
         (idle_device idle) (slots_start (idle_log idle) (idle_device idle)) (input_of S.left S.faults source.old source.new)
-        (shelf_of L.content L.faults library.old library.new) }
+        (shelf_for what.now (shelf_of L.content L.faults library.old library.new)) }
     ensures none { R.living runner.new ≡ [] }
     ensures others { IsTrue D.is_modelled → Elsewhere slots_files (D.seen disk.old) (D.seen disk.new) }
     ensures disk { result ≡ statuses.Disk → Rose (D.faults disk.old) (D.faults disk.new) }
@@ -220,6 +271,7 @@ fn deploy_read<D: Disk, L: Library, S: Source, K: Sink, R: Runner>(
     ensures library_quiet { result ≢ statuses.Library → result ≢ statuses.Edge → L.faults library.new ≡ L.faults library.old }
     ensures library_later { L.faults library.old ≤ L.faults library.new }
     ensures kept { L.content library.new ≡ L.content library.old }
+    ensures unasked { (name : List ℕ) → what.now ≡ asks.Change name → library.new ≡ library.old }
     // No stray file is left where none was there at the start.
     ensures swept { (IsTrue D.is_modelled → IsSwept (items_of (idle_device idle)) (D.seen disk.old)) → LeavesNoStray D.is_modelled slots_entries result
         (D.seen disk.new) }
@@ -229,7 +281,16 @@ fn deploy_read<D: Disk, L: Library, S: Source, K: Sink, R: Runner>(
     ensures source_later { S.faults source.old ≤ S.faults source.new }
 {
     match read_up_to(alloc, source, DOCUMENT_LIMIT + 1) {
-        Ok(bytes) => deploy_document(alloc, idle, bytes.as_slice(), disk, library, sink, runner),
+        Ok(bytes) => deploy_bytes(
+            alloc,
+            what,
+            idle,
+            bytes.as_slice(),
+            disk,
+            library,
+            sink,
+            runner,
+        ),
         Err(fault) => {
             drop(idle);
             let answer = unread(fault);
@@ -240,9 +301,10 @@ fn deploy_read<D: Disk, L: Library, S: Source, K: Sink, R: Runner>(
     }
 }
 
-/// Deploys one document. A pending deployment is refused before the source is read.
+/// Deploys one document, request or change. A pending deployment is refused before the source is read.
 pub(crate) fn deploy<D: Disk, L: Library, S: Source, K: Sink, R: Runner>(
     alloc: Global,
+    what: &Ask,
     disk: &mut D,
     library: &mut L,
     source: &mut S,
@@ -253,7 +315,7 @@ pub(crate) fn deploy<D: Disk, L: Library, S: Source, K: Sink, R: Runner>(
     ensures ran { (IsRefusedBefore D.seen D.may_leave D.moment D.left_since (λ a. TurnsAway (store_of D.is_modelled D.seen D.faults disk.old disk.new)
         (input_of S.left S.faults source.old source.new) a) disk.old disk.new (printed_of K.held K.faults sink.old sink.new) result × (runner.new ≡ runner.old))
         ⊎ IsDeployed D.may_leave D.moment D.left_since D.faults disk.old disk.new (R.list runner.old) (R.list runner.new)
-        (printed_of K.held K.faults sink.old sink.new) result
+        (printed_of K.held K.faults sink.old sink.new) result what.now
         (store_of D.is_modelled D.seen D.faults disk.old disk.new) (input_of S.left S.faults source.old source.new)
         (shelf_of L.content L.faults library.old library.new) }
     ensures none { R.living runner.new ≡ [] }
@@ -266,6 +328,7 @@ pub(crate) fn deploy<D: Disk, L: Library, S: Source, K: Sink, R: Runner>(
     ensures library_quiet { result ≢ statuses.Library → result ≢ statuses.Edge → L.faults library.new ≡ L.faults library.old }
     ensures library_later { L.faults library.old ≤ L.faults library.new }
     ensures kept { L.content library.new ≡ L.content library.old }
+    ensures unasked { (name : List ℕ) → what.now ≡ asks.Change name → library.new ≡ library.old }
     ensures swept { LeavesNoStray D.is_modelled slots_entries result (D.seen disk.new) }
     ensures edge { result ≡ statuses.Edge → Rose (S.faults source.old) (S.faults source.new) ⊎ Rose (K.faults sink.old) (K.faults sink.new) }
     ensures quiet_source { result ≢ statuses.Edge → S.faults source.new ≡ S.faults source.old }
@@ -273,7 +336,7 @@ pub(crate) fn deploy<D: Disk, L: Library, S: Source, K: Sink, R: Runner>(
     ensures source_later { S.faults source.old ≤ S.faults source.new }
 {
     match open_idle(alloc, disk) {
-        Ok(idle) => deploy_read(alloc, idle, disk, library, source, sink, runner),
+        Ok(idle) => deploy_read(alloc, what, idle, disk, library, source, sink, runner),
         Err(answer) => {
             let status = answer.tell(sink);
             drop(answer);

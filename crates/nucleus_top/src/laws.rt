@@ -3,9 +3,11 @@ ghost use Rattle.device.specs.Met.{Met};
 ghost use Rattle.nucleus_top.specs.Lasting.{RunsCloseMore, RunsLoseNothing, RunsTake};
 ghost use Rattle.nucleus_top.specs.Meeting.{BroughtStayMet};
 ghost use Rattle.nucleus_top.specs.Opening.{AreFound};
+ghost use Rattle.nucleus_top.specs.Requested.{ChangesMoveOneItem, LocalsMoveOneGroup};
 ghost use Rattle.nucleus_top.specs.Series.{CallsReach, DrivesEnd, DrivesGoOn, InitsBegin, OthersGoOn, TurnedEnd, TurnedGoOn};
 
 use disk_model::Disk;
+use law_whole::requests_keep_the_rest;
 
 /// Along a run the closed list only grows, at its end, and a deployment that was accepted is pending or closed afterwards.
 /// Where the run ends with a close it did grow. It does nothing.
@@ -43,3 +45,14 @@ pub fn calls_go_on<D: Disk>()
     ensures drives_end { DrivesEnd D.may_leave }
     ensures turned_end { TurnedEnd D.may_leave D.is_modelled D.seen }
 {}
+
+/// What requests made at the device add to what is said of each deployment (`IsDeployedOn`). One of the group of the device itself
+/// accepts the plan of the document of its list, and behind its close, in that call or a later one, the group has that list or the one
+/// before, and no other group changed. A change of a configuration, on a whole device, accepts a plan of the device's own items, but
+/// for that configuration, changes no group, and never ends with 3, 7 or 13. It does nothing.
+pub fn requests_move_what_they_name<D: Disk>()
+    ensures local { LocalsMoveOneGroup D.may_leave D.moment D.left_since D.faults }
+    ensures change { ChangesMoveOneItem D.may_leave D.moment D.left_since D.faults }
+{
+    requests_keep_the_rest();
+}

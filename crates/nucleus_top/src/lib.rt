@@ -12,6 +12,7 @@
 mod answer;
 mod asking;
 mod auditing;
+mod config_getting;
 mod driving;
 mod init;
 mod laws;
@@ -20,6 +21,8 @@ mod opening;
 mod planning;
 mod status;
 mod top;
+mod why;
+mod workload_run;
 
-pub use laws::{calls_go_on, calls_run_on, nothing_is_lost};
+pub use laws::{calls_go_on, calls_run_on, nothing_is_lost, requests_move_what_they_name};
 pub use top::nucleus;

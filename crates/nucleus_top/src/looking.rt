@@ -1,4 +1,4 @@
-// The commands that drive no component: `init`, `status`, `plan` and `audit`.
+// The commands that drive no component: `init`, `status`, `plan`, `audit`, `config-get`, `why` and `workload`.
 ghost use Rattle.std.specs.Prelude.{◌≡◌, ◌≢◌, ◌≤◌, ℕ, List, map, string_bytes, IsTrue};
 ghost use Rattle.disk_model.specs.Disk.{Leaves};
 ghost use Rattle.nuc_base.specs.declared.status.Status.TheVariants as status;
@@ -12,9 +12,12 @@ ghost use Rattle.nucleus_top.specs.Parts.{Comes, Parts};
 
 use crate::answer::Answer;
 use crate::auditing::audit;
+use crate::config_getting::get;
 use crate::init::init;
 use crate::planning::plan;
 use crate::status::status;
+use crate::why::why;
+use crate::workload_run::draw_workload;
 use command_words::{Order, WordsFault, read_words, words_ask_one_thing};
 use disk_model::Disk;
 use edges::{Sink, Source};
@@ -35,8 +38,12 @@ fn answer<D: Disk, L: Library, S: Source>(
         (input_of S.left S.faults source.old source.new) (shelf_of L.content L.faults library.old library.new) result }
     ensures quiet { IsQuiet (store_of D.is_modelled D.seen D.faults disk.old disk.new) (input_of S.left S.faults source.old source.new) result }
     ensures still { IsStill (shelf_of L.content L.faults library.old library.new) result }
-    ensures unread { (Asks (map string_bytes words.now.items) order.Plan → ⊥) → source.new ≡ source.old }
-    ensures unasked { (Asks (map string_bytes words.now.items) order.Plan → ⊥) → library.new ≡ library.old }
+    ensures unread { (Asks (map string_bytes words.now.items) order.Plan → ⊥) → (Asks (map string_bytes words.now.items) order.Why → ⊥)
+        → source.new ≡ source.old }
+    ensures unasked { (Asks (map string_bytes words.now.items) order.Plan → ⊥) → (Asks (map string_bytes words.now.items) order.Why → ⊥)
+        → library.new ≡ library.old }
+    // `workload` does not touch the disk.
+    ensures alone { (seed : ℕ) → Asks (map string_bytes words.now.items) (order.Workload seed) → disk.new ≡ disk.old }
     ensures kept { L.content library.new ≡ L.content library.old }
     ensures moments { Leaves D.moment D.left_since disk.old disk.new (MayLeave (map string_bytes words.now.items) (D.may_leave disk.old)) }
     ensures keeps { (order : Order) → Asks (map string_bytes words.now.items) order → Keeps order (D.may_leave disk.new) (D.seen disk.new) result }
@@ -58,15 +65,13 @@ fn answer<D: Disk, L: Library, S: Source>(
         Order::Status(json) => status(alloc, json, disk),
         Order::Plan => plan(alloc, disk, library, source),
         Order::Audit => audit(alloc, disk),
+        Order::ConfigGet(name, at) => get(alloc, &name, &at, disk),
+        Order::Workload(seed) => draw_workload(alloc, seed),
+        Order::Why => why(alloc, disk, library, source),
         // These drive components: they are dispatched before.
-        Order::Deploy | Order::Resume => Answer::WrongWords,
-        // These are not built yet.
-        Order::Serve(_)
-        | Order::Workload(_)
-        | Order::Local
-        | Order::ConfigGet(..)
-        | Order::ConfigSet(_)
-        | Order::Why => Answer::WrongWords,
+        Order::Deploy | Order::Resume | Order::Local | Order::ConfigSet(_) => Answer::WrongWords,
+        // This is not built yet.
+        Order::Serve(_) => Answer::WrongWords,
     }
 }
 
@@ -83,9 +88,13 @@ pub(crate) fn look<D: Disk, L: Library, S: Source, K: Sink>(
     ensures parts { Parts (map string_bytes words.now.items) (store_of D.is_modelled D.seen D.faults disk.old disk.new)
         (input_of S.left S.faults source.old source.new) (shelf_of L.content L.faults library.old library.new)
         (printed_of K.held K.faults sink.old sink.new) result }
-    // `plan` alone reads from the source and asks the library.
-    ensures unread { (Asks (map string_bytes words.now.items) order.Plan → ⊥) → source.new ≡ source.old }
-    ensures unasked { (Asks (map string_bytes words.now.items) order.Plan → ⊥) → library.new ≡ library.old }
+    // `plan` and `why` alone read from the source and ask the library.
+    ensures unread { (Asks (map string_bytes words.now.items) order.Plan → ⊥) → (Asks (map string_bytes words.now.items) order.Why → ⊥)
+        → source.new ≡ source.old }
+    ensures unasked { (Asks (map string_bytes words.now.items) order.Plan → ⊥) → (Asks (map string_bytes words.now.items) order.Why → ⊥)
+        → library.new ≡ library.old }
+    // `workload` does not touch the disk.
+    ensures alone { (seed : ℕ) → Asks (map string_bytes words.now.items) (order.Workload seed) → disk.new ≡ disk.old }
     ensures library_kept { L.content library.new ≡ L.content library.old }
     // Whenever a crash comes during the call, it leaves an image that the start allowed, or what the command may make of one.
     ensures moments { Leaves D.moment D.left_since disk.old disk.new (MayLeave (map string_bytes words.now.items) (D.may_leave disk.old)) }

@@ -33,7 +33,7 @@ fn planned(alloc: Global, draft: &Draft) -> Answer
 }
 
 /// The first refusal of a document. That the library failed is told without memory.
-fn unplanned(alloc: Global, refusal: Refusal) -> Answer
+pub(crate) fn unplanned(alloc: Global, refusal: Refusal) -> Answer
     ensures { TellsRefusal refusal result }
 {
     match refusal_status(&refusal) {
@@ -90,7 +90,7 @@ fn plan_idle<L: Library, S: Source>(
 }
 
 /// The refusal of a device with a pending deployment of this id.
-fn pending(alloc: Global, id: &Label) -> Answer
+pub(crate) fn pending(alloc: Global, id: &Label) -> Answer
     ensures { NamesPending id.now result }
 {
     match id.copy(alloc) {

@@ -1,12 +1,14 @@
 ghost use Rattle.std.specs.Prelude.{◌≡◌, ◌⊎◌, ◌≤◌, [], ℕ, List, map, string_bytes, IsTrue};
 ghost use Rattle.disk_model.specs.Disk.{Leaves};
 ghost use Rattle.nuc_base.specs.declared.status.Status.TheVariants as status;
+ghost use Rattle.admission.specs.declared.ask.Ask.{Ask};
 ghost use Rattle.command_words.specs.Words.{IsOrder};
 ghost use Rattle.command_words.specs.declared.order.Order.{Order};
 ghost use Rattle.command_words.specs.declared.order.Order.TheVariants as order;
 ghost use Rattle.session.specs.Calls.{Stays};
 ghost use Rattle.edges.specs.Reading.{ReadsUpTo};
-ghost use Rattle.nucleus_top.specs.Drives.{Deploys, DriveParts, Drives, IsDeployed, IsResumed, IsRefusedBefore, PendingParts, RefusedParts, TurnsAway};
+ghost use Rattle.nucleus_top.specs.Drives.{AsksTo, Deploys, DeploysOver, DriveParts, Drives};
+ghost use Rattle.nucleus_top.specs.Drives.{IsDeployed, IsResumed, IsRefusedBefore, PendingParts, RefusedParts, TurnsAway};
 ghost use Rattle.nucleus_top.specs.Drives.{MayNotOpen};
 ghost use Rattle.nucleus_top.specs.Words.{Asks};
 ghost use Rattle.nucleus_top.specs.Answers.{store_of, input_of, shelf_of, printed_of};
@@ -30,8 +32,11 @@ use step_runner::Runner;
 /// `initialised NAME`. `nucleus --root DIR status`, with `--json` or without, prints the status of the device for which
 /// the journal stands. `nucleus --root DIR plan` reads one document from the source and prints what it would make of the
 /// device with the recipes of the library, `plan NAME VERSION` for each component and `boot NAME` for each bootstrap, or
-/// the first reason why it would not. `nucleus --root DIR audit` compares the files of the device's artifacts with the
-/// digests that are kept, and prints `whole` or the first file that differs. The clause `parts` says of these when each
+/// the first reason why it would not. `nucleus --root DIR why` makes the same checks up to the set, and prints `possible` where
+/// some set of the candidates is valid, or else why none is. `nucleus --root DIR config-get --component NAME`, with
+/// `--pointer P` or without, prints a node of a component's configuration. `nucleus --root DIR audit` compares the files of the device's artifacts with the
+/// digests that are kept, and prints `whole` or the first file that differs. `nucleus --root DIR workload --seed N` runs 32 deployments that are drawn from
+/// the seed over objects in memory, by what `deploy` does, and prints how they closed: it touches the sink alone. The clause `parts` says of these when each
 /// status comes, what it prints and what it leaves on the disk.
 ///
 /// `nucleus --root DIR deploy` reads one document from the source and deploys it: it prints `accepted ID` once the plan is
@@ -40,6 +45,11 @@ use step_runner::Runner;
 /// where none is, it prints `idle`. Both print the refusals of `status` where the journal gives no device, and `deploy`
 /// `refused 4 pending ID` where a deployment is pending. The clauses `deploys`, `resumes`, `refused`, `pending` and
 /// `driven` say what these do.
+///
+/// `nucleus --root DIR local` deploys what the group of the device itself is to ask for from then on, by the request in the source
+/// (`local_deploy`), and `nucleus --root DIR config-set --component NAME` a change of one component's configuration (`config_cmd`),
+/// over no library. Both go on as `deploy` does; a request that comes to no document is refused with 2, and a component that is
+/// not there or that no group requires with 19. The clauses are those of `deploy`, for what the words ask to deploy.
 /// The other commands are refused as wrong words are, with status 1.
 pub fn nucleus<D: Disk, L: Library, S: Source, K: Sink, R: Runner>(
     alloc: Global,
@@ -56,9 +66,13 @@ pub fn nucleus<D: Disk, L: Library, S: Source, K: Sink, R: Runner>(
         Parts (map string_bytes words.now.items) (store_of D.is_modelled D.seen D.faults disk.old disk.new)
         (input_of S.left S.faults source.old source.new) (shelf_of L.content L.faults library.old library.new)
         (printed_of K.held K.faults sink.old sink.new) result }
-    // `deploy` and `plan` alone read from the source and ask the library.
-    ensures unread { (Deploys (map string_bytes words.now.items) → ⊥) → (Asks (map string_bytes words.now.items) order.Plan → ⊥) → source.new ≡ source.old }
-    ensures unasked { (Deploys (map string_bytes words.now.items) → ⊥) → (Asks (map string_bytes words.now.items) order.Plan → ⊥) → library.new ≡ library.old }
+    // The commands that deploy, `plan` and `why` alone read from the source and ask the library. A change of a configuration asks none.
+    ensures unread { (Deploys (map string_bytes words.now.items) → ⊥) → (Asks (map string_bytes words.now.items) order.Plan → ⊥)
+        → (Asks (map string_bytes words.now.items) order.Why → ⊥) → source.new ≡ source.old }
+    ensures unasked { (DeploysOver (map string_bytes words.now.items) → ⊥) → (Asks (map string_bytes words.now.items) order.Plan → ⊥)
+        → (Asks (map string_bytes words.now.items) order.Why → ⊥) → library.new ≡ library.old }
+    // `workload` does not touch the disk.
+    ensures alone { (seed : ℕ) → Asks (map string_bytes words.now.items) (order.Workload seed) → disk.new ≡ disk.old }
     ensures library_kept { L.content library.new ≡ L.content library.old }
     // Whenever a crash comes during the call, it leaves an image that the start allowed, or what the command may make of one.
     ensures moments { (Drives (map string_bytes words.now.items) → ⊥) → Leaves D.moment D.left_since disk.old disk.new
@@ -68,16 +82,16 @@ pub fn nucleus<D: Disk, L: Library, S: Source, K: Sink, R: Runner>(
         IsDurable order (D.may_leave disk.new) (D.seen disk.new) }
     ensures others { (order : Order) → Asks (map string_bytes words.now.items) order → IsTrue D.is_modelled →
         (name : List ℕ) → ¬ (files_of order name) → D.seen disk.new name ≡ D.seen disk.old name }
-    // `deploy`: turned away before anything begins, with an answer that has its cause; or the document that was read of the
-    // source is taken in by the checks in their order or not, and its deployment goes on from the start of the call. Whenever
+    // To deploy: turned away before anything begins, with an answer that has its cause; or the document to which the bytes of the
+    // source come is taken in by the checks in their order or not, and its deployment goes on from the start of the call. Whenever
     // a crash comes during it, it leaves an image that the start allowed, or one whose journal stands for what the call's
     // records, up to one of them, make of the device: with none of them where the call is turned away.
-    ensures deploys { (root : List ℕ) → IsOrder (map string_bytes words.now.items) root order.Deploy →
+    ensures deploys { (what : Ask) → AsksTo (map string_bytes words.now.items) what →
         (IsRefusedBefore D.seen D.may_leave D.moment D.left_since (λ a. TurnsAway (store_of D.is_modelled D.seen D.faults disk.old disk.new)
         (input_of S.left S.faults source.old source.new) a)
         disk.old disk.new (printed_of K.held K.faults sink.old sink.new) result × (runner.new ≡ runner.old))
         ⊎ IsDeployed D.may_leave D.moment D.left_since D.faults disk.old disk.new (R.list runner.old) (R.list runner.new)
-        (printed_of K.held K.faults sink.old sink.new) result
+        (printed_of K.held K.faults sink.old sink.new) result what
         (store_of D.is_modelled D.seen D.faults disk.old disk.new) (input_of S.left S.faults source.old source.new)
         (shelf_of L.content L.faults library.old library.new) }
     // `resume`: so it is with the pending deployment, which goes on where there is one.
@@ -87,10 +101,10 @@ pub fn nucleus<D: Disk, L: Library, S: Source, K: Sink, R: Runner>(
         ⊎ IsResumed D.may_leave D.moment D.left_since D.faults disk.old disk.new (R.list runner.old) (R.list runner.new)
         (printed_of K.held K.faults sink.old sink.new) result
         (store_of D.is_modelled D.seen D.faults disk.old disk.new) }
-    // Of both: when the refusals of a journal that gives no device come, and of `deploy` that of a pending deployment.
+    // Of all: when the refusals of a journal that gives no device come, and of those that deploy that of a pending deployment.
     ensures refused { Drives (map string_bytes words.now.items) → RefusedParts (store_of D.is_modelled D.seen D.faults disk.old disk.new)
         (printed_of K.held K.faults sink.old sink.new) result }
-    ensures pending { (root : List ℕ) → IsOrder (map string_bytes words.now.items) root order.Deploy →
+    ensures pending { Deploys (map string_bytes words.now.items) →
         PendingParts (store_of D.is_modelled D.seen D.faults disk.old disk.new) (input_of S.left S.faults source.old source.new)
         (printed_of K.held K.faults sink.old sink.new) result }
     // When 5, 6 and 7 come, and which files change.
@@ -112,7 +126,7 @@ pub fn nucleus<D: Disk, L: Library, S: Source, K: Sink, R: Runner>(
 {
     words_ask_one_thing();
     match read_asked(alloc, words) {
-        Asked::Deploy => deploy(alloc, disk, library, source, sink, runner),
+        Asked::Deploy(what) => deploy(alloc, &what, disk, library, source, sink, runner),
         Asked::Resume => resume(alloc, disk, sink, runner),
         Asked::Other => look(alloc, words, disk, library, source, sink),
         Asked::NoMemory => Status::Memory,

@@ -10,5 +10,6 @@ pub mod Needing
 pub mod Opening
 pub mod Planned
 pub mod Proposing
+pub mod Questioning
 pub mod Scripts
 pub mod Supplying

@@ -1,5 +1,5 @@
 -- The checks of a document, as the calls make them.
-use Rattle.std.proofs.Common.{◌≡◌, ◌⊎◌, ℕ, List, [], refl, sym, ap, subst, inl, inr}
+use Rattle.std.proofs.Common.{◌≡◌, ◌⊎◌, ℕ, List, [], ◌∷◌, refl, sym, ap, subst, inl, inr}
 use Rattle.std.specs.Prelude.{Option, Some, Result, Ok, Err}
 use Rattle.std.specs.Result.{IsErrAnd}
 use Rattle.nuc_base.specs.Faults.{Rose}
@@ -17,7 +17,8 @@ use Rattle.deployment_doc.specs.Reads.{ReadsDocument, IsFault}
 use Rattle.deployment_doc.specs.declared.document.Document.{Document}
 use Rattle.deployment_doc.specs.declared.fault.DocFault.{DocFault}
 use Rattle.deployment_doc.specs.declared.fault.DocFault.TheVariants as doc
-use Rattle.plan_core.specs.Checks.{Facts, Check, facts, Stops, Comes, Opens, Proposes, ProposesRead, AreCandidatesOf, plan_checks, read_checks}
+use Rattle.plan_core.specs.Checks.{Check, Reading, Opening, Ageing, Gathering, Room, Planning}
+use Rattle.plan_core.specs.Checks.{Facts, facts, Stops, Comes, Opens, Proposes, ProposesRead, AreCandidatesOf, plan_checks, read_checks}
 use Rattle.plan_core.specs.Checks.{document_refusal, gather_refusal, plan_refusal}
 use Rattle.plan_core.specs.Plans.{IsRefused}
 use Rattle.plan_core.specs.Ready.{IsOpen, IsFresh}
@@ -38,11 +39,11 @@ comes_err f checks a (Ok draft) h s = absurd h
 comes_err f checks a (Err e) h s = subst (Stops f checks) (sym h) s
 
 module _ (d : Device) (o : Origin) (content : Option Content) (before after : ℕ) (document : Document) where
-  open_stops : (cs : List Candidate) (draft : Draft) (a : Refusal) → Opens d document (Err a) →
-      Stops (facts d o content before after document cs draft) plan_checks a
-  open_stops cs draft a (inl memory) = inl memory
-  open_stops cs draft a (inr (inl repeated)) = inr (inl repeated)
-  open_stops cs draft a (inr (inr stale)) = inr (inr (stale.0, inr (inl (stale.1, stale.2))))
+  pub open_stops : (checks : List Check) (cs : List Candidate) (draft : Draft) (a : Refusal) → Opens d document (Err a) →
+      Stops (facts d o content before after document cs draft) (Opening ∷ Ageing ∷ checks) a
+  open_stops checks cs draft a (inl memory) = inl memory
+  open_stops checks cs draft a (inr (inl repeated)) = inr (inl repeated)
+  open_stops checks cs draft a (inr (inr stale)) = inr (inr (stale.0, inr (inl (stale.1, stale.2))))
 
   pub not_open : (a : Refusal) (result : Result code.Draft Refusal) → IsErrAnd result (λ e. e ≡ a) → Opens d document (Err a) →
       Proposes d o content before after document result
@@ -50,8 +51,14 @@ module _ (d : Device) (o : Origin) (content : Option Content) (before after : �
     [],
     no_draft,
     comes_err (facts d o content before after document [] no_draft) plan_checks a result h
-        (open_stops [] no_draft a opens),
+        (open_stops (Gathering ∷ Room ∷ Planning ∷ []) [] no_draft a opens),
   )
+
+  pub gather_stops : (checks : List Check) (cs : List Candidate) (draft : Draft) (fault : CandidatesFault) → IsOpen d document → IsFresh d document
+      → (fault ≡ gather.Library → Rose before after) → ((l : Content) → content ≡ Some l → Gathered l.recipes o d.set (Err fault))
+      → Stops (facts d o content before after document cs draft) (Opening ∷ Ageing ∷ Gathering ∷ checks) (gather_refusal fault)
+  gather_stops checks cs draft fault is_open fresh cause told =
+      inr (inr (is_open, inr (inr (fresh, inr (inl (fault, record { cause = cause; told = told }, refl))))))
 
   pub not_gathered : (fault : CandidatesFault) (result : Result code.Draft Refusal) → IsErrAnd result (λ e. e ≡ gather_refusal fault) → IsOpen d document →
       IsFresh d document
@@ -61,7 +68,7 @@ module _ (d : Device) (o : Origin) (content : Option Content) (before after : �
     [],
     no_draft,
     comes_err (facts d o content before after document [] no_draft) plan_checks (gather_refusal fault) result h
-        (inr (inr (is_open, inr (inr (fresh, inr (inl (fault, record { cause = cause; told = told }, refl))))))),
+        (gather_stops (Room ∷ Planning ∷ []) [] no_draft fault is_open fresh cause told),
   )
 
   refused_stops : (cs : List Candidate) (draft : Draft) (f : PlanFault) → IsOpen d document → IsFresh d document →
@@ -96,10 +103,10 @@ module _ (d : Device) (o : Origin) (content : Option Content) (before after : �
       → ProposesRead d o content before after bytes result
   read_first bytes result reads p = (document, p.0, p.1, read_on bytes p.0 p.1 result reads p.2)
 
-unread_stops : (f : Facts) (bytes : List ℕ) (fault : DocFault) → (fault ≡ doc.NoMemory) ⊎ IsFault bytes fault →
-    Stops f (read_checks bytes) (document_refusal fault)
-unread_stops f bytes fault (inl memory) = inl (ap document_refusal memory)
-unread_stops f bytes fault (inr first) = inr (inl (fault, first, refl))
+pub unread_stops : (f : Facts) (bytes : List ℕ) (checks : List Check) (fault : DocFault) → (fault ≡ doc.NoMemory) ⊎ IsFault bytes fault →
+    Stops f (Reading bytes ∷ checks) (document_refusal fault)
+unread_stops f bytes checks fault (inl memory) = inl (ap document_refusal memory)
+unread_stops f bytes checks fault (inr first) = inr (inl (fault, first, refl))
 
 pub not_read : (d : Device) (o : Origin) (content : Option Content) (before after : ℕ) (bytes : List ℕ) (fault : DocFault) (result : Result code.Draft Refusal)
     → IsErrAnd result (λ e. e ≡ document_refusal fault) → (fault ≡ doc.NoMemory) ⊎ IsFault bytes fault → ProposesRead d o content before after bytes result
@@ -108,5 +115,5 @@ not_read d o content before after bytes fault result h first = (
   [],
   no_draft,
   comes_err (facts d o content before after no_document [] no_draft) (read_checks bytes) (document_refusal fault) result h
-      (unread_stops (facts d o content before after no_document [] no_draft) bytes fault first),
+      (unread_stops (facts d o content before after no_document [] no_draft) bytes plan_checks fault first),
 )

@@ -5,6 +5,7 @@ pub mod Laws
 pub mod Looks
 pub mod Parts
 pub mod Plans
+pub mod Questions
 pub mod Ready
 pub mod Requests
 pub mod Rows

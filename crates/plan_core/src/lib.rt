@@ -13,6 +13,7 @@ mod items;
 mod laws;
 mod plan;
 mod proposals;
+mod questions;
 mod requests;
 mod sizes;
 
@@ -22,3 +23,4 @@ pub use laws::{
 };
 pub use plan::make_plan;
 pub use proposals::{open_id, propose, propose_read};
+pub use questions::{Question, ask, ask_read};

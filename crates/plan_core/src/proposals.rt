@@ -37,7 +37,7 @@ pub fn open_id(alloc: Global, device: &Device, id: &Label) -> Result<(), Refusal
 }
 
 /// Whether the document is new to the device: no deployment of its id is closed, and it is no older than its group.
-fn open(alloc: Global, device: &Device, document: &Document) -> Result<(), Refusal>
+pub(crate) fn open(alloc: Global, device: &Device, document: &Document) -> Result<(), Refusal>
     ensures { Opens (device_view device.now) document.now result }
 {
     open_id(alloc, device, &document.id)?;

@@ -1,5 +1,5 @@
 -- What a call prints: the lines of its records, and those before and behind them.
-use Rattle.std.specs.Prelude.{ℕ, List, [], ◌∷◌, ◌++◌, length, Option, Some, None}
+use Rattle.std.specs.Prelude.{ℕ, List, [], ◌∷◌, ◌++◌, length, Option, Some, None, codes}
 use Rattle.std.specs.Io.KnownBytes.{Appends}
 use Rattle.std.specs.Option.{IsSome}
 use Rattle.std.proofs.Common.{◌≡◌, ◌≢◌, ◌≤◌, ◌∙◌, inl, refl, sym, ap, subst, append_assoc, arith}
@@ -43,6 +43,11 @@ says_none a b status same =
 -- the same line
 pub says_as : (a b : Option (List ℕ)) (status : Status) (x y : List ℕ) → x ≡ y → SaysLine a b status x → SaysLine a b status y
 says_as a b status x y same says = subst (λ (l : List ℕ). SaysLine a b status l) same says
+
+-- the pieces of a reason, and the end of the line
+pub reason_joined : (word space field reason : List ℕ) → word ++ space ++ field ≡ reason → word ++ (space ++ (field ++ codes "\n")) ≡ reason ++ codes "\n"
+reason_joined word space field reason is =
+    sym (append_assoc word space (field ++ codes "\n")) ∙ sym (append_assoc (word ++ space) field (codes "\n")) ∙ ap (λ (l : List ℕ). l ++ codes "\n") is
 
 -- that of a file with another digest
 pub mismatch_says : {x y : List ℕ} (d : Declined) (a b : Option (List ℕ)) (status : Status) → SaysRefusal a b status statuses.Artifact (mismatch_line x y) →

@@ -22,7 +22,8 @@ use Rattle.session_admission.specs.Accepts.{IsOpen}
 use Rattle.session_rollout.specs.Driven.{generation_left}
 use Rattle.session_rollout.specs.declared.driven.Presence.{Presence}
 use Rattle.session_rollout.specs.declared.driven.Presence.TheVariants as presences
-use Rattle.session.specs.Parts.{IsBack, IsGeneration, IsOver, OwnsRan, TakesLast, TakesNone, came_of, standing_of, status_of_ran}
+use Rattle.session.specs.Calls.{IsOrEdge}
+use Rattle.session.specs.Parts.{EndsCall, EndsRan, IsBack, IsGeneration, IsOver, OwnsRan, TakesLast, TakesNone, came_of, standing_of, status_of_ran}
 use Rattle.session.specs.declared.ran.Ran.{Ran}
 use Rattle.session.specs.declared.ran.Ran.TheVariants as ran
 use Rattle.session.specs.declared.ran.Standing.{Standing}
@@ -67,6 +68,22 @@ module _ {J : Type 0} (status : Status) (r : Ran J) (is : r ≡ ran.Over status)
   pub over_held : {D : Type 0} (is_modelled : Bool) (may_leave : D → Image → Type 0) (stands : J → Image → List (List ℕ) → Type 0) (end : J → ℕ) (disk : D)
       → OwnsRan is_modelled may_leave stands end r disk
   over_held is_modelled may_leave stands end disk = subst (λ (x : Ran J). OwnsRan is_modelled may_leave stands end x disk) (sym is) tt
+
+-- with which status it ends the call
+ends_by : {J : Type 0} (idle : Idle J) (status : Status) (standing : Standing) (b : Bool) → gives_up status ≡ b →
+    EndsRan (if b then ran.Over status else ran.Back idle status standing)
+ends_by idle status standing true gives = inl gives
+ends_by idle status standing false gives = tt
+
+pub came_ends : {J : Type 0} (idle : Idle J) (status : Status) (standing : Standing) (r : Ran J) → r ≡ came_of idle status standing → EndsRan r
+came_ends idle status standing r is = subst EndsRan (sym is) (ends_by idle status standing (gives_up status) refl)
+
+pub over_ends : {J : Type 0} (status : Status) (r : Ran J) → r ≡ ran.Over status → EndsCall status → EndsRan r
+over_ends status r is ends = subst EndsRan (sym is) ends
+
+pub edge_ends : (status given : Status) → IsOrEdge status given → EndsCall given → EndsCall status
+edge_ends status given (inl is) ends = subst EndsCall (sym is) ends
+edge_ends status given (inr is) ends = inl (ap gives_up is)
 
 -- it comes back only from a deployment that was driven
 pub back_driven : {A J E : Type 0} (X : Type 0) (driven : Result A E) (r : Ran J) → IfOk driven (λ x. X) → OnErr driven (IsOver r) → IsBack r → X

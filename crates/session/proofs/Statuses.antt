@@ -21,7 +21,9 @@ use Rattle.artifact_store.specs.declared.fault.StageFault.{StageFault}
 use Rattle.artifact_store.specs.declared.fault.StageFault.TheVariants as stage
 use Rattle.admission.specs.Takes.{HasDiskFailed, HasLibraryFailed}
 use Rattle.admission.specs.declared.fault.Declined.{Declined}
-use Rattle.admission.specs.declared.fault.Declined.TheVariants.{Refused, Unstaged}
+use Rattle.admission.specs.declared.fault.Declined.TheVariants.{Refused, Unstaged, Unasked}
+use Rattle.admission.specs.declared.unasked.Unasked.{Unasked as Reason}
+use Rattle.admission.specs.declared.unasked.Unasked.TheVariants as unasked
 use Rattle.session.specs.Calls.{IsOrEdge}
 use Rattle.session.specs.Declines.{status_of_declined}
 
@@ -172,16 +174,6 @@ unread_library f is = true≢false (sym (of_document f) ∙ ap is_bad is)
 
 -- ---- of a document that is not taken
 
--- no other has one that no refusal has, but those of the disk and of a file
-pub no_declined : (d : Declined) (s : Status) → may_refuse s ≡ false → s ≢ statuses.Disk → s ≢ statuses.Artifact → status_of_declined d ≡ s → ⊥
-no_declined (Refused r) s never disk artifact is = no_refusal r s never is
-no_declined (Unstaged stage.Disk) s never disk artifact is = disk (sym is)
-no_declined (Unstaged stage.Library) s never disk artifact is = true≢false (ap may_refuse is ∙ never)
-no_declined (Unstaged (stage.Missing file)) s never disk artifact is = artifact (sym is)
-no_declined (Unstaged (stage.TooLarge file bytes)) s never disk artifact is = true≢false (ap may_refuse is ∙ never)
-no_declined (Unstaged (stage.Mismatch file digest)) s never disk artifact is = artifact (sym is)
-no_declined (Unstaged stage.NoMemory) s never disk artifact is = true≢false (ap may_refuse is ∙ never)
-
 -- none asks for a restart
 refuses_no_restart : (s : Status) → may_refuse s ≡ true → is_restart s ≡ false
 refuses_no_restart statuses.Restart is = absurd cc
@@ -196,6 +188,12 @@ declined_no_restart (Unstaged (stage.Missing file)) = refl
 declined_no_restart (Unstaged (stage.TooLarge file bytes)) = refl
 declined_no_restart (Unstaged (stage.Mismatch file digest)) = refl
 declined_no_restart (Unstaged stage.NoMemory) = refl
+declined_no_restart (Unasked (unasked.Local fault)) = refl
+declined_no_restart (Unasked (unasked.NotLocal name)) = refl
+declined_no_restart (Unasked (unasked.TooManyLocal count)) = refl
+declined_no_restart (Unasked (unasked.Unlisted name)) = refl
+declined_no_restart (Unasked (unasked.NoComponent name)) = refl
+declined_no_restart (Unasked (unasked.NotListed name)) = refl
 
 pub no_restart : (status given : Status) → IsOrEdge status given → is_restart given ≡ false → is_restart status ≡ false
 no_restart status given (inl same) other = ap is_restart same ∙ other
@@ -220,10 +218,17 @@ declined_disk (Unstaged (stage.Missing file)) is = absurd cc
 declined_disk (Unstaged (stage.TooLarge file bytes)) is = absurd cc
 declined_disk (Unstaged (stage.Mismatch file digest)) is = absurd cc
 declined_disk (Unstaged stage.NoMemory) is = absurd cc
+declined_disk (Unasked (unasked.Local fault)) is = absurd cc
+declined_disk (Unasked (unasked.NotLocal name)) is = absurd cc
+declined_disk (Unasked (unasked.TooManyLocal count)) is = absurd cc
+declined_disk (Unasked (unasked.Unlisted name)) is = absurd cc
+declined_disk (Unasked (unasked.NoComponent name)) is = absurd cc
+declined_disk (Unasked (unasked.NotListed name)) is = absurd cc
 
 pub disk_declined : (d : Declined) → HasDiskFailed (Err d) → status_of_declined d ≡ statuses.Disk
 disk_declined (Refused r) failed = absurd failed
 disk_declined (Unstaged f) failed = ap (λ (x : StageFault). status_of_declined (Unstaged x)) failed
+disk_declined (Unasked u) failed = absurd failed
 
 pub declined_library : (d : Declined) → status_of_declined d ≡ statuses.Library → HasLibraryFailed (Err d)
 declined_library (Refused r) is = only_library r is
@@ -233,10 +238,17 @@ declined_library (Unstaged (stage.Missing file)) is = absurd cc
 declined_library (Unstaged (stage.TooLarge file bytes)) is = absurd cc
 declined_library (Unstaged (stage.Mismatch file digest)) is = absurd cc
 declined_library (Unstaged stage.NoMemory) is = absurd cc
+declined_library (Unasked (unasked.Local fault)) is = absurd cc
+declined_library (Unasked (unasked.NotLocal name)) is = absurd cc
+declined_library (Unasked (unasked.TooManyLocal count)) is = absurd cc
+declined_library (Unasked (unasked.Unlisted name)) is = absurd cc
+declined_library (Unasked (unasked.NoComponent name)) is = absurd cc
+declined_library (Unasked (unasked.NotListed name)) is = absurd cc
 
 pub library_declined : (d : Declined) → HasLibraryFailed (Err d) → status_of_declined d ≡ statuses.Library
 library_declined (Refused r) failed = ap (λ (x : Refusal). status_of_refusal x) failed
 library_declined (Unstaged f) failed = ap (λ (x : StageFault). status_of_declined (Unstaged x)) failed
+library_declined (Unasked u) failed = absurd failed
 
 -- ---- of the line that says so, or want of memory, or a fault of the sink
 
@@ -279,3 +291,24 @@ pub told_no_restart : (status given : Status) → Told status given → is_resta
 told_no_restart status given (inl is) other = ap is_restart is ∙ other
 told_no_restart status given (inr (inl is)) other = ap is_restart is
 told_no_restart status given (inr (inr is)) other = ap is_restart is
+
+-- a request at the device that comes to no document is no fault from outside
+pub unasked_inside : (d : Declined) (u : Reason) → d ≡ Unasked u → (status_of_declined d ≡ statuses.Disk) ⊎ (status_of_declined d ≡ statuses.Library) → ⊥
+unasked_inside d u same (inl disk) = by u (sym (ap status_of_declined same) ∙ disk)
+  where
+    by : (u : Reason) → status_of_declined (Unasked u) ≡ statuses.Disk → ⊥
+    by (unasked.Local fault) is = cc
+    by (unasked.NotLocal name) is = cc
+    by (unasked.TooManyLocal count) is = cc
+    by (unasked.Unlisted name) is = cc
+    by (unasked.NoComponent name) is = cc
+    by (unasked.NotListed name) is = cc
+unasked_inside d u same (inr library) = by u (sym (ap status_of_declined same) ∙ library)
+  where
+    by : (u : Reason) → status_of_declined (Unasked u) ≡ statuses.Library → ⊥
+    by (unasked.Local fault) is = cc
+    by (unasked.NotLocal name) is = cc
+    by (unasked.TooManyLocal count) is = cc
+    by (unasked.Unlisted name) is = cc
+    by (unasked.NoComponent name) is = cc
+    by (unasked.NotListed name) is = cc

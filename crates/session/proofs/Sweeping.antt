@@ -19,7 +19,7 @@ use Rattle.session_boots.specs.declared.ends.SessionFault.{SessionFault}
 use Rattle.session_boots.specs.declared.ends.SessionFault.TheVariants as over
 use Rattle.admission.specs.Takes.{IsRefused, LieElsewhere}
 use Rattle.admission.specs.declared.fault.Declined.{Declined}
-use Rattle.admission.specs.declared.fault.Declined.TheVariants.{Refused, Unstaged}
+use Rattle.admission.specs.declared.fault.Declined.TheVariants.{Refused, Unstaged, Unasked}
 use Rattle.admission.proofs.Staying.{hand_stays}
 use Rattle.session_rollout.specs.Driven.{OwnsDriven, driven_device}
 use Rattle.session_rollout.specs.declared.driven.Driven.{Driven}
@@ -86,6 +86,8 @@ module _ {D J : Type 0} {is_modelled : Bool} {seen : D → Image} {may_leave : D
   declined_sweeps old new d (Refused r) status answers same each clean told o is e there =
       none_closes new d status each (λ now. subst (λ (z : D). IsSwept (items_of d) (seen z)) (sym (same tt)) (clean now)) told o is e there
   declined_sweeps old new d (Unstaged f) status answers same each clean told o is e there = absurd (no_unstaged f o status answers is)
+  declined_sweeps old new d (Unasked u) status answers same each clean told o is e there =
+      none_closes new d status each (λ now. subst (λ (z : D). IsSwept (items_of d) (seen z)) (sym (same tt)) (clean now)) told o is e there
 
   driven_in : (x : Driven J) (disk : D) → OwnsDriven is_modelled may_leave stands end x disk → (log : J) ×
       OwnsJournal is_modelled may_leave stands end log disk (driven_device x)

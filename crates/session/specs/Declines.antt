@@ -7,9 +7,10 @@ use Rattle.nuc_base.specs.declared.status.Status.TheVariants as statuses
 use Rattle.disk_model.specs.Listing.{artifacts}
 use Rattle.artifact_store.specs.declared.fault.StageFault.TheVariants as stage
 use Rattle.admission.specs.declared.fault.Declined.{Declined}
-use Rattle.admission.specs.declared.fault.Declined.TheVariants.{Refused, Unstaged}
+use Rattle.admission.specs.declared.fault.Declined.TheVariants.{Refused, Unstaged, Unasked}
 use Rattle.refusal_lines.specs.Lines.{refusal_line}
 use Rattle.refusal_lines.specs.Statuses.{status_of_refusal}
+use Rattle.session.specs.Unasked.{line_of_unasked, status_of_unasked}
 
 abbrev pub status_of_declined : Declined → Status
 status_of_declined (Refused r) = status_of_refusal r
@@ -19,6 +20,7 @@ status_of_declined (Unstaged (stage.Missing file)) = statuses.Artifact
 status_of_declined (Unstaged (stage.TooLarge file bytes)) = statuses.Limit
 status_of_declined (Unstaged (stage.Mismatch file digest)) = statuses.Artifact
 status_of_declined (Unstaged stage.NoMemory) = statuses.Memory
+status_of_declined (Unasked u) = status_of_unasked u
 
 -- ---- lines
 
@@ -55,3 +57,4 @@ line_of_declined (Unstaged (stage.Missing file)) = missing_line file
 line_of_declined (Unstaged (stage.TooLarge file bytes)) = large_line file bytes
 line_of_declined (Unstaged (stage.Mismatch file digest)) = mismatch_line file digest
 line_of_declined (Unstaged stage.NoMemory) = []
+line_of_declined (Unasked u) = line_of_unasked u

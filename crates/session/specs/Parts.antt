@@ -98,6 +98,15 @@ abbrev pub IsOver : {J : Type 0} → Ran J → Type 0
 IsOver (ran.Back s status standing) = ⊥
 IsOver (ran.Over status) = ⊤
 
+-- the call gives up by the status, or it ends for a restart or a reboot
+abbrev pub EndsCall : Status → Type 0
+EndsCall status = (gives_up status ≡ true) ⊎ (is_restart status ≡ true)
+
+-- it ends the call with such a status alone
+abbrev pub EndsRan : {J : Type 0} → Ran J → Type 0
+EndsRan (ran.Back s status standing) = ⊤
+EndsRan (ran.Over status) = EndsCall status
+
 module _ {J D : Type 0} (is_modelled : Bool) (may_leave : D → Image → Type 0) (stands : J → Image → List (List ℕ) → Type 0) (end : J → ℕ) where
   -- the state that is given back owns its journal
   abbrev pub OwnsRan : Ran J → D → Type 0

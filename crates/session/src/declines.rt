@@ -9,6 +9,7 @@ ghost use Rattle.session.specs.Declines.{file_text, large_line, line_of_declined
 ghost use Rattle.session.specs.Endings.{full_line};
 
 use crate::lines::{say, say_disk};
+use crate::unasked::say_unasked;
 use admission::Declined;
 use artifact_store::StageFault;
 use edges::Sink;
@@ -131,6 +132,7 @@ pub(crate) fn say_declined<K: Sink>(alloc: Global, declined: &Declined, sink: &m
             say_differs(alloc, file, digest, sink)
         }
         Declined::Unstaged(StageFault::NoMemory) => Status::Memory,
+        Declined::Unasked(unasked) => say_unasked(unasked, sink),
     }
 }
 

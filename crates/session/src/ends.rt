@@ -16,7 +16,7 @@ ghost use Rattle.session_boots.specs.Lines.{id_of};
 ghost use Rattle.session_boots.specs.Traces.{Acts};
 ghost use Rattle.session_rollout.specs.Driven.{DrivenLeft, OwnsDriven, driven_device};
 ghost use Rattle.admission.specs.Takes.{LieElsewhere};
-ghost use Rattle.session.specs.Parts.{IsOver, IsUnbegun, OwnsRan, RanLeft, status_of_ran};
+ghost use Rattle.session.specs.Parts.{EndsRan, IsOver, IsUnbegun, OwnsRan, RanLeft, status_of_ran};
 ghost use Rattle.session.specs.Calls.{AnswersFor, EndsFor, IsOrEdge, SaysEnding, SaysLine, ChangesArtifactsAlone};
 ghost use Rattle.session.specs.Endings.{Fails};
 ghost use Rattle.refusal_lines.specs.Statuses.{status_of_outcome};
@@ -70,6 +70,7 @@ fn end_driven<D: Disk, J: Journal + Drop, K: Sink, R: Runner, S: Supervise>(
         (k : List TraceEvent) × Acts p k (R.list runner.old) (R.list runner.new) × IsUnbegun p k ×
         ((rose : Bool) → AsTold R.Runner runner.new (RanLeft before result rose (state_after p k) (S.world supervisor.now))) }
     ensures none { IsOver result → R.living runner.new ≡ [] }
+    ensures ends_call { EndsRan result }
     ensures held { Holds D.Disk J.Journal OwnsRan result disk.new }
     ensures spared { ChangesArtifactsAlone D.may_leave D.moment D.left_since disk.old disk.new }
     // The device has its artifacts at each moment.
@@ -125,6 +126,7 @@ pub(crate) fn end_call<D: Disk, J: Journal + Drop, K: Sink, R: Runner, S: Superv
     ensures over { OnErr driven (IsOver result) }
     ensures still { OnErr driven (R.list runner.new ≡ R.list runner.old) }
     ensures none { IsOver result → R.living runner.new ≡ [] }
+    ensures ends_call { EndsRan result }
     ensures held { Holds D.Disk J.Journal OwnsRan result disk.new }
     ensures spared { ChangesArtifactsAlone D.may_leave D.moment D.left_since disk.old disk.new }
     // The device has its artifacts at each moment.

@@ -14,7 +14,7 @@ use gate_log::Journal;
 use nuc_base::Status;
 
 /// Prints the line in these pieces, and answers the status: 6 where it could not be written.
-pub(crate) fn say<K: Sink>(sink: &mut K, pieces: &[&str], status: Status) -> Status
+pub fn say<K: Sink>(sink: &mut K, pieces: &[&str], status: Status) -> Status
     requires other { status ≢ statuses.Edge }
     ensures says { SaysLine (K.held sink.old) (K.held sink.new) result (joined pieces.now) }
     ensures answers { IsOrEdge result status }

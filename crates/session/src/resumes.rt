@@ -13,7 +13,7 @@ ghost use Rattle.histories.specs.States.{SessionState};
 ghost use Rattle.session_admission.specs.Readied.{AreReadiedFor};
 ghost use Rattle.admission.specs.Takes.{LieElsewhere};
 ghost use Rattle.session.specs.Calls.{Elsewhere, IsOrEdge, SaysLine, Stays, resumed_line};
-ghost use Rattle.session.specs.Parts.{HasArtifacts, IsBack, IsOver, OwnsRan, RunsPart, TakesNone, status_of_ran};
+ghost use Rattle.session.specs.Parts.{EndsRan, HasArtifacts, IsBack, IsOver, OwnsRan, RunsPart, TakesNone, status_of_ran};
 ghost use Rattle.law_supervisor.specs.Sound.{IsOrderly};
 ghost use Rattle.law_termination.specs.Drives.{Drives};
 ghost use Rattle.step_runner.specs.Entries.{Listed};
@@ -100,6 +100,7 @@ where
     ensures own { status_of_ran result ≢ statuses.Library }
     // Where it comes back the components are as the deployment left them, and else no child lives.
     ensures none { IsOver result → R.living runner.new ≡ [] }
+    ensures ends_call { EndsRan result }
     ensures drives { IsBack result → Drives (S.world supervisor.new) }
     ensures held { Holds D.Disk J.Journal OwnsRan result disk.new }
     ensures others { IsTrue D.is_modelled → Elsewhere J.files (D.seen disk.old) (D.seen disk.new) }
@@ -157,6 +158,7 @@ where
     ensures own { status_of_ran result ≢ statuses.Library }
     // Where it comes back the components are as the deployment left them, and else no child lives.
     ensures none { IsOver result → R.living runner.new ≡ [] }
+    ensures ends_call { EndsRan result }
     ensures drives { IsBack result → Drives (S.world supervisor.new) }
     ensures held { Holds D.Disk J.Journal OwnsRan result disk.new }
     ensures others { IsTrue D.is_modelled → Elsewhere J.files (D.seen disk.old) (D.seen disk.new) }
@@ -212,6 +214,7 @@ where
     ensures own { status_of_ran result ≢ statuses.Library }
     // Where it comes back the components are as the deployment left them, and else no child lives.
     ensures none { IsOver result → R.living runner.new ≡ [] }
+    ensures ends_call { EndsRan result }
     ensures drives { IsBack result → Drives (S.world supervisor.new) }
     ensures held { Holds D.Disk J.Journal OwnsRan result disk.new }
     ensures others { IsTrue D.is_modelled → Elsewhere J.files (D.seen disk.old) (D.seen disk.new) }

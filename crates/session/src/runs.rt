@@ -22,7 +22,7 @@ ghost use Rattle.admission.specs.Takes.{HasDiskFailed, HasLibraryFailed, LieElse
 ghost use Rattle.admission.specs.declared.fault.Declined.{Declined};
 ghost use Rattle.session.specs.Calls.{AllHoldBoth, Elsewhere, IsReadiedOn, Stays};
 ghost use Rattle.session.specs.Documents.{TakesRead};
-ghost use Rattle.session.specs.Parts.{HasArtifacts, IsBack, IsOver, OwnsRan, RunsPlan, RunsTaken, TakesLast, status_of_ran};
+ghost use Rattle.session.specs.Parts.{EndsRan, HasArtifacts, IsBack, IsOver, OwnsRan, RunsPlan, RunsTaken, TakesLast, status_of_ran};
 ghost use Rattle.session_transitions.specs.Enters.{RunOn};
 ghost use Rattle.law_supervisor.specs.Sound.{IsOrderly};
 ghost use Rattle.law_termination.specs.Drives.{Drives};
@@ -115,6 +115,7 @@ where
     ensures own { status_of_ran result ≢ statuses.Library }
     // Where it comes back the components are as the deployment left them, and else no child lives.
     ensures none { IsOver result → R.living runner.new ≡ [] }
+    ensures ends_call { EndsRan result }
     ensures drives { IsBack result → Drives (S.world supervisor.new) }
     ensures held { Holds D.Disk J.Journal OwnsRan result disk.new }
     ensures others { IsTrue D.is_modelled → Elsewhere J.files (D.seen disk.old) (D.seen disk.new) }
@@ -193,6 +194,7 @@ where
         × (HasLibraryFailed taken → Rose (L.faults library.old) (L.faults library.new)) }
     // Where it comes back the components are as the deployment left them, and else no child lives.
     ensures none { IsOver result → R.living runner.new ≡ [] }
+    ensures ends_call { EndsRan result }
     ensures drives { IsBack result → Drives (S.world supervisor.new) }
     ensures held { Holds D.Disk J.Journal OwnsRan result disk.new }
     ensures others { IsTrue D.is_modelled → Elsewhere J.files (D.seen disk.old) (D.seen disk.new) }
@@ -265,6 +267,7 @@ where
         × (HasLibraryFailed taken → Rose (L.faults library.old) (L.faults library.new)) }
     // Where it comes back the components are as the deployment left them, and else no child lives.
     ensures none { IsOver result → R.living runner.new ≡ [] }
+    ensures ends_call { EndsRan result }
     ensures drives { IsBack result → Drives (S.world supervisor.new) }
     ensures held { Holds D.Disk J.Journal OwnsRan result disk.new }
     ensures others { IsTrue D.is_modelled → Elsewhere J.files (D.seen disk.old) (D.seen disk.new) }

@@ -180,5 +180,4 @@ module _ (anchor : SessionState) where
         same = w.same;
         answer = w.answer;
         keeps = w.keeps;
-        probed = r.probed;
       }

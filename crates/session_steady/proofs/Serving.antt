@@ -50,7 +50,6 @@ start_of p d world told living v =
       same = same_self p;
       answer = refl;
       keeps = v.orderly;
-      probed = v.probed;
     }
 
 pub idle_of : (p : SessionState) (d : Device) (world : Components) (told : Told) (living : List ℕ) → IsServing p d world told living →
@@ -116,7 +115,6 @@ module _ (p : SessionState) (d : Device) (v : Components) (before : Told) (lived
           steady = steady_of p q s.steady w.on w.same;
           done = done_of p.answer q.answer w.answer s.done;
           orderly = w.keeps;
-          probed = r.probed;
         },
         w.same,
         w.answer,
@@ -146,5 +144,4 @@ asking_serves p d world told living a = record {
   steady = a.steady;
   done = a.done;
   orderly = a.turn.within.keeps;
-  probed = a.turn.probed;
 }

@@ -110,7 +110,6 @@ elapsed p d world old new living next limit now s moment is notes same =
           };
           done = tt;
           orderly = w.keeps;
-          probed = refl;
         };
         same = record { device = refl; generation = refl; serves = refl; opened = refl; turns = refl; taken = refl };
         answer = refl;
@@ -170,7 +169,6 @@ ends laws p d world old new living next n x limit now s moment is notes lives sa
           };
           done = tt;
           orderly = laws.keeps_ended n x p.world w.keeps;
-          probed = refl;
         };
         same = record { device = refl; generation = refl; serves = refl; opened = refl; turns = refl; taken = refl };
         answer = refl;

@@ -39,7 +39,6 @@ pub record IsAtTurnStart (x p : SessionState) (world : Components) (told : Told)
   pub same : IsSame x p
   pub answer : p.answer ≡ x.answer
   pub keeps : IsOrderly p.world
-  pub probed : p.probed ≡ false
 
 -- Within a turn: the moment of the components is the runner's, and it was asked for where one is due.
 pub record IsWithin (x p : SessionState) (told : Told) (living : List ℕ) : Type 0 where

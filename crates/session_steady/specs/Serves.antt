@@ -28,7 +28,6 @@ pub record IsServing (p : SessionState) (d : Device) (world : Components) (told 
   pub steady : IsSteady p
   pub done : IfSome p.answer (λ a. is_document a ≡ true)
   pub orderly : IsOrderly p.world
-  pub probed : p.probed ≡ false
 
 -- so it is, the moment was told and no act is left: the inbox may be asked
 pub record IsAsking (p : SessionState) (d : Device) (world : Components) (told : Told) (living : List ℕ) : Type 0 where

@@ -59,7 +59,20 @@ pub(crate) fn answer<D: Disk>(
     library: &mut MemoryLibrary,
     source: &mut MemorySource,
 ) -> Result<String, Fail> {
-    let mut sink = MemorySink::new(alloc, List::empty(alloc));
+    answer_to(alloc, words, disk, library, source, &[])
+}
+
+/// The same to a sink that fails these calls.
+pub(crate) fn answer_to<D: Disk>(
+    alloc: Global,
+    words: &str,
+    disk: &mut D,
+    library: &mut MemoryLibrary,
+    source: &mut MemorySource,
+    failing: &[u64],
+) -> Result<String, Fail> {
+    let failing = List::new(Vec::from_slice(alloc, failing)?);
+    let mut sink = MemorySink::new(alloc, failing);
     let text = match call(alloc, words, disk, library, source, &mut sink) {
         Ok(status) => told(alloc, status, sink.bytes()),
         Err(fault) => Err(fault),

@@ -1,4 +1,4 @@
-//! Whole stores against the top call: what is made, shown, planned and refused, and what a stop at each call leaves.
+//! Whole stores against the top call: what is made, shown, planned, explained and refused, and what a stop at each call leaves.
 //!
 //! It promises nothing of its own: it holds tests. It stands on the top call and on the disks, libraries, sources and
 //! sinks in memory.
@@ -9,6 +9,16 @@ mod audits;
 #[cfg(test)]
 mod calls;
 #[cfg(test)]
+mod certificates;
+#[cfg(test)]
+mod limits;
+#[cfg(test)]
 mod plans;
 #[cfg(test)]
+mod settings;
+#[cfg(test)]
 mod stores;
+#[cfg(test)]
+mod whys;
+#[cfg(test)]
+mod workloads;

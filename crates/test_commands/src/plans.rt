@@ -10,9 +10,11 @@ use test_support::journal_of;
 
 const PLAN: &str = "nucleus --root /gg plan";
 
+const WHY: &str = "nucleus --root /gg why";
+
 /// Records by names for the table below, each as the bytes that a journal holds of it: a start; a deployment `r5` of
 /// nothing to the group `g`, with revision 5; one to the group `ga`, which wants `X` from 1.0.0 on and before 2.0.0 and
-/// has it in 1.2.9; one `d5` to the group `g` whose bootstrap of `A` failed; and how a deployment goes on and ends.
+/// has it in 1.2.9; one to the group `gc`, which has `C` in 1.0.0 with a configuration; one `d5` to the group `g` whose bootstrap of `A` failed; and how a deployment goes on and ends.
 const RECORDS: &[(&str, &[u8])] = &[
     (
         "genesis",
@@ -32,6 +34,11 @@ const RECORDS: &[(&str, &[u8])] = &[
         b"\x12\0\0\0\x02d5\0\0\0\x01g\0\0\0\0\x01\0\0\0\x01A\0\0\0\x02^1\0\0\0\x01\0\0\0\x01A\0\0\0\x051.2.0\0\0\0\x81{\"RecipeFormatVersion\":\"2020-01-25\"\
         ,\"ComponentName\":\"A\",\"ComponentVersion\":\"1.2.0\",\"Manifests\":[{\"Lifecycle\":{\"bootstrap\":\"b\"}}]}\0\0\0\x02{}\0\0\0\0\0\0\0\x01\0\0\0\
         \x01A",
+    ),
+    (
+        "gc",
+        b"\x12\0\0\0\x02d0\0\0\0\x02gc\0\0\0\0\x01\0\0\0\x01C\0\0\0\x0e>=1.0.0 <2.0.0\0\0\0\x01\0\0\0\x01C\0\0\0\x051.0.0\0\0\0S{\"RecipeFormatVersion\":\"20\
+        20-01-25\",\"ComponentName\":\"C\",\"ComponentVersion\":\"1.0.0\"}\0\0\0#{\"Message\":\"world\",\"a/b\":{\"~\":[1]}}\0\0\0\0\0\0\0\0",
     ),
     ("begin", b"\x13\0\0\0\x01A"),
     ("fail", b"\x14\0\0\0\x01A\x01"),
@@ -121,17 +128,25 @@ struct Given<'a> {
     failing: &'a [u64],
 }
 
-/// A library of the recipes of the text.
-fn library_of(alloc: Global, given: Given<'_>) -> Result<MemoryLibrary, Fail> {
-    let failing = List::new(Vec::from_slice(alloc, given.failing)?);
-    let recipes = recipes_of(alloc, given.text)?;
+/// A library of the recipes of the text, which fails these calls.
+pub(crate) fn library_of(
+    alloc: Global,
+    recipes: &str,
+    failing: &[u64],
+) -> Result<MemoryLibrary, Fail> {
+    let failing = List::new(Vec::from_slice(alloc, failing)?);
+    let recipes = recipes_of(alloc, recipes)?;
     Ok(MemoryLibrary::new(recipes, List::empty(alloc), failing))
 }
 
-/// A source of the document that is the text.
-fn source_of(alloc: Global, given: Given<'_>) -> Result<MemorySource, Fail> {
-    let bytes = Bytes::from_slice(alloc, given.text.as_bytes())?;
-    let failing = List::new(Vec::from_slice(alloc, given.failing)?);
+/// A source of the document that is the text, which fails these calls.
+pub(crate) fn source_of(
+    alloc: Global,
+    document: &str,
+    failing: &[u64],
+) -> Result<MemorySource, Fail> {
+    let bytes = Bytes::from_slice(alloc, document.as_bytes())?;
+    let failing = List::new(Vec::from_slice(alloc, failing)?);
     Ok(MemorySource::new(bytes, failing))
 }
 
@@ -142,7 +157,7 @@ fn hold(disk: &mut MemoryDisk, journal: &[u8]) -> Result<(), DiskFault> {
 }
 
 /// A disk whose journal is these bytes.
-fn holding(alloc: Global, journal: &[u8]) -> Result<MemoryDisk, Fail> {
+pub(crate) fn holding(alloc: Global, journal: &[u8]) -> Result<MemoryDisk, Fail> {
     let mut disk = MemoryDisk::new(alloc);
     match hold(&mut disk, journal) {
         Ok(()) => Ok(disk),
@@ -153,30 +168,32 @@ fn holding(alloc: Global, journal: &[u8]) -> Result<MemoryDisk, Fail> {
     }
 }
 
-/// Whether the plan answers and prints this, with `;` for each line feed, behind the status.
+/// Whether the words answer and print this, with `;` for each line feed, behind the status.
 fn prints(
     alloc: Global,
+    words: &str,
     disk: &mut MemoryDisk,
     library: &mut MemoryLibrary,
     source: &mut MemorySource,
     want: &str,
 ) -> Result<bool, Fail> {
-    let text = calls::answer(alloc, PLAN, disk, library, source)?;
+    let text = calls::answer(alloc, words, disk, library, source)?;
     let is_wanted = text.as_str() == want;
     drop(text);
     Ok(is_wanted)
 }
 
-/// Whether the plan over this journal answers and prints this, and leaves the journal.
-fn leaves(
+/// Whether the words over this journal answer and print this, and leave the journal.
+pub(crate) fn leaves(
     alloc: Global,
+    words: &str,
     journal: &[u8],
     library: &mut MemoryLibrary,
     source: &mut MemorySource,
     want: &str,
 ) -> Result<bool, Fail> {
     let mut disk = holding(alloc, journal)?;
-    let is_wanted = prints(alloc, &mut disk, library, source, want);
+    let is_wanted = prints(alloc, words, &mut disk, library, source, want);
     let is_kept = disk.file("journal") == journal;
     drop(disk);
     Ok(is_wanted? && is_kept)
@@ -185,13 +202,14 @@ fn leaves(
 /// The same of the journal of these records.
 fn answers_over(
     alloc: Global,
+    words: &str,
     history: &str,
     library: &mut MemoryLibrary,
     source: &mut MemorySource,
     want: &str,
 ) -> Result<bool, Fail> {
     let journal = journal_of(alloc, RECORDS, history)?;
-    let is_right = leaves(alloc, &journal, library, source, want);
+    let is_right = leaves(alloc, words, &journal, library, source, want);
     drop(journal);
     is_right
 }
@@ -199,13 +217,14 @@ fn answers_over(
 /// The same with this source.
 fn answers_from(
     alloc: Global,
+    words: &str,
     history: &str,
     library: &mut MemoryLibrary,
     document: Given<'_>,
     want: &str,
 ) -> Result<bool, Fail> {
-    let mut source = source_of(alloc, document)?;
-    let is_right = answers_over(alloc, history, library, &mut source, want);
+    let mut source = source_of(alloc, document.text, document.failing)?;
+    let is_right = answers_over(alloc, words, history, library, &mut source, want);
     drop(source);
     is_right
 }
@@ -213,13 +232,14 @@ fn answers_from(
 /// The same over this library.
 fn answers(
     alloc: Global,
+    words: &str,
     history: &str,
     recipes: Given<'_>,
     document: Given<'_>,
     want: &str,
 ) -> Result<bool, Fail> {
-    let mut library = library_of(alloc, recipes)?;
-    let is_right = answers_from(alloc, history, &mut library, document, want);
+    let mut library = library_of(alloc, recipes.text, recipes.failing)?;
+    let is_right = answers_from(alloc, words, history, &mut library, document, want);
     drop(library);
     is_right
 }
@@ -228,19 +248,21 @@ fn given_of(text: &str) -> Given<'_> {
     Given { text, failing: &[] }
 }
 
-fn is_row(alloc: Global, row: &str) -> Result<bool, Fail> {
+/// Whether the words over the journal, the recipes and the document of this row answer and print what stands there, and leave
+/// the journal.
+pub(crate) fn is_row(alloc: Global, words: &str, row: &str) -> Result<bool, Fail> {
     let mut fields = row.splitn(4, '|');
     let history = fields.next().unwrap_or("");
     let recipes = given_of(fields.next().unwrap_or(""));
     let document = given_of(fields.next().unwrap_or(""));
     let want = fields.next().unwrap_or("?");
-    answers(alloc, history, recipes, document, want)
+    answers(alloc, words, history, recipes, document, want)
 }
 
 /// The first line of which something else comes, or none.
 fn first_wrong(alloc: Global) -> Result<&'static str, Fail> {
     for row in ROWS.lines() {
-        if !is_row(alloc, row)? {
+        if !is_row(alloc, PLAN, row)? {
             return Ok(row);
         }
     }
@@ -255,48 +277,63 @@ fn plans_are_printed_or_refused(rt: HostRuntime) -> Result<(), Fail> {
 
 const DOCUMENT: &str = r#"{"deploymentId":"d1","targetArn":"g","components":{}}"#;
 
-/// Whether the plan over a new store prints this where this call of the library fails.
-fn answers_without_library(alloc: Global, failing: u64, want: &str) -> Result<bool, Fail> {
+/// Whether the words over a new store print this where this call of the library fails.
+fn answers_without_library(
+    alloc: Global,
+    words: &str,
+    failing: u64,
+    want: &str,
+) -> Result<bool, Fail> {
     let recipes = Given {
         text: "A 1.0.0",
         failing: &[failing],
     };
-    answers(alloc, "genesis", recipes, given_of(DOCUMENT), want)
+    answers(alloc, words, "genesis", recipes, given_of(DOCUMENT), want)
 }
 
 #[test]
 fn a_failing_library_is_status_7(rt: HostRuntime) -> Result<(), Fail> {
     let alloc = rt.alloc();
-    for failing in 0..2u64 {
-        assert!(rt;
-            answers_without_library(alloc, failing, "7|refused 7 library;")?,
-            "call {failing}"
-        );
+    for words in [PLAN, WHY] {
+        for failing in 0..2u64 {
+            assert!(rt;
+                answers_without_library(alloc, words, failing, "7|refused 7 library;")?,
+                "{words}: call {failing}"
+            );
+        }
     }
     Ok(())
 }
 
-/// Whether the plan over a new store prints this where this call of the source fails.
-fn answers_without_source(alloc: Global, failing: u64, want: &str) -> Result<bool, Fail> {
+/// Whether the words over a new store print this where this call of the source fails.
+fn answers_without_source(
+    alloc: Global,
+    words: &str,
+    failing: u64,
+    want: &str,
+) -> Result<bool, Fail> {
     let document = Given {
         text: DOCUMENT,
         failing: &[failing],
     };
-    answers(alloc, "genesis", given_of("A 1.0.0"), document, want)
+    answers(alloc, words, "genesis", given_of("A 1.0.0"), document, want)
 }
 
 #[test]
 fn a_failing_source_is_status_6(rt: HostRuntime) -> Result<(), Fail> {
     let alloc = rt.alloc();
     // The document is read, then its end, and no more.
-    for (failing, want) in [
-        (0, "6|fault 6 source;"),
-        (1, "6|fault 6 source;"),
-        (2, "0|"),
+    for (words, failing, want) in [
+        (PLAN, 0, "6|fault 6 source;"),
+        (PLAN, 1, "6|fault 6 source;"),
+        (PLAN, 2, "0|"),
+        (WHY, 0, "6|fault 6 source;"),
+        (WHY, 1, "6|fault 6 source;"),
+        (WHY, 2, "0|possible;"),
     ] {
         assert!(rt;
-            answers_without_source(alloc, failing, want)?,
-            "call {failing}"
+            answers_without_source(alloc, words, failing, want)?,
+            "{words}: call {failing}"
         );
     }
     Ok(())

@@ -16,6 +16,10 @@ const SHOW: &str = "nucleus --root /gg status";
 
 const SHOW_JSON: &str = "nucleus --root /gg status --json";
 
+const WHY: &str = "nucleus --root /gg why";
+
+const GET: &str = "nucleus --root /gg config-get --component C";
+
 /// The journal of a new store: one entry of 42 bytes, and a closed gate.
 const NEW: &[u8] =
     b"\x01\0\0\0\x2a\x11\0\0\0\x03/gg\0\0\0\x02t1\0\0\0\x062.12.0\0\0\0\x05linux\0\0\0\x05amd64\0";
@@ -394,13 +398,19 @@ fn a_failing_disk_is_status_5(rt: HostRuntime) -> Result<(), Fail> {
     // Each slot is synced and looked at, and the entry is read.
     assert!(rt; are_disk_faults(alloc, SHOW, NEW, 6, Status::Done)?);
     assert!(rt; are_disk_faults(alloc, INIT, NEW, 6, Status::Initialised)?);
+    assert!(rt; are_disk_faults(alloc, WHY, NEW, 6, Status::BadInput)?);
+    assert!(rt; are_disk_faults(alloc, GET, NEW, 6, Status::Absent)?);
     // Behind these a journal is made and one entry is added, with two syncs each at least.
     assert!(rt; are_disk_faults(alloc, INIT, b"", 8, Status::Done)?);
     Ok(())
 }
 
-/// Words that ask nothing: an unknown command, and none for a folder.
-const NOTHING: [&str; 2] = ["nucleus --root /gg deploys", "nucleus deploy"];
+/// Words that ask nothing: an unknown command, none for a folder, and an option that the command has not.
+const NOTHING: [&str; 3] = [
+    "nucleus --root /gg deploys",
+    "nucleus deploy",
+    "nucleus --root /gg why --json",
+];
 
 /// Whether the words over a new store answer and print this, and leave it.
 fn leaves_new(alloc: Global, words: &str, answer: (Status, &str)) -> Result<bool, Fail> {
@@ -423,13 +433,13 @@ fn other_words_are_usage(rt: HostRuntime) -> Result<(), Fail> {
 const SHOW_TURNED: &str = "nucleus status --json --root=/gg";
 
 /// A command that is not built yet.
-const WHY: &str = "nucleus --root /gg why";
+const SERVE: &str = "nucleus --root /gg serve --turns 1";
 
 #[test]
 fn words_have_no_order_and_what_is_not_built_is_refused(rt: HostRuntime) -> Result<(), Fail> {
     let alloc = rt.alloc();
     assert!(rt; leaves_new(alloc, SHOW_TURNED, (Status::Done, JSON))?);
-    assert!(rt; leaves_new(alloc, WHY, (Status::Usage, USAGE))?);
+    assert!(rt; leaves_new(alloc, SERVE, (Status::Usage, USAGE))?);
     Ok(())
 }
 

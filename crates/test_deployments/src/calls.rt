@@ -86,8 +86,11 @@ fn recipe_of(alloc: Global, component: &str) -> Result<String, AllocError> {
     }
 }
 
-/// The bytes of a recipe of these words.
+/// The bytes of a recipe of these words, or of one that is written out.
 fn recipe_bytes(alloc: Global, component: &str) -> Result<Bytes, Fail> {
+    if component.starts_with("{") {
+        return Ok(Bytes::from_slice(alloc, component.as_bytes())?);
+    }
     let recipe = recipe_of(alloc, component)?;
     let bytes = Bytes::from_slice(alloc, recipe.as_bytes());
     drop(recipe);
@@ -174,8 +177,11 @@ fn add_components(alloc: Global, document: &mut String, words: &str) -> Result<(
 }
 
 /// The document of these words: an id, with `@` and a revision behind it or without; a policy; and then a component and its
-/// range, any number of times.
+/// range, any number of times. One that begins with `{` or `[` is written out.
 fn document_of(alloc: Global, words: &str) -> Result<String, AllocError> {
+    if words.starts_with("{") || words.starts_with("[") {
+        return String::from_str(alloc, words);
+    }
     let mut front = words.split_whitespace();
     let named = front.next().unwrap_or("");
     let policy = front.next().unwrap_or("");

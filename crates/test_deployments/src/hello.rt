@@ -25,6 +25,14 @@ const FILE: &str = "packages/artifacts/com.example.HelloWorld/1.0.0/hello_world.
 const SCRIPT: &str =
     "python3 -u /gg/packages/artifacts/com.example.HelloWorld/1.0.0/hello_world.py \"world\"";
 
+const CHANGE: &str = r#"{"deploymentId":"c1","merge":{"Message":"you"}}"#;
+
+const OTHER_CHANGE: &str = r#"{"deploymentId":"c2"}"#;
+
+/// The script that the component has behind the first of these.
+const CHANGED_SCRIPT: &str =
+    "python3 -u /gg/packages/artifacts/com.example.HelloWorld/1.0.0/hello_world.py \"you\"";
+
 const STATUS: &str =
     "0|thing t1;nucleus 2.12.0;group arn:aws:iot:us-east-1:123456789012:thinggroup/g1;require com.example.HelloWorld 1.0.0;\
     component com.example.HelloWorld 1.0.0 {\"Message\":\"world\"};closed d1 SUCCESSFUL;";
@@ -76,11 +84,11 @@ fn deploy<D: Disk>(alloc: Global, disk: &mut D, runner: &mut ScriptedRunner) -> 
     text
 }
 
-/// Whether child 0 was started with the script of the recipe, in the component's folder.
-fn starts(entry: &RunnerEntry) -> bool {
+/// Whether child 0 was started with this script, in the component's folder.
+fn starts(entry: &RunnerEntry, script: &str) -> bool {
     match &entry.seen {
         Seen::Started(0, command) => {
-            command.script.as_str() == SCRIPT
+            command.script.as_str() == script
                 && command.env.is_empty()
                 && command.folder.as_str() == "/gg/work/com.example.HelloWorld"
         }
@@ -89,9 +97,9 @@ fn starts(entry: &RunnerEntry) -> bool {
 }
 
 /// Whether child 0 was started so, and then killed.
-fn starts_and_kills(runner: &ScriptedRunner) -> bool {
+fn starts_and_kills(runner: &ScriptedRunner, script: &str) -> bool {
     match runner.entries().as_slice() {
-        [first, last] => starts(first) && matches!(last.seen, Seen::Killed(0)),
+        [first, last] => starts(first, script) && matches!(last.seen, Seen::Killed(0)),
         _ => false,
     }
 }
@@ -108,7 +116,7 @@ fn hello_world_runs(
     let said = deploy(alloc, disk, runner)?;
     assert_eq!(rt; said.as_str(), "0|accepted d1;closed d1 SUCCESSFUL;");
     drop(said);
-    assert!(rt; starts_and_kills(runner));
+    assert!(rt; starts_and_kills(runner, SCRIPT));
     Ok(())
 }
 
@@ -157,6 +165,71 @@ fn hello_world_is_deployed(rt: HostRuntime) -> Result<(), Fail> {
     let gone = hello_world_comes_and_goes(&rt, rt.alloc(), &mut disk);
     drop(disk);
     gone
+}
+
+/// Reads the component's configuration, and a node that it has not.
+fn configuration_is_read(
+    rt: &impl Abort,
+    alloc: Global,
+    disk: &mut MemoryDisk,
+) -> Result<(), Fail> {
+    let get = "config-get --component com.example.HelloWorld --pointer /Message";
+    assert!(rt; prints(alloc, disk, get, "", (&[], &[]), "0|\"world\";")?);
+    let get = "config-get --component com.example.HelloWorld --pointer /x";
+    let refused = "19|refused 19 NoNode com.example.HelloWorld /x;";
+    assert!(rt; prints(alloc, disk, get, "", (&[], &[]), refused)?);
+    Ok(())
+}
+
+/// What the change prints with this runner, over a library that would fail its first call.
+fn change(alloc: Global, disk: &mut MemoryDisk, runner: &mut ScriptedRunner) -> Result<String, Fail>
+    requires none { living_of runner.old ≡ [] }
+{
+    let set = "config-set --component com.example.HelloWorld";
+    let mut library = library(alloc, &[0])?;
+    let text = answer(alloc, disk, &mut library, runner, set, CHANGE, &[]);
+    drop(library);
+    text
+}
+
+/// Changes the component's configuration, which its script has then.
+fn configuration_is_changed(
+    rt: &impl Abort,
+    alloc: Global,
+    disk: &mut MemoryDisk,
+) -> Result<(), Fail> {
+    let mut runner = runner_of(alloc, "")?;
+    let said = change(alloc, disk, &mut runner);
+    let is_started = starts_and_kills(&runner, CHANGED_SCRIPT);
+    drop(runner);
+    let said = said?;
+    assert_eq!(rt; said.as_str(), "0|accepted c1;closed c1 SUCCESSFUL;");
+    drop(said);
+    assert!(rt; is_started);
+    Ok(())
+}
+
+/// Deploys the component, and then reads and changes its configuration.
+fn hello_world_is_configured(
+    rt: &impl Abort,
+    alloc: Global,
+    disk: &mut MemoryDisk,
+) -> Result<(), Fail> {
+    hello_world_comes(rt, alloc, disk)?;
+    configuration_is_read(rt, alloc, disk)?;
+    configuration_is_changed(rt, alloc, disk)?;
+    let set = "config-set --component Y";
+    let refused = "19|refused 19 NoComponent Y;";
+    assert!(rt; prints(alloc, disk, set, OTHER_CHANGE, (&[0], &[]), refused)?);
+    Ok(())
+}
+
+#[test]
+fn a_configuration_is_read_and_changed(rt: HostRuntime) -> Result<(), Fail> {
+    let mut disk = begin(rt.alloc())?;
+    let configured = hello_world_is_configured(&rt, rt.alloc(), &mut disk);
+    drop(disk);
+    configured
 }
 
 /// Whether `resume` closes the deployment, or there is none.

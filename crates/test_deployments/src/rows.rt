@@ -47,6 +47,37 @@ deploy|r0 ROLLBACK||0|accepted r0;closed r0 SUCCESSFUL;
 status|||0|thing t1;nucleus 2.12.0;group g;revision 5;closed r5 SUCCESSFUL;closed r0 SUCCESSFUL;
 ";
 
+/// Such calls with requests made at the device. A recipe that begins with `{` is written out, and so is each request.
+const REQUEST_ROWS: &str =
+    r#"store|{"RecipeFormatVersion":"2020-01-25","ComponentName":"X","ComponentVersion":"1.0.0","ComponentConfiguration":{"DefaultConfiguration":{"p":0}},"Manifests":[{}]}
+local|{"deploymentId":"l1","merge":{"X":"^1.0.0"},"updateConfig":{"X":{"merge":{"p":1}}}}||0|accepted l1;closed l1 SUCCESSFUL;
+status|||0|thing t1;nucleus 2.12.0;group local;require X ^1.0.0;component X 1.0.0 {"p":1};closed l1 SUCCESSFUL;
+config-set --component X|{"deploymentId":"c1","merge":{"p":2,"q":[]}}||0|accepted c1;closed c1 SUCCESSFUL;
+status|||0|thing t1;nucleus 2.12.0;group local;require X ^1.0.0;component X 1.0.0 {"p":2,"q":[]};closed l1 SUCCESSFUL;closed c1 SUCCESSFUL;
+config-set --component X|{"deploymentId":"c2","reset":["/p"]}||0|accepted c2;closed c2 SUCCESSFUL;
+status|||0|thing t1;nucleus 2.12.0;group local;require X ^1.0.0;component X 1.0.0 {"p":0,"q":[]};closed l1 SUCCESSFUL;closed c1 SUCCESSFUL;closed c2 SUCCESSFUL;
+config-set --component Y|{"deploymentId":"c3"}||19|refused 19 NoComponent Y;
+config-set --component Y|{"deploymentId":"c1"}||0|closed c1 SUCCESSFUL;
+config-set --component X|{"merge":{}}||2|refused 2 document Missing deploymentId;
+config-set --component X|{"deploymentId":"c4","merge":[]}||2|refused 2 document BadMerge X;
+local|{"deploymentId":"l2","remove":["X"]}||0|accepted l2;closed l2 SUCCESSFUL;
+status|||0|thing t1;nucleus 2.12.0;group local;closed l1 SUCCESSFUL;closed c1 SUCCESSFUL;closed c2 SUCCESSFUL;closed l2 SUCCESSFUL;
+local|{"deploymentId":"l3","remove":["Y"]}||2|refused 2 local NotLocal Y;
+local|{"deploymentId":"l1","remove":["Y"]}||0|closed l1 SUCCESSFUL;
+local|{"deploymentId":"l4","updateConfig":{"X":{}}}||2|refused 2 local Unlisted X;
+local|{"remove":[]}||2|refused 2 local Missing deploymentId;
+local|[]||2|refused 2 local WrongKind request;
+local|{"deploymentId":"l5","merge":{"X":"1.0.0"},"remove":["X"]}||2|refused 2 local Both X;
+local|{"deploymentId":"l5","merge":{"X":"^9"}}||3|refused 3 NoVersion;
+store|A 1.0.0 startup s1;B 1.0.0 startup s2;{"RecipeFormatVersion":"2020-01-25","ComponentName":"N","ComponentVersion":"1.0.0","ComponentDependencies":{"A":{"VersionRequirement":"^1.0.0"}},"Manifests":[{}]}
+deploy|d1 ROLLBACK N 1.0.0|0 0 0|0|accepted d1;closed d1 SUCCESSFUL;
+config-set --component A|{"deploymentId":"c1"}||19|refused 19 NotListed A;
+local|{"deploymentId":"l1","merge":{"B":"1.0.0"}}|0 0 0,1 1 0,2 1 0,3 1 0,4 0 0|10|accepted l1;failed l1 B startup code 1;failed l1 B startup code 1;failed l1 B startup code 1;closed l1 FAILED_ROLLBACK_COMPLETE;
+status|||0|thing t1;nucleus 2.12.0;group g;require N 1.0.0;component A 1.0.0 {};component N 1.0.0 {};closed d1 SUCCESSFUL;closed l1 FAILED_ROLLBACK_COMPLETE;
+local|{"deploymentId":"l2","failureHandlingPolicy":"DO_NOTHING","merge":{"B":"1.0.0"}}|0 0 0,1 1 0,2 1 0,3 1 0|11|accepted l2;failed l2 B startup code 1;failed l2 B startup code 1;failed l2 B startup code 1;closed l2 FAILED_ROLLBACK_NOT_REQUESTED;
+status|||0|thing t1;nucleus 2.12.0;group g;require N 1.0.0;group local;require B 1.0.0;component A 1.0.0 {};component B 1.0.0 {};component N 1.0.0 {};closed d1 SUCCESSFUL;closed l1 FAILED_ROLLBACK_COMPLETE;closed l2 FAILED_ROLLBACK_NOT_REQUESTED;
+"#;
+
 /// What the calls go to.
 #[derive(Drop)]
 struct Store {
@@ -61,8 +92,14 @@ fn is_row(alloc: Global, store: &mut Store, row: &'static str) -> Result<bool, F
     let document = fields.next().unwrap_or("");
     let ends = fields.next().unwrap_or("");
     let want = fields.next().unwrap_or("?");
+    // A change of a configuration takes nothing from a library.
+    let recipes = if command.starts_with("config-set") {
+        ""
+    } else {
+        store.recipes
+    };
     let asked = Asked {
-        recipes: store.recipes,
+        recipes,
         command,
         document,
         ends,
@@ -93,8 +130,12 @@ fn goes(alloc: Global, store: &mut Store, row: &'static str) -> Result<bool, Fai
 }
 
 /// The first line of which something else comes, from this store on, or none.
-fn first_wrong_from(alloc: Global, store: &mut Store) -> Result<&'static str, Fail> {
-    for row in ROWS.lines() {
+fn first_wrong_from(
+    alloc: Global,
+    store: &mut Store,
+    rows: &'static str,
+) -> Result<&'static str, Fail> {
+    for row in rows.lines() {
         if !goes(alloc, store, row)? {
             return Ok(row);
         }
@@ -103,15 +144,21 @@ fn first_wrong_from(alloc: Global, store: &mut Store) -> Result<&'static str, Fa
 }
 
 /// The first line of which something else comes, or none.
-fn first_wrong(alloc: Global) -> Result<&'static str, Fail> {
+fn first_wrong(alloc: Global, rows: &'static str) -> Result<&'static str, Fail> {
     let mut store = store_of(alloc, "")?;
-    let wrong = first_wrong_from(alloc, &mut store);
+    let wrong = first_wrong_from(alloc, &mut store, rows);
     drop(store);
     wrong
 }
 
 #[test]
 fn deployments_run_their_steps(rt: HostRuntime) -> Result<(), Fail> {
-    assert_eq!(rt; first_wrong(rt.alloc())?, "");
+    assert_eq!(rt; first_wrong(rt.alloc(), ROWS)?, "");
+    Ok(())
+}
+
+#[test]
+fn requests_are_deployed(rt: HostRuntime) -> Result<(), Fail> {
+    assert_eq!(rt; first_wrong(rt.alloc(), REQUEST_ROWS)?, "");
     Ok(())
 }

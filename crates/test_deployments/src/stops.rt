@@ -18,9 +18,17 @@ A 1.0.0;A 2.0.0 bootstrap a;B 1.0.0 bootstrap b|0|A 1.0.0|d2 ROLLBACK A 2.0.0 B 
 A 1.0.0 again b1;A 2.0.0 bootstrap b2|1|A 1.0.0|d2 ROLLBACK A 2.0.0|require A 1.0.0;component A 1.0.0 {};closed d1 SUCCESSFUL;|require A 1.0.0;component A 1.0.0 {};closed d1 SUCCESSFUL;closed d2 FAILED_UNABLE_TO_ROLLBACK;
 ";
 
+/// The same of requests made at the device: the command, and then the request.
+const REQUEST_SCENES: &str =
+    r#"A 1.0.0 startup s1;B 1.0.0 startup s2|0|A 1.0.0|local {"deploymentId":"d2","merge":{"B":"1.0.0"}}|require A 1.0.0;component A 1.0.0 {};closed d1 SUCCESSFUL;|require A 1.0.0;group local;require B 1.0.0;component A 1.0.0 {};component B 1.0.0 {};closed d1 SUCCESSFUL;closed d2 SUCCESSFUL;
+A 1.0.0;B 1.0.0 startup s2|1|A 1.0.0|local {"deploymentId":"d2","merge":{"B":"1.0.0"}}|require A 1.0.0;component A 1.0.0 {};closed d1 SUCCESSFUL;|require A 1.0.0;component A 1.0.0 {};closed d1 SUCCESSFUL;closed d2 FAILED_ROLLBACK_COMPLETE;
+A 1.0.0 startup s1|0|A 1.0.0|config-set --component A {"deploymentId":"d2","merge":{"p":1}}|require A 1.0.0;component A 1.0.0 {};closed d1 SUCCESSFUL;|require A 1.0.0;component A 1.0.0 {"p":1};closed d1 SUCCESSFUL;closed d2 SUCCESSFUL;
+"#;
+
 /// A deployment to be cut off.
 #[derive(Clone, Copy, Drop)]
 struct Scene {
+    command: &'static str,
     recipes: &'static str,
     ends: &'static str,
     document: &'static str,
@@ -143,7 +151,7 @@ struct Cut {
 
 /// The deployment over that disk.
 fn cut_off(alloc: Global, scene: Scene, fused: &mut FusedDisk) -> Result<Cut, Fail> {
-    let answer = call(alloc, fused, asked_of(scene, "deploy"))?;
+    let answer = call(alloc, fused, asked_of(scene, scene.command))?;
     let said = answer.as_str().contains("|accepted d2;");
     let has_ended = !answer.as_str().starts_with("5|");
     drop(answer);
@@ -177,6 +185,14 @@ fn first_lost(alloc: Global, scene: Scene, disk: &MemoryDisk) -> Result<Option<u
     Ok(Some(400))
 }
 
+/// The command of a scene, and what it deploys: a request, or the words of a document.
+fn command_of(words: &'static str) -> (&'static str, &'static str) {
+    match words.split_once(" {") {
+        Some((command, _)) => (command, words.get(command.len() + 1..).unwrap_or("")),
+        None => ("deploy", words),
+    }
+}
+
 /// The scene of a line, and the deployment before it.
 fn scene_of(line: &'static str) -> (Scene, &'static str) {
     let mut fields = line.splitn(6, '|');
@@ -187,11 +203,12 @@ fn scene_of(line: &'static str) -> (Scene, &'static str) {
         ALL_FAIL
     };
     let earlier = fields.next().unwrap_or("");
-    let document = fields.next().unwrap_or("");
+    let (command, document) = command_of(fields.next().unwrap_or(""));
     let before = fields.next().unwrap_or("");
     let behind = fields.next().unwrap_or("?");
     (
         Scene {
+            command,
             recipes,
             ends,
             document,
@@ -219,9 +236,9 @@ fn lost_of(alloc: Global, line: &'static str) -> Result<Option<u64>, Fail> {
     lost
 }
 
-/// The first scene of which a device is lost, with the count of calls, or none.
-fn first_wrong(alloc: Global) -> Result<Option<(&'static str, u64)>, Fail> {
-    for line in SCENES.lines() {
+/// The first of these scenes of which a device is lost, with the count of calls, or none.
+fn first_wrong(alloc: Global, scenes: &'static str) -> Result<Option<(&'static str, u64)>, Fail> {
+    for line in scenes.lines() {
         if let Some(stop) = lost_of(alloc, line)? {
             return Ok(Some((line, stop)));
         }
@@ -231,6 +248,12 @@ fn first_wrong(alloc: Global) -> Result<Option<(&'static str, u64)>, Fail> {
 
 #[test]
 fn no_stop_strands_a_device(rt: HostRuntime) -> Result<(), Fail> {
-    assert_eq!(rt; first_wrong(rt.alloc())?, None);
+    assert_eq!(rt; first_wrong(rt.alloc(), SCENES)?, None);
+    Ok(())
+}
+
+#[test]
+fn no_stop_of_a_request_strands_a_device(rt: HostRuntime) -> Result<(), Fail> {
+    assert_eq!(rt; first_wrong(rt.alloc(), REQUEST_SCENES)?, None);
     Ok(())
 }

@@ -13,7 +13,7 @@ returns-in-Ok c =
 pub returns-in-Err-Usage : goal.returns-in-Err-Usage
 returns-in-Err-Usage c = λ drives.
     let refuses = rw c.in-Err-Usage.field-0-is at c.in-Err-Usage.ensures in
-    elim drives.1 [
-      | inl is ↦ refuses (drives.0, orders.Deploy) is
-      | inr is ↦ refuses (drives.0, orders.Resume) is
+    elim drives [
+      | inl deploys ↦ refuses (deploys.1.0, deploys.1.1) deploys.1.2
+      | inr resumes ↦ refuses (resumes.0, orders.Resume) resumes.1
     ]

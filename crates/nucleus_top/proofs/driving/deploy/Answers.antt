@@ -25,8 +25,8 @@ returns-in-Ok-clause-ran g c =
     let printed : Printed = printed_of g.K.Sink.held g.K.Sink.faults c.args.sink.now c.deploy_read.new.sink in
     ran_on g.met.D.Disk.laws c.args.disk.now c.open_idle.new.disk c.deploy_read.new.disk c.open_idle.ensures.spared
     (g.R.Runner.list c.args.runner.now) (g.R.Runner.list c.deploy_read.new.runner) printed c.deploy_read.result
-    g.D.Disk.faults store input library d (slots_start c.in-Ok.idle.log d) (c.deploy_read.new.runner ≡ c.args.runner.now) c.open_idle.ensures.later
-    c.in-Ok.ensures.opened c.in-Ok.ensures.held.1 c.in-Ok.ensures.start (λ told. (c.in-Ok.ensures.opened told).1)
+    g.D.Disk.faults store c.args.what.now input library d (slots_start c.in-Ok.idle.log d) (c.deploy_read.new.runner ≡ c.args.runner.now)
+    c.open_idle.ensures.later c.in-Ok.ensures.opened c.in-Ok.ensures.held.1 c.in-Ok.ensures.start (λ told. (c.in-Ok.ensures.opened told).1)
     c.open_idle.ensures.images c.open_idle.ensures.whole (c.in-Ok.ensures.ends (λ is. cc)) c.deploy_read.ensures.ran
 
 pub returns-in-Ok-clause-none : goal.returns-in-Ok-clause-none
@@ -59,6 +59,9 @@ returns-in-Ok-clause-library g c = c.deploy_read.ensures.library
 
 pub returns-in-Ok-clause-library_quiet : goal.returns-in-Ok-clause-library_quiet
 returns-in-Ok-clause-library_quiet g c = c.deploy_read.ensures.library_quiet
+
+pub returns-in-Ok-clause-unasked : goal.returns-in-Ok-clause-unasked
+returns-in-Ok-clause-unasked g c = c.deploy_read.ensures.unasked
 
 pub returns-in-Ok-clause-edge : goal.returns-in-Ok-clause-edge
 returns-in-Ok-clause-edge g c = c.deploy_read.ensures.edge

@@ -9,7 +9,7 @@ use Rattle.histories.specs.States.{state_after}
 use Rattle.nucleus_top.specs.Answers.{Printed, printed_of, store_of}
 use Rattle.nucleus_top.proofs.Crashes.{kept_fronts, loaded_sound, loaded_stands, same_fronts}
 use Rattle.nucleus_top.proofs.Driven.{begun, front_begun, resumed_on, slots_elsewhere, stays, stays_on, tells, told_sweeps, withheld_first}
-use Rattle.nucleus_top.proofs.Meeting.{brought_stay_met, resumed_brings}
+use Rattle.nucleus_top.proofs.Meeting.{brought_stay_met, resumed_brings, resumed_stay}
 use Rattle.nucleus_top.proofs.Whole.{held_whole}
 use Rattle.nucleus_top.proofs.driving.resume.Goals as goal
 
@@ -65,6 +65,7 @@ returns-in-Ok-clause-ran g c =
                 (loaded_stands g.met.D.Disk.laws c.in-Ok.state c.open_swept.new.disk c.in-Ok.ensures.held) call.2;
             met = brought_stay_met d (records_of call.0.history)
                 (resumed_brings d d.pending call.0.ending call.0.history (state_after (begun d told) call.0.history) call.1 call.0.ends call.0.once);
+            stays = resumed_stay d d.pending call.0.ending call.0.history (state_after (begun d told) call.0.history) call.1 call.0.ends call.0.once;
           }),
     )
 

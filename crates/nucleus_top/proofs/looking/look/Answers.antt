@@ -1,4 +1,4 @@
-use Rattle.nucleus_top.proofs.Ends.{parts, durable}
+use Rattle.nucleus_top.proofs.Ends.{durable, parts}
 use Rattle.nucleus_top.proofs.looking.look.Goals as goal
 
 pub returns-clause-parts : goal.returns-clause-parts

@@ -1,14 +1,16 @@
-use Rattle.std.proofs.Common.{◌≡◌, ⊎_elim, List, ℕ, map, string_bytes, inl, inr, refl, arith}
+use Rattle.std.proofs.Common.{◌≡◌, ◌⊎◌, ⊎_elim, List, ℕ, map, string_bytes, inl, inr, refl, subst, arith}
 use Rattle.std.proofs.KnownBytes.{Appends-nil}
 use Rattle.nuc_base.specs.declared.status.Status.TheVariants as status
 use Rattle.command_words.specs.declared.order.Order.TheVariants as orders
+use Rattle.admission.specs.declared.ask.Ask.{Ask}
 use Rattle.nucleus_top.specs.Asked.{AsksFor}
+use Rattle.nucleus_top.specs.Drives.{AsksTo, IsDeployed, IsRefusedBefore, TurnsAway}
 use Rattle.nucleus_top.specs.declared.asking.Asked.TheVariants as asked
 use Rattle.nucleus_top.specs.declared.answer.Answer.TheVariants as answer
 use Rattle.nucleus_top.specs.Answers.{Input, Printed, Shelf, Store, input_of, printed_of, shelf_of, store_of}
 use Rattle.nucleus_top.proofs.Crashes.{same_left}
 use Rattle.nucleus_top.proofs.DriveEnds.{deployed_is_on, pending_parts, refused_parts, resumed_is_on, starved, withholds_turns}
-use Rattle.nucleus_top.proofs.Driven.{no_quiet, not_both, start_spared, stays, unread_drives, unread_parts}
+use Rattle.nucleus_top.proofs.Driven.{asks_one, no_quiet, no_quiet_deploy, not_both, start_spared, stays, unasked_by, unread_drives, unread_parts}
 use Rattle.nucleus_top.proofs.Images.{by_none}
 use Rattle.disk_model.specs.Moments.{at_start}
 use Rattle.nucleus_top.proofs.Whole.{same_kept}
@@ -80,53 +82,55 @@ returns-in-NoMemory-clause-driven g c = λ drives.
 pub returns-in-Deploy-clause-parts : goal.returns-in-Deploy-clause-parts
 returns-in-Deploy-clause-parts g c = λ other.
     let words : List (List ℕ) = map string_bytes c.args.words.now.items in
-    let asks : AsksFor words asked.Deploy = c.in-Deploy.ensures in
-    absurd (other (asks.0, inl asks.1))
+    let asks : AsksTo words c.in-Deploy.what = c.in-Deploy.ensures in
+    absurd (other (inl (c.in-Deploy.what, asks)))
 
 pub returns-in-Deploy-clause-unread : goal.returns-in-Deploy-clause-unread
-returns-in-Deploy-clause-unread g c = λ other.
-    let words : List (List ℕ) = map string_bytes c.args.words.now.items in
-    let asks : AsksFor words asked.Deploy = c.in-Deploy.ensures in
-    absurd (other asks)
+returns-in-Deploy-clause-unread g c = λ other. absurd (other (c.in-Deploy.what, c.in-Deploy.ensures))
 
 pub returns-in-Deploy-clause-unasked : goal.returns-in-Deploy-clause-unasked
-returns-in-Deploy-clause-unasked g c = λ other.
-    let words : List (List ℕ) = map string_bytes c.args.words.now.items in
-    let asks : AsksFor words asked.Deploy = c.in-Deploy.ensures in
-    absurd (other asks)
+returns-in-Deploy-clause-unasked g c = λ other plan why. unasked_by (map string_bytes c.args.words.now.items) c.in-Deploy.what c.in-Deploy.ensures other
+    (c.deploy.new.library ≡ c.args.library.now) c.deploy.ensures.unasked
 
 pub returns-in-Deploy-clause-moments : goal.returns-in-Deploy-clause-moments
 returns-in-Deploy-clause-moments g c = λ other.
     let words : List (List ℕ) = map string_bytes c.args.words.now.items in
-    let asks : AsksFor words asked.Deploy = c.in-Deploy.ensures in
-    absurd (other (asks.0, inl asks.1))
+    let asks : AsksTo words c.in-Deploy.what = c.in-Deploy.ensures in
+    absurd (other (inl (c.in-Deploy.what, asks)))
 
 pub returns-in-Deploy-clause-still : goal.returns-in-Deploy-clause-still
 returns-in-Deploy-clause-still g c = λ other.
     let words : List (List ℕ) = map string_bytes c.args.words.now.items in
-    let asks : AsksFor words asked.Deploy = c.in-Deploy.ensures in
-    absurd (other (asks.0, inl asks.1))
+    let asks : AsksTo words c.in-Deploy.what = c.in-Deploy.ensures in
+    absurd (other (inl (c.in-Deploy.what, asks)))
 
 pub returns-in-Deploy-clause-durable : goal.returns-in-Deploy-clause-durable
 returns-in-Deploy-clause-durable g c = λ order quiet is.
     let words : List (List ℕ) = map string_bytes c.args.words.now.items in
-    let asks : AsksFor words asked.Deploy = c.in-Deploy.ensures in
-    absurd (no_quiet c.words_ask_one_thing.ensures words asks.0 order orders.Deploy (λ built. built) asks.1 quiet)
+    absurd (no_quiet_deploy c.words_ask_one_thing.ensures words c.in-Deploy.what order c.in-Deploy.ensures quiet)
 
 pub returns-in-Deploy-clause-others : goal.returns-in-Deploy-clause-others
 returns-in-Deploy-clause-others g c = λ order quiet told name outside.
     let words : List (List ℕ) = map string_bytes c.args.words.now.items in
-    let asks : AsksFor words asked.Deploy = c.in-Deploy.ensures in
-    absurd (no_quiet c.words_ask_one_thing.ensures words asks.0 order orders.Deploy (λ built. built) asks.1 quiet)
+    absurd (no_quiet_deploy c.words_ask_one_thing.ensures words c.in-Deploy.what order c.in-Deploy.ensures quiet)
 
 pub returns-in-Deploy-clause-deploys : goal.returns-in-Deploy-clause-deploys
-returns-in-Deploy-clause-deploys g c = λ root is. c.deploy.ensures.ran
+returns-in-Deploy-clause-deploys g c = λ what asks.
+    let same : c.in-Deploy.what ≡ what =
+    asks_one c.words_ask_one_thing.ensures (map string_bytes c.args.words.now.items) c.in-Deploy.what what c.in-Deploy.ensures asks in
+    let store : Store = store_of g.D.Disk.is_modelled g.D.Disk.seen g.D.Disk.faults c.args.disk.now c.deploy.new.disk in
+    let input : Input = input_of g.S.Source.left g.S.Source.faults c.args.source.now c.deploy.new.source in
+    let library : Shelf = shelf_of g.L.Library.content g.L.Library.faults c.args.library.now c.deploy.new.library in
+    let printed : Printed = printed_of g.K.Sink.held g.K.Sink.faults c.args.sink.now c.deploy.new.sink in
+    subst (λ (a : Ask). (IsRefusedBefore g.D.Disk.seen g.D.Disk.may_leave g.D.Disk.moment g.D.Disk.left_since (λ x. TurnsAway store input x) c.args.disk.now
+    c.deploy.new.disk printed c.deploy.result × (c.deploy.new.runner ≡ c.args.runner.now))
+    ⊎ IsDeployed g.D.Disk.may_leave g.D.Disk.moment g.D.Disk.left_since g.D.Disk.faults c.args.disk.now c.deploy.new.disk (g.R.Runner.list c.args.runner.now)
+    (g.R.Runner.list c.deploy.new.runner) printed c.deploy.result a store input library) same c.deploy.ensures.ran
 
 pub returns-in-Deploy-clause-resumes : goal.returns-in-Deploy-clause-resumes
 returns-in-Deploy-clause-resumes g c = λ root is.
     let words : List (List ℕ) = map string_bytes c.args.words.now.items in
-    let asks : AsksFor words asked.Deploy = c.in-Deploy.ensures in
-    absurd (not_both c.words_ask_one_thing.ensures words asks.0 root asks.1 is)
+    absurd (not_both c.words_ask_one_thing.ensures words c.in-Deploy.what root c.in-Deploy.ensures is)
 
 pub returns-in-Deploy-clause-driven : goal.returns-in-Deploy-clause-driven
 returns-in-Deploy-clause-driven g c = λ drives. record {
@@ -164,19 +168,19 @@ pub returns-in-Resume-clause-parts : goal.returns-in-Resume-clause-parts
 returns-in-Resume-clause-parts g c = λ other.
     let words : List (List ℕ) = map string_bytes c.args.words.now.items in
     let asks : AsksFor words asked.Resume = c.in-Resume.ensures in
-    absurd (other (asks.0, inr asks.1))
+    absurd (other (inr asks))
 
 pub returns-in-Resume-clause-moments : goal.returns-in-Resume-clause-moments
 returns-in-Resume-clause-moments g c = λ other.
     let words : List (List ℕ) = map string_bytes c.args.words.now.items in
     let asks : AsksFor words asked.Resume = c.in-Resume.ensures in
-    absurd (other (asks.0, inr asks.1))
+    absurd (other (inr asks))
 
 pub returns-in-Resume-clause-still : goal.returns-in-Resume-clause-still
 returns-in-Resume-clause-still g c = λ other.
     let words : List (List ℕ) = map string_bytes c.args.words.now.items in
     let asks : AsksFor words asked.Resume = c.in-Resume.ensures in
-    absurd (other (asks.0, inr asks.1))
+    absurd (other (inr asks))
 
 pub returns-in-Resume-clause-durable : goal.returns-in-Resume-clause-durable
 returns-in-Resume-clause-durable g c = λ order quiet is.
@@ -194,10 +198,10 @@ pub returns-in-Resume-clause-resumes : goal.returns-in-Resume-clause-resumes
 returns-in-Resume-clause-resumes g c = λ root is. c.resume.ensures.ran
 
 pub returns-in-Resume-clause-deploys : goal.returns-in-Resume-clause-deploys
-returns-in-Resume-clause-deploys g c = λ root is.
+returns-in-Resume-clause-deploys g c = λ what is.
     let words : List (List ℕ) = map string_bytes c.args.words.now.items in
     let asks : AsksFor words asked.Resume = c.in-Resume.ensures in
-    absurd (not_both c.words_ask_one_thing.ensures words root asks.0 is asks.1)
+    absurd (not_both c.words_ask_one_thing.ensures words what asks.0 is asks.1)
 
 pub returns-in-Resume-clause-driven : goal.returns-in-Resume-clause-driven
 returns-in-Resume-clause-driven g c = λ drives. record {
@@ -241,14 +245,14 @@ pub returns-in-Other-clause-others : goal.returns-in-Other-clause-others
 returns-in-Other-clause-others g c = c.look.ensures.others
 
 pub returns-in-Other-clause-deploys : goal.returns-in-Other-clause-deploys
-returns-in-Other-clause-deploys g c = λ root is.
+returns-in-Other-clause-deploys g c = λ what is.
     let asks : AsksFor (map string_bytes c.args.words.now.items) asked.Other = c.in-Other.ensures in
-    absurd (asks (root, inl is))
+    absurd (asks (inl (what, is)))
 
 pub returns-in-Other-clause-resumes : goal.returns-in-Other-clause-resumes
 returns-in-Other-clause-resumes g c = λ root is.
     let asks : AsksFor (map string_bytes c.args.words.now.items) asked.Other = c.in-Other.ensures in
-    absurd (asks (root, inr is))
+    absurd (asks (inr (root, is)))
 
 pub returns-in-Other-clause-driven : goal.returns-in-Other-clause-driven
 returns-in-Other-clause-driven g c = λ drives.
@@ -264,26 +268,26 @@ returns-in-Other-clause-sink_later g c = stays (g.K.Sink.faults c.args.sink.now)
 pub returns-in-Deploy-clause-disk_grows : goal.returns-in-Deploy-clause-disk_grows
 returns-in-Deploy-clause-disk_grows g c = λ other.
     let words : List (List ℕ) = map string_bytes c.args.words.now.items in
-    let asks : AsksFor words asked.Deploy = c.in-Deploy.ensures in
-    absurd (other (asks.0, inl asks.1))
+    let asks : AsksTo words c.in-Deploy.what = c.in-Deploy.ensures in
+    absurd (other (inl (c.in-Deploy.what, asks)))
 
 pub returns-in-Deploy-clause-sink_grows : goal.returns-in-Deploy-clause-sink_grows
 returns-in-Deploy-clause-sink_grows g c = λ other.
     let words : List (List ℕ) = map string_bytes c.args.words.now.items in
-    let asks : AsksFor words asked.Deploy = c.in-Deploy.ensures in
-    absurd (other (asks.0, inl asks.1))
+    let asks : AsksTo words c.in-Deploy.what = c.in-Deploy.ensures in
+    absurd (other (inl (c.in-Deploy.what, asks)))
 
 pub returns-in-Resume-clause-disk_grows : goal.returns-in-Resume-clause-disk_grows
 returns-in-Resume-clause-disk_grows g c = λ other.
     let words : List (List ℕ) = map string_bytes c.args.words.now.items in
     let asks : AsksFor words asked.Resume = c.in-Resume.ensures in
-    absurd (other (asks.0, inr asks.1))
+    absurd (other (inr asks))
 
 pub returns-in-Resume-clause-sink_grows : goal.returns-in-Resume-clause-sink_grows
 returns-in-Resume-clause-sink_grows g c = λ other.
     let words : List (List ℕ) = map string_bytes c.args.words.now.items in
     let asks : AsksFor words asked.Resume = c.in-Resume.ensures in
-    absurd (other (asks.0, inr asks.1))
+    absurd (other (inr asks))
 
 pub returns-in-NoMemory-clause-disk_later : goal.returns-in-NoMemory-clause-disk_later
 returns-in-NoMemory-clause-disk_later g c = stays (g.D.Disk.faults c.args.disk.now) (g.D.Disk.faults c.args.disk.now) (omega arith)
@@ -302,7 +306,7 @@ returns-in-NoMemory-clause-refused g c = λ drives.
     (inl (refl, Appends-nil (g.K.Sink.held c.args.sink.now), refl))))
 
 pub returns-in-NoMemory-clause-pending : goal.returns-in-NoMemory-clause-pending
-returns-in-NoMemory-clause-pending g c = λ root is.
+returns-in-NoMemory-clause-pending g c = λ deploys.
     let store : Store = store_of g.D.Disk.is_modelled g.D.Disk.seen g.D.Disk.faults c.args.disk.now c.args.disk.now in
     let input : Input = input_of g.S.Source.left g.S.Source.faults c.args.source.now c.args.source.now in
     let printed : Printed = printed_of g.K.Sink.held g.K.Sink.faults c.args.sink.now c.args.sink.now in
@@ -318,10 +322,11 @@ returns-in-Deploy-clause-refused g c = λ drives.
     refused_parts store input printed c.deploy.result
     (⊎_elim (λ away. inl (away.0.answer, away.0.why, away.0.told))
     (λ trace. inr (deployed_is_on g.D.Disk.may_leave g.D.Disk.moment g.D.Disk.left_since g.D.Disk.faults c.args.disk.now c.deploy.new.disk
-    (g.R.Runner.list c.args.runner.now) (g.R.Runner.list c.deploy.new.runner) printed c.deploy.result store input library trace).0) c.deploy.ensures.ran)
+    (g.R.Runner.list c.args.runner.now) (g.R.Runner.list c.deploy.new.runner) printed c.deploy.result store c.in-Deploy.what input library trace).0)
+    c.deploy.ensures.ran)
 
 pub returns-in-Deploy-clause-pending : goal.returns-in-Deploy-clause-pending
-returns-in-Deploy-clause-pending g c = λ root is.
+returns-in-Deploy-clause-pending g c = λ deploys.
     let store : Store = store_of g.D.Disk.is_modelled g.D.Disk.seen g.D.Disk.faults c.args.disk.now c.deploy.new.disk in
     let input : Input = input_of g.S.Source.left g.S.Source.faults c.args.source.now c.deploy.new.source in
     let library : Shelf = shelf_of g.L.Library.content g.L.Library.faults c.args.library.now c.deploy.new.library in
@@ -329,7 +334,8 @@ returns-in-Deploy-clause-pending g c = λ root is.
     pending_parts store input printed c.deploy.result
     (⊎_elim (λ away. inl (away.0.answer, away.0.why, away.0.told))
     (λ trace. inr (deployed_is_on g.D.Disk.may_leave g.D.Disk.moment g.D.Disk.left_since g.D.Disk.faults c.args.disk.now c.deploy.new.disk
-    (g.R.Runner.list c.args.runner.now) (g.R.Runner.list c.deploy.new.runner) printed c.deploy.result store input library trace)) c.deploy.ensures.ran)
+    (g.R.Runner.list c.args.runner.now) (g.R.Runner.list c.deploy.new.runner) printed c.deploy.result store c.in-Deploy.what input library trace))
+    c.deploy.ensures.ran)
 
 pub returns-in-Resume-clause-refused : goal.returns-in-Resume-clause-refused
 returns-in-Resume-clause-refused g c = λ drives.
@@ -342,10 +348,10 @@ returns-in-Resume-clause-refused g c = λ drives.
     (g.R.Runner.list c.args.runner.now) (g.R.Runner.list c.resume.new.runner) printed c.resume.result store trace)) c.resume.ensures.ran)
 
 pub returns-in-Resume-clause-pending : goal.returns-in-Resume-clause-pending
-returns-in-Resume-clause-pending g c = λ root is.
+returns-in-Resume-clause-pending g c = λ deploys.
     let words : List (List ℕ) = map string_bytes c.args.words.now.items in
     let asks : AsksFor words asked.Resume = c.in-Resume.ensures in
-    absurd (not_both c.words_ask_one_thing.ensures words root asks.0 is asks.1)
+    absurd (not_both c.words_ask_one_thing.ensures words deploys.0 asks.0 deploys.1 asks.1)
 
 pub returns-in-Other-clause-refused : goal.returns-in-Other-clause-refused
 returns-in-Other-clause-refused g c = λ drives.
@@ -353,9 +359,9 @@ returns-in-Other-clause-refused g c = λ drives.
     absurd (asks drives)
 
 pub returns-in-Other-clause-pending : goal.returns-in-Other-clause-pending
-returns-in-Other-clause-pending g c = λ root is.
+returns-in-Other-clause-pending g c = λ deploys.
     let asks : AsksFor (map string_bytes c.args.words.now.items) asked.Other = c.in-Other.ensures in
-    absurd (asks (root, inl is))
+    absurd (asks (inl deploys))
 
 -- ---- what is read of the source
 
@@ -370,3 +376,22 @@ returns-in-Deploy-clause-read g c = c.deploy.ensures.read
 
 pub returns-in-Other-clause-read : goal.returns-in-Other-clause-read
 returns-in-Other-clause-read g c = c.look.ensures.read
+
+-- ---- `workload`
+
+pub returns-in-NoMemory-clause-alone : goal.returns-in-NoMemory-clause-alone
+returns-in-NoMemory-clause-alone g c = λ seed asks. refl
+
+pub returns-in-Deploy-clause-alone : goal.returns-in-Deploy-clause-alone
+returns-in-Deploy-clause-alone g c = λ seed quiet.
+    let words : List (List ℕ) = map string_bytes c.args.words.now.items in
+    absurd (no_quiet_deploy c.words_ask_one_thing.ensures words c.in-Deploy.what (orders.Workload seed) c.in-Deploy.ensures quiet)
+
+pub returns-in-Resume-clause-alone : goal.returns-in-Resume-clause-alone
+returns-in-Resume-clause-alone g c = λ seed quiet.
+    let words : List (List ℕ) = map string_bytes c.args.words.now.items in
+    let asks : AsksFor words asked.Resume = c.in-Resume.ensures in
+    absurd (no_quiet c.words_ask_one_thing.ensures words asks.0 (orders.Workload seed) orders.Resume (λ built. built) asks.1 quiet)
+
+pub returns-in-Other-clause-alone : goal.returns-in-Other-clause-alone
+returns-in-Other-clause-alone g c = c.look.ensures.alone

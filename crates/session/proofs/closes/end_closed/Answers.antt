@@ -10,7 +10,7 @@ use Rattle.session_rollout.specs.Driven.{generation_left}
 use Rattle.session.specs.Calls.{EndsClosed, SaysEnding}
 use Rattle.session.specs.Endings.{Fails}
 use Rattle.session.proofs.Places.{closed_returned}
-use Rattle.session.proofs.Returning.{came_held, generation_by, status_came}
+use Rattle.session.proofs.Returning.{came_ends, came_held, generation_by, status_came}
 use Rattle.session.proofs.Statuses.{closed_no_restart}
 use Rattle.session.proofs.closes.end_closed.Goals as goal
 
@@ -80,3 +80,9 @@ returns-clause-quiet_sink g c = λ edge.
 pub returns-clause-swept : goal.returns-clause-swept
 returns-clause-swept g c = λ told is. c.sweep_behind-status.ensures.swept told
     (sym (status_came c.args.idle c.sweep_behind-status.result c.standing_of.result c.back_or_over.result c.back_or_over.ensures.exact) ∙ is)
+
+-- ---- with which status the call ends
+
+pub returns-clause-ends_call : goal.returns-clause-ends_call
+returns-clause-ends_call g c =
+    came_ends c.args.idle c.sweep_behind-status.result c.standing_of.result c.back_or_over.result c.back_or_over.ensures.exact

@@ -7,6 +7,7 @@ use Rattle.session.proofs.Printing.{says_none}
 use Rattle.session.specs.Endings.{Breaks, Fails}
 use Rattle.session.specs.Parts.{status_of_ran}
 use Rattle.session.proofs.Results.{answers_err, answers_ok, ends_err, ends_ok, err_if, err_on, if_ok, not_edge, ok_if, ok_on, on_err}
+use Rattle.session.proofs.Returning.{edge_ends}
 use Rattle.session.proofs.ends.end_call.Goals as goal
 
 -- ---- it was driven
@@ -114,3 +115,11 @@ returns-in-Err-Disk-clause-swept g c = λ told. err_if _ c.args.driven c.in-Err-
 
 pub returns-in-Err-Edge-clause-swept : goal.returns-in-Err-Edge-clause-swept
 returns-in-Err-Edge-clause-swept g c = λ told. err_if _ c.args.driven c.in-Err-Edge.field-0 c.in-Err-Edge.is
+
+-- ---- with which status the call ends
+
+pub returns-in-Err-Disk-clause-ends_call : goal.returns-in-Err-Disk-clause-ends_call
+returns-in-Err-Disk-clause-ends_call g c = edge_ends c.say_disk.result statuses.Disk c.say_disk.ensures.answers (inl refl)
+
+pub returns-in-Err-Edge-clause-ends_call : goal.returns-in-Err-Edge-clause-ends_call
+returns-in-Err-Edge-clause-ends_call g c = inl refl

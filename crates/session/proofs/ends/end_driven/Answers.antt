@@ -1,5 +1,5 @@
 use Rattle.std.specs.Prelude.{Ok}
-use Rattle.std.proofs.Common.{◌≡◌, [], refl, sym, subst}
+use Rattle.std.proofs.Common.{◌≡◌, [], inl, inr, refl, sym, subst}
 use Rattle.disk_model.specs.Disk.{Leaves}
 use Rattle.disk_model.specs.Listing.{artifacts, IsBelow}
 use Rattle.nuc_base.specs.Faults.{Rose}
@@ -21,6 +21,7 @@ use Rattle.session.specs.Endings.{Fails, Reboots, Restarts}
 use Rattle.session.proofs.Places.{bare_none, between_bare, restart_ends}
 use Rattle.session.proofs.Statuses.{two_never}
 use Rattle.session.proofs.Sweeping.{close_is, no_close}
+use Rattle.session.proofs.Returning.{edge_ends}
 use Rattle.session.proofs.ends.end_driven.Goals as goal
 
 -- ---- it closed
@@ -171,3 +172,12 @@ returns-in-Restart-clause-swept g c = λ told o is. absurd (no_close o c.say_aga
 pub returns-in-Reboot-clause-swept : goal.returns-in-Reboot-clause-swept
 returns-in-Reboot-clause-swept g c = λ told o is. absurd (no_close o c.say_again-status-in-Reboot.result statuses.Reboot refl
     c.say_again-status-in-Reboot.ensures.answers is)
+
+-- ---- with which status the call ends
+
+pub returns-in-Restart-clause-ends_call : goal.returns-in-Restart-clause-ends_call
+returns-in-Restart-clause-ends_call g c = edge_ends c.say_again-status.result statuses.Restart c.say_again-status.ensures.answers (inr refl)
+
+pub returns-in-Reboot-clause-ends_call : goal.returns-in-Reboot-clause-ends_call
+returns-in-Reboot-clause-ends_call g c =
+    edge_ends c.say_again-status-in-Reboot.result statuses.Reboot c.say_again-status-in-Reboot.ensures.answers (inr refl)

@@ -19,7 +19,7 @@ use Rattle.session.proofs.Faults.{stays_later}
 use Rattle.session.proofs.Places.{front_returned}
 use Rattle.session.proofs.Printing.{said_prints}
 use Rattle.session.proofs.Resuming.{loaded_idle, loaded_pending, loaded_stands, resumes_none}
-use Rattle.session.proofs.Returning.{came_held, status_came}
+use Rattle.session.proofs.Returning.{came_ends, came_held, status_came}
 use Rattle.session.proofs.Statuses.{no_restart, two_never}
 use Rattle.session.proofs.Sweeping.{none_closes}
 use Rattle.session.proofs.resumes.resume.Goals as goal
@@ -114,3 +114,9 @@ returns-in-Idle-clause-swept g c =
 pub resume_pending-requires-clause-pending : goal.resume_pending-requires-clause-pending
 resume_pending-requires-clause-pending g c =
     loaded_pending g.D.Disk.is_modelled g.D.Disk.may_leave g.J.Journal.stands g.J.Journal.end c.args.state c.args.disk.now c.requires.held c.in_default.not-Idle
+
+-- ---- with which status the call ends
+
+pub returns-in-Idle-clause-ends_call : goal.returns-in-Idle-clause-ends_call
+returns-in-Idle-clause-ends_call g c =
+    came_ends c.in-Idle.idle c.say-status.result standings.AsBefore c.back_or_over.result c.back_or_over.ensures.exact

@@ -11,7 +11,7 @@ use Rattle.artifact_store.proofs.Walking.{start_spares}
 use Rattle.deploy_state.specs.States.{loaded_device}
 use Rattle.step_runner.specs.Entries.{Listed}
 use Rattle.histories.specs.TraceEvents.{records_of}
-use Rattle.histories.specs.Courses.{IsEnd, is_restart}
+use Rattle.histories.specs.Courses.{IsEnd, gives_up, is_restart}
 use Rattle.law_termination.specs.Drives.{Drives}
 use Rattle.session_boots.proofs.Acting.{acts_none}
 use Rattle.session_boots.proofs.Between.{no_living}
@@ -170,3 +170,8 @@ returns-in-Done-clause-swept g c = λ clean.
     driven_sweeps g.met.D.Disk.laws g.met.J.Journal.laws c.requires.apart c.drive-driven.result c.drive-driven.new.disk c.end_call.new.disk
     (status_of_ran c.end_call.result)
     c.drive-driven.ensures.held c.end_call.ensures.spared c.end_call.ensures.answers c.end_call.ensures.swept
+
+-- ---- with which status the call ends
+
+pub returns-in_default-clause-ends_call : goal.returns-in_default-clause-ends_call
+returns-in_default-clause-ends_call g c = inl (ap gives_up (not_done c.say_resumed.result c.say_resumed.ensures.answers c.in_default.not-Done))

@@ -22,7 +22,7 @@ use Rattle.session.specs.Declines.{status_of_declined}
 use Rattle.session.specs.Parts.{RanLeft, status_of_ran}
 use Rattle.session.specs.declared.ran.Standing.TheVariants as standings
 use Rattle.session.proofs.Ending.{declined_parted, nothing_parted, quits_left, taken_behind}
-use Rattle.session.proofs.Returning.{came_held, over_never, over_status, status_came}
+use Rattle.session.proofs.Returning.{came_ends, came_held, over_ends, over_never, over_status, status_came}
 use Rattle.session.proofs.Faults.{rose_on, stays_later, stays_on}
 use Rattle.session.proofs.Holding.{taken_both, taken_whole}
 use Rattle.session.proofs.Places.{open_returned, returned_may}
@@ -291,3 +291,12 @@ returns-in-Ok-ready_for-clause-swept g c = λ clean. c.run_plan.ensures.swept
 pub returns-in-Err-ready_for-clause-swept : goal.returns-in-Err-ready_for-clause-swept
 returns-in-Err-ready_for-clause-swept g c = λ clean. never_closes g.D.Disk.is_modelled g.J.Journal.entries (status_of_ran c.give_up.result)
     statuses.Memory (g.D.Disk.seen c.take_in.new.disk) refl (inl (over_status statuses.Memory c.give_up.result c.give_up.ensures.over))
+
+-- ---- with which status the call ends
+
+pub returns-in-Err-clause-ends_call : goal.returns-in-Err-clause-ends_call
+returns-in-Err-clause-ends_call g c =
+    came_ends c.args.idle c.say_declined-status.result standings.AsBefore c.back_or_over.result c.back_or_over.ensures.exact
+
+pub returns-in-Err-ready_for-clause-ends_call : goal.returns-in-Err-ready_for-clause-ends_call
+returns-in-Err-ready_for-clause-ends_call g c = over_ends statuses.Memory c.give_up.result c.give_up.ensures.over (inl refl)

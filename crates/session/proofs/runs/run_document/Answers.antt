@@ -23,7 +23,7 @@ use Rattle.session.specs.Endings.{Ending, is_failing}
 use Rattle.session.specs.Parts.{RanLeft, status_of_ran}
 use Rattle.session.specs.declared.ran.Standing.TheVariants as standings
 use Rattle.session.proofs.Ending.{declined_parted, still_files}
-use Rattle.session.proofs.Returning.{came_held, status_came}
+use Rattle.session.proofs.Returning.{came_ends, came_held, status_came}
 use Rattle.session.proofs.Taken.{unread_taken}
 use Rattle.session.proofs.Faults.{stays_later}
 use Rattle.session.proofs.Places.{open_returned}
@@ -132,3 +132,9 @@ returns-in-Err-clause-swept g c =
     let d = idle_device c.args.idle in
     none_closes g.met.D.Disk.laws g.met.J.Journal.laws c.args.disk.now d (status_of_ran c.back_or_over.result)
     (λ i left. in_hand_stands g.met.D.Disk.laws g.met.J.Journal.laws c.args.idle.log c.args.disk.now d c.requires.held.0 i left)
+
+-- ---- with which status the call ends
+
+pub returns-in-Err-clause-ends_call : goal.returns-in-Err-clause-ends_call
+returns-in-Err-clause-ends_call g c =
+    came_ends c.args.idle c.say_refusal-status.result standings.AsBefore c.back_or_over.result c.back_or_over.ensures.exact

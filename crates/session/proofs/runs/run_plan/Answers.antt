@@ -36,7 +36,7 @@ use Rattle.session.specs.Endings.{Ending, Breaks, Fails, Full, Starves, full_lin
 use Rattle.session.proofs.Distinct.{breaks_fails, differs, full_fails, full_starves, starves_fails}
 use Rattle.session.proofs.Ending.{HasFiles, begins_by, doubt_left, doubt_parted, first_of, joined_on, nothing_parted, parted, placed_at, quits_left}
 use Rattle.session.proofs.Ending.{starved_parted, still_files}
-use Rattle.session.proofs.Returning.{back_driven, came_held, once_open, over_never, over_status, status_came}
+use Rattle.session.proofs.Returning.{back_driven, came_ends, came_held, edge_ends, once_open, over_ends, over_never, over_status, status_came}
 use Rattle.session.proofs.Faults.{rose_by, rose_on, stays_by, stays_on}
 use Rattle.session.proofs.Holding.{all_before}
 use Rattle.session.proofs.Places.{accepted_may, open_returned, returned_may}
@@ -477,3 +477,19 @@ returns-in-Err-Disk-clause-swept g c =
 pub returns-in-Err-Edge-clause-swept : goal.returns-in-Err-Edge-clause-swept
 returns-in-Err-Edge-clause-swept g c = never_closes g.D.Disk.is_modelled g.J.Journal.entries (status_of_ran c.give_up-in-Err-Edge.result) statuses.Edge
     (g.D.Disk.seen c.accept_plan.new.disk) refl (inl (over_status statuses.Edge c.give_up-in-Err-Edge.result c.give_up-in-Err-Edge.ensures.over))
+
+-- ---- with which status the call ends
+
+pub returns-in-Ok-Full-clause-ends_call : goal.returns-in-Ok-Full-clause-ends_call
+returns-in-Ok-Full-clause-ends_call g c =
+    came_ends c.in-Ok-Full.idle c.say_full-status.result standings.AsBefore c.back_or_over.result c.back_or_over.ensures.exact
+
+pub returns-in-Ok-NoMemory-clause-ends_call : goal.returns-in-Ok-NoMemory-clause-ends_call
+returns-in-Ok-NoMemory-clause-ends_call g c = over_ends statuses.Memory c.give_up.result c.give_up.ensures.over (inl refl)
+
+pub returns-in-Err-Disk-clause-ends_call : goal.returns-in-Err-Disk-clause-ends_call
+returns-in-Err-Disk-clause-ends_call g c = over_ends c.say_disk-status.result c.give_up-in-Err-Disk.result c.give_up-in-Err-Disk.ensures.over
+    (edge_ends c.say_disk-status.result statuses.Disk c.say_disk-status.ensures.answers (inl refl))
+
+pub returns-in-Err-Edge-clause-ends_call : goal.returns-in-Err-Edge-clause-ends_call
+returns-in-Err-Edge-clause-ends_call g c = over_ends statuses.Edge c.give_up-in-Err-Edge.result c.give_up-in-Err-Edge.ensures.over (inl refl)

@@ -1,0 +1,141 @@
+-- What `why` answers.
+use Rattle.std.specs.Prelude.{◌≡◌, ◌≢◌, ◌⊎◌, ℕ, List, Some, None, Result, Ok, Err, ⊤}
+use Rattle.std.specs.List.{flat_map}
+use Rattle.nuc_base.specs.Faults.{Rose}
+use Rattle.nuc_base.specs.declared.kinds.Outcome.TheVariants.{Successful}
+use Rattle.nuc_base.specs.declared.status.Status.{Status}
+use Rattle.nuc_base.specs.declared.status.Status.TheVariants as status
+use Rattle.records.specs.declared.record.Origin.{Origin}
+use Rattle.recipe_reader.specs.Members.{Member, members}
+use Rattle.recipe_reader.specs.Sets.{IsValid, asked}
+use Rattle.library_core.specs.declared.fault.CandidatesFault.TheVariants as gather
+use Rattle.device.specs.Devices.{Device}
+use Rattle.plan_core.specs.Questions.{QuestionsRead}
+use Rattle.plan_core.specs.declared.fault.PlanFault.TheVariants.{NoVersion}
+use Rattle.plan_core.specs.declared.fault.Refusal.{Refusal}
+use Rattle.plan_core.specs.declared.fault.Refusal.TheVariants.{Repeated, Candidates, Plan}
+use Rattle.plan_core.specs.declared.questions.Question.{Question}
+use Rattle.status_text.specs.Status.{closed_line}
+use Rattle.refusal_lines.specs.Lines.{refusal_line}
+use Rattle.refusal_lines.specs.Statuses.{status_of_refusal}
+use Rattle.why_not.specs.Reasons.{Reason}
+use Rattle.why_not.specs.Plain.{Explains, HasNoSet}
+use Rattle.why_not.specs.Texts.{why_lines}
+use Rattle.nucleus_top.specs.Answers.{Store, Input, Shelf, Printed, IsUnchanged, Prints, possible_line, status_of, lines_of}
+use Rattle.nucleus_top.specs.Drives.{PendingParts, RefusedParts}
+use Rattle.nucleus_top.specs.Looks.{LooksAt}
+use Rattle.nucleus_top.specs.Planning.{IsFound, PlansOn, TellsRefusal}
+use Rattle.nucleus_top.specs.declared.answer.Answer.{Answer}
+use Rattle.nucleus_top.specs.declared.answer.Answer.TheVariants.{Possible, Unplanned, Pending, SourceFailed, LibraryFailed, NoMemory}
+
+-- ---- a device without a pending deployment
+
+-- What the document asks of the candidates that the device has with the library, or the first refusal. The document is all
+-- that the source had left, where it tells that.
+pub record IsQuestioned (d : Device) (input : Input) (library : Shelf) (result : Result Question Refusal) : Type 0 where
+  pub idle : d.pending ≡ None
+  pub origin : Origin
+  pub origin_is : d.origin ≡ Some origin
+  pub bytes : List ℕ
+  pub document : (whole : List ℕ) → input.document ≡ Some whole → bytes ≡ whole
+  pub comes : QuestionsRead d origin library.content library.faults_before library.faults_after bytes result
+
+-- The first refusal, with its line. A library that failed is told without memory.
+pub record IsDeclined (d : Device) (input : Input) (library : Shelf) (refusal : Refusal) (text : List ℕ) : Type 0 where
+  pub questioned : IsQuestioned d input library (Err refusal)
+  pub text_is : text ≡ refusal_line refusal
+  pub told : status_of_refusal refusal ≢ status.Library
+
+-- some set of the candidates is valid for what is wanted of them
+pub record IsPossible (d : Device) (input : Input) (library : Shelf) : Type 0 where
+  pub question : Question
+  pub questioned : IsQuestioned d input library (Ok question)
+  pub set : List ℕ
+  pub valid : IsValid (members question.candidates) (asked question.wanted) set
+
+-- lines one after another
+abbrev pub joined_lines : List (List ℕ) → List ℕ
+joined_lines lines = flat_map (λ (line : List ℕ). line) lines
+
+abbrev pub why_bytes : List Member → Reason → List ℕ
+why_bytes ms why = joined_lines (why_lines ms why)
+
+-- No set is valid for the question, and the text is that of a certificate of it: one that stands for no taken place, and is plain where a
+-- plain one is small.
+pub record IsExplained (question : Question) (text : List ℕ) : Type 0 where
+  pub why : Reason
+  pub explains : Explains (members question.candidates) (asked question.wanted) why
+  pub none : HasNoSet (members question.candidates) (asked question.wanted)
+  pub text_is : text ≡ why_bytes (members question.candidates) why
+
+-- so it is with what the document asks
+pub record IsImpossible (d : Device) (input : Input) (library : Shelf) (text : List ℕ) : Type 0 where
+  pub question : Question
+  pub questioned : IsQuestioned d input library (Ok question)
+  pub explained : IsExplained question text
+
+-- Why an answer comes on a device. That a deployment is pending and that the source failed is told as by `plan`.
+abbrev pub WhysOn : Device → Input → Shelf → Answer → Type 0
+WhysOn d input library Possible = IsPossible d input library
+WhysOn d input library (Unplanned refusal text) = IsDeclined d input library refusal text ⊎ ((refusal ≡ Plan NoVersion) × IsImpossible d input library text)
+WhysOn d input library (Pending id) = PlansOn d input library (Pending id)
+WhysOn d input library LibraryFailed = IsQuestioned d input library (Err (Candidates gather.Library)) × Rose library.faults_before library.faults_after
+WhysOn d input library SourceFailed = PlansOn d input library SourceFailed
+WhysOn d input library NoMemory = ⊤
+WhysOn d input library _ = ⊥
+
+-- ---- the command
+
+-- why an answer comes
+abbrev pub Whys : Store → Input → Shelf → Answer → Type 0
+Whys store input library = LooksAt store (λ d. WhysOn d input library)
+
+-- ---- what is told
+
+-- this text of a certificate, or want of memory
+abbrev pub TellsText : List ℕ → Answer → Type 0
+TellsText text (Unplanned refusal told) = (refusal ≡ Plan NoVersion) × (told ≡ text)
+TellsText text NoMemory = ⊤
+TellsText text _ = ⊥
+
+-- whether a set is valid for the question, or why none is, or want of memory
+abbrev pub TellsWhy : Question → Answer → Type 0
+TellsWhy question Possible = (set : List ℕ) × IsValid (members question.candidates) (asked question.wanted) set
+TellsWhy question (Unplanned refusal text) = (refusal ≡ Plan NoVersion) × IsExplained question text
+TellsWhy question NoMemory = ⊤
+TellsWhy question _ = ⊥
+
+-- the same, or the line of the refusal
+abbrev pub TellsAsked : Result Question Refusal → Answer → Type 0
+TellsAsked (Ok question) answer = TellsWhy question answer
+TellsAsked (Err refusal) answer = TellsRefusal refusal answer
+
+-- ---- what it promises
+
+-- a set is valid, and that was printed
+abbrev pub IsPossiblePrinted : Store → Input → Shelf → Printed → Type 0
+IsPossiblePrinted store input library printed = (d : Device) × IsFound store d × IsPossible d input library × Prints printed possible_line
+
+-- the document's deployment closed as successful before, and that was printed again
+abbrev pub IsCloseRepeated : Store → Input → Shelf → Printed → Type 0
+IsCloseRepeated store input library printed =
+    (d : Device) × (id : List ℕ) × IsFound store d × IsQuestioned d input library (Err (Repeated id Successful)) × Prints printed (closed_line (id, Successful))
+
+-- no set is valid, and this is the text of a certificate
+abbrev pub IsImpossibleOn : Store → Input → Shelf → List ℕ → Type 0
+IsImpossibleOn store input library text = (d : Device) × IsFound store d × IsImpossible d input library text
+
+pub record WhyParts (store : Store) (input : Input) (library : Shelf) (printed : Printed) (result : Status) : Type 0 where
+  -- The status and what was printed are those of an answer that comes by its cause, or the status is 6. With 15 nothing was printed.
+  pub which : (result ≡ status.Edge) ⊎ ((answer : Answer) × Whys store input library answer × (result ≡ status_of answer) ×
+      Prints printed (lines_of answer))
+  -- Whatever it answers, every file reads as before.
+  pub reads_only : IsUnchanged store
+  -- 0: a set is valid, or the document's deployment closed as successful before.
+  pub done : result ≡ status.Done → IsPossiblePrinted store input library printed ⊎ IsCloseRepeated store input library printed
+  -- 3: none is valid, and the text of a certificate was printed.
+  pub no_version : result ≡ status.NoVersion → (text : List ℕ) × IsImpossibleOn store input library text × Prints printed text
+  -- 4 comes exactly where a deployment is pending. The source is then left as it was.
+  pub pending : PendingParts store input printed result
+  -- 8 and 9 come exactly where the journal gives no device.
+  pub refused : RefusedParts store printed result

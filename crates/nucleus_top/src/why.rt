@@ -1,0 +1,172 @@
+// The command `why`.
+ghost use Rattle.std.specs.Prelude.{◌≡◌, ◌≢◌, ◌≤◌, None, IfOk};
+ghost use Rattle.std.specs.Option.{IsSome};
+ghost use Rattle.disk_model.specs.Disk.{Leaves};
+ghost use Rattle.command_words.specs.declared.order.Order.TheVariants as order;
+ghost use Rattle.deploy_state.specs.Loading.{IsReady};
+ghost use Rattle.device.specs.Devices.{device_view};
+ghost use Rattle.device.specs.Sound.{IsSound};
+ghost use Rattle.edges.specs.Reading.{ReadsUpTo};
+ghost use Rattle.recipe_reader.specs.Members.{members};
+ghost use Rattle.why_not.specs.Reasons.{seen};
+ghost use Rattle.why_not.specs.Texts.{lines_left};
+ghost use Rattle.nucleus_top.specs.Answers.{store_of, input_of, shelf_of, IsQuiet, IsStill};
+ghost use Rattle.nucleus_top.specs.Leaving.{Keeps};
+ghost use Rattle.nucleus_top.specs.Why.{TellsAsked, TellsText, TellsWhy, WhysOn, Whys, joined_lines, why_bytes};
+
+use crate::answer::Answer;
+use crate::opening::{HasDevice, open, refused};
+use crate::planning::{pending, unplanned};
+use device::Device;
+use disk_model::Disk;
+use edges::{ReadFault, Source, read_up_to};
+use library_core::Library;
+use nuc_base::{DOCUMENT_LIMIT, NoMemory, Text};
+use plan_core::{PlanFault, Question, Refusal, ask_read};
+use std::alloc::Global;
+use why_not::{Why, WhyLines, explain, why_text};
+
+/// The lines that are left, one after another.
+fn joined<'a>(alloc: Global, whole: WhyLines<'a>) -> Result<Text, NoMemory>
+    ensures { IfOk result (λ text. text ≡ joined_lines (lines_left whole.entry)) }
+{
+    let mut lines = whole;
+    let mut text = Text::empty(alloc);
+    while let Some(line) = lines.next_line()? {
+        text.push_str(line.as_str())?;
+    }
+    Ok(text)
+}
+
+/// Says that no set is valid for the question, by the text of this certificate. All of it is made before the first line is printed, so that
+/// nothing is printed where memory runs out.
+fn impossible(alloc: Global, question: &Question, why: &Why) -> Answer
+    ensures { TellsText (why_bytes (members question.now.candidates) (seen why.now)) result }
+{
+    match joined(alloc, why_text(alloc, &question.candidates, why)) {
+        Ok(text) => Answer::Unplanned(Refusal::Plan(PlanFault::NoVersion), text),
+        Err(NoMemory) => Answer::NoMemory,
+    }
+}
+
+/// Whether a set is valid for the question, or why none is.
+fn explained(alloc: Global, question: &Question) -> Answer
+    ensures { TellsWhy question.now result }
+{
+    match explain(alloc, &question.candidates, &question.wanted) {
+        Ok(None) => Answer::Possible,
+        Ok(Some(why)) => impossible(alloc, question, &why),
+        Err(_) => Answer::NoMemory,
+    }
+}
+
+/// The same, or the first refusal of the document.
+fn told(alloc: Global, asked: Result<Question, Refusal>) -> Answer
+    ensures { TellsAsked asked result }
+{
+    match asked {
+        Ok(question) => explained(alloc, &question),
+        Err(refusal) => unplanned(alloc, refusal),
+    }
+}
+
+/// What stands against the document that the source has, on a device without a pending deployment.
+fn why_idle<L: Library, S: Source>(
+    alloc: Global,
+    device: &Device,
+    library: &mut L,
+    source: &mut S,
+) -> Answer
+    requires origin { IsSome device.now.origin }
+    requires idle { device.now.pending ≡ None }
+    requires sound { IsSound (device_view device.now) }
+    ensures comes { WhysOn (device_view device.now) (input_of S.left S.faults source.old source.new) (shelf_of L.content L.faults library.old library.new)
+        result }
+    ensures still { IsStill (shelf_of L.content L.faults library.old library.new) result }
+    ensures kept { L.content library.new ≡ L.content library.old }
+    ensures quiet { result ≢ Answer.SourceFailed → S.faults source.new ≡ S.faults source.old }
+    ensures library_later { L.faults library.old ≤ L.faults library.new }
+    ensures read { ReadsUpTo 524289 (S.left source.old) (S.left source.new) }
+    ensures source_later { S.faults source.old ≤ S.faults source.new }
+{
+    let bytes = match read_up_to(alloc, source, DOCUMENT_LIMIT + 1) {
+        Ok(bytes) => bytes,
+        Err(ReadFault::Edge) => return Answer::SourceFailed,
+        Err(ReadFault::NoMemory) => return Answer::NoMemory,
+    };
+    let asked = ask_read(alloc, device, library, bytes.as_slice());
+    told(alloc, asked)
+}
+
+#[tactic(auto, using(crate::proofs::Reading::reads_none))]
+fn why_on<L: Library, S: Source>(
+    alloc: Global,
+    device: &Device,
+    library: &mut L,
+    source: &mut S,
+) -> Answer
+    requires origin { IsSome device.now.origin }
+    requires sound { IsSound (device_view device.now) }
+    ensures comes { WhysOn (device_view device.now) (input_of S.left S.faults source.old source.new) (shelf_of L.content L.faults library.old library.new)
+        result }
+    ensures still { IsStill (shelf_of L.content L.faults library.old library.new) result }
+    ensures kept { L.content library.new ≡ L.content library.old }
+    ensures quiet { result ≢ Answer.SourceFailed → S.faults source.new ≡ S.faults source.old }
+    ensures library_later { L.faults library.old ≤ L.faults library.new }
+    ensures read { ReadsUpTo 524289 (S.left source.old) (S.left source.new) }
+    ensures source_later { S.faults source.old ≤ S.faults source.new }
+{
+    match &device.pending {
+        Some(deployment) => pending(alloc, &deployment.plan.id),
+        None => why_idle(alloc, device, library, source),
+    }
+}
+
+/// The same of a state's device.
+fn why_stored<T: HasDevice + Drop, L: Library, S: Source>(
+    alloc: Global,
+    state: T,
+    library: &mut L,
+    source: &mut S,
+) -> Answer
+    requires ready { IsReady (T.stands_for state) }
+    ensures comes { WhysOn (T.stands_for state) (input_of S.left S.faults source.old source.new) (shelf_of L.content L.faults library.old library.new)
+        result }
+    ensures still { IsStill (shelf_of L.content L.faults library.old library.new) result }
+    ensures kept { L.content library.new ≡ L.content library.old }
+    ensures quiet { result ≢ Answer.SourceFailed → S.faults source.new ≡ S.faults source.old }
+    ensures library_later { L.faults library.old ≤ L.faults library.new }
+    ensures read { ReadsUpTo 524289 (S.left source.old) (S.left source.new) }
+    ensures source_later { S.faults source.old ≤ S.faults source.new }
+{
+    why_on(alloc, state.stored(), library, source)
+}
+
+/// Whether the document of the source has a valid set on the device for which the journal stands, with the recipes of the
+/// library, and if it has none, why. It makes the checks of `plan` in their order up to the room for one more deployment, and
+/// writes nothing to the disk.
+#[tactic(auto, using(crate::proofs::Reading::reads_none))]
+pub fn why<D: Disk, L: Library, S: Source>(
+    alloc: Global,
+    disk: &mut D,
+    library: &mut L,
+    source: &mut S,
+) -> Answer
+    ensures comes { Whys (store_of D.is_modelled D.seen D.faults disk.old disk.new) (input_of S.left S.faults source.old source.new)
+        (shelf_of L.content L.faults library.old library.new) result }
+    ensures quiet { IsQuiet (store_of D.is_modelled D.seen D.faults disk.old disk.new) (input_of S.left S.faults source.old source.new) result }
+    ensures still { IsStill (shelf_of L.content L.faults library.old library.new) result }
+    ensures kept { L.content library.new ≡ L.content library.old }
+    ensures moments { Leaves D.moment D.left_since disk.old disk.new (D.may_leave disk.old) }
+    ensures keeps { Keeps order.Why (D.may_leave disk.new) (D.seen disk.new) result }
+    ensures seen { D.seen disk.new ≡ D.seen disk.old }
+    ensures disk_later { D.faults disk.old ≤ D.faults disk.new }
+    ensures library_later { L.faults library.old ≤ L.faults library.new }
+    ensures read { ReadsUpTo 524289 (S.left source.old) (S.left source.new) }
+    ensures source_later { S.faults source.old ≤ S.faults source.new }
+{
+    match open(alloc, disk) {
+        Ok(state) => why_stored(alloc, state, library, source),
+        Err(fault) => refused(alloc, fault),
+    }
+}

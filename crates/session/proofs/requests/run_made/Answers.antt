@@ -1,0 +1,157 @@
+use Rattle.std.proofs.Common.{List, ◌≡◌, ◌⊎◌, ◌∙◌, inl, inr, refl, sym, ap, subst, arith}
+use Rattle.std.specs.Prelude.{ℕ, Option, Result, Ok, Err, IfOk, IfErr}
+use Rattle.disk_model.specs.Disk.{Image}
+use Rattle.disk_model.specs.Listing.{artifacts, IsBelow}
+use Rattle.nuc_base.specs.declared.status.Status.TheVariants as statuses
+use Rattle.device.specs.Devices.{Device}
+use Rattle.device.specs.Standing.{StandsFor}
+use Rattle.library_core.specs.Library.{Content}
+use Rattle.records.specs.declared.record.Plan as code
+use Rattle.records.specs.declared.record.Origin.{Origin}
+use Rattle.deployment_doc.specs.Sound.{AreSound}
+use Rattle.deployment_doc.specs.declared.document.Document.{Document}
+use Rattle.artifact_store.proofs.Walking.{start_spares}
+use Rattle.deploy_state.proofs.Steps.{in_hand_stands}
+use Rattle.deploy_state.specs.Accepting.{idle_log}
+use Rattle.deploy_state.specs.States.{idle_device}
+use Rattle.deploy_state.specs.Turning.{start_of}
+use Rattle.step_runner.specs.Entries.{Listed}
+use Rattle.histories.specs.TraceEvents.{records_of}
+use Rattle.histories.specs.States.{SessionState}
+use Rattle.admission.specs.Requests.{IsInside, TakesMade}
+use Rattle.admission.specs.Takes.{TakesIn}
+use Rattle.admission.specs.declared.fault.Declined.{Declined}
+use Rattle.session.specs.Declines.{status_of_declined}
+use Rattle.session.specs.Endings.{Ending, is_failing}
+use Rattle.session.specs.Parts.{RanLeft, status_of_ran}
+use Rattle.session.specs.declared.ran.Standing.TheVariants as standings
+use Rattle.session.proofs.Ending.{declined_parted, still_files}
+use Rattle.session.proofs.Returning.{came_held, status_came}
+use Rattle.session.proofs.Faults.{stays_later}
+use Rattle.session.proofs.Places.{open_returned}
+use Rattle.session.proofs.Statuses.{declined_disk, declined_library, declined_no_restart, told_is, told_no_restart}
+use Rattle.session.proofs.Sweeping.{none_closes}
+use Rattle.session.proofs.requests.run_made.Goals as goal
+
+-- ---- what was made
+
+module _ (made : Result Document Declined) where
+  sound_made : (document : Document) → made ≡ Ok document → IfOk made (λ x. AreSound x.roots) → AreSound document.roots
+  sound_made document is sound = subst (λ (m : Result Document Declined). IfOk m (λ x. AreSound x.roots)) is sound
+
+  inside_made : (x : Declined) → made ≡ Err x → IfErr made (λ y. IsInside y) → IsInside x
+  inside_made x is inside = subst (λ (m : Result Document Declined). IfErr m (λ y. IsInside y)) is inside
+
+  module _ (d : Device) (o : Origin) (content : Option Content) (before after : ℕ) where
+    takes_document : (document : Document) (taken : Result code.Plan Declined) → made ≡ Ok document → AreSound document.roots
+        → TakesIn d o content before after document taken → TakesMade d o content before after made taken
+    takes_document document taken is sound takes =
+        subst (λ (m : Result Document Declined). TakesMade d o content before after m taken) (sym is) (sound, takes)
+
+    takes_none : (x : Declined) → made ≡ Err x → TakesMade d o content before after made (Err x)
+    takes_none x is = subst (λ (m : Result Document Declined). TakesMade d o content before after m (Err x)) (sym is) refl
+
+-- ---- there is a document
+
+pub returns-in-Ok-clause-call : goal.returns-in-Ok-clause-call
+returns-in-Ok-clause-call g c = λ p opens taking.
+    let t = c.run_deployment-ran.ensures.call p opens taking in
+    let content = g.L.Library.content c.args.library.now in
+    let before = g.L.Library.faults c.args.library.now in
+    let after = g.L.Library.faults c.run_deployment-ran.new.library in
+    let sound = sound_made c.args.made c.in-Ok.document c.in-Ok.is c.requires.roots in (
+      t.0,
+      (λ o is. takes_document c.args.made (idle_device c.args.idle) o content before after c.in-Ok.document t.0 c.in-Ok.is sound (t.1 o is)),
+      t.2,
+      t.3,
+      t.4,
+      t.5,
+      t.6,
+    )
+
+pub returns-in-Ok-clause-swept : goal.returns-in-Ok-clause-swept
+returns-in-Ok-clause-swept g c = c.run_deployment-ran.ensures.swept
+
+-- ---- there is none
+
+pub back_or_over-requires-clause-other : goal.back_or_over-requires-clause-other
+back_or_over-requires-clause-other g c = told_no_restart c.say_declined-status.result (status_of_declined c.in-Err.declined)
+    c.say_declined-status.ensures.answers (declined_no_restart c.in-Err.declined)
+
+pub back_or_over-requires-clause-placed : goal.back_or_over-requires-clause-placed
+back_or_over-requires-clause-placed g c =
+    let q = c.requires.placed in
+    let told = Listed g.R.Runner.list g.R.Runner.told g.R.Runner.asked c.args.runner.now in (
+      q.0,
+      open_returned q.0 (idle_device c.args.idle) (g.S.Supervise.world c.args.supervisor.now) told (g.R.Runner.living c.args.runner.now) q.1
+          c.requires.orderly c.requires.held.1,
+    )
+
+pub returns-in-Err-clause-call : goal.returns-in-Err-clause-call
+returns-in-Err-clause-call g c = λ p opens taking.
+    let d = idle_device c.args.idle in
+    let world = g.S.Supervise.world c.args.supervisor.now in
+    let told = Listed g.R.Runner.list g.R.Runner.told g.R.Runner.asked c.args.runner.now in
+    let living = g.R.Runner.living c.args.runner.now in
+    let end = Listed g.R.Runner.list g.R.Runner.told g.R.Runner.asked c.back_or_over.new.runner in
+    let lives = g.R.Runner.living c.back_or_over.new.runner in
+    let ran = c.back_or_over.result in
+    let leaves : Ending → SessionState → Type 0 = λ ending q. RanLeft p.generation ran (is_failing ending) q world end lives in
+    let k = c.back_or_over.ensures.trace p p.generation (open_returned p d world told living opens c.requires.orderly c.requires.held.1) refl in
+    let stands : (i : Image) → g.D.Disk.may_leave c.args.disk.now i → StandsFor g.J.Journal.entries i p.device =
+    λ i left. subst (λ (e : Device). StandsFor g.J.Journal.entries i e) (sym opens.stands.device_is)
+    (in_hand_stands g.met.D.Disk.laws g.met.J.Journal.laws c.args.idle.log c.args.disk.now d c.requires.held.0 i left) in
+    let t = declined_parted g.J.Journal.entries g.J.Journal.files g.met.D.Disk.laws c.args.disk.now c.args.disk.now told.list end.list
+    (g.K.Sink.held c.args.sink.now) (g.K.Sink.held c.say_declined-status.new.sink) p (status_of_ran ran) c.say_declined-status.result
+    (status_came c.args.idle c.say_declined-status.result standings.AsBefore c.back_or_over.result c.back_or_over.ensures.exact) leaves
+    (start_of g.J.Journal.end g.J.Journal.number g.J.Journal.turns (idle_log c.args.idle) (idle_device c.args.idle)) c.in-Err.declined k.0
+    (start_spares g.met.D.Disk.laws (IsBelow artifacts) c.args.disk.now)
+    stands k.1 k.2
+    (ap (λ (e : Device). e.pending) opens.stands.device_is ∙ c.requires.held.1)
+    c.say_declined-status.ensures.says (λ ending. k.3 (is_failing ending)) in (
+      Err c.in-Err.declined,
+      (λ o is. takes_none c.args.made d o (g.L.Library.content c.args.library.now) (g.L.Library.faults c.args.library.now)
+          (g.L.Library.faults c.args.library.now) c.in-Err.declined c.in-Err.is),
+      (t.0, t.1),
+      (λ holds. still_files g.J.Journal.entries g.J.Journal.files g.met.D.Disk.laws c.args.disk.now p (records_of t.0.history) t.2 stands holds),
+      (λ fails. absurd (t.3 fails)),
+      (λ failed. absurd ((inside_made c.args.made c.in-Err.declined c.in-Err.is c.requires.inside).0 failed)),
+      (λ failed. absurd ((inside_made c.args.made c.in-Err.declined c.in-Err.is c.requires.inside).1 failed)),
+    )
+
+pub returns-in-Err-clause-held : goal.returns-in-Err-clause-held
+returns-in-Err-clause-held g c =
+    came_held c.args.idle c.say_declined-status.result standings.AsBefore g.D.Disk.is_modelled g.D.Disk.may_leave g.J.Journal.stands g.J.Journal.end
+    c.args.disk.now c.back_or_over.result c.back_or_over.ensures.exact c.requires.held
+
+pub returns-in-Err-clause-disk : goal.returns-in-Err-clause-disk
+returns-in-Err-clause-disk g c = λ is. absurd ((inside_made c.args.made c.in-Err.declined c.in-Err.is c.requires.inside).0
+    (declined_disk c.in-Err.declined (told_is c.say_declined-status.result _ statuses.Disk c.say_declined-status.ensures.answers (λ e. cc) (λ e. cc)
+    (sym (status_came c.args.idle c.say_declined-status.result standings.AsBefore c.back_or_over.result c.back_or_over.ensures.exact) ∙ is))))
+
+pub returns-in-Err-clause-edge : goal.returns-in-Err-clause-edge
+returns-in-Err-clause-edge g c = λ is. c.say_declined-status.ensures.edge
+    (sym (status_came c.args.idle c.say_declined-status.result standings.AsBefore c.back_or_over.result c.back_or_over.ensures.exact) ∙ is)
+
+pub returns-in-Err-clause-quiet_sink : goal.returns-in-Err-clause-quiet_sink
+returns-in-Err-clause-quiet_sink g c = λ edge. c.say_declined-status.ensures.quiet
+    (λ e. edge ((status_came c.args.idle c.say_declined-status.result standings.AsBefore c.back_or_over.result c.back_or_over.ensures.exact) ∙ e))
+
+pub returns-in-Err-clause-library : goal.returns-in-Err-clause-library
+returns-in-Err-clause-library g c = λ is. absurd ((inside_made c.args.made c.in-Err.declined c.in-Err.is c.requires.inside).1
+    (declined_library c.in-Err.declined (told_is c.say_declined-status.result _ statuses.Library c.say_declined-status.ensures.answers (λ e. cc) (λ e. cc)
+    (sym (status_came c.args.idle c.say_declined-status.result standings.AsBefore c.back_or_over.result c.back_or_over.ensures.exact) ∙ is))))
+
+pub returns-in-Err-clause-later : goal.returns-in-Err-clause-later
+returns-in-Err-clause-later g c = (
+  stays_later (g.D.Disk.faults c.args.disk.now) (g.D.Disk.faults c.args.disk.now) (omega arith),
+  stays_later (g.K.Sink.faults c.args.sink.now) (g.K.Sink.faults c.say_declined-status.new.sink) c.say_declined-status.ensures.later,
+)
+
+-- ---- no stray file is left behind a close
+
+pub returns-in-Err-clause-swept : goal.returns-in-Err-clause-swept
+returns-in-Err-clause-swept g c =
+    let d = idle_device c.args.idle in
+    none_closes g.met.D.Disk.laws g.met.J.Journal.laws c.args.disk.now d (status_of_ran c.back_or_over.result)
+    (λ i left. in_hand_stands g.met.D.Disk.laws g.met.J.Journal.laws c.args.idle.log c.args.disk.now d c.requires.held.0 i left)
