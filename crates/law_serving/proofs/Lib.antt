@@ -1,0 +1,4 @@
+pub mod Records
+pub mod Running
+pub mod Going
+pub mod Alike

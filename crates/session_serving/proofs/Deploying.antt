@@ -1,0 +1,532 @@
+-- One deployment in a call that serves, from what is promised of one in a call of its own.
+use Rattle.std.specs.Prelude.{◌⊎◌, ℕ, Bool, true, false, List, [], ◌∷◌, ◌++◌, Option, Some, None, IfSome, Result, Ok, Err, is_some}
+use Rattle.std.specs.List.{AllByRecursion}
+use Rattle.std.specs.Option.{IsSomeAnd}
+use Rattle.std.specs.Io.KnownBytes.{Appends}
+use Rattle.std.proofs.Common.{◌≡◌, ◌≢◌, ◌≤◌, ◌∙◌, inl, inr, refl, sym, ap, subst, arith}
+use Rattle.std.proofs.lemmas.Bool.{false≢true}
+use Rattle.disk_model.specs.Disk.{DiskLaws, Leaves}
+use Rattle.disk_model.specs.declared.disk.Disk as a_disk
+use Rattle.gate_log.specs.Journal.{JournalLaws}
+use Rattle.gate_log.specs.declared.journal.Journal as a_journal
+use Rattle.edges.specs.Pieces.{AppendsPrefix}
+use Rattle.nuc_base.specs.Faults.{Rose}
+use Rattle.nuc_base.specs.declared.status.Status.{Status}
+use Rattle.nuc_base.specs.declared.status.Status.TheVariants as statuses
+use Rattle.library_core.specs.Library.{Content}
+use Rattle.records.specs.Stored.{Record}
+use Rattle.records.specs.declared.record.Origin.{Origin}
+use Rattle.records.specs.declared.record.Plan as code
+use Rattle.device.specs.Devices.{Device}
+use Rattle.device.specs.Lawful.{Run}
+use Rattle.deploy_state.specs.Accepting.{idle_log}
+use Rattle.deploy_state.specs.States.{OwnsIdle, idle_device}
+use Rattle.deploy_state.specs.Turning.{start_of}
+use Rattle.deploy_state.specs.declared.state.Idle.{Idle}
+use Rattle.deploy_state.proofs.Steps.{in_hand_stands}
+use Rattle.admission.specs.Takes.{HasDiskFailed, HasLibraryFailed, LieElsewhere}
+use Rattle.admission.specs.declared.fault.Declined.{Declined}
+use Rattle.artifact_store.specs.Holding.{AllHoldDevice}
+use Rattle.step_runner.specs.Entries.{Told}
+use Rattle.components.specs.Components.{Components}
+use Rattle.histories.specs.Courses.{IsEnd, Stands, gives_up, is_restart}
+use Rattle.histories.specs.Follows.{IsLast, MayChangeIn}
+use Rattle.histories.specs.Phases.{Generation, current, draining, idle, is_current, is_shutting_down}
+use Rattle.histories.specs.States.{SessionState, state_after}
+use Rattle.histories.specs.TraceEvents.{Answer, TraceEvent, document, is_document, records_of}
+use Rattle.histories.specs.TraceEvents.{Asked, Booted, Changed, Heard, InboxAsked, KilledOnAbort, Moved, Recorded, StopsAll, WaitElapsed, Ran as RanEvent}
+use Rattle.law_serving.specs.Alike.{EndsOnCourse, MayDeploy, ServesAlike, StopsAtRecord, alone, beside}
+use Rattle.law_serving.proofs.Records.{idle_is, pending_idle}
+use Rattle.session_admission.specs.Accepts.{IsOpen}
+use Rattle.session_boots.specs.Ends.{StopsAt}
+use Rattle.session_boots.specs.Lines.{lines_of}
+use Rattle.session_boots.specs.Stages.{Holds}
+use Rattle.session_steady.specs.Serves.{IsServing}
+use Rattle.session_steady.proofs.Entering.{comes_of}
+use Rattle.session.specs.Calls.{IsOrEdge, StandsWhole, call_lines, opening_line}
+use Rattle.session.specs.Documents.{Follows, TakesRead}
+use Rattle.session.specs.Endings.{Ending, IsBegun, Starves, is_failing, line_of_ending, status_of_ending}
+use Rattle.session.specs.Endings.{Breaks, Closes, Declines, Fails, Forgets, Full, Idle as NothingPending, Reboots, Restarts}
+use Rattle.session.specs.Parts.{EndsCall, EndsPart, EndsRan, IsGeneration, IsReturned, Part, QuitsPart, RanLeft, status_of_ran}
+use Rattle.session.specs.declared.ran.Ran.{Ran}
+use Rattle.session.specs.declared.ran.Ran.TheVariants as ran
+use Rattle.session.specs.declared.ran.Standing.{Standing}
+use Rattle.session.specs.declared.ran.Standing.TheVariants as standings
+use Rattle.session_serving.specs.Documents.{EndsWith, IsDeployedThere, IsEnded, IsHandled, IsOf, RecordsEnd}
+use Rattle.session_serving.specs.Parts.{AllStandFor, AreOfFiles, Goes, Outside, Shows}
+use Rattle.session_serving.specs.Places.{IsAsked, IsUnopened}
+use Rattle.session_serving.specs.Rounds.{Handled}
+use Rattle.session_serving.specs.Turns.{DocumentLeft, IsReady, StaysRan}
+use Rattle.session_serving.proofs.Images.{part_images, whole_now}
+
+clash : (b : Bool) → b ≡ true → b ≡ false → ⊥
+clash b on off = absurd (false≢true (sym off ∙ on))
+
+-- ---- where it begins
+
+none_pending : {A : Type 0} (o : Option A) → o ≡ None → is_some o ≡ false
+none_pending o is = ap is_some is
+
+-- the document may be taken
+module _ (p : SessionState) (d : Device) (world : Components) (told : Told) (living : List ℕ) (a : IsAsked document p d world told living) where
+  asked_none : p.device.pending ≡ None
+  asked_none = pending_idle p.device a.steady.idle_is
+
+  pub asked_deploys : MayDeploy p
+  asked_deploys = record {
+    serves = a.steady.serves;
+    going = ap (λ (c : Generation). is_shutting_down c) a.steady.generation;
+    takes = inr (
+      none_pending p.device.pending asked_none,
+      record {
+        opened = a.steady.opened;
+        current = ap (λ (c : Generation). is_current c) a.steady.generation;
+        given = subst (λ (o : Option Answer). IsSomeAnd o (λ x. is_document x ≡ true)) (sym a.answer_is) refl;
+      },
+    );
+  }
+
+  asked_stands : Stands p d world told living
+  asked_stands =
+      let s = (comes_of p p world told living a.turn).stands in
+      record {
+        device_is = a.device_is;
+        world_is = s.world_is;
+        answered = s.answered;
+        not_before = s.not_before;
+        asked = s.asked;
+        children = s.children;
+      }
+
+  pub asked_open : IsOpen (alone p) d world told living
+  asked_open =
+      let s = asked_stands in
+      record {
+        stands = record {
+          device_is = s.device_is;
+          world_is = s.world_is;
+          answered = s.answered;
+          not_before = s.not_before;
+          asked = s.asked;
+          children = s.children;
+        };
+        quiet = a.quiet;
+        going = ap (λ (c : Generation). is_shutting_down c) a.steady.generation;
+        boot = a.steady.boot;
+        boot_end = a.steady.boot_end;
+        takes = none_pending p.device.pending asked_none;
+        over = a.steady.over;
+        cut = a.steady.cut;
+      }
+
+-- ---- how it ends
+
+stops_as : (h : List TraceEvent) → StopsAt h → StopsAtRecord h
+stops_as h s = record { cuts = s.cuts; last = s.last; before = s.before; split = s.split; kills = s.kills }
+
+quits_course : (p : SessionState) (h : List TraceEvent) → QuitsPart p h → EndsOnCourse p h
+quits_course p h (inl unbegun) = inr (inl unbegun.0)
+quits_course p h (inr stops) = inr (inr (inl (stops_as h stops)))
+
+over_course : (p : SessionState) (h : List TraceEvent) (status : Status) (rose : Bool) → EndsCall status → (gives_up status ≡ true → QuitsPart p h) →
+    IsEnd (state_after p h) status rose → EndsOnCourse p h
+over_course p h status rose (inl gives) quits end = quits_course p h (quits gives)
+over_course p h status rose (inr restarts) quits end = inr (inr (inr (end.restarts restarts)))
+
+pub ran_course : {J : Type 0} (r : Ran J) (p : SessionState) (h : List TraceEvent) (before : Generation) (rose : Bool) (world : Components) (told : Told)
+    (living : List ℕ) → EndsRan r → (gives_up (status_of_ran r) ≡ true → QuitsPart p h) → RanLeft before r rose (state_after p h) world told living →
+    EndsOnCourse p h
+ran_course (ran.Back s status standing) p h before rose world told living ends quits left = inl left.0.going
+ran_course (ran.Over status) p h before rose world told living ends quits left = over_course p h status rose ends quits left
+
+-- it comes back with a status by which the call goes on
+pub stays_ran : {J : Type 0} (r : Ran J) (before : Generation) (rose : Bool) (q : SessionState) (world : Components) (told : Told) (living : List ℕ) →
+    RanLeft before r rose q world told living → StaysRan r
+stays_ran (ran.Back s status standing) before rose q world told living left = (left.2, left.3)
+stays_ran (ran.Over status) before rose q world told living left = tt
+
+-- ---- the state behind it
+
+pub device_same : (p : SessionState) (h : List TraceEvent) → (s : ServesAlike p h) → (state_after p h).device ≡ (state_after (alone p) h).device
+device_same p h s = ap (λ (q : SessionState). q.device) s.state_is
+
+pub turns_same : (p : SessionState) (h : List TraceEvent) → ServesAlike p h → (state_after p h).turns ≡ p.turns
+turns_same p h s = ap (λ (q : SessionState). q.turns) s.state_is
+
+module _ (p : SessionState) (a : Option Answer) (t : Bool) (q : SessionState) (d : Device) (world : Components) (told : Told) (living : List ℕ)
+    (r : IsReturned q d world told living) where
+  returned_beside : IsReturned (beside p a t q) d world told living
+  returned_beside =
+      let s = r.stands in
+      record {
+        stands = record {
+          device_is = s.device_is;
+          world_is = s.world_is;
+          answered = s.answered;
+          not_before = s.not_before;
+          asked = s.asked;
+          children = s.children;
+        };
+        quiet = r.quiet;
+        orderly = r.orderly;
+        idle_is = r.idle_is;
+        going = r.going;
+        boot = r.boot;
+        boot_end = r.boot_end;
+        over = r.over;
+        cut = r.cut;
+      }
+
+  serving_beside : p.opened ≡ true → q.generation ≡ current → IfSome a (λ x. is_document x ≡ true) → IsServing (beside p a t q) d world told living
+  serving_beside opened generation done =
+      let b = returned_beside in
+      record {
+        stands = b.stands;
+        steady = record {
+          serves = refl;
+          idle_is = idle_is q.device (ap (λ (x : Device). x.pending) r.stands.device_is ∙ r.idle_is);
+          generation = generation;
+          opened = opened;
+          boot = r.boot;
+          boot_end = r.boot_end;
+          over = r.over;
+          cut = r.cut;
+        };
+        done = done;
+        orderly = r.orderly;
+      }
+
+  pub unopened_beside : MayChangeIn idle q.generation (beside p a t q) →
+      IfSome a (λ x. is_document x ≡ true) → IsUnopened (beside p a t q) d world told living
+  unopened_beside may done = record { returned = returned_beside; serves = refl; may = may; done = done }
+
+done_of : (p : SessionState) (a : Option Answer) → (a ≡ p.answer) ⊎ (a ≡ None) → IfSome p.answer (λ x. is_document x ≡ true) →
+    IfSome a (λ x. is_document x ≡ true)
+done_of p a (inl same) done = subst (λ (o : Option Answer). IfSome o (λ x. is_document x ≡ true)) (sym same) done
+done_of p a (inr none) done = subst (λ (o : Option Answer). IfSome o (λ x. is_document x ≡ true)) (sym none) tt
+
+pub drained : (p q : SessionState) → q.generation ≡ draining → p.serves ≡ true → MayChangeIn idle q.generation p
+drained p q is serves = subst (λ (c : Generation). MayChangeIn idle c p) (sym is) serves
+
+-- behind a document
+ready_beside : (standing : Standing) (p : SessionState) (a : Option Answer) (t : Bool) (q : SessionState) (d : Device) (world : Components) (told : Told)
+    (living : List ℕ) → IsReturned q d world told living → IsGeneration standing p.generation q.generation → p.generation ≡ current → p.opened ≡ true →
+    IfSome a (λ x. is_document x ≡ true) → IsReady standing (beside p a t q) d world told living
+ready_beside standings.AsBefore p a t q d world told living r of before opened done =
+    (serving_beside p a t q d world told living r opened (of ∙ before) done, returned_beside p a t q d world told living r)
+ready_beside standings.OfSet p a t q d world told living r of before opened done =
+    (serving_beside p a t q d world told living r opened of done, returned_beside p a t q d world told living r)
+ready_beside standings.Nobody p a t q d world told living r of before opened done =
+    unopened_beside p a t q d world told living r (drained (beside p a t q) q of refl) done
+
+-- ---- what is printed
+
+no_opening : (d : Device) → d.pending ≡ None → opening_line d ≡ []
+no_opening d is = by d.pending is
+  where
+    by : (o : Option _) → o ≡ None → opening_line (record d { pending = o }) ≡ []
+    by None none = refl
+    by (Some q) none = absurd cc
+
+-- of a document, where none was pending
+lines_at : (d : Device) (told : List Record) (ending : Ending) → d.pending ≡ None → (ending ≡ Starves → told ≡ []) →
+    call_lines d told ending ≡ lines_of d told ++ line_of_ending ending
+lines_at d told Starves is none = sym (ap (λ (l : List Record). lines_of d l ++ []) (none refl))
+lines_at d told (Closes o) is none = ap (λ (l : List ℕ). l ++ (lines_of d told ++ line_of_ending (Closes o))) (no_opening d is)
+lines_at d told (Restarts i) is none = ap (λ (l : List ℕ). l ++ (lines_of d told ++ line_of_ending (Restarts i))) (no_opening d is)
+lines_at d told (Reboots i) is none = ap (λ (l : List ℕ). l ++ (lines_of d told ++ line_of_ending (Reboots i))) (no_opening d is)
+lines_at d told Fails is none = ap (λ (l : List ℕ). l ++ (lines_of d told ++ line_of_ending Fails)) (no_opening d is)
+lines_at d told Breaks is none = ap (λ (l : List ℕ). l ++ (lines_of d told ++ line_of_ending Breaks)) (no_opening d is)
+lines_at d told Forgets is none = ap (λ (l : List ℕ). l ++ (lines_of d told ++ line_of_ending Forgets)) (no_opening d is)
+lines_at d told (Declines x) is none = ap (λ (l : List ℕ). l ++ (lines_of d told ++ line_of_ending (Declines x))) (no_opening d is)
+lines_at d told (Full at) is none = ap (λ (l : List ℕ). l ++ (lines_of d told ++ line_of_ending (Full at))) (no_opening d is)
+lines_at d told NothingPending is none = ap (λ (l : List ℕ). l ++ (lines_of d told ++ line_of_ending NothingPending)) (no_opening d is)
+
+front_none : (front rest records : List Record) → records ≡ front ++ rest → records ≡ [] → front ≡ []
+front_none [] rest records split none = refl
+front_none (r ∷ front) rest records split none = absurd (never (sym split ∙ none))
+  where
+    never : r ∷ (front ++ rest) ≡ [] → ⊥
+    never e = cc
+
+starves_none : (start : ℕ → ℕ) (taken : Result code.Plan Declined) (ending : Ending) (records : List Record) → Follows start taken ending records →
+    ending ≡ Starves → records ≡ []
+starves_none start (Err d) ending records follows is = follows.1
+starves_none start (Ok plan) ending records (inl put) is = put.1
+starves_none start (Ok plan) ending records (inr begun) is = absurd (subst (λ (e : Ending). IsBegun e) is begun.0)
+
+-- ---- the status
+
+pub not_edge : (status : Status) → gives_up status ≡ false → status ≢ statuses.Edge
+not_edge status stays is = clash (gives_up status) (ap gives_up is) stays
+
+pub own_status : (status own : Status) → IsOrEdge status own → gives_up status ≡ false → status ≡ own
+own_status status own (inl is) stays = is
+own_status status own (inr edge) stays = absurd (not_edge status stays edge)
+
+pub over_status : (status own : Status) → IsOrEdge status own → EndsCall status → EndsWith own status
+over_status status own (inl is) ends = inl (is, subst EndsCall is ends)
+over_status status own (inr edge) ends = inr edge
+
+-- ---- the end is the same
+
+pub end_beside : (q r : SessionState) (a : Option Answer) (t : Bool) (p : SessionState) → r ≡ beside p a t q → (status : Status) (rose : Bool) →
+    IsEnd q status rose → IsEnd r status rose
+end_beside q r a t p is status rose e = subst (λ (s : SessionState). IsEnd s status rose) (sym is) (record {
+  bare = record { parts = e.bare.parts; boot = e.bare.boot };
+  stopped = e.stopped;
+  cut = e.cut;
+  told = e.told;
+  recorded = e.recorded;
+  restarts = e.restarts;
+  over = e.over;
+})
+
+-- ---- how the records end
+
+no_records : (h : List TraceEvent) → AllByRecursion IsLast h → records_of h ≡ []
+no_records [] all = refl
+no_records (KilledOnAbort e ∷ h) all = no_records h all.1
+no_records (Asked m ∷ h) all = no_records h all.1
+no_records (RanEvent e k of ∷ h) all = absurd all.0
+no_records (Booted e m ∷ h) all = absurd all.0
+no_records (WaitElapsed e ∷ h) all = absurd all.0
+no_records (Recorded r ∷ h) all = absurd all.0
+no_records (Moved k e ∷ h) all = absurd all.0
+no_records (Heard k ∷ h) all = absurd all.0
+no_records (InboxAsked a ∷ h) all = absurd all.0
+no_records (Changed f c b ∷ h) all = absurd all.0
+no_records (StopsAll ∷ h) all = absurd all.0
+
+pub records_end : (p : SessionState) (ending : Ending) (h : List TraceEvent) → EndsPart p ending h → RecordsEnd ending (records_of h) (state_after p h).device
+records_end p (Closes o) h ends = ends
+records_end p (Restarts id) h ends = ends
+records_end p (Reboots id) h ends = ends
+records_end p Fails h ends = tt
+records_end p Breaks h ends = tt
+records_end p Forgets h ends = ends
+records_end p Starves h ends = no_records h ends.0
+records_end p (Declines x) h ends = no_records h ends.0
+records_end p (Full at) h ends = no_records h ends.0
+records_end p NothingPending h ends = no_records h ends.0.0
+
+failing_is : (ending : Ending) → is_failing ending ≡ true → ending ≡ Fails
+failing_is Fails on = refl
+failing_is (Closes o) on = absurd (false≢true on)
+failing_is (Restarts i) on = absurd (false≢true on)
+failing_is (Reboots i) on = absurd (false≢true on)
+failing_is Breaks on = absurd (false≢true on)
+failing_is Forgets on = absurd (false≢true on)
+failing_is Starves on = absurd (false≢true on)
+failing_is (Declines x) on = absurd (false≢true on)
+failing_is (Full at) on = absurd (false≢true on)
+failing_is NothingPending on = absurd (false≢true on)
+
+-- a status by which the call goes on is not the disk's, nor the edge's
+pub stays_quiet : (status : Status) (before now : ℕ) → (status ≢ statuses.Disk → status ≢ statuses.Edge → now ≡ before) → gives_up status ≡ false → now ≡ before
+stays_quiet status before now quiet stays = quiet (λ is. clash (gives_up status) (ap gives_up is) stays) (not_edge status stays)
+
+-- ---- the whole of one document
+
+module _ {D J : Type 0} (disk : a_disk.Ghosts D) (journal : a_journal.Ghosts J)
+    (laws : DiskLaws disk.is_modelled disk.seen disk.may_leave disk.moment disk.left_since)
+    (own : JournalLaws journal.files journal.entries journal.holds_none journal.is_damaged journal.stands journal.end) (apart : LieElsewhere journal.files)
+    (files_own : AreOfFiles journal.files journal.entries) (content : Option Content) (idle : Idle J) (bytes : List ℕ) (old new : Outside D)
+    (held : Holds disk journal OwnsIdle idle old.disk) (p : SessionState) (world : Components) (told : Told) (living : List ℕ)
+    (asked : IsAsked document p (idle_device idle) world told living) where
+  abbrev Start : ℕ → ℕ
+  Start = start_of journal.end journal.number journal.turns (idle_log idle) (idle_device idle)
+
+  begun_stands : AllStandFor disk journal old.disk p.device
+  begun_stands = subst (λ (x : Device). AllStandFor disk journal old.disk x) (sym asked.device_is)
+      (λ c left. in_hand_stands laws own idle.log old.disk (idle_device idle) held.0 c left)
+
+  -- the journal that is in hand
+  starts_here : Shows disk journal old.disk old.disk (idle_device idle) Start
+  starts_here told_is =
+      let c = disk.seen old.disk in
+      let left = laws.reads old.disk told_is in (
+        c,
+        laws.counts_now old.disk (disk.moment old.disk) c (omega arith) left,
+        record { log = idle_log idle; payloads = held.0.payloads; stands = held.0.behind.each c left; start_is = refl },
+      )
+
+  module _ (status : Status) (leaves : Ending → SessionState → Type 0)
+      (part : Part journal.entries journal.files disk.may_leave disk.moment disk.left_since old.disk new.disk old.list new.list old.held new.held (alone p)
+      status leaves)
+      (alike : ServesAlike p part.history) (taken : Result code.Plan Declined)
+      (takes : (o : Origin) → (idle_device idle).origin ≡ Some o → TakesRead (idle_device idle) o content old.library new.library bytes taken)
+      (follows : Follows Start taken part.ending (records_of part.history))
+      (failed : part.ending ≡ Fails → Rose old.faults new.faults) (disk_cause : HasDiskFailed taken → Rose old.faults new.faults)
+      (library_cause : HasLibraryFailed taken → Rose old.library new.library) (library_later : old.library ≤ new.library)
+      (whole : AllHoldDevice (disk.may_leave old.disk) p.device → Leaves disk.moment disk.left_since old.disk new.disk
+      (StandsWhole journal.entries p.device (records_of part.history))) where
+    abbrev H : List TraceEvent
+    H = part.history
+
+    abbrev X : Handled
+    X = record {
+      bytes = bytes;
+      device = idle_device idle;
+      records = records_of H;
+      told = part.prints.told;
+      untold = part.prints.rest;
+      behind = (state_after p H).device;
+      lines = lines_of (idle_device idle) part.prints.told ++ line_of_ending part.ending;
+      status = status_of_ending part.ending;
+      before = old.library;
+      after = new.library;
+      disk_before = old.faults;
+      disk_after = new.faults;
+      start = Start;
+    }
+
+    same : (state_after p H).device ≡ (state_after (alone p) H).device
+    same = device_same p H alike
+
+    goes : Goes disk journal old.disk new.disk old.list new.list p H
+    goes = record {
+      proper = alike.proper;
+      run = subst (λ (x : Device). Run p.device (records_of H) x) (sym same) part.trace.run;
+      list = part.trace.list;
+      images = part_images disk journal laws apart files_own old.disk new.disk old.list new.list old.held new.held (alone p) status leaves part begun_stands;
+      whole = whole;
+    }
+
+    clause : IsDeployedThere content X
+    clause = record {
+      taken = taken;
+      takes = takes;
+      library_cause = library_cause;
+      library_later = library_later;
+      ending = part.ending;
+      follows = follows;
+      ends = subst (λ (x : Device). RecordsEnd part.ending (records_of H) x) (sym same) (records_end (alone p) part.ending H part.ends);
+      failed = failed;
+      disk_cause = disk_cause;
+      status = refl;
+      split = part.prints.split;
+      few = part.prints.few;
+      all = part.prints.all;
+      lines = refl;
+    }
+
+    -- its lines
+    lines_is : call_lines p.device part.prints.told part.ending ≡ X.lines
+    lines_is =
+        ap (λ (x : Device). call_lines x part.prints.told part.ending) asked.device_is
+        ∙ lines_at (idle_device idle) part.prints.told part.ending held.1
+        (λ is. front_none part.prints.told part.prints.rest (records_of H) part.prints.split (starves_none Start taken part.ending (records_of H) follows is))
+
+    starts : Shows disk journal old.disk new.disk (idle_device idle) Start
+    starts told_is =
+        let s = starts_here told_is in
+        (s.0, goes.images.keeps (disk.moment old.disk) s.0 (omega arith) s.1, s.2)
+
+    is_of : IsOf disk journal (IsDeployedThere content) old new p H X
+    is_of = record {
+      records = refl;
+      device = sym asked.device_is;
+      behind = refl;
+      before = refl;
+      after = refl;
+      disk_before = refl;
+      disk_after = refl;
+      clause = clause;
+      starts = starts;
+    }
+
+    -- the call goes on
+    handled_at : gives_up status ≡ false → is_restart status ≡ false → new.faults ≡ old.faults → AllStandFor disk journal new.disk (state_after p H).device →
+        IsHandled disk journal (IsDeployedThere content) old new p H X
+    handled_at stays other quiet stands =
+        let is = own_status status (status_of_ending part.ending) part.answers stays in
+        record {
+          goes = goes;
+          stands = stands;
+          holds = λ all. whole_now disk journal laws apart files_own own old.disk new.disk p.device (state_after p H).device (records_of H) (whole all) stands;
+          lines = subst (λ (l : List ℕ). Appends old.held new.held l) lines_is (part.prints.whole (not_edge status stays));
+          is_of = is_of;
+          stays = (sym (ap gives_up is) ∙ stays, sym (ap is_restart is) ∙ other);
+          turns = turns_same p H alike;
+          faults = quiet;
+        }
+
+    -- it ends
+    ended_at : EndsCall status → (rose : Bool) → (rose ≡ true → Rose old.faults new.faults) → IsEnd (state_after (alone p) H) status rose →
+        IsEnded disk journal (IsDeployedThere content) old new p H X status rose
+    ended_at ends rose cause end = record {
+      goes = goes;
+      sure = record {
+        most = part.stands;
+        doubt = elim part.doubt [
+          | inl stands ↦ inl (subst (λ (x : Device). AllStandFor disk journal new.disk x) (sym same) stands)
+          | inr stops ↦ inr stops.1
+        ];
+      };
+      stable = λ none. subst (λ (x : Device). AllStandFor disk journal new.disk x) (sym same) (part.prints.stable none);
+      lines = X.lines;
+      says = inl refl;
+      writes = record {
+        front = subst (λ (l : List ℕ). AppendsPrefix old.held new.held l) lines_is part.prints.front;
+        all = λ other. subst (λ (l : List ℕ). Appends old.held new.held l) lines_is (part.prints.whole other);
+      };
+      is_of = is_of;
+      with_status = over_status status (status_of_ending part.ending) part.answers ends;
+      cause = cause;
+      end = end_beside (state_after (alone p) H) (state_after p H) alike.answer alike.taken p alike.state_is status rose end;
+    }
+
+  -- what the handling leaves
+  module _ (r : Ran J) (later : Components) (now : Told) (lives : List ℕ) (ends : EndsRan r)
+      (part : Part journal.entries journal.files disk.may_leave disk.moment disk.left_since old.disk new.disk old.list new.list old.held new.held (alone p)
+      (status_of_ran r) (λ ending q. RanLeft p.generation r (is_failing ending) q later now lives))
+      (alike : ServesAlike p part.history) (taken : Result code.Plan Declined)
+      (takes : (o : Origin) → (idle_device idle).origin ≡ Some o → TakesRead (idle_device idle) o content old.library new.library bytes taken)
+      (follows : Follows Start taken part.ending (records_of part.history))
+      (failed : part.ending ≡ Fails → Rose old.faults new.faults) (disk_cause : HasDiskFailed taken → Rose old.faults new.faults)
+      (library_cause : HasLibraryFailed taken → Rose old.library new.library) (library_later : old.library ≤ new.library)
+      (whole : AllHoldDevice (disk.may_leave old.disk) p.device → Leaves disk.moment disk.left_since old.disk new.disk
+      (StandsWhole journal.entries p.device (records_of part.history))) where
+    pub document_left : (gives_up (status_of_ran r) ≡ false → new.faults ≡ old.faults) → ((s : Idle J) → (st : Status) → (standing : Standing) →
+        r ≡ ran.Back s st standing →
+        AllStandFor disk journal new.disk (idle_device s)) →
+        DocumentLeft disk journal (IsDeployedThere content) bytes r old new p part.history later now lives
+    document_left quiet stands = by r refl part.left ends stands
+      where
+        by : (x : Ran J) → r ≡ x → RanLeft p.generation x (is_failing part.ending) (state_after (alone p) part.history) later now lives → EndsRan x →
+            ((s : Idle J) → (st : Status) → (standing : Standing) → r ≡ ran.Back s st standing → AllStandFor disk journal new.disk (idle_device s)) →
+            DocumentLeft disk journal (IsDeployedThere content) bytes x old new p part.history later now lives
+        by (ran.Back s st standing) is left end there =
+            let status_is : status_of_ran r ≡ st = ap status_of_ran is in
+            let q = state_after (alone p) part.history in (
+              X (status_of_ran r) (λ ending q. RanLeft p.generation r (is_failing ending) q later now lives) part alike taken takes follows failed
+                  disk_cause library_cause library_later whole,
+              refl,
+              handled_at (status_of_ran r) (λ ending q. RanLeft p.generation r (is_failing ending) q later now lives) part alike taken takes follows failed
+                  disk_cause
+                  library_cause library_later whole (ap gives_up status_is ∙ left.2) (ap is_restart status_is ∙ left.3)
+                  (quiet (ap gives_up status_is ∙ left.2))
+                  (subst (λ (x : Device). AllStandFor disk journal new.disk x)
+                  (sym (device_same p part.history alike ∙ left.0.stands.device_is)) (there s st standing is)),
+              subst (λ (z : SessionState). IsReady standing z (idle_device s) later now lives) (sym alike.state_is)
+                  (ready_beside standing p alike.answer alike.taken q (idle_device s) later now lives left.0 left.1 asked.steady.generation
+                  asked.steady.opened (done_of p alike.answer alike.answered
+                  (subst (λ (o : Option Answer). IfSome o (λ x. is_document x ≡ true)) (sym asked.answer_is) refl))),
+            )
+        by (ran.Over st) is left end there =
+            let status_is : status_of_ran r ≡ st = ap status_of_ran is in
+            let e = ended_at (status_of_ran r) (λ ending q. RanLeft p.generation r (is_failing ending) q later now lives) part alike taken takes follows
+            failed disk_cause
+            library_cause library_later whole (subst EndsCall (sym status_is) end) (is_failing part.ending)
+            (λ on. failed (failing_is part.ending on))
+            (subst (λ (z : Status). IsEnd (state_after (alone p) part.history) z (is_failing part.ending)) (sym status_is) left) in (
+              X (status_of_ran r) (λ ending q. RanLeft p.generation r (is_failing ending) q later now lives) part alike taken takes follows failed
+                  disk_cause library_cause library_later whole,
+              is_failing part.ending,
+              refl,
+              subst (λ (z : Status). IsEnded disk journal (IsDeployedThere content) old new p part.history
+                  (X (status_of_ran r) (λ ending q. RanLeft p.generation r (is_failing ending) q later now lives) part alike taken takes follows failed
+                  disk_cause library_cause library_later whole)
+                  z (is_failing part.ending)) status_is e,
+            )

@@ -1,0 +1,7 @@
+pub mod Rounds
+pub mod Parts
+pub mod Causes
+pub mod Documents
+pub mod Places
+pub mod Turns
+pub mod Served

@@ -1,0 +1,167 @@
+//! A whole call that serves.
+ghost use Rattle.std.specs.Prelude.{◌≡◌, [], List};
+ghost use Rattle.deploy_state.specs.States.{OwnsIdle, OwnsLoaded, idle_device, loaded_device};
+ghost use Rattle.admission.specs.Takes.{LieElsewhere};
+ghost use Rattle.histories.specs.States.{SessionState};
+ghost use Rattle.histories.specs.TraceEvents.{TraceEvent};
+ghost use Rattle.session_boots.specs.Stages.{AsTold, Holds};
+ghost use Rattle.session_steady.specs.Serves.{IsServing};
+ghost use Rattle.session_serving.specs.Causes.{IsCaused, watched};
+ghost use Rattle.session_serving.specs.Documents.{IsDeployedThere};
+ghost use Rattle.session_serving.specs.Parts.{AreOfFiles, outside};
+ghost use Rattle.session_serving.specs.Places.{AreUp, IsBegun, IsUnopened};
+ghost use Rattle.session_serving.specs.Served.{IsServed, IsWholeCall};
+
+use crate::ends::{give_up, say_ended, stop_all, stop_spent};
+use crate::opening::open_set;
+use crate::pending::finish_pending;
+use crate::turned::Turned;
+use crate::turns::take_turns;
+use components::Supervise;
+use deploy_state::{Idle, Loaded};
+use disk_model::Disk;
+use edges::{Inbox, Sink};
+use gate_log::Journal;
+use library_core::Library;
+use nuc_base::Status;
+use session::Ran;
+use std::alloc::Global;
+use step_runner::Runner;
+
+/// Takes the turns, and ends the call.
+fn serve_turns<D: Disk, J: Journal + Drop, L: Library, I: Inbox, K: Sink, R: Runner, S: Supervise>(
+    alloc: Global,
+    idle: Idle<J>,
+    turns: u32,
+    disk: &mut D,
+    library: &mut L,
+    inbox: &mut I,
+    sink: &mut K,
+    runner: &mut R,
+    supervisor: &mut S,
+) -> Status
+where
+    S::Ready: Drop,
+    requires held { Holds D.Disk J.Journal OwnsIdle idle disk.old }
+    requires apart { LieElsewhere J.files }
+    requires own { AreOfFiles J.files J.entries }
+    requires up { AreUp (idle_device idle) (S.world supervisor.old) }
+    requires placed { (p : SessionState) × AsTold R.Runner runner.old (IsServing p (idle_device idle) (S.world supervisor.old)) × (p.turns ≡ turns) }
+    ensures served { (p : SessionState) → AsTold R.Runner runner.old (IsServing p (idle_device idle) (S.world supervisor.old)) → p.turns ≡ turns →
+        (h : List TraceEvent) × IsServed D.Disk J.Journal (IsDeployedThere (L.content library.old)) turns
+        (outside D.Disk K.Sink R.Runner L.Library I.Inbox disk.old sink.old runner.old library.old inbox.old)
+        (outside D.Disk K.Sink R.Runner L.Library I.Inbox disk.new sink.new runner.new library.new inbox.new)
+        p h result }
+    ensures none { R.living runner.new ≡ [] }
+    ensures kept { L.content library.new ≡ L.content library.old }
+    ensures caused { IsCaused D.is_modelled J.files result
+        (watched D.Disk K.Sink L.Library I.Inbox disk.old sink.old library.old inbox.old)
+        (watched D.Disk K.Sink L.Library I.Inbox disk.new sink.new library.new inbox.new) }
+{
+    match take_turns(
+        alloc, idle, turns, disk, library, inbox, sink, runner, supervisor,
+    ) {
+        Turned::On(idle) => {
+            drop(idle);
+            if !stop_spent(runner, supervisor) {
+                return Status::Memory;
+            }
+            say_ended(turns, sink)
+        }
+        Turned::Shut(idle) => {
+            drop(idle);
+            stop_all(runner, supervisor);
+            Status::Done
+        }
+        Turned::Over(status) => status,
+    }
+}
+
+/// Brings the set up, and serves it to the end of the call.
+fn serve_set<D: Disk, J: Journal + Drop, L: Library, I: Inbox, K: Sink, R: Runner, S: Supervise>(
+    alloc: Global,
+    idle: Idle<J>,
+    turns: u32,
+    disk: &mut D,
+    library: &mut L,
+    inbox: &mut I,
+    sink: &mut K,
+    runner: &mut R,
+    supervisor: &mut S,
+) -> Status
+where
+    S::Ready: Drop,
+    requires held { Holds D.Disk J.Journal OwnsIdle idle disk.old }
+    requires apart { LieElsewhere J.files }
+    requires own { AreOfFiles J.files J.entries }
+    requires up { AreUp (idle_device idle) (S.world supervisor.old) }
+    requires placed { (p : SessionState) × AsTold R.Runner runner.old (IsUnopened p (idle_device idle) (S.world supervisor.old)) × (p.turns ≡ turns) }
+    ensures served { (p : SessionState) → AsTold R.Runner runner.old (IsUnopened p (idle_device idle) (S.world supervisor.old)) → p.turns ≡ turns →
+        (h : List TraceEvent) × IsServed D.Disk J.Journal (IsDeployedThere (L.content library.old)) turns
+        (outside D.Disk K.Sink R.Runner L.Library I.Inbox disk.old sink.old runner.old library.old inbox.old)
+        (outside D.Disk K.Sink R.Runner L.Library I.Inbox disk.new sink.new runner.new library.new inbox.new)
+        p h result }
+    ensures none { R.living runner.new ≡ [] }
+    ensures kept { L.content library.new ≡ L.content library.old }
+    ensures caused { IsCaused D.is_modelled J.files result
+        (watched D.Disk K.Sink L.Library I.Inbox disk.old sink.old library.old inbox.old)
+        (watched D.Disk K.Sink L.Library I.Inbox disk.new sink.new library.new inbox.new) }
+{
+    match open_set(alloc, &idle, supervisor) {
+        Ok(()) => serve_turns(
+            alloc, idle, turns, disk, library, inbox, sink, runner, supervisor,
+        ),
+        Err(_) => {
+            drop(idle);
+            give_up(runner, supervisor);
+            Status::Memory
+        }
+    }
+}
+
+/// Finishes a pending deployment, and then keeps the set up and deploys the documents of the inbox one after another, for so many
+/// turns or until the inbox is closed. Each turn does what is due, asks the inbox once, and handles its document, or waits for a
+/// second at most. A document that is refused, or whose deployment fails, is a line, and the call goes on. Then all components are
+/// stopped. With a restart, a reboot, or a fault the call ends at once.
+///
+/// Answers 0 where the inbox is closed, 17 behind so many turns, 100 and 101, and 5, 6 and 15. It answers 15 also at the end of
+/// the runner's clock, at 2^62 - 1 milliseconds.
+pub fn serve<D: Disk, J: Journal + Drop, L: Library, I: Inbox, K: Sink, R: Runner, S: Supervise>(
+    alloc: Global,
+    state: Loaded<J>,
+    turns: u32,
+    disk: &mut D,
+    library: &mut L,
+    inbox: &mut I,
+    sink: &mut K,
+    runner: &mut R,
+    supervisor: &mut S,
+) -> Status
+where
+    S::Ready: Drop,
+    requires held { Holds D.Disk J.Journal OwnsLoaded state disk.old }
+    // The journal does not lie among the files of artifacts.
+    requires apart { LieElsewhere J.files }
+    requires own { AreOfFiles J.files J.entries }
+    // No component stands.
+    requires empty { (S.world supervisor.old).parts ≡ [] }
+    requires placed { (p : SessionState) × AsTold R.Runner runner.old (IsBegun p turns (loaded_device state) (S.world supervisor.old)) }
+    ensures served { (p : SessionState) → AsTold R.Runner runner.old (IsBegun p turns (loaded_device state) (S.world supervisor.old)) →
+        (h : List TraceEvent) × IsWholeCall D.Disk J.Journal (IsDeployedThere (L.content library.old)) turns
+        (outside D.Disk K.Sink R.Runner L.Library I.Inbox disk.old sink.old runner.old library.old inbox.old)
+        (outside D.Disk K.Sink R.Runner L.Library I.Inbox disk.new sink.new runner.new library.new inbox.new)
+        p h result }
+    ensures none { R.living runner.new ≡ [] }
+    ensures kept { L.content library.new ≡ L.content library.old }
+    // It ends with 5 only where the disk's count rose, and with 6 only where the sink's or the inbox's did.
+    ensures caused { IsCaused D.is_modelled J.files result
+        (watched D.Disk K.Sink L.Library I.Inbox disk.old sink.old library.old inbox.old)
+        (watched D.Disk K.Sink L.Library I.Inbox disk.new sink.new library.new inbox.new) }
+{
+    match finish_pending(alloc, state, disk, library, inbox, sink, runner, supervisor) {
+        Ran::Back(idle, _, _) => serve_set(
+            alloc, idle, turns, disk, library, inbox, sink, runner, supervisor,
+        ),
+        Ran::Over(status) => status,
+    }
+}

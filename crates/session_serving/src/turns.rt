@@ -1,0 +1,187 @@
+// The turns of a call that serves.
+ghost use Rattle.std.specs.Prelude.{◌≡◌, ◌≤◌, ◌<◌, ◌+◌, ◌^◌, [], List};
+ghost use Rattle.deploy_state.specs.States.{OwnsIdle, idle_device};
+ghost use Rattle.admission.specs.Takes.{LieElsewhere};
+ghost use Rattle.histories.specs.States.{SessionState};
+ghost use Rattle.histories.specs.TraceEvents.{TraceEvent};
+ghost use Rattle.step_runner.specs.Entries.{Listed};
+ghost use Rattle.session_boots.specs.Stages.{AsTold, Holds};
+ghost use Rattle.session_steady.specs.Serves.{IsAsking, IsServing};
+ghost use Rattle.session_serving.specs.Causes.{IsCaused, watched};
+ghost use Rattle.session_serving.specs.Documents.{IsDeployedThere};
+ghost use Rattle.session_serving.specs.Parts.{AreOfFiles, outside};
+ghost use Rattle.session_serving.specs.Places.{AreUp};
+ghost use Rattle.session_serving.specs.Turns.{HasEnded, OwnsTurned, TurnLeft, TurnsLeft, UpTurned, status_of_turned};
+
+use crate::ends::{give_up_asking, give_up_at_last};
+use crate::handling::handle;
+use crate::turned::Turned;
+use components::Supervise;
+use deploy_state::Idle;
+use disk_model::Disk;
+use edges::{Inbox, Incoming, Sink};
+use gate_log::Journal;
+use library_core::Library;
+use nuc_base::Status;
+use session_steady::{settle, wait_turn};
+use std::alloc::Global;
+use step_runner::Runner;
+
+/// Asks the inbox once, where every act was taken: a document is handled, and where there is none the turn waits once.
+fn ask<D: Disk, J: Journal + Drop, L: Library, I: Inbox, K: Sink, R: Runner, S: Supervise>(
+    alloc: Global,
+    idle: Idle<J>,
+    now: u64,
+    disk: &mut D,
+    library: &mut L,
+    inbox: &mut I,
+    sink: &mut K,
+    runner: &mut R,
+    supervisor: &mut S,
+) -> Turned<J>
+where
+    S::Ready: Drop,
+    requires held { Holds D.Disk J.Journal OwnsIdle idle disk.old }
+    requires apart { LieElsewhere J.files }
+    requires own { AreOfFiles J.files J.entries }
+    requires now { (R.told runner.old ≡ now) × (now + 1 < 2 ^ 62) }
+    requires up { AreUp (idle_device idle) (S.world supervisor.old) }
+    requires placed { (p : SessionState) × AsTold R.Runner runner.old (IsAsking p (idle_device idle) (S.world supervisor.old)) × (1 ≤ p.turns) }
+    ensures left { (p : SessionState) → AsTold R.Runner runner.old (IsAsking p (idle_device idle) (S.world supervisor.old)) → 1 ≤ p.turns →
+        (h : List TraceEvent) × TurnLeft D.Disk J.Journal (IsDeployedThere (L.content library.old)) result
+        (outside D.Disk K.Sink R.Runner L.Library I.Inbox disk.old sink.old runner.old library.old inbox.old)
+        (outside D.Disk K.Sink R.Runner L.Library I.Inbox disk.new sink.new runner.new library.new inbox.new)
+        p h (S.world supervisor.new) (Listed R.list R.told R.asked runner.new) (R.living runner.new) }
+    ensures held { Holds D.Disk J.Journal OwnsTurned result disk.new }
+    ensures up { UpTurned result (S.world supervisor.new) }
+    ensures none { HasEnded result → R.living runner.new ≡ [] }
+    ensures kept { L.content library.new ≡ L.content library.old }
+    ensures caused { IsCaused D.is_modelled J.files (status_of_turned result)
+        (watched D.Disk K.Sink L.Library I.Inbox disk.old sink.old library.old inbox.old)
+        (watched D.Disk K.Sink L.Library I.Inbox disk.new sink.new library.new inbox.new) }
+{
+    match inbox.next(alloc) {
+        Ok(incoming) => match incoming {
+            Incoming::Nothing => {
+                wait_turn(runner, supervisor, now);
+                Turned::On(idle)
+            }
+            Incoming::Closed => Turned::Shut(idle),
+            Incoming::Document(bytes) => {
+                let turned = handle(
+                    alloc,
+                    idle,
+                    bytes.as_slice(),
+                    disk,
+                    library,
+                    inbox,
+                    sink,
+                    runner,
+                    supervisor,
+                );
+                drop(bytes);
+                turned
+            }
+        },
+        Err(fault) => {
+            drop(idle);
+            Turned::Over(give_up_asking(fault, sink, runner, supervisor))
+        }
+    }
+}
+
+/// Does what is due, and asks the inbox once: a document is handled, and where there is none the turn waits once.
+fn turn<D: Disk, J: Journal + Drop, L: Library, I: Inbox, K: Sink, R: Runner, S: Supervise>(
+    alloc: Global,
+    idle: Idle<J>,
+    disk: &mut D,
+    library: &mut L,
+    inbox: &mut I,
+    sink: &mut K,
+    runner: &mut R,
+    supervisor: &mut S,
+) -> Turned<J>
+where
+    S::Ready: Drop,
+    requires held { Holds D.Disk J.Journal OwnsIdle idle disk.old }
+    requires apart { LieElsewhere J.files }
+    requires own { AreOfFiles J.files J.entries }
+    requires up { AreUp (idle_device idle) (S.world supervisor.old) }
+    requires placed { (p : SessionState) × AsTold R.Runner runner.old (IsServing p (idle_device idle) (S.world supervisor.old)) × (1 ≤ p.turns) }
+    ensures left { (p : SessionState) → AsTold R.Runner runner.old (IsServing p (idle_device idle) (S.world supervisor.old)) → 1 ≤ p.turns →
+        (h : List TraceEvent) × TurnLeft D.Disk J.Journal (IsDeployedThere (L.content library.old)) result
+        (outside D.Disk K.Sink R.Runner L.Library I.Inbox disk.old sink.old runner.old library.old inbox.old)
+        (outside D.Disk K.Sink R.Runner L.Library I.Inbox disk.new sink.new runner.new library.new inbox.new)
+        p h (S.world supervisor.new) (Listed R.list R.told R.asked runner.new) (R.living runner.new) }
+    ensures held { Holds D.Disk J.Journal OwnsTurned result disk.new }
+    ensures up { UpTurned result (S.world supervisor.new) }
+    ensures none { HasEnded result → R.living runner.new ≡ [] }
+    ensures kept { L.content library.new ≡ L.content library.old }
+    ensures caused { IsCaused D.is_modelled J.files (status_of_turned result)
+        (watched D.Disk K.Sink L.Library I.Inbox disk.old sink.old library.old inbox.old)
+        (watched D.Disk K.Sink L.Library I.Inbox disk.new sink.new library.new inbox.new) }
+{
+    match settle(runner, supervisor) {
+        Some(now) => ask(
+            alloc, idle, now, disk, library, inbox, sink, runner, supervisor,
+        ),
+        None => {
+            drop(idle);
+            give_up_at_last(runner, supervisor);
+            Turned::Over(Status::Memory)
+        }
+    }
+}
+
+/// So many turns, or fewer, where the inbox is closed or the call ends before.
+pub(crate) fn take_turns<
+    D: Disk,
+    J: Journal + Drop,
+    L: Library,
+    I: Inbox,
+    K: Sink,
+    R: Runner,
+    S: Supervise,
+>(
+    alloc: Global,
+    idle: Idle<J>,
+    turns: u32,
+    disk: &mut D,
+    library: &mut L,
+    inbox: &mut I,
+    sink: &mut K,
+    runner: &mut R,
+    supervisor: &mut S,
+) -> Turned<J>
+where
+    S::Ready: Drop,
+    requires held { Holds D.Disk J.Journal OwnsIdle idle disk.old }
+    requires apart { LieElsewhere J.files }
+    requires own { AreOfFiles J.files J.entries }
+    requires up { AreUp (idle_device idle) (S.world supervisor.old) }
+    requires placed { (p : SessionState) × AsTold R.Runner runner.old (IsServing p (idle_device idle) (S.world supervisor.old)) × (p.turns ≡ turns) }
+    ensures left { (p : SessionState) → AsTold R.Runner runner.old (IsServing p (idle_device idle) (S.world supervisor.old)) → p.turns ≡ turns →
+        (h : List TraceEvent) × TurnsLeft D.Disk J.Journal (IsDeployedThere (L.content library.old)) result turns
+        (outside D.Disk K.Sink R.Runner L.Library I.Inbox disk.old sink.old runner.old library.old inbox.old)
+        (outside D.Disk K.Sink R.Runner L.Library I.Inbox disk.new sink.new runner.new library.new inbox.new)
+        p h (S.world supervisor.new) (Listed R.list R.told R.asked runner.new) (R.living runner.new) }
+    ensures held { Holds D.Disk J.Journal OwnsTurned result disk.new }
+    ensures up { UpTurned result (S.world supervisor.new) }
+    ensures none { HasEnded result → R.living runner.new ≡ [] }
+    ensures kept { L.content library.new ≡ L.content library.old }
+    ensures caused { IsCaused D.is_modelled J.files (status_of_turned result)
+        (watched D.Disk K.Sink L.Library I.Inbox disk.old sink.old library.old inbox.old)
+        (watched D.Disk K.Sink L.Library I.Inbox disk.new sink.new library.new inbox.new) }
+{
+    let mut idle = idle;
+    'turns: for _turn in 0..turns {
+        match turn(alloc, idle, disk, library, inbox, sink, runner, supervisor) {
+            Turned::On(next) => {
+                idle = next;
+            }
+            Turned::Shut(last) => return Turned::Shut(last),
+            Turned::Over(status) => return Turned::Over(status),
+        }
+    }
+    Turned::On(idle)
+}
