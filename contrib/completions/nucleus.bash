@@ -1,7 +1,7 @@
 # Completion of nucleus(8) for bash: source it, or put it as `nucleus` into bash-completion's folder.
 _nucleus() {
     local word=${COMP_WORDS[COMP_CWORD]} before=${COMP_WORDS[COMP_CWORD - 1]}
-    local commands="init deploy resume status plan audit" command="" at options=""
+    local commands="init deploy local config-set resume status plan why config-get audit workload" command="" at options=""
     # bash splits a word at `=`.
     if [[ $before == "=" ]]; then
         before=${COMP_WORDS[COMP_CWORD - 2]}
@@ -23,14 +23,14 @@ _nucleus() {
             mapfile -t COMPREPLY < <(compgen -W "amd64 aarch64 arm x86" -- "$word")
             return
             ;;
-        --thing | --nucleus)
+        --thing | --nucleus | --component | --pointer | --seed)
             return
             ;;
     esac
     # The command, if it stands already: a word that is none of an option's.
     for ((at = 1; at < COMP_CWORD; at++)); do
         case ${COMP_WORDS[at]} in
-            --root | --thing | --nucleus | --os | --arch)
+            --root | --thing | --nucleus | --os | --arch | --component | --pointer | --seed)
                 at=$((at + 1))
                 if [[ ${COMP_WORDS[at]} == "=" ]]; then
                     at=$((at + 1))
@@ -45,6 +45,9 @@ _nucleus() {
     options="--root"
     case $command in
         init) options+=" --thing --nucleus --os --arch" ;;
+        config-set) options+=" --component" ;;
+        config-get) options+=" --component --pointer" ;;
+        workload) options+=" --seed" ;;
         status) options+=" --json" ;;
     esac
     # Each option comes once.

@@ -7,11 +7,11 @@ FNR == 1 {
     record = ""
 }
 FILENAME ~ /\.rt$/ {
-    if (match($0, /^ *(pub )?(const )?fn [a-z_0-9]+/)) {
+    if (match($0, /^ *(pub(\([a-z]+\))? )?(const )?fn [a-z_0-9]+/)) {
         owner = substr($0, RSTART, RLENGTH)
         sub(/^.*fn /, "", owner)
         print "fn", crate, owner
-    } else if (match($0, /^ *(pub )?(struct|enum|trait|type|const) [A-Za-z_0-9]+/)) {
+    } else if (match($0, /^ *(pub(\([a-z]+\))? )?(struct|enum|trait|type|const) [A-Za-z_0-9]+/)) {
         name = substr($0, RSTART, RLENGTH)
         sub(/^.* /, "", name)
         print "type", crate, name
