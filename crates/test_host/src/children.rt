@@ -169,6 +169,30 @@ fn ends_are_told_as_they_are(rt: HostRuntime) -> Result<(), Fail> {
     Ok(())
 }
 
+/// The number of the first of two children, behind a kill of the second.
+fn left_by_the_newer<R: Runner>(runner: &mut R, first: &Command, second: &Command) -> Option<u64> {
+    let Ok(older) = runner.start(first) else {
+        return None;
+    };
+    let Ok(newer) = runner.start(second) else {
+        return None;
+    };
+    runner.kill(newer);
+    Some(older)
+}
+
+/// The number of the second of two children, behind a kill of the first.
+fn left_by_the_older<R: Runner>(runner: &mut R, first: &Command, second: &Command) -> Option<u64> {
+    let Ok(older) = runner.start(first) else {
+        return None;
+    };
+    let Ok(newer) = runner.start(second) else {
+        return None;
+    };
+    runner.kill(older);
+    Some(newer)
+}
+
 /// The number of a child that ends by itself, behind a kill of one that was started after it, or before it.
 fn left_by_a_kill<R: Runner>(
     alloc: Global,
@@ -178,14 +202,11 @@ fn left_by_a_kill<R: Runner>(
 ) -> Result<Option<u64>, NoMemory> {
     let ends = command(alloc, folder, "sleep 0.3; exit $END")?;
     let stays = command(alloc, folder, "exec sleep 30")?;
-    let Ok(first) = runner.start(if is_older { &ends } else { &stays }) else {
-        return Ok(None);
-    };
-    let Ok(second) = runner.start(if is_older { &stays } else { &ends }) else {
-        return Ok(None);
-    };
-    runner.kill(if is_older { second } else { first });
-    Ok(Some(if is_older { first } else { second }))
+    Ok(if is_older {
+        left_by_the_newer(runner, &ends, &stays)
+    } else {
+        left_by_the_older(runner, &stays, &ends)
+    })
 }
 
 /// Whether its end is told, and no other.
