@@ -23,6 +23,7 @@ mod Questions
 mod Reading
 mod Requested
 mod Series
+mod ServeEnds
 mod Standing
 pub mod Unrefused
 mod StatusEnds

@@ -40,7 +40,7 @@ applied_begun d (Genesis o) some = refl
 applied_begun d (Closed o) some = closed_begun o d d.pending some
 applied_begun d r some = some
 
-run_begun : (records : List Record) (d e : Device) → Run d records e → IsSome d.origin → IsSome e.origin
+pub run_begun : (records : List Record) (d e : Device) → Run d records e → IsSome d.origin → IsSome e.origin
 run_begun [] d e run some = subst (λ (x : Device). IsSome x.origin) (sym run) some
 run_begun (r ∷ records) d e run some =
     run_begun records run.0 e run.2 (subst (λ (x : Device). IsSome x.origin) (sym run.1.leaves) (applied_begun d r some))
@@ -73,7 +73,7 @@ module _ {D : Type 0} {is_modelled : Bool} {seen : D → Image} {may_leave : D �
       let c = h.call.0 in
       let other = no_want_of result (status_of_ending c.ending) c.answers no_want in
       let e = (state_after h.place c.history).device in
-      let run : Run d (records_of c.history) e = subst (λ (x : Device). Run x (records_of c.history) e) h.device_is h.history.run in (
+      let run : Run d (records_of c.history) e = subst (λ (x : Device). Run x (records_of c.history) e) h.driven.device_is h.driven.history.run in (
         e,
         (c.prints.stable (c.prints.all (no_failure c.ending other)) (seen new) (laws.reads new told), run_begun (records_of c.history) d e run begun.1),
         inl (record {
@@ -87,9 +87,9 @@ module _ {D : Type 0} {is_modelled : Bool} {seen : D → Image} {may_leave : D �
               holds h.takes;
           place = h.place;
           serves = h.serves;
-          device_is = h.device_is;
+          device_is = h.driven.device_is;
           history = c.history;
-          is_history = h.history;
+          is_history = h.driven.history;
           start = start;
           ending = c.ending;
           follows = h.call.1;

@@ -4,6 +4,7 @@ pub mod Audits
 pub mod Begun
 pub mod Crashes
 pub mod Drives
+pub mod Serving
 pub mod Gets
 pub mod Inits
 pub mod Lasting

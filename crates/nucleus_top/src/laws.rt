@@ -35,7 +35,7 @@ pub fn calls_run_on()
     ensures found { AreFound }
 {}
 
-/// What is said of the images of `deploy` and `resume` makes them such calls as `calls_run_on` takes: behind calls that may
+/// What is said of the images of `deploy`, `resume` and `serve` makes them such calls as `calls_run_on` takes: behind calls that may
 /// have left each image at their start, a call that drives a deployment is one more, which begins with the device for which
 /// one of these images stands and keeps its records, and one that is turned away keeps none. So is each that came to its end,
 /// by what it says of the images that a crash may leave then. It does nothing.

@@ -5,7 +5,7 @@
 //! deployment, over every runner, what happens in their call. Three laws say what holds however many calls are made, each over
 //! what the one before it left. It stands on `command_words` for what words ask, on `deploy_state` over `checkpoint_log` for
 //! the store, on `status_text` for its status, on `artifact_store` for its files, on `plan_core` and `refusal_lines` for
-//! plans, on `session` over `supervisor` for what is driven, and on `edges`, `disk_model`, `library_core` and
+//! plans, on `session` and `session_serving` over `supervisor` for what is driven, and on `edges`, `disk_model`, `library_core` and
 //! `step_runner` for the devices.
 #![tactic(auto)]
 
@@ -19,6 +19,7 @@ mod laws;
 mod looking;
 mod opening;
 mod planning;
+mod serving;
 mod status;
 mod top;
 mod why;

@@ -6,7 +6,7 @@ ghost use Rattle.step_runner.specs.Waits.{is_own};
 ghost use Rattle.step_runner.specs.declared.ends.ScriptedEnd.{ScriptedEnd};
 
 use disk_model::{Disk, MemoryDisk};
-use edges::{MemorySink, MemorySource};
+use edges::{MemoryInbox, MemorySink, MemorySource};
 use library_core::{MemoryLibrary, Stored};
 use npm_ranges::Version;
 use nuc_base::{Bytes, Exit, Label, List, Name, NoMemory, Status, Text};
@@ -312,7 +312,11 @@ fn answer_from<D: Disk>(
 {
     let failing = List::new(Vec::from_slice(alloc, failing)?);
     let mut sink = MemorySink::new(alloc, failing);
-    let status = nucleus(alloc, words, disk, library, source, &mut sink, runner);
+    let mut inbox = MemoryInbox::new(List::empty(alloc), true, List::empty(alloc));
+    let status = nucleus(
+        alloc, words, disk, library, source, &mut inbox, &mut sink, runner,
+    );
+    drop(inbox);
     let text = told(alloc, status, sink.bytes());
     drop(sink);
     Ok(text?)
