@@ -112,10 +112,10 @@ few_ended q few some = by q.stage some
 pub told_more : (p : List ℕ → Bool) (flags : List Bool) (names : List (List ℕ)) (i : ℕ) (n : List ℕ) (b : Bool) → i < length names →
     length names ≤ length flags → n ≡ get_or names i n → b ≡ p n
     → take i flags ≡ map p (take i names) → take (i + 1) (slice_set flags i b) ≡ map p (take (i + 1) names)
-told_more p flags names i n b below many is is_modelled h =
+told_more p flags names i n b below many is same h =
     take_more_set flags i b (omega (arith, below, many))
     ∙ ap (λ (l : List Bool). l ++ b ∷ []) h
-    ∙ ap (λ (x : Bool). map p (take i names) ++ x ∷ []) (is_modelled ∙ ap p is)
+    ∙ ap (λ (x : Bool). map p (take i names) ++ x ∷ []) (same ∙ ap p is)
     ∙ sym (ap (map p) (take_more names i n below) ∙ map-append p (take i names) (get_or names i n ∷ []))
 
 -- the flags of a front of the names choose those that the test chooses
@@ -135,9 +135,9 @@ tells_of : (platform : Platform) (o : Option Item) (b : Bool) → TellsBackOf pl
 tells_of platform None b h = (tt, let is : b ≡ false = cc in is)
 tells_of platform (Some i) b h = h
 
-pub is_modelled : (platform : Platform) (set : List Item) (n : List ℕ) (b : Bool) → TellsBack platform set n (Some b) → IsReadable platform set n ×
+pub told_flag : (platform : Platform) (set : List Item) (n : List ℕ) (b : Bool) → TellsBack platform set n (Some b) → IsReadable platform set n ×
     (b ≡ goes_back platform set n)
-is_modelled platform set n b h = tells_of platform (item_named n set) b h
+told_flag platform set n b h = tells_of platform (item_named n set) b h
 
 tells_none : (platform : Platform) (o : Option Item) → TellsBackOf platform o None → IfSome o (λ i. HasSomeRecipe platform i.recipe) → ⊥
 tells_none platform None h = absurd cc

@@ -87,18 +87,17 @@ impl Rebuilding {
     fn take_closed(
         &mut self,
         alloc: Global,
-        id: &Label,
+        id: Label,
         outcome: Outcome,
     ) -> Result<(), RestoreFault>
-        ensures { Came (stored.Ended id.now outcome) (building_view self.old) (building_view self.new) result }
+        ensures { Came (stored.Ended id outcome) (building_view self.old) (building_view self.new) result }
     {
         if self.groups_to_come > 0 || self.items_to_come > 0 || self.closed_to_come == 0 {
             return Err(RestoreFault::NotSound);
         }
-        if self.closed.outcome_of(id).is_some() {
+        if !self.closed.add_new(alloc, id, outcome)? {
             return Err(RestoreFault::NotSound);
         }
-        self.closed.add(alloc, id, outcome)?;
         self.closed_to_come -= 1;
         Ok(())
     }
@@ -113,7 +112,7 @@ impl Rebuilding {
         match entry {
             Record::Grouped(group) => self.take_group(alloc, group),
             Record::Kept(item) => self.take_item(item),
-            Record::Ended(id, outcome) => self.take_closed(alloc, &id, outcome),
+            Record::Ended(id, outcome) => self.take_closed(alloc, id, outcome),
             _ => Err(RestoreFault::NotSound),
         }
     }

@@ -291,14 +291,14 @@ pub(crate) fn go_back(
         return Err(ApplyFault::NotLawful);
     }
     let mut flags = [false; 128];
-    let is_modelled = tell_backs(
+    let are_told = tell_backs(
         alloc,
         &origin.platform,
         set,
         pending.plan.boots.as_slice(),
         &mut flags,
     )?;
-    if !is_modelled {
+    if !are_told {
         return Err(ApplyFault::NotLawful);
     }
     if !has_flag(pending, &flags) {

@@ -2,7 +2,7 @@ use Rattle.std.proofs.Common.{◌<◌, ◌≤◌, arith, length, map, subst}
 use Rattle.records.specs.Stored.{item_view}
 use Rattle.device.specs.Backing.{TellsBack}
 use Rattle.device.specs.Lawful.{IsReadable, goes_back}
-use Rattle.device.proofs.Flags.{is_modelled, told_more, told_all}
+use Rattle.device.proofs.Flags.{told_all, told_flag, told_more}
 use Rattle.device.proofs.PlanLoops.{left_more, left_end}
 use Rattle.device.proofs.backs.tell_backs.Goals as goal
 
@@ -15,7 +15,7 @@ loop-at-preserved c =
     let x = c.index-names-at.result in
     let below : i < length xs = omega arith in
     let many : length xs ≤ length c.loop-at.flags = omega arith in
-    let t = is_modelled p set x c.in-Some.back (subst (TellsBack p set x) c.in-Some.is c.in_ok-back.ensures) in
+    let t = told_flag p set x c.in-Some.back (subst (TellsBack p set x) c.in-Some.is c.in_ok-back.ensures) in
     record {
       within = omega arith;
       left = left_more (IsReadable p set) xs xs i x below c.index-names-at.is c.loop-at.invariant.left t.0;

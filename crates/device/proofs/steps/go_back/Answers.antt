@@ -20,8 +20,8 @@ returns-then-not-has_flag c =
     let set = map item_view c.args.set.now in
     let names = c.as_slice.result.now in
     let flags = c.tell_backs.new.flags in
-    let here : c.in_ok-is_modelled.is_modelled ≡ true = search rules in
-    let told = subst (TellBacks o.platform set names flags) here c.in_ok-is_modelled.ensures in (
+    let here : c.in_ok-are_told.are_told ≡ true = search rules in
+    let told = subst (TellBacks o.platform set names flags) here c.in_ok-are_told.ensures in (
       no_backs c.args.origin.now o set (pending_view c.args.pending.now) c.args.name.now flags names c.in-Some.is c.as_slice.ensures told
           (λ some. false≢true (c.if-not-has_flag.ensures.1 some)),
       refl,
@@ -33,8 +33,8 @@ returns c =
     let set = map item_view c.args.set.now in
     let names = c.as_slice.result.now in
     let flags = c.tell_backs.new.flags in
-    let here : c.in_ok-is_modelled.is_modelled ≡ true = search rules in
-    let told = subst (TellBacks o.platform set names flags) here c.in_ok-is_modelled.ensures in
+    let here : c.in_ok-are_told.are_told ≡ true = search rules in
+    let told = subst (TellBacks o.platform set names flags) here c.in_ok-are_told.ensures in
     went_back c.args.origin.now o set (pending_view c.args.pending.now) (pending_view c.turn_back.new.pending) c.args.name.now flags names c.in-Some.is
     c.as_slice.ensures
     (c.if-not-may_break.ensures.0 refl) told (c.if-not-has_flag.ensures.0 refl) c.turn_back.ensures
