@@ -1,4 +1,4 @@
--- Histories, happening by happening and record by record.
+-- Histories, event by event and record by record.
 use Rattle.std.proofs.Common.{◌≡◌, ◌∙◌, Bool, true, false, List, [], ◌∷◌, ◌++◌, refl, sym, ap, subst}
 use Rattle.records.specs.Stored as stored
 use Rattle.records.specs.Stored.{Record}

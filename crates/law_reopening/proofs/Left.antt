@@ -93,7 +93,8 @@ front_of front (x ∷ y ∷ rest) all last is few = absurd (omega arith)
 
 -- ---- images
 
-module _ (entries : Image → List (List ℕ) → Type 0) {D : Type 0} (may_leave : D → Image → Type 0) (disk : D) (p : SessionState) (h before : List TraceEvent) (e : TraceEvent)
+module _ (entries : Image → List (List ℕ) → Type 0) {D : Type 0} (may_leave : D → Image → Type 0) (disk : D) (p : SessionState)
+    (h before : List TraceEvent) (e : TraceEvent)
     (whole : IsHistory p h) (left : IsLeft entries may_leave disk p h) (stood : Stood h e before) (start : starts e ≡ true) where
   -- all records are there
   in_all : ((c : Image) → may_leave disk c → StandsFor entries c (state_after p h).device) → AllKeep entries may_leave disk p h (records_of before)

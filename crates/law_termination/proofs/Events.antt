@@ -1,4 +1,4 @@
--- Each happening keeps what is kept.
+-- Each event keeps what is kept.
 use Rattle.std.proofs.Common.{◌∙◌, ◌≡◌, ◌==◌, ℕ, List, [], ◌∷◌, Option, Some, None, Bool, true, false, refl, sym, ap, arith, subst, slice_get}
 use Rattle.std.specs.Prelude.{◌&&◌, ◌||◌, not, if◌then◌else◌, filter, option_and_then, option_map}
 use Rattle.std.specs.List.{AllByRecursion, list_all}

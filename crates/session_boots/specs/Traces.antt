@@ -44,7 +44,7 @@ module _ (entries : Image → List (List ℕ) → Type 0) (files : List ℕ → 
   abbrev pub HoldsPrefixes : D → D → Device → List Record → Type 0
   HoldsPrefixes old new d records = Leaves moment left_since old new (After (may_leave old) (Within files (StandsForPrefix entries d records)))
 
-  -- From a place on this happened: each happening could follow, each record is lawful in its turn, a crash leaves what a
+  -- From a place on this happened: each event could follow, each record is lawful in its turn, a crash leaves what a
   -- front of them gives, and the runner tells the entries.
   pub record IsTrace (old new : D) (old_list new_list : Option (List RunnerEntry)) (p : SessionState) (h : List TraceEvent) : Type 0 where
     pub proper : IsProper p h

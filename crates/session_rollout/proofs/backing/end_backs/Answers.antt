@@ -57,7 +57,8 @@ returns-in-Ok-clause-course g c = λ p from.
     let front = subst (λ (b : Backed _). IsAtBootStage p (backed_device b) world told living) c.in-Backing.is from in
     let t = c.in-Ok.ensures.trace p told living front (orderly_at p d world told living front.between.stands c.requires.orderly) in
     ended g.J.Journal.entries g.J.Journal.files c.args.disk.now c.close_failed_backing.new.disk told.list told.list
-    (g.K.Sink.held c.args.sink.now) (g.K.Sink.held c.close_failed_backing.new.sink) p t.0 (driven.Closed c.in-Ok.idle outcomes.UnableToRollback presences.Absent)
+    (g.K.Sink.held c.args.sink.now) (g.K.Sink.held c.close_failed_backing.new.sink) p t.0
+    (driven.Closed c.in-Ok.idle outcomes.UnableToRollback presences.Absent)
     (λ x h q. DrivenLeft x h q (g.S.Supervise.world c.close_failed_backing.new.supervisor) told living)
     t.1 t.2 t.3
 

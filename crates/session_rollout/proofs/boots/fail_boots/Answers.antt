@@ -27,7 +27,8 @@ returns-in-Ok-clause-course g c = λ p front.
     let living = g.R.Runner.living c.args.runner.now in
     let t = c.in-Ok.ensures.trace p told living front (orderly_at p d world told living front.between.stands c.requires.orderly) in
     ended g.J.Journal.entries g.J.Journal.files c.args.disk.now c.close_failed_booting.new.disk told.list told.list
-    (g.K.Sink.held c.args.sink.now) (g.K.Sink.held c.close_failed_booting.new.sink) p t.0 (driven.Closed c.in-Ok.idle outcomes.RollbackNotRequested presences.Absent) _
+    (g.K.Sink.held c.args.sink.now) (g.K.Sink.held c.close_failed_booting.new.sink) p t.0
+    (driven.Closed c.in-Ok.idle outcomes.RollbackNotRequested presences.Absent) _
     t.1 t.2 t.3
 
 pub returns-in-Err-clause-course : goal.returns-in-Err-clause-course

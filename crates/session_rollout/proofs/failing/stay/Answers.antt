@@ -21,7 +21,8 @@ returns-in-Ok-clause-course g c = λ p from.
     let told = Listed g.R.Runner.list g.R.Runner.told g.R.Runner.asked c.args.runner.now in
     let t = c.in-Ok.ensures.trace p told (g.R.Runner.living c.args.runner.now) from in
     ended g.J.Journal.entries g.J.Journal.files c.args.disk.now c.close_failed_activating.new.disk told.list told.list
-    (g.K.Sink.held c.args.sink.now) (g.K.Sink.held c.close_failed_activating.new.sink) p t.0 (driven.Closed c.in-Ok.idle outcomes.RollbackNotRequested presences.Present) _
+    (g.K.Sink.held c.args.sink.now) (g.K.Sink.held c.close_failed_activating.new.sink) p t.0
+    (driven.Closed c.in-Ok.idle outcomes.RollbackNotRequested presences.Present) _
     t.1 t.2 t.3
 
 pub kill_all-requires : goal.kill_all-requires

@@ -55,7 +55,8 @@ returns-clause-course g c = λ p opened.
     let d = activating_device c.args.state in
     let told = Listed g.R.Runner.list g.R.Runner.told g.R.Runner.asked c.args.runner.now in
     let last = Listed g.R.Runner.list g.R.Runner.told g.R.Runner.asked c.bring_up.new.runner in
-    let t = opened_entered p d (device_view c.device.result.now) (g.S.Supervise.world c.args.supervisor.now) (g.S.Supervise.world c.change_items.new.supervisor) told
+    let t = opened_entered p d (device_view c.device.result.now) (g.S.Supervise.world c.args.supervisor.now)
+    (g.S.Supervise.world c.change_items.new.supervisor) told
     (g.R.Runner.living c.args.runner.now)
     c.device.ensures opened c.requires.orderly c.requires.held.1 c.change_items.ensures.trace in
     joined g.J.Journal.entries g.J.Journal.files g.met.D.Disk.laws c.args.disk.now c.args.disk.now c.bring_up.new.disk told.list told.list last.list
