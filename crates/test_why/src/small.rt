@@ -1,4 +1,4 @@
-use crate::texts::told;
+use crate::texts::{told, told_to};
 use nuc_base::Name;
 use std::alloc::Global;
 use std::test::Fail;
@@ -64,6 +64,27 @@ fn gives_the_first_reason(rt: HostRuntime) -> Result<(), Fail> {
     for line in OTHERS.lines() {
         assert!(rt; is_told(alloc, line)?, "{line}");
     }
+    Ok(())
+}
+
+/// Whether a sink that fails the call of this number gets a front of the text.
+fn is_front(alloc: Global, call: u64) -> Result<bool, Fail> {
+    let found = told_to(alloc, NO_VERSION, "A:* B:*", &[call])?;
+    match found.as_str().strip_suffix('!') {
+        Some(front) => Ok(NO_VERSION_TEXT.starts_with(front)),
+        None => Ok(false),
+    }
+}
+
+/// Each line goes out in several calls, and the text has nine.
+#[test]
+fn cuts_the_text_where_the_sink_fails(rt: HostRuntime) -> Result<(), Fail> {
+    let alloc = rt.alloc();
+    for call in 0..20 {
+        assert!(rt; is_front(alloc, call)?, "{call}");
+    }
+    let text = told_to(alloc, NO_VERSION, "A:* B:*", &[1000])?;
+    assert!(rt; text.as_str() == NO_VERSION_TEXT, "{text}");
     Ok(())
 }
 

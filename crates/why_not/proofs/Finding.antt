@@ -1,5 +1,5 @@
 -- What is found from the taken places on.
-use Rattle.std.proofs.Common.{◌≡◌, ℕ, ◌+◌, ◌<◌, false, List, [], ◌∷◌, ◌++◌, map, length, Some, refl, sym, ap, ◌∙◌, subst, arith, inl, inr, Vec, Global}
+use Rattle.std.proofs.Common.{◌≡◌, ℕ, ◌+◌, ◌<◌, ◌≤◌, false, List, [], ◌∷◌, ◌++◌, map, length, Some, refl, sym, ap, ◌∙◌, subst, arith, inl, inr, Vec, Global}
 use Rattle.std.specs.List.{Contains}
 use Rattle.std.specs.List.Sorted.{IsStrictlyIncreasing}
 use Rattle.nuc_base.proofs.Lists.{in_nil, in_cons, in_here, in_there}
@@ -10,8 +10,8 @@ use Rattle.recipe_reader.proofs.Searching.{next_same}
 use Rattle.why_not.specs.Reasons.{Reason, Branches, split, refused, loop, none, branch, branch_places, is_split, nodes, branch_nodes, seen, branches_seen}
 use Rattle.why_not.specs.Certificates.{IsOpen, AreAllOf, IsCertified, AreCertified, RestsOn}
 use Rattle.why_not.specs.Ends.{Stands, FitsWith}
-use Rattle.why_not.specs.Found.{IsPlainSplit, IsBeyond, IsFound, IsPlainAt, IsBeyondAt, IsTried, IsExplained}
-use Rattle.why_not.specs.Gathers.{Gathers, IsPlainSoFar}
+use Rattle.why_not.specs.Found.{IsPlainSplit, IsBeyond, IsFound, IsPlainAt, IsBeyondAt, IsTried, UsesUp, IsExplained, HasUpTo}
+use Rattle.why_not.specs.Gathers.{Gathers, BranchesUseUp, IsPlainSoFar}
 use Rattle.why_not.specs.Plain.{IsFirstReason, IsFirstLeaf, IsPlain, ArePlain, Explains, HasNoSet}
 use Rattle.why_not.specs.declared.choosing.Form.{Form}
 use Rattle.why_not.specs.declared.choosing.Form.TheVariants as form
@@ -84,6 +84,10 @@ module _ (ms : List Member) (wanted : List Need) (taken : List ℕ) (p : ℕ) wh
 
 -- ---- the branches so far
 
+nodes_append : (bs : List (ℕ × Why)) (b : ℕ × Why) → branch_nodes (branches_seen (bs ++ b ∷ [])) ≡ branch_nodes (branches_seen bs) + nodes (seen b.1)
+nodes_append [] b = omega arith
+nodes_append (c ∷ bs) b = let e = nodes_append bs b in omega (arith, e)
+
 module _ (ms : List Member) (wanted : List Need) (taken : List ℕ) where
   pub plain_none : (old new : ℕ) → 1 + new ≡ old → IsPlainSoFar ms wanted taken old new []
   plain_none old new e = record { plain = tt; count = omega (arith, e) }
@@ -92,10 +96,6 @@ module _ (ms : List Member) (wanted : List Need) (taken : List ℕ) where
       IsPlain ms wanted (taken ++ b.0 ∷ []) (seen b.1) → ArePlain ms wanted taken (branches_seen (bs ++ b ∷ []))
   plain_append [] b h f g = (f, g, tt)
   plain_append (c ∷ bs) b h f g = (h.0, h.1, plain_append bs b h.2 f g)
-
-  nodes_append : (bs : List (ℕ × Why)) (b : ℕ × Why) → branch_nodes (branches_seen (bs ++ b ∷ [])) ≡ branch_nodes (branches_seen bs) + nodes (seen b.1)
-  nodes_append [] b = omega arith
-  nodes_append (c ∷ bs) b = let e = nodes_append bs b in omega (arith, e)
 
   pub plain_more : (old mid new p : ℕ) (bs : List (ℕ × Why)) (why : Why) → IsPlainSoFar ms wanted taken old mid bs →
       IsPlainAt ms wanted taken p mid new (seen why) → IsPlainSoFar ms wanted taken old new (bs ++ (p, why) ∷ [])
@@ -107,6 +107,33 @@ module _ (ms : List Member) (wanted : List Need) (taken : List ℕ) where
 
   pub beyond_none : IsBeyond ms wanted taken 0
   beyond_none = λ s e c h. nodes_some s
+
+-- ---- the nodes that are used up
+
+pub leaf_uses : (old new : ℕ) (part : Partial) → is_split (seen part.why) ≡ false → 1 + new ≡ old → UsesUp old new (Because part)
+leaf_uses old new part leaf e = let one = leaf_nodes (seen part.why) leaf in omega (arith, one, e)
+
+pub uses_none : (old new : ℕ) → 1 + new ≡ old → BranchesUseUp old new []
+uses_none old new e = record { count = omega (arith, e) }
+
+pub uses_more : (old mid new p : ℕ) (bs : List (ℕ × Why)) (part : Partial) → BranchesUseUp old mid bs → UsesUp mid new (Because part) →
+    BranchesUseUp old new (bs ++ (p, part.why) ∷ [])
+uses_more old mid new p bs part h at =
+    let a = h.count in
+    let e = nodes_append bs (p, part.why) in
+    record { count = omega (arith, a, at, e) }
+
+pub uses_split : (old new : ℕ) (n : List ℕ) (used : Vec ℕ Global) (v : Vec (ℕ × Why) Global) → BranchesUseUp old new v.items →
+    UsesUp old new (Because (record { why = Split n v; used = used }))
+uses_split old new n used v h = subst (λ r. nodes r + new ≤ old) (sym (seen_split n v)) h.count
+
+pub uses_later : (old mid new : ℕ) (part : Partial) → mid < old → UsesUp mid new (Because part) → UsesUp old new (Because part)
+uses_later old mid new part lt h = omega (arith, lt, h)
+
+pub up_to : (most left : ℕ) (found : Found) → UsesUp most left found → HasUpTo most found
+up_to most left Valid h = tt
+up_to most left TooLarge h = tt
+up_to most left (Because part) h = omega (arith, h)
 
 -- ---- a rising list goes on behind its numbers below one of them
 
@@ -201,14 +228,15 @@ module _ (ms : List Member) (wanted : List Need) where
   explained_start f old new TooLarge h = h
   explained_start f old new (Because part) h = (rests_certified ms wanted [] part.used.items (seen part.why) h.0, λ e. (h.1 e).plain)
 
-  pub explains_plain : (nodes : ℕ) (part : Partial) → IsExplained ms wanted form.Plain nodes (Because part) → Explains ms wanted (seen part.why)
-  explains_plain nodes part h = record { certified = h.0; plain = λ s c le. h.1 refl }
+  pub explains_plain : (part : Partial) → IsExplained ms wanted form.Plain 1024 (Because part) → HasUpTo 1024 (Because part) → Explains ms wanted (seen part.why)
+  explains_plain part h le = record { certified = h.0; plain = λ s c few. h.1 refl; small = omega (arith, le) }
 
-  pub explains_small : (f : Form) (nodes : ℕ) (part : Partial) → IsExplained ms wanted form.Plain 1024 TooLarge →
-      IsExplained ms wanted f nodes (Because part) → Explains ms wanted (seen part.why)
-  explains_small f nodes part far h = record {
+  pub explains_small : (f : Form) (part : Partial) → IsExplained ms wanted form.Plain 1024 TooLarge → IsExplained ms wanted f 65536 (Because part) →
+      HasUpTo 65536 (Because part) → Explains ms wanted (seen part.why)
+  explains_small f part far h le = record {
     certified = h.0;
-    plain = λ s c le. (let more = far refl s (root_splits ms wanted s c.0) c.0 c.1 in absurd (omega (arith, more, le)));
+    plain = λ s c few. (let more = far refl s (root_splits ms wanted s c.0) c.0 c.1 in absurd (omega (arith, more, few)));
+    small = le;
   }
 
   pub no_set : (r : Reason) → Explains ms wanted r → HasNoSet ms wanted

@@ -11,5 +11,6 @@ pub mod Picking
 pub mod Plainly
 pub mod Resting
 pub mod Seen
+pub mod Sending
 pub mod Soundness
 pub mod Writing

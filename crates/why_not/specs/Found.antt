@@ -1,5 +1,5 @@
 -- What explaining from the taken places on finds.
-use Rattle.std.specs.Prelude.{◌≡◌, ℕ, ◌+◌, ◌<◌, true, List, [], ◌∷◌, ◌++◌}
+use Rattle.std.specs.Prelude.{◌≡◌, ℕ, ◌+◌, ◌<◌, ◌≤◌, ⊤, true, List, [], ◌∷◌, ◌++◌}
 use Rattle.recipe_reader.specs.Members.{Need, Member}
 use Rattle.recipe_reader.specs.Sets.{IsValid}
 use Rattle.why_not.specs.Reasons.{Reason, is_split, nodes, seen}
@@ -48,6 +48,14 @@ IsTried ms wanted f taken p old new TooLarge = f ≡ form.Plain → IsBeyondAt m
 IsTried ms wanted f taken p old new (Because part) =
     RestsOn ms wanted (taken ++ p ∷ []) part.used.items (seen part.why) × (f ≡ form.Plain → IsPlainAt ms wanted taken p old new (seen part.why))
 
+-- ---- how large it is
+
+-- a certificate has no more nodes than were used up
+abbrev pub UsesUp : ℕ → ℕ → Found → Type 0
+UsesUp old new (Because part) = nodes (seen part.why) + new ≤ old
+UsesUp old new Valid = ⊤
+UsesUp old new TooLarge = ⊤
+
 -- ---- from no place on
 
 -- a set is valid, or a certificate, or each plain one has more nodes
@@ -55,3 +63,9 @@ abbrev pub IsExplained : List Member → List Need → Form → ℕ → Found �
 IsExplained ms wanted f nodes Valid = (s : List ℕ) × IsValid ms wanted s
 IsExplained ms wanted f nodes TooLarge = f ≡ form.Plain → IsBeyond ms wanted [] nodes
 IsExplained ms wanted f nodes (Because part) = IsCertified ms wanted [] (seen part.why) × (f ≡ form.Plain → IsPlain ms wanted [] (seen part.why))
+
+-- a certificate has no more nodes than that
+abbrev pub HasUpTo : ℕ → Found → Type 0
+HasUpTo most (Because part) = nodes (seen part.why) ≤ most
+HasUpTo most Valid = ⊤
+HasUpTo most TooLarge = ⊤

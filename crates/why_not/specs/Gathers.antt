@@ -1,5 +1,5 @@
 -- What is gathered while the candidates of an open name are tried one after another.
-use Rattle.std.specs.Prelude.{◌≡◌, ◌≢◌, ◌⊎◌, ◌↔◌, ℕ, ◌+◌, ◌<◌, List, [], ◌∷◌, ◌++◌, map, Some}
+use Rattle.std.specs.Prelude.{◌≡◌, ◌≢◌, ◌⊎◌, ◌↔◌, ℕ, ◌+◌, ◌<◌, ◌≤◌, List, [], ◌∷◌, ◌++◌, map, Some}
 use Rattle.std.specs.List.{Contains}
 use Rattle.std.specs.List.Sorted.{IsStrictlyIncreasing}
 use Rattle.recipe_reader.specs.Members.{Need, Member}
@@ -33,3 +33,7 @@ pub record Gathers (ms : List Member) (wanted : List Need) (taken : List ℕ) (n
 pub record IsPlainSoFar (ms : List Member) (wanted : List Need) (taken : List ℕ) (old new : ℕ) (branches : List (ℕ × Why)) : Type 0 where
   pub plain : ArePlain ms wanted taken (branches_seen branches)
   pub count : 1 + branch_nodes (branches_seen branches) + new ≡ old
+
+-- the branches and their split are no more nodes than were used up
+pub record BranchesUseUp (old new : ℕ) (branches : List (ℕ × Why)) : Type 0 where
+  pub count : 1 + branch_nodes (branches_seen branches) + new ≤ old

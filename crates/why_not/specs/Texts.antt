@@ -1,14 +1,9 @@
 -- The text of a certificate, line by line.
-use Rattle.std.specs.Prelude.{◌≡◌, ℕ, zero, suc, ◌+◌, ◌-◌, ◌*◌, ◌<◌, List, [], ◌∷◌, ◌++◌, length, Option, Some, None, codes, decimal}
+use Rattle.std.specs.Prelude.{ℕ, zero, suc, ◌+◌, List, [], ◌∷◌, ◌++◌, length, Option, Some, None, codes, decimal}
 use Rattle.std.specs.List.{flat_map}
 use Rattle.recipe_reader.specs.Members.{Member, members}
 use Rattle.recipe_reader.specs.Sets.{name_of, version_of}
-use Rattle.recipe_reader.specs.declared.candidate.Candidate.{Candidate}
-use Rattle.why_not.specs.Reasons.{Reason, Branches, split, refused, loop, none, branch, branch_places, seen, branches_seen}
-use Rattle.why_not.specs.declared.lines.Rest.{Rest}
-use Rattle.why_not.specs.declared.lines.WhyLines.{WhyLines}
-use Rattle.why_not.specs.declared.why.Why.{Why}
-use denote.Bor.{Bor}
+use Rattle.why_not.specs.Reasons.{Reason, Branches, split, refused, loop, none, branch, branch_places}
 
 -- ---- lines
 
@@ -66,28 +61,10 @@ abbrev mutual
 abbrev pub why_lines : List Member → Reason → List (List ℕ)
 why_lines ms r = reason_lines ms 0 r
 
--- ---- the lines that are left
+-- lines one after another
+abbrev pub joined_lines : List (List ℕ) → List ℕ
+joined_lines lines = flat_map (λ (l : List ℕ). l) lines
 
--- of the reason that comes next
-abbrev pub next_lines : List Member → ℕ → Option (Bor Why) → List (List ℕ)
-next_lines ms level None = []
-next_lines ms level (Some why) = reason_lines ms level (seen why.now)
-
--- of the splits that were begun, the innermost last, each two levels below the one around it
-abbrev pub rest_lines : List Member → ℕ → List Rest → List (List ℕ)
-rest_lines ms level [] = []
-rest_lines ms level (r ∷ rs) = rest_lines ms (level + 2) rs ++ branch_lines ms level (branches_seen r.branches.now)
-
-abbrev pub lines_left : WhyLines → List (List ℕ)
-lines_left w = next_lines (members w.candidates.now) (2 * length w.open.items) w.next ++ rest_lines (members w.candidates.now) 1 w.open.items
-
--- the line is the first of the reason, and the rest of it comes before what was left
-abbrev pub IsFirstLine : List Candidate → ℕ → Why → List Rest → List Rest → List ℕ → Type 0
-IsFirstLine cs level why old new first =
-    reason_lines (members cs) level (seen why) ++ rest_lines (members cs) 1 old ≡ first ∷ rest_lines (members cs) 1 new
-
--- the branch is the first of those that were left, and the others are left
-pub record IsTakenOff (cs : List Candidate) (old new : List Rest) (b : ℕ × Why) : Type 0 where
-  pub some : 0 < length new
-  pub first : rest_lines (members cs) 1 old ≡
-      try_line (members cs) (2 * length new - 1) b.0 ∷ (reason_lines (members cs) (2 * length new) (seen b.1) ++ rest_lines (members cs) 1 new)
+-- the text of a certificate
+abbrev pub why_bytes : List Member → Reason → List ℕ
+why_bytes ms r = joined_lines (why_lines ms r)

@@ -5,7 +5,7 @@ ghost use Rattle.recipe_reader.specs.Members.{members};
 ghost use Rattle.recipe_reader.specs.Sets.{asked, IsValid};
 ghost use Rattle.why_not.specs.Reasons.{seen};
 ghost use Rattle.why_not.specs.Plain.{Explains, HasNoSet};
-ghost use Rattle.why_not.specs.Found.{IsExplained};
+ghost use Rattle.why_not.specs.Found.{IsExplained, HasUpTo};
 
 use crate::choosing::Form;
 use crate::explaining::{Found, explained};
@@ -29,7 +29,8 @@ fn from_none(
     nodes: u32,
 ) -> Result<Found, NoMemory>
     requires count { length candidates.now < 2 ^ 32 }
-    ensures { IfOk result (IsExplained (members candidates.now) (asked wanted.now) form nodes) }
+    ensures found { IfOk result (IsExplained (members candidates.now) (asked wanted.now) form nodes) }
+    ensures small { IfOk result (HasUpTo nodes) }
 {
     let mut taken = Vec::new(alloc);
     let mut left = nodes;

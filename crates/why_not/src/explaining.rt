@@ -7,7 +7,7 @@ ghost use Rattle.recipe_reader.specs.Sets.{asked, name_of, required_names};
 ghost use Rattle.why_not.specs.Certificates.{IsOpen};
 ghost use Rattle.why_not.specs.Ends.{Stands};
 ghost use Rattle.why_not.specs.Gathers.{JoinsOthers};
-ghost use Rattle.why_not.specs.Found.{IsFound, IsTried};
+ghost use Rattle.why_not.specs.Found.{IsFound, IsTried, UsesUp};
 
 use crate::checker::has;
 use crate::choosing::{Form, next_name};
@@ -97,6 +97,7 @@ fn tried(
     requires stands { Stands (members candidates.now) (asked wanted.now) taken.old.items }
     requires next { (n : List ℕ) × IsOpen (members candidates.now) (asked wanted.now) taken.old.items n × (name_of (members candidates.now) place ≡ Some n) }
     ensures found { IfOk result (IsTried (members candidates.now) (asked wanted.now) form taken.old.items place left.old left.new) }
+    ensures small { IfOk result (UsesUp left.old left.new) }
     ensures same { OnOk result (taken.new.items ≡ taken.old.items) }
     ensures fewer { OnOk result (left.new ≤ left.old) }
 {
@@ -126,6 +127,7 @@ pub(crate) fn explained(
     requires count { length candidates.now < 2 ^ 32 }
     requires stands { Stands (members candidates.now) (asked wanted.now) taken.old.items }
     ensures found { IfOk result (IsFound (members candidates.now) (asked wanted.now) form taken.old.items left.old left.new) }
+    ensures small { IfOk result (UsesUp left.old left.new) }
     ensures same { OnOk result (taken.new.items ≡ taken.old.items) }
     ensures fewer { OnOk result (left.new ≤ left.old) }
 {

@@ -5,13 +5,13 @@ use Rattle.std.proofs.lemmas.List.{length-map}
 use Rattle.recipe_reader.specs.Members.{members, member}
 use Rattle.recipe_reader.specs.Sets.{asked, required_names, IsComplete}
 use Rattle.why_not.specs.Ends.{Stands, FitsWith}
-use Rattle.why_not.specs.Found.{IsFound, IsTried}
-use Rattle.why_not.specs.Gathers.{JoinsOthers, Gathers, IsPlainSoFar}
+use Rattle.why_not.specs.Found.{IsFound, IsTried, UsesUp}
+use Rattle.why_not.specs.Gathers.{JoinsOthers, Gathers, BranchesUseUp, IsPlainSoFar}
 use Rattle.why_not.specs.Picks.{IsPicked}
 use Rattle.why_not.specs.declared.explaining.Found.TheVariants.{TooLarge, Because}
 use Rattle.why_not.specs.declared.why.Why.{Why, Split}
 use Rattle.why_not.proofs.Ends.{ended_valid}
-use Rattle.why_not.proofs.Finding.{tried_found, stands_with, left_out_found, plain_none, plain_more, beyond_split, split_found}
+use Rattle.why_not.proofs.Finding.{tried_found, stands_with, left_out_found, plain_none, plain_more, beyond_split, split_found, uses_none, uses_more, uses_split, uses_later}
 use Rattle.why_not.proofs.Gathering.{gathers_start, gathers_skip, gathers_push}
 use Rattle.why_not.proofs.explaining.+explained.Goals as goal
 use Rattle.why_not.proofs.explaining.+explained.Goals.{explained-then-is_named+in_ok-part+in-Because+else-is_left_out+in_ok-add_others-in-Because+in_ok-push-in-Because}
@@ -58,6 +58,7 @@ explained-loop-i-init t c =
       gathers = subst (Gathers ms ws taken n 0 c.in_ok-used.used.items) (sym c.new-branches.ensures.items)
           (gathers_start ms ws taken n c.in_ok-used.used.items
           (λ x i. subst (λ l. Contains l x) c.as_slice-2.ensures.value (c.in_ok-used.ensures.within x i)) c.in_ok-used.ensures.required);
+      small = subst (BranchesUseUp c.args.left.now _) (sym c.new-branches.ensures.items) (uses_none c.args.left.now _ (omega (arith, c.if-left-eq0.false)));
       plain = λ e. subst (IsPlainSoFar ms ws taken c.args.left.now _) (sym c.new-branches.ensures.items)
           (plain_none ms ws taken c.args.left.now _ (omega (arith, c.if-left-eq0.false)));
     }
@@ -128,6 +129,11 @@ explained-loop-i-preserved t c =
                 (subst (Gathers ms ws taken n (i + 1) more) (sym w.in_ok-push-in-Because.ensures.items)
                 (gathers_push ms ws taken n i c.loop-i.used.items more part.used.items c.loop-i.branches.items part.why c.loop-i.invariant.gathers
                 (c.is_named.ensures.0 w.if-is_named.true) found.0 joins)));
+            small = subst (λ l. BranchesUseUp old l c.if-is_named.branches.items) (sym w.left-is)
+                (subst (λ (v : Vec (ℕ × Why) Global). BranchesUseUp old w.tried.new.left v.items) (sym w.branches-is)
+                (subst (BranchesUseUp old w.tried.new.left) (sym w.in_ok-push-in-Because.ensures.items)
+                (uses_more old c.loop-i.left w.tried.new.left i c.loop-i.branches.items part c.loop-i.invariant.small
+                (rw w.in-Because.is at w.in_ok-part.ensures.small))));
             plain = λ e. subst (λ l. IsPlainSoFar ms ws taken old l c.if-is_named.branches.items) (sym w.left-is)
                 (subst (λ (v : Vec (ℕ × Why) Global). IsPlainSoFar ms ws taken old w.tried.new.left v.items) (sym w.branches-is)
                 (subst (IsPlainSoFar ms ws taken old w.tried.new.left) (sym w.in_ok-push-in-Because.ensures.items)
@@ -140,6 +146,8 @@ explained-loop-i-preserved t c =
             (subst (λ (v : Vec (ℕ × Why) Global). Gathers ms ws taken n (i + 1) c.loop-i.used.items v.items) (sym w.branches-is)
             (gathers_skip ms ws taken n i c.loop-i.used.items c.loop-i.branches.items c.loop-i.invariant.gathers
             (λ e. false≢true (sym w.if-is_named.false ∙ c.is_named.ensures.1 e))));
+        small = subst (λ l. BranchesUseUp old l c.if-is_named.branches.items) (sym w.left-is)
+            (subst (λ (v : Vec (ℕ × Why) Global). BranchesUseUp old c.loop-i.left v.items) (sym w.branches-is) c.loop-i.invariant.small);
         plain = λ e. subst (λ l. IsPlainSoFar ms ws taken old l c.if-is_named.branches.items) (sym w.left-is)
             (subst (λ (v : Vec (ℕ × Why) Global). IsPlainSoFar ms ws taken old c.loop-i.left v.items) (sym w.branches-is) (c.loop-i.invariant.plain e));
       }
@@ -160,3 +168,12 @@ explained-returns-clause-found t c =
     (split_found ms ws taken n c.args.form c.args.left.now c.loop-i.left c.loop-i.used c.loop-i.branches
     (subst (λ i. Gathers ms ws taken n i c.loop-i.used.items c.loop-i.branches.items) all c.loop-i.invariant.gathers) pick.untaken pick.least
     c.loop-i.invariant.plain)
+
+pub explained-returns-then-is_left_out-clause-small : goal.explained-returns-then-is_left_out-clause-small
+explained-returns-then-is_left_out-clause-small t c =
+    uses_later c.args.left.now c.loop-i.left c.tried.new.left c.in-Because.part c.loop-i.invariant.falls (rw c.in-Because.is at c.in_ok-part.ensures.small)
+
+pub explained-returns-clause-small : goal.explained-returns-clause-small
+explained-returns-clause-small t c =
+    subst (λ m. UsesUp c.args.left.now c.loop-i.left (Because (record { why = Split m c.loop-i.branches; used = c.loop-i.used }))) (sym c.in_ok-copy.ensures)
+    (uses_split c.args.left.now c.loop-i.left c.in-Some.pick.name.now c.loop-i.used c.loop-i.branches c.loop-i.invariant.small)
