@@ -395,6 +395,7 @@ module _ {D J : Type 0} (disk : a_disk.Ghosts D) (journal : a_journal.Ghosts J)
 
     clause : IsDeployedThere content X
     clause = record {
+      regular = held.0.regular;
       taken = taken;
       takes = takes;
       library_cause = library_cause;

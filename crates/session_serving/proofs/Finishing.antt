@@ -1,5 +1,5 @@
 -- What comes before the set is served.
-use Rattle.std.specs.Prelude.{◌⊎◌, ℕ, true, false, List, [], Option, Some, None, IfSome, is_some}
+use Rattle.std.specs.Prelude.{◌⊎◌, ℕ, Bool, true, false, List, [], Option, Some, None, IfSome, is_some}
 use Rattle.std.proofs.Common.{◌≡◌, ◌≢◌, ◌∙◌, inl, inr, refl, sym, ap, subst}
 use Rattle.std.proofs.KnownBytes.{Appends-nil}
 use Rattle.std.proofs.lemmas.Bool.{false≢true}
@@ -18,6 +18,7 @@ use Rattle.admission.specs.Takes.{LieElsewhere}
 use Rattle.artifact_store.specs.Holding.{AllHoldDevice}
 use Rattle.step_runner.specs.Entries.{Told}
 use Rattle.components.specs.Components.{Components}
+use Rattle.histories.specs.Once.{TakesOnce}
 use Rattle.histories.specs.Courses.{gives_up, is_restart}
 use Rattle.histories.specs.Follows.{MayChangeIn}
 use Rattle.histories.specs.Phases.{Generation, draining, idle, is_shutting_down}
@@ -195,11 +196,15 @@ module _ {D J : Type 0} (disk : a_disk.Ghosts D) (journal : a_journal.Ghosts J)
     own_resumes : Resumes p.device part.ending
     own_resumes = subst (λ (x : Device). Resumes x part.ending) (sym same_device) resumes
 
+    own_some : is_some p.device.pending ≡ true
+    own_some = ap (λ (x : Device). is_some x.pending) same_device ∙ some
+
     resumed : IsResumed p.device (records_of part.history) (state_after p part.history).device (call_lines p.device part.prints.told part.ending) part.ending
     resumed = record {
       resumes = own_resumes;
       ends = subst (λ (x : Device). RecordsEnd part.ending (records_of part.history) x) (sym (device_same p part.history alike))
           (records_end (alone p) part.ending part.history part.ends);
+      once = subst (λ (taken : Bool). TakesOnce taken (records_of part.history)) own_some (part.once refl);
       told = part.prints.told;
       rest = part.prints.rest;
       split = part.prints.split;
@@ -207,9 +212,6 @@ module _ {D J : Type 0} (disk : a_disk.Ghosts D) (journal : a_journal.Ghosts J)
       all = part.prints.all;
       lines_are = refl;
     }
-
-    own_some : is_some p.device.pending ≡ true
-    own_some = ap (λ (x : Device). is_some x.pending) same_device ∙ some
 
     is_pending : p.device.pending ≢ None
     is_pending none = false≢true (sym (ap (λ (o : Option Pending). is_some o) none) ∙ own_some)

@@ -12,7 +12,7 @@ use Rattle.edges.specs.Inboxes.{after_done}
 use Rattle.edges.specs.Waiting.{without_first}
 use Rattle.library_core.specs.Library.{Content}
 use Rattle.records.specs.Stored.{Record}
-use Rattle.device.specs.Devices.{Device}
+use Rattle.device.specs.Devices.{Device, IsRegularDevice}
 use Rattle.records.specs.declared.record.Origin.{Origin}
 use Rattle.records.specs.declared.record.Plan as code
 use Rattle.admission.specs.Takes.{HasDiskFailed, HasLibraryFailed}
@@ -50,9 +50,10 @@ RecordsEnd Idle records d = records ≡ []
 
 -- The document is taken in on the device of its turn or not, by the checks in their order, and what follows is one deployment, as
 -- in a call of its own. Its lines are those of its records, where the disk failed perhaps without the last one's, and that of its
--- ending, which gives its status. It is refused for the library only where the library's count rose, and for the disk, or given up
--- since that failed, only where the disk's did.
+-- ending, which gives its status. The device's configurations are regular, as plans ask. It is refused for the library only where the
+-- library's count rose, and for the disk, or given up since that failed, only where the disk's did.
 pub record IsDeployedThere (content : Option Content) (x : Handled) : Type 0 where
+  pub regular : IsRegularDevice x.device
   pub taken : Result code.Plan Declined
   pub takes : (o : Origin) → x.device.origin ≡ Some o → TakesRead x.device o content x.before x.after x.bytes taken
   pub library_cause : HasLibraryFailed taken → Rose x.before x.after

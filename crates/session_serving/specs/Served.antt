@@ -13,6 +13,7 @@ use Rattle.records.specs.Stored.{Record}
 use Rattle.step_runner.specs.Entries.{Told}
 use Rattle.components.specs.Components.{Components}
 use Rattle.histories.specs.Courses.{IsEnd}
+use Rattle.histories.specs.Once.{TakesOnce}
 use Rattle.histories.specs.States.{SessionState, state_after}
 use Rattle.histories.specs.TraceEvents.{Answer, TraceEvent, records_of}
 use Rattle.session_startup.specs.Ended.{ClosesAs}
@@ -73,11 +74,12 @@ AreClosed records = (records ≡ []) ⊎ ((o : Outcome) × ClosesAs o records)
 
 -- ---- a pending deployment comes first
 
--- The pending deployment went on to this ending and left this device. These are its lines, where the disk failed perhaps without the
+-- The pending deployment went on to this ending and left this device, and no plan was accepted. These are its lines, where the disk failed perhaps without the
 -- last record's.
 pub record IsResumed (d : Device) (records : List Record) (behind : Device) (lines : List ℕ) (ending : Ending) : Type 0 where
   pub resumes : Resumes d ending
   pub ends : RecordsEnd ending records behind
+  pub once : TakesOnce true records
   pub told : List Record
   pub rest : List Record
   pub split : records ≡ told ++ rest
