@@ -15,6 +15,7 @@ use Rattle.nuc_base.specs.declared.status.Status.{Status}
 use Rattle.records.specs.Stored.{Record}
 use Rattle.device.specs.Devices.{Device, no_device}
 use Rattle.device.specs.Lawful.{Run}
+use Rattle.std.specs.Option.{IsSome}
 use Rattle.device.specs.Sound.{IsSound}
 use Rattle.device.specs.Standing.{Means, Plays}
 use Rattle.device.proofs.Sounding.{none_sound, stays_sound}
@@ -38,7 +39,7 @@ use Rattle.nucleus_top.proofs.Standing.{same_device}
 none_stays : (a b : Image) → ((name : List ℕ) → slots_files name → b name ≡ a name) → slots_none a → slots_none b
 none_stays a b same none = (subst HoldsNone (sym (same journal (inl refl))) none.0, subst HoldsNone (sym (same second (inr refl))) none.1)
 
-entries_stay : (a b : Image) (payloads : List (List ℕ)) → ((name : List ℕ) → slots_files name → b name ≡ a name) → slots_entries a payloads →
+pub entries_stay : (a b : Image) (payloads : List (List ℕ)) → ((name : List ℕ) → slots_files name → b name ≡ a name) → slots_entries a payloads →
     slots_entries b payloads
 entries_stay a b payloads same (inl none) = inl (none_stays a b same none.0, none.1)
 entries_stay a b payloads same (inr live) = inr (
@@ -100,6 +101,14 @@ module _ {D : Type 0} {is_modelled : Bool} {seen : D → Image} {may_leave : D �
   loaded_sound (loaded.Activating s) disk held = held.0.0.sound
   loaded_sound (loaded.Backing s) disk held = held.0.0.sound
   loaded_sound (loaded.Rolling s) disk held = held.0.0.sound
+
+  pub loaded_origin : (s : Loaded Slots) (disk : D) → OwnsLoaded is_modelled may_leave slots_stands (λ log. log.live.end) s disk →
+      IsSome (loaded_device s).origin
+  loaded_origin (loaded.Idle s) disk held = held.0.origin
+  loaded_origin (loaded.Booting s) disk held = held.0.0.origin
+  loaded_origin (loaded.Activating s) disk held = held.0.0.origin
+  loaded_origin (loaded.Backing s) disk held = held.0.0.origin
+  loaded_origin (loaded.Rolling s) disk held = held.0.0.origin
 
   -- what is allowed more where the disk tells
   pub told_weaker : (old new : D) (P Q : Image → Type 0) → (IsTrue is_modelled → (c : Image) → P c → Q c) → Leaves moment left_since old new P →

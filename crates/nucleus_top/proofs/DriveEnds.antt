@@ -1,5 +1,5 @@
 -- When the refusals of a call come that drives a deployment.
-use Rattle.std.proofs.Common.{◌≡◌, ◌∙◌, ◌⊎◌, inl, inr, ℕ, List, Bool, true, false, IsTrue, Option, Some, None, refl, sym, ap}
+use Rattle.std.proofs.Common.{◌≡◌, ◌∙◌, ◌⊎◌, ⊎_elim, inl, inr, ℕ, List, Bool, true, false, IsTrue, Option, Some, None, refl, sym, ap}
 use Rattle.std.proofs.lemmas.Bool.{false≢true, true≢false}
 use Rattle.std.specs.Option.{IsSomeAnd}
 use Rattle.nuc_base.specs.declared.kinds.Outcome.TheVariants as outcome
@@ -15,7 +15,18 @@ use Rattle.step_runner.specs.declared.entries.RunnerEntry.{RunnerEntry}
 use Rattle.admission.specs.declared.fault.Declined.TheVariants.{Refused, Unstaged, Unasked}
 use Rattle.admission.specs.declared.ask.Ask.{Ask}
 use Rattle.admission.specs.declared.unasked.Unasked.TheVariants as unasked
+use Rattle.disk_model.specs.declared.disk.Disk as a_disk
+use Rattle.library_core.specs.Library.{Content}
+use Rattle.histories.specs.States.{SessionState}
+use Rattle.histories.specs.TraceEvents.{TraceEvent}
 use Rattle.session.specs.Calls.{IsOrEdge, IsPendingAs}
+use Rattle.session.specs.Parts.{EndsCall}
+use Rattle.session_serving.specs.Documents.{EndsWith, IsDeployedThere}
+use Rattle.session_serving.specs.Parts.{Outside}
+use Rattle.session_serving.specs.Rounds.{Handled, Last, Round}
+use Rattle.session_serving.specs.Rounds as last
+use Rattle.session_serving.specs.Served.{EndsAs, IsWholeCall}
+use Rattle.nucleus_top.specs.Serving.{IsServed, on_disk, slots_ghosts}
 use Rattle.session.specs.Endings.{Ending, Closes, Restarts, Reboots, Fails, Breaks, Forgets, Starves, Declines, Full, Idle, status_of_ending}
 use Rattle.nucleus_top.specs.Answers.{Store, Input, Shelf, Printed, Told, Prints, Expects, none_line, damaged_line, pending_line}
 use Rattle.nucleus_top.specs.Drives.{IsDeployed, IsResumed, PendingParts, RefusedParts, TurnsAway, MayNotOpen}
@@ -98,6 +109,40 @@ module _ {D : Type 0} (may_leave : D → Image → Type 0) (moment : D → ℕ) 
 
   pub resumed_is_on : IsResumed may_leave moment left_since faults old new old_list new_list printed result store → IsOn store result
   resumed_is_on trace = record { device = trace.0; found = trace.1; ends = answered trace.2.call.ending result trace.2.call.answers }
+
+-- a status with which such a call ends at once
+ends_call : (s : Status) → EndsCall s → may_end s ≡ true
+ends_call status.PendingStands ends = absurd (⊎_elim (λ is. false≢true is) (λ is. false≢true is) ends)
+ends_call status.NotInitialised ends = absurd (⊎_elim (λ is. false≢true is) (λ is. false≢true is) ends)
+ends_call status.Damaged ends = absurd (⊎_elim (λ is. false≢true is) (λ is. false≢true is) ends)
+ends_call s ends = refl
+
+ends_with : (own s : Status) → EndsWith own s → may_end s ≡ true
+ends_with own s (inl is) = ap may_end is.0 ∙ ends_call own is.1
+ends_with own s (inr is) = ap may_end is
+
+-- and one with which a call ends that serves
+module _ {D : Type 0} (Clause : Handled → Type 0) (most : ℕ) (rounds : List Round) (s : Status) (old new : Outside D) (d : Device) where
+  ends_as : (last : Last) → EndsAs Clause most rounds last s old new d → may_end s ≡ true
+  ends_as last.Spent why = ⊎_elim (λ is. ap may_end is) (λ is. ap may_end is) why.1
+  ends_as last.Shut why = ap may_end why.0
+  ends_as (last.Stops x) why = ends_with x.status s why.with_status
+  ends_as last.Fails why = ap may_end why.0
+  ends_as last.Starves why = ap may_end why.0
+
+module _ {D : Type 0} (disk : a_disk.Ghosts D) (content : Option Content) (old new : Outside D) (result : Status) where
+  whole_ends : (most : ℕ) (from : Outside D) (p : SessionState) (h : List TraceEvent)
+      → IsWholeCall disk slots_ghosts (IsDeployedThere content) most from new p h result → may_end result ≡ true
+  whole_ends most from p h call =
+      ⊎_elim (λ halted. ends_with (status_of_ending halted.0.ending) result halted.0.with_status)
+      (λ served. let s = served.8 in ends_as (IsDeployedThere content) most s.rounds result s.to new s.behind s.last s.ends) call.parts
+
+  pub served_is_on : (store : Store) (turns : ℕ) → IsServed disk content old new result store turns → IsOn store result
+  served_is_on store turns served = record {
+    device = served.0;
+    found = served.1;
+    ends = whole_ends turns (on_disk served.2.from old) served.2.place served.2.history served.2.call;
+  }
 
 -- ---- a call that is turned away
 

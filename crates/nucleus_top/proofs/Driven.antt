@@ -40,7 +40,7 @@ use Rattle.step_runner.specs.Entries.{Told as Heard}
 use Rattle.step_runner.specs.declared.entries.RunnerEntry.{RunnerEntry}
 use Rattle.components.specs.Components.{Components}
 use Rattle.histories.specs.Courses.{Stands}
-use Rattle.histories.specs.TraceEvents.{records_of}
+use Rattle.histories.specs.TraceEvents.{TraceEvent, records_of}
 use Rattle.histories.specs.Follows.{Lives}
 use Rattle.histories.specs.States.{SessionState, beginning}
 use Rattle.session_boots.specs.Stands.{IsAtBootStage}
@@ -61,8 +61,8 @@ use Rattle.session.proofs.Sweeping.{never_closes}
 use Rattle.nucleus_top.specs.Answers.{HasRisen, Input, IsUnchanged, Printed, Prints, Shelf, Store, Told, status_of}
 use Rattle.nucleus_top.specs.Asked.{AsksFor, asked_of}
 use Rattle.nucleus_top.specs.Crashes.{KeepsJournal, KeepsSameWhole, LeavesPrefixes, LeavesSame}
-use Rattle.nucleus_top.specs.Drives.{AsksTo, DeploysOn, DeploysOver, DriveParts, Drives}
-use Rattle.nucleus_top.specs.Drives.{GoesUnread, IsDeployed, IsDeployedOn, IsMade, IsResumedOn, IsRefusedBefore}
+use Rattle.nucleus_top.specs.Drives.{AsksTo, DeploysOn, AsksToServe, DeploysOver, DriveParts, Drives, DrivesOne, Serves}
+use Rattle.nucleus_top.specs.Drives.{GoesUnread, IsDeployed, IsDeployedOn, IsDrivenOn, IsMade, IsResumedOn, IsRefusedBefore}
 use Rattle.nucleus_top.specs.Drives.{IsUnread, IsUnswept, ask_of, shelf_for}
 use Rattle.nucleus_top.specs.Drives.{NamesPendingOf, StartsFrom, TellsSweep, TellsUnread, TurnsAway, MayNotOpen, MayNotOpenIdle, slots_start}
 use Rattle.nucleus_top.specs.Opening.{HasEntry, Stands as StandsFor}
@@ -400,22 +400,16 @@ module _ {D : Type 0} (may_leave : D → Image → Type 0) (moment : D → ℕ) 
   deployed_as h = record {
     place = h.place;
     serves = h.serves;
-    device_is = h.device_is;
-    sound = h.sound;
     idle = h.idle;
     origin = h.origin;
     origin_is = h.origin_is;
     taken = h.taken;
     takes = takes_on d h.origin library.content library.faults_before library.faults_after h.taken first second gives h.takes;
     call = h.call;
-    history = h.history;
+    driven = h.driven;
     failed = h.failed;
     disk_cause = h.disk_cause;
     library_cause = h.library_cause;
-    images = h.images;
-    whole = h.whole;
-    met = h.met;
-    stays = h.stays;
     lasts = h.lasts;
   }
 
@@ -474,27 +468,31 @@ abbrev pub no_world : Components
 no_world = record { parts = []; moment = 0; steady = true }
 
 -- the place of a call that begins with this device and this runner
+abbrev pub begun_as : Bool → ℕ → Device → Heard → SessionState
+begun_as serves turns d told = beginning serves turns d told.moment told.asked
+
 abbrev pub begun : Device → Heard → SessionState
-begun d told = beginning false 0 d told.moment told.asked
+begun d told = begun_as false 0 d told
 
-no_lives : (d : Device) (told : Heard) (n : ℕ) → Lives n (begun d told) → ⊥
-no_lives d told n (inl some) = absurd (false≢true some)
-no_lives d told n (inr boot) = absurd boot
+no_lives : (serves : Bool) (turns : ℕ) (d : Device) (told : Heard) (n : ℕ) → Lives n (begun_as serves turns d told) → ⊥
+no_lives serves turns d told n (inl some) = absurd (false≢true some)
+no_lives serves turns d told n (inr boot) = absurd boot
 
-stands_begun : (d : Device) (told : Heard) (living : List ℕ) → living ≡ [] → Stands (begun d told) d no_world told living
-stands_begun d told living none = record {
+stands_begun : (serves : Bool) (turns : ℕ) (d : Device) (told : Heard) (living : List ℕ) → living ≡ [] →
+    Stands (begun_as serves turns d told) d no_world told living
+stands_begun serves turns d told living none = record {
   device_is = refl;
   world_is = refl;
   answered = refl;
   not_before = omega arith;
   asked = refl;
-  children = λ n. (λ has. absurd (in_nil n (subst (λ (xs : List ℕ). Contains xs n) none has)), λ lives. absurd (no_lives d told n lives));
+  children = λ n. (λ has. absurd (in_nil n (subst (λ (xs : List ℕ). Contains xs n) none has)), λ lives. absurd (no_lives serves turns d told n lives));
 }
 
 pub open_begun : (d : Device) (world : Components) (told : Heard) (living : List ℕ) → world ≡ no_world → living ≡ [] → d.pending ≡ None →
     IsOpen (begun d told) d world told living
 open_begun d world told living is none idle = subst (λ (w : Components). IsOpen (begun d told) d w told living) (sym is) (record {
-  stands = stands_begun d told living none;
+  stands = stands_begun false 0 d told living none;
   quiet = record { told = refl; none = refl };
   going = refl;
   boot = refl;
@@ -504,18 +502,24 @@ open_begun d world told living is none idle = subst (λ (w : Components). IsOpen
   cut = refl;
 })
 
+-- it begins at the stage of its bootstraps, also where it serves
+pub begun_front : (serves : Bool) (turns : ℕ) (d : Device) (world : Components) (told : Heard) (living : List ℕ) → world ≡ no_world → living ≡ [] →
+    IsAtBootStage (begun_as serves turns d told) d world told living
+begun_front serves turns d world told living is none =
+    subst (λ (w : Components). IsAtBootStage (begun_as serves turns d told) d w told living) (sym is) (record {
+      between = record {
+        stands = stands_begun serves turns d told living none;
+        still = record { stopped = refl; quiet = record { told = refl; none = refl }; generation = refl; cut = refl };
+        boot = refl;
+        boot_end = refl;
+        probed = refl;
+      };
+      over = refl;
+    })
+
 pub front_begun : (d : Device) (world : Components) (told : Heard) (living : List ℕ) → world ≡ no_world → living ≡ [] →
     IsAtBootStage (begun d told) d world told living
-front_begun d world told living is none = subst (λ (w : Components). IsAtBootStage (begun d told) d w told living) (sym is) (record {
-  between = record {
-    stands = stands_begun d told living none;
-    still = record { stopped = refl; quiet = record { told = refl; none = refl }; generation = refl; cut = refl };
-    boot = refl;
-    boot_end = refl;
-    probed = refl;
-  };
-  over = refl;
-})
+front_begun d world told living is none = begun_front false 0 d world told living is none
 
 -- ---- calls one after another
 
@@ -569,6 +573,18 @@ module _ {D : Type 0} {is_modelled : Bool} {seen : D → Image} {may_leave : D �
       (printed : Printed) (result : Status) (faults : D → ℕ) (later : faults old ≤ faults mid) (d : Device)
       (images : LeavesPrefixes may_leave moment left_since old mid d []) (stands : IsTrue is_modelled → StandsFor (seen old) d)
       (whole : KeepsSameWhole may_leave moment left_since seen old mid) where
+    pub driven_on : (place : SessionState) (history : List TraceEvent) → IsDrivenOn may_leave moment left_since mid new d place history
+        → IsDrivenOn may_leave moment left_since old new d place history
+    driven_on place history h = record {
+      device_is = h.device_is;
+      sound = h.sound;
+      history = h.history;
+      images = fronts_on laws old mid new d (records_of history) images h.images;
+      whole = whole_on laws old mid new d (records_of history) stands whole h.whole;
+      met = h.met;
+      stays = h.stays;
+    }
+
     pub deployed_on : (start : ℕ → ℕ) (library : Shelf) (request : Device → Result Document Declined → Type 0)
         → IsDeployedOn may_leave moment left_since faults mid new old_list new_list printed result d start library request
         → IsDeployedOn may_leave moment left_since faults old new old_list new_list printed result d start library request
@@ -576,22 +592,16 @@ module _ {D : Type 0} {is_modelled : Bool} {seen : D → Image} {may_leave : D �
     deployed_on start library request h = record {
       place = h.place;
       serves = h.serves;
-      device_is = h.device_is;
-      sound = h.sound;
       idle = h.idle;
       origin = h.origin;
       origin_is = h.origin_is;
       taken = h.taken;
       takes = h.takes;
       call = taken_on old mid new first old_list new_list printed.before printed.after result h.place start h.taken h.call;
-      history = h.history;
+      driven = driven_on h.place h.call.0.history h.driven;
       failed = λ fails. rose_behind (faults old) (faults mid) (faults new) later (h.failed fails);
       disk_cause = λ failed. rose_behind (faults old) (faults mid) (faults new) later (h.disk_cause failed);
       library_cause = h.library_cause;
-      images = fronts_on laws old mid new d (records_of h.call.0.history) images h.images;
-      whole = whole_on laws old mid new d (records_of h.call.0.history) stands whole h.whole;
-      met = h.met;
-      stays = h.stays;
       lasts = h.lasts;
     }
 
@@ -601,16 +611,10 @@ module _ {D : Type 0} {is_modelled : Bool} {seen : D → Image} {may_leave : D �
     resumed_on h = record {
       place = h.place;
       serves = h.serves;
-      device_is = h.device_is;
-      sound = h.sound;
       call = call_on old mid new first old_list new_list printed.before printed.after result h.place h.call;
       resumes = h.resumes;
-      history = h.history;
+      driven = driven_on h.place h.call.history h.driven;
       failed = λ fails. rose_behind (faults old) (faults mid) (faults new) later (h.failed fails);
-      images = fronts_on laws old mid new d (records_of h.call.history) images h.images;
-      whole = whole_on laws old mid new d (records_of h.call.history) stands whole h.whole;
-      met = h.met;
-      stays = h.stays;
     }
 
   -- its document is not read behind such a call, or goes on with the device for which the journal stood
@@ -674,8 +678,8 @@ no_quiet_deploy once words what order (root, other, is, asks) quiet = no_quiet o
 -- a change of a configuration leaves the library
 pub unasked_by : (words : List (List ℕ)) (what : Ask) → AsksTo words what → (DeploysOver words → ⊥) → (Same : Type 0)
     → ((name : List ℕ) → what ≡ ask.Change name → Same) → Same
-unasked_by words ask.Document asks other Same unasked = absurd (other (inl asks))
-unasked_by words ask.Local asks other Same unasked = absurd (other (inr asks))
+unasked_by words ask.Document asks other Same unasked = absurd (other (inl (inl asks)))
+unasked_by words ask.Local asks other Same unasked = absurd (other (inl (inr asks)))
 unasked_by words (ask.Change name) asks other Same unasked = unasked name refl
 
 -- words that ask to deploy ask one thing
@@ -689,18 +693,38 @@ not_both once words what other (root, order, is, asks) resumes =
     let none : None ≡ Some what = sym (ap ask_of (once words root other order orders.Resume is resumes).1) ∙ asks in cc
 
 -- nor do words that ask another command ask to drive
-pub no_drive : AsksOnce → (words : List (List ℕ)) (root : List ℕ) (order : Order) → IsOrder words root order → ask_of order ≡ None → order ≢ orders.Resume →
-    Drives words → ⊥
-no_drive once words root order is deploys resumes (inl (what, (other, second, more, asks))) =
+pub no_one : AsksOnce → (words : List (List ℕ)) (root : List ℕ) (order : Order) → IsOrder words root order → ask_of order ≡ None → order ≢ orders.Resume →
+    DrivesOne words → ⊥
+no_one once words root order is deploys resumes (inl (what, (other, second, more, asks))) =
     let none : None ≡ Some what = sym deploys ∙ ap ask_of (once words root other order second is more).1 ∙ asks in cc
-no_drive once words root order is deploys resumes (inr (other, drives)) = resumes (once words root other order orders.Resume is drives).1
+no_one once words root order is deploys resumes (inr (other, drives)) = resumes (once words root other order orders.Resume is drives).1
+
+-- words that ask to serve ask for no one deployment
+pub serves_alone : AsksOnce → (words : List (List ℕ)) (turns : ℕ) → Serves words turns → DrivesOne words → ⊥
+serves_alone once words turns (root, is) drives = no_one once words root (orders.Serve turns) is refl (λ same. cc) drives
+
+-- and they ask so for one number of turns
+pub serves_once : AsksOnce → (words : List (List ℕ)) (a b : ℕ) → Serves words a → Serves words b → a ≡ b
+serves_once once words a b (root, is) (other, more) =
+    let same : orders.Serve a ≡ orders.Serve b = (once words root other (orders.Serve a) (orders.Serve b) is more).1 in cc
+
+-- nor to serve
+pub no_serving : AsksOnce → (words : List (List ℕ)) (root : List ℕ) (order : Order) → IsOrder words root order → ((n : ℕ) → order ≢ orders.Serve n) →
+    AsksToServe words → ⊥
+no_serving once words root order is serves (n, (other, drives)) = serves n (once words root other order (orders.Serve n) is drives).1
+
+pub no_drive : AsksOnce → (words : List (List ℕ)) (root : List ℕ) (order : Order) → IsOrder words root order → ask_of order ≡ None → order ≢ orders.Resume →
+    ((n : ℕ) → order ≢ orders.Serve n) → Drives words → ⊥
+no_drive once words root order is deploys resumes serves (inl drives) = no_one once words root order is deploys resumes drives
+no_drive once words root order is deploys resumes serves (inr drives) = no_serving once words root order is serves drives
 
 asks_by : AsksOnce → (words : List (List ℕ)) (root : List ℕ) (order : Order) → IsOrder words root order → AsksFor words (asked_of order)
 asks_by once words root orders.Deploy is = (root, orders.Deploy, is, refl)
 asks_by once words root orders.Local is = (root, orders.Local, is, refl)
 asks_by once words root (orders.ConfigSet name) is = (root, orders.ConfigSet name, is, refl)
 asks_by once words root orders.Resume is = (root, is)
-asks_by once words root order is = no_drive once words root order is refl (λ same. cc)
+asks_by once words root (orders.Serve n) is = (root, is)
+asks_by once words root order is = no_drive once words root order is refl (λ same. cc) (λ n same. cc)
 
 -- what the words ask by the command that is read from them
 pub asks_for : AsksOnce → (words : List (List ℕ)) (root : List ℕ) (order : Order) (a : Asked) → IsOrder words root order → a ≡ asked_of order → AsksFor words a

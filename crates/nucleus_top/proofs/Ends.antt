@@ -14,6 +14,7 @@ use Rattle.nucleus_top.specs.Answers.{Store, Input, Shelf, Printed, Told, IsUnch
 use Rattle.nucleus_top.specs.Answers.{library_line, status_of}
 use Rattle.nucleus_top.specs.Leaving.{IsDurable, Keeps}
 use Rattle.nucleus_top.specs.Parts.{Comes, ComesOf, IsSourceFault, Parts}
+use Rattle.nucleus_top.specs.Why.{IsDeclined}
 use Rattle.nucleus_top.specs.declared.answer.Answer.{Answer}
 use Rattle.nucleus_top.specs.declared.answer.Answer.TheVariants.{Unplanned, WrongWords, DiskFailed, SourceFailed, LibraryFailed, NoMemory}
 use Rattle.nucleus_top.proofs.Orders.{comes_of}
@@ -25,7 +26,7 @@ use Rattle.nucleus_top.proofs.Standing.{same_device}
 use Rattle.nucleus_top.proofs.StatusEnds.{status_parts}
 use Rattle.nucleus_top.proofs.Unrefused.{no_refusal, silent}
 use Rattle.nucleus_top.proofs.WorkloadEnds.{workload_parts}
-use Rattle.nucleus_top.proofs.WhyEnds.{Says, why_parts}
+use Rattle.nucleus_top.proofs.WhyEnds.{why_parts}
 use Rattle.refusal_lines.specs.Statuses.{status_of_refusal}
 use Rattle.plan_core.specs.declared.fault.Refusal.{Refusal}
 
@@ -66,22 +67,15 @@ ungiven _ store input library comes = absurd comes
 abbrev Refuses : Store → Refusal → List ℕ → Type 0
 Refuses store r text = IsUnchanged store × (status_of_refusal r ≡ status.Memory → text ≡ codes "") × (status_of_refusal r ≢ status.Library)
 
--- of a document that is refused with its line, or without any set
-says : (d : Device) (store : Store) (input : Input) (library : Shelf) (r : Refusal) (text : List ℕ) → IsUnchanged store → Says d input library r text →
-    Refuses store r text
-says d store input library r text same (inl declined) = (same, λ is. declined.text_is ∙ silent r is, declined.told)
-says d store input library r text same (inr told) =
-    let is : status_of_refusal r ≡ status.NoVersion = ap status_of_refusal told.0 in (
-      same,
-      λ memory. let other : status.NoVersion ≡ status.Memory = sym is ∙ memory in cc,
-      λ failed. let other : status.NoVersion ≡ status.Library =
-          sym is ∙ failed in cc,
-    )
+-- of a document that is refused with its line
+declines : (d : Device) (store : Store) (input : Input) (library : Shelf) (r : Refusal) (text : List ℕ) → IsUnchanged store →
+    IsDeclined d input library r text → Refuses store r text
+declines d store input library r text same declined = (same, λ is. declined.text_is ∙ silent r is, declined.told)
 
 unplanned : (order : Order) (store : Store) (input : Input) (library : Shelf) (r : Refusal) (text : List ℕ) →
     ComesOf order store input library (Unplanned r text) → Refuses store r text
 unplanned Plan store input library r text comes = (comes.0, λ is. comes.1.2.1 ∙ silent r is, comes.1.2.2)
-unplanned AskWhy store input library r text comes = says comes.1.0 store input library r text comes.0 comes.1.2
+unplanned AskWhy store input library r text comes = declines comes.1.0 store input library r text comes.0 comes.1.2
 unplanned (Workload seed) store input library r text comes = absurd comes.1
 unplanned (ConfigGet name at) store input library r text comes = absurd comes.1.2
 unplanned Audit store input library r text comes = absurd comes

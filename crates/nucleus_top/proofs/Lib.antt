@@ -10,7 +10,6 @@ mod Fronts
 mod GetEnds
 mod Images
 mod InitEnds
-mod Joining
 mod Lasting
 mod Looked
 mod Meeting
@@ -21,8 +20,11 @@ mod Printed
 mod Proposals
 mod Questions
 mod Reading
+mod Reopening
 mod Requested
 mod Series
+mod ServeEnds
+mod ServeOrder
 mod Standing
 pub mod Unrefused
 mod StatusEnds

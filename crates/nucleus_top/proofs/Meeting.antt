@@ -16,12 +16,14 @@ use Rattle.histories.specs.States.{SessionState}
 use Rattle.admission.specs.Requests.{TakesBy}
 use Rattle.admission.specs.declared.fault.Declined.{Declined}
 use Rattle.admission.specs.Taken.{TakenAreMet}
+use Rattle.deployment_doc.specs.Reads.{ReadsDocument}
+use Rattle.deployment_doc.specs.Sound.{AreSound}
 use Rattle.deployment_doc.specs.declared.document.Document.{Document}
 use Rattle.law_whole.specs.Taking.{StayWhole, TakenAreWhole}
 use Rattle.law_whole.specs.Whole.{BringWhole, BringsWhole, Whole}
 use Rattle.law_whole.proofs.Taken.{brought_stay_whole}
 use Rattle.session.specs.Calls.{Ends}
-use Rattle.session.specs.Documents.{Begins, Follows}
+use Rattle.session.specs.Documents.{Begins, Follows, TakesRead}
 use Rattle.session.specs.Endings.{Ending, ResumesBy}
 use Rattle.nucleus_top.specs.Meeting.{BroughtStayMet}
 
@@ -81,6 +83,15 @@ module _ (request : Device → Result Document Declined → Type 0) (d : Device)
   deployed_brings law (Ok plan) (inr (inr made)) follows =
       begun_brings (plan_view plan) (law d o content before after made.0 plan sound made.3) follows
 
+  -- and one that deploys what an inbox gave
+  pub read_brings : TakenAreMet → (bytes : List ℕ) (taken : Result code.Plan Declined) → TakesRead d o content before after bytes taken →
+      Follows start taken ending records → BringMet d records
+  read_brings law bytes (Err a) takes follows = subst (BringMet d) (sym follows.1) tt
+  read_brings law bytes (Ok plan) (inl memory) follows = cc
+  read_brings law bytes (Ok plan) (inr (inl fault)) follows = let wrong = fault.2 in cc
+  read_brings law bytes (Ok plan) (inr (inr made)) follows =
+      begun_brings (plan_view plan) (law d o content before after made.0 plan sound made.2) follows
+
   begun_wholes : (plan : Plan) → (Whole d → BringsWhole d (Accepted plan)) → Begins start plan ending records → BringWhole d records
   begun_wholes plan whole (inl off) = subst (BringWhole d) (sym off.1) tt
   begun_wholes plan whole (inr on) = subst (BringWhole d) (sym on.2.1) (whole, once_wholes (applied d (Accepted plan)) on.2.0 on.2.2)
@@ -93,6 +104,16 @@ module _ (request : Device → Result Document Declined → Type 0) (d : Device)
   deployed_wholes law regular is (Ok plan) (inr (inl fault)) follows = let wrong = fault.2 in cc
   deployed_wholes law regular is (Ok plan) (inr (inr made)) follows =
       begun_wholes (plan_view plan) (λ whole. law d o content before after made.0 plan sound regular whole is made.2 made.3) follows
+
+  -- of what an inbox gave
+  pub read_wholes : TakenAreWhole → IsRegularDevice d → d.origin ≡ Some o → (bytes : List ℕ) (taken : Result code.Plan Declined)
+      → ((document : Document) → ReadsDocument bytes (Ok document) → AreSound document.roots)
+      → TakesRead d o content before after bytes taken → Follows start taken ending records → BringWhole d records
+  read_wholes law regular is bytes (Err a) roots takes follows = subst (BringWhole d) (sym follows.1) tt
+  read_wholes law regular is bytes (Ok plan) roots (inl memory) follows = cc
+  read_wholes law regular is bytes (Ok plan) roots (inr (inl fault)) follows = let wrong = fault.2 in cc
+  read_wholes law regular is bytes (Ok plan) roots (inr (inr made)) follows =
+      begun_wholes (plan_view plan) (λ whole. law d o content before after made.0 plan sound regular whole is (roots made.0 made.1) made.2) follows
 
   pub deployed_stay : TakenAreWhole → IsRegularDevice d → d.origin ≡ Some o → (taken : Result code.Plan Declined)
       → TakesBy request d o content before after taken → Follows start taken ending records → StayWhole d records

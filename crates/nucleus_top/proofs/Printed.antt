@@ -32,7 +32,7 @@ prefix (f ∷ front) rest (t ∷ told) r few is =
     (more.0, ap (λ (x : Record). x ∷ front) heads ∙ ap (λ (l : List Record). t ∷ l) more.1)
 
 -- a front that has what was told
-told_front : (d : Device) (c : Image) (records told rest before after : List Record) (plan : Plan) → records ≡ told ++ rest → length rest ≤ 1 →
+pub told_front : (d : Device) (c : Image) (records told rest before after : List Record) (plan : Plan) → records ≡ told ++ rest → length rest ≤ 1 →
     told ≡ before ++ Accepted plan ∷ after
     → (rest ≡ [] → (e : Device) × Run d records e × Stands c e) → StandsForMost slots_entries d records c → (e : Device) × Stands c e ×
     IsTaken plan.id (course e)

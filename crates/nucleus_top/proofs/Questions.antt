@@ -28,15 +28,11 @@ use Rattle.plan_core.specs.declared.fault.Refusal.TheVariants.{Candidates, Plan}
 use Rattle.plan_core.specs.declared.questions.Question.{Question}
 use Rattle.refusal_lines.specs.Lines.{refusal_line}
 use Rattle.refusal_lines.specs.Statuses.{status_of_refusal}
-use Rattle.recipe_reader.specs.Members.{members}
-use Rattle.recipe_reader.specs.Sets.{asked as wanted}
-use Rattle.why_not.specs.Plain.{Explains, HasNoSet}
-use Rattle.why_not.specs.Reasons.{Reason}
 use Rattle.nucleus_top.specs.Answers.{Store, Input, Shelf, IsStill}
 use Rattle.nucleus_top.specs.Planning.{NamesPending, TellsRefusal}
-use Rattle.nucleus_top.specs.Why.{IsQuestioned, TellsAsked, TellsText, TellsWhy, WhysOn, why_bytes}
+use Rattle.nucleus_top.specs.Why.{IsQuestioned, TellsAsked, TellsWhy, WhysOn}
 use Rattle.nucleus_top.specs.declared.answer.Answer.{Answer}
-use Rattle.nucleus_top.specs.declared.answer.Answer.TheVariants.{Possible, Pending, Unplanned, LibraryFailed, SourceFailed, NoMemory}
+use Rattle.nucleus_top.specs.declared.answer.Answer.TheVariants.{Possible, Impossible, Pending, Unplanned, LibraryFailed, SourceFailed, NoMemory}
 use Rattle.nucleus_top.proofs.Looked.{TellsNone}
 use Rattle.nucleus_top.proofs.Proposals.{front_is_long, some_of, too_long}
 use Rattle.nucleus_top.proofs.Unrefused.{only_library}
@@ -88,29 +84,21 @@ questioned d input library front result some idle is asks =
 
 -- ---- the answer that tells it
 
--- a certificate that no set is valid is told by its text
-pub tells_explained : (question : Question) (why : Reason) (a : Answer) → Explains (members question.candidates) (wanted question.wanted) why
-    → HasNoSet (members question.candidates) (wanted question.wanted) → TellsText (why_bytes (members question.candidates) why) a → TellsWhy question a
-tells_explained question why (Unplanned refusal text) explains none tells =
-    (tells.0, record { why = why; explains = explains; none = none; text_is = tells.1 })
-tells_explained question why NoMemory explains none tells = tt
-tells_explained question why a explains none tells = absurd tells
-
 module _ (d : Device) (input : Input) (library : Shelf) where
   told_why : (question : Question) (a : Answer) → IsQuestioned d input library (Ok question) → TellsWhy question a → WhysOn d input library a
   told_why question Possible asked tells = record { question = question; questioned = asked; set = tells.0; valid = tells.1 }
-  told_why question (Unplanned refusal text) asked tells = inr (tells.0, record { question = question; questioned = asked; explained = tells.1 })
+  told_why question (Impossible e) asked tells = record { question = question; questioned = asked; explained = tells }
   told_why question NoMemory asked tells = tt
   told_why question a asked tells = absurd tells
 
   told_refusal : (refusal : Refusal) (a : Answer) → IsQuestioned d input library (Err refusal)
       → (refusal ≡ Candidates gather.Library → Rose library.faults_before library.faults_after) → TellsRefusal refusal a → WhysOn d input library a
   told_refusal refusal (Unplanned r text) asked cause tells =
-      inl (record {
+      record {
         questioned = subst (λ (x : Refusal). IsQuestioned d input library (Err x)) (sym tells.0) asked;
         text_is = subst (λ (x : Refusal). text ≡ refusal_line x) (sym tells.0) tells.1;
         told = subst (λ (x : Refusal). status_of_refusal x ≢ status.Library) (sym tells.0) tells.2;
-      })
+      }
   told_refusal refusal LibraryFailed asked cause tells =
       let is : refusal ≡ Candidates gather.Library = only_library refusal tells in
       (subst (λ (x : Refusal). IsQuestioned d input library (Err x)) is asked, cause is)
@@ -143,7 +131,7 @@ told_asked_still library (Err refusal) a tells quiet = still_refusal library ref
 -- the source does not fail once it was read
 pub told_asked_read : (result : Result Question Refusal) (a : Answer) → TellsAsked result a → a ≡ SourceFailed → ⊥
 told_asked_read (Ok question) Possible tells is = cc
-told_asked_read (Ok question) (Unplanned r text) tells is = cc
+told_asked_read (Ok question) (Impossible e) tells is = cc
 told_asked_read (Ok question) NoMemory tells is = cc
 told_asked_read (Ok question) a tells is = absurd tells
 told_asked_read (Err refusal) (Unplanned r text) tells is = cc

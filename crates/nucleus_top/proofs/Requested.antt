@@ -149,7 +149,7 @@ module _ {D : Type 0} (may_leave : D → Image → Type 0) (moment : D → ℕ) 
 
   pub changes_move_one_item : ChangesKeepAll → ChangesMoveOneItem may_leave moment left_since faults
   changes_move_one_item law old new old_list new_list printed result d start name bytes h whole =
-      let keeps = law d h.origin name bytes h.taken h.sound whole h.origin_is h.takes in (
+      let keeps = law d h.origin name bytes h.taken h.driven.sound whole h.origin_is h.takes in (
         never_three result (of_result result h.call.0.ending h.call.0.answers
             (of_taken d h.origin name bytes start h.taken h.call.0.ending (records_of h.call.0.history) h.call.1 keeps
             (λ failed. omega (arith, h.library_cause failed)))),

@@ -7,16 +7,21 @@ use Rattle.disk_model.specs.Moments.{weaker}
 use Rattle.checkpoint_log.specs.Slots.{slots_entries}
 use Rattle.records.specs.Stored.{Record, Genesis}
 use Rattle.records.specs.declared.record.Origin.{Origin}
+use Rattle.device.specs.After.{course}
 use Rattle.device.specs.Devices.{Device, no_device}
 use Rattle.device.specs.Lawful.{Run}
 use Rattle.device.specs.Met.{Met}
+use Rattle.device.specs.Sound.{RevisionsRise}
 use Rattle.device.proofs.Course.{run}
 use Rattle.session_boots.specs.Traces.{StandsForMost}
 use Rattle.session_boots.proofs.Prefixes.{none_most, run_on}
+use Rattle.nucleus_top.specs.Lasting.{IsTaken}
 use Rattle.nucleus_top.specs.Begun.{Begins, IsNoneOrBegun, begun_device}
 use Rattle.nucleus_top.specs.Opening.{Stands}
 use Rattle.nucleus_top.specs.Crashes.{AllowedOrPrefix, AllowedOrSame}
-use Rattle.nucleus_top.specs.Series.{AllStayMet, AreKept, DrivesEnd, DrivesGoOn, Follow, IsFrontOf, IsLeftOn, IsReached, LeftAs, LeftBy, Made, TurnedEnd}
+use Rattle.nucleus_top.specs.Series.{AcknowledgedLast, AllStayMet, AreKept, CallsRaise, DrivesEnd, DrivesGoOn, FirstBegins, Follow}
+use Rattle.nucleus_top.specs.Series.{IsFrontOf, IsLeftOn, IsReached, LeftAs}
+use Rattle.nucleus_top.specs.Series.{LeftBy, Made, TurnedEnd}
 use Rattle.nucleus_top.specs.Series.{TurnedGoOn, keeps_none, stopped}
 use Rattle.nucleus_top.proofs.Crashes.{means_sound}
 use Rattle.nucleus_top.proofs.Lasting.{runs_lose_nothing}
@@ -109,6 +114,20 @@ calls_reach d [] image follow left = reached d [] image [] d refl left refl (λ 
 calls_reach d (c ∷ before) image follow left = reach_on d c before image (λ i was. calls_reach d before i follow.0 was) follow.1.0 follow.1.1 follow.1.2
     c.ended refl left
 
+-- what was told as accepted lasts through later calls
+pub acknowledged_last : {D : Type 0} (may_leave : D → Image → Type 0) → AcknowledgedLast may_leave
+acknowledged_last may_leave disk told lasts start is_one d stands later follow image left before after plan is =
+    let first = lasts before after plan is start is_one in
+    let then = calls_reach d later image follow left in
+    let same : first.0 ≡ d = same_device start first.0 d first.1 stands in
+    (then.device, then.stands, then.loses.taken plan.id (subst (λ (e : Device). IsTaken plan.id (course e)) same first.2))
+
+-- by the law of runs no revision falls
+pub calls_raise : RevisionsRise → CallsRaise
+calls_raise law d calls image sound follow left arn =
+    let r = calls_reach d calls image follow left in
+    (r.device, r.stands, law r.kept d r.device sound r.run arn)
+
 -- ---- the calls of a disk
 
 module _ {D : Type 0} {is_modelled : Bool} {seen : D → Image} {may_leave : D → Image → Type 0} {moment : D → ℕ} {left_since : D → ℕ → Image → Type 0}
@@ -132,6 +151,15 @@ module _ {D : Type 0} {is_modelled : Bool} {seen : D → Image} {may_leave : D �
       by : IsTrue is_modelled → (c : Image) → AllowedOrSame (may_leave old) (seen old) c → IsLeftOn d before (seen old) c
       by told c (inl allowed) = inl (left c allowed)
       by told c (inr same) = inr (same.0, same.1, (follow, (seen old, left (seen old) (laws.reads old told), same.1)), none_most slots_entries same.0 c same.2)
+
+  pub first_begins : FirstBegins may_leave is_modelled seen
+  first_begins disk told none = record {
+    follow = tt;
+    left = λ image left. none_stands image (none image left);
+    start = seen disk;
+    is_one = laws.reads disk told;
+    stands = none_stands (seen disk) (none (seen disk) (laws.reads disk told));
+  }
 
   pub drives_end : DrivesEnd may_leave
   drives_end d e before records old new begins ends = ((begins.follow, (begins.start, begins.left begins.start begins.is_one, begins.stands)), ends)

@@ -1,5 +1,6 @@
 -- What the deployments of a workload go through.
-use Rattle.std.proofs.Common.{◌≡◌, ◌≢◌, ◌∙◌, ◌⊎◌, ◌≤◌, ⊎_elim, inl, inr, ℕ, Bool, IsTrue, false, true, List, [], ◌∷◌, ◌++◌, length, Option, Some, None, refl, sym, ap, subst}
+use Rattle.std.proofs.Common.{◌≡◌, ◌≢◌, ◌∙◌, ◌⊎◌, ◌≤◌, ⊎_elim, inl, inr, ℕ, Bool, IsTrue, false, true, List, [], ◌∷◌, ◌++◌, length, Option, Some, None, refl}
+use Rattle.std.proofs.Common.{sym, ap, subst}
 use Rattle.std.proofs.Common.{append_assoc, append-nil, arith}
 use Rattle.std.proofs.lemmas.Bool.{false≢true}
 use Rattle.std.specs.Option.{IsSome, IsSomeAnd}
@@ -40,7 +41,7 @@ applied_begun d (Genesis o) some = refl
 applied_begun d (Closed o) some = closed_begun o d d.pending some
 applied_begun d r some = some
 
-run_begun : (records : List Record) (d e : Device) → Run d records e → IsSome d.origin → IsSome e.origin
+pub run_begun : (records : List Record) (d e : Device) → Run d records e → IsSome d.origin → IsSome e.origin
 run_begun [] d e run some = subst (λ (x : Device). IsSome x.origin) (sym run) some
 run_begun (r ∷ records) d e run some =
     run_begun records run.0 e run.2 (subst (λ (x : Device). IsSome x.origin) (sym run.1.leaves) (applied_begun d r some))
@@ -73,7 +74,7 @@ module _ {D : Type 0} {is_modelled : Bool} {seen : D → Image} {may_leave : D �
       let c = h.call.0 in
       let other = no_want_of result (status_of_ending c.ending) c.answers no_want in
       let e = (state_after h.place c.history).device in
-      let run : Run d (records_of c.history) e = subst (λ (x : Device). Run x (records_of c.history) e) h.device_is h.history.run in (
+      let run : Run d (records_of c.history) e = subst (λ (x : Device). Run x (records_of c.history) e) h.driven.device_is h.driven.history.run in (
         e,
         (c.prints.stable (c.prints.all (no_failure c.ending other)) (seen new) (laws.reads new told), run_begun (records_of c.history) d e run begun.1),
         inl (record {
@@ -87,9 +88,9 @@ module _ {D : Type 0} {is_modelled : Bool} {seen : D → Image} {may_leave : D �
               holds h.takes;
           place = h.place;
           serves = h.serves;
-          device_is = h.device_is;
+          device_is = h.driven.device_is;
           history = c.history;
-          is_history = h.history;
+          is_history = h.driven.history;
           start = start;
           ending = c.ending;
           follows = h.call.1;
@@ -131,8 +132,10 @@ module _ {D : Type 0} {is_modelled : Bool} {seen : D → Image} {may_leave : D �
       let same : h.0 ≡ d = same_device (seen old) h.0 d (h.2 told).1 begun.0 in
       let bytes : on.0 ≡ document = on.1.whole document has in
       deployed h.1 library holds
-      (subst (λ (x : Device). IsDeployedOn may_leave moment left_since faults old new old_list new_list printed result x h.1 library (Requests ask.Document document)) same
-      (subst (λ (b : List ℕ). IsDeployedOn may_leave moment left_since faults old new old_list new_list printed result h.0 h.1 library (Requests ask.Document b)) bytes
+      (subst (λ (x : Device). IsDeployedOn may_leave moment left_since faults old new old_list new_list printed result
+      x h.1 library (Requests ask.Document document)) same
+      (subst (λ (b : List ℕ). IsDeployedOn may_leave moment left_since faults old new old_list new_list printed result
+      h.0 h.1 library (Requests ask.Document b)) bytes
       on.2))
 
   pub gone_through : (runner : Type 0) (input : Input) (library : Shelf) → input.document ≡ Some document → library.content ≡ Some content

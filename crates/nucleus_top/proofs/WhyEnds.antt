@@ -1,20 +1,19 @@
 -- What each reply of `why` amounts to.
-use Rattle.std.proofs.Common.{◌≡◌, ◌∙◌, ◌⊎◌, inl, inr, ℕ, List, IsTrue, Some, None, Err, refl, sym, ap, subst}
+use Rattle.std.proofs.Common.{◌≡◌, ◌∙◌, ◌⊎◌, ⊎_elim, inl, inr, ℕ, List, IsTrue, Some, None, Err, refl, sym, ap, subst}
 use Rattle.nuc_base.specs.declared.status.Status.{Status}
 use Rattle.nuc_base.specs.declared.status.Status.TheVariants as status
 use Rattle.device.specs.Devices.{Device, Pending as PendingPlan}
-use Rattle.plan_core.specs.declared.fault.PlanFault.TheVariants.{NoVersion}
 use Rattle.plan_core.specs.declared.fault.Refusal.{Refusal}
-use Rattle.plan_core.specs.declared.fault.Refusal.TheVariants.{Plan}
 use Rattle.refusal_lines.specs.Lines.{refusal_line}
 use Rattle.refusal_lines.specs.Statuses.{status_of_refusal}
 use Rattle.nucleus_top.specs.Answers.{Store, Input, Shelf, Printed, Told, Prints, Expects, pending_line, status_of, lines_of}
 use Rattle.nucleus_top.specs.Opening.{Stands}
 use Rattle.nucleus_top.specs.Planning.{IsFound, IsPending}
-use Rattle.nucleus_top.specs.Why.{IsCloseRepeated, IsDeclined, IsImpossible, IsImpossibleOn, IsPossiblePrinted}
+use Rattle.nucleus_top.specs.Why.{IsCloseRepeated, IsDeclined, IsImpossibleOn, IsPossiblePrinted}
 use Rattle.nucleus_top.specs.Why.{IsQuestioned, WhyParts, Whys, WhysOn}
 use Rattle.nucleus_top.specs.declared.answer.Answer.{Answer}
-use Rattle.nucleus_top.specs.declared.answer.Answer.TheVariants.{Made, Shown, Planned, Possible, Got}
+use Rattle.nucleus_top.specs.declared.explanation.Explanation.{Explanation}
+use Rattle.nucleus_top.specs.declared.answer.Answer.TheVariants.{Made, Shown, Planned, Possible, Impossible, Got}
 use Rattle.nucleus_top.specs.declared.answer.Answer.TheVariants.{Drawn, Whole, Unplanned, Pending, DiskFailed, SourceFailed}
 use Rattle.nucleus_top.specs.declared.answer.Answer.TheVariants.{LibraryFailed, NotInitialised, Damaged, NoMemory}
 use Rattle.nucleus_top.proofs.DriveEnds.{busy_none}
@@ -23,21 +22,18 @@ use Rattle.nucleus_top.proofs.PlanEnds.{busy}
 use Rattle.nucleus_top.proofs.Questions.{not_declined}
 use Rattle.nucleus_top.proofs.Unrefused.{no_refusal, only_no_version, only_successful}
 
--- what a text with a refusal says that is not refused so
-abbrev pub Says : Device → Input → Shelf → Refusal → List ℕ → Type 0
-Says d input library r text = IsDeclined d input library r text ⊎ ((r ≡ Plan NoVersion) × IsImpossible d input library text)
+-- no first refusal has the status of no version
+declined_other : (d : Device) (input : Input) (library : Shelf) (r : Refusal) (text : List ℕ) → IsDeclined d input library r text →
+    status_of_refusal r ≡ status.NoVersion → ⊥
+declined_other d input library r text declined is =
+    not_declined d input library (subst (λ (x : Refusal). IsQuestioned d input library (Err x)) (only_no_version r is) declined.questioned)
 
--- with the status of no version it is a certificate
-pub says_impossible : (d : Device) (input : Input) (library : Shelf) (r : Refusal) (text : List ℕ) → Says d input library r text →
-    status_of_refusal r ≡ status.NoVersion → IsImpossible d input library text
-says_impossible d input library r text (inl declined) is =
-    absurd (not_declined d input library (subst (λ (x : Refusal). IsQuestioned d input library (Err x)) (only_no_version r is) declined.questioned))
-says_impossible d input library r text (inr told) is = told.1
-
--- no other answer ends with that status
-only_unplanned : (a : Answer) → status_of a ≡ status.NoVersion → (r : Refusal) × (text : List ℕ) × (a ≡ Unplanned r text)
-only_unplanned (Unplanned r text) is = (r, text, refl)
-only_unplanned a is = cc
+-- an answer with that status is a certificate, or a refusal
+which_told : (a : Answer) → status_of a ≡ status.NoVersion →
+    ((e : Explanation) × (a ≡ Impossible e)) ⊎ ((r : Refusal) × (text : List ℕ) × (a ≡ Unplanned r text))
+which_told (Impossible e) is = inl (e, refl)
+which_told (Unplanned r text) is = inr (r, text, refl)
+which_told a is = cc
 
 module _ (store : Store) (input : Input) (library : Shelf) where
   abbrev On : Device → Answer → Type 0
@@ -49,9 +45,9 @@ module _ (store : Store) (input : Input) (library : Shelf) where
     which a comes (inl told) = inr (a, comes, told.0, told.1)
     which a comes (inr told) = inl told.0
 
-    declined_done : (d : Device) (r : Refusal) (text : List ℕ) → IsFound store d → Says d input library r text → Prints printed text →
+    declined_done : (d : Device) (r : Refusal) (text : List ℕ) → IsFound store d → IsDeclined d input library r text → Prints printed text →
         status_of_refusal r ≡ status.Done → IsPossiblePrinted store input library printed ⊎ IsCloseRepeated store input library printed
-    declined_done d r text found (inl declined) prints is =
+    declined_done d r text found declined prints is =
         let closed = only_successful r is in
         inr (
           d,
@@ -60,8 +56,6 @@ module _ (store : Store) (input : Input) (library : Shelf) where
           subst (λ (x : Refusal). IsQuestioned d input library (Err x)) closed.1 declined.questioned,
           subst (λ (t : List ℕ). Prints printed t) (declined.text_is ∙ ap refusal_line closed.1) prints,
         )
-    declined_done d r text found (inr told) prints is =
-        let other : status.NoVersion ≡ status.Done = sym (ap status_of_refusal told.0) ∙ is in cc
 
     done : (a : Answer) → Whys store input library a → Told printed result a → result ≡ status.Done → IsPossiblePrinted store input library printed ⊎
         IsCloseRepeated store input library printed
@@ -77,25 +71,29 @@ module _ (store : Store) (input : Input) (library : Shelf) where
     done a comes (inr told) is = cc
 
     -- What tells no version is a parameter here: unfolded, it takes more memory than the check of one definition may.
-    module _ (certificate : (d : Device) (r : Refusal) (text : List ℕ) → Says d input library r text → status_of_refusal r ≡ status.NoVersion →
-        IsImpossible d input library text)
-        (refusal : (a : Answer) → status_of a ≡ status.NoVersion → (r : Refusal) × (text : List ℕ) × (a ≡ Unplanned r text))
+    module _ (declined : (d : Device) (r : Refusal) (text : List ℕ) → IsDeclined d input library r text → status_of_refusal r ≡ status.NoVersion → ⊥)
+        (which : (a : Answer) → status_of a ≡ status.NoVersion →
+        ((e : Explanation) × (a ≡ Impossible e)) ⊎ ((r : Refusal) × (text : List ℕ) × (a ≡ Unplanned r text)))
         (other : result ≡ status.Edge → result ≡ status.NoVersion → ⊥) where
-      no_version_of : (r : Refusal) (text : List ℕ) → Whys store input library (Unplanned r text) → Prints printed text →
-          status_of_refusal r ≡ status.NoVersion → (text : List ℕ) × IsImpossibleOn store input library text × Prints printed text
-      no_version_of r text comes prints is = (text, (comes.1.0, comes.1.1, certificate comes.1.0 r text comes.1.2 is), prints)
+      explained : (e : Explanation) → Whys store input library (Impossible e) → Prints printed (lines_of (Impossible e)) →
+          (text : List ℕ) × IsImpossibleOn store input library text × Prints printed text
+      explained e comes prints = (lines_of (Impossible e), (comes.1.0, comes.1.1, comes.1.2), prints)
+
+      refused_so : (r : Refusal) (text : List ℕ) → Whys store input library (Unplanned r text) → status_of_refusal r ≡ status.NoVersion → ⊥
+      refused_so r text comes is = declined comes.1.0 r text comes.1.2 is
 
       no_version_told : (a : Answer) → Whys store input library a → Told printed result a → result ≡ status.NoVersion
           → (text : List ℕ) × IsImpossibleOn store input library text × Prints printed text
-      no_version_told a comes (inl told) is =
-          let refused = refusal a (sym told.0 ∙ is) in
-          no_version_of refused.0 refused.1 (subst (λ (x : Answer). Whys store input library x) refused.2 comes)
-          (subst (λ (x : Answer). Prints printed (lines_of x)) refused.2 told.1) (sym (ap status_of refused.2) ∙ sym told.0 ∙ is)
+      no_version_told a comes (inl told) is = ⊎_elim
+          (λ e. explained e.0 (subst (λ (x : Answer). Whys store input library x) e.1 comes)
+          (subst (λ (x : Answer). Prints printed (lines_of x)) e.1 told.1))
+          (λ r. absurd (refused_so r.0 r.1 (subst (λ (x : Answer). Whys store input library x) r.2 comes)
+          (sym (ap status_of r.2) ∙ sym told.0 ∙ is))) (which a (sym told.0 ∙ is))
       no_version_told a comes (inr told) is = absurd (other told.0 is)
 
     no_version : (a : Answer) → Whys store input library a → Told printed result a → result ≡ status.NoVersion
         → (text : List ℕ) × IsImpossibleOn store input library text × Prints printed text
-    no_version = no_version_told (λ d r text. says_impossible d input library r text) only_unplanned (λ failed is. cc)
+    no_version = no_version_told (λ d r text. declined_other d input library r text) which_told (λ failed is. cc)
 
     pending : (a : Answer) → Whys store input library a → Told printed result a → result ≡ status.PendingStands
         → (id : List ℕ) × (IsTrue store.is_modelled → IsPending store.before id) × (input.rest ≡ input.document) × Prints printed (pending_line id)
@@ -117,17 +115,15 @@ module _ (store : Store) (input : Input) (library : Shelf) where
     pending a comes (inl told) is = cc
     pending a comes (inr told) is = cc
 
-    says_idle : (d : Device) (r : Refusal) (text : List ℕ) → Says d input library r text → d.pending ≡ None
-    says_idle d r text (inl declined) = declined.questioned.idle
-    says_idle d r text (inr told) = told.1.questioned.idle
-
     pending_comes : (a : Answer) → Whys store input library a → Told printed result a → IsTrue store.is_modelled → (d : Device) → Stands store.before d
         → (q : PendingPlan) → d.pending ≡ Some q → Expects result status.PendingStands
     pending_comes a comes (inr told) is_modelled d stands q is = inr (inr (inl told.0))
     pending_comes Possible comes (inl told) is_modelled d stands q is =
         absurd (busy store input library printed result d comes.1.0 q is_modelled comes.1.1 comes.1.2.questioned.idle stands is)
     pending_comes (Unplanned r text) comes (inl told) is_modelled d stands q is =
-        absurd (busy store input library printed result d comes.1.0 q is_modelled comes.1.1 (says_idle comes.1.0 r text comes.1.2) stands is)
+        absurd (busy store input library printed result d comes.1.0 q is_modelled comes.1.1 comes.1.2.questioned.idle stands is)
+    pending_comes (Impossible e) comes (inl told) is_modelled d stands q is =
+        absurd (busy store input library printed result d comes.1.0 q is_modelled comes.1.1 comes.1.2.questioned.idle stands is)
     pending_comes LibraryFailed comes (inl told) is_modelled d stands q is =
         absurd (busy store input library printed result d comes.1.0 q is_modelled comes.1.1 comes.1.2.0.idle stands is)
     pending_comes (Pending id) comes (inl told) is_modelled d stands q is = inr (inl told.0)

@@ -8,11 +8,14 @@ use Rattle.nuc_base.specs.declared.status.Status.TheVariants as status
 use Rattle.nuc_base.specs.Faults.{Rose}
 use Rattle.edges.specs.Pieces.{AppendsPrefix}
 use Rattle.library_core.specs.Library.{Content}
+use Rattle.recipe_reader.specs.Members.{members}
 use Rattle.refusal_lines.specs.Statuses.{status_of_refusal}
+use Rattle.why_not.specs.Reasons.{seen}
+use Rattle.why_not.specs.Texts.{why_bytes}
 use Rattle.nucleus_top.specs.declared.answer.Answer.{Answer}
 use Rattle.nucleus_top.specs.declared.answer.Answer.TheVariants.{Made, Shown, Planned, Unplanned, Whole, Differs, Pending, WrongWords, DiskFailed}
 use Rattle.nucleus_top.specs.declared.answer.Answer.TheVariants.{SourceFailed, LibraryFailed, NotInitialised, Damaged, Initialised}
-use Rattle.nucleus_top.specs.declared.answer.Answer.TheVariants.{NoMemory, Possible, Got, Absent, Drawn}
+use Rattle.nucleus_top.specs.declared.answer.Answer.TheVariants.{NoMemory, Possible, Impossible, Got, Absent, Drawn}
 
 abbrev pub status_of : Answer → Status
 status_of (Made thing) = status.Done
@@ -20,6 +23,7 @@ status_of (Shown text) = status.Done
 status_of (Planned text) = status.Done
 status_of (Unplanned refusal text) = status_of_refusal refusal
 status_of Possible = status.Done
+status_of (Impossible e) = status.NoVersion
 status_of (Drawn text) = status.Done
 status_of (Got text) = status.Done
 status_of (Absent text) = status.Absent
@@ -69,6 +73,7 @@ lines_of (Shown text) = text
 lines_of (Planned text) = text
 lines_of (Unplanned refusal text) = text
 lines_of Possible = possible_line
+lines_of (Impossible e) = why_bytes (members e.candidates) (seen e.why)
 lines_of (Drawn text) = text
 lines_of (Got text) = text
 lines_of (Absent text) = text

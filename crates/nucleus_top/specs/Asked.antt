@@ -4,19 +4,19 @@ use Rattle.admission.specs.declared.ask.Ask.TheVariants as ask
 use Rattle.command_words.specs.Words.{IsOrder}
 use Rattle.command_words.specs.declared.order.Order.{Order}
 use Rattle.command_words.specs.declared.order.Order.TheVariants as orders
-use Rattle.nucleus_top.specs.Drives.{AsksTo, Drives}
+use Rattle.nucleus_top.specs.Drives.{AsksTo, Drives, Serves}
 use Rattle.nucleus_top.specs.declared.asking.Asked.{Asked}
-use Rattle.nucleus_top.specs.declared.asking.Asked.TheVariants.{Deploy, Resume, Other, NoMemory}
+use Rattle.nucleus_top.specs.declared.asking.Asked.TheVariants.{Deploy, Resume, Serve, Other, NoMemory}
 
 abbrev pub asked_of : Order → Asked
 asked_of orders.Deploy = Deploy ask.Document
 asked_of orders.Local = Deploy ask.Local
 asked_of (orders.ConfigSet name) = Deploy (ask.Change name)
 asked_of orders.Resume = Resume
+asked_of (orders.Serve turns) = Serve turns
 asked_of (orders.Init origin) = Other
 asked_of (orders.Status json) = Other
 asked_of orders.Plan = Other
-asked_of (orders.Serve turns) = Other
 asked_of (orders.Workload seed) = Other
 asked_of orders.Audit = Other
 asked_of (orders.ConfigGet name at) = Other
@@ -25,5 +25,6 @@ asked_of orders.Why = Other
 abbrev pub AsksFor : List (List ℕ) → Asked → Type 0
 AsksFor words (Deploy what) = AsksTo words what
 AsksFor words Resume = (root : List ℕ) × IsOrder words root orders.Resume
+AsksFor words (Serve turns) = Serves words turns
 AsksFor words Other = Drives words → ⊥
 AsksFor words NoMemory = ⊤

@@ -9,7 +9,7 @@ use Rattle.checkpoint_log.specs.Slots.{IsLive, slots_entries, slots_files, slots
 use Rattle.checkpoint_log.specs.declared.slots.Slots.{Slots}
 use Rattle.command_words.specs.Words.{IsOrder}
 use Rattle.command_words.specs.declared.order.Order.{Order}
-use Rattle.command_words.specs.declared.order.Order.TheVariants.{ConfigSet, Deploy, Local, Resume}
+use Rattle.command_words.specs.declared.order.Order.TheVariants.{ConfigSet, Deploy, Local, Resume, Serve}
 use Rattle.records.specs.declared.record.Origin.{Origin}
 use Rattle.records.specs.declared.record.Plan as code
 use Rattle.artifact_store.specs.Swept.{IsSwept, items_of}
@@ -21,7 +21,7 @@ use Rattle.artifact_store.specs.declared.fault.SweepFault.TheVariants as sweep
 use Rattle.edges.specs.declared.source.ReadFault.{ReadFault}
 use Rattle.edges.specs.declared.source.ReadFault.TheVariants as reading
 use Rattle.step_runner.specs.declared.entries.RunnerEntry.{RunnerEntry}
-use Rattle.histories.specs.TraceEvents.{records_of}
+use Rattle.histories.specs.TraceEvents.{TraceEvent, records_of}
 use Rattle.histories.specs.States.{SessionState}
 use Rattle.law_histories.specs.Stood.{IsHistory}
 use Rattle.admission.specs.Requests.{Requests, TakesBy}
@@ -62,13 +62,24 @@ AsksTo words what = (root : List ℕ) × (order : Order) × IsOrder words root o
 abbrev pub Deploys : List (List ℕ) → Type 0
 Deploys words = (what : Ask) × AsksTo words what
 
--- they do so, and its recipes may be the library's
-abbrev pub DeploysOver : List (List ℕ) → Type 0
-DeploysOver words = AsksTo words ask.Document ⊎ AsksTo words ask.Local
+-- they ask to serve, for so many turns at some root
+abbrev pub Serves : List (List ℕ) → ℕ → Type 0
+Serves words turns = (root : List ℕ) × IsOrder words root (Serve turns)
 
--- they ask to deploy something, or to resume
+abbrev pub AsksToServe : List (List ℕ) → Type 0
+AsksToServe words = (turns : ℕ) × Serves words turns
+
+-- they ask to deploy something, or what an inbox has, and its recipes may be the library's
+abbrev pub DeploysOver : List (List ℕ) → Type 0
+DeploysOver words = (AsksTo words ask.Document ⊎ AsksTo words ask.Local) ⊎ AsksToServe words
+
+-- they ask to deploy one thing, or to resume
+abbrev pub DrivesOne : List (List ℕ) → Type 0
+DrivesOne words = Deploys words ⊎ ((root : List ℕ) × IsOrder words root Resume)
+
+-- they do so, or ask to serve
 abbrev pub Drives : List (List ℕ) → Type 0
-Drives words = Deploys words ⊎ ((root : List ℕ) × IsOrder words root Resume)
+Drives words = DrivesOne words ⊎ AsksToServe words
 
 -- ---- why a call is turned away
 
@@ -147,6 +158,21 @@ module _ {D : Type 0} (seen : D → Image) (may_leave : D → Image → Type 0) 
     pub ends : (new ≡ old) ⊎ (answer ≢ DiskFailed → KeepsJournal may_leave seen old new)
     pub reads : KeepsJournalOrFiles may_leave seen old new
 
+-- ---- what all of them share
+
+module _ {D : Type 0} (may_leave : D → Image → Type 0) (moment : D → ℕ) (left_since : D → ℕ → Image → Type 0) (old new : D) where
+  -- This happened from the start of a call on, at this place with this device. A crash leaves what a front of the records makes of the
+  -- device, with all artifacts of that, where the images at the start had theirs.
+  pub record IsDrivenOn (d : Device) (place : SessionState) (h : List TraceEvent) : Type 0 where
+    pub device_is : place.device ≡ d
+    pub sound : IsSound d
+    pub history : IsHistory place h
+    pub images : LeavesPrefixes may_leave moment left_since old new d (records_of h)
+    pub whole : KeepsWhole may_leave moment left_since old new d (records_of h)
+    -- what meets its groups and its items does at each record, and what is whole is so
+    pub met : StayMet d (records_of h)
+    pub stays : StayWhole d (records_of h)
+
 -- ---- `deploy`, `local` and `config-set`
 
 -- a library without recipes and artifacts, which never fails
@@ -184,30 +210,22 @@ pub record IsDocument (input : Input) (bytes : List ℕ) : Type 0 where
 module _ {D : Type 0} (may_leave : D → Image → Type 0) (moment : D → ℕ) (left_since : D → ℕ → Image → Type 0) (faults : D → ℕ) (old new : D)
     (old_list new_list : Option (List RunnerEntry)) (printed : Printed) (result : Status) where
   -- Nothing is pending on this device. The request comes to a document or not, and that is taken in on the device or not, by the checks in their
-  -- order, and then from the start of the call one deployment goes on by its plan, or the plan is put off. A crash leaves what a front
-  -- of the records makes of the device, with all artifacts of that, where the images at the start had theirs.
+  -- order, and then from the start of the call one deployment goes on by its plan, or the plan is put off.
   pub record IsDeployedOn (d : Device) (start : ℕ → ℕ) (library : Shelf) (request : Device → Result Document Declined → Type 0) : Type 0 where
     pub place : SessionState
     pub serves : place.serves ≡ false
-    pub device_is : place.device ≡ d
-    pub sound : IsSound d
     pub idle : d.pending ≡ None
     pub origin : Origin
     pub origin_is : d.origin ≡ Some origin
     pub taken : Result code.Plan Declined
     pub takes : TakesBy request d origin library.content library.faults_before library.faults_after taken
     pub call : DrivesTaken slots_entries slots_files may_leave moment left_since old new old_list new_list printed.before printed.after place result start taken
-    pub history : IsHistory place call.0.history
+    pub driven : IsDrivenOn may_leave moment left_since old new d place call.0.history
     -- it ends as one whose disk failed only where the disk's count rose, and its document is declined for the disk or for the
     -- library only where the count of that rose
     pub failed : call.0.ending ≡ Fails → Rose (faults old) (faults new)
     pub disk_cause : HasDiskFailed taken → Rose (faults old) (faults new)
     pub library_cause : HasLibraryFailed taken → Rose library.faults_before library.faults_after
-    pub images : LeavesPrefixes may_leave moment left_since old new d (records_of call.0.history)
-    pub whole : KeepsWhole may_leave moment left_since old new d (records_of call.0.history)
-    -- what meets its groups and its items does at each record, and what is whole is so
-    pub met : StayMet d (records_of call.0.history)
-    pub stays : StayWhole d (records_of call.0.history)
     -- what was printed lasts
     pub lasts : Lasts (may_leave new) call.0.prints.told
 
@@ -222,21 +240,14 @@ module _ {D : Type 0} (may_leave : D → Image → Type 0) (moment : D → ℕ) 
 
   -- ---- `resume`
 
-  -- From the start of a call with this device its pending deployment goes on, where it has one. A crash leaves what a front of
-  -- the records makes of the device, with all artifacts of that, where the images at the start had theirs.
+  -- From the start of a call with this device its pending deployment goes on, where it has one.
   pub record IsResumedOn (d : Device) : Type 0 where
     pub place : SessionState
     pub serves : place.serves ≡ false
-    pub device_is : place.device ≡ d
-    pub sound : IsSound d
     pub call : Call slots_entries slots_files may_leave moment left_since old new old_list new_list printed.before printed.after place result
     pub resumes : Resumes d call.ending
-    pub history : IsHistory place call.history
+    pub driven : IsDrivenOn may_leave moment left_since old new d place call.history
     pub failed : call.ending ≡ Fails → Rose (faults old) (faults new)
-    pub images : LeavesPrefixes may_leave moment left_since old new d (records_of call.history)
-    pub whole : KeepsWhole may_leave moment left_since old new d (records_of call.history)
-    pub met : StayMet d (records_of call.history)
-    pub stays : StayWhole d (records_of call.history)
 
   -- so it is with the device for which the journal stands, where the disk tells it
   abbrev pub IsResumed : Store → Type 0

@@ -14,8 +14,10 @@ pub mod Opening
 pub mod Parts
 pub mod Planning
 pub mod Refusing
+pub mod Reopening
 pub mod Requested
 pub mod Series
+pub mod Serving
 pub mod Shows
 pub mod Why
 pub mod Words

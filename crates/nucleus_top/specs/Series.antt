@@ -2,17 +2,19 @@
 use Rattle.std.specs.Prelude.{◌≡◌, ◌⊎◌, ◌≤◌, ℕ, Bool, true, false, IsTrue, List, [], ◌∷◌, ◌++◌, length, ⊤}
 use Rattle.std.specs.List.{AllByRecursion}
 use Rattle.disk_model.specs.Disk.{Image, Leaves}
-use Rattle.checkpoint_log.specs.Slots.{slots_entries}
-use Rattle.records.specs.Stored.{Record, Genesis}
+use Rattle.checkpoint_log.specs.Slots.{slots_entries, slots_none}
+use Rattle.records.specs.Stored.{Accepted, Genesis, Plan, Record}
 use Rattle.records.specs.declared.record.Origin.{Origin}
 use Rattle.device.specs.After.{After, course}
 use Rattle.device.specs.Devices.{Device, no_device}
+use Rattle.device.specs.Grouped.{revision_of}
 use Rattle.device.specs.Lawful.{Run}
 use Rattle.device.specs.Met.{Met}
+use Rattle.device.specs.Sound.{IsSound}
 use Rattle.session_boots.specs.Traces.{StandsForMost}
 use Rattle.nucleus_top.specs.Begun.{Begins}
 use Rattle.nucleus_top.specs.Crashes.{AllowedOrPrefix, KeepsJournal, LeavesPrefixes, LeavesSame}
-use Rattle.nucleus_top.specs.Lasting.{LosesNothing}
+use Rattle.nucleus_top.specs.Lasting.{IsTaken, Lasts, LosesNothing}
 use Rattle.nucleus_top.specs.Meeting.{StayMet}
 use Rattle.nucleus_top.specs.Opening.{Stands}
 
@@ -81,6 +83,11 @@ pub record IsReached (d : Device) (calls : List Made) (image : Image) : Type 0 w
 abbrev pub CallsReach : Type 0
 CallsReach = (d : Device) (calls : List Made) (image : Image) → Follow d calls → LeftBy d calls image → IsReached d calls image
 
+-- along calls no revision of a group falls
+abbrev pub CallsRaise : Type 0
+CallsRaise = (d : Device) (calls : List Made) (image : Image) → IsSound d → Follow d calls → LeftBy d calls image → (arn : List ℕ) →
+    (e : Device) × Stands image e × (revision_of arn d.groups ≤ revision_of arn e.groups)
+
 -- `init` begins where there is no device, and at each moment leaves that or what the first record makes of it, as at its end
 abbrev pub InitsBegin : Type 0
 InitsBegin = (o : Origin) (old new : Image) → Begins o old new → Stands old no_device × StandsForMost slots_entries no_device (Genesis o ∷ []) new
@@ -96,6 +103,13 @@ module _ {D : Type 0} (may_leave : D → Image → Type 0) where
   -- each image of the disk may have been left by these calls
   abbrev pub AreLeftBy : Device → List Made → D → Type 0
   AreLeftBy d before disk = (image : Image) → may_leave disk image → LeftBy d before image
+
+  -- Of a call whose disk is this at its end, and that told these records: each plan that was accepted among them is pending or closed in each
+  -- image that later calls leave, which begin with an image of that disk.
+  abbrev pub AcknowledgedLast : Type 0
+  AcknowledgedLast = (disk : D) (told : List Record) → Lasts (may_leave disk) told → (start : Image) → may_leave disk start → (d : Device) →
+      Stands start d → (later : List Made) → Follow d later → (image : Image) → LeftBy d later image → (before after : List Record) (plan : Plan) →
+      told ≡ before ++ Accepted plan ∷ after → (e : Device) × Stands image e × IsTaken plan.id (course e)
 
   -- A call begins behind these, on such a disk, and with the device for which one of its images stands.
   pub record BeginsBehind (d : Device) (before : List Made) (e : Device) (disk : D) : Type 0 where
@@ -129,6 +143,11 @@ module _ {D : Type 0} (may_leave : D → Image → Type 0) where
   DrivesEnd = (d e : Device) (before : List Made) (records : List Record) (old new : D) → BeginsBehind may_leave d before e old
       → ((c : Image) → may_leave new c → StandsForMost slots_entries e records c)
       → Follow d (finished e records ∷ before) × AreLeftBy may_leave d (finished e records ∷ before) new
+
+  -- The first of such calls: on a disk none of whose images holds an entry it begins behind no call, without a device.
+  abbrev pub FirstBegins : Bool → (D → Image) → Type 0
+  FirstBegins is_modelled seen = (disk : D) → IsTrue is_modelled → ((image : Image) → may_leave disk image → slots_none image) →
+      BeginsBehind may_leave no_device [] no_device disk
 
   -- So does what one that is turned away says of what the journal says then: with the device for which it stood as it read.
   abbrev pub TurnedEnd : Bool → (D → Image) → Type 0

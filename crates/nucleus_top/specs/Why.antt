@@ -1,32 +1,30 @@
 -- What `why` answers.
 use Rattle.std.specs.Prelude.{◌≡◌, ◌≢◌, ◌⊎◌, ℕ, List, Some, None, Result, Ok, Err, ⊤}
-use Rattle.std.specs.List.{flat_map}
 use Rattle.nuc_base.specs.Faults.{Rose}
 use Rattle.nuc_base.specs.declared.kinds.Outcome.TheVariants.{Successful}
 use Rattle.nuc_base.specs.declared.status.Status.{Status}
 use Rattle.nuc_base.specs.declared.status.Status.TheVariants as status
 use Rattle.records.specs.declared.record.Origin.{Origin}
-use Rattle.recipe_reader.specs.Members.{Member, members}
+use Rattle.recipe_reader.specs.Members.{members}
 use Rattle.recipe_reader.specs.Sets.{IsValid, asked}
 use Rattle.library_core.specs.declared.fault.CandidatesFault.TheVariants as gather
 use Rattle.device.specs.Devices.{Device}
 use Rattle.plan_core.specs.Questions.{QuestionsRead}
-use Rattle.plan_core.specs.declared.fault.PlanFault.TheVariants.{NoVersion}
 use Rattle.plan_core.specs.declared.fault.Refusal.{Refusal}
-use Rattle.plan_core.specs.declared.fault.Refusal.TheVariants.{Repeated, Candidates, Plan}
+use Rattle.plan_core.specs.declared.fault.Refusal.TheVariants.{Repeated, Candidates}
 use Rattle.plan_core.specs.declared.questions.Question.{Question}
 use Rattle.status_text.specs.Status.{closed_line}
 use Rattle.refusal_lines.specs.Lines.{refusal_line}
 use Rattle.refusal_lines.specs.Statuses.{status_of_refusal}
-use Rattle.why_not.specs.Reasons.{Reason}
+use Rattle.why_not.specs.Reasons.{Reason, seen}
 use Rattle.why_not.specs.Plain.{Explains, HasNoSet}
-use Rattle.why_not.specs.Texts.{why_lines}
+use Rattle.why_not.specs.Texts.{why_bytes}
 use Rattle.nucleus_top.specs.Answers.{Store, Input, Shelf, Printed, IsUnchanged, Prints, possible_line, status_of, lines_of}
 use Rattle.nucleus_top.specs.Drives.{PendingParts, RefusedParts}
 use Rattle.nucleus_top.specs.Looks.{LooksAt}
 use Rattle.nucleus_top.specs.Planning.{IsFound, PlansOn, TellsRefusal}
 use Rattle.nucleus_top.specs.declared.answer.Answer.{Answer}
-use Rattle.nucleus_top.specs.declared.answer.Answer.TheVariants.{Possible, Unplanned, Pending, SourceFailed, LibraryFailed, NoMemory}
+use Rattle.nucleus_top.specs.declared.answer.Answer.TheVariants.{Possible, Impossible, Unplanned, Pending, SourceFailed, LibraryFailed, NoMemory}
 
 -- ---- a device without a pending deployment
 
@@ -53,15 +51,8 @@ pub record IsPossible (d : Device) (input : Input) (library : Shelf) : Type 0 wh
   pub set : List ℕ
   pub valid : IsValid (members question.candidates) (asked question.wanted) set
 
--- lines one after another
-abbrev pub joined_lines : List (List ℕ) → List ℕ
-joined_lines lines = flat_map (λ (line : List ℕ). line) lines
-
-abbrev pub why_bytes : List Member → Reason → List ℕ
-why_bytes ms why = joined_lines (why_lines ms why)
-
--- No set is valid for the question, and the text is that of a certificate of it: one that stands for no taken place, and is plain where a
--- plain one is small.
+-- No set is valid for the question, and the text is that of a certificate of it: one that stands for no taken place, is plain where a
+-- plain one is small, and has at most 65,536 nodes.
 pub record IsExplained (question : Question) (text : List ℕ) : Type 0 where
   pub why : Reason
   pub explains : Explains (members question.candidates) (asked question.wanted) why
@@ -77,7 +68,8 @@ pub record IsImpossible (d : Device) (input : Input) (library : Shelf) (text : L
 -- Why an answer comes on a device. That a deployment is pending and that the source failed is told as by `plan`.
 abbrev pub WhysOn : Device → Input → Shelf → Answer → Type 0
 WhysOn d input library Possible = IsPossible d input library
-WhysOn d input library (Unplanned refusal text) = IsDeclined d input library refusal text ⊎ ((refusal ≡ Plan NoVersion) × IsImpossible d input library text)
+WhysOn d input library (Impossible e) = IsImpossible d input library (why_bytes (members e.candidates) (seen e.why))
+WhysOn d input library (Unplanned refusal text) = IsDeclined d input library refusal text
 WhysOn d input library (Pending id) = PlansOn d input library (Pending id)
 WhysOn d input library LibraryFailed = IsQuestioned d input library (Err (Candidates gather.Library)) × Rose library.faults_before library.faults_after
 WhysOn d input library SourceFailed = PlansOn d input library SourceFailed
@@ -92,16 +84,10 @@ Whys store input library = LooksAt store (λ d. WhysOn d input library)
 
 -- ---- what is told
 
--- this text of a certificate, or want of memory
-abbrev pub TellsText : List ℕ → Answer → Type 0
-TellsText text (Unplanned refusal told) = (refusal ≡ Plan NoVersion) × (told ≡ text)
-TellsText text NoMemory = ⊤
-TellsText text _ = ⊥
-
 -- whether a set is valid for the question, or why none is, or want of memory
 abbrev pub TellsWhy : Question → Answer → Type 0
 TellsWhy question Possible = (set : List ℕ) × IsValid (members question.candidates) (asked question.wanted) set
-TellsWhy question (Unplanned refusal text) = (refusal ≡ Plan NoVersion) × IsExplained question text
+TellsWhy question (Impossible e) = IsExplained question (why_bytes (members e.candidates) (seen e.why))
 TellsWhy question NoMemory = ⊤
 TellsWhy question _ = ⊥
 

@@ -3,10 +3,12 @@ ghost use Rattle.nuc_base.specs.Faults.{HasCause};
 ghost use Rattle.edges.specs.Pieces.{Writes};
 ghost use Rattle.nucleus_top.specs.Answers.{status_of, lines_of, printed_of, Told};
 
+use crate::explanation::Explanation;
 use edges::{EdgeFault, Sink, write_all, write_pieces};
 use nuc_base::{Bytes, Label, Status, Text};
 use plan_core::Refusal;
 use refusal_lines::refusal_status;
+use why_not::write_why;
 
 /// What a call has come to, with what its lines say.
 #[derive(Drop)]
@@ -23,6 +25,8 @@ pub enum Answer {
     Drawn(Text),
     /// A set of the candidates is valid.
     Possible,
+    /// None is valid, as this says.
+    Impossible(Explanation),
     /// The node of the configuration is this text.
     Got(Text),
     /// There is no such node, as this line says.
@@ -58,6 +62,7 @@ impl Answer {
             Answer::Unplanned(refusal, _) => refusal_status(refusal),
             Answer::Drawn(_) => Status::Done,
             Answer::Possible => Status::Done,
+            Answer::Impossible(_) => Status::NoVersion,
             Answer::Got(_) => Status::Done,
             Answer::Absent(_) => Status::Absent,
             Answer::Whole => Status::Done,
@@ -87,6 +92,7 @@ impl Answer {
             Answer::Unplanned(_, text) => write_pieces(sink, &[text.as_str()]),
             Answer::Drawn(text) => write_pieces(sink, &[text.as_str()]),
             Answer::Possible => write_pieces(sink, &["possible\n"]),
+            Answer::Impossible(told) => write_why(sink, &told.candidates, &told.why),
             Answer::Got(text) => write_pieces(sink, &[text.as_str()]),
             Answer::Absent(line) => write_all(sink, line.as_slice()),
             Answer::Whole => write_pieces(sink, &["whole\n"]),

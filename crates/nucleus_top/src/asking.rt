@@ -12,6 +12,8 @@ pub enum Asked {
     /// To deploy what the source has, which is of this kind.
     Deploy(Ask),
     Resume,
+    /// To keep the set up and to deploy what an inbox has, for so many turns.
+    Serve(u32),
     /// Another command, or nothing.
     Other,
     /// There is no memory to read them.
@@ -26,10 +28,10 @@ fn asked_by(order: Order) -> Asked
         Order::Local => Asked::Deploy(Ask::Local),
         Order::ConfigSet(name) => Asked::Deploy(Ask::Change(name)),
         Order::Resume => Asked::Resume,
+        Order::Serve(turns) => Asked::Serve(turns),
         Order::Init(_)
         | Order::Status(_)
         | Order::Plan
-        | Order::Serve(_)
         | Order::Workload(_)
         | Order::Audit
         | Order::ConfigGet(..)

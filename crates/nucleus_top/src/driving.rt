@@ -71,7 +71,7 @@ fn swept<T: HasDevice + Drop, D: Disk>(alloc: Global, state: T, disk: &mut D) ->
 }
 
 /// The device for which the journal stands, once stray files are swept.
-fn open_swept<D: Disk>(alloc: Global, disk: &mut D) -> Result<Loaded<Slots>, Answer>
+pub(crate) fn open_swept<D: Disk>(alloc: Global, disk: &mut D) -> Result<Loaded<Slots>, Answer>
     ensures opened { IsTrue D.is_modelled → IfOk result (λ s. HasEntry (D.seen disk.old) × Stands (D.seen disk.old) (loaded_device s)) }
     ensures start { IsTrue D.is_modelled → IfOk result (λ s. (idle : idles.Idle Journal) → s ≡ Loaded.Idle idle →
         StartsFrom (D.seen disk.old) (idle_device idle) (slots_start (idle_log idle) (idle_device idle))) }

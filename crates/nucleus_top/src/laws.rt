@@ -3,10 +3,15 @@ ghost use Rattle.device.specs.Met.{Met};
 ghost use Rattle.nucleus_top.specs.Lasting.{RunsCloseMore, RunsLoseNothing, RunsTake};
 ghost use Rattle.nucleus_top.specs.Meeting.{BroughtStayMet};
 ghost use Rattle.nucleus_top.specs.Opening.{AreFound};
+ghost use Rattle.nucleus_top.specs.Reopening.{CallsReopen};
 ghost use Rattle.nucleus_top.specs.Requested.{ChangesMoveOneItem, LocalsMoveOneGroup};
-ghost use Rattle.nucleus_top.specs.Series.{CallsReach, DrivesEnd, DrivesGoOn, InitsBegin, OthersGoOn, TurnedEnd, TurnedGoOn};
+ghost use Rattle.nucleus_top.specs.Series.{AcknowledgedLast, CallsRaise, CallsReach, DrivesEnd, DrivesGoOn, FirstBegins};
+ghost use Rattle.nucleus_top.specs.Series.{InitsBegin, OthersGoOn, TurnedEnd, TurnedGoOn};
 
+use checkpoint_log::Slots;
+use device::revisions_rise;
 use disk_model::Disk;
+use law_reopening::starts_stand;
 use law_whole::requests_keep_the_rest;
 
 /// Along a run the closed list only grows, at its end, and a deployment that was accepted is pending or closed afterwards.
@@ -25,25 +30,32 @@ pub fn nothing_is_lost()
 /// of `init` and of calls that bring no plan or one that is met. The calls of `deploy` and `resume` are such calls
 /// (`calls_go_on`); so is `init`, which begins without a device and keeps its first record, and what leaves the device as it
 /// is. An image that stands for a device with an origin is found as that when it is opened, never as no store or as damaged.
-/// It does nothing.
+/// No revision of a group falls. It does nothing.
 pub fn calls_run_on()
     ensures none { Met no_device }
     ensures met { BroughtStayMet }
     ensures init { InitsBegin }
     ensures others { OthersGoOn }
     ensures reached { CallsReach }
+    ensures raised { CallsRaise }
     ensures found { AreFound }
-{}
+{
+    revisions_rise();
+}
 
-/// What is said of the images of `deploy` and `resume` makes them such calls as `calls_run_on` takes: behind calls that may
+/// What is said of the images of `deploy`, `resume` and `serve` makes them such calls as `calls_run_on` takes: behind calls that may
 /// have left each image at their start, a call that drives a deployment is one more, which begins with the device for which
 /// one of these images stands and keeps its records, and one that is turned away keeps none. So is each that came to its end,
-/// by what it says of the images that a crash may leave then. It does nothing.
+/// by what it says of the images that a crash may leave then. And there is a first one: on a disk that holds no entry a call begins behind
+/// none, so what is asked here can be met. What a call printed as accepted is pending or closed in each image that later calls leave. It does
+/// nothing.
 pub fn calls_go_on<D: Disk>()
+    ensures begins { FirstBegins D.may_leave D.is_modelled D.seen }
     ensures drives { DrivesGoOn D.may_leave D.moment D.left_since }
     ensures turned { TurnedGoOn D.may_leave D.moment D.left_since D.seen }
     ensures drives_end { DrivesEnd D.may_leave }
     ensures turned_end { TurnedEnd D.may_leave D.is_modelled D.seen }
+    ensures acknowledged { AcknowledgedLast D.may_leave }
 {}
 
 /// What requests made at the device add to what is said of each deployment (`IsDeployedOn`). One of the group of the device itself
@@ -55,4 +67,13 @@ pub fn requests_move_what_they_name<D: Disk>()
     ensures change { ChangesMoveOneItem D.may_leave D.moment D.left_since D.faults }
 {
     requests_keep_the_rest();
+}
+
+/// What `deploy` and `resume` say of the images at their end gives what is found when one of these is opened again: each bootstrap that started has
+/// its beginning there, and each failure behind which anything started its record (`law_reopening`). So no bootstrap that ended is begun again, and
+/// a component is not started anew over a failure that was forgotten. It does nothing.
+pub fn calls_reopen<D: Disk>()
+    ensures calls { CallsReopen D.may_leave D.moment D.left_since }
+{
+    starts_stand::<Slots, D>();
 }

@@ -69,9 +69,8 @@ fn answer<D: Disk, L: Library, S: Source>(
         Order::Workload(seed) => draw_workload(alloc, seed),
         Order::Why => why(alloc, disk, library, source),
         // These drive components: they are dispatched before.
-        Order::Deploy | Order::Resume | Order::Local | Order::ConfigSet(_) => Answer::WrongWords,
-        // This is not built yet.
-        Order::Serve(_) => Answer::WrongWords,
+        Order::Deploy | Order::Resume | Order::Serve(_) | Order::Local | Order::ConfigSet(_) =>
+            Answer::WrongWords,
     }
 }
 

@@ -7,20 +7,25 @@ ghost use Rattle.command_words.specs.declared.order.Order.{Order};
 ghost use Rattle.command_words.specs.declared.order.Order.TheVariants as order;
 ghost use Rattle.session.specs.Calls.{Stays};
 ghost use Rattle.edges.specs.Reading.{ReadsUpTo};
-ghost use Rattle.nucleus_top.specs.Drives.{AsksTo, Deploys, DeploysOver, DriveParts, Drives};
+ghost use Rattle.nucleus_top.specs.Drives.{AsksTo, AsksToServe, Deploys, DeploysOver, DriveParts, Drives, DrivesOne, Serves};
 ghost use Rattle.nucleus_top.specs.Drives.{IsDeployed, IsResumed, IsRefusedBefore, PendingParts, RefusedParts, TurnsAway};
 ghost use Rattle.nucleus_top.specs.Drives.{MayNotOpen};
 ghost use Rattle.nucleus_top.specs.Words.{Asks};
 ghost use Rattle.nucleus_top.specs.Answers.{store_of, input_of, shelf_of, printed_of};
 ghost use Rattle.nucleus_top.specs.Leaving.{IsDurable, MayLeave, files_of};
 ghost use Rattle.nucleus_top.specs.Parts.{Parts};
+ghost use Rattle.nucleus_top.specs.Serving.{IsServed};
+ghost use Rattle.checkpoint_log.specs.Slots.{slots_files};
+ghost use Rattle.session_serving.specs.Causes.{IsCaused, watched};
+ghost use Rattle.session_serving.specs.Parts.{outside};
 
 use crate::asking::{Asked, read_asked};
 use crate::driving::{deploy, resume};
 use crate::looking::look;
+use crate::serving::serve;
 use command_words::words_ask_one_thing;
 use disk_model::Disk;
-use edges::{Sink, Source};
+use edges::{Inbox, Sink, Source};
 use library_core::Library;
 use nuc_base::Status;
 use std::alloc::Global;
@@ -50,13 +55,18 @@ use step_runner::Runner;
 /// (`local_deploy`), and `nucleus --root DIR config-set --component NAME` a change of one component's configuration (`config_cmd`),
 /// over no library. Both go on as `deploy` does; a request that comes to no document is refused with 2, and a component that is
 /// not there or that no group requires with 19. The clauses are those of `deploy`, for what the words ask to deploy.
-/// The other commands are refused as wrong words are, with status 1.
-pub fn nucleus<D: Disk, L: Library, S: Source, K: Sink, R: Runner>(
+///
+/// `nucleus --root DIR serve --turns N` goes on with a pending deployment as `resume` does, then brings the set up and keeps it up,
+/// and deploys the documents of the inbox one after another, for N turns or until the inbox is closed (`session_serving`). A document
+/// that is refused, or whose deployment fails, is a line, and the call goes on. The clauses `serves`, `refused` and `causes` say of it
+/// what happens, when the refusals of a journal come, and when 5 and 6. It reads nothing of the source.
+pub fn nucleus<D: Disk, L: Library, S: Source, I: Inbox, K: Sink, R: Runner>(
     alloc: Global,
     words: &Vec<String>,
     disk: &mut D,
     library: &mut L,
     source: &mut S,
+    inbox: &mut I,
     sink: &mut K,
     runner: &mut R,
 ) -> Status
@@ -66,11 +76,13 @@ pub fn nucleus<D: Disk, L: Library, S: Source, K: Sink, R: Runner>(
         Parts (map string_bytes words.now.items) (store_of D.is_modelled D.seen D.faults disk.old disk.new)
         (input_of S.left S.faults source.old source.new) (shelf_of L.content L.faults library.old library.new)
         (printed_of K.held K.faults sink.old sink.new) result }
-    // The commands that deploy, `plan` and `why` alone read from the source and ask the library. A change of a configuration asks none.
+    // The commands that deploy what the source has, `plan` and `why` alone read from it. They and `serve` ask the library, but for a
+    // change of a configuration. `serve` alone asks the inbox.
     ensures unread { (Deploys (map string_bytes words.now.items) → ⊥) → (Asks (map string_bytes words.now.items) order.Plan → ⊥)
         → (Asks (map string_bytes words.now.items) order.Why → ⊥) → source.new ≡ source.old }
     ensures unasked { (DeploysOver (map string_bytes words.now.items) → ⊥) → (Asks (map string_bytes words.now.items) order.Plan → ⊥)
         → (Asks (map string_bytes words.now.items) order.Why → ⊥) → library.new ≡ library.old }
+    ensures uninboxed { (AsksToServe (map string_bytes words.now.items) → ⊥) → inbox.new ≡ inbox.old }
     // `workload` does not touch the disk.
     ensures alone { (seed : ℕ) → Asks (map string_bytes words.now.items) (order.Workload seed) → disk.new ≡ disk.old }
     ensures library_kept { L.content library.new ≡ L.content library.old }
@@ -101,6 +113,15 @@ pub fn nucleus<D: Disk, L: Library, S: Source, K: Sink, R: Runner>(
         ⊎ IsResumed D.may_leave D.moment D.left_since D.faults disk.old disk.new (R.list runner.old) (R.list runner.new)
         (printed_of K.held K.faults sink.old sink.new) result
         (store_of D.is_modelled D.seen D.faults disk.old disk.new) }
+    // `serve`: so it is with the pending deployment, where there is one, and then with the set and the documents of the inbox.
+    ensures serves { (turns : ℕ) → Serves (map string_bytes words.now.items) turns →
+        (IsRefusedBefore D.seen D.may_leave D.moment D.left_since (λ a. MayNotOpen (store_of D.is_modelled D.seen D.faults disk.old disk.new) a)
+        disk.old disk.new (printed_of K.held K.faults sink.old sink.new) result
+        × (runner.new ≡ runner.old) × (library.new ≡ library.old) × (inbox.new ≡ inbox.old))
+        ⊎ IsServed D.Disk (L.content library.old)
+        (outside D.Disk K.Sink R.Runner L.Library I.Inbox disk.old sink.old runner.old library.old inbox.old)
+        (outside D.Disk K.Sink R.Runner L.Library I.Inbox disk.new sink.new runner.new library.new inbox.new)
+        result (store_of D.is_modelled D.seen D.faults disk.old disk.new) turns }
     // Of all: when the refusals of a journal that gives no device come, and of those that deploy that of a pending deployment.
     ensures refused { Drives (map string_bytes words.now.items) → RefusedParts (store_of D.is_modelled D.seen D.faults disk.old disk.new)
         (printed_of K.held K.faults sink.old sink.new) result }
@@ -108,7 +129,10 @@ pub fn nucleus<D: Disk, L: Library, S: Source, K: Sink, R: Runner>(
         PendingParts (store_of D.is_modelled D.seen D.faults disk.old disk.new) (input_of S.left S.faults source.old source.new)
         (printed_of K.held K.faults sink.old sink.new) result }
     // When 5, 6 and 7 come, and which files change.
-    ensures driven { Drives (map string_bytes words.now.items) → DriveParts (store_of D.is_modelled D.seen D.faults disk.old disk.new)
+    ensures causes { AsksToServe (map string_bytes words.now.items) → IsCaused D.is_modelled slots_files result
+        (watched D.Disk K.Sink L.Library I.Inbox disk.old sink.old library.old inbox.old)
+        (watched D.Disk K.Sink L.Library I.Inbox disk.new sink.new library.new inbox.new) }
+    ensures driven { DrivesOne (map string_bytes words.now.items) → DriveParts (store_of D.is_modelled D.seen D.faults disk.old disk.new)
         (input_of S.left S.faults source.old source.new) (shelf_of L.content L.faults library.old library.new)
         (printed_of K.held K.faults sink.old sink.new) result }
     // No other command runs a child, and none lives at the end.
@@ -128,6 +152,7 @@ pub fn nucleus<D: Disk, L: Library, S: Source, K: Sink, R: Runner>(
     match read_asked(alloc, words) {
         Asked::Deploy(what) => deploy(alloc, &what, disk, library, source, sink, runner),
         Asked::Resume => resume(alloc, disk, sink, runner),
+        Asked::Serve(turns) => serve(alloc, turns, disk, library, inbox, sink, runner),
         Asked::Other => look(alloc, words, disk, library, source, sink),
         Asked::NoMemory => Status::Memory,
     }

@@ -1,5 +1,5 @@
 // The command `why`.
-ghost use Rattle.std.specs.Prelude.{◌≡◌, ◌≢◌, ◌≤◌, None, IfOk};
+ghost use Rattle.std.specs.Prelude.{◌≡◌, ◌≢◌, ◌≤◌, None};
 ghost use Rattle.std.specs.Option.{IsSome};
 ghost use Rattle.disk_model.specs.Disk.{Leaves};
 ghost use Rattle.command_words.specs.declared.order.Order.TheVariants as order;
@@ -7,55 +7,32 @@ ghost use Rattle.deploy_state.specs.Loading.{IsReady};
 ghost use Rattle.device.specs.Devices.{device_view};
 ghost use Rattle.device.specs.Sound.{IsSound};
 ghost use Rattle.edges.specs.Reading.{ReadsUpTo};
-ghost use Rattle.recipe_reader.specs.Members.{members};
-ghost use Rattle.why_not.specs.Reasons.{seen};
-ghost use Rattle.why_not.specs.Texts.{lines_left};
 ghost use Rattle.nucleus_top.specs.Answers.{store_of, input_of, shelf_of, IsQuiet, IsStill};
 ghost use Rattle.nucleus_top.specs.Leaving.{Keeps};
-ghost use Rattle.nucleus_top.specs.Why.{TellsAsked, TellsText, TellsWhy, WhysOn, Whys, joined_lines, why_bytes};
+ghost use Rattle.nucleus_top.specs.Why.{TellsAsked, TellsWhy, WhysOn, Whys};
 
 use crate::answer::Answer;
+use crate::explanation::Explanation;
 use crate::opening::{HasDevice, open, refused};
 use crate::planning::{pending, unplanned};
 use device::Device;
 use disk_model::Disk;
 use edges::{ReadFault, Source, read_up_to};
 use library_core::Library;
-use nuc_base::{DOCUMENT_LIMIT, NoMemory, Text};
-use plan_core::{PlanFault, Question, Refusal, ask_read};
+use nuc_base::DOCUMENT_LIMIT;
+use plan_core::{Question, Refusal, ask_read};
 use std::alloc::Global;
-use why_not::{Why, WhyLines, explain, why_text};
+use why_not::explain;
 
-/// The lines that are left, one after another.
-fn joined<'a>(alloc: Global, whole: WhyLines<'a>) -> Result<Text, NoMemory>
-    ensures { IfOk result (λ text. text ≡ joined_lines (lines_left whole.entry)) }
+/// Whether a set is valid for the question, or why none is. The lines that tell why take no memory, so that all that is wanted is
+/// taken before the first of them is printed.
+fn explained(alloc: Global, question: Question) -> Answer
+    ensures { TellsWhy question result }
 {
-    let mut lines = whole;
-    let mut text = Text::empty(alloc);
-    while let Some(line) = lines.next_line()? {
-        text.push_str(line.as_str())?;
-    }
-    Ok(text)
-}
-
-/// Says that no set is valid for the question, by the text of this certificate. All of it is made before the first line is printed, so that
-/// nothing is printed where memory runs out.
-fn impossible(alloc: Global, question: &Question, why: &Why) -> Answer
-    ensures { TellsText (why_bytes (members question.now.candidates) (seen why.now)) result }
-{
-    match joined(alloc, why_text(alloc, &question.candidates, why)) {
-        Ok(text) => Answer::Unplanned(Refusal::Plan(PlanFault::NoVersion), text),
-        Err(NoMemory) => Answer::NoMemory,
-    }
-}
-
-/// Whether a set is valid for the question, or why none is.
-fn explained(alloc: Global, question: &Question) -> Answer
-    ensures { TellsWhy question.now result }
-{
-    match explain(alloc, &question.candidates, &question.wanted) {
+    let Question { candidates, wanted } = question;
+    match explain(alloc, &candidates, &wanted) {
         Ok(None) => Answer::Possible,
-        Ok(Some(why)) => impossible(alloc, question, &why),
+        Ok(Some(why)) => Answer::Impossible(Explanation { candidates, why }),
         Err(_) => Answer::NoMemory,
     }
 }
@@ -65,7 +42,7 @@ fn told(alloc: Global, asked: Result<Question, Refusal>) -> Answer
     ensures { TellsAsked asked result }
 {
     match asked {
-        Ok(question) => explained(alloc, &question),
+        Ok(question) => explained(alloc, question),
         Err(refusal) => unplanned(alloc, refusal),
     }
 }

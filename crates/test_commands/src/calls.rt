@@ -1,6 +1,6 @@
 // Calls of the top call whose words are written with one blank between two, and in which no child is started.
 use disk_model::Disk;
-use edges::{MemorySink, MemorySource};
+use edges::{MemoryInbox, MemorySink, MemorySource};
 use library_core::MemoryLibrary;
 use nuc_base::{List, Status};
 use nucleus_top::nucleus;
@@ -32,7 +32,18 @@ pub(crate) fn call<D: Disk>(
         List::empty(alloc),
         List::empty(alloc),
     );
-    let status = nucleus(alloc, &words, disk, library, source, sink, &mut runner);
+    let mut inbox = MemoryInbox::new(List::empty(alloc), true, List::empty(alloc));
+    let status = nucleus(
+        alloc,
+        &words,
+        disk,
+        library,
+        source,
+        &mut inbox,
+        sink,
+        &mut runner,
+    );
+    drop(inbox);
     drop(runner);
     drop(words);
     Ok(status)

@@ -14,6 +14,9 @@ pub returns-in-Err-Usage : goal.returns-in-Err-Usage
 returns-in-Err-Usage c = λ drives.
     let refuses = rw c.in-Err-Usage.field-0-is at c.in-Err-Usage.ensures in
     elim drives [
-      | inl deploys ↦ refuses (deploys.1.0, deploys.1.1) deploys.1.2
-      | inr resumes ↦ refuses (resumes.0, orders.Resume) resumes.1
+      | inl one ↦ elim one [
+        | inl deploys ↦ refuses (deploys.1.0, deploys.1.1) deploys.1.2
+        | inr resumes ↦ refuses (resumes.0, orders.Resume) resumes.1
+      ]
+      | inr serves ↦ refuses (serves.1.0, orders.Serve serves.0) serves.1.1
     ]

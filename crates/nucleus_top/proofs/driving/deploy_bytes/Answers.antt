@@ -15,7 +15,8 @@ returns-in-Document-clause-driven g c =
     let library : Shelf = shelf_of g.L.Library.content g.L.Library.faults c.args.library.now c.deploy_made-in-Document.new.library in
     let printed : Printed = printed_of g.K.Sink.held g.K.Sink.faults c.args.sink.now c.deploy_made-in-Document.new.sink in
     bytes_deployed g.D.Disk.may_leave g.D.Disk.moment g.D.Disk.left_since g.D.Disk.faults c.args.disk.now c.deploy_made-in-Document.new.disk
-    (g.R.Runner.list c.args.runner.now) (g.R.Runner.list c.deploy_made-in-Document.new.runner) printed c.deploy_made-in-Document.result d (slots_start c.args.idle.log d)
+    (g.R.Runner.list c.args.runner.now) (g.R.Runner.list c.deploy_made-in-Document.new.runner) printed c.deploy_made-in-Document.result d
+    (slots_start c.args.idle.log d)
     c.args.what.now c.args.bytes.now c.make_document-made.result
     (subst (λ (e : Device). Makes c.args.what.now c.args.bytes.now e c.make_document-made.result) c.device.ensures c.make_document-made.ensures.makes)
     library library (over_given c.args.what.now library c.in-Document.is) c.deploy_made-in-Document.ensures.driven

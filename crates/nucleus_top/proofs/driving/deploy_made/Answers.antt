@@ -46,29 +46,31 @@ returns-clause-driven g c =
     record {
       place = place;
       serves = refl;
-      device_is = refl;
-      sound = c.requires.held.0.sound;
       idle = c.requires.held.1;
       origin = origin.0;
       origin_is = origin.1;
       taken = run.0;
       takes = takes;
       call = run.2;
-      history = record { start = refl; proper = run.2.0.trace.proper; run = run.2.0.trace.run };
+      driven = record {
+        device_is = refl;
+        sound = c.requires.held.0.sound;
+        history = record { start = refl; proper = run.2.0.trace.proper; run = run.2.0.trace.run };
+        images = kept_fronts g.met.D.Disk.laws (slots_elsewhere c.needed_files_stay.ensures.journals) c.args.disk.now c.run_made_to_end.new.disk
+            (g.R.Runner.list c.args.runner.now) (g.R.Runner.list c.run_made_to_end.new.runner) (g.K.Sink.held c.args.sink.now)
+            (g.K.Sink.held c.run_made_to_end.new.sink) place c.run_made_to_end.result
+            (held_stands g.met.D.Disk.laws c.args.idle.log c.args.disk.now d c.requires.held.0) run.2.0;
+        whole = held_whole g.met.D.Disk.laws c.args.disk.now c.run_made_to_end.new.disk d (records_of run.2.0.history)
+            (held_stands g.met.D.Disk.laws c.args.idle.log c.args.disk.now d c.requires.held.0) run.3;
+        met = brought_stay_met d (records_of run.2.0.history)
+            (deployed_brings (IsMade c.args.made) d origin.0 content before after c.requires.held.0.sound (slots_start c.args.idle.log d)
+            run.2.0.ending (records_of run.2.0.history) c.plans_are_met.ensures run.0 takes run.2.1);
+        stays = deployed_stay (IsMade c.args.made) d origin.0 content before after c.requires.held.0.sound (slots_start c.args.idle.log d)
+            run.2.0.ending (records_of run.2.0.history) c.plans_are_whole.ensures.taken c.requires.held.0.regular origin.1 run.0 takes run.2.1;
+      };
       failed = run.4;
       disk_cause = run.5;
       library_cause = run.6;
-      images = kept_fronts g.met.D.Disk.laws (slots_elsewhere c.needed_files_stay.ensures.journals) c.args.disk.now c.run_made_to_end.new.disk
-          (g.R.Runner.list c.args.runner.now) (g.R.Runner.list c.run_made_to_end.new.runner) (g.K.Sink.held c.args.sink.now)
-          (g.K.Sink.held c.run_made_to_end.new.sink) place c.run_made_to_end.result
-          (held_stands g.met.D.Disk.laws c.args.idle.log c.args.disk.now d c.requires.held.0) run.2.0;
-      whole = held_whole g.met.D.Disk.laws c.args.disk.now c.run_made_to_end.new.disk d (records_of run.2.0.history)
-          (held_stands g.met.D.Disk.laws c.args.idle.log c.args.disk.now d c.requires.held.0) run.3;
-      met = brought_stay_met d (records_of run.2.0.history)
-          (deployed_brings (IsMade c.args.made) d origin.0 content before after c.requires.held.0.sound (slots_start c.args.idle.log d)
-          run.2.0.ending (records_of run.2.0.history) c.plans_are_met.ensures run.0 takes run.2.1);
-      stays = deployed_stay (IsMade c.args.made) d origin.0 content before after c.requires.held.0.sound (slots_start c.args.idle.log d)
-          run.2.0.ending (records_of run.2.0.history) c.plans_are_whole.ensures.taken c.requires.held.0.regular origin.1 run.0 takes run.2.1;
       lasts = call_lasts g.D.Disk.may_leave g.D.Disk.moment g.D.Disk.left_since c.args.disk.now c.run_made_to_end.new.disk
           (g.R.Runner.list c.args.runner.now) (g.R.Runner.list c.run_made_to_end.new.runner) (g.K.Sink.held c.args.sink.now)
           (g.K.Sink.held c.run_made_to_end.new.sink) place c.run_made_to_end.result run.2.0;

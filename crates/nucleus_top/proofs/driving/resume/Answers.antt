@@ -50,22 +50,24 @@ returns-in-Ok-clause-ran g c =
           (record {
             place = begun d told;
             serves = refl;
-            device_is = refl;
-            sound = loaded_sound g.met.D.Disk.laws c.in-Ok.state c.open_swept.new.disk c.in-Ok.ensures.held;
             call = call.0;
             resumes = call.1;
-            history = record { start = refl; proper = call.0.trace.proper; run = call.0.trace.run };
+            driven = record {
+              device_is = refl;
+              sound = loaded_sound g.met.D.Disk.laws c.in-Ok.state c.open_swept.new.disk c.in-Ok.ensures.held;
+              history = record { start = refl; proper = call.0.trace.proper; run = call.0.trace.run };
+              images = kept_fronts g.met.D.Disk.laws (slots_elsewhere c.needed_files_stay.ensures.journals) c.open_swept.new.disk c.resume_to_end.new.disk
+                  (g.R.Runner.list c.args.runner.now) (g.R.Runner.list c.resume_to_end.new.runner) (g.K.Sink.held c.args.sink.now)
+                  (g.K.Sink.held c.resume_to_end.new.sink)
+                  (begun d told) c.resume_to_end.result
+                  (loaded_stands g.met.D.Disk.laws c.in-Ok.state c.open_swept.new.disk c.in-Ok.ensures.held) call.0;
+              whole = held_whole g.met.D.Disk.laws c.open_swept.new.disk c.resume_to_end.new.disk d (records_of call.0.history)
+                  (loaded_stands g.met.D.Disk.laws c.in-Ok.state c.open_swept.new.disk c.in-Ok.ensures.held) call.2;
+              met = brought_stay_met d (records_of call.0.history)
+                  (resumed_brings d d.pending call.0.ending call.0.history (state_after (begun d told) call.0.history) call.1 call.0.ends call.0.once);
+              stays = resumed_stay d d.pending call.0.ending call.0.history (state_after (begun d told) call.0.history) call.1 call.0.ends call.0.once;
+            };
             failed = call.3;
-            images = kept_fronts g.met.D.Disk.laws (slots_elsewhere c.needed_files_stay.ensures.journals) c.open_swept.new.disk c.resume_to_end.new.disk
-                (g.R.Runner.list c.args.runner.now) (g.R.Runner.list c.resume_to_end.new.runner) (g.K.Sink.held c.args.sink.now)
-                (g.K.Sink.held c.resume_to_end.new.sink)
-                (begun d told) c.resume_to_end.result
-                (loaded_stands g.met.D.Disk.laws c.in-Ok.state c.open_swept.new.disk c.in-Ok.ensures.held) call.0;
-            whole = held_whole g.met.D.Disk.laws c.open_swept.new.disk c.resume_to_end.new.disk d (records_of call.0.history)
-                (loaded_stands g.met.D.Disk.laws c.in-Ok.state c.open_swept.new.disk c.in-Ok.ensures.held) call.2;
-            met = brought_stay_met d (records_of call.0.history)
-                (resumed_brings d d.pending call.0.ending call.0.history (state_after (begun d told) call.0.history) call.1 call.0.ends call.0.once);
-            stays = resumed_stay d d.pending call.0.ending call.0.history (state_after (begun d told) call.0.history) call.1 call.0.ends call.0.once;
           }),
     )
 

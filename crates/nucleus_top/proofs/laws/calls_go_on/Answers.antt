@@ -1,4 +1,4 @@
-use Rattle.nucleus_top.proofs.Series.{drives_end, drives_go_on, turned_end, turned_go_on}
+use Rattle.nucleus_top.proofs.Series.{acknowledged_last, drives_end, drives_go_on, first_begins, turned_end, turned_go_on}
 use Rattle.nucleus_top.proofs.laws.calls_go_on.Goals as goal
 
 pub returns-clause-drives : goal.returns-clause-drives
@@ -12,3 +12,9 @@ returns-clause-drives_end g c = drives_end g.met.D.Disk.laws
 
 pub returns-clause-turned_end : goal.returns-clause-turned_end
 returns-clause-turned_end g c = turned_end g.met.D.Disk.laws
+
+pub returns-clause-begins : goal.returns-clause-begins
+returns-clause-begins g c = first_begins g.met.D.Disk.laws
+
+pub returns-clause-acknowledged : goal.returns-clause-acknowledged
+returns-clause-acknowledged g c = acknowledged_last g.D.Disk.may_leave

@@ -5,12 +5,15 @@ use Rattle.command_words.specs.declared.order.Order.TheVariants as orders
 use Rattle.admission.specs.declared.ask.Ask.{Ask}
 use Rattle.nucleus_top.specs.Asked.{AsksFor}
 use Rattle.nucleus_top.specs.Drives.{AsksTo, IsDeployed, IsRefusedBefore, TurnsAway}
+use Rattle.nucleus_top.specs.Serving.{IsServed}
+use Rattle.session_serving.specs.Parts.{Outside, outside}
 use Rattle.nucleus_top.specs.declared.asking.Asked.TheVariants as asked
 use Rattle.nucleus_top.specs.declared.answer.Answer.TheVariants as answer
 use Rattle.nucleus_top.specs.Answers.{Input, Printed, Shelf, Store, input_of, printed_of, shelf_of, store_of}
 use Rattle.nucleus_top.proofs.Crashes.{same_left}
-use Rattle.nucleus_top.proofs.DriveEnds.{deployed_is_on, pending_parts, refused_parts, resumed_is_on, starved, withholds_turns}
-use Rattle.nucleus_top.proofs.Driven.{asks_one, no_quiet, no_quiet_deploy, not_both, start_spared, stays, unasked_by, unread_drives, unread_parts}
+use Rattle.nucleus_top.proofs.DriveEnds.{deployed_is_on, pending_parts, refused_parts, resumed_is_on, served_is_on, starved, withholds_turns}
+use Rattle.nucleus_top.proofs.Driven.{asks_one, no_quiet, no_quiet_deploy, not_both, serves_alone, serves_once, start_spared, stays, unasked_by}
+use Rattle.nucleus_top.proofs.Driven.{unread_drives, unread_parts}
 use Rattle.nucleus_top.proofs.Images.{by_none}
 use Rattle.disk_model.specs.Moments.{at_start}
 use Rattle.nucleus_top.proofs.Whole.{same_kept}
@@ -83,7 +86,7 @@ pub returns-in-Deploy-clause-parts : goal.returns-in-Deploy-clause-parts
 returns-in-Deploy-clause-parts g c = λ other.
     let words : List (List ℕ) = map string_bytes c.args.words.now.items in
     let asks : AsksTo words c.in-Deploy.what = c.in-Deploy.ensures in
-    absurd (other (inl (c.in-Deploy.what, asks)))
+    absurd (other (inl (inl (c.in-Deploy.what, asks))))
 
 pub returns-in-Deploy-clause-unread : goal.returns-in-Deploy-clause-unread
 returns-in-Deploy-clause-unread g c = λ other. absurd (other (c.in-Deploy.what, c.in-Deploy.ensures))
@@ -96,13 +99,13 @@ pub returns-in-Deploy-clause-moments : goal.returns-in-Deploy-clause-moments
 returns-in-Deploy-clause-moments g c = λ other.
     let words : List (List ℕ) = map string_bytes c.args.words.now.items in
     let asks : AsksTo words c.in-Deploy.what = c.in-Deploy.ensures in
-    absurd (other (inl (c.in-Deploy.what, asks)))
+    absurd (other (inl (inl (c.in-Deploy.what, asks))))
 
 pub returns-in-Deploy-clause-still : goal.returns-in-Deploy-clause-still
 returns-in-Deploy-clause-still g c = λ other.
     let words : List (List ℕ) = map string_bytes c.args.words.now.items in
     let asks : AsksTo words c.in-Deploy.what = c.in-Deploy.ensures in
-    absurd (other (inl (c.in-Deploy.what, asks)))
+    absurd (other (inl (inl (c.in-Deploy.what, asks))))
 
 pub returns-in-Deploy-clause-durable : goal.returns-in-Deploy-clause-durable
 returns-in-Deploy-clause-durable g c = λ order quiet is.
@@ -168,19 +171,19 @@ pub returns-in-Resume-clause-parts : goal.returns-in-Resume-clause-parts
 returns-in-Resume-clause-parts g c = λ other.
     let words : List (List ℕ) = map string_bytes c.args.words.now.items in
     let asks : AsksFor words asked.Resume = c.in-Resume.ensures in
-    absurd (other (inr asks))
+    absurd (other (inl (inr asks)))
 
 pub returns-in-Resume-clause-moments : goal.returns-in-Resume-clause-moments
 returns-in-Resume-clause-moments g c = λ other.
     let words : List (List ℕ) = map string_bytes c.args.words.now.items in
     let asks : AsksFor words asked.Resume = c.in-Resume.ensures in
-    absurd (other (inr asks))
+    absurd (other (inl (inr asks)))
 
 pub returns-in-Resume-clause-still : goal.returns-in-Resume-clause-still
 returns-in-Resume-clause-still g c = λ other.
     let words : List (List ℕ) = map string_bytes c.args.words.now.items in
     let asks : AsksFor words asked.Resume = c.in-Resume.ensures in
-    absurd (other (inr asks))
+    absurd (other (inl (inr asks)))
 
 pub returns-in-Resume-clause-durable : goal.returns-in-Resume-clause-durable
 returns-in-Resume-clause-durable g c = λ order quiet is.
@@ -224,6 +227,208 @@ returns-in-Resume-clause-disk_later g c = c.resume.ensures.later.0
 pub returns-in-Resume-clause-sink_later : goal.returns-in-Resume-clause-sink_later
 returns-in-Resume-clause-sink_later g c = c.resume.ensures.later.1
 
+-- ---- serve
+
+pub returns-in-Serve-clause-parts : goal.returns-in-Serve-clause-parts
+returns-in-Serve-clause-parts g c = λ other.
+    let words : List (List ℕ) = map string_bytes c.args.words.now.items in
+    let asks : AsksFor words (asked.Serve c.in-Serve.turns) = c.in-Serve.ensures in
+    absurd (other (inr (c.in-Serve.turns, asks)))
+
+pub returns-in-Serve-clause-unasked : goal.returns-in-Serve-clause-unasked
+returns-in-Serve-clause-unasked g c = λ other plan why.
+    let words : List (List ℕ) = map string_bytes c.args.words.now.items in
+    let asks : AsksFor words (asked.Serve c.in-Serve.turns) = c.in-Serve.ensures in
+    absurd (other (inr (c.in-Serve.turns, asks)))
+
+pub returns-in-Serve-clause-uninboxed : goal.returns-in-Serve-clause-uninboxed
+returns-in-Serve-clause-uninboxed g c = λ other.
+    let words : List (List ℕ) = map string_bytes c.args.words.now.items in
+    let asks : AsksFor words (asked.Serve c.in-Serve.turns) = c.in-Serve.ensures in
+    absurd (other (c.in-Serve.turns, asks))
+
+pub returns-in-Serve-clause-moments : goal.returns-in-Serve-clause-moments
+returns-in-Serve-clause-moments g c = λ other.
+    let words : List (List ℕ) = map string_bytes c.args.words.now.items in
+    let asks : AsksFor words (asked.Serve c.in-Serve.turns) = c.in-Serve.ensures in
+    absurd (other (inr (c.in-Serve.turns, asks)))
+
+pub returns-in-Serve-clause-still : goal.returns-in-Serve-clause-still
+returns-in-Serve-clause-still g c = λ other.
+    let words : List (List ℕ) = map string_bytes c.args.words.now.items in
+    let asks : AsksFor words (asked.Serve c.in-Serve.turns) = c.in-Serve.ensures in
+    absurd (other (inr (c.in-Serve.turns, asks)))
+
+pub returns-in-Serve-clause-disk_grows : goal.returns-in-Serve-clause-disk_grows
+returns-in-Serve-clause-disk_grows g c = λ other.
+    let words : List (List ℕ) = map string_bytes c.args.words.now.items in
+    let asks : AsksFor words (asked.Serve c.in-Serve.turns) = c.in-Serve.ensures in
+    absurd (other (inr (c.in-Serve.turns, asks)))
+
+pub returns-in-Serve-clause-sink_grows : goal.returns-in-Serve-clause-sink_grows
+returns-in-Serve-clause-sink_grows g c = λ other.
+    let words : List (List ℕ) = map string_bytes c.args.words.now.items in
+    let asks : AsksFor words (asked.Serve c.in-Serve.turns) = c.in-Serve.ensures in
+    absurd (other (inr (c.in-Serve.turns, asks)))
+
+pub returns-in-Serve-clause-durable : goal.returns-in-Serve-clause-durable
+returns-in-Serve-clause-durable g c = λ order quiet is.
+    let words : List (List ℕ) = map string_bytes c.args.words.now.items in
+    let asks : AsksFor words (asked.Serve c.in-Serve.turns) = c.in-Serve.ensures in
+    absurd (no_quiet c.words_ask_one_thing.ensures words asks.0 order (orders.Serve c.in-Serve.turns) (λ built. built) asks.1 quiet)
+
+pub returns-in-Serve-clause-others : goal.returns-in-Serve-clause-others
+returns-in-Serve-clause-others g c = λ order quiet told name outside.
+    let words : List (List ℕ) = map string_bytes c.args.words.now.items in
+    let asks : AsksFor words (asked.Serve c.in-Serve.turns) = c.in-Serve.ensures in
+    absurd (no_quiet c.words_ask_one_thing.ensures words asks.0 order (orders.Serve c.in-Serve.turns) (λ built. built) asks.1 quiet)
+
+pub returns-in-Serve-clause-alone : goal.returns-in-Serve-clause-alone
+returns-in-Serve-clause-alone g c = λ seed quiet.
+    let words : List (List ℕ) = map string_bytes c.args.words.now.items in
+    let asks : AsksFor words (asked.Serve c.in-Serve.turns) = c.in-Serve.ensures in
+    absurd (no_quiet c.words_ask_one_thing.ensures words asks.0 (orders.Workload seed) (orders.Serve c.in-Serve.turns) (λ built. built) asks.1 quiet)
+
+pub returns-in-Serve-clause-deploys : goal.returns-in-Serve-clause-deploys
+returns-in-Serve-clause-deploys g c = λ what is.
+    let words : List (List ℕ) = map string_bytes c.args.words.now.items in
+    let asks : AsksFor words (asked.Serve c.in-Serve.turns) = c.in-Serve.ensures in
+    absurd (serves_alone c.words_ask_one_thing.ensures words c.in-Serve.turns asks (inl (what, is)))
+
+pub returns-in-Serve-clause-resumes : goal.returns-in-Serve-clause-resumes
+returns-in-Serve-clause-resumes g c = λ root is.
+    let words : List (List ℕ) = map string_bytes c.args.words.now.items in
+    let asks : AsksFor words (asked.Serve c.in-Serve.turns) = c.in-Serve.ensures in
+    absurd (serves_alone c.words_ask_one_thing.ensures words c.in-Serve.turns asks (inr (root, is)))
+
+pub returns-in-Serve-clause-pending : goal.returns-in-Serve-clause-pending
+returns-in-Serve-clause-pending g c = λ deploys.
+    let words : List (List ℕ) = map string_bytes c.args.words.now.items in
+    let asks : AsksFor words (asked.Serve c.in-Serve.turns) = c.in-Serve.ensures in
+    absurd (serves_alone c.words_ask_one_thing.ensures words c.in-Serve.turns asks (inl deploys))
+
+pub returns-in-Serve-clause-driven : goal.returns-in-Serve-clause-driven
+returns-in-Serve-clause-driven g c = λ drives.
+    let words : List (List ℕ) = map string_bytes c.args.words.now.items in
+    let asks : AsksFor words (asked.Serve c.in-Serve.turns) = c.in-Serve.ensures in
+    absurd (serves_alone c.words_ask_one_thing.ensures words c.in-Serve.turns asks drives)
+
+pub returns-in-Serve-clause-serves : goal.returns-in-Serve-clause-serves
+returns-in-Serve-clause-serves g c = λ turns is.
+    let words : List (List ℕ) = map string_bytes c.args.words.now.items in
+    let asks : AsksFor words (asked.Serve c.in-Serve.turns) = c.in-Serve.ensures in
+    let same = serves_once c.words_ask_one_thing.ensures words c.in-Serve.turns turns asks is in
+    let store : Store = store_of g.D.Disk.is_modelled g.D.Disk.seen g.D.Disk.faults c.args.disk.now c.serve.new.disk in
+    let old : Outside _ = outside g.D.Disk g.K.Sink g.R.Runner g.L.Library g.I.Inbox c.args.disk.now c.args.sink.now c.args.runner.now c.args.library.now
+    c.args.inbox.now in
+    let new : Outside _ = outside g.D.Disk g.K.Sink g.R.Runner g.L.Library g.I.Inbox c.serve.new.disk c.serve.new.sink c.serve.new.runner
+    c.serve.new.library c.serve.new.inbox in
+    ⊎_elim (λ away. inl away)
+    (λ served. inr (subst (λ (n : ℕ). IsServed g.D.Disk (g.L.Library.content c.args.library.now) old new c.serve.result store n) same served))
+    c.serve.ensures.ran
+
+pub returns-in-Serve-clause-causes : goal.returns-in-Serve-clause-causes
+returns-in-Serve-clause-causes g c = λ asks. c.serve.ensures.caused
+
+pub returns-in-Serve-clause-none : goal.returns-in-Serve-clause-none
+returns-in-Serve-clause-none g c = c.serve.ensures.none
+
+pub returns-in-Serve-clause-library_kept : goal.returns-in-Serve-clause-library_kept
+returns-in-Serve-clause-library_kept g c = c.serve.ensures.kept
+
+pub returns-in-Serve-clause-disk_later : goal.returns-in-Serve-clause-disk_later
+returns-in-Serve-clause-disk_later g c = c.serve.ensures.caused.later.0
+
+pub returns-in-Serve-clause-sink_later : goal.returns-in-Serve-clause-sink_later
+returns-in-Serve-clause-sink_later g c = c.serve.ensures.caused.later.1
+
+pub returns-in-Serve-clause-library_later : goal.returns-in-Serve-clause-library_later
+returns-in-Serve-clause-library_later g c = c.serve.ensures.caused.library_later
+
+pub returns-in-Serve-clause-read : goal.returns-in-Serve-clause-read
+returns-in-Serve-clause-read g c = reads_none 524289 (g.S.Source.left c.args.source.now)
+
+pub returns-in-Serve-clause-refused : goal.returns-in-Serve-clause-refused
+returns-in-Serve-clause-refused g c = λ drives.
+    let words : List (List ℕ) = map string_bytes c.args.words.now.items in
+    let asks : AsksFor words (asked.Serve c.in-Serve.turns) = c.in-Serve.ensures in
+    let store : Store = store_of g.D.Disk.is_modelled g.D.Disk.seen g.D.Disk.faults c.args.disk.now c.serve.new.disk in
+    let input : Input = input_of g.S.Source.left g.S.Source.faults c.args.source.now c.args.source.now in
+    let printed : Printed = printed_of g.K.Sink.held g.K.Sink.faults c.args.sink.now c.serve.new.sink in
+    let old : Outside _ = outside g.D.Disk g.K.Sink g.R.Runner g.L.Library g.I.Inbox c.args.disk.now c.args.sink.now c.args.runner.now c.args.library.now
+    c.args.inbox.now in
+    let new : Outside _ = outside g.D.Disk g.K.Sink g.R.Runner g.L.Library g.I.Inbox c.serve.new.disk c.serve.new.sink c.serve.new.runner
+    c.serve.new.library c.serve.new.inbox in
+    refused_parts store input printed c.serve.result
+    (⊎_elim (λ away. inl (away.0.answer, withholds_turns store input away.0.answer away.0.why, away.0.told))
+    (λ served. inr (served_is_on g.D.Disk (g.L.Library.content c.args.library.now) old new c.serve.result store c.in-Serve.turns served)) c.serve.ensures.ran)
+
+-- ---- the other commands do not serve
+
+pub returns-in-NoMemory-clause-serves : goal.returns-in-NoMemory-clause-serves
+returns-in-NoMemory-clause-serves g c = λ turns asks. inl (
+  record {
+    answer = answer.NoMemory;
+    why = inl refl;
+    told = inl (refl, Appends-nil (g.K.Sink.held c.args.sink.now), refl);
+    spared = start_spared g.met.D.Disk.laws c.args.disk.now;
+    images = same_left g.met.D.Disk.laws c.args.disk.now c.args.disk.now (at_start g.met.D.Disk.laws c.args.disk.now);
+    whole = same_kept g.met.D.Disk.laws c.args.disk.now c.args.disk.now (at_start g.met.D.Disk.laws c.args.disk.now);
+    ends = inl (refl {a = c.args.disk.now});
+    reads = inr (refl {a = g.D.Disk.seen c.args.disk.now});
+  },
+  refl {a = c.args.runner.now},
+  refl {a = c.args.library.now},
+  refl {a = c.args.inbox.now},
+)
+
+pub returns-in-NoMemory-clause-causes : goal.returns-in-NoMemory-clause-causes
+returns-in-NoMemory-clause-causes g c = λ asks. record {
+  disk = λ is. cc;
+  edge = λ is. cc;
+  quiet_disk = λ other more. refl;
+  quiet_edges = λ other. (refl, refl);
+  later = (
+    stays (g.D.Disk.faults c.args.disk.now) (g.D.Disk.faults c.args.disk.now) (omega arith),
+    stays (g.K.Sink.faults c.args.sink.now) (g.K.Sink.faults c.args.sink.now) (omega arith),
+    stays (g.I.Inbox.faults c.args.inbox.now) (g.I.Inbox.faults c.args.inbox.now) (omega arith),
+  );
+  library_later = omega arith;
+  others = λ told name apart outside. refl;
+}
+
+pub returns-in-Deploy-clause-serves : goal.returns-in-Deploy-clause-serves
+returns-in-Deploy-clause-serves g c = λ turns is.
+    let words : List (List ℕ) = map string_bytes c.args.words.now.items in
+    absurd (serves_alone c.words_ask_one_thing.ensures words turns is (inl (c.in-Deploy.what, c.in-Deploy.ensures)))
+
+pub returns-in-Deploy-clause-causes : goal.returns-in-Deploy-clause-causes
+returns-in-Deploy-clause-causes g c = λ serves.
+    let words : List (List ℕ) = map string_bytes c.args.words.now.items in
+    absurd (serves_alone c.words_ask_one_thing.ensures words serves.0 serves.1 (inl (c.in-Deploy.what, c.in-Deploy.ensures)))
+
+pub returns-in-Resume-clause-serves : goal.returns-in-Resume-clause-serves
+returns-in-Resume-clause-serves g c = λ turns is.
+    let words : List (List ℕ) = map string_bytes c.args.words.now.items in
+    let asks : AsksFor words asked.Resume = c.in-Resume.ensures in
+    absurd (serves_alone c.words_ask_one_thing.ensures words turns is (inr asks))
+
+pub returns-in-Resume-clause-causes : goal.returns-in-Resume-clause-causes
+returns-in-Resume-clause-causes g c = λ serves.
+    let words : List (List ℕ) = map string_bytes c.args.words.now.items in
+    let asks : AsksFor words asked.Resume = c.in-Resume.ensures in
+    absurd (serves_alone c.words_ask_one_thing.ensures words serves.0 serves.1 (inr asks))
+
+pub returns-in-Other-clause-serves : goal.returns-in-Other-clause-serves
+returns-in-Other-clause-serves g c = λ turns is.
+    let asks : AsksFor (map string_bytes c.args.words.now.items) asked.Other = c.in-Other.ensures in
+    absurd (asks (inr (turns, is)))
+
+pub returns-in-Other-clause-causes : goal.returns-in-Other-clause-causes
+returns-in-Other-clause-causes g c = λ serves.
+    let asks : AsksFor (map string_bytes c.args.words.now.items) asked.Other = c.in-Other.ensures in
+    absurd (asks (inr serves))
+
 -- ---- another command
 
 pub returns-in-Other-clause-parts : goal.returns-in-Other-clause-parts
@@ -247,17 +452,17 @@ returns-in-Other-clause-others g c = c.look.ensures.others
 pub returns-in-Other-clause-deploys : goal.returns-in-Other-clause-deploys
 returns-in-Other-clause-deploys g c = λ what is.
     let asks : AsksFor (map string_bytes c.args.words.now.items) asked.Other = c.in-Other.ensures in
-    absurd (asks (inl (what, is)))
+    absurd (asks (inl (inl (what, is))))
 
 pub returns-in-Other-clause-resumes : goal.returns-in-Other-clause-resumes
 returns-in-Other-clause-resumes g c = λ root is.
     let asks : AsksFor (map string_bytes c.args.words.now.items) asked.Other = c.in-Other.ensures in
-    absurd (asks (inr (root, is)))
+    absurd (asks (inl (inr (root, is))))
 
 pub returns-in-Other-clause-driven : goal.returns-in-Other-clause-driven
 returns-in-Other-clause-driven g c = λ drives.
     let asks : AsksFor (map string_bytes c.args.words.now.items) asked.Other = c.in-Other.ensures in
-    absurd (asks drives)
+    absurd (asks (inl drives))
 
 pub returns-in-Other-clause-disk_later : goal.returns-in-Other-clause-disk_later
 returns-in-Other-clause-disk_later g c = stays (g.D.Disk.faults c.args.disk.now) (g.D.Disk.faults c.look.new.disk) c.look.ensures.disk_later
@@ -269,25 +474,25 @@ pub returns-in-Deploy-clause-disk_grows : goal.returns-in-Deploy-clause-disk_gro
 returns-in-Deploy-clause-disk_grows g c = λ other.
     let words : List (List ℕ) = map string_bytes c.args.words.now.items in
     let asks : AsksTo words c.in-Deploy.what = c.in-Deploy.ensures in
-    absurd (other (inl (c.in-Deploy.what, asks)))
+    absurd (other (inl (inl (c.in-Deploy.what, asks))))
 
 pub returns-in-Deploy-clause-sink_grows : goal.returns-in-Deploy-clause-sink_grows
 returns-in-Deploy-clause-sink_grows g c = λ other.
     let words : List (List ℕ) = map string_bytes c.args.words.now.items in
     let asks : AsksTo words c.in-Deploy.what = c.in-Deploy.ensures in
-    absurd (other (inl (c.in-Deploy.what, asks)))
+    absurd (other (inl (inl (c.in-Deploy.what, asks))))
 
 pub returns-in-Resume-clause-disk_grows : goal.returns-in-Resume-clause-disk_grows
 returns-in-Resume-clause-disk_grows g c = λ other.
     let words : List (List ℕ) = map string_bytes c.args.words.now.items in
     let asks : AsksFor words asked.Resume = c.in-Resume.ensures in
-    absurd (other (inr asks))
+    absurd (other (inl (inr asks)))
 
 pub returns-in-Resume-clause-sink_grows : goal.returns-in-Resume-clause-sink_grows
 returns-in-Resume-clause-sink_grows g c = λ other.
     let words : List (List ℕ) = map string_bytes c.args.words.now.items in
     let asks : AsksFor words asked.Resume = c.in-Resume.ensures in
-    absurd (other (inr asks))
+    absurd (other (inl (inr asks)))
 
 pub returns-in-NoMemory-clause-disk_later : goal.returns-in-NoMemory-clause-disk_later
 returns-in-NoMemory-clause-disk_later g c = stays (g.D.Disk.faults c.args.disk.now) (g.D.Disk.faults c.args.disk.now) (omega arith)
@@ -361,7 +566,7 @@ returns-in-Other-clause-refused g c = λ drives.
 pub returns-in-Other-clause-pending : goal.returns-in-Other-clause-pending
 returns-in-Other-clause-pending g c = λ deploys.
     let asks : AsksFor (map string_bytes c.args.words.now.items) asked.Other = c.in-Other.ensures in
-    absurd (asks (inl deploys))
+    absurd (asks (inl (inl deploys)))
 
 -- ---- what is read of the source
 
