@@ -87,23 +87,33 @@ fn is_staged<D: Disk, L: Library>(
     Ok(staged)
 }
 
+/// The same between the real objects over a folder.
+fn is_taken_in(rt: &HostRuntime, root: &str) -> Result<bool, Fail> {
+    let mut library = FolderLibrary::new(rt, root)?;
+    let mut disk = FileDisk::new(rt, root, Access::Write)?;
+    let is_staged = is_staged(rt.alloc(), &mut disk, &mut library);
+    drop(disk);
+    drop(library);
+    is_staged
+}
+
+/// Whether the library's file with these bytes is taken in whole.
+fn stages(rt: &HostRuntime, root: &str, bytes: &[u8]) -> Result<bool, Fail> {
+    fs::write(rt, "pieces-of-a-test/library/artifacts/A/1.0.0/f", bytes)?;
+    let is_taken = is_taken_in(rt, root)?;
+    let staged = fs::read(rt, "pieces-of-a-test/packages/artifacts/A/1.0.0/f")?;
+    Ok(is_taken && staged.as_slice() == bytes)
+}
+
 #[test]
 fn an_artifact_of_four_pieces_is_staged_whole(rt: HostRuntime) -> Result<(), Fail> {
-    let alloc = rt.alloc();
     let root = "pieces-of-a-test";
-    let bytes = counted_bytes(alloc)?;
     fs::create_dir_all(&rt, "pieces-of-a-test/library/artifacts/A/1.0.0")?;
-    fs::write(
-        &rt,
-        "pieces-of-a-test/library/artifacts/A/1.0.0/f",
-        bytes.as_slice(),
-    )?;
-    let mut library = FolderLibrary::new(&rt, root)?;
-    let mut disk = FileDisk::new(&rt, root, Access::Write)?;
-    let is_staged = is_staged(alloc, &mut disk, &mut library)?;
-    let staged = fs::read(&rt, "pieces-of-a-test/packages/artifacts/A/1.0.0/f")?;
+    let bytes = counted_bytes(rt.alloc())?;
+    let is_staged = stages(&rt, root, bytes.as_slice());
+    drop(bytes);
+    assert!(rt; is_staged?);
     fs::remove_dir_all(&rt, root)?;
-    assert!(rt; is_staged && staged.as_slice() == bytes.as_slice());
     Ok(())
 }
 
@@ -138,10 +148,12 @@ fn a_sweep_removes_links_pipes_and_empty_files(rt: HostRuntime) -> Result<(), Fa
         "sweep-of-a-test/packages/artifacts/A/1.0.0/link",
     )?;
     let mut runner = ShellRunner::new(&rt, root);
-    let is_made = make_pipe(alloc, &mut runner, folder)?;
+    let is_made = make_pipe(alloc, &mut runner, folder) == Ok(true);
+    drop(runner);
     let is_piped = fs::exists(&rt, "sweep-of-a-test/packages/artifacts/A/1.0.0/pipe")?;
     let mut disk = FileDisk::new(&rt, root, Access::Write)?;
     let is_swept = is_swept(alloc, &mut disk);
+    drop(disk);
     // Nothing is left below the folder of the artifacts, which stays.
     let is_bare = fs::remove_dir(&rt, "sweep-of-a-test/packages/artifacts").is_ok();
     fs::remove_dir_all(&rt, root)?;

@@ -121,51 +121,67 @@ fn ends_group<R: Runner>(rt: &HostRuntime, runner: &mut R, folder: &str) -> Resu
     Ok(is_begun && is_late != has_setsid(rt, runner)?)
 }
 
+/// Whether children run in their folder and end by a code and by a signal, also one whose PATH has no program and one whose end is had late.
+fn are_ends_told<R: Runner>(
+    rt: &HostRuntime,
+    runner: &mut R,
+    root: &str,
+) -> Result<bool, NoMemory> {
+    let alloc = rt.alloc();
+    let script = "echo x > made; exit $END";
+    let code = ended(alloc, runner, "runner-of-a-test/a", script)?;
+    let is_made = runner.exists(&text(alloc, "runner-of-a-test/a/made")?);
+    let signal = ended(alloc, runner, root, "kill -9 $$")?;
+    let off_path = ended_off_path(alloc, runner, root)?;
+    let are_codes = code == Some(Exit::Code(3)) && off_path == Some(Exit::Code(3));
+    Ok(is_made && are_codes && signal == Some(Exit::Signal) && is_told_late(rt, runner, root)?)
+}
+
+/// Whether a kill ends a child, and what it started.
+fn are_ended<R: Runner>(rt: &HostRuntime, runner: &mut R, root: &str) -> Result<bool, NoMemory> {
+    Ok(is_killed(rt.alloc(), runner, root)? && ends_group(rt, runner, root)?)
+}
+
+/// Whether the shell is on the PATH where there is one, and what is not there is not.
+fn finds_programs<R: Runner>(rt: &HostRuntime, runner: &mut R) -> Result<bool, NoMemory> {
+    let has_path = env::var(rt, "PATH").is_ok();
+    let is_found = runner.on_path(&text(rt.alloc(), "sh")?) == has_path;
+    Ok(is_found && !runner.on_path(&text(rt.alloc(), "no-such")?))
+}
+
 #[test]
 fn children_run_in_their_folder_and_end(rt: HostRuntime) -> Result<(), Fail> {
-    let alloc = rt.alloc();
     let root = "runner-of-a-test";
     let mut runner = ShellRunner::new(&rt, root);
-    let code = ended(
-        alloc,
-        &mut runner,
-        "runner-of-a-test/a",
-        "echo x > made; exit $END",
-    )?;
-    let is_made = runner.exists(&text(alloc, "runner-of-a-test/a/made")?);
-    let signal = ended(alloc, &mut runner, root, "kill -9 $$")?;
-    let is_killed = is_killed(alloc, &mut runner, root)?;
-    let is_told_late = is_told_late(&rt, &mut runner, root)?;
-    let ends_group = ends_group(&rt, &mut runner, root)?;
-    let off_path = ended_off_path(alloc, &mut runner, root)?;
+    let are_told = are_ends_told(&rt, &mut runner, root) == Ok(true);
+    let are_ended = are_ended(&rt, &mut runner, root) == Ok(true);
+    let is_found = finds_programs(&rt, &mut runner) == Ok(true);
+    drop(runner);
     fs::remove_dir_all(&rt, root)?;
-    assert!(rt;
-        is_made && is_killed && code == Some(Exit::Code(3)) && signal == Some(Exit::Signal)
-    );
-    assert!(rt; is_told_late && ends_group);
-    assert!(rt; off_path == Some(Exit::Code(3)));
-    let has_path = env::var(&rt, "PATH").is_ok();
-    let is_found = runner.on_path(&text(alloc, "sh")?) == has_path;
-    assert!(rt; is_found && !runner.on_path(&text(alloc, "no-such")?));
+    assert!(rt; are_told);
+    assert!(rt; are_ended);
+    assert!(rt; is_found);
     Ok(())
+}
+
+/// Whether a child sees both of its variables, and the greatest codes are told.
+fn are_codes_told<R: Runner>(alloc: Global, runner: &mut R, root: &str) -> Result<bool, NoMemory> {
+    let script = "[ \"$WORD\" = 'two words' ] && exit $END";
+    let seen = ended(alloc, runner, root, script)?;
+    let above = ended(alloc, runner, root, "exit 128")?;
+    let last = ended(alloc, runner, root, "exit 255")?;
+    let are_great = above == Some(Exit::Code(128)) && last == Some(Exit::Code(255));
+    Ok(seen == Some(Exit::Code(3)) && are_great)
 }
 
 #[test]
 fn ends_are_told_as_they_are(rt: HostRuntime) -> Result<(), Fail> {
-    let alloc = rt.alloc();
     let root = "ends-of-a-test";
     let mut runner = ShellRunner::new(&rt, root);
-    let seen = ended(
-        alloc,
-        &mut runner,
-        root,
-        "[ \"$WORD\" = 'two words' ] && exit $END",
-    )?;
-    let above = ended(alloc, &mut runner, root, "exit 128")?;
-    let last = ended(alloc, &mut runner, root, "exit 255")?;
+    let are_codes = are_codes_told(rt.alloc(), &mut runner, root) == Ok(true);
+    drop(runner);
     fs::remove_dir_all(&rt, root)?;
-    assert!(rt; seen == Some(Exit::Code(3)));
-    assert!(rt; above == Some(Exit::Code(128)) && last == Some(Exit::Code(255)));
+    assert!(rt; are_codes);
     Ok(())
 }
 
@@ -227,8 +243,9 @@ fn is_told_alone<R: Runner>(
 fn a_kill_ends_its_child_alone(rt: HostRuntime) -> Result<(), Fail> {
     let root = "pair-of-a-test";
     let mut runner = ShellRunner::new(&rt, root);
-    let is_older_told = is_told_alone(rt.alloc(), &mut runner, root, true)?;
-    let is_newer_told = is_told_alone(rt.alloc(), &mut runner, root, false)?;
+    let is_older_told = is_told_alone(rt.alloc(), &mut runner, root, true) == Ok(true);
+    let is_newer_told = is_told_alone(rt.alloc(), &mut runner, root, false) == Ok(true);
+    drop(runner);
     fs::remove_dir_all(&rt, root)?;
     assert!(rt; is_older_told && is_newer_told);
     Ok(())
@@ -268,13 +285,14 @@ fn ends_that_were_not_looked_for_are_told_at_the_moment_before(
 ) -> Result<(), Fail> {
     let root = "stall-of-a-test";
     let mut runner = ShellRunner::new(&rt, root);
-    let started = started_eight(rt.alloc(), &mut runner, root)?;
+    let started = started_eight(rt.alloc(), &mut runner, root) == Ok(8);
     let before = runner.moment();
     thread::sleep(&rt, Duration::from_millis(3_000));
     let told = told_at(&mut runner, before);
     let after = runner.moment();
+    drop(runner);
     fs::remove_dir_all(&rt, root)?;
-    assert!(rt; started == 8 && told == 8);
+    assert!(rt; started && told == 8);
     // The time goes on behind them.
     assert!(rt; after >= before.saturating_add(2_500));
     Ok(())
@@ -301,50 +319,81 @@ fn counts_from_starts<R: Runner>(
 fn the_time_of_a_step_counts_from_its_start(rt: HostRuntime) -> Result<(), Fail> {
     let root = "start-of-a-test";
     let mut runner = ShellRunner::new(&rt, root);
-    let is_counted = counts_from_starts(&rt, &mut runner, root)?;
+    let is_counted = counts_from_starts(&rt, &mut runner, root) == Ok(true);
+    drop(runner);
     fs::remove_dir_all(&rt, root)?;
     assert!(rt; is_counted);
     Ok(())
 }
 
+/// Gives the folder that is looked into this mode.
+fn set_mode(rt: &HostRuntime, mode: u32) -> Result<(), Fail> {
+    let mut permissions = fs::metadata(rt, "probes-of-a-test/closed")?.permissions();
+    permissions.set_mode(mode);
+    fs::set_permissions(rt, "probes-of-a-test/closed", permissions)?;
+    Ok(())
+}
+
+/// Makes a folder that may not be entered, a file, and a link that leads to itself.
+fn make_probes(rt: &HostRuntime) -> Result<(), Fail> {
+    fs::create_dir_all(rt, "probes-of-a-test/closed")?;
+    fs::write(rt, "probes-of-a-test/file", "x")?;
+    symlink(rt, "loop", "probes-of-a-test/loop")?;
+    set_mode(rt, 0)
+}
+
+/// Whether the file is there, and none of what lies behind what cannot be gone through.
+fn sees_the_file_alone<R: Runner>(alloc: Global, runner: &mut R) -> Result<bool, NoMemory> {
+    let mut is_there = false;
+    for path in [
+        "probes-of-a-test/closed/x",
+        "probes-of-a-test/file/x",
+        "probes-of-a-test/loop/x",
+        "probes-of-a-test/loop",
+    ] {
+        is_there = is_there || runner.exists(&text(alloc, path)?);
+    }
+    Ok(!is_there && runner.exists(&text(alloc, "probes-of-a-test/file")?))
+}
+
 #[test]
 fn what_cannot_be_looked_at_is_not_there(rt: HostRuntime) -> Result<(), Fail> {
-    let alloc = rt.alloc();
     let root = "probes-of-a-test";
-    fs::create_dir_all(&rt, "probes-of-a-test/closed")?;
-    fs::write(&rt, "probes-of-a-test/file", "x")?;
-    symlink(&rt, "loop", "probes-of-a-test/loop")?;
-    let closed = fs::metadata(&rt, "probes-of-a-test/closed")?.permissions();
-    let mut none = closed.clone()?;
-    none.set_mode(0);
-    fs::set_permissions(&rt, "probes-of-a-test/closed", none)?;
+    make_probes(&rt)?;
     let mut runner = ShellRunner::new(&rt, root);
-    let mut is_there = false;
-    for path in ["closed/x", "file/x", "loop/x", "loop"] {
-        let path = format!(in alloc; "probes-of-a-test/{path}")?;
-        is_there = is_there || runner.exists(&text(alloc, path.as_str())?);
-    }
-    let is_seen = runner.exists(&text(alloc, "probes-of-a-test/file")?);
-    fs::set_permissions(&rt, "probes-of-a-test/closed", closed)?;
+    let is_alone = sees_the_file_alone(rt.alloc(), &mut runner) == Ok(true);
+    drop(runner);
+    set_mode(&rt, 0o700)?;
     fs::remove_dir_all(&rt, root)?;
-    assert!(rt; is_seen && !is_there);
+    assert!(rt; is_alone);
     Ok(())
+}
+
+/// Whether a child ends alike with a folder of logs and without, which it does not make.
+fn ends_alike<R: Runner>(rt: &HostRuntime, runner: &mut R) -> Result<bool, Fail> {
+    let folder = "logs-of-a-test/work/A";
+    let script = "echo asked; echo refused >&2; exit $END";
+    let without = ended(rt.alloc(), runner, folder, script)?;
+    let is_made = fs::exists(rt, "logs-of-a-test/logs")?;
+    fs::create_dir_all(rt, "logs-of-a-test/logs")?;
+    let with = ended(rt.alloc(), runner, folder, script)?;
+    Ok(without == with && with == Some(Exit::Code(3)) && !is_made)
+}
+
+/// Whether the log has what the child printed.
+fn is_logged(rt: &HostRuntime) -> Result<bool, Fail> {
+    let log = fs::read(rt, "logs-of-a-test/logs/A.log")?;
+    Ok(log.as_slice() == b"asked\nrefused\n".as_slice())
 }
 
 #[test]
 fn what_children_print_goes_to_their_log(rt: HostRuntime) -> Result<(), Fail> {
-    let alloc = rt.alloc();
     let root = "logs-of-a-test";
-    let folder = "logs-of-a-test/work/A";
-    let script = "echo asked; echo refused >&2; exit $END";
     let mut runner = ShellRunner::new(&rt, root);
-    let without = ended(alloc, &mut runner, folder, script)?;
-    let is_made = fs::exists(&rt, "logs-of-a-test/logs")?;
-    fs::create_dir_all(&rt, "logs-of-a-test/logs")?;
-    let with = ended(alloc, &mut runner, folder, script)?;
-    let log = fs::read(&rt, "logs-of-a-test/logs/A.log")?;
+    let are_alike = ends_alike(&rt, &mut runner);
+    drop(runner);
+    assert!(rt; are_alike?);
+    assert!(rt; is_logged(&rt)?);
     fs::remove_dir_all(&rt, root)?;
-    assert!(rt; without == with && with == Some(Exit::Code(3)) && !is_made);
-    assert!(rt; log.as_slice() == b"asked\nrefused\n".as_slice());
     Ok(())
 }

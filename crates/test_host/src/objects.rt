@@ -58,17 +58,42 @@ fn makes_again(disk: &mut FileDisk<'_, HostRuntime>) -> Result<(), DiskFault> {
     disk.sync(FILE)
 }
 
+/// Whether a reader reads, but follows no link.
+fn is_read(rt: &HostRuntime, root: &str) -> Result<bool, Fail> {
+    let mut reader = FileDisk::new(rt, root, Access::Read)?;
+    let is_read = reads(&mut reader, "journal", 0, b"abc") == Ok(true);
+    let is_linked = reader.length("linked").is_ok();
+    drop(reader);
+    Ok(is_read && !is_linked)
+}
+
+/// Whether artifacts behind a link are not listed.
+fn is_unlisted(rt: &HostRuntime) -> Result<bool, Fail> {
+    let mut linked = FileDisk::new(rt, "disk-of-a-test/links", Access::Read)?;
+    let is_unlisted = linked.list(rt.alloc()).is_err();
+    drop(linked);
+    Ok(is_unlisted)
+}
+
 /// Whether a second writer is refused, a reader reads, and links are not followed.
 fn is_guarded(rt: &HostRuntime, root: &str) -> Result<bool, Fail> {
     let mut second = FileDisk::new(rt, root, Access::Write)?;
-    let mut reader = FileDisk::new(rt, root, Access::Read)?;
-    let mut linked = FileDisk::new(rt, "disk-of-a-test/links", Access::Read)?;
-    Ok(
-        second.length("journal").is_err()
-            && reads(&mut reader, "journal", 0, b"abc")?
-            && reader.length("linked").is_err()
-            && linked.list(rt.alloc()).is_err(),
-    )
+    let is_refused = second.length("journal").is_err();
+    drop(second);
+    Ok(is_refused && is_read(rt, root)? && is_unlisted(rt)?)
+}
+
+/// Whether a file that was made empty by a cut is there, and one that was made again has its bytes, with no folder left in between.
+fn is_made_again(rt: &HostRuntime, disk: &mut FileDisk<'_, HostRuntime>) -> Result<bool, Fail> {
+    let is_left = fs::exists(rt, "disk-of-a-test/packages/artifacts/A")?;
+    makes_again(disk)?;
+    let is_empty = fs::read(rt, "disk-of-a-test/packages/artifacts/B/1.0.0/empty")?.is_empty();
+    Ok(!is_left && is_empty && reads(disk, FILE, 0, b"y")?)
+}
+
+/// Whether the disk keeps what is written, and keeps others out.
+fn keeps(rt: &HostRuntime, root: &str, disk: &mut FileDisk<'_, HostRuntime>) -> Result<bool, Fail> {
+    Ok(stores(rt.alloc(), disk)? && is_guarded(rt, root)? && is_made_again(rt, disk)?)
 }
 
 #[test]
@@ -79,15 +104,10 @@ fn a_disk_keeps_what_is_written(rt: HostRuntime) -> Result<(), Fail> {
     fs::create_dir_all(&rt, "disk-of-a-test/links")?;
     symlink(&rt, "../packages", "disk-of-a-test/links/packages")?;
     let mut disk = FileDisk::new(&rt, root, Access::Write)?;
-    let is_stored = stores(rt.alloc(), &mut disk)?;
-    let is_guarded = is_guarded(&rt, root)?;
-    let is_left = fs::exists(&rt, "disk-of-a-test/packages/artifacts/A")?;
-    makes_again(&mut disk)?;
-    let is_empty = fs::read(&rt, "disk-of-a-test/packages/artifacts/B/1.0.0/empty")?.is_empty();
-    let is_again = reads(&mut disk, FILE, 0, b"y")?;
+    let is_kept = keeps(&rt, root, &mut disk);
+    drop(disk);
+    assert!(rt; is_kept?);
     fs::remove_dir_all(&rt, root)?;
-    assert!(rt; is_stored && is_guarded);
-    assert!(rt; !is_left && is_empty && is_again);
     Ok(())
 }
 
@@ -105,32 +125,38 @@ fn removes_strays(
     Ok(are_listed && !is_read && lists(alloc, disk, &[]))
 }
 
-#[test]
-fn a_disk_removes_what_scripts_leave(rt: HostRuntime) -> Result<(), Fail> {
-    let root = "strays-of-a-test";
-    fs::create_dir_all(&rt, "strays-of-a-test/packages/artifacts/A/1.0.0/made")?;
-    fs::create_dir_all(&rt, "strays-of-a-test/packages/artifacts/B/1.0.0/none/none")?;
-    fs::write(&rt, "strays-of-a-test/kept", "x")?;
+/// Makes folders, an empty file and links among the artifacts.
+fn make_strays(rt: &HostRuntime) -> Result<(), Fail> {
+    fs::create_dir_all(rt, "strays-of-a-test/packages/artifacts/A/1.0.0/made")?;
+    fs::create_dir_all(rt, "strays-of-a-test/packages/artifacts/B/1.0.0/none/none")?;
+    fs::write(rt, "strays-of-a-test/kept", "x")?;
     fs::write(
-        &rt,
+        rt,
         "strays-of-a-test/packages/artifacts/A/1.0.0/made/empty",
         "",
     )?;
     symlink(
-        &rt,
+        rt,
         "..",
         "strays-of-a-test/packages/artifacts/A/1.0.0/above",
     )?;
     symlink(
-        &rt,
+        rt,
         "../../../../kept",
         "strays-of-a-test/packages/artifacts/A/1.0.0/link",
     )?;
     symlink(
-        &rt,
+        rt,
         "no-such",
         "strays-of-a-test/packages/artifacts/A/1.0.0/made/nothing",
     )?;
+    Ok(())
+}
+
+#[test]
+fn a_disk_removes_what_scripts_leave(rt: HostRuntime) -> Result<(), Fail> {
+    let root = "strays-of-a-test";
+    make_strays(&rt)?;
     let mut disk = FileDisk::new(&rt, root, Access::Write)?;
     let strays = [
         "packages/artifacts/A/1.0.0/above",
@@ -138,7 +164,8 @@ fn a_disk_removes_what_scripts_leave(rt: HostRuntime) -> Result<(), Fail> {
         "packages/artifacts/A/1.0.0/made/empty",
         "packages/artifacts/A/1.0.0/made/nothing",
     ];
-    let are_removed = removes_strays(rt.alloc(), &mut disk, &strays)?;
+    let are_removed = removes_strays(rt.alloc(), &mut disk, &strays) == Ok(true);
+    drop(disk);
     let is_kept = fs::exists(&rt, "strays-of-a-test/kept")?;
     // Nothing is left below the folder of the artifacts, which stays.
     let is_bare = fs::remove_dir(&rt, "strays-of-a-test/packages/artifacts").is_ok();
@@ -165,16 +192,25 @@ fn sees_one_turn(
     Ok(is_read && goes_on && reader.read("journal", 20, &mut seen).is_err())
 }
 
+/// So it is with a writer and a reader of this folder.
+fn is_turn_seen(rt: &HostRuntime, root: &str, bytes: &[u8]) -> Result<bool, Fail> {
+    let mut writer = FileDisk::new(rt, root, Access::Write)?;
+    let mut reader = FileDisk::new(rt, root, Access::Read)?;
+    let is_seen = sees_one_turn(&mut writer, &mut reader, bytes) == Ok(true);
+    drop(reader);
+    drop(writer);
+    Ok(is_seen)
+}
+
 #[test]
 fn a_reader_sees_one_turn(rt: HostRuntime) -> Result<(), Fail> {
     let root = "turn-of-a-test";
     fs::create_dir_all(&rt, root)?;
     let bytes = vec![in rt.alloc(); 1; 70_000]?;
-    let mut writer = FileDisk::new(&rt, root, Access::Write)?;
-    let mut reader = FileDisk::new(&rt, root, Access::Read)?;
-    let is_seen = sees_one_turn(&mut writer, &mut reader, bytes.as_slice())?;
+    let is_seen = is_turn_seen(&rt, root, bytes.as_slice());
+    drop(bytes);
+    assert!(rt; is_seen?);
     fs::remove_dir_all(&rt, root)?;
-    assert!(rt; is_seen);
     Ok(())
 }
 
@@ -208,33 +244,53 @@ fn piece<L: Library>(
     )
 }
 
-#[test]
-fn a_library_gives_its_files(rt: HostRuntime) -> Result<(), Fail> {
-    let alloc = rt.alloc();
-    let root = "library-of-a-test";
-    fs::create_dir_all(&rt, "library-of-a-test/library/recipes/folder.json")?;
-    fs::create_dir_all(&rt, "library-of-a-test/library/artifacts/A/1.0.0")?;
-    fs::write(&rt, "library-of-a-test/library/recipes/b.json", "[]")?;
-    fs::write(&rt, "library-of-a-test/library/recipes/a.json", "{}")?;
-    fs::write(&rt, "library-of-a-test/library/recipes/a.json.old", "x")?;
-    let long = vec![in alloc; b' '; 70_000]?;
-    fs::write(
-        &rt,
+/// Makes two recipes and files that are none, and two artifacts.
+fn make_library(rt: &HostRuntime) -> Result<(), Fail> {
+    fs::create_dir_all(rt, "library-of-a-test/library/recipes/folder.json")?;
+    fs::create_dir_all(rt, "library-of-a-test/library/artifacts/A/1.0.0")?;
+    fs::write(rt, "library-of-a-test/library/recipes/b.json", "[]")?;
+    fs::write(rt, "library-of-a-test/library/recipes/a.json", "{}")?;
+    fs::write(rt, "library-of-a-test/library/recipes/a.json.old", "x")?;
+    fs::write(rt, "library-of-a-test/library/artifacts/A/1.0.0/f", "xyz")?;
+    fs::write(rt, "library-of-a-test/library/artifacts/A/1.0.0/h", "uvw")?;
+    Ok(())
+}
+
+/// Makes a recipe of 70,000 blanks.
+fn make_long_recipe(rt: &HostRuntime) -> Result<(), Fail> {
+    let long = vec![in rt.alloc(); b' '; 70_000]?;
+    let made = fs::write(
+        rt,
         "library-of-a-test/library/recipes/c.json",
         long.as_slice(),
-    )?;
-    fs::write(&rt, "library-of-a-test/library/artifacts/A/1.0.0/f", "xyz")?;
-    fs::write(&rt, "library-of-a-test/library/artifacts/A/1.0.0/h", "uvw")?;
-    let mut library = FolderLibrary::new(&rt, root)?;
+    );
+    drop(long);
+    made?;
+    Ok(())
+}
+
+/// Whether its artifacts are given from their second byte on, and one that it lacks is told as missing.
+fn gives_artifacts<L: Library>(alloc: Global, library: &mut L) -> Result<bool, Fail> {
     let mut into = [b'#'; 4];
-    let are_given = gives_recipes(alloc, &mut library) == Ok(true);
-    let is_missing = piece(alloc, &mut library, "g", &mut into)? == Some(Piece::Missing);
-    let is_given = piece(alloc, &mut library, "f", &mut into)? == Some(Piece::Bytes(2));
+    let is_missing = piece(alloc, library, "g", &mut into)? == Some(Piece::Missing);
+    let is_given = piece(alloc, library, "f", &mut into)? == Some(Piece::Bytes(2));
     let is_whole = into == *b"yz##";
-    let is_next = piece(alloc, &mut library, "h", &mut into)? == Some(Piece::Bytes(2));
+    let is_next = piece(alloc, library, "h", &mut into)? == Some(Piece::Bytes(2));
+    Ok(is_missing && is_given && is_whole && is_next && into == *b"vw##")
+}
+
+#[test]
+fn a_library_gives_its_files(rt: HostRuntime) -> Result<(), Fail> {
+    let root = "library-of-a-test";
+    make_library(&rt)?;
+    make_long_recipe(&rt)?;
+    let mut library = FolderLibrary::new(&rt, root)?;
+    let are_given = gives_recipes(rt.alloc(), &mut library) == Ok(true);
+    let are_pieces = gives_artifacts(rt.alloc(), &mut library);
+    drop(library);
+    assert!(rt; are_pieces?);
     fs::remove_dir_all(&rt, root)?;
-    assert!(rt; are_given && is_missing && is_given && is_whole);
-    assert!(rt; is_next && into == *b"vw##");
+    assert!(rt; are_given);
     Ok(())
 }
 
@@ -252,21 +308,39 @@ fn takes<I: Inbox>(alloc: Global, inbox: &mut I, bytes: &[u8]) -> bool {
     }
 }
 
+/// Puts two documents and a file that is none into the inbox.
+fn fill_inbox(rt: &HostRuntime) -> Result<(), Fail> {
+    fs::create_dir_all(rt, "inbox-of-a-test/inbox")?;
+    fs::write(rt, "inbox-of-a-test/inbox/b.json", "second")?;
+    fs::write(rt, "inbox-of-a-test/inbox/a.json", "first")?;
+    fs::write(rt, "inbox-of-a-test/inbox/a.txt", "x")?;
+    Ok(())
+}
+
+/// Whether there is nothing in it, and no document is left.
+fn has_nothing<I: Inbox>(alloc: Global, inbox: &mut I) -> bool {
+    matches!(inbox.next(alloc), Ok(Incoming::Nothing))
+}
+
+/// Whether it gives its documents in their order, and then says that it is closed.
+fn gives_its_documents<I: Inbox>(rt: &HostRuntime, inbox: &mut I) -> Result<bool, Fail> {
+    let alloc = rt.alloc();
+    let is_absent = has_nothing(alloc, inbox);
+    fill_inbox(rt)?;
+    let are_taken = takes(alloc, inbox, b"first") && takes(alloc, inbox, b"second");
+    let is_empty = has_nothing(alloc, inbox);
+    fs::write(rt, "inbox-of-a-test/inbox/closed", "")?;
+    let is_closed = matches!(inbox.next(alloc), Ok(Incoming::Closed));
+    Ok(is_absent && are_taken && is_empty && is_closed)
+}
+
 #[test]
 fn an_inbox_gives_what_is_not_done(rt: HostRuntime) -> Result<(), Fail> {
-    let alloc = rt.alloc();
     let root = "inbox-of-a-test";
     let mut inbox = FolderInbox::new(&rt, root)?;
-    let is_absent = matches!(inbox.next(alloc), Ok(Incoming::Nothing));
-    fs::create_dir_all(&rt, "inbox-of-a-test/inbox")?;
-    fs::write(&rt, "inbox-of-a-test/inbox/b.json", "second")?;
-    fs::write(&rt, "inbox-of-a-test/inbox/a.json", "first")?;
-    fs::write(&rt, "inbox-of-a-test/inbox/a.txt", "x")?;
-    let are_taken = takes(alloc, &mut inbox, b"first") && takes(alloc, &mut inbox, b"second");
-    let is_empty = matches!(inbox.next(alloc), Ok(Incoming::Nothing));
-    fs::write(&rt, "inbox-of-a-test/inbox/closed", "")?;
-    let is_closed = matches!(inbox.next(alloc), Ok(Incoming::Closed));
+    let are_given = gives_its_documents(&rt, &mut inbox);
+    drop(inbox);
+    assert!(rt; are_given?);
     fs::remove_dir_all(&rt, root)?;
-    assert!(rt; is_absent && are_taken && is_empty && is_closed);
     Ok(())
 }

@@ -2,19 +2,37 @@ use crate::children::ended;
 use crate::objects::{FILE, lists, reads};
 use disk_model::{Disk, DiskFault};
 use host_edges::{Access, FileDisk, ShellRunner};
-use nuc_base::Exit;
+use nuc_base::{Exit, NoMemory};
 use std::fs;
 use std::os::unix::fs::MetadataExt;
 use std::test::Fail;
 
 /// Writes a whole file and makes it stable.
-fn write_file(
-    disk: &mut FileDisk<'_, HostRuntime>,
-    file: &str,
-    bytes: &[u8],
-) -> Result<(), DiskFault> {
+fn write_file<D: Disk>(disk: &mut D, file: &str, bytes: &[u8]) -> Result<(), DiskFault> {
     disk.write_at(file, 0, bytes)?;
     disk.sync(file)
+}
+
+/// What a child with this script ends with, of a runner of its own.
+fn ends_with(rt: &HostRuntime, root: &str, script: &str) -> Result<Option<Exit>, NoMemory> {
+    let mut runner = ShellRunner::new(rt, root);
+    let exit = ended(rt.alloc(), &mut runner, root, script);
+    drop(runner);
+    exit
+}
+
+/// Whether a program that was just written is run, and again behind a reading of it.
+fn runs_what_was_written<D: Disk>(
+    rt: &HostRuntime,
+    disk: &mut D,
+    root: &str,
+) -> Result<bool, Fail> {
+    write_file(disk, FILE, b"#!/bin/sh\nexit 3\n")?;
+    let script = "chmod 700 packages/artifacts/A/1.0.0/f && packages/artifacts/A/1.0.0/f";
+    let written = ends_with(rt, root, script)?;
+    let is_read = reads(disk, FILE, 10, b"exit 3\n")?;
+    let read = ends_with(rt, root, script)?;
+    Ok(is_read && written == Some(Exit::Code(3)) && read == Some(Exit::Code(3)))
 }
 
 #[test]
@@ -22,14 +40,10 @@ fn a_child_runs_what_was_written(rt: HostRuntime) -> Result<(), Fail> {
     let root = "program-of-a-test";
     fs::create_dir_all(&rt, root)?;
     let mut disk = FileDisk::new(&rt, root, Access::Write)?;
-    let mut runner = ShellRunner::new(&rt, root);
-    write_file(&mut disk, FILE, b"#!/bin/sh\nexit 3\n")?;
-    let script = "chmod 700 packages/artifacts/A/1.0.0/f && packages/artifacts/A/1.0.0/f";
-    let written = ended(rt.alloc(), &mut runner, root, script)?;
-    let is_read = reads(&mut disk, FILE, 10, b"exit 3\n")?;
-    let read = ended(rt.alloc(), &mut runner, root, script)?;
+    let runs = runs_what_was_written(&rt, &mut disk, root);
+    drop(disk);
+    assert!(rt; runs?);
     fs::remove_dir_all(&rt, root)?;
-    assert!(rt; is_read && written == Some(Exit::Code(3)) && read == Some(Exit::Code(3)));
     Ok(())
 }
 
@@ -62,18 +76,25 @@ fn keeps_room(disk: &mut FileDisk<'_, HostRuntime>) -> Result<bool, DiskFault> {
     )
 }
 
+/// Whether room is made for these, and for no record that accepts nothing.
+fn makes_room(disk: &mut FileDisk<'_, HostRuntime>) -> Result<bool, DiskFault> {
+    let plain = length_with(disk, b"\x11made")?;
+    let is_kept = keeps_room(disk)?;
+    disk.sync("journal")?;
+    Ok(plain == 10 && is_kept)
+}
+
 #[test]
 fn an_accepted_deployment_has_room(rt: HostRuntime) -> Result<(), Fail> {
     let root = "room-of-a-test";
     fs::create_dir_all(&rt, root)?;
     let mut disk = FileDisk::new(&rt, root, Access::Write)?;
-    let plain = length_with(&mut disk, b"\x11made")?;
-    let is_kept = keeps_room(&mut disk)?;
-    disk.sync("journal")?;
+    let is_made = makes_room(&mut disk) == Ok(true);
+    drop(disk);
     let metadata = fs::metadata(&rt, "room-of-a-test/journal")?;
     let is_held = metadata.blocks().saturating_mul(512) >= metadata.len();
     fs::remove_dir_all(&rt, root)?;
-    assert!(rt; plain == 10 && is_kept && is_held);
+    assert!(rt; is_made && is_held);
     Ok(())
 }
 
@@ -85,21 +106,32 @@ const STRAYS: &str =
     && long=$(printf '%0200d' 0) && chain=$long/$long/$long/$long/$long/$long/$long/$long/$long/$long \
     && mkdir -p a/$chain b/$chain c/$chain && echo x > c/$chain/f && mv c b/$chain && mv b a/$chain && mv a ../..";
 
+/// What is to be there behind that: the file outside, and of the artifacts the one that was written.
+const LEFT: &str =
+    "cat kept && test \"$(ls -A packages/artifacts)\" = A && test \"$(ls -A packages/artifacts/A/1.0.0)\" = f";
+
+/// Whether such names are removed, and nothing else.
+fn removes_what_it_cannot_name<D: Disk>(
+    rt: &HostRuntime,
+    disk: &mut D,
+    root: &str,
+) -> Result<bool, Fail> {
+    write_file(disk, FILE, b"xyz")?;
+    let made = ends_with(rt, root, STRAYS)?;
+    let are_removed = lists(rt.alloc(), disk, &[FILE]) && lists(rt.alloc(), disk, &[FILE]);
+    let left = ends_with(rt, root, LEFT)?;
+    Ok(made == Some(Exit::Code(0)) && are_removed && left == Some(Exit::Code(0)))
+}
+
 #[test]
 fn a_disk_removes_what_it_cannot_name(rt: HostRuntime) -> Result<(), Fail> {
-    let alloc = rt.alloc();
     let root = "names-of-a-test";
     fs::create_dir_all(&rt, root)?;
     fs::write(&rt, "names-of-a-test/kept", "x")?;
     let mut disk = FileDisk::new(&rt, root, Access::Write)?;
-    let mut runner = ShellRunner::new(&rt, root);
-    write_file(&mut disk, FILE, b"xyz")?;
-    let made = ended(alloc, &mut runner, root, STRAYS)?;
-    let are_removed = lists(alloc, &mut disk, &[FILE]) && lists(alloc, &mut disk, &[FILE]);
-    let left =
-        "cat kept && test \"$(ls -A packages/artifacts)\" = A && test \"$(ls -A packages/artifacts/A/1.0.0)\" = f";
-    let left = ended(alloc, &mut runner, root, left)?;
+    let are_removed = removes_what_it_cannot_name(&rt, &mut disk, root);
+    drop(disk);
+    assert!(rt; are_removed?);
     fs::remove_dir_all(&rt, root)?;
-    assert!(rt; made == Some(Exit::Code(0)) && are_removed && left == Some(Exit::Code(0)));
     Ok(())
 }
