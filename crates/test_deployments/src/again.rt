@@ -2,12 +2,12 @@
 ghost use Rattle.std.specs.Prelude.{◌≡◌, []};
 ghost use Rattle.step_runner.specs.Scripted.{living_of};
 
-use crate::calls::{Asked, begin, call_with, runner_of};
 use disk_model::{Disk, FusedDisk, MemoryDisk, Pick};
 use nuc_base::List;
 use std::alloc::Global;
 use std::test::Fail;
 use step_runner::{ScriptedRunner, Seen};
+use test_calls::{Asked, begin, call_with, runner_of};
 
 const RECIPES: &str = "A 1.0.0 bootstrap a";
 

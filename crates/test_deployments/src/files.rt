@@ -1,11 +1,11 @@
 // The file of a component: one that the library has or lacks, and digests that recipes give.
-use crate::calls::{answer_alone, begin, files_of, recipes_of};
 use disk_model::MemoryDisk;
 use library_core::MemoryLibrary;
 use nuc_base::List;
 use std::alloc::Global;
 use std::process::Abort;
 use std::test::Fail;
+use test_calls::{answer_alone, begin, files_of, recipes_of};
 
 /// A component with one file: without a digest, with the SHA-256 of `abc` in both spellings, and with that of no bytes (FIPS
 /// 180-4).

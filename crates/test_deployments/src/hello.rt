@@ -2,20 +2,13 @@
 ghost use Rattle.std.specs.Prelude.{◌≡◌, []};
 ghost use Rattle.step_runner.specs.Scripted.{living_of};
 
-use crate::calls::{answer, answer_alone, begin, files_of, recipes_of, runner_of};
 use disk_model::{Disk, FusedDisk, MemoryDisk, Pick};
-use library_core::MemoryLibrary;
 use nuc_base::List;
 use std::alloc::Global;
 use std::process::Abort;
 use std::test::Fail;
 use step_runner::{RunnerEntry, ScriptedRunner, Seen};
-
-const RECIPE: &str =
-    r#"{"RecipeFormatVersion":"2020-01-25","ComponentName":"com.example.HelloWorld","ComponentVersion":"1.0.0","ComponentDescription":"My first component","ComponentPublisher":"Example","ComponentConfiguration":{"DefaultConfiguration":{"Message":"world"}},"Manifests":[{"Platform":{"os":"linux"},"Lifecycle":{"run":"python3 -u {artifacts:path}/hello_world.py \"{configuration:/Message}\""},"Artifacts":[{"URI":"s3://bucket/artifacts/hello_world.py"}]}]}"#;
-
-const DOCUMENT: &str =
-    r#"{"deploymentId":"d1","targetArn":"arn:aws:iot:us-east-1:123456789012:thinggroup/g1","deploymentName":"hello","components":{"com.example.HelloWorld":{"componentVersion":"1.0.0"}}}"#;
+use test_calls::{HELLO, answer, answer_alone, begin, hello_library, runner_of};
 
 const NOTHING: &str =
     r#"{"deploymentId":"d2","targetArn":"arn:aws:iot:us-east-1:123456789012:thinggroup/g1","components":{}}"#;
@@ -37,14 +30,6 @@ const STATUS: &str =
     "0|thing t1;nucleus 2.12.0;group arn:aws:iot:us-east-1:123456789012:thinggroup/g1;require com.example.HelloWorld 1.0.0;\
     component com.example.HelloWorld 1.0.0 {\"Message\":\"world\"};closed d1 SUCCESSFUL;";
 
-/// A library of this recipe, with a file of the bytes `abc`, that fails these calls.
-fn library(alloc: Global, failing: &[u64]) -> Result<MemoryLibrary, Fail> {
-    let failing = List::new(Vec::from_slice(alloc, failing)?);
-    let recipes = recipes_of(alloc, RECIPE)?;
-    let files = files_of(alloc, b"com.example.HelloWorld", b"hello_world.py")?;
-    Ok(MemoryLibrary::new(recipes, files, failing))
-}
-
 /// What a call over that library prints, where the library and the sink fail these calls.
 fn answer_to(
     alloc: Global,
@@ -53,7 +38,7 @@ fn answer_to(
     document: &str,
     faults: (&[u64], &[u64]),
 ) -> Result<String, Fail> {
-    let mut library = library(alloc, faults.0)?;
+    let mut library = hello_library(alloc, faults.0)?;
     let text = answer_alone(alloc, disk, &mut library, command, document, faults.1);
     drop(library);
     text
@@ -78,8 +63,8 @@ fn prints(
 fn deploy<D: Disk>(alloc: Global, disk: &mut D, runner: &mut ScriptedRunner) -> Result<String, Fail>
     requires none { living_of runner.old ≡ [] }
 {
-    let mut library = library(alloc, &[])?;
-    let text = answer(alloc, disk, &mut library, runner, "deploy", DOCUMENT, &[]);
+    let mut library = hello_library(alloc, &[])?;
+    let text = answer(alloc, disk, &mut library, runner, "deploy", HELLO, &[]);
     drop(library);
     text
 }
@@ -186,7 +171,7 @@ fn change(alloc: Global, disk: &mut MemoryDisk, runner: &mut ScriptedRunner) -> 
     requires none { living_of runner.old ≡ [] }
 {
     let set = "config-set --component com.example.HelloWorld";
-    let mut library = library(alloc, &[0])?;
+    let mut library = hello_library(alloc, &[0])?;
     let text = answer(alloc, disk, &mut library, runner, set, CHANGE, &[]);
     drop(library);
     text
@@ -251,9 +236,9 @@ fn is_resumed(alloc: Global, image: &mut MemoryDisk, is_said: bool) -> Result<bo
 }
 
 /// Whether each image that the stop may leave goes on so.
-fn goes_on(alloc: Global, disk: &FusedDisk, is_said: bool) -> Result<bool, Fail> {
+pub(crate) fn goes_on(alloc: Global, disk: &MemoryDisk, is_said: bool) -> Result<bool, Fail> {
     for pick in [Pick::Old, Pick::New, Pick::Fill(0x01)] {
-        let mut image = disk.disk().image(alloc, pick)?;
+        let mut image = disk.image(alloc, pick)?;
         let is_right = is_resumed(alloc, &mut image, is_said);
         drop(image);
         if !is_right? {
@@ -287,7 +272,7 @@ fn cut_off(alloc: Global, disk: &mut FusedDisk) -> Result<Cut, Fail> {
     let has_ended = !said.as_str().starts_with("5|");
     drop(said);
     Ok(Cut {
-        goes_on: goes_on(alloc, disk, is_said)?,
+        goes_on: goes_on(alloc, disk.disk(), is_said)?,
         has_ended,
     })
 }
@@ -326,14 +311,14 @@ fn a_stopped_hello_world_is_resumed(rt: HostRuntime) -> Result<(), Fail> {
 fn library_fails(rt: &impl Abort, alloc: Global, disk: &mut MemoryDisk) -> Result<(), Fail> {
     // Call 0 of the library counts its recipes, and call 1 reads the first.
     let refused = "7|refused 7 library;";
-    assert!(rt; prints(alloc, disk, "deploy", DOCUMENT, (&[1], &[]), refused)?);
+    assert!(rt; prints(alloc, disk, "deploy", HELLO, (&[1], &[]), refused)?);
     assert!(rt; prints(alloc, disk, "resume", "", (&[], &[]), "0|idle;")?);
     Ok(())
 }
 
 /// Fails a call of the sink, and resumes behind it.
 fn sink_fails(rt: &impl Abort, alloc: Global, disk: &mut MemoryDisk) -> Result<(), Fail> {
-    assert!(rt; prints(alloc, disk, "deploy", DOCUMENT, (&[], &[0]), "6|")?);
+    assert!(rt; prints(alloc, disk, "deploy", HELLO, (&[], &[0]), "6|")?);
     let closed = "0|resumed d1;closed d1 SUCCESSFUL;";
     assert!(rt; prints(alloc, disk, "resume", "", (&[], &[]), closed)?);
     Ok(())

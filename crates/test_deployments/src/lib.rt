@@ -7,11 +7,11 @@
 #[cfg(test)]
 mod again;
 #[cfg(test)]
-mod calls;
-#[cfg(test)]
 mod files;
 #[cfg(test)]
 mod hello;
+#[cfg(test)]
+mod memory;
 #[cfg(test)]
 mod rows;
 #[cfg(test)]

@@ -1,13 +1,13 @@
 // Rows: stores that are made, documents that are deployed to them, and what is printed.
-use crate::calls::{Asked, begin, call};
 use disk_model::MemoryDisk;
 use std::alloc::Global;
 use std::test::Fail;
+use test_calls::{Asked, begin, call};
 
 /// Calls, one after another. A line `store` begins a store whose library has recipes of these words: a name, a version, and
 /// then a step and its script, any number of times. Every other line is a call: its command; the document's id and policy and
-/// the versions that it wants by name; how children end, each by its number, its code and the moment, and which starts are
-/// refused; the status; and the lines that are printed, with `;` for each line feed.
+/// the versions that it wants by name; how children end, each by its number, its code or `lost`, and the moment, and which starts
+/// are refused; the status; and the lines that are printed, with `;` for each line feed.
 const ROWS: &str = "store|A 1.0.0 startup s1;A 2.0.0 startup s2 recover r2
 deploy|d1 ROLLBACK A 1.0.0|0 0 0|0|accepted d1;closed d1 SUCCESSFUL;
 deploy|d1 ROLLBACK A 1.0.0||0|closed d1 SUCCESSFUL;
@@ -18,6 +18,11 @@ deploy|d4 DO_NOTHING A 2.0.0|0 1 0,1 0 0,2 1 0,3 0 0,4 1 0|11|accepted d4;failed
 deploy|d2 ROLLBACK A 2.0.0||10|closed d2 FAILED_ROLLBACK_COMPLETE;
 deploy|d5 ROLLBACK||0|accepted d5;closed d5 SUCCESSFUL;
 deploy|d6 ROLLBACK A 3.0.0||3|refused 3 NoVersion;
+store|A 1.0.0 startup s1;A 2.0.0 startup s2 recover r2
+deploy|d1 ROLLBACK A 1.0.0|0 0 0|0|accepted d1;closed d1 SUCCESSFUL;
+deploy|d2 ROLLBACK A 2.0.0|refuse 0,refuse 2,refuse 4,0 0 0,1 0 0,2 0 0|10|accepted d2;failed d2 A startup notstarted;failed d2 A startup notstarted;failed d2 A startup notstarted;closed d2 FAILED_ROLLBACK_COMPLETE;
+deploy|d3 ROLLBACK A 2.0.0|refuse 1,refuse 3,refuse 5,0 1 0,1 1 0,2 1 0,3 0 0|10|accepted d3;failed d3 A startup code 1;failed d3 A startup code 1;failed d3 A startup code 1;failed d3 A startup notstarted;closed d3 FAILED_ROLLBACK_COMPLETE;
+deploy|d4 ROLLBACK A 2.0.0|0 lost 0,1 lost 0,2 lost 0,3 lost 0,4 lost 0,5 0 0|10|accepted d4;failed d4 A startup lost;failed d4 A startup lost;failed d4 A startup lost;closed d4 FAILED_ROLLBACK_COMPLETE;
 store|A 1.0.0 bootstrap a;B 1.0.0 bootstrap b;C 1.0.0 bootstrap c
 deploy|d5 ROLLBACK A 1.0.0 B 1.0.0|0 100 0|100|accepted d5;restart d5;
 deploy|d6 ROLLBACK||4|refused 4 pending d5;

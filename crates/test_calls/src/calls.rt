@@ -6,7 +6,7 @@ ghost use Rattle.step_runner.specs.Waits.{is_own};
 ghost use Rattle.step_runner.specs.declared.ends.ScriptedEnd.{ScriptedEnd};
 
 use disk_model::{Disk, MemoryDisk};
-use edges::{MemorySink, MemorySource};
+use edges::{MemoryInbox, MemorySink, MemorySource};
 use library_core::{MemoryLibrary, Stored};
 use npm_ranges::Version;
 use nuc_base::{Bytes, Exit, Label, List, Name, NoMemory, Status, Text};
@@ -97,7 +97,8 @@ fn recipe_bytes(alloc: Global, component: &str) -> Result<Bytes, Fail> {
     Ok(bytes?)
 }
 
-pub(crate) fn library_of(alloc: Global, components: &str) -> Result<MemoryLibrary, Fail> {
+/// A library of recipes, each of which is written out or of the words of `recipe_of`, with `;` behind each.
+pub fn library_of(alloc: Global, components: &str) -> Result<MemoryLibrary, Fail> {
     let mut recipes = List::empty(alloc);
     for component in components.split_terminator(';') {
         recipes.push(recipe_bytes(alloc, component)?)?;
@@ -105,9 +106,8 @@ pub(crate) fn library_of(alloc: Global, components: &str) -> Result<MemoryLibrar
     Ok(MemoryLibrary::new(recipes, List::empty(alloc), List::empty(alloc)))
 }
 
-/// The file of this name of version 1.0.0 of a component, with the bytes `abc`.
-fn stored_of(alloc: Global, component: &[u8], file: &[u8]) -> Result<Stored, Fail> {
-    let bytes = Bytes::from_slice(alloc, b"abc")?;
+/// The file of this name of version 1.0.0 of a component, with these bytes.
+fn stored_of(alloc: Global, component: &[u8], file: &[u8], bytes: Bytes) -> Result<Stored, Fail> {
     let file = Label::read(alloc, file)?;
     let name = Name::read(alloc, component)?;
     let version = Version::read(alloc, b"1.0.0")?;
@@ -119,16 +119,27 @@ fn stored_of(alloc: Global, component: &[u8], file: &[u8]) -> Result<Stored, Fai
     })
 }
 
-/// The files of a library that has that one alone.
-pub(crate) fn files_of(alloc: Global, component: &[u8], file: &[u8]) -> Result<List<Stored>, Fail> {
-    let stored = stored_of(alloc, component, file)?;
+/// The files of a library that has one alone: that of this name of version 1.0.0 of a component, with these bytes.
+pub fn files_with(
+    alloc: Global,
+    component: &[u8],
+    file: &[u8],
+    bytes: Bytes,
+) -> Result<List<Stored>, Fail> {
+    let stored = stored_of(alloc, component, file, bytes)?;
     let mut files = List::empty(alloc);
     files.push(stored)?;
     Ok(files)
 }
 
+/// The same with the bytes `abc`.
+pub fn files_of(alloc: Global, component: &[u8], file: &[u8]) -> Result<List<Stored>, Fail> {
+    let bytes = Bytes::from_slice(alloc, b"abc")?;
+    files_with(alloc, component, file, bytes)
+}
+
 /// The recipes of a library that has this one alone.
-pub(crate) fn recipes_of(alloc: Global, recipe: &str) -> Result<List<Bytes>, Fail> {
+pub fn recipes_of(alloc: Global, recipe: &str) -> Result<List<Bytes>, Fail> {
     let bytes = Bytes::from_slice(alloc, recipe.as_bytes())?;
     let mut recipes = List::empty(alloc);
     recipes.push(bytes)?;
@@ -214,20 +225,27 @@ fn refused_of(alloc: Global, ends: &str) -> Result<List<u64>, Fail> {
     Ok(refused)
 }
 
-/// Adds the end of a child with this code.
-fn add_end(played: &mut List<ScriptedEnd>, child: u64, code: i32, at: u64) -> Result<(), NoMemory>
-    requires { list_all (λ (e : ScriptedEnd). is_own e.exit) played.old ≡ true }
+/// How a child ends: with this code, or lost.
+fn exit_of(word: Option<&str>) -> Exit
+    ensures { is_own result ≡ true }
+{
+    if word == Some("lost") {
+        return Exit::Lost;
+    }
+    Exit::Code(number_of(word).min(255) as i32)
+}
+
+/// Adds the end of a child.
+fn add_end(played: &mut List<ScriptedEnd>, child: u64, exit: Exit, at: u64) -> Result<(), NoMemory>
+    requires own { is_own exit ≡ true }
+    requires owned { list_all (λ (e : ScriptedEnd). is_own e.exit) played.old ≡ true }
     ensures { list_all (λ (e : ScriptedEnd). is_own e.exit) played.new ≡ true }
 {
-    let end = ScriptedEnd {
-        child,
-        exit: Exit::Code(code),
-        at,
-    };
+    let end = ScriptedEnd { child, exit, at };
     Ok(played.push(end)?)
 }
 
-/// The ends that are played: each the number of a child, its code and the moment.
+/// The ends that are played: each the number of a child, its code or the word `lost`, and the moment.
 fn played_of(alloc: Global, ends: &str) -> Result<List<ScriptedEnd>, Fail>
     ensures { IfOk result (λ l. list_all (λ (e : ScriptedEnd). is_own e.exit) l ≡ true) }
 {
@@ -235,17 +253,17 @@ fn played_of(alloc: Global, ends: &str) -> Result<List<ScriptedEnd>, Fail>
     for end in ends.split(',') {
         let mut words = end.split_whitespace();
         let child = number_of(words.next());
-        let code = number_of(words.next()).min(255) as i32;
+        let exit = exit_of(words.next());
         let at = number_of(words.next());
         if !end.is_empty() && !end.starts_with("refuse") {
-            add_end(&mut played, child, code, at)?;
+            add_end(&mut played, child, exit, at)?;
         }
     }
     Ok(played)
 }
 
 /// A runner that plays these ends, and has the file `/opt/x`.
-pub(crate) fn runner_of(alloc: Global, ends: &str) -> Result<ScriptedRunner, Fail>
+pub fn runner_of(alloc: Global, ends: &str) -> Result<ScriptedRunner, Fail>
     ensures { IfOk result (λ r. living_of r ≡ []) }
 {
     let mut present = List::empty(alloc);
@@ -273,11 +291,18 @@ fn words_of(alloc: Global, command: &str) -> Result<Vec<String>, AllocError> {
 
 /// A call over some disk.
 #[derive(Clone, Copy, Drop)]
-pub(crate) struct Asked<'a> {
-    pub(crate) recipes: &'static str,
-    pub(crate) command: &'a str,
-    pub(crate) document: &'a str,
-    pub(crate) ends: &'a str,
+pub struct Asked<'a> {
+    pub recipes: &'a str,
+    pub command: &'a str,
+    pub document: &'a str,
+    pub ends: &'a str,
+}
+
+/// Which calls fail of the source and of the sink, counted from 0.
+#[derive(Clone, Copy, Drop)]
+pub struct Failing<'a> {
+    pub source: &'a [u64],
+    pub sink: &'a [u64],
 }
 
 /// The status, and behind it what is printed, with `;` for each line feed.
@@ -293,12 +318,18 @@ fn told(alloc: Global, status: Status, printed: &[u8]) -> Result<String, AllocEr
     Ok(text)
 }
 
-fn source_of(alloc: Global, document: &str) -> Result<MemorySource, Fail> {
-    let bytes = Bytes::from_slice(alloc, document.as_bytes())?;
-    Ok(MemorySource::new(bytes, List::empty(alloc)))
+fn numbers_of(alloc: Global, numbers: &[u64]) -> Result<List<u64>, AllocError> {
+    Ok(List::new(Vec::from_slice(alloc, numbers)?))
 }
 
-/// What the call of these words prints over this source.
+/// A source of this document, which fails these calls.
+fn source_of(alloc: Global, document: &str, failing: &[u64]) -> Result<MemorySource, Fail> {
+    let failing = numbers_of(alloc, failing)?;
+    let bytes = Bytes::from_slice(alloc, document.as_bytes())?;
+    Ok(MemorySource::new(bytes, failing))
+}
+
+/// What the call of these words prints over this source, to a sink that fails these calls.
 fn answer_from<D: Disk>(
     alloc: Global,
     disk: &mut D,
@@ -310,31 +341,41 @@ fn answer_from<D: Disk>(
 ) -> Result<String, Fail>
     requires none { living_of runner.old ≡ [] }
 {
-    let failing = List::new(Vec::from_slice(alloc, failing)?);
-    let mut sink = MemorySink::new(alloc, failing);
-    let status = nucleus(alloc, words, disk, library, source, &mut sink, runner);
+    let mut sink = MemorySink::new(alloc, numbers_of(alloc, failing)?);
+    let mut inbox = MemoryInbox::new(List::empty(alloc), true, List::empty(alloc));
+    let status = nucleus(
+        alloc, words, disk, library, source, &mut inbox, &mut sink, runner,
+    );
+    drop(inbox);
     let text = told(alloc, status, sink.bytes());
     drop(sink);
     Ok(text?)
 }
 
-/// What the call of the words prints, with `;` for each line feed, behind the status. The document is these bytes, and the
-/// sink fails these calls.
-pub(crate) fn answer<D: Disk>(
+/// What the call of the words prints, with `;` for each line feed, behind the status. The document is these bytes.
+pub fn answer_failing<D: Disk>(
     alloc: Global,
     disk: &mut D,
     library: &mut MemoryLibrary,
     runner: &mut ScriptedRunner,
     command: &str,
     document: &str,
-    failing: &[u64],
+    failing: Failing<'_>,
 ) -> Result<String, Fail>
     requires none { living_of runner.old ≡ [] }
 {
-    let mut source = source_of(alloc, document)?;
+    let mut source = source_of(alloc, document, failing.source)?;
     match words_of(alloc, command) {
         Ok(words) => {
-            let text = answer_from(alloc, disk, library, runner, &words, &mut source, failing);
+            let text = answer_from(
+                alloc,
+                disk,
+                library,
+                runner,
+                &words,
+                &mut source,
+                failing.sink,
+            );
             drop(words);
             drop(source);
             text
@@ -346,8 +387,27 @@ pub(crate) fn answer<D: Disk>(
     }
 }
 
+/// The same where the sink alone fails these calls.
+pub fn answer<D: Disk>(
+    alloc: Global,
+    disk: &mut D,
+    library: &mut MemoryLibrary,
+    runner: &mut ScriptedRunner,
+    command: &str,
+    document: &str,
+    failing: &[u64],
+) -> Result<String, Fail>
+    requires none { living_of runner.old ≡ [] }
+{
+    let failing = Failing {
+        source: &[],
+        sink: failing,
+    };
+    answer_failing(alloc, disk, library, runner, command, document, failing)
+}
+
 /// The same with a runner of its own, all of whose children run on.
-pub(crate) fn answer_alone<D: Disk>(
+pub fn answer_alone<D: Disk>(
     alloc: Global,
     disk: &mut D,
     library: &mut MemoryLibrary,
@@ -387,7 +447,7 @@ fn answer_over<D: Disk>(
 }
 
 /// The same of a call that is written in a few words, with this runner.
-pub(crate) fn call_with<D: Disk>(
+pub fn call_with<D: Disk>(
     alloc: Global,
     disk: &mut D,
     asked: Asked<'_>,
@@ -409,7 +469,7 @@ pub(crate) fn call_with<D: Disk>(
 }
 
 /// The same with a runner that plays the ends of the call.
-pub(crate) fn call<D: Disk>(alloc: Global, disk: &mut D, asked: Asked<'_>) -> Result<String, Fail> {
+pub fn call<D: Disk>(alloc: Global, disk: &mut D, asked: Asked<'_>) -> Result<String, Fail> {
     let mut runner = runner_of(alloc, asked.ends)?;
     let text = call_with(alloc, disk, asked, &mut runner);
     drop(runner);
@@ -429,7 +489,7 @@ fn init(alloc: Global, disk: &mut MemoryDisk) -> Result<(), Fail> {
 }
 
 /// A disk with a new store.
-pub(crate) fn begin(alloc: Global) -> Result<MemoryDisk, Fail> {
+pub fn begin(alloc: Global) -> Result<MemoryDisk, Fail> {
     let mut disk = MemoryDisk::new(alloc);
     match init(alloc, &mut disk) {
         Ok(()) => Ok(disk),
