@@ -1,7 +1,7 @@
 # Completion of nucleus(8) for bash: source it, or put it as `nucleus` into bash-completion's folder.
 _nucleus() {
     local word=${COMP_WORDS[COMP_CWORD]} before=${COMP_WORDS[COMP_CWORD - 1]}
-    local commands="init deploy local config-set resume status plan why config-get audit workload" command="" at options=""
+    local commands="init deploy local config-set resume serve status plan why config-get audit workload" command="" at options=""
     # bash splits a word at `=`.
     if [[ $before == "=" ]]; then
         before=${COMP_WORDS[COMP_CWORD - 2]}
@@ -23,6 +23,10 @@ _nucleus() {
             mapfile -t COMPREPLY < <(compgen -W "amd64 aarch64 arm x86" -- "$word")
             return
             ;;
+        --turns)
+            mapfile -t COMPREPLY < <(compgen -W "4294967295" -- "$word")
+            return
+            ;;
         --thing | --nucleus | --component | --pointer | --seed)
             return
             ;;
@@ -30,7 +34,7 @@ _nucleus() {
     # The command, if it stands already: a word that is none of an option's.
     for ((at = 1; at < COMP_CWORD; at++)); do
         case ${COMP_WORDS[at]} in
-            --root | --thing | --nucleus | --os | --arch | --component | --pointer | --seed)
+            --root | --thing | --nucleus | --os | --arch | --component | --pointer | --turns | --seed)
                 at=$((at + 1))
                 if [[ ${COMP_WORDS[at]} == "=" ]]; then
                     at=$((at + 1))
@@ -47,6 +51,7 @@ _nucleus() {
         init) options+=" --thing --nucleus --os --arch" ;;
         config-set) options+=" --component" ;;
         config-get) options+=" --component --pointer" ;;
+        serve) options+=" --turns" ;;
         workload) options+=" --seed" ;;
         status) options+=" --json" ;;
     esac
