@@ -1,5 +1,5 @@
 -- Known bytes that grow piece by piece.
-use Rattle.std.proofs.Common.{◌≡◌, ◌<◌, ℕ, zero, suc, get_or, ◌-◌, List, [], ◌∷◌, ◌++◌, length, take, drop, refl, sym, ◌∙◌, ap, arith, append_assoc}
+use Rattle.std.proofs.Common.{◌≡◌, ◌<◌, ℕ, zero, suc, get_or, ◌-◌, List, [], ◌∷◌, ◌++◌, length, take, drop, refl, sym, ◌∙◌, ap, arith, append_assoc, subst}
 use Rattle.std.proofs.Common.{length-drop, take-append-drop, Some, None, Result, Ok, Err}
 use Rattle.std.proofs.lemmas.List.{take_all, append-nil}
 use Rattle.std.specs.declared.option.Option.{Option}
@@ -39,6 +39,17 @@ front_more old mid new all before piece after is sent last = (
   where
     regroup : (a b c d : List ℕ) → (a ++ (b ++ c)) ++ d ≡ (a ++ b) ++ (c ++ d)
     regroup a b c d = simp append_assoc
+
+-- a front of the first part is one of the whole
+pub front_longer : (old new : Option (List ℕ)) (all first second : List ℕ) → all ≡ first ++ second → AppendsPrefix old new first → AppendsPrefix old new all
+front_longer old new all first second is h = (h.0, h.1 ++ second, is ∙ ap (λ (l : List ℕ). l ++ second) h.2 ∙ append_assoc h.0 h.1 second, h.3)
+
+-- one part, and then all that is left or a front of it
+pub written_on : {E : Type 0} (old mid new : Option (List ℕ)) (all first second : List ℕ) (result : Result (Unit {0}) E) → all ≡ first ++ second →
+    Appends old mid first → Writes mid new second result → Writes old new all result
+written_on old mid new all first second (Ok u) is one two = subst (Appends old new) (sym is) (appends_more old mid new first second one two)
+written_on old mid new all first second (Err e) is one two =
+    front_more old mid new all first second [] (is ∙ sym (append-nil (first ++ second))) one two
 
 -- a fault that `?` hands on
 pub handed_on : {E : Type 0} (old new : Option (List ℕ)) (bytes : List ℕ) (result : Result (Unit {0}) E) (fault : E) → IsErrAnd result (λ e. e ≡ fault) →

@@ -228,7 +228,8 @@ module _ (ms : List Member) (wanted : List Need) where
   explained_start f old new TooLarge h = h
   explained_start f old new (Because part) h = (rests_certified ms wanted [] part.used.items (seen part.why) h.0, λ e. (h.1 e).plain)
 
-  pub explains_plain : (part : Partial) → IsExplained ms wanted form.Plain 1024 (Because part) → HasUpTo 1024 (Because part) → Explains ms wanted (seen part.why)
+  pub explains_plain : (part : Partial) → IsExplained ms wanted form.Plain 1024 (Because part) →
+      HasUpTo 1024 (Because part) → Explains ms wanted (seen part.why)
   explains_plain part h le = record { certified = h.0; plain = λ s c few. h.1 refl; small = omega (arith, le) }
 
   pub explains_small : (f : Form) (part : Partial) → IsExplained ms wanted form.Plain 1024 TooLarge → IsExplained ms wanted f 65536 (Because part) →

@@ -1,17 +1,10 @@
 -- Texts that are written part by part.
-use Rattle.std.proofs.Common.{◌≡◌, ◌∙◌, ℕ, List, [], ◌++◌, Result, Ok, Err, sym, subst}
-use Rattle.std.proofs.lemmas.List.{append-nil}
+use Rattle.std.proofs.Common.{◌≡◌, ℕ, List, ◌++◌, Result}
 use Rattle.std.specs.declared.option.Option.{Option}
 use Rattle.std.specs.Result.{IsErrAnd}
 use Rattle.std.specs.Io.KnownBytes.{Appends}
 use Rattle.edges.specs.Pieces.{AppendsPrefix, Writes}
-use Rattle.edges.proofs.Sent.{appends_more, front_more, handed_on}
-
--- one part, and then all that is left or a front of it
-pub sent_on : {E : Type 0} (a b c : Option (List ℕ)) (all first second : List ℕ) (r : Result (Unit {0}) E) → all ≡ first ++ second → Appends a b first →
-    Writes b c second r → Writes a c all r
-sent_on a b c all first second (Ok u) is one two = subst (Appends a c) (sym is) (appends_more a b c first second one two)
-sent_on a b c all first second (Err e) is one two = front_more a b c all first second [] (is ∙ sym (append-nil (first ++ second))) one two
+use Rattle.edges.proofs.Sent.{front_more, handed_on}
 
 -- a fault within a part, which `?` hands on
 pub fault_within : {E : Type 0} (a b c : Option (List ℕ)) (all first part rest : List ℕ) (r : Result (Unit {0}) E) (fault : E) →

@@ -11,10 +11,13 @@ use Rattle.why_not.specs.Picks.{IsPicked}
 use Rattle.why_not.specs.declared.explaining.Found.TheVariants.{TooLarge, Because}
 use Rattle.why_not.specs.declared.why.Why.{Why, Split}
 use Rattle.why_not.proofs.Ends.{ended_valid}
-use Rattle.why_not.proofs.Finding.{tried_found, stands_with, left_out_found, plain_none, plain_more, beyond_split, split_found, uses_none, uses_more, uses_split, uses_later}
+use Rattle.why_not.proofs.Finding.{tried_found, stands_with, left_out_found, plain_none, plain_more, beyond_split, split_found}
+use Rattle.why_not.proofs.Finding.{uses_none, uses_more, uses_split, uses_later}
 use Rattle.why_not.proofs.Gathering.{gathers_start, gathers_skip, gathers_push}
 use Rattle.why_not.proofs.explaining.+explained.Goals as goal
-use Rattle.why_not.proofs.explaining.+explained.Goals.{explained-then-is_named+in_ok-part+in-Because+else-is_left_out+in_ok-add_others-in-Because+in_ok-push-in-Because}
+use Rattle.why_not.proofs.explaining.+explained.Goals.{
+  explained-then-is_named+in_ok-part+in-Because+else-is_left_out+in_ok-add_others-in-Because+in_ok-push-in-Because,
+}
 use Rattle.why_not.proofs.explaining.+explained.Goals.{explained-else-is_named}
 
 pub tried-explained-requires : goal.tried-explained-requires

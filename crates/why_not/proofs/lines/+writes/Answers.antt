@@ -1,11 +1,11 @@
 use Rattle.std.proofs.Common.{◌≡◌, ◌++◌, ◌+◌, ◌∙◌, [], List, ℕ, drop, arith, append_assoc, rules, subst}
 use Rattle.edges.specs.Pieces.{Writes}
-use Rattle.edges.proofs.Sent.{appends_more, appends_none}
+use Rattle.edges.proofs.Sent.{appends_more, appends_none, written_on}
 use Rattle.recipe_reader.specs.Members.{members}
 use Rattle.why_not.specs.Reasons.{seen, branches_seen}
 use Rattle.why_not.specs.Texts.{split_line, try_line, reason_lines, branch_lines, joined_lines}
 use Rattle.why_not.specs.declared.why.Why.{Why, the_lemmas}
-use Rattle.why_not.proofs.Sending.{sent_on, fault_within}
+use Rattle.why_not.proofs.Sending.{fault_within}
 use Rattle.why_not.proofs.Writing.{split_text, branch_text, branch_size}
 use Rattle.why_not.proofs.lines.+writes.Goals as goal
 
@@ -106,7 +106,7 @@ write_reason-returns-in_ok-write_split-in-Split-clause-bytes g t c =
     let ms = members c.args.candidates.now in
     let level = c.args.level in
     let v = c.in-Split.branches in
-    sent_on (g.K.Sink.held c.args.sink.now) (g.K.Sink.held c.write_split.new.sink) (g.K.Sink.held c.write_branches.new.sink)
+    written_on (g.K.Sink.held c.args.sink.now) (g.K.Sink.held c.write_split.new.sink) (g.K.Sink.held c.write_branches.new.sink)
     (joined_lines (reason_lines ms level (seen c.args.why.now))) (split_line level c.in-Split.name c.len.result)
     (joined_lines (branch_lines ms (level + 1) (branches_seen v.items))) c.write_branches.result
     (split_text ms level c.args.why.now c.in-Split.name v c.len.result c.in-Split.is (c.len.ensures ∙ v.ok.0)) c.in_ok-write_split-in-Split.ensures.bytes
