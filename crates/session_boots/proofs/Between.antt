@@ -5,19 +5,17 @@ use Rattle.std.proofs.Common.{◌≡◌, ◌≤◌, ◌∙◌, inl, inr, refl, s
 use Rattle.nuc_base.specs.declared.kinds.Exit.{Exit}
 use Rattle.nuc_base.specs.declared.kinds.Step.{Step}
 use Rattle.device.specs.Devices.{Device}
-use Rattle.device.specs.declared.staged.Stage.TheVariants as stages
-use Rattle.deploy_state.specs.States.{IsIn}
 use Rattle.step_runner.specs.Entries.{Told}
 use Rattle.components.specs.Components.{Components, Child, owner, is_stopped}
 use Rattle.components.specs.Events.{later}
 use Rattle.components.specs.declared.kinds.Prepared.{Prepared}
-use Rattle.histories.specs.Phases.{Duty, duty_of}
+use Rattle.histories.specs.Phases.{Duty, duty_of, has_boots}
 use Rattle.histories.specs.States.{SessionState}
 use Rattle.histories.specs.Follows.{Lives, MayBoot}
 use Rattle.session_boots.specs.Made.{IsTurn}
 use Rattle.session_boots.specs.Stands.{IsAtBootStage}
 use Rattle.session_boots.specs.Steps.{HasEnd, IsEnded, MayStep}
-use Rattle.session_boots.proofs.Duties.{boots_phase, in_turn}
+use Rattle.session_boots.proofs.Duties.{duty_origin, duty_phase, in_turn}
 use Rattle.session_boots.proofs.Entries.{still_later}
 use Rattle.session_boots.proofs.Still.{no_owner}
 
@@ -47,16 +45,16 @@ contains_none n h = omega (arith, h.1)
 -- ---- the run
 
 pub may_step : (p : SessionState) (d : Device) (world : Components) (told : Told) (living : List ℕ) (m : Prepared) → IsAtBootStage p d world told living →
-    IsIn stages.Booting d → IsTurn d m → (duty_of d).begun ≡ true → MayStep p m told
-may_step p d world told living m f is t begun =
+    IsTurn d m → (duty_of d).begun ≡ true → MayStep p m told
+may_step p d world told living m f t begun =
     let same = f.between.stands.device_is in
-    let turn = in_turn d t.name is t.turn in
+    let turn = in_turn d t.name t.turn in
     let back : duty_of d ≡ duty_of p.device = ap (λ (x : Device). duty_of x) (sym same) in
     let may : MayBoot (duty_of d) p m = record {
-      phase = boots_phase d is;
+      phase = ap (λ (x : Duty). has_boots x.phase) turn.duty ∙ duty_phase d turn.q turn.has;
       begun = begun;
       origin = t.origin;
-      of_device = ap (λ (x : Duty). x.origin) turn.duty ∙ t.of_device;
+      of_device = ap (λ (x : Duty). x.origin) turn.duty ∙ duty_origin d turn.q turn.has ∙ t.of_device;
       at = t.of.at;
       item = t.of.item;
       there = t.of.there;

@@ -15,4 +15,5 @@ pub mod Limits
 pub mod Alone
 pub mod Ending
 pub mod Restarts
+pub mod Staged
 pub mod Same

@@ -12,8 +12,6 @@ use Rattle.device.specs.Lawful.{Allowed, applied, goes_on}
 use Rattle.device.specs.Standing.{StandsFor}
 use Rattle.deploy_state.specs.Fields.{IsBegun}
 use Rattle.deploy_state.specs.Owned.{LeavesEither}
-use Rattle.deploy_state.specs.States.{IsIn}
-use Rattle.device.specs.declared.staged.Stage.TheVariants as stages
 use Rattle.step_runner.specs.Entries.{Told}
 use Rattle.step_runner.specs.declared.entries.RunnerEntry.{RunnerEntry}
 use Rattle.components.specs.Components.{Components}
@@ -123,11 +121,10 @@ over_ended p d e exit name device same =
 same_line : (d e : Device) (name : List ℕ) (exit : Exit) → id_of e ≡ id_of d → line_of e (stored.BootEnded name exit) ≡ line_of d (stored.BootEnded name exit)
 same_line d e name exit same = ap (λ (id : List ℕ). if goes_on exit then [] else failed_line id name steps.Bootstrap exit) same
 
-pub line_ended : (p : SessionState) (d e : Device) (name : List ℕ) (exit : Exit) → IsIn stages.Booting d → p.device ≡ d →
-    e ≡ applied d (stored.BootEnded name exit)
+pub line_ended : (p : SessionState) (d e : Device) (name : List ℕ) (exit : Exit) → p.device ≡ d → e ≡ applied d (stored.BootEnded name exit)
     → line_of e (stored.BootEnded name exit) ≡ lines_of p.device (records_of (Recorded (stored.BootEnded name exit) ∷ []))
-line_ended p d e name exit is device same =
-    same_line p.device e name exit (ap id_of same ∙ same_id d name exit is ∙ ap id_of (sym device)) ∙ sym
+line_ended p d e name exit device same =
+    same_line p.device e name exit (ap id_of same ∙ same_id d name exit ∙ ap id_of (sym device)) ∙ sym
     (append-nil (line_of p.device (stored.BootEnded name exit)))
 
 -- ---- over a disk

@@ -1,24 +1,21 @@
 -- The bootstraps of a stage, one after another: which comes next, and that they run out.
-use Rattle.std.specs.Prelude.{ℕ, ◌+◌, ◌-◌, Bool, true, false, List, Option, Some, None, length, option_map, slice_get, is_none, ◌||◌, if◌then◌else◌}
+use Rattle.std.specs.Prelude.{ℕ, ◌+◌, ◌-◌, Bool, true, false, List, [], Option, Some, None, length, option_map, slice_get, is_none, ◌||◌, ◌⊎◌, if◌then◌else◌}
 use Rattle.std.specs.Option.{IfSome, IsSomeAnd, option_map_or}
-use Rattle.std.proofs.Common.{◌≡◌, ◌<◌, ◌∙◌, refl, sym, ap, subst, arith}
+use Rattle.std.proofs.Common.{◌≡◌, ◌<◌, ◌∙◌, inl, inr, refl, sym, ap, subst, arith}
 use Rattle.std.proofs.lemmas.Option.{slice_get_within}
 use Rattle.nuc_base.specs.declared.kinds.Exit.{Exit}
-use Rattle.records.specs.Stored.{Plan}
 use Rattle.records.specs.declared.record.Origin.{Origin}
 use denote.Bor.{Bor}
 use Rattle.device.specs.Devices.{Device, Pending, device_view, pending_view}
 use Rattle.device.specs.declared.device.Device as code
 use Rattle.device.specs.declared.staged.Pending as code_pending
-use Rattle.device.specs.Lawful.{begun, boot_ended, goes_on, next_boot, on_pending}
-use Rattle.device.specs.declared.staged.Stage.TheVariants as stages
+use Rattle.device.specs.Lawful.{begun, boot_ended, boots_of, goes_on, has_gone_back, next_boot, on_pending, one_ended}
 use Rattle.deploy_state.specs.Fields.{has_failed, next_name}
-use Rattle.deploy_state.specs.States.{IsIn}
 use Rattle.components.specs.declared.kinds.Prepared.{Prepared}
-use Rattle.histories.specs.Phases.{Duty, duty_of}
-use Rattle.session_boots.specs.Made.{AreBootsOf, AreMade, IsBootOf, IsTurn}
+use Rattle.histories.specs.Phases.{duty_in, duty_of}
+use Rattle.session_boots.specs.Made.{AreBootsOf, AreMadeFor, AreStageBoots, IsBootOf, IsTurn, boot_items}
 use Rattle.session_boots.specs.Turns.{Turns, steps_left}
-use Rattle.session_boots.proofs.Duties.{InTurn, duty_booting, ended_is, ended_so, in_turn, made_turn, pends, same_plan}
+use Rattle.session_boots.proofs.Duties.{HasBoots, HasNone, InTurn, duty_turn, ended_so, has_some, in_turn, made_turn, no_turn, none_next, pends}
 
 -- ---- which comes next
 
@@ -34,22 +31,22 @@ some_origin : (P : Origin → Type 0) (x : Option Origin) → IsSomeAnd x P → 
 some_origin P None h = absurd h
 some_origin P (Some o) h = (o, refl)
 
-origin_of : (d : Device) (name : List ℕ) (made : List Prepared) (t : InTurn d name) → AreMade d made → (o : Origin) × (d.origin ≡ Some o)
+origin_of : (d : Device) (name : List ℕ) (made : List Prepared) (t : InTurn d name) → AreStageBoots d made → (o : Origin) × (d.origin ≡ Some o)
 origin_of d name made t are =
-    let here = subst (λ (x : Option Pending). IfSome x (λ q. IsSomeAnd d.origin (λ o. AreBootsOf o q.plan.items q.plan.boots made))) t.pending are in
-    some_origin (λ o. AreBootsOf o t.q.plan.items t.q.plan.boots made) d.origin here
+    let here = subst (λ (x : Option Pending). IfSome x (λ q. AreMadeFor d q made)) t.pending are in
+    some_origin (λ o. AreBootsOf o (boot_items d t.q) (boots_of t.q) made) d.origin here
 
-pub turn_made : (d : Device) (name : List ℕ) (made : List Prepared) (m : Prepared) (t : InTurn d name) → (duty_of d).turn ≡ Some name → AreMade d made →
+turn_made : (d : Device) (name : List ℕ) (made : List Prepared) (m : Prepared) (t : InTurn d name) → (duty_of d).turn ≡ Some name → AreStageBoots d made →
     slice_get made t.q.ended ≡ Some m → IsTurn d m
 turn_made d name made m t turn are there =
     let o = origin_of d name made t are in
-    let of = subst (λ (x : Option Prepared). IsSomeAnd x (IsBootOf o.0 t.q.plan.items name)) there (made_turn d name made t o.0 o.1 are) in
-    record { origin = o.0; of_device = o.1; name = name; turn = turn; of = subst (λ (x : Duty). IsBootOf o.0 x.boots name m) (sym t.duty) of }
+    let of = subst (λ (x : Option Prepared). IsSomeAnd x (IsBootOf o.0 (duty_of d).boots name)) there (made_turn d name made t o.0 o.1 are) in
+    record { origin = o.0; of_device = o.1; name = name; turn = turn; of = of }
 
-pub turn_not_made : (d : Device) (name : List ℕ) (made : List Prepared) (t : InTurn d name) → AreMade d made → slice_get made t.q.ended ≡ None → ⊥
+turn_not_made : (d : Device) (name : List ℕ) (made : List Prepared) (t : InTurn d name) → AreStageBoots d made → slice_get made t.q.ended ≡ None → ⊥
 turn_not_made d name made t are none =
     let o = origin_of d name made t are in
-    subst (λ (x : Option Prepared). IsSomeAnd x (IsBootOf o.0 t.q.plan.items name)) none (made_turn d name made t o.0 o.1 are)
+    subst (λ (x : Option Prepared). IsSomeAnd x (IsBootOf o.0 (duty_of d).boots name)) none (made_turn d name made t o.0 o.1 are)
 
 -- what the code looks up stands at the place of the turn
 place_told : (x : code.Device) (q : code_pending.Pending) (d : Device) (name : List ℕ) (t : InTurn d name) → device_view x ≡ d → x.pending ≡ Some q →
@@ -60,13 +57,13 @@ place_told x q d name t view is =
 
 module _ (x : code.Device) (q : code_pending.Pending) (d : Device) (made : List Prepared) (r : Option (Bor Prepared)) (view : device_view x ≡ d)
     (pending : x.pending ≡ Some q)
-    (is : IsIn stages.Booting d) (are : AreMade d made) (some : is_none (duty_of d).turn ≡ false)
+    (are : AreStageBoots d made) (some : is_none (duty_of d).turn ≡ false)
     (there : option_map (λ (m : Bor Prepared). m.now) r ≡ slice_get made q.ended) where
   abbrev name_is : (name : List ℕ) × ((duty_of d).turn ≡ Some name)
   name_is = some_name (duty_of d).turn some
 
   abbrev turn_is : InTurn d name_is.0
-  turn_is = in_turn d name_is.0 is name_is.1
+  turn_is = in_turn d name_is.0 name_is.1
 
   at_turn : slice_get made turn_is.q.ended ≡ option_map (λ (m : Bor Prepared). m.now) r
   at_turn = ap (λ (n : ℕ). slice_get made n) (place_told x q d name_is.0 turn_is view pending) ∙ sym there
@@ -86,14 +83,22 @@ either : (b : Bool) (o : Option (List ℕ)) → (b || is_none o) ≡ is_none (if
 either true o = refl
 either false o = refl
 
+neither : (b : Bool) (o : Option (List ℕ)) → o ≡ None → (b || is_none o) ≡ true
+neither true o is = refl
+neither false o is = ap (λ (x : Option (List ℕ)). is_none x) is
+
 -- whether none comes next
-pub through_is : (d : Device) → IsIn stages.Booting d → (has_failed d || is_none (next_name d)) ≡ is_none (duty_of d).turn
-through_is d is = by d.pending is
+pub through_is : (d : Device) → (has_failed d || is_none (next_name d)) ≡ is_none (duty_of d).turn
+through_is d = by d.pending
   where
-    by : (o : Option Pending) → IsSomeAnd o (λ q. q.stage ≡ stages.Booting) → (has_failed (pends d o) || is_none (next_name (pends d o))) ≡ is_none
-        (duty_of (pends d o)).turn
-    by None h = absurd h
-    by (Some q) h = either q.boot_failed (next_boot q) ∙ sym (ap (λ (x : Duty). is_none x.turn) (duty_booting (pends d (Some q)) q h))
+    in_stage : (e : Device) (q : Pending) → HasBoots q ⊎ HasNone q → (q.boot_failed || is_none (next_boot q)) ≡ is_none (duty_in e q).turn
+    in_stage e q (inl has) = either q.boot_failed (next_boot q) ∙ sym (ap (λ (x : Option (List ℕ)). is_none x) (duty_turn e q has))
+    in_stage e q (inr none) =
+        neither q.boot_failed (next_boot q) (none_next q none) ∙ sym (ap (λ (x : Option (List ℕ)). is_none x) (no_turn e q none))
+
+    by : (o : Option Pending) → (has_failed (pends d o) || is_none (next_name (pends d o))) ≡ is_none (duty_of (pends d o)).turn
+    by None = refl
+    by (Some q) = in_stage (pends d (Some q)) q (has_some q)
 
 -- ---- one after another
 
@@ -103,39 +108,52 @@ turned exit d = on_pending (boot_ended exit) (on_pending begun d)
 turned_is : (d e : Device) (exit : Exit) → Turns d exit e → e ≡ turned exit d
 turned_is d e exit t = t.2.2 ∙ ap (λ (x : Device). on_pending (boot_ended exit) x) t.1.2
 
-pub made_on : (d e : Device) (exit : Exit) (made : List Prepared) → IsIn stages.Booting d → Turns d exit e → AreMade d made → AreMade e made
-made_on d e exit made is t are = subst (λ (x : Device). AreMade x made) (sym (turned_is d e exit t)) (by d.pending is are)
+none_made : (made : List Prepared) (x : Option Origin) (P : Origin → Type 0) → IsSomeAnd x P → IsSomeAnd x (λ o. AreBootsOf o [] [] made)
+none_made made None P h = absurd h
+none_made made (Some o) P h = λ k name there. absurd cc
+
+made_ended : (d : Device) (made : List Prepared) (goes gone : Bool) (q : Pending) → AreMadeFor d q made → AreMadeFor d (ended_so goes gone q) made
+made_ended d made true true q are = none_made made d.origin (λ o. AreBootsOf o (boot_items d q) (boots_of q) made) are
+made_ended d made true false q are = are
+made_ended d made false gone q are = are
+
+pub made_on : (d e : Device) (exit : Exit) (made : List Prepared) → Turns d exit e → AreStageBoots d made → AreStageBoots e made
+made_on d e exit made t are = subst (λ (x : Device). AreStageBoots x made) (sym (turned_is d e exit t)) (by d.pending are)
   where
-    by : (o : Option Pending) → IsSomeAnd o (λ q. q.stage ≡ stages.Booting) → AreMade (pends d o) made → AreMade (turned exit (pends d o)) made
-    by None h a = absurd h
-    by (Some q) h a =
-        let plan = ap (λ (x : Pending). x.plan) (ended_is exit (begun q) h) ∙ same_plan (goes_on exit) (begun q) in
-        subst (λ (x : Plan). IsSomeAnd d.origin (λ o. AreBootsOf o x.items x.boots made)) (sym plan) a
+    by : (o : Option Pending) → AreStageBoots (pends d o) made → AreStageBoots (turned exit (pends d o)) made
+    by None a = tt
+    by (Some q) a = made_ended d made (goes_on exit) (has_gone_back (one_ended (begun q))) (begun q) a
+
+abbrev left_by : Bool → ℕ → ℕ → ℕ
+left_by failed all ended = if failed then 0 else 1 + (all - ended)
 
 abbrev left_in : Pending → ℕ
-left_in q = if q.boot_failed then 0 else 1 + (length q.plan.boots - q.ended)
+left_in q = left_by q.boot_failed (length (boots_of q)) q.ended
 
-fewer_in : (b : Bool) (q : Pending) → q.boot_failed ≡ false → q.ended < length q.plan.boots → left_in (ended_so b (begun q)) < left_in q
-fewer_in true q failed lt = rw failed (omega (arith, lt))
-fewer_in false q failed lt = rw failed (omega arith)
+one_less : (failed : Bool) (all ended : ℕ) → failed ≡ false → ended < all → left_by failed all (ended + 1) < left_by failed all ended
+one_less failed all ended is lt = rw is (omega (arith, lt))
 
-within : (q : Pending) (name : List ℕ) → q.stage ≡ stages.Booting → next_boot q ≡ Some name → q.ended < length q.plan.boots
-within q name is next = slice_get_within q.plan.boots q.ended name (at_place q is ∙ next)
-  where
-    at_place : (q : Pending) → q.stage ≡ stages.Booting → slice_get q.plan.boots q.ended ≡ next_boot q
-    at_place q is = rw is refl
+none_less : (failed : Bool) (all ended : ℕ) → failed ≡ false → ended < all → left_by failed 0 (ended + 1) < left_by failed all ended
+none_less failed all ended is lt = rw is (omega (arith, lt))
 
-pub fewer : (d e : Device) (exit : Exit) → IsIn stages.Booting d → Turns d exit e → steps_left e < steps_left d
-fewer d e exit is t =
-    let n = in_turn d t.1.0 is t.1.1 in
+no_more : (failed : Bool) (all ended : ℕ) → failed ≡ false → 0 < left_by failed all ended
+no_more failed all ended is = rw is (omega arith)
+
+fewer_ended : (goes gone : Bool) (q : Pending) → q.boot_failed ≡ false → q.ended < length (boots_of q) → left_in (ended_so goes gone q) < left_in q
+fewer_ended true true q failed lt = none_less q.boot_failed (length (boots_of q)) q.ended failed lt
+fewer_ended true false q failed lt = one_less q.boot_failed (length (boots_of q)) q.ended failed lt
+fewer_ended false gone q failed lt = no_more q.boot_failed (length (boots_of q)) q.ended failed
+
+pub fewer : (d e : Device) (exit : Exit) → Turns d exit e → steps_left e < steps_left d
+fewer d e exit t =
+    let n = in_turn d t.1.0 t.1.1 in
     subst (λ (x : Device). steps_left x < steps_left d) (sym (turned_is d e exit t))
-    (by d.pending n.q n.pending n.stage n.failed (within n.q t.1.0 n.stage n.next))
+    (by d.pending n.q n.pending n.failed (slice_get_within (boots_of n.q) n.q.ended t.1.0 n.next))
   where
-    by : (o : Option Pending) (q : Pending) → o ≡ Some q → q.stage ≡ stages.Booting → q.boot_failed ≡ false → q.ended < length q.plan.boots →
+    by : (o : Option Pending) (q : Pending) → o ≡ Some q → q.boot_failed ≡ false → q.ended < length (boots_of q) →
         steps_left (turned exit (pends d o)) < steps_left (pends d o)
-    by None q same h failed lt = absurd cc
-    by (Some p) q same h failed lt =
+    by None q same failed lt = absurd cc
+    by (Some p) q same failed lt =
         let is : p ≡ q = cc in
-        let less : left_in (boot_ended exit (begun q)) < left_in q = subst (λ (x : Pending). left_in x < left_in q) (sym (ended_is exit (begun q) h))
-        (fewer_in (goes_on exit) q failed lt) in
-        subst (λ (x : Pending). left_in (boot_ended exit (begun x)) < left_in x) (sym is) less
+        subst (λ (x : Pending). left_in (boot_ended exit (begun x)) < left_in x) (sym is)
+        (fewer_ended (goes_on exit) (has_gone_back (one_ended (begun q))) (begun q) failed lt)

@@ -2,6 +2,7 @@ pub mod Lines
 pub mod Traces
 pub mod Ends
 pub mod Made
+pub mod Staged
 pub mod Stands
 pub mod Steps
 pub mod Turns

@@ -1,10 +1,12 @@
 -- The bootstrap steps of a pending deployment, as they were made ready.
-use Rattle.std.specs.Prelude.{◌≡◌, ℕ, List, Some, slice_get}
+use Rattle.std.specs.Prelude.{◌≡◌, ℕ, List, [], Some, slice_get}
 use Rattle.std.specs.Option.{IfSome, IsSomeAnd}
 use Rattle.nuc_base.specs.declared.kinds.Step.TheVariants as step
 use Rattle.records.specs.Stored.{Item}
 use Rattle.records.specs.declared.record.Origin.{Origin}
-use Rattle.device.specs.Devices.{Device}
+use Rattle.device.specs.Devices.{Device, Pending}
+use Rattle.device.specs.Lawful.{boots_of}
+use Rattle.device.specs.declared.staged.Stage.TheVariants as stages
 use Rattle.components.specs.Made.{IsStepAt}
 use Rattle.components.specs.declared.kinds.Prepared.{Prepared}
 use Rattle.histories.specs.Phases.{duty_of}
@@ -24,6 +26,21 @@ AreBootsOf origin items names made = (k : ℕ) (name : List ℕ) → slice_get n
 -- the bootstrap steps of the pending plan, by their places
 abbrev pub AreMade : Device → List Prepared → Type 0
 AreMade d made = IfSome d.pending (λ q. IsSomeAnd d.origin (λ o. AreBootsOf o q.plan.items q.plan.boots made))
+
+-- the bootstrap steps of the set that run again, by their places among these
+abbrev pub AreMadeAgain : Device → List Prepared → Type 0
+AreMadeAgain d made = IfSome d.pending (λ q. IsSomeAnd d.origin (λ o. AreBootsOf o d.set q.backs made))
+
+-- the items among which the bootstraps of the stage are
+abbrev pub boot_items : Device → Pending → List Item
+boot_items d q = elim q.stage [ stages.Booting ↦ q.plan.items | stages.Activating ↦ [] | stages.Backing ↦ d.set | stages.Rolling ↦ [] ]
+
+abbrev pub AreMadeFor : Device → Pending → List Prepared → Type 0
+AreMadeFor d q made = IsSomeAnd d.origin (λ o. AreBootsOf o (boot_items d q) (boots_of q) made)
+
+-- the bootstrap steps of the stage, by their places
+abbrev pub AreStageBoots : Device → List Prepared → Type 0
+AreStageBoots d made = IfSome d.pending (λ q. AreMadeFor d q made)
 
 -- this bootstrap step comes next, and no one before it failed
 pub record IsTurn (d : Device) (made : Prepared) : Type 0 where

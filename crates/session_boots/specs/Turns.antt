@@ -4,7 +4,7 @@ use Rattle.std.specs.Option.{option_map_or}
 use Rattle.nuc_base.specs.declared.kinds.Exit.{Exit}
 use Rattle.records.specs.Stored.{BootBegun, BootEnded}
 use Rattle.device.specs.Devices.{Device}
-use Rattle.device.specs.Lawful.{applied}
+use Rattle.device.specs.Lawful.{applied, boots_of}
 use Rattle.histories.specs.Phases.{duty_of}
 
 -- the one whose turn it is begins; where it was begun before, nothing changes
@@ -21,4 +21,4 @@ Turns d exit e = (begun : Device) × Begins d begun × Ends begun exit e
 
 -- so many steps are left at most; none is after one that failed
 abbrev pub steps_left : Device → ℕ
-steps_left d = option_map_or (λ q. if q.boot_failed then 0 else 1 + (length q.plan.boots - q.ended)) d.pending 0
+steps_left d = option_map_or (λ q. if q.boot_failed then 0 else 1 + (length (boots_of q) - q.ended)) d.pending 0

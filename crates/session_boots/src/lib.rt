@@ -1,4 +1,5 @@
-//! The bootstraps of a plan, one after another: the calls that run them, keep their records and print their lines.
+//! The bootstraps of a plan, and on the way back those of the set again, one after another: the calls that run them, keep
+//! their records and print their lines.
 //!
 //! It promises that what happens in each of its calls is a history that `histories` allows, that at every moment each image
 //! that a crash may leave stands for the device that a prefix of its records gives, and that the lines are those of the
@@ -9,11 +10,11 @@
 mod boots;
 mod ends;
 mod lines;
+mod stage;
 mod steps;
 mod turns;
 
-pub use boots::{restart_of, run_boots, step_at};
+pub use boots::{run_boots, run_rollback_boots};
 pub use ends::{Booted, SessionFault};
-pub use lines::{acknowledge, tell_exit, tell_failed_boot};
+pub use lines::{acknowledge, tell_exit};
 pub use steps::{probes, run_step};
-pub use turns::goes_on;

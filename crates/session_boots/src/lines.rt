@@ -39,7 +39,7 @@ pub fn tell_exit<K: Sink>(sink: &mut K, exit: Exit) -> Result<(), EdgeFault>
 }
 
 /// Prints that the bootstrap step of a component failed.
-pub fn tell_failed_boot<K: Sink>(
+pub(crate) fn tell_failed_boot<K: Sink>(
     sink: &mut K,
     id: &Label,
     name: &Name,

@@ -3,7 +3,7 @@ ghost use Rattle.std.specs.Prelude.{◌≡◌, ◌≤◌, [], ℕ, List, true, f
 ghost use Rattle.nuc_base.specs.Faults.{HasCause, Rose};
 ghost use Rattle.device.specs.Lawful.{goes_on};
 ghost use Rattle.deploy_state.specs.Fields.{CanBegin, next_name};
-ghost use Rattle.deploy_state.specs.States.{OwnsBooting, booting_device};
+ghost use Rattle.deploy_state.specs.States.{device_of};
 ghost use Rattle.edges.specs.Pieces.{Writes};
 ghost use Rattle.records.specs.Stored.{BootEnded};
 ghost use Rattle.step_runner.specs.Entries.{Told};
@@ -15,18 +15,18 @@ ghost use Rattle.histories.specs.States.{SessionState, state_after};
 ghost use Rattle.session_boots.specs.Booted.{BootTurnLeft};
 ghost use Rattle.session_boots.specs.Lines.{line_of, lines_of};
 ghost use Rattle.session_boots.specs.Made.{IsTurn};
+ghost use Rattle.session_boots.specs.Staged.{OwnsStage};
 ghost use Rattle.session_boots.specs.Ends.{IsOne, Lines};
 ghost use Rattle.session_boots.specs.Stands.{IsAtBootStage};
 ghost use Rattle.session_boots.specs.Steps.{HasEnd};
 ghost use Rattle.session_boots.specs.Turns.{Begins, Ends, Turns};
 ghost use Rattle.session_boots.specs.Stages.{AsTold, HasTrace, Holds, IsTraceOver, KeepsOthers, LeftOver};
-ghost use Rattle.session_boots.specs.Stages.{AsTold, HasTrace, Holds, IsTraceOver, KeepsOthers, LeftOver};
 
 use crate::ends::SessionFault;
 use crate::lines::tell_failed_boot;
+use crate::stage::BootStage;
 use crate::steps::run_step;
 use components::Prepared;
-use deploy_state::Booting;
 use disk_model::Disk;
 use edges::{EdgeFault, Sink};
 use gate_log::Journal;
@@ -35,20 +35,21 @@ use recipe_reader::recipe_laws;
 use step_runner::Runner;
 
 /// Records that the step begins whose turn it is.
-fn begin<D: Disk, J: Journal + Drop>(
-    state: Booting<J>,
+fn begin<S: BootStage<J>, D: Disk, J: Journal + Drop>(
+    state: S,
     disk: &mut D,
-) -> Result<Booting<J>, SessionFault>
-    requires held { Holds D.Disk J.Journal OwnsBooting state disk.old }
-    requires may { CanBegin (booting_device state) }
+) -> Result<S, SessionFault>
+    requires held { Holds D.Disk J.Journal (OwnsStage S.hand S.is_staged) state disk.old }
+    requires may { CanBegin (device_of (S.hand state)) }
     // Where it gives up, no child lives.
-    ensures trace { (p : SessionState) → (world : Components) → (told : Told) → (living : List ℕ) → IsAtBootStage p (booting_device state) world told living →
-        (h : List TraceEvent) × IsTraceOver D.Disk J.Journal disk.old disk.new told.list told.list p h
+    ensures trace { (p : SessionState) → (world : Components) → (told : Told) → (living : List ℕ) →
+        IsAtBootStage p (device_of (S.hand state)) world told living → (h : List TraceEvent)
+        × IsTraceOver D.Disk J.Journal disk.old disk.new told.list told.list p h
         × (lines_of p.device (records_of h) ≡ [])
-        × LeftOver D.Disk J.Journal disk.new p h (λ s q. IsAtBootStage q (booting_device s) world told living) result
+        × LeftOver D.Disk J.Journal disk.new p h (λ s q. IsAtBootStage q (device_of (S.hand s)) world told living) result
         × OnErr result (IsBare (state_after p h)) × OnErr result (IsOne (records_of h)) }
-    ensures begins { IfOk result (λ s. Begins (booting_device state) (booting_device s)) }
-    ensures held { IfOk result (λ s. Holds D.Disk J.Journal OwnsBooting s disk.new) }
+    ensures begins { IfOk result (λ s. Begins (device_of (S.hand state)) (device_of (S.hand s))) }
+    ensures held { IfOk result (λ s. Holds D.Disk J.Journal (OwnsStage S.hand S.is_staged) s disk.new) }
     ensures others { KeepsOthers D.Disk J.Journal disk.old disk.new }
     ensures disk { IsErrOf result SessionFault.Disk → Rose (D.faults disk.old) (D.faults disk.new) }
     ensures edge { IsErrOf result SessionFault.Edge → ⊥ }
@@ -62,7 +63,7 @@ fn begin<D: Disk, J: Journal + Drop>(
 }
 
 /// Whether the end is no failure.
-pub fn goes_on(exit: Exit) -> bool
+fn goes_on(exit: Exit) -> bool
     ensures { result ≡ goes_on exit }
 {
     match exit {
@@ -72,13 +73,14 @@ pub fn goes_on(exit: Exit) -> bool
 }
 
 /// Prints the line of the end that was recorded, where it is a failure.
-fn tell_end<J: Journal + Drop, K: Sink>(
-    state: &Booting<J>,
+fn tell_end<S: BootStage<J>, J: Journal + Drop, K: Sink>(
+    state: &S,
     sink: &mut K,
     exit: Exit,
 ) -> Result<(), EdgeFault>
-    ensures line { (name : List ℕ) → (goes_on exit ≡ false → next_name (booting_device state.now) ≡ Some name) →
-        Writes (K.held sink.old) (K.held sink.new) (line_of (booting_device state.now) (BootEnded name exit)) result }
+    requires staged { S.is_staged state.now }
+    ensures line { (name : List ℕ) → (goes_on exit ≡ false → next_name (device_of (S.hand state.now)) ≡ Some name) →
+        Writes (K.held sink.old) (K.held sink.new) (line_of (device_of (S.hand state.now)) (BootEnded name exit)) result }
     ensures cause { HasCause (K.faults sink.old) (K.faults sink.new) result }
     ensures quiet { OnOk result (K.faults sink.new ≡ K.faults sink.old) }
 {
@@ -95,23 +97,24 @@ fn tell_end<J: Journal + Drop, K: Sink>(
 }
 
 /// Records how the step ended that was begun, and prints its line.
-fn end<D: Disk, J: Journal + Drop, K: Sink>(
-    state: Booting<J>,
+fn end<S: BootStage<J>, D: Disk, J: Journal + Drop, K: Sink>(
+    state: S,
     disk: &mut D,
     sink: &mut K,
     exit: Exit,
-) -> Result<Booting<J>, SessionFault>
-    requires held { Holds D.Disk J.Journal OwnsBooting state disk.old }
-    requires turn { is_some (duty_of (booting_device state)).turn ≡ true }
-    requires begun { (duty_of (booting_device state)).begun ≡ true }
+) -> Result<S, SessionFault>
+    requires held { Holds D.Disk J.Journal (OwnsStage S.hand S.is_staged) state disk.old }
+    requires turn { is_some (duty_of (device_of (S.hand state))).turn ≡ true }
+    requires begun { (duty_of (device_of (S.hand state))).begun ≡ true }
     // Where it gives up, no child lives.
-    ensures trace { (p : SessionState) → (world : Components) → (told : Told) → (living : List ℕ) → HasEnd p (booting_device state) exit world told living →
-        (h : List TraceEvent) × IsTraceOver D.Disk J.Journal disk.old disk.new told.list told.list p h
+    ensures trace { (p : SessionState) → (world : Components) → (told : Told) → (living : List ℕ) →
+        HasEnd p (device_of (S.hand state)) exit world told living → (h : List TraceEvent)
+        × IsTraceOver D.Disk J.Journal disk.old disk.new told.list told.list p h
         × Lines (K.held sink.old) (K.held sink.new) p.device (records_of h) result
-        × LeftOver D.Disk J.Journal disk.new p h (λ s q. BootTurnLeft exit (records_of h) q (booting_device s) world told living) result
+        × LeftOver D.Disk J.Journal disk.new p h (λ s q. BootTurnLeft exit (records_of h) q (device_of (S.hand s)) world told living) result
         × OnErr result (IsBare (state_after p h)) }
-    ensures ends { IfOk result (λ s. Ends (booting_device state) exit (booting_device s)) }
-    ensures held { IfOk result (λ s. Holds D.Disk J.Journal OwnsBooting s disk.new) }
+    ensures ends { IfOk result (λ s. Ends (device_of (S.hand state)) exit (device_of (S.hand s))) }
+    ensures held { IfOk result (λ s. Holds D.Disk J.Journal (OwnsStage S.hand S.is_staged) s disk.new) }
     ensures others { KeepsOthers D.Disk J.Journal disk.old disk.new }
     ensures disk { IsErrOf result SessionFault.Disk → Rose (D.faults disk.old) (D.faults disk.new) }
     ensures edge { IsErrOf result SessionFault.Edge → Rose (K.faults sink.old) (K.faults sink.new) }
@@ -132,24 +135,24 @@ fn end<D: Disk, J: Journal + Drop, K: Sink>(
 }
 
 /// Runs the bootstrap step whose turn it is to its recorded end.
-pub(crate) fn run_turn<D: Disk, J: Journal + Drop, K: Sink, R: Runner>(
-    state: Booting<J>,
+pub(crate) fn run_turn<S: BootStage<J>, D: Disk, J: Journal + Drop, K: Sink, R: Runner>(
+    state: S,
     step: &Prepared,
     disk: &mut D,
     sink: &mut K,
     runner: &mut R,
-) -> Result<(Booting<J>, Exit), SessionFault>
-    requires held { Holds D.Disk J.Journal OwnsBooting state disk.old }
-    requires turn { IsTurn (booting_device state) step.now }
-    requires placed { (p : SessionState) × (world : Components) × AsTold R.Runner runner.old (IsAtBootStage p (booting_device state) world) }
+) -> Result<(S, Exit), SessionFault>
+    requires held { Holds D.Disk J.Journal (OwnsStage S.hand S.is_staged) state disk.old }
+    requires turn { IsTurn (device_of (S.hand state)) step.now }
+    requires placed { (p : SessionState) × (world : Components) × AsTold R.Runner runner.old (IsAtBootStage p (device_of (S.hand state)) world) }
     // Where it gives up, no child lives.
-    ensures trace { (p : SessionState) → (world : Components) → AsTold R.Runner runner.old (IsAtBootStage p (booting_device state) world) →
+    ensures trace { (p : SessionState) → (world : Components) → AsTold R.Runner runner.old (IsAtBootStage p (device_of (S.hand state)) world) →
         HasTrace D.Disk J.Journal K.Sink R.Runner disk.old disk.new sink.old sink.new runner.old runner.new p
-        (λ x h q. AsTold R.Runner runner.new (BootTurnLeft x.1 (records_of h) q (booting_device x.0) world))
+        (λ x h q. AsTold R.Runner runner.new (BootTurnLeft x.1 (records_of h) q (device_of (S.hand x.0)) world))
         IsBare result }
     ensures none { R.living runner.new ≡ [] }
-    ensures turns { IfOk result (λ x. Turns (booting_device state) x.1 (booting_device x.0)) }
-    ensures held { IfOk result (λ x. Holds D.Disk J.Journal OwnsBooting x.0 disk.new) }
+    ensures turns { IfOk result (λ x. Turns (device_of (S.hand state)) x.1 (device_of (S.hand x.0))) }
+    ensures held { IfOk result (λ x. Holds D.Disk J.Journal (OwnsStage S.hand S.is_staged) x.0 disk.new) }
     ensures others { KeepsOthers D.Disk J.Journal disk.old disk.new }
     ensures disk { IsErrOf result SessionFault.Disk → Rose (D.faults disk.old) (D.faults disk.new) }
     ensures edge { IsErrOf result SessionFault.Edge → Rose (K.faults sink.old) (K.faults sink.new) }

@@ -2,7 +2,8 @@ use Rattle.std.specs.Prelude.{codes, ◌++◌}
 use Rattle.edges.proofs.Sent.{handed_on}
 use Rattle.session_boots.specs.Lines.{exit_text, failed_line}
 use Rattle.nuc_base.specs.declared.kinds.Step.TheVariants as steps
-use Rattle.session_boots.proofs.Written.{failed_front, failed_joined, front_longer, written_on}
+use Rattle.edges.proofs.Sent.{front_longer, written_on}
+use Rattle.session_boots.proofs.Written.{failed_front, failed_joined}
 use Rattle.session_boots.proofs.lines.tell_failed_boot.Goals as goal
 
 pub returns-in_err-write_pieces-clause-line : goal.returns-in_err-write_pieces-clause-line

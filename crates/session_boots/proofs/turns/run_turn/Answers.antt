@@ -1,6 +1,6 @@
 use Rattle.std.proofs.Common.{◌≡◌, ◌++◌, List, ℕ, Option, is_none, is_some, sym, ap, subst}
 use Rattle.deploy_state.proofs.Steps.{in_hand_stands}
-use Rattle.deploy_state.specs.States.{booting_device}
+use Rattle.deploy_state.specs.States.{device_of}
 use Rattle.step_runner.specs.Entries.{Listed}
 use Rattle.histories.specs.Courses.{IsBare}
 use Rattle.histories.specs.TraceEvents.{records_of}
@@ -20,9 +20,9 @@ use Rattle.session_boots.proofs.turns.run_turn.Goals as goal
 
 pub begin-requires-clause-may : goal.begin-requires-clause-may
 begin-requires-clause-may g c =
-    let d = booting_device c.args.state in
+    let d = device_of (g.S.BootStage.hand c.args.state) in
     let t = c.requires.turn in
-    can_begin d t.name (in_turn d t.name c.requires.held.1 t.turn)
+    can_begin d t.name (in_turn d t.name t.turn)
 
 pub returns-in-Err-clause-trace : goal.returns-in-Err-clause-trace
 returns-in-Err-clause-trace g c = λ p world front.
@@ -33,13 +33,13 @@ returns-in-Err-clause-trace g c = λ p world front.
 pub returns-in-Err-clause-none : goal.returns-in-Err-clause-none
 returns-in-Err-clause-none g c =
     let q = c.requires.placed in
-    no_living q.0 (booting_device c.args.state) q.1 (Listed g.R.Runner.list g.R.Runner.told g.R.Runner.asked c.args.runner.now)
+    no_living q.0 (device_of (g.S.BootStage.hand c.args.state)) q.1 (Listed g.R.Runner.list g.R.Runner.told g.R.Runner.asked c.args.runner.now)
     (g.R.Runner.living c.args.runner.now) q.2
 
 pub run_step-exit-requires-clause-none : goal.run_step-exit-requires-clause-none
 run_step-exit-requires-clause-none g c =
     let q = c.requires.placed in
-    no_living q.0 (booting_device c.args.state) q.1 (Listed g.R.Runner.list g.R.Runner.told g.R.Runner.asked c.args.runner.now)
+    no_living q.0 (device_of (g.S.BootStage.hand c.args.state)) q.1 (Listed g.R.Runner.list g.R.Runner.told g.R.Runner.asked c.args.runner.now)
     (g.R.Runner.living c.args.runner.now) q.2
 
 pub run_step-exit-requires-clause-limit : goal.run_step-exit-requires-clause-limit
@@ -48,21 +48,23 @@ run_step-exit-requires-clause-limit g c = boot_limit c.recipe_laws.ensures.sound
 pub end-requires-clause-turn : goal.end-requires-clause-turn
 end-requires-clause-turn g c =
     let begins = c.in-Ok.ensures.begins in
-    let t = turn_begun (booting_device c.args.state) (booting_device c.in-Ok.begun) c.args.step.now begins.0 c.requires.held.1 begins.2 c.requires.turn in
+    let d = device_of (g.S.BootStage.hand c.args.state) in
+    let b = device_of (g.S.BootStage.hand c.in-Ok.begun) in
+    let t = turn_begun d b c.args.step.now begins.0 begins.1 begins.2 c.requires.turn in
     ap (λ (o : Option (List ℕ)). is_some o) t.turn
 
 pub end-requires-clause-begun : goal.end-requires-clause-begun
 end-requires-clause-begun g c =
     let begins = c.in-Ok.ensures.begins in
-    begun_told (booting_device c.args.state) (booting_device c.in-Ok.begun) begins.0 c.requires.held.1 begins.2
+    begun_told (device_of (g.S.BootStage.hand c.args.state)) (device_of (g.S.BootStage.hand c.in-Ok.begun)) begins.0 begins.1 begins.2
 
 pub returns-in-Ok-end-clause-turns : goal.returns-in-Ok-end-clause-turns
-returns-in-Ok-end-clause-turns g c = (booting_device c.in-Ok.begun, c.in-Ok.ensures.begins, c.in-Ok-end.ensures.ends)
+returns-in-Ok-end-clause-turns g c = (device_of (g.S.BootStage.hand c.in-Ok.begun), c.in-Ok.ensures.begins, c.in-Ok-end.ensures.ends)
 
 pub returns-in-Ok-end-clause-trace : goal.returns-in-Ok-end-clause-trace
 returns-in-Ok-end-clause-trace g c = λ p world front.
-    let d = booting_device c.args.state in
-    let b = booting_device c.in-Ok.begun in
+    let d = device_of (g.S.BootStage.hand c.args.state) in
+    let b = device_of (g.S.BootStage.hand c.in-Ok.begun) in
     let told = Listed g.R.Runner.list g.R.Runner.told g.R.Runner.asked c.args.runner.now in
     let new = Listed g.R.Runner.list g.R.Runner.told g.R.Runner.asked c.run_step-exit.new.runner in
     let living = g.R.Runner.living c.args.runner.now in
@@ -71,9 +73,9 @@ returns-in-Ok-end-clause-trace g c = λ p world front.
     let begins = c.in-Ok.ensures.begins in
     let held = c.in-Ok.ensures.held in
     let one = c.in-Ok.ensures.trace p world told living front in
-    let turn = turn_begun d b c.args.step.now begins.0 c.requires.held.1 begins.2 c.requires.turn in
-    let begun = begun_told d b begins.0 c.requires.held.1 begins.2 in
-    let two = c.run_step-exit.ensures.trace (state_after p one.0) (may_step (state_after p one.0) b world told living c.args.step.now one.3 held.1 turn begun)
+    let turn = turn_begun d b c.args.step.now begins.0 begins.1 begins.2 c.requires.turn in
+    let begun = begun_told d b begins.0 begins.1 begins.2 in
+    let two = c.run_step-exit.ensures.trace (state_after p one.0) (may_step (state_after p one.0) b world told living c.args.step.now one.3 turn begun)
     in
     let r = ran g.J.Journal.entries g.J.Journal.files g.D.Disk.may_leave g.D.Disk.moment g.D.Disk.left_since g.met.D.Disk.laws c.args.disk.now
     c.begin.new.disk p b x world told new living next one.0 two.0 one.1 one.2 one.3
@@ -86,8 +88,8 @@ returns-in-Ok-end-clause-trace g c = λ p world front.
           r.trace three.1,
       all_told (g.K.Sink.held c.args.sink.now) (g.K.Sink.held c.args.sink.now) (g.K.Sink.held c.end.new.sink) p h three.0 r.trace.run
           (nothing_told (g.K.Sink.held c.args.sink.now) (lines_of p.device (records_of h)) r.none) three.2,
-      subst (λ (q : SessionState). IsBetween q (booting_device c.in-Ok-end.next) world new next ×
-          (q.over ≡ is_some (restart_of x (is_none (duty_of (booting_device c.in-Ok-end.next)).turn))) × EndsWith x (records_of (three.0 ++ h)))
+      subst (λ (q : SessionState). IsBetween q (device_of (g.S.BootStage.hand c.in-Ok-end.next)) world new next ×
+          (q.over ≡ is_some (restart_of x (is_none (duty_of (device_of (g.S.BootStage.hand c.in-Ok-end.next))).turn))) × EndsWith x (records_of (three.0 ++ h)))
           (sym (left-append p three.0 h))
           (three.3.0, three.3.1, ends_on x h three.0 three.3.2),
       tt,
@@ -95,8 +97,8 @@ returns-in-Ok-end-clause-trace g c = λ p world front.
 
 pub returns-in-Err-end-clause-trace : goal.returns-in-Err-end-clause-trace
 returns-in-Err-end-clause-trace g c = λ p world front.
-    let d = booting_device c.args.state in
-    let b = booting_device c.in-Ok.begun in
+    let d = device_of (g.S.BootStage.hand c.args.state) in
+    let b = device_of (g.S.BootStage.hand c.in-Ok.begun) in
     let told = Listed g.R.Runner.list g.R.Runner.told g.R.Runner.asked c.args.runner.now in
     let new = Listed g.R.Runner.list g.R.Runner.told g.R.Runner.asked c.run_step-exit.new.runner in
     let living = g.R.Runner.living c.args.runner.now in
@@ -105,9 +107,9 @@ returns-in-Err-end-clause-trace g c = λ p world front.
     let begins = c.in-Ok.ensures.begins in
     let held = c.in-Ok.ensures.held in
     let one = c.in-Ok.ensures.trace p world told living front in
-    let turn = turn_begun d b c.args.step.now begins.0 c.requires.held.1 begins.2 c.requires.turn in
-    let begun = begun_told d b begins.0 c.requires.held.1 begins.2 in
-    let two = c.run_step-exit.ensures.trace (state_after p one.0) (may_step (state_after p one.0) b world told living c.args.step.now one.3 held.1 turn begun)
+    let turn = turn_begun d b c.args.step.now begins.0 begins.1 begins.2 c.requires.turn in
+    let begun = begun_told d b begins.0 begins.1 begins.2 in
+    let two = c.run_step-exit.ensures.trace (state_after p one.0) (may_step (state_after p one.0) b world told living c.args.step.now one.3 turn begun)
     in
     let r = ran g.J.Journal.entries g.J.Journal.files g.D.Disk.may_leave g.D.Disk.moment g.D.Disk.left_since g.met.D.Disk.laws c.args.disk.now
     c.begin.new.disk p b x world told new living next one.0 two.0 one.1 one.2 one.3
