@@ -10,7 +10,7 @@ use Rattle.law_supervisor.specs.Sound.{IsSoundPart, IsOrderly, Differ, is_bare, 
 use Rattle.law_supervisor.proofs.Lists.{either, clash, none_of, from_places, at_places}
 use Rattle.law_supervisor.proofs.Counts.{same_living, same_owner}
 use Rattle.law_supervisor.proofs.Together.{same_names, told_each}
-use Rattle.session_startup.proofs.Answered.{free_is, is_free}
+use Rattle.session_acts.proofs.Answered.{free_is, is_free}
 use Rattle.session_shutdown.specs.Leaves.{Leaves, LeavesPart}
 use Rattle.session_shutdown.proofs.Leaving.{Known}
 use Rattle.lifecycle.specs.declared.kinds.After.{After}

@@ -16,7 +16,7 @@ use Rattle.session_boots.specs.Traces.{Acts}
 use Rattle.session_boots.proofs.Acting.{grows_none}
 use Rattle.law_supervisor.specs.Keeps.{IsTold}
 use Rattle.law_supervisor.specs.Sound.{IsOrderly}
-use Rattle.session_startup.proofs.Entering.{never}
+use Rattle.session_acts.proofs.Entering.{never}
 use Rattle.session_shutdown.specs.Leaves.{Leaves}
 use Rattle.session_shutdown.specs.Runs.{IsAtTurnStart, IsGoing}
 use Rattle.session_shutdown.specs.Stops.{MayStop}

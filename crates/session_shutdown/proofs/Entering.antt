@@ -1,30 +1,34 @@
--- An entry of the runner within a turn in which all are stopped.
-use Rattle.std.specs.Prelude.{ℕ, Bool, true, false, List, [], ◌∷◌, ◌++◌, Option, Contains, IsSome}
-use Rattle.std.proofs.Common.{◌≡◌, ◌≤◌, ◌↔◌, ◌∙◌, inl, refl, sym, ap, subst, arith}
+-- A turn in which all are stopped, and what its acts keep of the stage.
+use Rattle.std.specs.Prelude.{ℕ, Bool, true, false, List, [], ◌∷◌, Option, Some, None, slice_get}
+use Rattle.std.specs.Option.{IsSomeAnd}
+use Rattle.std.proofs.Common.{◌≡◌, ◌∙◌, refl, sym}
+use Rattle.nuc_base.specs.declared.kinds.Exit.{Exit}
 use Rattle.nuc_base.specs.declared.kinds.Step.{Step}
 use Rattle.device.specs.Devices.{Device}
-use Rattle.step_runner.specs.Entries.{Notes, Told}
+use Rattle.step_runner.specs.Entries.{Told}
 use Rattle.step_runner.specs.declared.entries.RunnerEntry.{RunnerEntry}
 use Rattle.step_runner.specs.declared.entries.Seen.{Seen}
-use Rattle.components.specs.Components.{Components, owner}
-use Rattle.components.specs.Answers.{has_answered}
-use Rattle.components.specs.Events.{later}
-use Rattle.components.specs.Acts.{Move, Quietly}
+use Rattle.step_runner.specs.declared.entries.Seen.TheVariants as seen
+use Rattle.components.specs.Components.{Components, ComponentState, component_name, is_broken, place_of}
+use Rattle.components.specs.Lives.{lived_at}
+use Rattle.components.specs.Acts.{OwesAt}
+use Rattle.components.specs.Turns.{IsQuiet}
 use Rattle.histories.specs.Phases.{Phase, idle, booting, activating, backing, rolling, Generation, duty_of}
-use Rattle.histories.specs.TraceEvents.{TraceEvent, Asked, Moved, Ran}
-use Rattle.histories.specs.States.{SessionState, is_wait, leaves, state_after, ran}
+use Rattle.histories.specs.TraceEvents.{TraceEvent, Ran}
+use Rattle.histories.specs.States.{SessionState, leaves, state_after, ran}
 use Rattle.histories.specs.Waits.{may_drive}
 use Rattle.histories.specs.Follows.{MayRun}
-use Rattle.histories.proofs.Joined.{left-append}
 use Rattle.session_boots.specs.Traces.{Acts}
-use Rattle.session_boots.proofs.Acting.{acts_none, acts_on, grows_none}
+use Rattle.law_supervisor.proofs.Lists.{at_places, no_some}
+use Rattle.session_acts.specs.Runs as turn
+use Rattle.session_acts.specs.Traces.{ActsInTurn, IsActEntry}
+use Rattle.session_acts.proofs.Entering.{comes_of as turn_comes}
+use Rattle.session_acts.proofs.Keeping.{IsKept, kept_along}
 use Rattle.session_shutdown.specs.Laws.{Laws}
-use Rattle.session_shutdown.specs.Leaves.{Leaves}
+use Rattle.session_shutdown.specs.Leaves.{Leaves, LeavesPart}
 use Rattle.session_shutdown.specs.Runs.{IsAtTurnStart, IsGoing, IsOn, IsWithin, IsInTurn}
-use Rattle.session_startup.proofs.Entering.{entry, later_same, never, no_boot, without_boot}
-use Rattle.session_startup.proofs.Answered.{free_is, free_moved, is_free}
 
--- ---- the stage
+-- ---- a turn of the stage is one
 
 drives_in : (f : Phase) (c : Generation) (serves : Bool) → IsGoing f c → may_drive f c serves ≡ true
 drives_in idle c serves is = rw is refl
@@ -36,137 +40,115 @@ drives_in rolling c serves is = rw is refl
 pub drives : (p : SessionState) → IsOn p → may_drive (duty_of p.device).phase p.generation p.serves ≡ true
 drives p on = drives_in (duty_of p.device).phase p.generation p.serves on.going
 
--- ---- an entry
+driving_of : (p : SessionState) → IsOn p → turn.IsDriving p
+driving_of p on = record { drives = drives p on; boot = on.boot; boot_end = on.boot_end; over = on.over; cut = on.cut }
 
-pub ran_acts : (p : SessionState) (old new : Told) (living : List ℕ) (s : Seen) (k : ℕ) (t : Step) → IsWithin p old living →
-    MayRun (duty_of p.device) p s k t → Notes old new s → Acts p (Ran (entry old s) k t ∷ []) old.list new.list
-ran_acts p old new living s k t w may notes = record {
-  proper = (
-    (
-      (may, record { moment = w.moment; asked = w.asked; due = λ d. w.asked ∙ w.due d }, drives p w.on),
-      (λ cut. absurd (never p.cut w.on.cut cut)),
-      w.on.over,
-    ),
-    tt,
-  );
-  none = refl;
-  list = notes.entry;
-  device = refl;
+pub start_of : {p : SessionState} {d : Device} {world : Components} {told : Told} {living : List ℕ} → IsAtTurnStart p d world told living →
+    turn.IsAtTurnStart p d world told living
+start_of {p} c = record { stands = c.stands; on = driving_of p c.on; orderly = c.keeps.orderly }
+
+pub within_of : {p : SessionState} {told : Told} {living : List ℕ} → IsWithin p told living → turn.IsWithin p told living
+within_of {p} w = record {
+  on = driving_of p w.on;
+  orderly = w.keeps.orderly;
+  answered = w.answered;
+  moment = w.moment;
+  asked = w.asked;
+  due = w.due;
+  children = w.children;
 }
 
--- the components behind it
-pub record IsRunAfter (p : SessionState) (s : Seen) (k : ℕ) (t : Step) (living : List ℕ) : Type 0 where
-  pub moment : (ran s k t p.world).moment ≡ p.world.moment
-  pub keeps : Leaves (ran s k t p.world)
-  pub answered : has_answered (ran s k t p.world) ≡ true
-  pub children : (n : ℕ) → Contains living n ↔ IsSome (owner n (ran s k t p.world).parts)
+pub turn_of : {p : SessionState} {world : Components} {told : Told} {living : List ℕ} → IsInTurn p world told living → turn.IsInTurn p world told living
+turn_of r = record { within = within_of r.within; probed = r.probed; world_is = r.world_is }
+
+-- ---- what is kept of the stage
+
+pub record InStage (p : SessionState) : Type 0 where
+  pub on : IsOn p
+  pub keeps : Leaves p.world
 
 pub on_ran : (p : SessionState) (e : RunnerEntry) (k : ℕ) (t : Step) → IsOn p → IsOn (leaves p (Ran e k t))
 on_ran p e k t on = record { going = on.going; boot = on.boot; boot_end = on.boot_end; over = on.over; cut = on.cut }
 
--- back in the turn
-pub within_on : (p : SessionState) (old new : Told) (s : Seen) (k : ℕ) (t : Step) (before living : List ℕ) → IsWithin p old before → Notes old new s →
-    is_wait s ≡ false → IsRunAfter p s k t living
-    → IsWithin (leaves p (Ran (entry old s) k t)) new living
-within_on p old new s k t before living w notes wait a = record {
-  on = on_ran p (entry old s) k t w.on;
-  keeps = a.keeps;
-  answered = a.answered;
-  moment = notes.told ∙ w.moment ∙ sym a.moment;
-  asked = notes.asked;
-  due = λ d. absurd (never (is_wait s) wait d);
-  children = a.children;
+ran_leaves : Laws → (p : SessionState) (s : Seen) (k : ℕ) (t : Step) → MayRun (duty_of p.device) p s k t → IsActEntry p s → Leaves p.world →
+    Leaves (ran s k t p.world)
+ran_leaves laws p (seen.Started n c) k t may is keeps = laws.keeps_started k t n p.world is keeps
+ran_leaves laws p (seen.Refused c) k t may is keeps = laws.keeps_refused k t p.world keeps
+ran_leaves laws p (seen.Killed n) k t may is keeps = laws.keeps_killed n p.world keeps
+ran_leaves laws p (seen.Exists x true) k t may is keeps = laws.keeps_skipped k p.world keeps
+ran_leaves laws p (seen.Exists x false) k t may is keeps = keeps
+ran_leaves laws p (seen.OnPath x true) k t may is keeps = laws.keeps_skipped k p.world keeps
+ran_leaves laws p (seen.OnPath x false) k t may is keeps = keeps
+ran_leaves laws p (seen.Ended n e limit) k t may is keeps = absurd is
+ran_leaves laws p (seen.Elapsed limit) k t may is keeps = absurd is
+
+stage_kept : Laws → IsKept InStage
+stage_kept laws = record {
+  asked = λ p m s. record {
+    on = record { going = s.on.going; boot = s.on.boot; boot_end = s.on.boot_end; over = s.on.over; cut = s.on.cut };
+    keeps = laws.keeps_later m p.world s.keeps;
+  };
+  moved = λ p k e next may s. record {
+    on = record { going = s.on.going; boot = s.on.boot; boot_end = s.on.boot_end; over = s.on.over; cut = s.on.cut };
+    keeps = laws.keeps_moved p.world (lived_at k e p.world) (record { who = k; what = e } ∷ []) (next, may, refl) s.keeps;
+  };
+  ran = λ p e k t may is s. record { on = on_ran p e k t s.on; keeps = ran_leaves laws p e.seen k t may is s.keeps };
 }
 
--- ---- moves
+-- who leaves owes none
+no_debt : (k : ℕ) (s : Step) (e : Exit) (b : Bool) (w : Components) → Leaves w → OwesAt w k s e b → ⊥
+no_debt k s e b w l o = by (slice_get w.parts k) refl o
+  where
+    by : (x : Option ComponentState) → slice_get w.parts k ≡ x → IsSomeAnd x (λ p. (p.owed ≡ Some (s, e)) × (is_broken p.life.state ≡ b) ×
+        (place_of (component_name p) w.parts ≡ Some k)) → ⊥
+    by None is h = absurd h
+    by (Some p) is h = no_some (s, e) (sym (at_places LeavesPart w.parts l.each k p is).1 ∙ h.0)
 
--- a place with these components
-pub record MovedTo (p : SessionState) (told : Told) (living : List ℕ) (list : Option (List RunnerEntry)) (v : Components) : Type 0 where
-  pub h : List TraceEvent
-  pub acts : Acts p h list list
-  pub within : IsWithin (state_after p h) told living
-  pub probed : (state_after p h).probed ≡ false
-  pub world_is : (state_after p h).world ≡ v
+turn_in : {q : SessionState} {world : Components} {told : Told} {living : List ℕ} → InStage q → turn.IsInTurn q world told living →
+    IsInTurn q world told living
+turn_in s r = record {
+  within = record {
+    on = s.on;
+    keeps = s.keeps;
+    answered = r.within.answered;
+    moment = r.within.moment;
+    asked = r.within.asked;
+    due = r.within.due;
+    children = r.within.children;
+  };
+  probed = r.probed;
+  world_is = r.world_is;
+}
 
--- moves within a turn, one after another
-pub moves_on : Laws → (p : SessionState) (told : Told) (living : List ℕ) (list : Option (List RunnerEntry)) (v : Components) (ms : List Move) →
-    Quietly p.world ms v → IsWithin p told living → p.probed ≡ false → MovedTo p told living list v
-moves_on laws p told living list v [] q w probed = record { h = []; acts = acts_none p list list refl; within = w; probed = probed; world_is = sym q }
-moves_on laws p told living list v (m ∷ ms) q w probed =
-    let first : List TraceEvent = Moved m.who m.what ∷ [] in
-    let two = leaves p (Moved m.who m.what) in
-    let alone : Quietly p.world (m ∷ []) two.world = (q.0, q.1, refl) in
-    let one : Acts p first list list = record {
-      proper = (((q.1, q.0, drives p w.on), (λ cut. absurd (never p.cut w.on.cut cut)), w.on.over), tt);
-      none = refl;
-      list = grows_none list list refl;
-      device = refl;
-    } in
-    let next : IsWithin two told living = record {
-      on = record { going = w.on.going; boot = w.on.boot; boot_end = w.on.boot_end; over = w.on.over; cut = w.on.cut };
-      keeps = laws.keeps_moved p.world two.world (m ∷ []) alone w.keeps;
-      answered = free_is two.world (free_moved p.world two.world (m ∷ []) alone ∙ is_free p.world w.answered);
-      moment = w.moment;
-      asked = w.asked;
-      due = w.due;
-      children = λ n. subst (λ (o : Option (ℕ × Step)). Contains living n ↔ IsSome o) (sym (laws.owner_moved n p.world two.world (m ∷ []) alone))
-          (w.children n);
-    } in
-    let rest = moves_on laws two told living list v ms q.2 next refl in
-    record {
-      h = rest.h ++ first;
-      acts = acts_on p first rest.h list list list one rest.acts;
-      within = subst (λ (x : SessionState). IsWithin x told living) (sym (left-append p rest.h first)) rest.within;
-      probed = ap (λ (x : SessionState). x.probed) (left-append p rest.h first) ∙ rest.probed;
-      world_is = ap (λ (x : SessionState). x.world) (left-append p rest.h first) ∙ rest.world_is;
-    }
+module _ (laws : Laws) (p : SessionState) (on : IsOn p) (keeps : Leaves p.world) {old new : Option (List RunnerEntry)} where
+  stage_after : (h : List TraceEvent) → ActsInTurn p h old new → InStage (state_after p h)
+  stage_after h a = kept_along InStage (stage_kept laws) p h a.acts.proper a.each (record { on = on; keeps = keeps })
+
+  -- what a part of a turn leaves it leaves in the stage
+  pub turn_left : {world : Components} {told : Told} {living : List ℕ} →
+      ((h : List TraceEvent) × ActsInTurn p h old new × turn.IsInTurn (state_after p h) world told living) →
+      (h : List TraceEvent) × Acts p h old new × IsInTurn (state_after p h) world told living
+  turn_left x = (x.0, x.1.acts, turn_in (stage_after x.0 x.1) x.2)
+
+  -- so it is where no act is left
+  pub quiet_left : {world : Components} {told : Told} {living : List ℕ} →
+      ((h : List TraceEvent) × ActsInTurn p h old new × (turn.IsInTurn (state_after p h) world told living × IsQuiet (state_after p h).world)) →
+      (h : List TraceEvent) × Acts p h old new × (IsInTurn (state_after p h) world told living × IsQuiet (state_after p h).world)
+  quiet_left x = (x.0, x.1.acts, (turn_in (stage_after x.0 x.1) x.2.0, x.2.1))
+
+  -- and none fails
+  pub none_fails : {k : ℕ} {s : Step} {e : Exit} {world : Components} {told : Told} {living : List ℕ} →
+      ((h : List TraceEvent) × ActsInTurn p h old new × turn.HasFailed (state_after p h) k s e world told living) → ⊥
+  none_fails {k} {s} {e} x = no_debt k s e x.2.breaks (state_after p x.0).world (stage_after x.0 x.1).keeps x.2.owes
 
 -- ---- a turn's front
-
-pub pass_runs : Laws → (p : SessionState) (d : Device) (world : Components) (old new : Told) (living next : List ℕ) (now : ℕ) →
-    IsAtTurnStart p d world old living → new.moment ≡ now → new.asked ≡ true → next ≡ living
-    → IsInTurn (leaves p (Asked now)) (later now world) new next
-pass_runs laws p d world old new living next now c moment asked same =
-    let s = c.stands in
-    record {
-      within = record {
-        on = record { going = c.on.going; boot = c.on.boot; boot_end = c.on.boot_end; over = c.on.over; cut = c.on.cut };
-        keeps = laws.keeps_later now p.world c.keeps;
-        answered = subst (λ (w : Components). has_answered (later now w) ≡ true) (sym s.world_is) s.answered;
-        moment = moment;
-        asked = asked;
-        due = λ d. refl;
-        children = λ n. subst (λ (l : List ℕ). Contains l n ↔ IsSome (owner n p.world.parts)) (sym same)
-            ((λ h. without_boot (no_boot p.boot n c.on.boot) ((s.children n).0 h)), (λ h. (s.children n).1 (inl h)));
-      };
-      probed = refl;
-      world_is = sym (ap (λ (w : Components). later now w) s.world_is);
-    }
-
-pub pass_acts : (p : SessionState) (d : Device) (world : Components) (old : Told) (living : List ℕ) (now : ℕ) (list new : Option (List RunnerEntry)) →
-    IsAtTurnStart p d world old living → old.moment ≤ now → new ≡ list → Acts p (Asked now ∷ []) list new
-pass_acts p d world old living now list new c later_on same = record {
-  proper = ((subst (λ (w : Components). w.moment ≤ now) (sym c.stands.world_is) later_on, (λ cut. absurd (never p.cut c.on.cut cut)), c.on.over), tt);
-  none = refl;
-  list = grows_none list new same;
-  device = refl;
-}
 
 -- back at a front
 pub comes_of : (p : SessionState) (d : Device) (world : Components) (told : Told) (living : List ℕ) → IsInTurn p world told living → p.device ≡ d →
     IsAtTurnStart p d world told living
-comes_of p d world told living r device =
-    let w = r.within in
-    record {
-      stands = record {
-        device_is = device;
-        world_is = sym (later_same told.moment p.world w.moment) ∙ ap (λ (x : Components). later told.moment x) (sym r.world_is);
-        answered = ap (λ (x : Components). has_answered x) r.world_is ∙ w.answered;
-        not_before = omega (arith, w.moment, ap (λ (x : Components). x.moment) r.world_is);
-        asked = w.asked;
-        children = λ n. ((λ h. inl ((w.children n).0 h)), (λ h. (w.children n).1 (without_boot (no_boot p.boot n w.on.boot) h)));
-      };
-      on = w.on;
-      keeps = w.keeps;
-      probed = r.probed;
-    }
+comes_of p d world told living r device = record {
+  stands = (turn_comes p d world told living (turn_of r) device).stands;
+  on = r.within.on;
+  keeps = r.within.keeps;
+  probed = r.probed;
+}

@@ -1,16 +1,12 @@
 -- Where a call is that stops all components.
-use Rattle.std.specs.Prelude.{◌≡◌, ◌⊎◌, ◌↔◌, ℕ, Bool, true, false, List, None, IsSome, Contains}
-use Rattle.nuc_base.specs.declared.kinds.Step.{Step}
+use Rattle.std.specs.Prelude.{◌≡◌, ◌↔◌, ℕ, Bool, true, false, List, None, IsSome, Contains}
 use Rattle.device.specs.Devices.{Device}
 use Rattle.step_runner.specs.Entries.{Told}
-use Rattle.components.specs.Components.{Components, At, owner, is_stopped}
-use Rattle.components.specs.Turns.{IsNext, IsQuiet}
-use Rattle.components.specs.Acts.{HasStart}
+use Rattle.components.specs.Components.{Components, owner, is_stopped}
+use Rattle.components.specs.Turns.{IsQuiet}
 use Rattle.components.specs.Answers.{has_answered}
-use Rattle.components.specs.Events.{handed_at}
 use Rattle.histories.specs.Phases.{Phase, idle, booting, activating, backing, rolling, duty_of, Generation, draining, shutting_down}
 use Rattle.histories.specs.States.{SessionState}
-use Rattle.histories.specs.Follows.{HasStep}
 use Rattle.histories.specs.Courses.{Stands}
 use Rattle.session_shutdown.specs.Leaves.{Leaves}
 
@@ -52,22 +48,6 @@ pub record IsInTurn (p : SessionState) (world : Components) (told : Told) (livin
   pub within : IsWithin p told living
   pub probed : p.probed ≡ false
   pub world_is : world ≡ p.world
-
--- the start of a step was handed out
-pub record IsStarting (p : SessionState) (k : ℕ) (s : Step) (world : Components) (told : Told) (living : List ℕ) : Type 0 where
-  pub within : IsWithin p told living
-  pub probed : p.probed ≡ false
-  pub world_is : world ≡ handed_at k p.world
-  pub next : IsNext p.world k
-  pub start : At k (HasStart s) p.world.parts
-
--- so it was, and the step needs no probe, or was probed and is not to be skipped
-pub record MayLaunch (p : SessionState) (k : ℕ) (s : Step) (world : Components) (told : Told) (living : List ℕ) : Type 0 where
-  pub within : IsWithin p told living
-  pub world_is : world ≡ handed_at k p.world
-  pub next : IsNext p.world k
-  pub start : At k (HasStart s) p.world.parts
-  pub asked : At k (λ q. HasStep q s (λ m. (m.skip ≡ None) ⊎ (p.probed ≡ true))) p.world.parts
 
 -- no act is left where that was told
 pub record ActLeft (q : SessionState) (none : Bool) (world : Components) (told : Told) (living : List ℕ) : Type 0 where

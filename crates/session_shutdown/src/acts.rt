@@ -8,12 +8,12 @@ ghost use Rattle.session_shutdown.specs.Runs.{ActLeft, IsInTurn};
 ghost use Rattle.session_boots.specs.Stages.{AsTold};
 
 use crate::laws::leaving_laws;
-use crate::starts::start_step;
-use components::{Act, Supervise};
+use components::Supervise;
+use session_acts::{Did, act};
 use step_runner::Runner;
 
 /// Takes the next act. Tells whether there was none. A failure is none: who leaves owes none.
-fn act<R: Runner, S: Supervise>(runner: &mut R, supervisor: &mut S, now: u64) -> bool
+fn take_act<R: Runner, S: Supervise>(runner: &mut R, supervisor: &mut S, now: u64) -> bool
     requires now { (R.told runner.old ≡ now) × (now < 2 ^ 62) }
     requires drives { Drives (S.world supervisor.old) }
     requires placed { (p : SessionState) × AsTold R.Runner runner.old (IsInTurn p (S.world supervisor.old)) }
@@ -25,20 +25,10 @@ fn act<R: Runner, S: Supervise>(runner: &mut R, supervisor: &mut S, now: u64) ->
     ensures falls { result ≡ false → Falls (S.world supervisor.old) (S.world supervisor.new) }
 {
     leaving_laws();
-    match supervisor.next_act() {
-        None => true,
-        Some(next) => match next {
-            Act::Start(who, step) => {
-                start_step(runner, supervisor, who, step, now);
-                false
-            }
-            Act::Kill(child) => {
-                runner.kill(child);
-                false
-            }
-            Act::Failed(_who, _step, _exit) => unreachable!(),
-            Act::Broke(_who, _step, _exit) => unreachable!(),
-        },
+    match act(runner, supervisor, now) {
+        Did::Nothing => true,
+        Did::Something => false,
+        Did::Failed(_who, _step, _exit) => unreachable!(),
     }
 }
 
@@ -54,7 +44,7 @@ pub(crate) fn take_acts<R: Runner, S: Supervise>(runner: &mut R, supervisor: &mu
     ensures not_above { NotAbove (S.world supervisor.old) (S.world supervisor.new) }
 {
     'acts: loop {
-        if act(runner, supervisor, now) {
+        if take_act(runner, supervisor, now) {
             return;
         }
     }

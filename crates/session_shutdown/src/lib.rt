@@ -8,7 +8,6 @@
 
 mod acts;
 mod laws;
-mod starts;
 mod stops;
 mod turns;
 mod waits;

@@ -12,9 +12,10 @@ ghost use Rattle.session_shutdown.specs.Stops.{TurnLeft};
 ghost use Rattle.session_boots.specs.Stages.{AsTold};
 
 use crate::acts::take_acts;
-use crate::starts::pass;
+use crate::laws::leaving_laws;
 use crate::waits::wait_once;
 use components::Supervise;
+use session_acts::pass;
 use step_runner::Runner;
 
 /// Asks for the moment, takes every act, and waits where one still stands: then a child ended, or time went on. Tells whether
@@ -29,6 +30,7 @@ pub(crate) fn turn<R: Runner, S: Supervise>(runner: &mut R, supervisor: &mut S) 
     ensures falls { result ≡ false → measure (later (R.clock runner.new) (S.world supervisor.new)) < measure
         (later (R.clock runner.old) (S.world supervisor.old)) }
 {
+    leaving_laws();
     let now = pass(runner, supervisor);
     take_acts(runner, supervisor, now);
     if supervisor.stopped() {

@@ -12,9 +12,9 @@ ghost use Rattle.session_shutdown.specs.Runs.{IsAtTurnStart, IsReadyToWait};
 ghost use Rattle.session_boots.specs.Stages.{AsTold};
 
 use crate::laws::leaving_laws;
-use components::{Event, Supervise};
-use session_startup::longest_wait;
-use step_runner::{Runner, Waited};
+use components::Supervise;
+use session_acts::{longest_wait, wait};
+use step_runner::Runner;
 
 /// Waits for the end of a child or to the next deadline, and tells what came.
 pub(crate) fn wait_once<R: Runner, S: Supervise>(runner: &mut R, supervisor: &mut S, now: u64)
@@ -31,8 +31,5 @@ pub(crate) fn wait_once<R: Runner, S: Supervise>(runner: &mut R, supervisor: &mu
 {
     leaving_laws();
     let limit = longest_wait(supervisor, now);
-    match runner.wait(limit) {
-        Waited::Ended(child, exit) => supervisor.event(Event::Ended(child, exit), now),
-        Waited::Elapsed => {}
-    }
+    wait(runner, supervisor, now, limit);
 }

@@ -1,6 +1,4 @@
-pub mod Entering
-pub mod Starting
-pub mod Handing
+pub mod Since
 pub mod Hearing
 pub mod Staying
 pub mod Serving

@@ -1,5 +1,5 @@
 -- What a call that tells a supervisor what befell keeps, and what it makes of the number of a turn.
-use Rattle.std.proofs.Common.{◌≡◌, ◌<◌, ◌+◌, ◌^◌, ℕ, List, [], ◌∷◌, Option, Some, None, Bool, true, false, refl, sym, ap, ◌∙◌, arith, subst}
+use Rattle.std.proofs.Common.{◌≡◌, ◌<◌, ◌+◌, ◌^◌, ℕ, List, [], ◌∷◌, Option, Some, None, Bool, true, false, inl, inr, refl, sym, ap, ◌∙◌, arith, subst}
 use Rattle.std.specs.Prelude.{IsSome, if◌then◌else◌}
 use Rattle.nuc_base.specs.declared.kinds.Exit.{Exit}
 use Rattle.nuc_base.specs.declared.kinds.Step.{Step}
@@ -21,7 +21,11 @@ use Rattle.law_termination.specs.Kept.{is_done}
 use Rattle.law_termination.proofs.Events.{end_on, later_on, next_on, refuse_on, skip_on, start_on}
 use Rattle.law_termination.proofs.Sums.{at_map}
 use Rattle.law_termination.proofs.TurnRanks.{act_calms, refused_turn, skipped_turn, started_turn}
-use Rattle.session_startup.proofs.Entering.{later_same}
+use Rattle.session_acts.proofs.Entering.{later_same}
+use Rattle.session_acts.specs.Taken.{IsActTaken, IsAnswered, IsCarriedOut}
+use Rattle.session_acts.specs.Waits.{IsWaited}
+use Rattle.session_acts.specs.declared.acts.Did.{Did}
+use Rattle.session_acts.specs.declared.acts.Did.TheVariants as did
 use Rattle.session_steady.specs.Stays.{Calms, IsNoWilder, Stays}
 
 -- ---- events leave the mode
@@ -169,3 +173,47 @@ self_no_wilder w d = record { stays = self_stays w d; least = omega arith }
 
 pub steady_on : (u v : Components) → u.steady ≡ true → Stays u v → v.steady ≡ true
 steady_on u v s a = a.mode ∙ s
+
+-- ---- an act
+
+moment_moved : (w v : Components) (ms : List Move) → Quietly w ms v → v.moment ≡ w.moment
+moment_moved w v [] q = ap (λ (x : Components). x.moment) q
+moment_moved w v (m ∷ ms) q = moment_moved (lived_at m.who m.what w) v ms q.2
+
+-- a start that is handed out leaves the moment
+moment_next : (k : ℕ) (s : Step) (w v : Components) → NextAct w (Some (acts.Start k s)) v → v.moment ≡ w.moment
+moment_next k s w v n = ap (λ (x : Components). x.moment) n.hands.2 ∙ moment_moved w n.seen n.made n.quietly
+
+answer_calms : (now k : ℕ) (s : Step) (w v : Components) → w.moment ≡ now → Drives w → w.steady ≡ true → now + 1 < 2 ^ 62 → IsAnswered now k s w v → Calms w v
+answer_calms now k s w v moment d steady early (h, inl e) = skip_calms w now moment d steady v k s h e
+answer_calms now k s w v moment d steady early (h, inr (inl e)) = refuse_calms w now moment d steady v k s h e
+answer_calms now k s w v moment d steady early (h, inr (inr (n, e))) = start_calms w now moment d steady early v k n s h e
+
+module _ (now : ℕ) (w v : Components) (moment : w.moment ≡ now) (d : Drives w) (steady : w.steady ≡ true) (early : now + 1 < 2 ^ 62) where
+  done_calms : (a : Act) (u : Components) → NextAct w (Some a) u → IsCarriedOut now (Some a) u v → Calms w v
+  done_calms (acts.Start k s) u n c =
+      let b = next_no_wilder w u (Some (acts.Start k s)) d steady n in
+      calms_after w u v b (answer_calms now k s u v (moment_next k s w u n ∙ moment) b.stays.drives (steady_on w u steady b.stays) early c)
+  done_calms (acts.Kill x) u n c = subst (Calms w) (sym c) (next_calms w u (Some (acts.Kill x)) d steady n refl)
+  done_calms (acts.Failed k s e) u n c = subst (Calms w) (sym c) (next_calms w u (Some (acts.Failed k s e)) d steady n refl)
+  done_calms (acts.Broke k s e) u n c = subst (Calms w) (sym c) (next_calms w u (Some (acts.Broke k s e)) d steady n refl)
+
+  pub taken_calms : (x : Did) → IsActTaken now x w v → ¬ (x ≡ did.Nothing) → Calms w v
+  taken_calms x t some = by t.act t.handed t.next t.carried t.none
+    where
+      by : (a : Option Act) (u : Components) → NextAct w a u → IsCarriedOut now a u v → (a ≡ None → x ≡ did.Nothing) → Calms w v
+      by None u n c none = absurd (some (none refl))
+      by (Some a) u n c none = done_calms a u n c
+
+  pub taken_no_wilder : (x : Did) → IsActTaken now x w v → IsNoWilder w v
+  taken_no_wilder x t = by t.act t.handed t.next t.carried
+    where
+      by : (a : Option Act) (u : Components) → NextAct w a u → IsCarriedOut now a u v → IsNoWilder w v
+      by None u n c = subst (IsNoWilder w) (sym c) (next_no_wilder w u None d steady n)
+      by (Some a) u n c = calms_no_wilder w v (done_calms a u n c)
+
+-- ---- a wait
+
+pub waited_stays : (now limit before after : ℕ) (w v : Components) → w.moment ≡ now → Drives w → IsWaited now limit before after w v → Stays w v
+waited_stays now limit before after w v moment d (inl (n, x, own, e)) = end_stays w now moment d v n x own e
+waited_stays now limit before after w v moment d (inr (e, time)) = subst (Stays w) (sym e) (self_stays w d)

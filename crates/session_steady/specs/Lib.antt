@@ -1,5 +1,4 @@
 pub mod Acting
-pub mod Laws
 pub mod Runs
 pub mod Serves
 pub mod Stays

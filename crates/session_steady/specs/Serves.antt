@@ -9,7 +9,8 @@ use Rattle.histories.specs.TraceEvents.{TraceEvent, Ran, WaitElapsed, is_documen
 use Rattle.histories.specs.States.{SessionState, is_wait}
 use Rattle.histories.specs.Courses.{Stands}
 use Rattle.law_supervisor.specs.Sound.{IsOrderly}
-use Rattle.session_steady.specs.Runs.{IsInTurn, IsSame}
+use Rattle.session_acts.specs.Runs.{IsInTurn}
+use Rattle.session_steady.specs.Runs.{IsSame}
 
 -- Nothing is pending, the set was brought up and its components are there, and no bootstrap is about.
 pub record IsSteady (p : SessionState) : Type 0 where
@@ -34,7 +35,7 @@ pub record IsAsking (p : SessionState) (d : Device) (world : Components) (told :
   pub device_is : p.device ≡ d
   pub steady : IsSteady p
   pub done : IfSome p.answer (λ a. is_document a ≡ true)
-  pub turn : IsInTurn p p world told living
+  pub turn : IsInTurn p world told living
   pub quiet : IsQuiet p.world
 
 -- it was asked, and had nothing: that is waited for
@@ -42,7 +43,7 @@ pub record IsWaiting (p : SessionState) (d : Device) (world : Components) (told 
   pub device_is : p.device ≡ d
   pub steady : IsSteady p
   pub nothing_is : p.answer ≡ Some nothing
-  pub turn : IsInTurn p p world told living
+  pub turn : IsInTurn p world told living
   pub quiet : IsQuiet p.world
 
 -- What settling leaves, from x on: every act was taken, or the clock stands at its end, where steps that are late as they

@@ -3,16 +3,12 @@
 //!
 //! It promises that what happens in each of its calls is a history that `histories` allows and that keeps no record: no disk is
 //! in hand, and of a failure nothing is said outside. It stands on `step_runner` for children, on the contract of a supervisor
-//! for what is done next, and on `histories` for what a history is. The start of a step, and the next act, are stated for any
-//! stage in which components may act.
+//! for what is done next, and on `histories` for what a history is.
 #![tactic(auto)]
 
 mod acts;
-mod laws;
 mod settling;
-mod starts;
 mod waits;
 
-pub use acts::Did;
 pub use settling::settle;
 pub use waits::wait_turn;

@@ -10,8 +10,8 @@ ghost use Rattle.session_steady.specs.Serves.{IsServing, SettledLeft};
 ghost use Rattle.session_steady.specs.Stays.{Stays};
 
 use crate::acts::take_acts;
-use crate::starts::pass;
 use components::Supervise;
+use session_acts::pass;
 use step_runner::Runner;
 
 /// The moment at which a runner's clock stands still.

@@ -10,10 +10,9 @@ ghost use Rattle.law_termination.specs.Drives.{Drives};
 ghost use Rattle.session_steady.specs.Serves.{HasWaited, IsWaiting};
 ghost use Rattle.session_steady.specs.Stays.{Stays};
 
-use crate::laws::orderly_laws;
-use components::{Event, Supervise};
-use session_startup::longest_wait;
-use step_runner::{Runner, Waited};
+use components::Supervise;
+use session_acts::{longest_wait, wait};
+use step_runner::Runner;
 
 /// How long a turn waits at most, in milliseconds: then the inbox is asked again.
 const TURN_MS: u64 = 1_000;
@@ -39,10 +38,6 @@ pub fn wait_turn<R: Runner, S: Supervise>(runner: &mut R, supervisor: &mut S, no
     ensures stays { Stays (S.world supervisor.old) (S.world supervisor.new) }
     ensures clock { R.clock runner.old ≤ R.clock runner.new }
 {
-    orderly_laws();
     let limit = turn_limit(supervisor, now);
-    match runner.wait(limit) {
-        Waited::Ended(child, exit) => supervisor.event(Event::Ended(child, exit), now),
-        Waited::Elapsed => {}
-    }
+    wait(runner, supervisor, now, limit);
 }

@@ -4,33 +4,33 @@ use Rattle.histories.specs.States.{SessionState, state_after}
 use Rattle.histories.proofs.Joined.{left-append}
 use Rattle.law_termination.specs.Rank.{rank}
 use Rattle.session_boots.proofs.Acting.{acts_on}
-use Rattle.law_termination.proofs.Steps.{measure_less, not_above_on, turn_goes}
+use Rattle.law_termination.proofs.Steps.{measure_less, not_above_on, pass_not_above, turn_goes}
 use Rattle.session_shutdown.specs.Runs.{ActLeft, IsAtTurnStart}
+use Rattle.session_shutdown.proofs.Entering.{start_of, turn_left}
 use Rattle.session_shutdown.proofs.Falling.{falling_at, sits_time}
 use Rattle.session_shutdown.proofs.Turning.{apart, has_stopped, sits}
 use Rattle.session_shutdown.proofs.turns.turn.Goals as goal
 
-pub pass-now-requires-clause-drives : goal.pass-now-requires-clause-drives
-pass-now-requires-clause-drives g c = c.requires.drives
-
-pub pass-now-requires-clause-placed : goal.pass-now-requires-clause-placed
-pass-now-requires-clause-placed g c = c.requires.placed
+pub pass-now-requires : goal.pass-now-requires
+pass-now-requires g c = let q = c.requires.placed in record { placed = (q.0, q.1, start_of q.2) }
 
 pub take_acts-requires-clause-now : goal.take_acts-requires-clause-now
 take_acts-requires-clause-now g c = c.pass-now.ensures.now
 
 pub take_acts-requires-clause-drives : goal.take_acts-requires-clause-drives
-take_acts-requires-clause-drives g c = c.pass-now.ensures.not_above.on.drives
+take_acts-requires-clause-drives g c =
+    (pass_not_above (g.S.Supervise.world c.args.supervisor.now) (g.S.Supervise.world c.pass-now.new.supervisor) c.pass-now.result c.requires.drives
+    c.pass-now.ensures.passed).on.drives
 
 pub take_acts-requires-clause-placed : goal.take_acts-requires-clause-placed
 take_acts-requires-clause-placed g c =
     let q = c.requires.placed in
-    let w = c.pass-now.ensures.trace q.0 q.1 q.2 in
+    let w = turn_left c.leaving_laws.ensures q.0 q.2.on q.2.keeps (c.pass-now.ensures.trace q.0 q.1 (start_of q.2)) in
     (state_after q.0 w.0, w.2)
 
 pub returns-then-stopped-clause-trace : goal.returns-then-stopped-clause-trace
 returns-then-stopped-clause-trace g c = λ p d comes.
-    let w = c.pass-now.ensures.trace p d comes in
+    let w = turn_left c.leaving_laws.ensures p comes.on comes.keeps (c.pass-now.ensures.trace p d (start_of comes)) in
     let t = c.take_acts.ensures.trace (state_after p w.0) w.2 in
     let new = Listed g.R.Runner.list g.R.Runner.told g.R.Runner.asked c.take_acts.new.runner in
     let world = g.S.Supervise.world c.take_acts.new.supervisor in
@@ -55,7 +55,7 @@ wait_once-requires-clause-now g c = (c.take_acts.ensures.now, c.pass-now.ensures
 pub wait_once-requires-clause-placed : goal.wait_once-requires-clause-placed
 wait_once-requires-clause-placed g c =
     let q = c.requires.placed in
-    let w = c.pass-now.ensures.trace q.0 q.1 q.2 in
+    let w = turn_left c.leaving_laws.ensures q.0 q.2.on q.2.keeps (c.pass-now.ensures.trace q.0 q.1 (start_of q.2)) in
     let t = c.take_acts.ensures.trace (state_after q.0 w.0) w.2 in
     let new = Listed g.R.Runner.list g.R.Runner.told g.R.Runner.asked c.take_acts.new.runner in
     let x = state_after (state_after q.0 w.0) t.0 in (
@@ -67,7 +67,7 @@ wait_once-requires-clause-placed g c =
 pub wait_once-requires-clause-drives : goal.wait_once-requires-clause-drives
 wait_once-requires-clause-drives g c =
     let q = c.requires.placed in
-    let w = c.pass-now.ensures.trace q.0 q.1 q.2 in
+    let w = turn_left c.leaving_laws.ensures q.0 q.2.on q.2.keeps (c.pass-now.ensures.trace q.0 q.1 (start_of q.2)) in
     let t = c.take_acts.ensures.trace (state_after q.0 w.0) w.2 in
     let new = Listed g.R.Runner.list g.R.Runner.told g.R.Runner.asked c.take_acts.new.runner in (
       c.take_acts.ensures.not_above.on.drives,
@@ -78,7 +78,7 @@ wait_once-requires-clause-drives g c =
 pub wait_once-requires-clause-time : goal.wait_once-requires-clause-time
 wait_once-requires-clause-time g c =
     let q = c.requires.placed in
-    let w = c.pass-now.ensures.trace q.0 q.1 q.2 in
+    let w = turn_left c.leaving_laws.ensures q.0 q.2.on q.2.keeps (c.pass-now.ensures.trace q.0 q.1 (start_of q.2)) in
     let t = c.take_acts.ensures.trace (state_after q.0 w.0) w.2 in
     let new = Listed g.R.Runner.list g.R.Runner.told g.R.Runner.asked c.take_acts.new.runner in
     let world = g.S.Supervise.world c.take_acts.new.supervisor in
@@ -89,7 +89,7 @@ wait_once-requires-clause-time g c =
 
 pub returns-clause-trace : goal.returns-clause-trace
 returns-clause-trace g c = λ p d comes.
-    let w = c.pass-now.ensures.trace p d comes in
+    let w = turn_left c.leaving_laws.ensures p comes.on comes.keeps (c.pass-now.ensures.trace p d (start_of comes)) in
     let t = c.take_acts.ensures.trace (state_after p w.0) w.2 in
     let new = Listed g.R.Runner.list g.R.Runner.told g.R.Runner.asked c.take_acts.new.runner in
     let last = Listed g.R.Runner.list g.R.Runner.told g.R.Runner.asked c.wait_once.new.runner in
@@ -114,7 +114,7 @@ returns-clause-falls g c = λ more.
     let old = g.S.Supervise.world c.args.supervisor.now in
     let told = g.S.Supervise.world c.pass-now.new.supervisor in
     let acts = g.S.Supervise.world c.take_acts.new.supervisor in
-    let n = not_above_on old told acts c.pass-now.ensures.not_above c.take_acts.ensures.not_above in
+    let n = not_above_on old told acts (pass_not_above old told c.pass-now.result c.requires.drives c.pass-now.ensures.passed) c.take_acts.ensures.not_above in
     let last = g.S.Supervise.world c.wait_once.new.supervisor in
     let before = g.R.Runner.clock c.args.runner.now in
     let after = g.R.Runner.clock c.wait_once.new.runner in

@@ -4,7 +4,9 @@ use Rattle.histories.specs.States.{SessionState, state_after}
 use Rattle.histories.proofs.Joined.{left-append}
 use Rattle.session_boots.proofs.Acting.{acts_none, acts_on}
 use Rattle.session_steady.specs.Acting.{ActLeft}
-use Rattle.session_steady.specs.Runs.{IsInTurn}
+use Rattle.session_acts.specs.Runs.{IsInTurn}
+use Rattle.session_steady.specs.Runs.{IsSince}
+use Rattle.session_steady.proofs.Since.{idle_on, since_on, since_self}
 use Rattle.session_steady.proofs.Staying.{no_wilder_on, self_no_wilder, steady_on}
 use Rattle.session_steady.proofs.acts.take_acts.Goals as goal
 
@@ -12,7 +14,7 @@ pub acts-init : goal.acts-init
 acts-init g c = record {
   now = c.requires.now.0;
   no_wilder = self_no_wilder (g.S.Supervise.world c.args.supervisor.now) c.requires.drives.0;
-  trace = λ x p runs idle. ([], acts_none p (g.R.Runner.list c.args.runner.now) (g.R.Runner.list c.args.runner.now) refl, runs);
+  trace = λ p runs idle. ([], acts_none p (g.R.Runner.list c.args.runner.now) (g.R.Runner.list c.args.runner.now) refl, since_self p, runs);
 }
 
 pub take_act-requires-clause-now : goal.take_act-requires-clause-now
@@ -21,36 +23,40 @@ take_act-requires-clause-now g c = (c.acts.invariant.now, c.requires.now.1)
 pub take_act-requires-clause-placed : goal.take_act-requires-clause-placed
 take_act-requires-clause-placed g c =
     let q = c.requires.placed in
-    let w = c.acts.invariant.trace q.0 q.1 q.2 q.3 in
-    (q.0, state_after q.1 w.0, w.2, q.3)
+    let w = c.acts.invariant.trace q.0 q.1 q.2 in
+    (state_after q.0 w.0, w.3, idle_on q.0 (state_after q.0 w.0) w.2 q.2)
 
 pub acts-preserved : goal.acts-preserved
 acts-preserved g c = record {
   now = c.take_act.ensures.now;
   no_wilder = no_wilder_on (g.S.Supervise.world c.args.supervisor.now) (g.S.Supervise.world c.acts.supervisor) (g.S.Supervise.world c.take_act.new.supervisor)
       c.acts.invariant.no_wilder c.take_act.ensures.no_wilder;
-  trace = λ x p runs idle.
-      let w = c.acts.invariant.trace x p runs idle in
-      let t = c.take_act.ensures.trace x (state_after p w.0) w.2 idle in (
+  trace = λ p runs idle.
+      let w = c.acts.invariant.trace p runs idle in
+      let t = c.take_act.ensures.trace (state_after p w.0) w.3 (idle_on p (state_after p w.0) w.2 idle) in (
         t.0 ++ w.0,
         acts_on p w.0 t.0 (g.R.Runner.list c.args.runner.now) (g.R.Runner.list c.acts.runner) (g.R.Runner.list c.take_act.new.runner) w.1 t.1,
-        subst (λ (s : SessionState). IsInTurn x s (g.S.Supervise.world c.take_act.new.supervisor)
+        since_on p (state_after p w.0) (state_after p (t.0 ++ w.0)) w.2
+            (subst (λ (s : SessionState). IsSince (state_after p w.0) s) (sym (left-append p t.0 w.0)) t.2),
+        subst (λ (s : SessionState). IsInTurn s (g.S.Supervise.world c.take_act.new.supervisor)
             (Listed g.R.Runner.list g.R.Runner.told g.R.Runner.asked c.take_act.new.runner) (g.R.Runner.living c.take_act.new.runner))
             (sym (left-append p t.0 w.0))
-            t.2.runs,
+            t.3.runs,
       );
 }
 
 pub returns-then-take_act-clause-trace : goal.returns-then-take_act-clause-trace
-returns-then-take_act-clause-trace g c = λ x p runs idle.
-    let w = c.acts.invariant.trace x p runs idle in
-    let t = c.take_act.ensures.trace x (state_after p w.0) w.2 idle in (
+returns-then-take_act-clause-trace g c = λ p runs idle.
+    let w = c.acts.invariant.trace p runs idle in
+    let t = c.take_act.ensures.trace (state_after p w.0) w.3 (idle_on p (state_after p w.0) w.2 idle) in (
       t.0 ++ w.0,
       acts_on p w.0 t.0 (g.R.Runner.list c.args.runner.now) (g.R.Runner.list c.acts.runner) (g.R.Runner.list c.take_act.new.runner) w.1 t.1,
-      subst (λ (s : SessionState). ActLeft x s true (g.S.Supervise.world c.take_act.new.supervisor)
+      since_on p (state_after p w.0) (state_after p (t.0 ++ w.0)) w.2
+          (subst (λ (s : SessionState). IsSince (state_after p w.0) s) (sym (left-append p t.0 w.0)) t.2),
+      subst (λ (s : SessionState). ActLeft s true (g.S.Supervise.world c.take_act.new.supervisor)
           (Listed g.R.Runner.list g.R.Runner.told g.R.Runner.asked c.take_act.new.runner) (g.R.Runner.living c.take_act.new.runner))
           (sym (left-append p t.0 w.0))
-          (record { runs = t.2.runs; quiet = λ none. t.2.quiet c.if-take_act.true }),
+          (record { runs = t.3.runs; quiet = λ none. t.3.quiet c.if-take_act.true }),
     )
 
 pub take_act-requires-clause-drives : goal.take_act-requires-clause-drives

@@ -4,18 +4,17 @@ use Rattle.histories.specs.States.{SessionState, state_after}
 use Rattle.histories.proofs.Joined.{left-append}
 use Rattle.session_boots.proofs.Acting.{acts_on}
 use Rattle.session_steady.specs.Acting.{ActLeft}
+use Rattle.session_steady.specs.Runs.{IsSince}
+use Rattle.session_steady.proofs.Since.{idle_on, since_acts, since_on}
 use Rattle.session_steady.proofs.Serving.{asking_on, idle_of, serving_on, start_of}
-use Rattle.session_steady.proofs.Staying.{stays_on, steady_on}
+use Rattle.session_steady.proofs.Staying.{pass_stays, stays_on, steady_on}
 use Rattle.session_steady.proofs.settling.settle.Goals as goal
 
-pub pass-now-requires-clause-drives : goal.pass-now-requires-clause-drives
-pass-now-requires-clause-drives g c = c.requires.drives.0
-
-pub pass-now-requires-clause-placed : goal.pass-now-requires-clause-placed
-pass-now-requires-clause-placed g c =
+pub pass-now-requires : goal.pass-now-requires
+pass-now-requires g c =
     let q = c.requires.placed in
     let told = Listed g.R.Runner.list g.R.Runner.told g.R.Runner.asked c.args.runner.now in
-    (q.0, q.0, start_of q.0 q.1 (g.S.Supervise.world c.args.supervisor.now) told (g.R.Runner.living c.args.runner.now) q.2)
+    record { placed = (q.0, q.1, start_of q.0 q.1 (g.S.Supervise.world c.args.supervisor.now) told (g.R.Runner.living c.args.runner.now) q.2) }
 
 pub returns-then-is_last-clause-last : goal.returns-then-is_last-clause-last
 returns-then-is_last-clause-last g c =
@@ -28,11 +27,11 @@ returns-then-is_last-clause-trace g c = λ p d serving.
     let told = Listed g.R.Runner.list g.R.Runner.told g.R.Runner.asked c.pass-now.new.runner in
     let world = g.S.Supervise.world c.args.supervisor.now in
     let lived = g.R.Runner.living c.args.runner.now in
-    let w = c.pass-now.ensures.trace p p (start_of p d world old lived serving) in (
+    let w = c.pass-now.ensures.trace p d (start_of p d world old lived serving) in (
       w.0,
-      w.1,
+      w.1.acts,
       serving_on p d world old lived serving (state_after p w.0) (g.S.Supervise.world c.pass-now.new.supervisor) told
-          (g.R.Runner.living c.pass-now.new.runner) w.2,
+          (g.R.Runner.living c.pass-now.new.runner) w.2 (since_acts p w.0 w.1),
     )
 
 pub returns-then-is_last-clause-clock : goal.returns-then-is_last-clause-clock
@@ -44,7 +43,8 @@ take_acts-requires-clause-now g c =
 
 pub take_acts-requires-clause-drives : goal.take_acts-requires-clause-drives
 take_acts-requires-clause-drives g c =
-    let s = c.pass-now.ensures.stays in
+    let s = pass_stays (g.S.Supervise.world c.args.supervisor.now) (g.S.Supervise.world c.pass-now.new.supervisor) c.pass-now.result c.requires.drives.0
+    c.pass-now.ensures.passed in
     (s.drives, steady_on (g.S.Supervise.world c.args.supervisor.now) (g.S.Supervise.world c.pass-now.new.supervisor) c.requires.drives.1 s)
 
 pub take_acts-requires-clause-placed : goal.take_acts-requires-clause-placed
@@ -53,8 +53,8 @@ take_acts-requires-clause-placed g c =
     let told = Listed g.R.Runner.list g.R.Runner.told g.R.Runner.asked c.args.runner.now in
     let living = g.R.Runner.living c.args.runner.now in
     let world = g.S.Supervise.world c.args.supervisor.now in
-    let w = c.pass-now.ensures.trace q.0 q.0 (start_of q.0 q.1 world told living q.2) in
-    (q.0, state_after q.0 w.0, w.2, idle_of q.0 q.1 world told living q.2)
+    let w = c.pass-now.ensures.trace q.0 q.1 (start_of q.0 q.1 world told living q.2) in
+    (state_after q.0 w.0, w.2, idle_on q.0 (state_after q.0 w.0) (since_acts q.0 w.0 w.1) (idle_of q.0 q.1 world told living q.2))
 
 pub returns-clause-now : goal.returns-clause-now
 returns-clause-now g c = (c.take_acts.ensures.now, c.is_last.ensures.early c.if-is_last.false c.pass-now.ensures.now.1)
@@ -67,17 +67,25 @@ returns-clause-trace g c = λ p d serving.
     let last = g.S.Supervise.world c.take_acts.new.supervisor in
     let lived = g.R.Runner.living c.args.runner.now in
     let living = g.R.Runner.living c.take_acts.new.runner in
-    let w = c.pass-now.ensures.trace p p (start_of p d world old lived serving) in
-    let t = c.take_acts.ensures.trace p (state_after p w.0) w.2 (idle_of p d world old lived serving) in (
+    let w = c.pass-now.ensures.trace p d (start_of p d world old lived serving) in
+    let t = c.take_acts.ensures.trace (state_after p w.0) w.2
+    (idle_on p (state_after p w.0) (since_acts p w.0 w.1) (idle_of p d world old lived serving)) in (
       t.0 ++ w.0,
-      acts_on p w.0 t.0 (g.R.Runner.list c.args.runner.now) (g.R.Runner.list c.pass-now.new.runner) (g.R.Runner.list c.take_acts.new.runner) w.1 t.1,
+      acts_on p w.0 t.0 (g.R.Runner.list c.args.runner.now) (g.R.Runner.list c.pass-now.new.runner) (g.R.Runner.list c.take_acts.new.runner) w.1.acts t.1,
       asking_on p d world old lived serving (state_after p (t.0 ++ w.0)) true last new living
-          (subst (λ (s : SessionState). ActLeft p s true last new living) (sym (left-append p t.0 w.0)) t.2) refl,
+          (subst (λ (s : SessionState). ActLeft s true last new living) (sym (left-append p t.0 w.0)) t.3) refl
+          (since_on p (state_after p w.0) (state_after p (t.0 ++ w.0)) (since_acts p w.0 w.1)
+          (subst (λ (s : SessionState). IsSince (state_after p w.0) s) (sym (left-append p t.0 w.0)) t.2)),
     )
 
 pub returns-clause-stays : goal.returns-clause-stays
 returns-clause-stays g c = stays_on (g.S.Supervise.world c.args.supervisor.now) (g.S.Supervise.world c.pass-now.new.supervisor)
-    (g.S.Supervise.world c.take_acts.new.supervisor) c.pass-now.ensures.stays c.take_acts.ensures.no_wilder.stays
+    (g.S.Supervise.world c.take_acts.new.supervisor) (pass_stays (g.S.Supervise.world c.args.supervisor.now) (g.S.Supervise.world c.pass-now.new.supervisor) c.pass-now.result c.requires.drives.0
+    c.pass-now.ensures.passed) c.take_acts.ensures.no_wilder.stays
 
 pub returns-clause-clock : goal.returns-clause-clock
 returns-clause-clock g c = omega (arith, c.take_acts.ensures.now, c.pass-now.ensures.clock)
+
+pub returns-then-is_last-clause-stays : goal.returns-then-is_last-clause-stays
+returns-then-is_last-clause-stays g c = pass_stays (g.S.Supervise.world c.args.supervisor.now) (g.S.Supervise.world c.pass-now.new.supervisor)
+    c.pass-now.result c.requires.drives.0 c.pass-now.ensures.passed
