@@ -24,7 +24,8 @@ use Rattle.session_boots.specs.Booted.{BootsLeft}
 use Rattle.session_boots.specs.Stands.{IsAtBootStage}
 use Rattle.session_boots.specs.declared.ends.Booted.{Booted}
 use Rattle.session_boots.specs.declared.ends.Booted.TheVariants as booted
-use Rattle.session_back_boots.specs.Backs.{AreMadeAgain, IsStillBacking}
+use Rattle.session_boots.specs.Made.{AreMadeAgain}
+use Rattle.session_boots.specs.Staged.{IsStillBacking}
 use Rattle.session_transitions.specs.Enters.{AreReady}
 use Rattle.session_admission.specs.Readied.{AreReadiedFor}
 use Rattle.session_admission.proofs.Serving.{backs_made, earlier_ready}

@@ -14,7 +14,7 @@ mapped_none f None o b told some = sym (ap (λ (x : Option (List ℕ)). is_none 
 mapped_none f (Some x) o b told some = sym (ap (λ (x : Option (List ℕ)). is_none x) told)
 
 turn_none : (d : Device) → IsIn stages.Booting d → has_failed d ≡ false → is_none (next_name d) ≡ is_none (duty_of d).turn
-turn_none d is fresh = sym (ap (λ (b : Bool). b || is_none (next_name d)) fresh) ∙ through_is d is
+turn_none d is fresh = sym (ap (λ (b : Bool). b || is_none (next_name d)) fresh) ∙ through_is d
 
 is_none_of : {A : Type 0} (o : Option A) → is_none o ≡ true → o ≡ None
 is_none_of None is = refl

@@ -2,7 +2,7 @@
 ghost use Rattle.law_termination.specs.Drives.{Drives};
 ghost use Rattle.std.specs.Prelude.{◌≡◌, [], IfOk, OnErr, IsErrOf, true};
 ghost use Rattle.nuc_base.specs.Faults.{Rose};
-ghost use Rattle.session_back_boots.specs.Backs.{IsStillBacking};
+ghost use Rattle.session_boots.specs.Staged.{IsStillBacking};
 ghost use Rattle.deploy_state.specs.Fields.{has_failed};
 ghost use Rattle.deploy_state.specs.States.{OwnsBacked, OwnsBacking, InBrokeOff, backed_device, backing_device, broken_device};
 ghost use Rattle.session_rollout.specs.Backwards.{EndsBacks, HasWayBack, paused_of};
@@ -20,9 +20,8 @@ use disk_model::Disk;
 use edges::Sink;
 use gate_log::Journal;
 use nuc_base::Outcome;
-use session_back_boots::run_rollback_boots;
-use session_boots::{Booted, SessionFault};
-use session_transitions::close_failed_backing;
+use session_boots::{Booted, SessionFault, run_rollback_boots};
+use session_transitions::close_failed;
 use step_runner::Runner;
 
 fn paused<J: Journal + Drop>(backed: Backed<J>) -> Loaded<J>
@@ -67,7 +66,7 @@ where
         Backed::Rolling(state) => roll_on(state, ready, disk, sink, runner, supervisor),
         Backed::Backing(state) => {
             drop(ready);
-            match close_failed_backing(state, disk, sink, supervisor) {
+            match close_failed(state, disk, sink, supervisor) {
                 Ok(idle) => Ok(Driven::Closed(idle, Outcome::UnableToRollback, Presence::Absent)),
                 Err(over) => Err(over),
             }

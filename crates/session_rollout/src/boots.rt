@@ -30,9 +30,7 @@ use gate_log::Journal;
 use nuc_base::Outcome;
 use session_admission::Readied;
 use session_boots::{Booted, SessionFault, run_boots};
-use session_transitions::{
-    begin_items, begin_rollback_of_booting, close_failed_booting, is_to_roll_back, kill_all,
-};
+use session_transitions::{begin_items, begin_rollback, close_failed, is_to_roll_back, kill_all};
 use step_runner::Runner;
 
 /// The deployment is rolled back.
@@ -66,7 +64,7 @@ where
     ensures quiet_disk { ¬ (IsErrOf result SessionFault.Disk) → D.faults disk.new ≡ D.faults disk.old }
     ensures quiet_sink { ¬ (IsErrOf result SessionFault.Edge) → K.faults sink.new ≡ K.faults sink.old }
 {
-    match begin_rollback_of_booting(state, disk) {
+    match begin_rollback(state, disk) {
         Ok(broke) => roll_back(broke, backs, ready, disk, sink, runner, supervisor),
         Err(over) => Err(over),
     }
@@ -106,7 +104,7 @@ where
         return break_off(state, backs, ready, disk, sink, runner, supervisor);
     }
     drop(ready);
-    match close_failed_booting(state, disk, sink, supervisor) {
+    match close_failed(state, disk, sink, supervisor) {
         Ok(idle) => Ok(Driven::Closed(idle, Outcome::RollbackNotRequested, Presence::Absent)),
         Err(over) => Err(over),
     }

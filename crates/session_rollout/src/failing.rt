@@ -24,10 +24,7 @@ use gate_log::Journal;
 use nuc_base::Outcome;
 use session_boots::SessionFault;
 use session_shutdown::stop_components;
-use session_transitions::{
-    begin_rollback_again, begin_rollback_of_activating, close_failed_activating,
-    close_failed_again, is_to_roll_back, kill_all,
-};
+use session_transitions::{begin_rollback, close_failed, is_to_roll_back, kill_all};
 use step_runner::Runner;
 
 /// All components are stopped, and then the way back begins.
@@ -91,7 +88,7 @@ where
     ensures quiet_disk { ¬ (IsErrOf result SessionFault.Disk) → D.faults disk.new ≡ D.faults disk.old }
     ensures quiet_sink { ¬ (IsErrOf result SessionFault.Edge) → K.faults sink.new ≡ K.faults sink.old }
 {
-    match begin_rollback_of_activating(state, disk) {
+    match begin_rollback(state, disk) {
         Ok(broke) => stop_and_go_back(broke, backs, ready, disk, sink, runner, supervisor),
         Err(over) => {
             kill_all(runner, supervisor);
@@ -126,7 +123,7 @@ where
     ensures quiet_disk { ¬ (IsErrOf result SessionFault.Disk) → D.faults disk.new ≡ D.faults disk.old }
     ensures quiet_sink { ¬ (IsErrOf result SessionFault.Edge) → K.faults sink.new ≡ K.faults sink.old }
 {
-    match close_failed_activating(state, disk, sink, supervisor) {
+    match close_failed(state, disk, sink, supervisor) {
         Ok(idle) => Ok(Driven::Closed(idle, Outcome::RollbackNotRequested, Presence::Present)),
         Err(over) => {
             kill_all(runner, supervisor);
@@ -202,13 +199,13 @@ where
     ensures quiet_sink { ¬ (IsErrOf result SessionFault.Edge) → K.faults sink.new ≡ K.faults sink.old }
 {
     if is_to_roll_back(state.device()) {
-        return match begin_rollback_again(state, disk) {
+        return match begin_rollback(state, disk) {
             Ok(broke) => roll_back(broke, backs, ready, disk, sink, runner, supervisor),
             Err(over) => Err(over),
         };
     }
     drop(ready);
-    match close_failed_again(state, disk, sink, supervisor) {
+    match close_failed(state, disk, sink, supervisor) {
         Ok(idle) => Ok(Driven::Closed(idle, Outcome::RollbackNotRequested, Presence::Absent)),
         Err(over) => Err(over),
     }

@@ -21,7 +21,7 @@ use gate_log::Journal;
 use nuc_base::Outcome;
 use session_boots::SessionFault;
 use session_startup::roll;
-use session_transitions::{change_items, close_again, kill_all};
+use session_transitions::{change_items, close_failed, kill_all};
 use step_runner::Runner;
 
 /// Brings the items of the set up, none of which failed three times.
@@ -95,7 +95,7 @@ where
         return raise_set(state, ready, disk, sink, runner, supervisor);
     }
     drop(ready);
-    match close_again(state, disk, sink, supervisor) {
+    match close_failed(state, disk, sink, supervisor) {
         Ok(idle) => Ok(Driven::Closed(idle, Outcome::UnableToRollback, Presence::Absent)),
         Err(over) => Err(over),
     }

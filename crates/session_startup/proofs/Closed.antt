@@ -1,6 +1,6 @@
 -- The close of a deployment in a history.
 use Rattle.std.specs.Prelude.{Contains, ℕ, ◌==◌, nat_eq, nat_lt, length, Bool, true, false, List, [], ◌∷◌, ◌++◌, Option, Some, None, IsSome, is_some}
-use Rattle.std.specs.Prelude.{if◌then◌else◌}
+use Rattle.std.specs.Prelude.{Result, Ok, Err, OnErr, OnOk, if◌then◌else◌}
 use Rattle.std.specs.List.{list_any, position_or_len}
 use Rattle.std.specs.Option.{IsSomeAnd, option_map_or}
 use Rattle.std.proofs.Common.{◌≡◌, ◌↔◌, ◌∙◌, inl, refl, sym, ap, subst, arith}
@@ -18,8 +18,8 @@ use Rattle.device.specs.declared.staged.Stage.{Stage}
 use Rattle.device.specs.declared.staged.Stage.TheVariants as stages
 use Rattle.deploy_state.specs.Fields.{rolled_outcome}
 use Rattle.deploy_state.specs.Owned.{LeavesEither}
-use Rattle.deploy_state.specs.States.{IsIn}
-use Rattle.deploy_state.proofs.Steps.{may_roll}
+use Rattle.deploy_state.specs.States.{IsIn, idle_device}
+use Rattle.deploy_state.specs.declared.state.Idle.{Idle}
 use Rattle.step_runner.specs.Entries.{Told}
 use Rattle.step_runner.specs.declared.entries.RunnerEntry.{RunnerEntry}
 use Rattle.components.specs.Components.{Components, is_settled, owner}
@@ -30,19 +30,21 @@ use Rattle.histories.specs.Phases.{Generation, duty_in, duty_of, is_shutting_dow
 use Rattle.histories.specs.TraceEvents.{Recorded, records_of}
 use Rattle.histories.specs.States.{SessionState, leaves}
 use Rattle.histories.specs.Waits.{has_three}
-use Rattle.histories.specs.Follows.{MayClose as MayEnd, MayFollow}
+use Rattle.histories.specs.Follows.{MayClose as MayEnd}
 use Rattle.session_boots.specs.Lines.{closed_line, id_of, line_of, lines_of}
-use Rattle.session_boots.specs.Ends.{LeftAt}
+use Rattle.session_boots.specs.Ends.{Left, LeftAt}
 use Rattle.session_boots.specs.Traces.{IsTrace}
+use Rattle.session_boots.specs.declared.ends.SessionFault.{SessionFault}
 use Rattle.session_boots.specs.declared.ends.SessionFault.TheVariants as over
 use Rattle.session_boots.proofs.Joins.{kept_one}
 use Rattle.session_boots.proofs.Records.{doubt_at}
 use Rattle.law_supervisor.specs.Sound.{Differ}
 use Rattle.law_supervisor.proofs.Steadied.{closed_orderly, living_steadied, owes_steadied, owner_steadied}
+use Rattle.session_startup.specs.Closing.{MayCloseNow, just_closed}
 use Rattle.session_startup.specs.Ended.{HasClosed}
 use Rattle.session_startup.specs.Runs.{MayAbort, HasNoActLeft}
-use Rattle.session_startup.proofs.Answered.{free_is, free_steadied, is_free}
-use Rattle.session_startup.proofs.Entering.{later_same, never, no_boot, without_boot}
+use Rattle.session_acts.proofs.Answered.{free_is, free_steadied, is_free}
+use Rattle.session_acts.proofs.Entering.{later_same, never, no_boot, without_boot}
 use Rattle.session_startup.proofs.Quiet.{quiet_steadied}
 
 -- ---- a third failure
@@ -111,9 +113,6 @@ pub rolls : (p : SessionState) (d : Device) (b : Bool) (world : Components) (tol
     HasNoActLeft p d b world told living → rolled_outcome d ≡ set_outcome b
 rolls p d b world told living is r = outcome_of d b is (ap (λ (x : Device). has_three (duty_of x).counts) (sym r.device_is) ∙ r.counts)
 
-pub roll_allowed : (d : Device) (b : Bool) → IsIn stages.Rolling d → rolled_outcome d ≡ set_outcome b → Allowed d (stored.Closed (set_outcome b))
-roll_allowed d b is same = subst (λ (o : Outcome). Allowed d (stored.Closed o)) same (may_roll d is)
-
 -- ---- the device behind it
 
 last_in : (d : Device) (p : Option Pending) (o : Outcome) → IsSome p → (close_pending o d p).closed ≡ d.closed ++ (id_of (pends d p), o) ∷ []
@@ -131,6 +130,13 @@ pub pends_in : (s : Stage) (d : Device) → IsIn s d → IsSome d.pending
 pends_in s d is = by d.pending is
   where
     by : (o : Option Pending) → IsSomeAnd o (λ q. q.stage ≡ s) → IsSome o
+    by None h = absurd h
+    by (Some q) h = refl
+
+pub pends_still : (d : Device) (o : Outcome) → Allowed d (stored.Closed o) → IsSome d.pending
+pends_still d o may = by d.pending may
+  where
+    by : (x : Option Pending) → IsSomeAnd x (λ q. MayClose q o) → IsSome x
     by None h = absurd h
     by (Some q) h = refl
 
@@ -181,6 +187,17 @@ closed_at p d e b o world told living pending r same =
       closed = ([], refl);
     }
 
+-- where the close left the call
+pub left_closed : {J D : Type 0} (entries : Image → List (List ℕ) → Type 0) (may_leave : D → Image → Type 0) (disk : D) (p : SessionState) (d : Device)
+    (b : Bool) (o : Outcome) (world now : Components) (told : Told) (living : List ℕ) → IsSome d.pending → HasNoActLeft p d b world told living →
+    (result : Result (Idle J) SessionFault) → Left entries may_leave disk p (just_closed o) (λ s q. idle_device s ≡ q.device) result →
+    OnOk result (now ≡ steadied world)
+    → Left entries may_leave disk p (just_closed o) (λ s q. HasClosed o current (just_closed o) q (idle_device s) now told living) result
+left_closed entries may_leave disk p d b o world now told living pending r (Ok s) same is = subst
+    (λ (w : Components). HasClosed o current (just_closed o) (leaves p (Recorded (stored.Closed o))) (idle_device s) w told living) (sym is)
+    (closed_at p d (idle_device s) b o world told living pending r (same ∙ ap (λ (x : Device). applied x (stored.Closed o)) r.device_is))
+left_closed entries may_leave disk p d b o world now told living pending r (Err e) left is = left
+
 -- where the call gives up behind the close, whether or not the supervisor knows of it
 pub closed_quits : (p : SessionState) (d : Device) (b : Bool) (o : Outcome) (world now : Components) (told : Told) (living : List ℕ) →
     HasNoActLeft p d b world told living → ((n : ℕ) → owner n now.parts ≡ owner n p.world.parts) →
@@ -200,23 +217,31 @@ closed_quits p d b o world now told living r same =
       children = λ n. subst (λ (x : Option (ℕ × Step)). Contains living n ↔ IsSome x) (sym (owner_steadied n p.world)) (w.children n);
     }
 
-pub same_owners : (p : SessionState) (d : Device) (b : Bool) (world : Components) (told : Told) (living : List ℕ) → HasNoActLeft p d b world told living →
+same_owners : (p : SessionState) (d : Device) (b : Bool) (world : Components) (told : Told) (living : List ℕ) → HasNoActLeft p d b world told living →
     (n : ℕ) → owner n world.parts ≡ owner n p.world.parts
 same_owners p d b world told living r n = ap (λ (v : Components). owner n v.parts) r.runs.world_is
 
-pub steadied_owners : (p : SessionState) (d : Device) (b : Bool) (world now : Components) (told : Told) (living : List ℕ) →
-    HasNoActLeft p d b world told living → now ≡ steadied world → (n : ℕ) → owner n now.parts ≡ owner n p.world.parts
-steadied_owners p d b world now told living r is n = ap (λ (v : Components). owner n v.parts) is ∙ owner_steadied n world ∙ same_owners p d b world told
-    living r n
+pub kept_owners : (p : SessionState) (d : Device) (b : Bool) (world now : Components) (told : Told) (living : List ℕ) → HasNoActLeft p d b world told living →
+    ((n : ℕ) → owner n now.parts ≡ owner n world.parts) → (n : ℕ) → owner n now.parts ≡ owner n p.world.parts
+kept_owners p d b world now told living r same n = same n ∙ same_owners p d b world told living r n
 
-close_follows : (p : SessionState) (d : Device) (b : Bool) (o : Outcome) (world : Components) (told : Told) (living : List ℕ) →
-    HasNoActLeft p d b world told living → MayEnd p o → MayFollow p (Recorded (stored.Closed o))
+-- what holds anyway holds at a fault
+pub at_fault : {A E X : Type 0} (result : Result A E) → X → OnErr result X
+at_fault (Ok x) h = tt
+at_fault (Err e) h = h
+
+pub close_follows : (p : SessionState) (d : Device) (b : Bool) (o : Outcome) (world : Components) (told : Told) (living : List ℕ) →
+    HasNoActLeft p d b world told living → MayEnd p o → MayCloseNow p d o
 close_follows p d b o world told living r may =
-    let on = r.runs.within.on in (
-      (record { told = r.quiet.told; alone = on.boot; no_end = on.boot_end; on = not_closing p.generation on.generation }, may),
-      (λ cut. absurd (never p.cut on.cut cut)),
-      on.over,
-    )
+    let on = r.runs.within.on in
+    record {
+      device_is = r.device_is;
+      follows = (
+        (record { told = r.quiet.told; alone = on.boot; no_end = on.boot_end; on = not_closing p.generation on.generation }, may),
+        (λ cut. absurd (never p.cut on.cut cut)),
+        on.over,
+      );
+    }
 
 -- all are up
 pub ends_up : (p : SessionState) (d : Device) (b : Bool) (world : Components) (told : Told) (living : List ℕ) → HasNoActLeft p d b world told living →
@@ -236,13 +261,12 @@ module _ (entries : Image → List (List ℕ) → Type 0) (files : List ℕ → 
   abbrev pub Notes : D → D → Device → Record → Type 0
   Notes old new d r = Leaves moment left_since old new (LeavesEither may_leave files entries old d (applied d r))
 
-  pub close_went : (old new : D) (list : Option (List RunnerEntry)) (p : SessionState) (d : Device) (b : Bool) (o : Outcome) (world : Components)
-      (told : Told) (living : List ℕ) → HasNoActLeft p d b world told living → MayEnd p o → Allowed d (stored.Closed o)
-      → Notes old new d (stored.Closed o) → IsTrace entries files may_leave moment left_since old new list list p (Recorded (stored.Closed o) ∷ [])
-  close_went old new list p d b o world told living r may allowed notes =
-      let same = sym r.device_is in
-      kept_one entries files laws old new list p (stored.Closed o) (close_follows p d b o world told living r may)
-      (subst (λ (x : Device). Allowed x (stored.Closed o)) same allowed) (subst (λ (x : Device). Notes old new x (stored.Closed o)) same notes)
+  pub close_went : (old new : D) (list : Option (List RunnerEntry)) (p : SessionState) (d : Device) (o : Outcome) → MayCloseNow p d o →
+      Allowed d (stored.Closed o) → Notes old new d (stored.Closed o) → IsTrace entries files may_leave moment left_since old new list list p (just_closed o)
+  close_went old new list p d o now allowed notes =
+      let same = sym now.device_is in
+      kept_one entries files laws old new list p (stored.Closed o) now.follows (subst (λ (x : Device). Allowed x (stored.Closed o)) same allowed)
+      (subst (λ (x : Device). Notes old new x (stored.Closed o)) same notes)
 
   pub close_doubt : (old new : D) (p : SessionState) (d : Device) (o : Outcome) → p.device ≡ d → Allowed d (stored.Closed o) →
       Notes old new d (stored.Closed o) → LeftAt entries may_leave new p (Recorded (stored.Closed o) ∷ []) over.Disk

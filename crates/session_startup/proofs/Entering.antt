@@ -1,76 +1,33 @@
--- An entry of the runner within a turn.
-use Rattle.std.specs.Prelude.{ℕ, Bool, true, false, List, [], ◌∷◌, ◌++◌, Option, Some, None, Contains, IsSome, if◌then◌else◌}
-use Rattle.std.specs.Option.{IsSomeAnd}
-use Rattle.std.proofs.Common.{◌≡◌, ◌≤◌, ◌↔◌, ◌⊎◌, ◌∙◌, inl, inr, refl, sym, ap, subst, arith}
-use Rattle.nuc_base.specs.declared.kinds.Exit.{Exit}
+-- A turn of the stage, and what its acts keep of the stage.
+use Rattle.std.specs.Prelude.{ℕ, Bool, true, false, List, [], ◌∷◌, Option}
+use Rattle.std.proofs.Common.{◌≡◌, refl}
 use Rattle.nuc_base.specs.declared.kinds.Step.{Step}
-use Rattle.nuc_base.specs.declared.kinds.Step.TheVariants as step
 use Rattle.device.specs.Devices.{Device}
-use Rattle.lifecycle.specs.declared.kinds.LifeEvent.{LifeEvent}
-use Rattle.lifecycle.specs.declared.kinds.LifeEvent.TheVariants as event
-use Rattle.step_runner.specs.Entries.{Notes, Told}
+use Rattle.step_runner.specs.Entries.{Told}
 use Rattle.step_runner.specs.declared.entries.RunnerEntry.{RunnerEntry}
 use Rattle.step_runner.specs.declared.entries.Seen.{Seen}
-use Rattle.components.specs.Components.{Components, Child, child_gone, owner}
+use Rattle.step_runner.specs.declared.entries.Seen.TheVariants as seen
+use Rattle.components.specs.Components.{Components}
 use Rattle.components.specs.Lives.{lived_at}
-use Rattle.components.specs.Answers.{has_answered}
-use Rattle.components.specs.Events.{ended, gone_by, is_orphan_at, kill_event_at, killed, later, launched, started}
-use Rattle.components.specs.Acts.{Move, Quietly}
 use Rattle.histories.specs.Phases.{Phase, idle, booting, activating, backing, rolling, Generation, current, duty_of}
-use Rattle.histories.specs.TraceEvents.{TraceEvent, Asked, Moved, Ran}
-use Rattle.histories.specs.States.{SessionState, is_wait, leaves, state_after, ran}
+use Rattle.histories.specs.TraceEvents.{TraceEvent, Ran}
+use Rattle.histories.specs.States.{SessionState, leaves, state_after, ran}
 use Rattle.histories.specs.Waits.{may_drive}
 use Rattle.histories.specs.Follows.{MayRun}
-use Rattle.histories.proofs.Joined.{left-append}
 use Rattle.session_boots.specs.Traces.{Acts}
-use Rattle.session_boots.proofs.Acting.{acts_none, acts_on, grows_none}
 use Rattle.law_supervisor.specs.Keeps.{Keeps}
+use Rattle.law_supervisor.specs.Sound.{IsOrderly}
+use Rattle.session_acts.specs.Runs as turn
+use Rattle.session_acts.specs.Traces.{ActsInTurn, IsActEntry}
+use Rattle.session_acts.specs.declared.acts.Did.{Did}
+use Rattle.session_acts.specs.declared.acts.Did.TheVariants as did
+use Rattle.session_acts.proofs.Entering.{comes_of as turn_comes}
+use Rattle.session_acts.proofs.Keeping.{IsKept, kept_along}
+use Rattle.session_startup.specs.Did.{DidLeave}
 use Rattle.session_startup.specs.Laws.{Laws}
 use Rattle.session_startup.specs.Runs.{IsAtTurnStart, IsOn, IsWithin, IsInTurn, rises}
-use Rattle.session_startup.proofs.Answered.{free_is, free_moved, is_free}
 
-pub never : (b : Bool) → b ≡ false → b ≡ true → ⊥
-never b e f = absurd cc
-
-pub later_same : (m : ℕ) (w : Components) → m ≡ w.moment → later m w ≡ w
-later_same m w is = ap (λ (x : ℕ). later x w) is
-
--- ---- events leave the moment
-
-moment_launched : (s : Step) (k : ℕ) (w : Components) → (launched s k w).moment ≡ w.moment
-moment_launched step.Install k w = refl
-moment_launched step.Run k w = refl
-moment_launched step.Startup k w = refl
-moment_launched step.Shutdown k w = refl
-moment_launched step.Recover k w = refl
-moment_launched step.Bootstrap k w = refl
-
-pub moment_started : (k : ℕ) (s : Step) (n : ℕ) (w : Components) → (started k s n w).moment ≡ w.moment
-moment_started k s n w = moment_launched s k _
-
-moment_gone : (o : Option LifeEvent) (k : ℕ) (s : Step) (n : ℕ) (w : Components) → (gone_by o k s n w).moment ≡ w.moment
-moment_gone None k s n w = refl
-moment_gone (Some e) k s n w = by (is_orphan_at k s w)
-  where
-    by : (b : Bool) → (if b then child_gone k n w else lived_at k e (child_gone k n w)).moment ≡ w.moment
-    by true = refl
-    by false = refl
-
-pub moment_killed : (n : ℕ) (w : Components) → (killed n w).moment ≡ w.moment
-moment_killed n w = by (owner n w.parts)
-  where
-    by : (o : Option (ℕ × Step)) → (elim o as (λ x. Components) [ None ↦ w | Some o ↦ gone_by (kill_event_at o.0 o.1 n w) o.0 o.1 n w ]).moment ≡ w.moment
-    by None = refl
-    by (Some o) = moment_gone (kill_event_at o.0 o.1 n w) o.0 o.1 n w
-
-pub moment_ended : (n : ℕ) (x : Exit) (w : Components) → (ended n x w).moment ≡ w.moment
-moment_ended n x w = by (owner n w.parts)
-  where
-    by : (o : Option (ℕ × Step)) → (elim o as (λ x. Components) [ None ↦ w | Some o ↦ gone_by (Some (event.Ended o.1 x)) o.0 o.1 n w ]).moment ≡ w.moment
-    by None = refl
-    by (Some o) = moment_gone (Some (event.Ended o.1 x)) o.0 o.1 n w
-
--- ---- the stage
+-- ---- a turn of the stage is one
 
 drives_in : (f : Phase) (c : Generation) (serves : Bool) → rises f ≡ true → c ≡ current → may_drive f c serves ≡ true
 drives_in idle c serves h is = absurd cc
@@ -82,147 +39,108 @@ drives_in rolling c serves h is = rw is refl
 pub drives : (p : SessionState) → IsOn p → may_drive (duty_of p.device).phase p.generation p.serves ≡ true
 drives p on = drives_in (duty_of p.device).phase p.generation p.serves on.phase on.generation
 
--- ---- an entry
+pub driving_of : (p : SessionState) → IsOn p → turn.IsDriving p
+driving_of p on = record { drives = drives p on; boot = on.boot; boot_end = on.boot_end; over = on.over; cut = on.cut }
 
-abbrev pub entry : Told → Seen → RunnerEntry
-entry old s = record { moment = old.moment; asked = old.asked; seen = s }
+orderly_of : (d : Device) (w : Components) → Keeps d w → IsOrderly w
+orderly_of d w k = record { sound = k.sound; differ = k.differ; names = k.names }
 
-pub ran_acts : (p : SessionState) (old new : Told) (living : List ℕ) (s : Seen) (k : ℕ) (t : Step) → IsWithin p old living →
-    MayRun (duty_of p.device) p s k t → Notes old new s → Acts p (Ran (entry old s) k t ∷ []) old.list new.list
-ran_acts p old new living s k t w may notes = record {
-  proper = (
-    (
-      (may, record { moment = w.moment; asked = w.asked; due = λ d. w.asked ∙ w.due d }, drives p w.on),
-      (λ cut. absurd (never p.cut w.on.cut cut)),
-      w.on.over,
-    ),
-    tt,
-  );
-  none = refl;
-  list = notes.entry;
-  device = refl;
+pub start_of : {p : SessionState} {d : Device} {world : Components} {told : Told} {living : List ℕ} → IsAtTurnStart p d world told living →
+    turn.IsAtTurnStart p d world told living
+start_of {p} c = record { stands = c.stands; on = driving_of p c.on; orderly = orderly_of p.device p.world c.keeps }
+
+pub within_of : {p : SessionState} {told : Told} {living : List ℕ} → IsWithin p told living → turn.IsWithin p told living
+within_of {p} w = record {
+  on = driving_of p w.on;
+  orderly = orderly_of p.device p.world w.keeps;
+  answered = w.answered;
+  moment = w.moment;
+  asked = w.asked;
+  due = w.due;
+  children = w.children;
 }
 
--- the components behind it
-pub record IsRunAfter (p : SessionState) (s : Seen) (k : ℕ) (t : Step) (living : List ℕ) : Type 0 where
-  pub moment : (ran s k t p.world).moment ≡ p.world.moment
-  pub keeps : Keeps p.device (ran s k t p.world)
-  pub answered : has_answered (ran s k t p.world) ≡ true
-  pub children : (n : ℕ) → Contains living n ↔ IsSome (owner n (ran s k t p.world).parts)
+pub turn_of : {p : SessionState} {world : Components} {told : Told} {living : List ℕ} → IsInTurn p world told living → turn.IsInTurn p world told living
+turn_of r = record { within = within_of r.within; probed = r.probed; world_is = r.world_is }
+
+-- ---- what is kept of the stage
+
+pub record InStage (p : SessionState) : Type 0 where
+  pub on : IsOn p
+  pub keeps : Keeps p.device p.world
 
 pub on_ran : (p : SessionState) (e : RunnerEntry) (k : ℕ) (t : Step) → IsOn p → IsOn (leaves p (Ran e k t))
 on_ran p e k t on = record { phase = on.phase; generation = on.generation; boot = on.boot; boot_end = on.boot_end; over = on.over; cut = on.cut }
 
--- back in the turn
-pub within_on : (p : SessionState) (old new : Told) (s : Seen) (k : ℕ) (t : Step) (before living : List ℕ) → IsWithin p old before → Notes old new s →
-    is_wait s ≡ false → IsRunAfter p s k t living
-    → IsWithin (leaves p (Ran (entry old s) k t)) new living
-within_on p old new s k t before living w notes wait a = record {
-  on = on_ran p (entry old s) k t w.on;
-  keeps = a.keeps;
-  answered = a.answered;
-  moment = notes.told ∙ w.moment ∙ sym a.moment;
-  asked = notes.asked;
-  due = λ d. absurd (never (is_wait s) wait d);
-  children = a.children;
+ran_keeps : Laws → (p : SessionState) (s : Seen) (k : ℕ) (t : Step) → MayRun (duty_of p.device) p s k t → IsActEntry p s → Keeps p.device p.world →
+    Keeps p.device (ran s k t p.world)
+ran_keeps laws p (seen.Started n c) k t may is keeps = laws.keeps_started p.device k t n p.world is may.0.told keeps
+ran_keeps laws p (seen.Refused c) k t may is keeps = laws.keeps_refused p.device k t p.world may.0.told keeps
+ran_keeps laws p (seen.Killed n) k t may is keeps = laws.keeps_killed p.device n p.world may.0.told keeps
+ran_keeps laws p (seen.Exists x true) k t may is keeps = laws.keeps_skipped p.device k p.world may.0.told keeps
+ran_keeps laws p (seen.Exists x false) k t may is keeps = keeps
+ran_keeps laws p (seen.OnPath x true) k t may is keeps = laws.keeps_skipped p.device k p.world may.0.told keeps
+ran_keeps laws p (seen.OnPath x false) k t may is keeps = keeps
+ran_keeps laws p (seen.Ended n e limit) k t may is keeps = absurd is
+ran_keeps laws p (seen.Elapsed limit) k t may is keeps = absurd is
+
+stage_kept : Laws → IsKept InStage
+stage_kept laws = record {
+  asked = λ p m s. record {
+    on = record { phase = s.on.phase; generation = s.on.generation; boot = s.on.boot; boot_end = s.on.boot_end; over = s.on.over; cut = s.on.cut };
+    keeps = laws.keeps_later p.device m p.world s.keeps;
+  };
+  moved = λ p k e next may s. record {
+    on = record { phase = s.on.phase; generation = s.on.generation; boot = s.on.boot; boot_end = s.on.boot_end; over = s.on.over; cut = s.on.cut };
+    keeps = laws.keeps_moved p.device p.world (lived_at k e p.world) (record { who = k; what = e } ∷ []) (next, may, refl) s.keeps;
+  };
+  ran = λ p e k t may is s. record { on = on_ran p e k t s.on; keeps = ran_keeps laws p e.seen k t may is s.keeps };
 }
 
--- ---- moves
+within_in : {q : SessionState} {told : Told} {living : List ℕ} → InStage q → turn.IsWithin q told living → IsWithin q told living
+within_in s w = record {
+  on = s.on;
+  keeps = s.keeps;
+  answered = w.answered;
+  moment = w.moment;
+  asked = w.asked;
+  due = w.due;
+  children = w.children;
+}
 
--- a place with these components
-pub record MovedTo (p : SessionState) (told : Told) (living : List ℕ) (list : Option (List RunnerEntry)) (v : Components) : Type 0 where
-  pub h : List TraceEvent
-  pub acts : Acts p h list list
-  pub within : IsWithin (state_after p h) told living
-  pub probed : (state_after p h).probed ≡ false
-  pub world_is : (state_after p h).world ≡ v
+turn_in : {q : SessionState} {world : Components} {told : Told} {living : List ℕ} → InStage q → turn.IsInTurn q world told living →
+    IsInTurn q world told living
+turn_in s r = record { within = within_in s r.within; probed = r.probed; world_is = r.world_is }
 
--- moves within a turn, one after another
-pub moves_on : Laws → (p : SessionState) (told : Told) (living : List ℕ) (list : Option (List RunnerEntry)) (v : Components) (ms : List Move) →
-    Quietly p.world ms v → IsWithin p told living → p.probed ≡ false → MovedTo p told living list v
-moves_on laws p told living list v [] q w probed = record { h = []; acts = acts_none p list list refl; within = w; probed = probed; world_is = sym q }
-moves_on laws p told living list v (m ∷ ms) q w probed =
-    let first : List TraceEvent = Moved m.who m.what ∷ [] in
-    let two = leaves p (Moved m.who m.what) in
-    let alone : Quietly p.world (m ∷ []) two.world = (q.0, q.1, refl) in
-    let one : Acts p first list list = record {
-      proper = (((q.1, q.0, drives p w.on), (λ cut. absurd (never p.cut w.on.cut cut)), w.on.over), tt);
-      none = refl;
-      list = grows_none list list refl;
-      device = refl;
-    } in
-    let next : IsWithin two told living = record {
-      on = record { phase = w.on.phase; generation = w.on.generation; boot = w.on.boot; boot_end = w.on.boot_end; over = w.on.over; cut = w.on.cut };
-      keeps = laws.keeps_moved p.device p.world two.world (m ∷ []) alone w.keeps;
-      answered = free_is two.world (free_moved p.world two.world (m ∷ []) alone ∙ is_free p.world w.answered);
-      moment = w.moment;
-      asked = w.asked;
-      due = w.due;
-      children = λ n. subst (λ (o : Option (ℕ × Step)). Contains living n ↔ IsSome o) (sym (laws.owner_moved n p.world two.world (m ∷ []) alone))
-          (w.children n);
-    } in
-    let rest = moves_on laws two told living list v ms q.2 next refl in
-    record {
-      h = rest.h ++ first;
-      acts = acts_on p first rest.h list list list one rest.acts;
-      within = subst (λ (x : SessionState). IsWithin x told living) (sym (left-append p rest.h first)) rest.within;
-      probed = ap (λ (x : SessionState). x.probed) (left-append p rest.h first) ∙ rest.probed;
-      world_is = ap (λ (x : SessionState). x.world) (left-append p rest.h first) ∙ rest.world_is;
-    }
+did_in : (d : Did) {q : SessionState} (world : Components) (told : Told) (living : List ℕ) → InStage q → turn.DidLeave d q world told living →
+    DidLeave d q world told living
+did_in did.Nothing world told living s r = (turn_in s r.0, r.1)
+did_in did.Something world told living s r = turn_in s r
+did_in (did.Failed k t e) world told living s f = record { within = within_in s f.within; breaks = f.breaks; owes = f.owes; world_is = f.world_is }
+
+module _ (laws : Laws) (p : SessionState) (on : IsOn p) (keeps : Keeps p.device p.world) {old new : Option (List RunnerEntry)} where
+  stage_after : (h : List TraceEvent) → ActsInTurn p h old new → InStage (state_after p h)
+  stage_after h a = kept_along InStage (stage_kept laws) p h a.acts.proper a.each (record { on = on; keeps = keeps })
+
+  -- what a part of a turn leaves it leaves in the stage
+  pub turn_left : {world : Components} {told : Told} {living : List ℕ} →
+      ((h : List TraceEvent) × ActsInTurn p h old new × turn.IsInTurn (state_after p h) world told living) →
+      (h : List TraceEvent) × Acts p h old new × IsInTurn (state_after p h) world told living
+  turn_left x = (x.0, x.1.acts, turn_in (stage_after x.0 x.1) x.2)
+
+  pub did_left : (d : Did) (world : Components) (told : Told) (living : List ℕ) →
+      ((h : List TraceEvent) × ActsInTurn p h old new × turn.DidLeave d (state_after p h) world told living) →
+      (h : List TraceEvent) × Acts p h old new × DidLeave d (state_after p h) world told living
+  did_left d world told living x = (x.0, x.1.acts, did_in d world told living (stage_after x.0 x.1) x.2)
 
 -- ---- a turn's front
-
-pub no_boot : (o : Option Child) (n : ℕ) → o ≡ None → IsSomeAnd o (λ (c : Child). c.number ≡ n) → ⊥
-no_boot o n is h = subst (λ (x : Option Child). IsSomeAnd x (λ (c : Child). c.number ≡ n)) is h
-
-pub without_boot : {A B : Type 0} → (B → ⊥) → A ⊎ B → A
-without_boot never (inl a) = a
-without_boot never (inr b) = absurd (never b)
-
-pub pass_runs : Laws → (p : SessionState) (d : Device) (world : Components) (old new : Told) (living next : List ℕ) (now : ℕ) →
-    IsAtTurnStart p d world old living → new.moment ≡ now → new.asked ≡ true → next ≡ living
-    → IsInTurn (leaves p (Asked now)) (later now world) new next
-pass_runs laws p d world old new living next now c moment asked same =
-    let s = c.stands in
-    record {
-      within = record {
-        on = record { phase = c.on.phase; generation = c.on.generation; boot = c.on.boot; boot_end = c.on.boot_end; over = c.on.over; cut = c.on.cut };
-        keeps = laws.keeps_later p.device now p.world c.keeps;
-        answered = subst (λ (w : Components). has_answered (later now w) ≡ true) (sym s.world_is) s.answered;
-        moment = moment;
-        asked = asked;
-        due = λ d. refl;
-        children = λ n. subst (λ (l : List ℕ). Contains l n ↔ IsSome (owner n p.world.parts)) (sym same)
-            ((λ h. without_boot (no_boot p.boot n c.on.boot) ((s.children n).0 h)), (λ h. (s.children n).1 (inl h)));
-      };
-      probed = refl;
-      world_is = sym (ap (λ (w : Components). later now w) s.world_is);
-    }
-
-pub pass_acts : (p : SessionState) (d : Device) (world : Components) (old : Told) (living : List ℕ) (now : ℕ) (list new : Option (List RunnerEntry)) →
-    IsAtTurnStart p d world old living → old.moment ≤ now → new ≡ list → Acts p (Asked now ∷ []) list new
-pass_acts p d world old living now list new c later_on same = record {
-  proper = ((subst (λ (w : Components). w.moment ≤ now) (sym c.stands.world_is) later_on, (λ cut. absurd (never p.cut c.on.cut cut)), c.on.over), tt);
-  none = refl;
-  list = grows_none list new same;
-  device = refl;
-}
 
 -- back at a front
 pub comes_of : (p : SessionState) (d : Device) (world : Components) (told : Told) (living : List ℕ) → IsInTurn p world told living → p.device ≡ d →
     IsAtTurnStart p d world told living
-comes_of p d world told living r device =
-    let w = r.within in
-    record {
-      stands = record {
-        device_is = device;
-        world_is = sym (later_same told.moment p.world w.moment) ∙ ap (λ (x : Components). later told.moment x) (sym r.world_is);
-        answered = ap (λ (x : Components). has_answered x) r.world_is ∙ w.answered;
-        not_before = omega (arith, w.moment, ap (λ (x : Components). x.moment) r.world_is);
-        asked = w.asked;
-        children = λ n. ((λ h. inl ((w.children n).0 h)), (λ h. (w.children n).1 (without_boot (no_boot p.boot n w.on.boot) h)));
-      };
-      on = w.on;
-      keeps = w.keeps;
-      probed = r.probed;
-    }
+comes_of p d world told living r device = record {
+  stands = (turn_comes p d world told living (turn_of r) device).stands;
+  on = r.within.on;
+  keeps = r.within.keeps;
+  probed = r.probed;
+}

@@ -22,18 +22,10 @@ use Rattle.law_termination.specs.Time.{HasTime}
 use Rattle.law_termination.specs.Drives.{Drives, has_failed}
 use Rattle.law_termination.proofs.Stands.{rises}
 use Rattle.session_startup.specs.Runs.{IsReadyToWait, IsInTurn}
-use Rattle.session_startup.specs.declared.acts.Did.{Did}
-use Rattle.session_startup.specs.declared.acts.Did.TheVariants as did
 
 -- no failure is forgotten while items come up
 pub falling_at : (p : SessionState) (world : Components) (told : Told) (living : List ℕ) → IsInTurn p world told living → IsFalling world
 falling_at p world told living r = inl (ap (λ (w : Components). w.steady) r.world_is ∙ r.within.keeps.driven)
-
-pub something_is : (x : Did) → x ≡ did.Something → x ≡ did.Nothing → ⊥
-something_is x is nothing = absurd (cc)
-
-pub failed_is : (x : Did) (k : ℕ) (s : Step) (e : Exit) → x ≡ did.Failed k s e → x ≡ did.Nothing → ⊥
-failed_is x k s e is nothing = absurd (cc)
 
 -- ---- where one is broken, it failed three times
 

@@ -1,8 +1,4 @@
-pub mod Answered
-pub mod Living
 pub mod Entering
-pub mod Starting
-pub mod Handing
 pub mod Waiting
 pub mod Failed
 pub mod Recorded

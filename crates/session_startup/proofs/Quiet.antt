@@ -2,17 +2,16 @@
 use Rattle.std.specs.Prelude.{ℕ, suc, zero, Bool, false, not, ◌&&◌, ◌||◌, List, [], ◌∷◌, ◌++◌, length, map, Option, Some, None, if◌then◌else◌, option_map}
 use Rattle.std.specs.List.{list_any, list_all}
 use Rattle.std.specs.Str.{bytes_eq}
-use Rattle.std.proofs.Common.{◌≡◌, ◌∙◌, refl, sym, ap}
+use Rattle.std.proofs.Common.{◌≡◌, ◌∙◌, refl, ap}
 use Rattle.lifecycle.specs.Awaits.{is_awaited}
 use Rattle.lifecycle.specs.declared.kinds.After.{After}
 use Rattle.lifecycle.specs.declared.kinds.After.TheVariants as after
 use Rattle.lifecycle.specs.declared.kinds.LifeEvent.TheVariants as event
-use Rattle.components.specs.Fitted.{Fitted}
 use Rattle.components.specs.Changes.{Coming, forgetting, steadied}
 use Rattle.components.specs.Components.{ComponentState, Components, component_name, has_orphan, is_again, is_to_stop, stands_up, under_way}
-use Rattle.components.specs.Marks.{Flagged, flagged, grown, is_flagged, needs_flagged, reaching}
+use Rattle.components.specs.Marks.{Flagged, grown, is_flagged, needs_flagged, reaching}
 use Rattle.components.specs.Turns.{IsQuiet, coming_needs, dependents, direct_dependents, hard_needs, is_held, is_held_far, is_held_for, is_late, is_met}
-use Rattle.components.specs.Turns.{is_to_start, is_unstarted, may_act, may_begin, may_retry, may_stop, owes, serves_softly, with_hard_needs}
+use Rattle.components.specs.Turns.{is_to_start, is_unstarted, may_act, may_begin, may_retry, may_stop, serves_softly, with_hard_needs}
 use Rattle.law_supervisor.proofs.Steadied.{owes_steadied}
 
 -- ---- what the others are to one

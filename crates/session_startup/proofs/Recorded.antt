@@ -28,8 +28,8 @@ use Rattle.session_boots.proofs.Records.{doubt_at}
 use Rattle.law_supervisor.specs.Keeps.{Keeps}
 use Rattle.session_startup.specs.Laws.{Laws}
 use Rattle.session_startup.specs.Runs.{HasFailed, IsInTurn, rises}
-use Rattle.session_startup.proofs.Answered.{free_is, free_told, is_free}
-use Rattle.session_startup.proofs.Entering.{never}
+use Rattle.session_acts.proofs.Answered.{free_is, free_told, is_free}
+use Rattle.session_acts.proofs.Entering.{never}
 use Rattle.session_startup.proofs.Failed.{CanFail, phase_on, told_same}
 
 pub fail_runs : Laws → (p : SessionState) (k : ℕ) (s : Step) (e : Exit) (n : List ℕ) (world : Components) (told : Told) (living : List ℕ) →

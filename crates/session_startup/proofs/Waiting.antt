@@ -1,27 +1,29 @@
 -- A wait, and what comes of it.
-use Rattle.std.specs.Prelude.{ℕ, true, List, [], ◌∷◌, Option, Some, None, Contains, IsSome}
-use Rattle.std.proofs.Common.{◌≡◌, ◌↔◌, ◌∙◌, inl, refl, sym, ap, subst, arith}
-use Rattle.nuc_base.specs.declared.kinds.Exit.{Exit}
+use Rattle.std.specs.Prelude.{ℕ, true, List, [], ◌∷◌, Option, None, IsSome}
+use Rattle.std.proofs.Common.{◌≡◌, ◌∙◌, refl, sym, ap, subst}
 use Rattle.nuc_base.specs.declared.kinds.Step.{Step}
 use Rattle.device.specs.Devices.{Device}
-use Rattle.step_runner.specs.Entries.{Notes, Told, without}
+use Rattle.step_runner.specs.Entries.{Told}
+use Rattle.step_runner.specs.declared.entries.RunnerEntry.{RunnerEntry}
+use Rattle.step_runner.specs.declared.entries.Seen.{Seen}
 use Rattle.step_runner.specs.declared.entries.Seen.TheVariants as seen
-use Rattle.components.specs.Components.{Components, owner}
+use Rattle.components.specs.Components.{Components}
 use Rattle.components.specs.Deadlines.{least_deadline, until}
-use Rattle.components.specs.Answers.{has_answered}
-use Rattle.components.specs.Events.{ended, later}
 use Rattle.histories.specs.Phases.{Phase, idle, booting, activating, backing, rolling, Generation, current, duty_of}
-use Rattle.histories.specs.TraceEvents.{TraceEvent, Ran, WaitElapsed}
-use Rattle.histories.specs.States.{SessionState, leaves, state_after}
+use Rattle.histories.specs.TraceEvents.{TraceEvent}
+use Rattle.histories.specs.States.{SessionState, is_wait, leaves, ran, state_after}
 use Rattle.histories.specs.Waits.{MayWait, comes_up, has_work, wait_limit}
+use Rattle.histories.specs.Follows.{MayRun}
+use Rattle.histories.specs.Courses.{Stands}
 use Rattle.session_boots.specs.Traces.{Acts}
-use Rattle.law_supervisor.specs.Keeps.{Owns}
+use Rattle.law_supervisor.specs.Keeps.{Keeps}
+use Rattle.session_acts.specs.Runs as turn
+use Rattle.session_acts.specs.Waits as waits
+use Rattle.session_acts.specs.Waits.{WaitsOnce}
+use Rattle.session_acts.proofs.Keeping.{IsKeptByWait, kept_by_wait, wait_unprobed}
 use Rattle.session_startup.specs.Laws.{Laws}
-use Rattle.session_startup.specs.Runs.{IsAtTurnStart, IsReadyToWait, rises}
-use Rattle.session_startup.proofs.Answered.{free_ended, free_is, is_free}
-use Rattle.session_startup.proofs.Entering.{entry, later_same, moment_ended, never, no_boot, on_ran, ran_acts, without_boot}
-use Rattle.session_startup.proofs.Living.{lives_without}
-use Rattle.session_startup.proofs.Starting.{back, beside, through}
+use Rattle.session_startup.specs.Runs.{IsAtTurnStart, IsOn, IsReadyToWait, rises}
+use Rattle.session_startup.proofs.Entering.{InStage, on_ran, turn_of}
 
 works_in : (f : Phase) (c : Generation) (counts : List ℕ) (p : SessionState) → rises f ≡ true → c ≡ current → comes_up counts p ≡ true →
     has_work f c counts p ≡ true
@@ -39,7 +41,7 @@ limit_in backing p h boot = absurd cc
 limit_in rolling p h boot = rw boot refl
 
 -- every act was taken, and the wait is to the next deadline
-pub may_wait : (p : SessionState) (world : Components) (told : Told) (living : List ℕ) (limit now : ℕ) → IsReadyToWait p world told living →
+may_wait : (p : SessionState) (world : Components) (told : Told) (living : List ℕ) (limit now : ℕ) → IsReadyToWait p world told living →
     told.moment ≡ now → limit ≡ until (least_deadline world) now → MayWait (duty_of p.device) p limit
 may_wait p world told living limit now s moment is =
     let on = s.runs.within.on in
@@ -53,92 +55,43 @@ may_wait p world told living limit now s moment is =
           (limit_in (duty_of p.device).phase p on.phase on.boot);
     }
 
-pub record Waited (p : SessionState) (d : Device) (world : Components) (old new : Told) (living : List ℕ) : Type 0 where
-  pub h : List TraceEvent
-  pub acts : Acts p h old.list new.list
-  pub comes : IsAtTurnStart (state_after p h) d world new living
+pub ready : (p : SessionState) (world : Components) (told : Told) (living : List ℕ) (limit now : ℕ) → IsReadyToWait p world told living →
+    told.moment ≡ now → limit ≡ until (least_deadline world) now → waits.IsReadyToWait p limit world told living
+ready p world told living limit now s moment is = record { runs = turn_of s.runs; may = may_wait p world told living limit now s moment is }
 
-pub elapsed : (p : SessionState) (d : Device) (world : Components) (old new : Told) (living next : List ℕ) (limit now : ℕ) → p.device ≡ d →
-    IsReadyToWait p world old living → old.moment ≡ now → limit ≡ until (least_deadline world) now
-    → Notes old new (seen.Elapsed limit) → next ≡ living → Waited p d world old new next
-elapsed p d world old new living next limit now device s moment is notes same =
-    let w = s.runs.within in
-    let e = entry old (seen.Elapsed limit) in
-    let q = leaves p (WaitElapsed e) in
-    let at : new.moment ≡ p.world.moment = notes.told ∙ w.moment in
-    record {
-      h = WaitElapsed e ∷ [];
-      acts = record {
-        proper = (
-          (
-            (may_wait p world old living limit now s moment is, record { moment = w.moment; asked = w.asked; due = λ d. w.asked ∙ w.due d }),
-            (λ cut. absurd (never p.cut w.on.cut cut)),
-            w.on.over,
-          ),
-          tt,
-        );
-        none = refl;
-        list = notes.entry;
-        device = refl;
-      };
-      comes = record {
-        stands = record {
-          device_is = device;
-          world_is = sym (later_same new.moment p.world at) ∙ ap (λ (v : Components). later new.moment v) (sym s.runs.world_is);
-          answered = ap (λ (v : Components). has_answered v) s.runs.world_is ∙ w.answered;
-          not_before = omega (arith, at, ap (λ (v : Components). v.moment) s.runs.world_is);
-          asked = notes.asked;
-          children = λ n. (
-            (λ h. inl ((w.children n).0 (subst (λ (l : List ℕ). Contains l n) same h))),
-            (λ h. subst (λ (l : List ℕ). Contains l n) (sym same) ((w.children n).1 (without_boot (no_boot p.boot n w.on.boot) h))),
-          );
-        };
-        on = record { phase = w.on.phase; generation = w.on.generation; boot = w.on.boot; boot_end = w.on.boot_end; over = w.on.over; cut = w.on.cut };
-        keeps = w.keeps;
-        probed = refl;
-      };
-    }
+-- ---- what it leaves
 
--- whose child it is
-is_owned : (o : Option (ℕ × Step)) → IsSome o → (x : ℕ × Step) × (o ≡ Some x)
-is_owned None h = absurd cc
-is_owned (Some x) h = (x, refl)
+ended_keeps : Laws → (p : SessionState) (s : Seen) (k : ℕ) (t : Step) → MayRun (duty_of p.device) p s k t → is_wait s ≡ true → Keeps p.device p.world →
+    Keeps p.device (ran s k t p.world)
+ended_keeps laws p (seen.Started n c) k t may is keeps = absurd cc
+ended_keeps laws p (seen.Refused c) k t may is keeps = absurd cc
+ended_keeps laws p (seen.Killed n) k t may is keeps = absurd cc
+ended_keeps laws p (seen.Exists x found) k t may is keeps = absurd cc
+ended_keeps laws p (seen.OnPath x found) k t may is keeps = absurd cc
+ended_keeps laws p (seen.Ended n e limit) k t may is keeps =
+    laws.keeps_ended p.device n e p.world (subst (λ (o : Option (ℕ × Step)). IsSome o) (sym may.1) cc) may.0.quiet.told keeps
+ended_keeps laws p (seen.Elapsed limit) k t may is keeps = absurd may
 
-pub owns_world : (p : SessionState) (world : Components) (told : Told) (living : List ℕ) (n : ℕ) → IsReadyToWait p world told living → Contains living n →
-    IsSome (owner n world.parts)
-owns_world p world told living n s lives = subst (λ (v : Components). IsSome (owner n v.parts)) (sym s.runs.world_is) ((s.runs.within.children n).0 lives)
+wait_kept : Laws → IsKeptByWait InStage
+wait_kept laws = record {
+  elapsed = λ p e is s. record {
+    on = record { phase = s.on.phase; generation = s.on.generation; boot = s.on.boot; boot_end = s.on.boot_end; over = s.on.over; cut = s.on.cut };
+    keeps = s.keeps;
+  };
+  ended = λ p e k t may is s. record { on = on_ran p e k t s.on; keeps = ended_keeps laws p e.seen k t may is s.keeps };
+}
 
-pub ends : Laws → (p : SessionState) (d : Device) (world : Components) (old new : Told) (living next : List ℕ) (n : ℕ) (x : Exit) (limit now : ℕ) →
-    p.device ≡ d → IsReadyToWait p world old living → old.moment ≡ now → limit ≡ until (least_deadline world) now
-    → Notes old new (seen.Ended n x limit) → Contains living n → next ≡ without n living → Waited p d (ended n x (later now world)) old new next
-ends laws p d world old new living next n x limit now device s moment is notes lives same =
-    let w = s.runs.within in
-    let own = is_owned (owner n p.world.parts) ((w.children n).0 lives) in
-    let k = own.0.0 in
-    let t = own.0.1 in
-    let e = entry old (seen.Ended n x limit) in
-    let q = leaves p (Ran e k t) in
-    let told = s.quiet.told in
-    let at : new.moment ≡ p.world.moment = notes.told ∙ w.moment in
-    let after : ended n x (later now world) ≡ ended n x p.world =
-    ap (λ (v : Components). ended n x (later now v)) s.runs.world_is ∙ ap (λ (v : Components). ended n x v) (later_same now p.world (sym moment ∙ w.moment)) in
-    let same_moment = moment_ended n x p.world in
-    let child : (j : ℕ) → Contains next j ↔ Owns (ended n x p.world) j = λ j. subst (λ (l : List ℕ). Contains l j ↔ Owns (ended n x p.world) j) (sym same)
-    (through (through (lives_without n living j) (beside (w.children j))) (back (laws.owner_ended p.device n j x p.world w.keeps))) in
-    record {
-      h = Ran e k t ∷ [];
-      acts = ran_acts p old new living (seen.Ended n x limit) k t w (may_wait p world old living limit now s moment is, own.1) notes;
-      comes = record {
-        stands = record {
-          device_is = device;
-          world_is = sym (later_same new.moment (ended n x p.world) (at ∙ sym same_moment)) ∙ ap (λ (v : Components). later new.moment v) (sym after);
-          answered = ap (λ (v : Components). has_answered v) after ∙ free_is (ended n x p.world) (free_ended n x p.world ∙ is_free p.world w.answered);
-          not_before = omega (arith, at, same_moment, ap (λ (v : Components). v.moment) after);
-          asked = notes.asked;
-          children = λ j. ((λ h. inl ((child j).0 h)), (λ h. (child j).1 (without_boot (no_boot p.boot j w.on.boot) h)));
-        };
-        on = on_ran p e k t w.on;
-        keeps = laws.keeps_ended p.device n x p.world ((w.children n).0 lives) told w.keeps;
-        probed = refl;
-      };
-    }
+pub wait_left : Laws → (p : SessionState) (d : Device) → p.device ≡ d → IsOn p → Keeps p.device p.world → {old new : Option (List RunnerEntry)} {world : Components}
+    {told : Told} {living : List ℕ} → ((e : TraceEvent) × WaitsOnce p e old new × turn.IsAtTurnStart (leaves p e) p.device world told living) →
+    (h : List TraceEvent) × Acts p h old new × IsAtTurnStart (state_after p h) d world told living
+wait_left laws p d is on keeps {world = world} {told = told} {living = living} x =
+    let s = kept_by_wait InStage (wait_kept laws) p x.0 x.1.acts.proper.0 x.1.wait (record { on = on; keeps = keeps }) in (
+      x.0 ∷ [],
+      x.1.acts,
+      record {
+        stands = subst (λ (e : Device). Stands (leaves p x.0) e world told living) is x.2.stands;
+        on = s.on;
+        keeps = s.keeps;
+        probed = wait_unprobed p x.0 x.1.wait;
+      },
+    )

@@ -6,8 +6,8 @@ use Rattle.components.specs.Components.{Components}
 use Rattle.components.specs.Turns.{IsQuiet}
 use Rattle.histories.specs.States.{SessionState}
 use Rattle.session_startup.specs.Runs.{HasFailed, IsInTurn}
-use Rattle.session_startup.specs.declared.acts.Did.{Did}
-use Rattle.session_startup.specs.declared.acts.Did.TheVariants as did
+use Rattle.session_acts.specs.declared.acts.Did.{Did}
+use Rattle.session_acts.specs.declared.acts.Did.TheVariants as did
 
 abbrev pub DidLeave : Did → SessionState → Components → Told → List ℕ → Type 0
 DidLeave did.Nothing p world told living = IsInTurn p world told living × IsQuiet p.world

@@ -4,3 +4,4 @@ pub mod Did
 pub mod Coming
 pub mod Turns
 pub mod Ended
+pub mod Closing

@@ -1,18 +1,17 @@
 -- Where a call is that brings items up.
-use Rattle.std.specs.Prelude.{◌≡◌, ◌⊎◌, ◌↔◌, ℕ, Bool, true, false, List, None, IsSome, Contains}
+use Rattle.std.specs.Prelude.{◌≡◌, ◌↔◌, ℕ, Bool, true, false, List, None, IsSome, Contains}
 use Rattle.nuc_base.specs.declared.kinds.Step.{Step}
 use Rattle.nuc_base.specs.declared.kinds.Exit.{Exit}
 use Rattle.device.specs.Devices.{Device}
 use Rattle.step_runner.specs.Entries.{Told}
-use Rattle.components.specs.Components.{Components, At, owner}
-use Rattle.components.specs.Turns.{IsNext, IsQuiet}
-use Rattle.components.specs.Acts.{HasStart, OwesAt}
+use Rattle.components.specs.Components.{Components, owner}
+use Rattle.components.specs.Turns.{IsQuiet}
+use Rattle.components.specs.Acts.{OwesAt}
 use Rattle.components.specs.Answers.{has_answered, living_numbers}
-use Rattle.components.specs.Events.{handed_at, told_at}
+use Rattle.components.specs.Events.{told_at}
 use Rattle.histories.specs.Phases.{Phase, idle, booting, activating, backing, rolling, duty_of, current}
 use Rattle.histories.specs.States.{SessionState}
 use Rattle.histories.specs.Waits.{comes_up, has_three}
-use Rattle.histories.specs.Follows.{HasStep}
 use Rattle.histories.specs.Courses.{Stands}
 use Rattle.law_supervisor.specs.Keeps.{Keeps}
 use Rattle.law_supervisor.specs.Sound.{Differ}
@@ -56,22 +55,6 @@ pub record IsInTurn (p : SessionState) (world : Components) (told : Told) (livin
   pub within : IsWithin p told living
   pub probed : p.probed ≡ false
   pub world_is : world ≡ p.world
-
--- the start of a step was handed out
-pub record IsStarting (p : SessionState) (k : ℕ) (s : Step) (world : Components) (told : Told) (living : List ℕ) : Type 0 where
-  pub within : IsWithin p told living
-  pub probed : p.probed ≡ false
-  pub world_is : world ≡ handed_at k p.world
-  pub next : IsNext p.world k
-  pub start : At k (HasStart s) p.world.parts
-
--- so it was, and the step needs no probe, or was probed and is not to be skipped
-pub record MayLaunch (p : SessionState) (k : ℕ) (s : Step) (world : Components) (told : Told) (living : List ℕ) : Type 0 where
-  pub within : IsWithin p told living
-  pub world_is : world ≡ handed_at k p.world
-  pub next : IsNext p.world k
-  pub start : At k (HasStart s) p.world.parts
-  pub asked : At k (λ q. HasStep q s (λ m. (m.skip ≡ None) ⊎ (p.probed ≡ true))) p.world.parts
 
 -- a failure was handed out, and is still to be recorded
 pub record HasFailed (p : SessionState) (k : ℕ) (s : Step) (e : Exit) (world : Components) (told : Told) (living : List ℕ) : Type 0 where

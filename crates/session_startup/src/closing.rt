@@ -1,26 +1,76 @@
-// The closes of both stages.
-ghost use Rattle.std.specs.Prelude.{◌≡◌, ◌≤◌, ℕ, Bool, List, true, false, IfOk, IsErrOf, OnErr, if◌then◌else◌};
+//! The close of a deployment, in whichever state it is.
+ghost use Rattle.std.specs.Prelude.{◌≡◌, ◌≤◌, ℕ, Bool, List, true, false, IfOk, IsErrOf, OnErr, OnOk, if◌then◌else◌};
+ghost use Rattle.std.specs.declared.option.Option.{Option};
 ghost use Rattle.nuc_base.specs.Faults.{Rose};
 ghost use Rattle.nuc_base.specs.declared.kinds.Outcome.TheVariants as outcomes;
+ghost use Rattle.records.specs.Stored as stored;
+ghost use Rattle.device.specs.Lawful.{Allowed, applied};
 ghost use Rattle.deploy_state.specs.States.{OwnsActivating, OwnsIdle, OwnsRolling, activating_device, idle_device, rolling_device};
 ghost use Rattle.step_runner.specs.Entries.{Told};
-ghost use Rattle.components.specs.Components.{is_settled};
+ghost use Rattle.step_runner.specs.declared.entries.RunnerEntry.{RunnerEntry};
+ghost use Rattle.components.specs.Changes.{steadied};
+ghost use Rattle.components.specs.Components.{is_settled, owner};
 ghost use Rattle.histories.specs.Phases.{current};
 ghost use Rattle.histories.specs.TraceEvents.{TraceEvent, records_of};
 ghost use Rattle.histories.specs.States.{SessionState, state_after};
 ghost use Rattle.session_boots.specs.Ends.{Lines};
 ghost use Rattle.law_termination.specs.Drives.{Drives};
+ghost use Rattle.session_startup.specs.Closing.{MayCloseNow, just_closed};
 ghost use Rattle.session_startup.specs.Ended.{HasClosed};
 ghost use Rattle.session_startup.specs.Runs.{MayAbort, HasNoActLeft};
 ghost use Rattle.session_boots.specs.Stages.{Holds, IsTraceOver, KeepsOthers, LeftOver};
 
 use crate::lines::tell_close;
+use crate::pending::{Close, Settled};
 use components::Supervise;
 use deploy_state::{Activating, Idle, Rolling};
 use disk_model::Disk;
 use edges::Sink;
 use gate_log::Journal;
 use session_boots::SessionFault;
+
+/// Closes a deployment, lets its components go on without it, and prints the line.
+pub fn close_deployment<D: Disk, J: Journal + Drop, K: Sink, S: Supervise, C: Close<J>>(
+    state: C,
+    disk: &mut D,
+    sink: &mut K,
+    supervisor: &mut S,
+) -> Result<Idle<J>, SessionFault>
+    requires held { Holds D.Disk J.Journal C.owns state disk.old }
+    requires may { Allowed (C.device state) (stored.Closed (C.outcome state)) }
+    requires drives { Drives (S.world supervisor.old) }
+    // The close is all that happens.
+    ensures trace { (p : SessionState) → (list : Option (List RunnerEntry)) → MayCloseNow p (C.device state) (C.outcome state) →
+        IsTraceOver D.Disk J.Journal disk.old disk.new list list p (just_closed (C.outcome state))
+        × Lines (K.held sink.old) (K.held sink.new) p.device (records_of (just_closed (C.outcome state))) result
+        × LeftOver D.Disk J.Journal disk.new p (just_closed (C.outcome state)) (λ s q. idle_device s ≡ q.device) result }
+    ensures taken { IfOk result (λ s. idle_device s ≡ applied (C.device state) (stored.Closed (C.outcome state))) }
+    ensures steadied { OnOk result (S.world supervisor.new ≡ steadied (S.world supervisor.old)) }
+    // The children are those of before, also where the supervisor does not know yet that it closed.
+    ensures owners { (n : ℕ) → owner n (S.world supervisor.new).parts ≡ owner n (S.world supervisor.old).parts }
+    ensures drives { Drives (S.world supervisor.new) }
+    ensures held { IfOk result (λ s. Holds D.Disk J.Journal OwnsIdle s disk.new) }
+    ensures others { KeepsOthers D.Disk J.Journal disk.old disk.new }
+    ensures disk { IsErrOf result SessionFault.Disk → Rose (D.faults disk.old) (D.faults disk.new) }
+    ensures edge { IsErrOf result SessionFault.Edge → Rose (K.faults sink.old) (K.faults sink.new) }
+    ensures quiet_disk { ¬ (IsErrOf result SessionFault.Disk) → D.faults disk.new ≡ D.faults disk.old }
+    ensures quiet_sink { ¬ (IsErrOf result SessionFault.Edge) → K.faults sink.new ≡ K.faults sink.old }
+    ensures later { (D.faults disk.old ≤ D.faults disk.new) × (K.faults sink.old ≤ K.faults sink.new) }
+{
+    match state.close(disk) {
+        Ok(idle) => {
+            supervisor.steady();
+            match tell_close(sink, idle.device()) {
+                Ok(()) => Ok(idle),
+                Err(_) => {
+                    drop(idle);
+                    Err(SessionFault::Edge)
+                }
+            }
+        }
+        Err(_) => Err(SessionFault::Disk),
+    }
+}
 
 /// Closes as successful, and prints the line.
 pub(crate) fn close_plan<D: Disk, J: Journal + Drop, K: Sink, S: Supervise>(
@@ -49,19 +99,7 @@ pub(crate) fn close_plan<D: Disk, J: Journal + Drop, K: Sink, S: Supervise>(
     ensures quiet_sink { ¬ (IsErrOf result SessionFault.Edge) → K.faults sink.new ≡ K.faults sink.old }
     ensures later { (D.faults disk.old ≤ D.faults disk.new) × (K.faults sink.old ≤ K.faults sink.new) }
 {
-    match state.complete(disk) {
-        Ok(idle) => {
-            supervisor.steady();
-            match tell_close(sink, idle.device()) {
-                Ok(()) => Ok(idle),
-                Err(_) => {
-                    drop(idle);
-                    Err(SessionFault::Edge)
-                }
-            }
-        }
-        Err(_) => Err(SessionFault::Disk),
-    }
+    close_deployment(Settled(state), disk, sink, supervisor)
 }
 
 /// Closes as rolled back, or as not able to where a component failed three times, and prints the line.
@@ -91,17 +129,5 @@ pub(crate) fn close_set<D: Disk, J: Journal + Drop, K: Sink, S: Supervise>(
     ensures quiet_sink { ¬ (IsErrOf result SessionFault.Edge) → K.faults sink.new ≡ K.faults sink.old }
     ensures later { (D.faults disk.old ≤ D.faults disk.new) × (K.faults sink.old ≤ K.faults sink.new) }
 {
-    match state.close(disk) {
-        Ok(idle) => {
-            supervisor.steady();
-            match tell_close(sink, idle.device()) {
-                Ok(()) => Ok(idle),
-                Err(_) => {
-                    drop(idle);
-                    Err(SessionFault::Edge)
-                }
-            }
-        }
-        Err(_) => Err(SessionFault::Disk),
-    }
+    close_deployment(state, disk, sink, supervisor)
 }

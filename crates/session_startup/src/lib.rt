@@ -7,18 +7,17 @@
 #![tactic(auto)]
 
 mod activating;
-mod acts;
 mod closing;
 mod coming;
 mod failures;
 mod laws;
 mod lines;
+mod pending;
 mod rolling;
-mod starts;
 mod turns;
 mod waits;
 
 pub use activating::{Activated, activate};
-pub use lines::tell_close;
+pub use closing::close_deployment;
+pub use pending::{Close, PendingState};
 pub use rolling::roll;
-pub use waits::longest_wait;

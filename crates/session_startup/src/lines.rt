@@ -73,7 +73,7 @@ fn tell_closed<K: Sink>(sink: &mut K, id: &Label, outcome: Outcome) -> Result<()
 }
 
 /// Prints how the deployment closed that closed last.
-pub fn tell_close<K: Sink>(sink: &mut K, device: &Device) -> Result<(), EdgeFault>
+pub(crate) fn tell_close<K: Sink>(sink: &mut K, device: &Device) -> Result<(), EdgeFault>
     ensures line { (closed : List (List ℕ × Outcomes)) → (id : List ℕ) → (outcome : Outcomes) → (device_view device.now).closed ≡ closed ++ (id, outcome) ∷ [] →
         Writes (K.held sink.old) (K.held sink.new) (closed_line id outcome) result }
     ensures cause { HasCause (K.faults sink.old) (K.faults sink.new) result }

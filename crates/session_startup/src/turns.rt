@@ -12,15 +12,15 @@ ghost use Rattle.session_startup.specs.Runs.{IsAtTurnStart, MayAbort, IsInTurn};
 ghost use Rattle.session_startup.specs.Turns.{TurnLeft};
 ghost use Rattle.session_boots.specs.Stages.{AsTold, HasTrace, Holds, KeepsOthers};
 
-use crate::acts::{Did, act};
 use crate::coming::Coming;
 use crate::failures::note_failure;
-use crate::starts::pass;
+use crate::laws::driving_laws;
 use crate::waits::wait_once;
 use components::Supervise;
 use disk_model::Disk;
 use edges::Sink;
 use gate_log::Journal;
+use session_acts::{Did, act, pass};
 use session_boots::SessionFault;
 use step_runner::Runner;
 
@@ -63,6 +63,7 @@ fn take_act<D: Disk, J: Journal + Drop, K: Sink, R: Runner, S: Supervise>(
     ensures falls { IfOk result (λ s. s.1 ≡ false → Falls (S.world supervisor.old) (S.world supervisor.new)) }
     ensures later { (D.faults disk.old ≤ D.faults disk.new) × (K.faults sink.old ≤ K.faults sink.new) }
 {
+    driving_laws();
     match act(runner, supervisor, now) {
         Did::Nothing => Ok((state, true)),
         Did::Something => Ok((state, false)),
@@ -146,6 +147,7 @@ fn turn<D: Disk, J: Journal + Drop, K: Sink, R: Runner, S: Supervise>(
         (later (R.clock runner.old) (S.world supervisor.old))) }
     ensures later { (D.faults disk.old ≤ D.faults disk.new) × (K.faults sink.old ≤ K.faults sink.new) }
 {
+    driving_laws();
     let now = pass(runner, supervisor);
     match take_acts(state, disk, sink, runner, supervisor, now) {
         Ok(next) => {

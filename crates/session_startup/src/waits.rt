@@ -1,7 +1,6 @@
 // One wait.
-ghost use Rattle.std.specs.Prelude.{◌≡◌, ◌⊎◌, ◌≤◌, ◌<◌, ◌+◌, ◌^◌, List};
+ghost use Rattle.std.specs.Prelude.{◌≡◌, ◌⊎◌, ◌<◌, ◌+◌, ◌^◌, List};
 ghost use Rattle.device.specs.Devices.{Device};
-ghost use Rattle.components.specs.Deadlines.{least_deadline, until};
 ghost use Rattle.histories.specs.TraceEvents.{TraceEvent};
 ghost use Rattle.histories.specs.States.{SessionState, state_after};
 ghost use Rattle.session_boots.specs.Traces.{Acts};
@@ -13,23 +12,9 @@ ghost use Rattle.session_startup.specs.Runs.{IsAtTurnStart, IsReadyToWait};
 ghost use Rattle.session_boots.specs.Stages.{AsTold};
 
 use crate::laws::driving_laws;
-use components::{Event, Supervise};
-use step_runner::{Runner, Waited};
-
-/// How long is waited where there is no deadline, in milliseconds: then all is looked at again.
-const LOOK_AGAIN_MS: u64 = 1_000;
-
-/// How long may be waited, in milliseconds: to the next deadline, or where there is none, until all is looked at again.
-pub fn longest_wait<S: Supervise>(supervisor: &S, now: u64) -> u64
-    requires { (S.world supervisor.now).moment ≡ now }
-    ensures limit { result ≡ until (least_deadline (S.world supervisor.now)) now }
-    ensures near { result ≤ 1000000000 }
-{
-    match supervisor.next_deadline() {
-        Some(deadline) => deadline.saturating_sub(now),
-        None => LOOK_AGAIN_MS,
-    }
-}
+use components::Supervise;
+use session_acts::{longest_wait, wait};
+use step_runner::Runner;
 
 /// Waits for the end of a child or to the next deadline, and tells what came.
 pub(crate) fn wait_once<R: Runner, S: Supervise>(runner: &mut R, supervisor: &mut S, now: u64)
@@ -46,8 +31,5 @@ pub(crate) fn wait_once<R: Runner, S: Supervise>(runner: &mut R, supervisor: &mu
 {
     driving_laws();
     let limit = longest_wait(supervisor, now);
-    match runner.wait(limit) {
-        Waited::Ended(child, exit) => supervisor.event(Event::Ended(child, exit), now),
-        Waited::Elapsed => {}
-    }
+    wait(runner, supervisor, now, limit);
 }

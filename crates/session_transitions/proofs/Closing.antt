@@ -1,43 +1,44 @@
 -- The close of a deployment that failed and stays as it is, or on whose way back a bootstrap failed, in a history.
-use Rattle.std.specs.Prelude.{Contains, ℕ, Bool, true, false, not, ◌||◌, List, [], ◌∷◌, map, Option, Some, None, IsSome}
+use Rattle.std.specs.Prelude.{Contains, ℕ, Bool, true, false, not, ◌||◌, List, [], ◌∷◌, map, Option, Some, None, IsSome, Result, Ok, Err, OnOk}
 use Rattle.std.specs.List.{list_any}
 use Rattle.std.proofs.Common.{◌≡◌, ◌↔◌, ◌⊎◌, ◌∙◌, inl, inr, refl, sym, ap, subst}
-use Rattle.disk_model.specs.Disk.{Image, Leaves, DiskLaws}
+use Rattle.disk_model.specs.Disk.{Image}
 use Rattle.nuc_base.specs.declared.kinds.Outcome.{Outcome}
 use Rattle.nuc_base.specs.declared.kinds.Outcome.TheVariants as outcomes
 use Rattle.nuc_base.specs.declared.kinds.Step.{Step}
 use Rattle.records.specs.Stored as stored
-use Rattle.records.specs.Stored.{Record}
 use Rattle.device.specs.Devices.{Device, Pending}
-use Rattle.device.specs.Lawful.{Allowed, applied, close_pending}
-use Rattle.deploy_state.specs.Owned.{LeavesEither}
+use Rattle.device.specs.Lawful.{applied, close_pending}
+use Rattle.deploy_state.specs.States.{idle_device}
+use Rattle.deploy_state.specs.declared.state.Idle.{Idle}
 use Rattle.step_runner.specs.Entries.{Told}
-use Rattle.step_runner.specs.declared.entries.RunnerEntry.{RunnerEntry}
 use Rattle.components.specs.Components.{Components, ComponentState, is_over, is_stopped, owner}
 use Rattle.components.specs.Changes.{forgetting, steadied}
 use Rattle.histories.specs.Phases.{Generation, duty_of, is_shutting_down, is_idle, is_current, draining, current}
 use Rattle.histories.specs.TraceEvents.{Recorded}
 use Rattle.histories.specs.States.{SessionState, leaves}
-use Rattle.histories.specs.Follows.{IsBootChild, IsClear, Lives, MayClose as MayEnd, MayFollow}
+use Rattle.histories.specs.Follows.{IsBootChild, IsClear, Lives, MayClose as MayEnd}
 use Rattle.histories.specs.Courses.{IsBare, Stands}
 use Rattle.session_boots.specs.Stands.{IsAtBootStage}
-use Rattle.session_boots.specs.Ends.{LeftAt}
-use Rattle.session_boots.specs.Traces.{IsTrace}
-use Rattle.session_boots.specs.declared.ends.SessionFault.TheVariants as over
+use Rattle.session_boots.specs.Ends.{Left}
+use Rattle.session_boots.specs.declared.ends.SessionFault.{SessionFault}
 use Rattle.session_boots.proofs.Entries.{never}
-use Rattle.session_boots.proofs.Joins.{kept_one}
-use Rattle.session_boots.proofs.Records.{doubt_at}
 use Rattle.session_boots.proofs.Still.{childless}
 use Rattle.law_supervisor.specs.Sound.{Differ, IsOrderly}
 use Rattle.law_supervisor.proofs.Steadied.{closed_orderly, living_steadied, owes_steadied, owner_steadied, steadied_orderly}
+use Rattle.session_startup.specs.Closing.{MayCloseNow, just_closed}
 use Rattle.session_startup.specs.Ended.{HasBroken, HasClosed}
-use Rattle.session_startup.proofs.Answered.{free_is, free_steadied, is_free}
-use Rattle.session_startup.proofs.Entering.{no_boot, without_boot}
+use Rattle.session_acts.proofs.Answered.{free_is, free_steadied, is_free}
+use Rattle.session_acts.proofs.Entering.{no_boot, without_boot}
 use Rattle.session_startup.proofs.Quiet.{quiet_steadied}
-use Rattle.session_transitions.specs.Fails.{IsGivenUp}
+use Rattle.session_transitions.specs.Fails.{IsFailure, IsGivenUp}
 
-abbrev Unasked : Record
-Unasked = stored.Closed outcomes.RollbackNotRequested
+-- a deployment that failed may close wherever it stands
+pub ends_failed : (p : SessionState) (o : Outcome) → IsFailure o → MayEnd p o
+ends_failed p outcomes.Successful failed = absurd failed
+ends_failed p outcomes.RollbackComplete failed = absurd failed
+ends_failed p outcomes.RollbackNotRequested failed = tt
+ends_failed p outcomes.UnableToRollback failed = tt
 
 -- ---- components that are steadied
 
@@ -90,11 +91,14 @@ module _ (p : SessionState) (d : Device) (world : Components) (told : Told) (liv
   }
 
 module _ (p : SessionState) (d : Device) (o : Outcome) (world : Components) (told : Told) (living : List ℕ) (f : IsAtBootStage p d world told living) where
-  boot_follows : MayEnd p o → MayFollow p (Recorded (stored.Closed o))
-  boot_follows may = ((boot_clear p d world told living f, may), (λ cut. absurd (never p.cut f.between.still.cut cut)), f.over)
+  pub boot_closes : MayEnd p o → MayCloseNow p d o
+  boot_closes may = record {
+    device_is = f.between.stands.device_is;
+    follows = ((boot_clear p d world told living f, may), (λ cut. absurd (never p.cut f.between.still.cut cut)), f.over);
+  }
 
   pub boot_closed : (e : Device) → IsOrderly p.world → IsSome d.pending → e ≡ applied d (stored.Closed o) →
-      HasClosed o draining (Recorded (stored.Closed o) ∷ []) (leaves p (Recorded (stored.Closed o))) e (steadied world) told living
+      HasClosed o draining (just_closed o) (leaves p (Recorded (stored.Closed o))) e (steadied world) told living
   boot_closed e orderly pending same = record {
     stands = stands_closed p d e o world told living f.between.stands same;
     back = record {
@@ -116,6 +120,15 @@ module _ (p : SessionState) (d : Device) (o : Outcome) (world : Components) (tol
   pub boot_bare : IsBare (leaves p (Recorded (stored.Closed o)))
   boot_bare = record { parts = childless (steadied p.world) (stopped_steadied p.world ∙ f.between.still.stopped); boot = f.between.boot }
 
+  pub boot_left : {J D : Type 0} (entries : Image → List (List ℕ) → Type 0) (may_leave : D → Image → Type 0) (disk : D) (now : Components) →
+      IsOrderly p.world → IsSome d.pending → (result : Result (Idle J) SessionFault)
+      → Left entries may_leave disk p (just_closed o) (λ s q. idle_device s ≡ q.device) result → OnOk result (now ≡ steadied world)
+      → Left entries may_leave disk p (just_closed o) (λ s q. HasClosed o draining (just_closed o) q (idle_device s) now told living) result
+  boot_left entries may_leave disk now orderly pending (Ok s) same is = subst
+      (λ (w : Components). HasClosed o draining (just_closed o) (leaves p (Recorded (stored.Closed o))) (idle_device s) w told living) (sym is)
+      (boot_closed (idle_device s) orderly pending (same ∙ ap (λ (x : Device). applied x (stored.Closed o)) f.between.stands.device_is))
+  boot_left entries may_leave disk now orderly pending (Err e) left is = left
+
 -- ---- from among items that come up
 
 pub no_other : (p : SessionState) (n : ℕ) (living : List ℕ) → p.boot ≡ None → Contains living n ↔ Lives n p → Contains living n ↔ IsSome (owner n p.world.parts)
@@ -125,16 +138,25 @@ module _ (p : SessionState) (d : Device) (world : Components) (told : Told) (liv
   pub items_clear : IsClear p
   items_clear = record { told = b.quiet.told; alone = b.comes.on.boot; no_end = b.comes.on.boot_end; on = going_on p.generation b.comes.on.generation }
 
-  items_follow : MayFollow p (Recorded Unasked)
-  items_follow = ((items_clear, tt), (λ cut. absurd (never p.cut b.comes.on.cut cut)), b.comes.on.over)
+  pub owners_now : (n : ℕ) → owner n world.parts ≡ owner n p.world.parts
+  owners_now n = sym (ap (λ (w : Components). owner n w.parts) b.comes.stands.world_is)
 
-  pub items_closed : (e : Device) → IsSome d.pending → e ≡ applied d Unasked → HasClosed outcomes.RollbackNotRequested current (Recorded Unasked ∷ [])
-      (leaves p (Recorded Unasked)) e (steadied world) told living
+  pub moment_now : told.moment ≡ p.world.moment
+  moment_now = sym (ap (λ (w : Components). w.moment) b.comes.stands.world_is)
+
+module _ (p : SessionState) (d : Device) (o : Outcome) (world : Components) (told : Told) (living : List ℕ) (b : HasBroken p d world told living) where
+  pub items_close : MayEnd p o → MayCloseNow p d o
+  items_close may = record {
+    device_is = b.comes.stands.device_is;
+    follows = ((items_clear p d world told living b, may), (λ cut. absurd (never p.cut b.comes.on.cut cut)), b.comes.on.over);
+  }
+
+  items_closed : (e : Device) → IsSome d.pending → e ≡ applied d (stored.Closed o) → HasClosed o current (just_closed o)
+      (leaves p (Recorded (stored.Closed o))) e (steadied world) told living
   items_closed e pending same = record {
-    stands = stands_closed p d e outcomes.RollbackNotRequested world told living b.comes.stands same;
+    stands = stands_closed p d e o world told living b.comes.stands same;
     back = record {
-      idle_is = idle_of p.device p.device.pending outcomes.RollbackNotRequested
-          (subst (λ (x : Device). IsSome x.pending) (sym b.comes.stands.device_is) pending);
+      idle_is = idle_of p.device p.device.pending o (subst (λ (x : Device). IsSome x.pending) (sym b.comes.stands.device_is) pending);
       going = going_on p.generation b.comes.on.generation;
       there = inl (present_is p.generation b.comes.on.generation);
       boot = b.comes.on.boot;
@@ -149,58 +171,27 @@ module _ (p : SessionState) (d : Device) (world : Components) (told : Told) (liv
     closed = ([], refl);
   }
 
-  pub owners_now : (n : ℕ) → owner n world.parts ≡ owner n p.world.parts
-  owners_now n = sym (ap (λ (w : Components). owner n w.parts) b.comes.stands.world_is)
-
-  pub moment_now : told.moment ≡ p.world.moment
-  moment_now = sym (ap (λ (w : Components). w.moment) b.comes.stands.world_is)
+  pub items_left : {J D : Type 0} (entries : Image → List (List ℕ) → Type 0) (may_leave : D → Image → Type 0) (disk : D) (now : Components) →
+      IsSome d.pending → (result : Result (Idle J) SessionFault)
+      → Left entries may_leave disk p (just_closed o) (λ s q. idle_device s ≡ q.device) result → OnOk result (now ≡ steadied world)
+      → Left entries may_leave disk p (just_closed o) (λ s q. HasClosed o current (just_closed o) q (idle_device s) now told living) result
+  items_left entries may_leave disk now pending (Ok s) same is = subst
+      (λ (w : Components). HasClosed o current (just_closed o) (leaves p (Recorded (stored.Closed o))) (idle_device s) w told living) (sym is)
+      (items_closed (idle_device s) pending (same ∙ ap (λ (x : Device). applied x (stored.Closed o)) b.comes.stands.device_is))
+  items_left entries may_leave disk now pending (Err e) left is = left
 
   -- where the call gives up behind the close, whether or not the supervisor knows of it
-  pub items_given_up : (now : Components) → ((n : ℕ) → owner n now.parts ≡ owner n world.parts) → IsGivenUp (leaves p (Recorded Unasked)) now told living
+  pub items_given_up : (now : Components) → ((n : ℕ) → owner n now.parts ≡ owner n world.parts) →
+      IsGivenUp (leaves p (Recorded (stored.Closed o))) now told living
   items_given_up now same = record {
-    moment = moment_now;
+    moment = moment_now p d world told living b;
     asked = b.comes.stands.asked;
     boot = b.comes.on.boot;
     boot_end = b.comes.on.boot_end;
     over = refl;
     cut = b.comes.on.cut;
     differ = subst (λ (l : List ℕ). Differ l) (sym (living_steadied p.world)) b.comes.keeps.differ;
-    owners = λ n. same n ∙ owners_now n ∙ sym (owner_steadied n p.world);
+    owners = λ n. same n ∙ owners_now p d world told living b n ∙ sym (owner_steadied n p.world);
     children = λ n. subst (λ (x : Option (ℕ × Step)). Contains living n ↔ IsSome x) (sym (owner_steadied n p.world))
         (no_other p n living b.comes.on.boot (b.comes.stands.children n));
   }
-
-pub owners_steadied : (world now : Components) → now ≡ steadied world → (n : ℕ) → owner n now.parts ≡ owner n world.parts
-owners_steadied world now is n = ap (λ (w : Components). owner n w.parts) is ∙ owner_steadied n world
-
--- ---- over a disk
-
-module _ (entries : Image → List (List ℕ) → Type 0) (files : List ℕ → Type 0) {D : Type 0} {may_leave : D → Image → Type 0} {moment : D → ℕ} {left_since : D →
-    ℕ → Image → Type 0} {is_modelled : Bool} {seen : D → Image}
-    (laws : DiskLaws is_modelled seen may_leave moment left_since) where
-  abbrev pub Notes : D → D → Device → Outcome → Type 0
-  Notes old new d o = Leaves moment left_since old new (LeavesEither may_leave files entries old d (applied d (stored.Closed o)))
-
-  close_went : (old new : D) (list : Option (List RunnerEntry)) (p : SessionState) (d : Device) (o : Outcome) → p.device ≡ d →
-      MayFollow p (Recorded (stored.Closed o)) → Allowed d (stored.Closed o) → Notes old new d o
-      → IsTrace entries files may_leave moment left_since old new list list p (Recorded (stored.Closed o) ∷ [])
-  close_went old new list p d o device may allowed notes =
-      let same = sym device in
-      kept_one entries files laws old new list p (stored.Closed o) may (subst (λ (x : Device). Allowed x (stored.Closed o)) same allowed)
-      (subst (λ (x : Device). Notes old new x o) same notes)
-
-  pub boot_went : (old new : D) (list : Option (List RunnerEntry)) (p : SessionState) (d : Device) (o : Outcome) (world : Components) (told : Told)
-      (living : List ℕ) → IsAtBootStage p d world told living → MayEnd p o → Allowed d (stored.Closed o) → Notes old new d o
-      → IsTrace entries files may_leave moment left_since old new list list p (Recorded (stored.Closed o) ∷ [])
-  boot_went old new list p d o world told living f may allowed notes = close_went old new list p d o f.between.stands.device_is
-      (boot_follows p d o world told living f may) allowed notes
-
-  pub items_went : (old new : D) (list : Option (List RunnerEntry)) (p : SessionState) (d : Device) (world : Components) (told : Told) (living : List ℕ) →
-      HasBroken p d world told living → Allowed d Unasked → Notes old new d outcomes.RollbackNotRequested
-      → IsTrace entries files may_leave moment left_since old new list list p (Recorded Unasked ∷ [])
-  items_went old new list p d world told living b allowed notes = close_went old new list p d outcomes.RollbackNotRequested b.comes.stands.device_is
-      (items_follow p d world told living b) allowed notes
-
-  pub close_doubt : (old new : D) (p : SessionState) (d : Device) (o : Outcome) → p.device ≡ d → Allowed d (stored.Closed o) → Notes old new d o →
-      LeftAt entries may_leave new p (Recorded (stored.Closed o) ∷ []) over.Disk
-  close_doubt old new p d o same allowed notes = doubt_at entries files laws old new p d (stored.Closed o) same allowed notes

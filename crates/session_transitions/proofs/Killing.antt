@@ -15,8 +15,8 @@ use Rattle.histories.specs.States.{SessionState, cut_boot, leaves}
 use Rattle.histories.specs.Courses.{IsBare}
 use Rattle.session_boots.specs.Traces.{Acts}
 use Rattle.session_boots.proofs.Acting.{grows_none}
-use Rattle.session_startup.proofs.Entering.{entry, never}
-use Rattle.session_startup.proofs.Living.{lives_without}
+use Rattle.session_acts.proofs.Entering.{entry, never}
+use Rattle.session_acts.proofs.Living.{lives_without}
 use Rattle.session_transitions.specs.Fails.{IsGivenUp}
 use Rattle.session_transitions.specs.Kills.{KeepsRest}
 use Rattle.session_transitions.proofs.Numbers.{apart_of, without_fewer}

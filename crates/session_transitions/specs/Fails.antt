@@ -1,6 +1,8 @@
 -- A deployment fails: what its plan wants then, and what the one record of that leaves.
-use Rattle.std.specs.Prelude.{◌≡◌, ◌↔◌, ℕ, Bool, true, false, List, None, IsSome, Contains}
+use Rattle.std.specs.Prelude.{◌≡◌, ◌↔◌, ℕ, Bool, true, false, List, None, IsSome, Contains, ⊤}
 use Rattle.std.specs.Option.{option_map_or}
+use Rattle.nuc_base.specs.declared.kinds.Outcome.{Outcome}
+use Rattle.nuc_base.specs.declared.kinds.Outcome.TheVariants as outcomes
 use Rattle.nuc_base.specs.declared.kinds.Policy.{Policy}
 use Rattle.nuc_base.specs.declared.kinds.Policy.TheVariants as policies
 use Rattle.records.specs.Stored.{Record}
@@ -27,6 +29,13 @@ is_rollback policies.DoNothing = false
 -- the pending deployment is to be rolled back where it fails
 abbrev pub is_to_roll_back : Device → Bool
 is_to_roll_back d = option_map_or (λ q. is_rollback q.plan.policy) d.pending false
+
+-- a deployment that failed closes so
+abbrev pub IsFailure : Outcome → Type 0
+IsFailure outcomes.Successful = ⊥
+IsFailure outcomes.RollbackComplete = ⊥
+IsFailure outcomes.RollbackNotRequested = ⊤
+IsFailure outcomes.UnableToRollback = ⊤
 
 -- ---- what it leaves
 

@@ -9,16 +9,12 @@
 
 mod abort;
 mod breaking;
-mod failed;
 mod failing;
 mod items;
 mod plan;
 
 pub use abort::kill_all;
-pub use breaking::{begin_rollback_of_activating, begin_rollback_of_booting};
-pub use failed::{begin_rollback_again, close_again, close_failed_again};
-pub use failing::{
-    close_failed_activating, close_failed_backing, close_failed_booting, is_to_roll_back,
-};
+pub use breaking::{BreakOff, begin_rollback};
+pub use failing::{close_failed, is_to_roll_back};
 pub use items::change_items;
 pub use plan::begin_items;

@@ -3,10 +3,11 @@ use Rattle.nuc_base.specs.declared.kinds.Outcome.TheVariants as outcomes
 use Rattle.deploy_state.specs.Fields.{has_failed}
 use Rattle.deploy_state.specs.States.{OwnsBacked, backed_device, backing_device}
 use Rattle.deploy_state.specs.declared.state.Backed.{Backed}
-use Rattle.session_back_boots.specs.Backs.{IsStillBacking}
+use Rattle.session_boots.specs.Staged.{IsStillBacking}
 use Rattle.step_runner.specs.Entries.{Listed}
 use Rattle.session_boots.specs.Stands.{IsAtBootStage}
 use Rattle.session_boots.proofs.Between.{no_living}
+use Rattle.session_transitions.proofs.Policies.{closes_backing}
 use Rattle.session_transitions.proofs.Rising.{orderly_at}
 use Rattle.session_rollout.specs.Backwards.{EndsBacks}
 use Rattle.session_rollout.specs.Driven.{DrivenLeft}
@@ -40,13 +41,16 @@ returns-in-Rolling-clause-course g c = λ p front.
 
 -- ---- one of the bootstraps failed
 
-pub close_failed_backing-requires-clause-held : goal.close_failed_backing-requires-clause-held
-close_failed_backing-requires-clause-held g c = subst (λ (b : Backed _). OwnsBacked g.D.Disk.is_modelled g.D.Disk.may_leave g.J.Journal.stands g.J.Journal.end
+pub close_failed-requires-clause-held : goal.close_failed-requires-clause-held
+close_failed-requires-clause-held g c = subst (λ (b : Backed _). OwnsBacked g.D.Disk.is_modelled g.D.Disk.may_leave g.J.Journal.stands g.J.Journal.end
     b c.args.disk.now) c.in-Backing.is c.requires.held
 
-pub close_failed_backing-requires-clause-failed : goal.close_failed_backing-requires-clause-failed
-close_failed_backing-requires-clause-failed g c = subst (λ (b : Backed _). IsStillBacking b → has_failed (backed_device b) ≡ true) c.in-Backing.is
-    c.requires.failed tt
+pub close_failed-requires-clause-may : goal.close_failed-requires-clause-may
+close_failed-requires-clause-may g c =
+    let held = subst (λ (b : Backed _). OwnsBacked g.D.Disk.is_modelled g.D.Disk.may_leave g.J.Journal.stands g.J.Journal.end b c.args.disk.now)
+    c.in-Backing.is c.requires.held in
+    closes_backing (backing_device c.in-Backing.state) held.1
+    (subst (λ (b : Backed _). IsStillBacking b → has_failed (backed_device b) ≡ true) c.in-Backing.is c.requires.failed tt)
 
 pub returns-in-Ok-clause-course : goal.returns-in-Ok-clause-course
 returns-in-Ok-clause-course g c = λ p from.
@@ -56,10 +60,10 @@ returns-in-Ok-clause-course g c = λ p from.
     let living = g.R.Runner.living c.args.runner.now in
     let front = subst (λ (b : Backed _). IsAtBootStage p (backed_device b) world told living) c.in-Backing.is from in
     let t = c.in-Ok.ensures.trace p told living front (orderly_at p d world told living front.between.stands c.requires.orderly) in
-    ended g.J.Journal.entries g.J.Journal.files c.args.disk.now c.close_failed_backing.new.disk told.list told.list
-    (g.K.Sink.held c.args.sink.now) (g.K.Sink.held c.close_failed_backing.new.sink) p t.0
+    ended g.J.Journal.entries g.J.Journal.files c.args.disk.now c.close_failed.new.disk told.list told.list
+    (g.K.Sink.held c.args.sink.now) (g.K.Sink.held c.close_failed.new.sink) p t.0
     (driven.Closed c.in-Ok.idle outcomes.UnableToRollback presences.Absent)
-    (λ x h q. DrivenLeft x h q (g.S.Supervise.world c.close_failed_backing.new.supervisor) told living)
+    (λ x h q. DrivenLeft x h q (g.S.Supervise.world c.close_failed.new.supervisor) told living)
     t.1 t.2 t.3
 
 pub returns-in-Err-clause-course : goal.returns-in-Err-clause-course
@@ -70,9 +74,9 @@ returns-in-Err-clause-course g c = λ p from.
     let living = g.R.Runner.living c.args.runner.now in
     let front = subst (λ (b : Backed _). IsAtBootStage p (backed_device b) world told living) c.in-Backing.is from in
     let t = c.in-Err.ensures.trace p told living front (orderly_at p d world told living front.between.stands c.requires.orderly) in
-    given_up g.J.Journal.entries g.J.Journal.files c.args.disk.now c.close_failed_backing.new.disk told.list told.list
-    (g.K.Sink.held c.args.sink.now) (g.K.Sink.held c.close_failed_backing.new.sink) p t.0 c.in-Err.over
-    (λ x h q. DrivenLeft x h q (g.S.Supervise.world c.close_failed_backing.new.supervisor) told living)
+    given_up g.J.Journal.entries g.J.Journal.files c.args.disk.now c.close_failed.new.disk told.list told.list
+    (g.K.Sink.held c.args.sink.now) (g.K.Sink.held c.close_failed.new.sink) p t.0 c.in-Err.over
+    (λ x h q. DrivenLeft x h q (g.S.Supervise.world c.close_failed.new.supervisor) told living)
     t.1 t.2 t.3 t.4
 
 pub returns-in-Err-clause-none : goal.returns-in-Err-clause-none

@@ -5,10 +5,15 @@ use Rattle.histories.specs.States.{state_after}
 use Rattle.session_boots.specs.Lines.{lines_of}
 use Rattle.session_boots.proofs.Between.{no_living}
 use Rattle.session_boots.proofs.Told.{none_at, nothing_told}
+use Rattle.session_transitions.proofs.Policies.{breaks_booting}
 use Rattle.session_rollout.proofs.Joining.{given_up, joined}
 use Rattle.session_rollout.proofs.Leaving.{driven_on}
 use Rattle.session_rollout.proofs.Ways.{way_broken}
 use Rattle.session_rollout.proofs.boots.break_off.Goals as goal
+
+pub begin_rollback-requires-clause-may : goal.begin_rollback-requires-clause-may
+begin_rollback-requires-clause-may g c = breaks_booting (booting_device c.args.state) c.requires.held.0.0.sound c.requires.held.1 c.requires.failed
+    c.requires.policy
 
 pub roll_back-requires-clause-ready : goal.roll_back-requires-clause-ready
 roll_back-requires-clause-ready g c =
@@ -27,7 +32,7 @@ returns-in-Ok-clause-course g c = λ p front.
     let told = Listed g.R.Runner.list g.R.Runner.told g.R.Runner.asked c.args.runner.now in
     let last = Listed g.R.Runner.list g.R.Runner.told g.R.Runner.asked c.roll_back.new.runner in
     let t = c.in-Ok.ensures.trace p (g.S.Supervise.world c.args.supervisor.now) told (g.R.Runner.living c.args.runner.now) front in
-    joined g.J.Journal.entries g.J.Journal.files g.met.D.Disk.laws c.args.disk.now c.begin_rollback_of_booting.new.disk c.roll_back.new.disk told.list
+    joined g.J.Journal.entries g.J.Journal.files g.met.D.Disk.laws c.args.disk.now c.begin_rollback.new.disk c.roll_back.new.disk told.list
     told.list last.list
     (g.K.Sink.held c.args.sink.now) (g.K.Sink.held c.args.sink.now) (g.K.Sink.held c.roll_back.new.sink) p t.0 c.roll_back.result _
     t.1
@@ -39,7 +44,7 @@ pub returns-in-Err-clause-course : goal.returns-in-Err-clause-course
 returns-in-Err-clause-course g c = λ p front.
     let told = Listed g.R.Runner.list g.R.Runner.told g.R.Runner.asked c.args.runner.now in
     let t = c.in-Err.ensures.trace p (g.S.Supervise.world c.args.supervisor.now) told (g.R.Runner.living c.args.runner.now) front in
-    given_up g.J.Journal.entries g.J.Journal.files c.args.disk.now c.begin_rollback_of_booting.new.disk told.list told.list
+    given_up g.J.Journal.entries g.J.Journal.files c.args.disk.now c.begin_rollback.new.disk told.list told.list
     (g.K.Sink.held c.args.sink.now) (g.K.Sink.held c.args.sink.now) p t.0 c.in-Err.over _
     t.1 (none_at (g.K.Sink.held c.args.sink.now) p.device (records_of t.0) c.in-Err.over t.5) t.3 t.4
 

@@ -4,6 +4,7 @@ use Rattle.deploy_state.specs.States.{booting_device}
 use Rattle.step_runner.specs.Entries.{Listed}
 use Rattle.session_boots.proofs.Between.{no_living}
 use Rattle.session_transitions.specs.Fails.{is_to_roll_back}
+use Rattle.session_transitions.proofs.Policies.{keeps_booting}
 use Rattle.session_transitions.proofs.Rising.{orderly_at}
 use Rattle.session_rollout.specs.declared.driven.Driven.TheVariants as driven
 use Rattle.session_rollout.specs.declared.driven.Presence.TheVariants as presences
@@ -16,8 +17,9 @@ break_off-requires-clause-policy g c = ap is_to_roll_back (sym c.device.ensures)
 
 -- ---- it stays as it is
 
-pub close_failed_booting-requires-clause-policy : goal.close_failed_booting-requires-clause-policy
-close_failed_booting-requires-clause-policy g c = ap is_to_roll_back (sym c.device.ensures) ∙ sym c.is_to_roll_back.ensures ∙ c.if-is_to_roll_back.false
+pub close_failed-requires-clause-may : goal.close_failed-requires-clause-may
+close_failed-requires-clause-may g c = keeps_booting (booting_device c.args.state) c.requires.held.1 c.requires.failed
+    (ap is_to_roll_back (sym c.device.ensures) ∙ sym c.is_to_roll_back.ensures ∙ c.if-is_to_roll_back.false)
 
 pub returns-in-Ok-clause-course : goal.returns-in-Ok-clause-course
 returns-in-Ok-clause-course g c = λ p front.
@@ -26,8 +28,8 @@ returns-in-Ok-clause-course g c = λ p front.
     let told = Listed g.R.Runner.list g.R.Runner.told g.R.Runner.asked c.args.runner.now in
     let living = g.R.Runner.living c.args.runner.now in
     let t = c.in-Ok.ensures.trace p told living front (orderly_at p d world told living front.between.stands c.requires.orderly) in
-    ended g.J.Journal.entries g.J.Journal.files c.args.disk.now c.close_failed_booting.new.disk told.list told.list
-    (g.K.Sink.held c.args.sink.now) (g.K.Sink.held c.close_failed_booting.new.sink) p t.0
+    ended g.J.Journal.entries g.J.Journal.files c.args.disk.now c.close_failed.new.disk told.list told.list
+    (g.K.Sink.held c.args.sink.now) (g.K.Sink.held c.close_failed.new.sink) p t.0
     (driven.Closed c.in-Ok.idle outcomes.RollbackNotRequested presences.Absent) _
     t.1 t.2 t.3
 
@@ -38,8 +40,8 @@ returns-in-Err-clause-course g c = λ p front.
     let told = Listed g.R.Runner.list g.R.Runner.told g.R.Runner.asked c.args.runner.now in
     let living = g.R.Runner.living c.args.runner.now in
     let t = c.in-Err.ensures.trace p told living front (orderly_at p d world told living front.between.stands c.requires.orderly) in
-    given_up g.J.Journal.entries g.J.Journal.files c.args.disk.now c.close_failed_booting.new.disk told.list told.list
-    (g.K.Sink.held c.args.sink.now) (g.K.Sink.held c.close_failed_booting.new.sink) p t.0 c.in-Err.over _
+    given_up g.J.Journal.entries g.J.Journal.files c.args.disk.now c.close_failed.new.disk told.list told.list
+    (g.K.Sink.held c.args.sink.now) (g.K.Sink.held c.close_failed.new.sink) p t.0 c.in-Err.over _
     t.1 t.2 t.3 t.4
 
 pub returns-in-Err-clause-none : goal.returns-in-Err-clause-none

@@ -8,6 +8,7 @@ use Rattle.session_boots.specs.Lines.{lines_of}
 use Rattle.session_boots.proofs.Between.{no_living}
 use Rattle.session_boots.proofs.Told.{none_at, nothing_told}
 use Rattle.session_transitions.specs.Fails.{is_to_roll_back}
+use Rattle.session_transitions.proofs.Policies.{breaks_activating, keeps_activating}
 use Rattle.session_transitions.proofs.Rising.{orderly_at}
 use Rattle.session_rollout.specs.declared.driven.Driven.TheVariants as driven
 use Rattle.session_rollout.specs.declared.driven.Presence.TheVariants as presences
@@ -19,8 +20,9 @@ use Rattle.session_rollout.proofs.failing.fail_again.Goals as goal
 
 -- ---- it is rolled back
 
-pub begin_rollback_again-requires-clause-policy : goal.begin_rollback_again-requires-clause-policy
-begin_rollback_again-requires-clause-policy g c = ap is_to_roll_back (sym c.device.ensures) ∙ sym c.is_to_roll_back.ensures ∙ c.if-is_to_roll_back.true
+pub begin_rollback-requires-clause-may : goal.begin_rollback-requires-clause-may
+begin_rollback-requires-clause-may g c = breaks_activating (activating_device c.args.state) c.requires.held.0.0.sound c.requires.held.1 c.requires.failed
+    (ap is_to_roll_back (sym c.device.ensures) ∙ sym c.is_to_roll_back.ensures ∙ c.if-is_to_roll_back.true)
 
 pub roll_back-requires-clause-ready : goal.roll_back-requires-clause-ready
 roll_back-requires-clause-ready g c =
@@ -39,7 +41,7 @@ returns-in-Ok-clause-course g c = λ p front.
     let told = Listed g.R.Runner.list g.R.Runner.told g.R.Runner.asked c.args.runner.now in
     let last = Listed g.R.Runner.list g.R.Runner.told g.R.Runner.asked c.roll_back.new.runner in
     let t = c.in-Ok.ensures.trace p (g.S.Supervise.world c.args.supervisor.now) told (g.R.Runner.living c.args.runner.now) front in
-    joined g.J.Journal.entries g.J.Journal.files g.met.D.Disk.laws c.args.disk.now c.begin_rollback_again.new.disk c.roll_back.new.disk told.list told.list
+    joined g.J.Journal.entries g.J.Journal.files g.met.D.Disk.laws c.args.disk.now c.begin_rollback.new.disk c.roll_back.new.disk told.list told.list
     last.list
     (g.K.Sink.held c.args.sink.now) (g.K.Sink.held c.args.sink.now) (g.K.Sink.held c.roll_back.new.sink) p t.0 c.roll_back.result _
     t.1
@@ -51,7 +53,7 @@ pub returns-in-Err-clause-course : goal.returns-in-Err-clause-course
 returns-in-Err-clause-course g c = λ p front.
     let told = Listed g.R.Runner.list g.R.Runner.told g.R.Runner.asked c.args.runner.now in
     let t = c.in-Err.ensures.trace p (g.S.Supervise.world c.args.supervisor.now) told (g.R.Runner.living c.args.runner.now) front in
-    given_up g.J.Journal.entries g.J.Journal.files c.args.disk.now c.begin_rollback_again.new.disk told.list told.list
+    given_up g.J.Journal.entries g.J.Journal.files c.args.disk.now c.begin_rollback.new.disk told.list told.list
     (g.K.Sink.held c.args.sink.now) (g.K.Sink.held c.args.sink.now) p t.0 c.in-Err.over _
     t.1 (none_at (g.K.Sink.held c.args.sink.now) p.device (records_of t.0) c.in-Err.over t.5) t.3 t.4
 
@@ -63,34 +65,35 @@ returns-in-Err-clause-none g c =
 
 -- ---- it stays as it is
 
-pub close_failed_again-requires-clause-policy : goal.close_failed_again-requires-clause-policy
-close_failed_again-requires-clause-policy g c = ap is_to_roll_back (sym c.device.ensures) ∙ sym c.is_to_roll_back.ensures ∙ c.if-is_to_roll_back.false
+pub close_failed-requires-clause-may : goal.close_failed-requires-clause-may
+close_failed-requires-clause-may g c = keeps_activating (activating_device c.args.state) c.requires.held.1 c.requires.failed
+    (ap is_to_roll_back (sym c.device.ensures) ∙ sym c.is_to_roll_back.ensures ∙ c.if-is_to_roll_back.false)
 
-pub returns-in-Ok-close_failed_again-clause-course : goal.returns-in-Ok-close_failed_again-clause-course
-returns-in-Ok-close_failed_again-clause-course g c = λ p front.
+pub returns-in-Ok-close_failed-clause-course : goal.returns-in-Ok-close_failed-clause-course
+returns-in-Ok-close_failed-clause-course g c = λ p front.
     let d = activating_device c.args.state in
     let world = g.S.Supervise.world c.args.supervisor.now in
     let told = Listed g.R.Runner.list g.R.Runner.told g.R.Runner.asked c.args.runner.now in
     let living = g.R.Runner.living c.args.runner.now in
-    let t = c.in-Ok-close_failed_again.ensures.trace p told living front (orderly_at p d world told living front.between.stands c.requires.orderly) in
-    ended g.J.Journal.entries g.J.Journal.files c.args.disk.now c.close_failed_again.new.disk told.list told.list
-    (g.K.Sink.held c.args.sink.now) (g.K.Sink.held c.close_failed_again.new.sink) p t.0
-    (driven.Closed c.in-Ok-close_failed_again.idle outcomes.RollbackNotRequested presences.Absent) _
+    let t = c.in-Ok-close_failed.ensures.trace p told living front (orderly_at p d world told living front.between.stands c.requires.orderly) in
+    ended g.J.Journal.entries g.J.Journal.files c.args.disk.now c.close_failed.new.disk told.list told.list
+    (g.K.Sink.held c.args.sink.now) (g.K.Sink.held c.close_failed.new.sink) p t.0
+    (driven.Closed c.in-Ok-close_failed.idle outcomes.RollbackNotRequested presences.Absent) _
     t.1 t.2 t.3
 
-pub returns-in-Err-close_failed_again-clause-course : goal.returns-in-Err-close_failed_again-clause-course
-returns-in-Err-close_failed_again-clause-course g c = λ p front.
+pub returns-in-Err-close_failed-clause-course : goal.returns-in-Err-close_failed-clause-course
+returns-in-Err-close_failed-clause-course g c = λ p front.
     let d = activating_device c.args.state in
     let world = g.S.Supervise.world c.args.supervisor.now in
     let told = Listed g.R.Runner.list g.R.Runner.told g.R.Runner.asked c.args.runner.now in
     let living = g.R.Runner.living c.args.runner.now in
-    let t = c.in-Err-close_failed_again.ensures.trace p told living front (orderly_at p d world told living front.between.stands c.requires.orderly) in
-    given_up g.J.Journal.entries g.J.Journal.files c.args.disk.now c.close_failed_again.new.disk told.list told.list
-    (g.K.Sink.held c.args.sink.now) (g.K.Sink.held c.close_failed_again.new.sink) p t.0 c.in-Err-close_failed_again.over _
+    let t = c.in-Err-close_failed.ensures.trace p told living front (orderly_at p d world told living front.between.stands c.requires.orderly) in
+    given_up g.J.Journal.entries g.J.Journal.files c.args.disk.now c.close_failed.new.disk told.list told.list
+    (g.K.Sink.held c.args.sink.now) (g.K.Sink.held c.close_failed.new.sink) p t.0 c.in-Err-close_failed.over _
     t.1 t.2 t.3 t.4
 
-pub returns-in-Err-close_failed_again-clause-none : goal.returns-in-Err-close_failed_again-clause-none
-returns-in-Err-close_failed_again-clause-none g c =
+pub returns-in-Err-close_failed-clause-none : goal.returns-in-Err-close_failed-clause-none
+returns-in-Err-close_failed-clause-none g c =
     let q = c.requires.placed in
     no_living q.0 (activating_device c.args.state) (g.S.Supervise.world c.args.supervisor.now)
     (Listed g.R.Runner.list g.R.Runner.told g.R.Runner.asked c.args.runner.now) (g.R.Runner.living c.args.runner.now) q.1

@@ -1,7 +1,7 @@
 use Rattle.std.specs.Prelude.{codes, ◌++◌}
 use Rattle.edges.proofs.Sent.{handed_on}
 use Rattle.session_boots.specs.Lines.{closed_line}
-use Rattle.session_boots.proofs.Written.{front_longer, written_on}
+use Rattle.edges.proofs.Sent.{front_longer, written_on}
 use Rattle.status_text.specs.Words.{outcome_text}
 use Rattle.session_startup.proofs.Written.{closed_front, closed_joined}
 use Rattle.session_startup.proofs.lines.tell_closed.Goals as goal

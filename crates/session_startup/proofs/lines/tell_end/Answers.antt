@@ -1,7 +1,7 @@
 use Rattle.std.specs.Prelude.{codes, ◌++◌, []}
 use Rattle.edges.proofs.Sent.{handed_on}
 use Rattle.session_boots.specs.Lines.{exit_text, step_text}
-use Rattle.session_boots.proofs.Written.{front_longer, written_on}
+use Rattle.edges.proofs.Sent.{front_longer, written_on}
 use Rattle.session_startup.proofs.Written.{end_joined, end_text}
 use Rattle.session_startup.proofs.lines.tell_end.Goals as goal
 

@@ -1,6 +1,6 @@
 use Rattle.edges.proofs.Sent.{handed_on}
 use Rattle.session_boots.specs.Lines.{failed_line}
-use Rattle.session_boots.proofs.Written.{front_longer, written_on}
+use Rattle.edges.proofs.Sent.{front_longer, written_on}
 use Rattle.session_startup.proofs.Written.{end_text, failed_front, failed_joined}
 use Rattle.session_startup.proofs.lines.tell_failed_step.Goals as goal
 

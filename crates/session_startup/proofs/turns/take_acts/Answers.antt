@@ -14,7 +14,7 @@ use Rattle.session_boots.proofs.Told.{all_told, left_joined, lines_at_joined}
 use Rattle.law_termination.proofs.Steps.{not_above_on, self_not_above}
 use Rattle.session_startup.specs.Coming.{coming_device}
 use Rattle.session_startup.specs.Did.{ActLeft}
-use Rattle.session_startup.proofs.Entering.{never}
+use Rattle.session_acts.proofs.Entering.{never}
 use Rattle.session_startup.proofs.Falling.{same_err}
 use Rattle.session_startup.proofs.Stages.{coming_stands}
 use Rattle.session_startup.proofs.Turning.{quits_on}

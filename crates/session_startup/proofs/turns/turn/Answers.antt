@@ -7,17 +7,18 @@ use Rattle.histories.proofs.Joined.{left-append}
 use Rattle.session_boots.proofs.Joins.{acted, went_on}
 use Rattle.session_boots.proofs.Told.{all_told, left_joined, lines_at_joined}
 use Rattle.law_termination.specs.Rank.{rank}
-use Rattle.law_termination.proofs.Steps.{measure_less, not_above_on, turn_goes}
+use Rattle.law_termination.proofs.Steps.{measure_less, not_above_on, pass_not_above, turn_goes}
 use Rattle.session_startup.specs.Coming.{coming_device}
 use Rattle.session_startup.specs.Did.{ActLeft}
 use Rattle.session_startup.specs.Runs.{IsAtTurnStart}
+use Rattle.session_startup.proofs.Entering.{start_of, turn_left}
 use Rattle.session_startup.proofs.Falling.{falling_at, sits_time}
 use Rattle.session_startup.proofs.Stages.{coming_stands}
 use Rattle.session_startup.proofs.Turning.{no_lines, quits_on, rests, settled_is, sits}
 use Rattle.session_startup.proofs.turns.turn.Goals as goal
 
-pub pass-now-requires-clause-placed : goal.pass-now-requires-clause-placed
-pass-now-requires-clause-placed g c = let q = c.requires.placed in (q.0, coming_device c.args.state, q.1)
+pub pass-now-requires : goal.pass-now-requires
+pass-now-requires g c = let q = c.requires.placed in record { placed = (q.0, coming_device c.args.state, start_of q.1) }
 
 pub take_acts-requires-clause-now : goal.take_acts-requires-clause-now
 take_acts-requires-clause-now g c = c.pass-now.ensures.now
@@ -25,13 +26,13 @@ take_acts-requires-clause-now g c = c.pass-now.ensures.now
 pub take_acts-requires-clause-placed : goal.take_acts-requires-clause-placed
 take_acts-requires-clause-placed g c =
     let q = c.requires.placed in
-    let w = c.pass-now.ensures.trace q.0 (coming_device c.args.state) q.1 in
+    let w = turn_left c.driving_laws.ensures q.0 q.1.on q.1.keeps (c.pass-now.ensures.trace q.0 (coming_device c.args.state) (start_of q.1)) in
     (state_after q.0 w.0, w.2, w.1.device ∙ q.1.stands.device_is)
 
 pub returns-in-Err-clause-trace : goal.returns-in-Err-clause-trace
 returns-in-Err-clause-trace g c = λ p comes.
     let d = coming_device c.args.state in
-    let w = c.pass-now.ensures.trace p d comes in
+    let w = turn_left c.driving_laws.ensures p comes.on comes.keeps (c.pass-now.ensures.trace p d (start_of comes)) in
     let device = comes.stands.device_is in
     let t = c.in-Err.ensures.trace (state_after p w.0) w.2 (w.1.device ∙ device) in
     let one = acted g.J.Journal.entries g.J.Journal.files g.met.D.Disk.laws c.args.disk.now (g.R.Runner.list c.args.runner.now)
@@ -52,7 +53,7 @@ pub returns-then-is_broken-clause-trace : goal.returns-then-is_broken-clause-tra
 returns-then-is_broken-clause-trace g c = λ p comes.
     let d = coming_device c.args.state in
     let e = coming_device c.in-Ok.next in
-    let w = c.pass-now.ensures.trace p d comes in
+    let w = turn_left c.driving_laws.ensures p comes.on comes.keeps (c.pass-now.ensures.trace p d (start_of comes)) in
     let device = comes.stands.device_is in
     let t = c.in-Ok.ensures.trace (state_after p w.0) w.2 (w.1.device ∙ device) in
     let one = acted g.J.Journal.entries g.J.Journal.files g.met.D.Disk.laws c.args.disk.now (g.R.Runner.list c.args.runner.now)
@@ -76,7 +77,7 @@ pub returns-then-settled-clause-trace : goal.returns-then-settled-clause-trace
 returns-then-settled-clause-trace g c = λ p comes.
     let d = coming_device c.args.state in
     let e = coming_device c.in-Ok.next in
-    let w = c.pass-now.ensures.trace p d comes in
+    let w = turn_left c.driving_laws.ensures p comes.on comes.keeps (c.pass-now.ensures.trace p d (start_of comes)) in
     let device = comes.stands.device_is in
     let t = c.in-Ok.ensures.trace (state_after p w.0) w.2 (w.1.device ∙ device) in
     let one = acted g.J.Journal.entries g.J.Journal.files g.met.D.Disk.laws c.args.disk.now (g.R.Runner.list c.args.runner.now)
@@ -107,7 +108,7 @@ wait_once-requires-clause-placed g c =
     let p = q.0 in
     let d = coming_device c.args.state in
     let e = coming_device c.in-Ok.next in
-    let w = c.pass-now.ensures.trace p d q.1 in
+    let w = turn_left c.driving_laws.ensures p q.1.on q.1.keeps (c.pass-now.ensures.trace p d (start_of q.1)) in
     let t = c.in-Ok.ensures.trace (state_after p w.0) w.2 (w.1.device ∙ q.1.stands.device_is) in
     let new = Listed g.R.Runner.list g.R.Runner.told g.R.Runner.asked c.take_acts.new.runner in
     let world = g.S.Supervise.world c.take_acts.new.supervisor in
@@ -120,7 +121,7 @@ pub returns-else-settled-clause-trace : goal.returns-else-settled-clause-trace
 returns-else-settled-clause-trace g c = λ p comes.
     let d = coming_device c.args.state in
     let e = coming_device c.in-Ok.next in
-    let w = c.pass-now.ensures.trace p d comes in
+    let w = turn_left c.driving_laws.ensures p comes.on comes.keeps (c.pass-now.ensures.trace p d (start_of comes)) in
     let device = comes.stands.device_is in
     let t = c.in-Ok.ensures.trace (state_after p w.0) w.2 (w.1.device ∙ device) in
     let one = acted g.J.Journal.entries g.J.Journal.files g.met.D.Disk.laws c.args.disk.now (g.R.Runner.list c.args.runner.now)
@@ -155,16 +156,15 @@ returns-else-settled-clause-trace g c = λ p comes.
 
 -- ---- the number
 
-pub pass-now-requires-clause-drives : goal.pass-now-requires-clause-drives
-pass-now-requires-clause-drives g c = c.requires.drives
-
 pub take_acts-requires-clause-drives : goal.take_acts-requires-clause-drives
-take_acts-requires-clause-drives g c = c.pass-now.ensures.not_above.on.drives
+take_acts-requires-clause-drives g c =
+    (pass_not_above (g.S.Supervise.world c.args.supervisor.now) (g.S.Supervise.world c.pass-now.new.supervisor) c.pass-now.result c.requires.drives
+    c.pass-now.ensures.passed).on.drives
 
 pub wait_once-requires-clause-drives : goal.wait_once-requires-clause-drives
 wait_once-requires-clause-drives g c =
     let q = c.requires.placed in
-    let w = c.pass-now.ensures.trace q.0 (coming_device c.args.state) q.1 in
+    let w = turn_left c.driving_laws.ensures q.0 q.1.on q.1.keeps (c.pass-now.ensures.trace q.0 (coming_device c.args.state) (start_of q.1)) in
     let t = c.in-Ok.ensures.trace (state_after q.0 w.0) w.2 (w.1.device ∙ q.1.stands.device_is) in
     let new = Listed g.R.Runner.list g.R.Runner.told g.R.Runner.asked c.take_acts.new.runner in (
       c.take_acts.ensures.not_above.on.drives,
@@ -178,7 +178,7 @@ wait_once-requires-clause-time g c =
     let p = q.0 in
     let d = coming_device c.args.state in
     let e = coming_device c.in-Ok.next in
-    let w = c.pass-now.ensures.trace p d q.1 in
+    let w = turn_left c.driving_laws.ensures p q.1.on q.1.keeps (c.pass-now.ensures.trace p d (start_of q.1)) in
     let t = c.in-Ok.ensures.trace (state_after p w.0) w.2 (w.1.device ∙ q.1.stands.device_is) in
     let new = Listed g.R.Runner.list g.R.Runner.told g.R.Runner.asked c.take_acts.new.runner in
     let world = g.S.Supervise.world c.take_acts.new.supervisor in
@@ -211,7 +211,7 @@ returns-else-settled-clause-falls g c = λ none.
     let old = g.S.Supervise.world c.args.supervisor.now in
     let told = g.S.Supervise.world c.pass-now.new.supervisor in
     let acts = g.S.Supervise.world c.take_acts.new.supervisor in
-    let n = not_above_on old told acts c.pass-now.ensures.not_above c.take_acts.ensures.not_above in
+    let n = not_above_on old told acts (pass_not_above old told c.pass-now.result c.requires.drives c.pass-now.ensures.passed) c.take_acts.ensures.not_above in
     let last = g.S.Supervise.world c.wait_once.new.supervisor in
     let before = g.R.Runner.clock c.args.runner.now in
     let after = g.R.Runner.clock c.wait_once.new.runner in

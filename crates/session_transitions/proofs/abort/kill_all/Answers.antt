@@ -6,7 +6,7 @@ use Rattle.histories.specs.TraceEvents.{Asked, KilledOnAbort}
 use Rattle.histories.specs.States.{state_after}
 use Rattle.session_boots.proofs.Acting.{acts_on}
 use Rattle.session_boots.proofs.Restarts.{none_is}
-use Rattle.session_startup.proofs.Entering.{entry}
+use Rattle.session_acts.proofs.Entering.{entry}
 use Rattle.session_transitions.proofs.Killing.{all_bare, ask_acts, ask_keeps, ask_kills, fewer_live, kill_acts, kill_keeps, kill_kills, kill_lives, none_living}
 use Rattle.session_transitions.proofs.abort.kill_all.Goals as goal
 
