@@ -1,5 +1,8 @@
 -- Endings of a call that differ. Each stands alone, since a search for what differs is slow where much else is known.
 use Rattle.std.proofs.Common.{◌≡◌, ℕ, sym, ◌∙◌}
+use Rattle.std.specs.Prelude.{Result, Err}
+use Rattle.session_boots.specs.declared.ends.SessionFault.{SessionFault}
+use Rattle.session_boots.specs.declared.ends.SessionFault.TheVariants as over
 use Rattle.session.specs.Endings.{Ending, Breaks, Fails, Full, Idle, Starves}
 
 -- one that is the first is not the second, where these differ
@@ -23,3 +26,7 @@ full_fails at is = cc
 
 pub full_starves : (at : ℕ) → Full at ≡ Starves → ⊥
 full_starves at is = cc
+
+-- a fault of the sink is none of the disk
+pub edge_other : {A : Type 0} (e : SessionFault) → e ≡ over.Edge → ◌≡◌ {A = Result A SessionFault} (Err e) (Err over.Disk) → ⊥
+edge_other e edge disk = cc

@@ -8,6 +8,7 @@ use Rattle.std.proofs.lemmas.Bool.{false≢true}
 use Rattle.std.proofs.lemmas.List.{append-nil}
 use Rattle.disk_model.specs.Disk.{Image, After, DiskLaws, Leaves}
 use Rattle.disk_model.specs.Listing.{artifacts, IsBelow}
+use Rattle.disk_model.specs.Spares.{Spares}
 use Rattle.disk_model.specs.Moments.{at_start, joined, then_spares, weaker}
 use Rattle.gate_log.specs.Journal.{JournalLaws, Within}
 use Rattle.nuc_base.specs.declared.kinds.Exit.{Exit}
@@ -67,12 +68,13 @@ use Rattle.session_rollout.proofs.Joining.{Holds, left_killed, stops_killed, wen
 use Rattle.session.specs.Calls.{AllHoldBoth, AnswersFor, AnswersOver, EndsClosed, EndsFor, IsOrEdge, IsPendingAs, Prints, SaysEnding, SaysLine}
 use Rattle.session.specs.Calls.{SaysRefusal, ChangesArtifactsAlone, StandsBehind, StandsWhole, opening_line}
 use Rattle.session.specs.Declines.{line_of_declined, status_of_declined}
-use Rattle.session.specs.Documents.{Begins, FitsFrom, Follows}
+use Rattle.session.specs.Documents.{AcceptsFrom, AcceptsTaken, Begins, FitsFrom, Follows}
 use Rattle.session.specs.Parts.{EndsPart, IsOver, IsUnbegun, Part, RanLeft, status_of_ran}
 use Rattle.session.specs.declared.ran.Ran.{Ran}
 use Rattle.session.specs.declared.ran.Ran.TheVariants as ran
 use Rattle.session.specs.Endings.{Ending, Closes, Restarts, Reboots, Fails, Breaks, Forgets, Starves, Declines, Full, Idle, IsBegun, is_failing}
 use Rattle.session.specs.Endings.{line_of_ending, status_of_ending}
+use Rattle.session.proofs.Accepted.{accepts_behind}
 use Rattle.session.proofs.Holding.{HoldsAll, HoldsBefore, all_before, spared_whole, went_holds, went_whole}
 use Rattle.session.proofs.Printing.{all_prints, ending_over, opening_none, over_prints, prints_as, said_prints, starved_prints}
 use Rattle.session.proofs.Resuming.{loaded_hand}
@@ -688,7 +690,7 @@ module _ {D : Type 0} (entries : Image → List (List ℕ) → Type 0) (files : 
         → (t : (part : Part entries files may_leave moment left_since old new list now u w p status leaves) × Begins start plan part.ending
         (records_of part.history))
         × (AllHoldBoth (may_leave old) p.device plan.items → HasFiles entries files may_leave moment left_since old new list now u w p status leaves t.0)
-        × (t.0.ending ≡ ending_over e)
+        × (t.0.ending ≡ ending_over e) × (records_of t.0.history ≡ Accepted plan ∷ [])
     doubt_parted start e old new list now u v w p d world told living plan h k status leaves fits opens allowed notes none records run lines left acts
         kills keeps says silent answers ends =
         let one = Accepted plan ∷ [] in
@@ -725,6 +727,7 @@ module _ {D : Type 0} (entries : Image → List (List ℕ) → Type 0) (files : 
           (λ holds. went_whole laws files entries apart old new list now p (k ++ on) trace
               (all_before (may_leave old) p.device plan (records_of (k ++ on)) [] same tt holds)),
           refl,
+          same,
         )
       where
         over_begun : (e : SessionFault) → IsBegun (ending_over e)
@@ -769,21 +772,24 @@ module _ {D : Type 0} (entries : Image → List (List ℕ) → Type 0) (files : 
 
   -- a plan that was taken in is driven
   pub taken_behind : {X Y : Type 0} (start : ℕ → ℕ) (old mid new : D) (a b : Option (List RunnerEntry)) (u v : Option (List ℕ)) (p : SessionState)
-      (status : Status) (leaves : Ending → SessionState → Type 0) (plan : code.Plan) → ChangesArtifactsAlone may_leave moment left_since old mid
+      (status : Status) (leaves : Ending → SessionState → Type 0) (d : Device) (plan : code.Plan) → ChangesArtifactsAlone may_leave moment left_since old mid
       → (AllHoldDevice (may_leave old) p.device → (records : List Record) → Leaves moment left_since old mid (StandsWhole entries p.device records))
       → (AllHoldDevice (may_leave old) p.device → AllHoldBoth (may_leave mid) p.device (plan_view plan).items)
       → (s : (part : Part entries files may_leave moment left_since mid new a b u v p status leaves) × Begins start (plan_view plan) part.ending
       (records_of part.history))
       × (AllHoldBoth (may_leave mid) p.device (plan_view plan).items → HasFiles entries files may_leave moment left_since mid new a b u v p status leaves s.0)
-      × (s.0.ending ≡ Fails → X) → (X → Y)
+      × (s.0.ending ≡ Fails → X) × AcceptsFrom entries may_leave moment left_since mid new d start (plan_view plan) s.0.ending (records_of s.0.history)
+      → (X → Y)
       → (t : (part : Part entries files may_leave moment left_since old new a b u v p status leaves) × Follows start (Ok plan) part.ending
       (records_of part.history))
       × (AllHoldDevice (may_leave old) p.device → HasFiles entries files may_leave moment left_since old new a b u v p status leaves t.0)
-      × (t.0.ending ≡ Fails → Y)
-  taken_behind start old mid new a b u v p status leaves plan first whole gives drives on =
+      × (t.0.ending ≡ Fails → Y) × AcceptsTaken entries may_leave moment left_since old new d start (Ok plan) t.0.ending (records_of t.0.history)
+  taken_behind start old mid new a b u v p status leaves d plan first whole gives drives on =
       let c = drives.0.0 in
       let is = StandsWhole entries p.device (records_of c.history) in (
         (parted_behind old mid new a b u v p status leaves first c, drives.0.1),
         (λ holds. joined laws old mid new is is is (whole holds (records_of c.history)) (drives.1 (gives holds)) (λ i w. w) (λ i w. w)),
         (λ fails. on (drives.2 fails)),
+        accepts_behind entries laws old mid new (After (may_leave old) (Spares (IsBelow artifacts))) first d start (plan_view plan) c.ending
+            (records_of c.history) drives.3,
       )

@@ -1,5 +1,5 @@
 -- What becomes of a document in a call: whether it is taken, and what then follows.
-use Rattle.std.specs.Prelude.{◌≡◌, ◌⊎◌, ℕ, true, List, [], ◌∷◌, Option, Result, Ok, Err, ⊤}
+use Rattle.std.specs.Prelude.{◌≡◌, ◌⊎◌, ℕ, ◌+◌, true, List, [], ◌∷◌, Option, Result, Ok, Err, ⊤}
 use Rattle.disk_model.specs.Disk.{Image, Leaves}
 use Rattle.nuc_base.specs.declared.status.Status.{Status}
 use Rattle.library_core.specs.Library.{Content}
@@ -21,7 +21,8 @@ use Rattle.admission.specs.Takes.{TakesIn}
 use Rattle.admission.specs.declared.fault.Declined.{Declined}
 use Rattle.admission.specs.declared.fault.Declined.TheVariants.{Refused}
 use Rattle.session.specs.Calls.{Call, StandsWhole}
-use Rattle.session.specs.Endings.{Ending, Declines, Full, Starves, IsBegun}
+use Rattle.session_admission.specs.Accepts.{IsAcceptedAt}
+use Rattle.session.specs.Endings.{Ending, Declines, Fails, Full, Starves, IsBegun}
 
 -- ---- what taking it in answers
 
@@ -55,6 +56,31 @@ Begins start plan ending records =
 abbrev pub Follows : (ℕ → ℕ) → Result code.Plan Declined → Ending → List Record → Type 0
 Follows start (Err d) ending records = ((ending ≡ Declines d) ⊎ (ending ≡ Starves)) × (records ≡ [])
 Follows start (Ok plan) ending records = Begins start (plan_view plan) ending records
+
+-- ---- where its entry stands
+
+module _ (entries : Image → List (List ℕ) → Type 0) {D : Type 0} (may_leave : D → Image → Type 0) (moment : D → ℕ) (left_since : D → ℕ → Image → Type 0)
+    (old new : D) (d : Device) where
+  -- At a moment of the call each image that a crash may leave stands for the device with the plan accepted, and its live entries end here.
+  pub record HasAcceptedTo (plan : Plan) (end : ℕ) : Type 0 where
+    pub at : D
+    pub from : Leaves moment left_since old at (λ c. ⊤)
+    pub on : Leaves moment left_since at new (λ c. ⊤)
+    pub each : (c : Image) → may_leave at c → IsAcceptedAt entries d plan end c
+
+  -- so it is with a plan that is accepted, behind its entry, unless the disk failed as that was added
+  abbrev pub AcceptsFrom : (ℕ → ℕ) → Plan → Ending → List Record → Type 0
+  AcceptsFrom start plan ending records =
+      (records ≡ [])
+      ⊎ ((ending ≡ Fails) × (records ≡ Accepted plan ∷ []))
+      ⊎ HasAcceptedTo plan (start (plan_bytes plan) + 5 + plan_bytes plan)
+
+  -- and with one that was taken in
+  abbrev pub AcceptsTaken : (ℕ → ℕ) → Result code.Plan Declined → Ending → List Record → Type 0
+  AcceptsTaken start (Err x) ending records = ⊤
+  AcceptsTaken start (Ok plan) ending records = AcceptsFrom start (plan_view plan) ending records
+
+-- ---- the whole
 
 module _ (entries : Image → List (List ℕ) → Type 0) (files : List ℕ → Type 0) {D : Type 0} (may_leave : D → Image → Type 0) (moment : D → ℕ)
     (left_since : D → ℕ → Image → Type 0) (old new : D) (old_list new_list : Option (List RunnerEntry)) (old_held new_held : Option (List ℕ))

@@ -20,9 +20,9 @@ mod whole;
 
 pub use lines::say;
 pub use ran::{Ran, Standing};
-pub use requests::{run_made, run_made_to_end};
+pub use requests::run_made;
 pub use resumes::resume;
 pub use runs::{run_deployment, run_document};
 pub use session_boots::acknowledge;
 pub use session_shutdown::stop_components;
-pub use whole::{finish, resume_to_end};
+pub use whole::{finish, resume_to_end, run_made_to_end};

@@ -17,11 +17,12 @@ ghost use Rattle.deploy_state.specs.States.{OwnsIdle, idle_device};
 ghost use Rattle.deploy_state.specs.Turning.{start_of};
 ghost use Rattle.deployment_doc.specs.Sound.{AreSound};
 ghost use Rattle.histories.specs.States.{SessionState};
+ghost use Rattle.histories.specs.TraceEvents.{records_of};
 ghost use Rattle.session_admission.specs.Accepts.{IsOpen};
 ghost use Rattle.admission.specs.Takes.{HasDiskFailed, HasLibraryFailed, LieElsewhere, TakesIn};
 ghost use Rattle.admission.specs.declared.fault.Declined.{Declined};
 ghost use Rattle.session.specs.Calls.{AllHoldBoth, Elsewhere, IsReadiedOn, Stays};
-ghost use Rattle.session.specs.Documents.{TakesRead};
+ghost use Rattle.session.specs.Documents.{AcceptsFrom, AcceptsTaken, TakesRead};
 ghost use Rattle.session.specs.Parts.{EndsRan, HasArtifacts, IsBack, IsOver, OwnsRan, RunsPlan, RunsTaken, TakesLast, status_of_ran};
 ghost use Rattle.session_transitions.specs.Enters.{RunOn};
 ghost use Rattle.law_supervisor.specs.Sound.{IsOrderly};
@@ -111,7 +112,9 @@ where
         × (AllHoldBoth (D.may_leave disk.old) p.device (plan_view plan).items → HasArtifacts J.entries J.files D.may_leave D.moment D.left_since disk.old
         disk.new (R.list runner.old) (R.list runner.new) (K.held sink.old) (K.held sink.new) p result (S.world supervisor.new)
         (Listed R.list R.told R.asked runner.new) (R.living runner.new) t.0)
-        × (t.0.ending ≡ Fails → Rose (D.faults disk.old) (D.faults disk.new)) }
+        × (t.0.ending ≡ Fails → Rose (D.faults disk.old) (D.faults disk.new))
+        × AcceptsFrom J.entries D.may_leave D.moment D.left_since disk.old disk.new (idle_device idle)
+        (start_of J.end J.number J.turns (idle_log idle) (idle_device idle)) (plan_view plan) t.0.ending (records_of t.0.history) }
     ensures own { status_of_ran result ≢ statuses.Library }
     // Where it comes back the components are as the deployment left them, and else no child lives.
     ensures none { IsOver result → R.living runner.new ≡ [] }
@@ -191,7 +194,9 @@ where
         (Listed R.list R.told R.asked runner.new) (R.living runner.new) t.0)
         × (t.0.ending ≡ Fails → Rose (D.faults disk.old) (D.faults disk.new))
         × (HasDiskFailed taken → Rose (D.faults disk.old) (D.faults disk.new))
-        × (HasLibraryFailed taken → Rose (L.faults library.old) (L.faults library.new)) }
+        × (HasLibraryFailed taken → Rose (L.faults library.old) (L.faults library.new))
+        × AcceptsTaken J.entries D.may_leave D.moment D.left_since disk.old disk.new (idle_device idle)
+        (start_of J.end J.number J.turns (idle_log idle) (idle_device idle)) taken t.0.ending (records_of t.0.history) }
     // Where it comes back the components are as the deployment left them, and else no child lives.
     ensures none { IsOver result → R.living runner.new ≡ [] }
     ensures ends_call { EndsRan result }

@@ -1,14 +1,14 @@
-//! A deployment in a call of its own: behind it all components are stopped.
-ghost use Rattle.std.specs.Prelude.{◌≡◌, ◌≢◌, [], false, IsTrue, is_some, Bool, List, true};
+//! A deployment in a call of its own, from a document or from where a call before left it: behind it all components are stopped.
+ghost use Rattle.std.specs.Prelude.{◌≡◌, ◌≢◌, [], false, IsTrue, is_some, Bool, List, true, ◌≤◌, Some, IfOk, IfErr, Result};
 ghost use Rattle.artifact_store.specs.Holding.{AllHoldDevice};
 ghost use Rattle.artifact_store.specs.Swept.{IsSwept, items_of};
 ghost use Rattle.nuc_base.specs.Faults.{Rose};
 ghost use Rattle.device.specs.Devices.{Device};
-ghost use Rattle.deploy_state.specs.States.{OwnsLoaded, loaded_device};
+ghost use Rattle.deploy_state.specs.States.{OwnsLoaded, loaded_device, OwnsIdle, idle_device};
 ghost use Rattle.histories.specs.States.{SessionState, state_after};
-ghost use Rattle.admission.specs.Takes.{LieElsewhere};
+ghost use Rattle.admission.specs.Takes.{LieElsewhere, HasDiskFailed, HasLibraryFailed};
 ghost use Rattle.session.specs.Calls.{Elsewhere, Stays, Call};
-ghost use Rattle.session.specs.Documents.{KeepsArtifacts};
+ghost use Rattle.session.specs.Documents.{AcceptsTaken, DrivesTaken, KeepsArtifacts};
 ghost use Rattle.session.specs.Endings.{Fails, Resumes};
 ghost use Rattle.session.specs.Sweeping.{LeavesNoStray};
 ghost use Rattle.session_boots.specs.Stages.{AsTold, Holds};
@@ -17,18 +17,30 @@ ghost use Rattle.law_termination.specs.Drives.{Drives};
 ghost use Rattle.components.specs.Components.{is_stopped};
 ghost use Rattle.histories.specs.Courses.{IsEnd};
 ghost use Rattle.histories.specs.Phases.{Generation};
-ghost use Rattle.histories.specs.TraceEvents.{TraceEvent};
+ghost use Rattle.histories.specs.TraceEvents.{TraceEvent, records_of};
 ghost use Rattle.session_boots.specs.Traces.{Acts};
 ghost use Rattle.session.specs.Parts.{IsBack, IsOver, IsReturned, IsShut, RanLeft, status_of_ran};
 ghost use Rattle.nuc_base.specs.declared.status.Status.TheVariants as statuses;
+ghost use Rattle.records.specs.declared.record.Origin.{Origin};
+ghost use Rattle.deploy_state.specs.Accepting.{idle_log};
+ghost use Rattle.deploy_state.specs.Turning.{start_of};
+ghost use Rattle.deployment_doc.specs.Sound.{AreSound};
+ghost use Rattle.session_admission.specs.Accepts.{IsOpen};
+ghost use Rattle.admission.specs.Requests.{IsInside, TakesMade};
+ghost use Rattle.admission.specs.declared.fault.Declined.{Declined};
+ghost use Rattle.records.specs.declared.record.Plan as code;
 
 use crate::ran::Ran;
+use crate::requests::run_made;
 use crate::resumes::resume;
+use admission::Declined;
 use components::Supervise;
-use deploy_state::Loaded;
+use deploy_state::{Idle, Loaded};
+use deployment_doc::Document;
 use disk_model::Disk;
 use edges::Sink;
 use gate_log::Journal;
+use library_core::Library;
 use nuc_base::Status;
 use session_shutdown::stop_components;
 use std::alloc::Global;
@@ -117,5 +129,60 @@ where
         (D.seen disk.new) }
 {
     let ran = resume(alloc, state, disk, sink, runner, supervisor);
+    finish(ran, runner, supervisor)
+}
+
+/// Deploys the document to which a request came, and then stops all components.
+pub fn run_made_to_end<D: Disk, J: Journal + Drop, L: Library, K: Sink, R: Runner, S: Supervise>(
+    alloc: Global,
+    idle: Idle<J>,
+    made: Result<Document, Declined>,
+    disk: &mut D,
+    library: &mut L,
+    sink: &mut K,
+    runner: &mut R,
+    supervisor: &mut S,
+) -> Status
+where
+    S::Ready: Drop,
+    requires held { Holds D.Disk J.Journal OwnsIdle idle disk.old }
+    // The journal does not lie among the files of artifacts.
+    requires apart { LieElsewhere J.files }
+    requires roots { IfOk made (λ document. AreSound document.roots) }
+    requires inside { IfErr made (λ x. IsInside x) }
+    // No component stands.
+    requires empty { (S.world supervisor.old).parts ≡ [] }
+    requires placed { (p : SessionState) × AsTold R.Runner runner.old (IsOpen p (idle_device idle) (S.world supervisor.old)) × (p.serves ≡ false) }
+    // Where the images at the start have the artifacts that are needed, so has each of each moment. The call ends as one whose
+    // disk failed only where the disk's count rose, and its document is declined for the disk or for the library only where the
+    // count of that rose.
+    ensures call { (p : SessionState) → AsTold R.Runner runner.old (IsOpen p (idle_device idle) (S.world supervisor.old)) → (p.serves ≡ false) →
+        (taken : Result code.Plan Declined) × ((o : Origin) → (idle_device idle).origin ≡ Some o → TakesMade (idle_device idle) o (L.content library.old)
+        (L.faults library.old) (L.faults library.new) made taken)
+        × (t : DrivesTaken J.entries J.files D.may_leave D.moment D.left_since disk.old disk.new (R.list runner.old) (R.list runner.new) (K.held sink.old)
+        (K.held sink.new) p result (start_of J.end J.number J.turns (idle_log idle) (idle_device idle)) taken)
+        × (AllHoldDevice (D.may_leave disk.old) p.device → KeepsArtifacts J.entries J.files D.may_leave D.moment D.left_since disk.old disk.new
+        (R.list runner.old) (R.list runner.new) (K.held sink.old) (K.held sink.new) p result t.0)
+        × (t.0.ending ≡ Fails → Rose (D.faults disk.old) (D.faults disk.new))
+        × (HasDiskFailed taken → Rose (D.faults disk.old) (D.faults disk.new))
+        × (HasLibraryFailed taken → Rose (L.faults library.old) (L.faults library.new))
+        × AcceptsTaken J.entries D.may_leave D.moment D.left_since disk.old disk.new (idle_device idle)
+        (start_of J.end J.number J.turns (idle_log idle) (idle_device idle)) taken t.0.ending (records_of t.0.history) }
+    ensures none { R.living runner.new ≡ [] }
+    ensures others { IsTrue D.is_modelled → Elsewhere J.files (D.seen disk.old) (D.seen disk.new) }
+    ensures disk { result ≡ statuses.Disk → Rose (D.faults disk.old) (D.faults disk.new) }
+    ensures edge { result ≡ statuses.Edge → Rose (K.faults sink.old) (K.faults sink.new) }
+    ensures quiet_disk { result ≢ statuses.Disk → result ≢ statuses.Edge → D.faults disk.new ≡ D.faults disk.old }
+    ensures quiet_sink { result ≢ statuses.Edge → K.faults sink.new ≡ K.faults sink.old }
+    ensures later { Stays (D.faults disk.old) (D.faults disk.new) × Stays (K.faults sink.old) (K.faults sink.new) }
+    // No stray file is left where none was there at the start.
+    ensures swept { (IsTrue D.is_modelled → IsSwept (items_of (idle_device idle)) (D.seen disk.old)) → LeavesNoStray D.is_modelled J.entries result
+        (D.seen disk.new) }
+    ensures library { result ≡ statuses.Library → Rose (L.faults library.old) (L.faults library.new) }
+    ensures kept { L.content library.new ≡ L.content library.old }
+    ensures library_quiet { result ≢ statuses.Library → result ≢ statuses.Edge → L.faults library.new ≡ L.faults library.old }
+    ensures library_later { L.faults library.old ≤ L.faults library.new }
+{
+    let ran = run_made(alloc, idle, made, disk, library, sink, runner, supervisor);
     finish(ran, runner, supervisor)
 }

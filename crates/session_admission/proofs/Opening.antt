@@ -3,15 +3,19 @@ use Rattle.std.specs.Prelude.{ℕ, Bool, List, [], ◌∷◌, Option, Err, IfOk}
 use Rattle.std.proofs.Common.{◌≡◌, ◌∙◌, refl, sym, ap, subst}
 use Rattle.std.proofs.lemmas.List.{append-nil}
 use Rattle.disk_model.specs.Disk.{Image, Leaves, DiskLaws}
+use Rattle.disk_model.specs.Moments.{tells_of}
+use Rattle.gate_log.specs.Journal.{JournalLaws}
 use Rattle.records.specs.Stored.{Plan, Accepted}
 use Rattle.device.specs.Devices.{Device}
 use Rattle.device.specs.Lawful.{Allowed, applied}
-use Rattle.deploy_state.specs.Accepting.{Accepts, HandsBack, HasStopped, IsHandedBack}
+use Rattle.device.specs.Standing.{Means, Room}
+use Rattle.deploy_state.specs.Accepting.{Accepts, HandsBack, HasStopped, IsHandedBack, booting_log}
 use Rattle.deploy_state.specs.Owned.{LeavesEither}
-use Rattle.deploy_state.specs.States.{OwnsIdle, idle_device}
+use Rattle.deploy_state.specs.States.{OwnsBooting, OwnsIdle, booting_device, idle_device}
 use Rattle.deploy_state.specs.declared.fault.AcceptRefusal.{AcceptRefusal}
 use Rattle.deploy_state.specs.declared.fault.AcceptRefusal.TheVariants as refused
 use Rattle.deploy_state.specs.Accepting as accepting
+use Rattle.deploy_state.specs.declared.state.Booting.{Booting}
 use Rattle.deploy_state.specs.declared.state.Idle.{Idle}
 use Rattle.step_runner.specs.Entries.{Told}
 use Rattle.step_runner.specs.declared.entries.RunnerEntry.{RunnerEntry}
@@ -28,7 +32,7 @@ use Rattle.session_boots.proofs.Entries.{never}
 use Rattle.session_boots.proofs.Joins.{kept_one}
 use Rattle.session_boots.proofs.Records.{doubt_at}
 use Rattle.session_boots.proofs.Told.{last_untold}
-use Rattle.session_admission.specs.Accepts.{Answer, HasTaken, OwnsTaken, IsFullAt, IsFullOrShort, IsOpen, IsTakenOf, Opened, answer_of}
+use Rattle.session_admission.specs.Accepts.{Answer, HasTaken, OwnsTaken, IsAcceptedAt, IsFullAt, IsFullOrShort, IsOpen, IsTakenOf, Opened, answer_of}
 
 -- ---- it may come there, and what it leaves
 
@@ -114,6 +118,30 @@ module _ (entries : Image → List (List ℕ) → Type 0) (files : List ℕ → 
       (records_of h ≡ Accepted plan ∷ [])) (sym is)
       (stopped_went refusal old new held p d world told living plan (subst HasTaken is taken) o allowed notes)
 
+-- ---- where its entry stands
+
+-- behind an entry of this many bytes, each image of the disk
+pub sited_at : {J D : Type 0} {is_modelled : Bool} {seen : D → Image} {may_leave : D → Image → Type 0} {moment : D → ℕ} {left_since : D → ℕ → Image → Type 0}
+    {files : List ℕ → Type 0} {entries : Image → List (List ℕ) → Type 0} {holds_none : Image → Type 0} {is_damaged : Image → ℕ → Type 0} {stands : J → Image →
+    List (List ℕ) → Type 0} {end : J → ℕ}
+    → DiskLaws is_modelled seen may_leave moment left_since → JournalLaws files entries holds_none is_damaged stands end
+    → (s : Booting J) (disk : D) (d : Device) (plan : Plan) (place : ℕ) → OwnsBooting is_modelled may_leave stands end s disk
+    → booting_device s ≡ applied d (Accepted plan) → end (booting_log s) ≡ place → (image : Image) → may_leave disk image
+    → IsAcceptedAt entries d plan place image
+sited_at {entries = entries} disk_laws laws s disk d plan place held is ends image left =
+    let hand = held.0.0 in
+    let means = hand.means (tells_of disk_laws disk image left) in
+    let stands = hand.behind.each image left in
+    record {
+      stands = record {
+        payloads = hand.payloads;
+        live = laws.holds (booting_log s) image hand.payloads stands;
+        means = subst (λ (x : Device). Means hand.payloads x) is means.0;
+        room = subst (λ (x : Device). Room hand.payloads x) is means.1;
+      };
+      ends = sym (laws.ends (booting_log s) image hand.payloads stands) ∙ ends;
+    }
+
 -- ---- the refusals one by one
 
 module _ {J : Type 0} where
@@ -144,6 +172,11 @@ module _ {J : Type 0} where
   stops_refusal (refused.Full s at) stopped = absurd stopped
   stops_refusal (refused.NoMemory s) stopped = absurd stopped
   stops_refusal (refused.Stopped s) stopped = refl
+
+  pub refusal_fails : (refusal : AcceptRefusal J) → HasTaken (answer_of refusal) → answer_of refusal ≡ Err over.Disk
+  refusal_fails (refused.Full s at) taken = absurd taken
+  refusal_fails (refused.NoMemory s) taken = absurd taken
+  refusal_fails (refused.Stopped s) taken = refl
 
   pub refusal_edge : (refusal : AcceptRefusal J) → answer_of refusal ≡ Err over.Edge → ⊥
   refusal_edge (refused.Full s at) is = cc

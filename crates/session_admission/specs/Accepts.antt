@@ -1,9 +1,11 @@
 -- A deployment begins: from where it may, and what its acceptance leaves.
 use Rattle.std.specs.Prelude.{◌≡◌, ℕ, Bool, false, List, None, Result, Ok, Err, ⊤}
 use Rattle.disk_model.specs.Disk.{Image}
+use Rattle.gate_log.specs.Place.{place_behind}
 use Rattle.records.specs.Stored.{Plan, Accepted}
 use Rattle.device.specs.Devices.{Device}
 use Rattle.device.specs.Lawful.{applied}
+use Rattle.device.specs.Standing.{StandsFor}
 use Rattle.deploy_state.specs.States.{OwnsBooting, OwnsIdle, booting_device, idle_device}
 use Rattle.deploy_state.specs.declared.fault.AcceptRefusal.{AcceptRefusal}
 use Rattle.deploy_state.specs.declared.fault.AcceptRefusal.TheVariants as refused
@@ -81,3 +83,10 @@ IsFullOrShort (Ok (taken.Accepted s)) at = ⊥
 IsFullOrShort (Ok (taken.Full s place)) at = place ≡ at
 IsFullOrShort (Ok (taken.NoMemory s)) at = ⊤
 IsFullOrShort (Err e) at = ⊥
+
+-- ---- where its entry stands
+
+-- The image stands for the device with the plan accepted, and its live entries end here.
+pub record IsAcceptedAt (entries : Image → List (List ℕ) → Type 0) (d : Device) (plan : Plan) (end : ℕ) (image : Image) : Type 0 where
+  pub stands : StandsFor entries image (applied d (Accepted plan))
+  pub ends : place_behind stands.payloads ≡ end

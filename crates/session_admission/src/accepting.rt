@@ -1,7 +1,7 @@
 //! Accepting a plan.
-ghost use Rattle.std.specs.Prelude.{◌≡◌, ◌≤◌, ℕ, List, [], ◌∷◌, IfOk, IsErrOf};
+ghost use Rattle.std.specs.Prelude.{◌≡◌, ◌≤◌, ◌+◌, ℕ, List, [], ◌∷◌, IfOk, IsErrOf};
 ghost use Rattle.nuc_base.specs.Faults.{Rose};
-ghost use Rattle.disk_model.specs.Disk.{Leaves};
+ghost use Rattle.disk_model.specs.Disk.{Image, Leaves};
 ghost use Rattle.records.specs.Stored as stored;
 ghost use Rattle.records.specs.Stored.{plan_view};
 ghost use Rattle.device.specs.Lawful.{Allowed, applied};
@@ -15,7 +15,7 @@ ghost use Rattle.components.specs.Components.{Components};
 ghost use Rattle.histories.specs.TraceEvents.{TraceEvent, records_of};
 ghost use Rattle.histories.specs.States.{SessionState};
 ghost use Rattle.session_boots.specs.Ends.{Lines};
-ghost use Rattle.session_admission.specs.Accepts.{HasTaken, OwnsTaken, IsFullAt, IsFullOrShort, IsOpen, IsTakenOf, Opened, answer_of};
+ghost use Rattle.session_admission.specs.Accepts.{HasTaken, OwnsTaken, IsAcceptedAt, IsFullAt, IsFullOrShort, IsOpen, IsTakenOf, Opened, answer_of};
 ghost use Rattle.session_boots.specs.Stages.{Holds, IsTraceOver, KeepsOthers, LeftOver};
 
 use deploy_state::{AcceptRefusal, Booting, Idle};
@@ -82,6 +82,10 @@ pub fn accept_plan<D: Disk, J: Journal + Drop, K: Sink>(
         × IsTooFar at (plan_bytes (plan_view plan)) × (disk.new ≡ disk.old) }
     ensures fills { IsTooFar (start_of J.end J.number J.turns (idle_log idle) (idle_device idle) (plan_bytes (plan_view plan))) (plan_bytes (plan_view plan))
         → IsFullOrShort result (start_of J.end J.number J.turns (idle_log idle) (idle_device idle) (plan_bytes (plan_view plan))) }
+    // An accepted plan's entry begins there, and no live one stands behind it.
+    ensures site { HasTaken result → ¬ (IsErrOf result SessionFault.Disk) → (image : Image) → D.may_leave disk.new image → IsAcceptedAt J.entries
+        (idle_device idle) (plan_view plan)
+        (start_of J.end J.number J.turns (idle_log idle) (idle_device idle) (plan_bytes (plan_view plan)) + 5 + plan_bytes (plan_view plan)) image }
     ensures others { KeepsOthers D.Disk J.Journal disk.old disk.new }
     ensures disk { IsErrOf result SessionFault.Disk → Rose (D.faults disk.old) (D.faults disk.new) }
     ensures edge { IsErrOf result SessionFault.Edge → Rose (K.faults sink.old) (K.faults sink.new) }

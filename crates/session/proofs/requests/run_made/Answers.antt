@@ -67,6 +67,7 @@ returns-in-Ok-clause-call g c = λ p opens taking.
       t.4,
       t.5,
       t.6,
+      t.7,
     )
 
 pub returns-in-Ok-clause-swept : goal.returns-in-Ok-clause-swept
@@ -117,6 +118,7 @@ returns-in-Err-clause-call g c = λ p opens taking.
       (λ fails. absurd (t.3 fails)),
       (λ failed. absurd ((inside_made c.args.made c.in-Err.declined c.in-Err.is c.requires.inside).0 failed)),
       (λ failed. absurd ((inside_made c.args.made c.in-Err.declined c.in-Err.is c.requires.inside).1 failed)),
+      tt,
     )
 
 pub returns-in-Err-clause-held : goal.returns-in-Err-clause-held

@@ -77,6 +77,7 @@ returns-in-Err-clause-call g c = λ p opens taking.
       (λ fails. absurd (t.3 fails)),
       c.in-Err.ensures.disk_cause,
       c.in-Err.ensures.library_cause,
+      tt,
     )
 
 pub returns-in-Err-clause-held : goal.returns-in-Err-clause-held
@@ -157,7 +158,8 @@ returns-in-Ok-ready_for-clause-call g c = λ p opens taking.
     let t = taken_behind g.J.Journal.entries g.J.Journal.files g.met.D.Disk.laws
     (start_of g.J.Journal.end g.J.Journal.number g.J.Journal.turns (idle_log c.args.idle) (idle_device c.args.idle)) c.args.disk.now c.take_in.new.disk
     c.run_plan.new.disk (g.R.Runner.list c.args.runner.now) (g.R.Runner.list c.run_plan.new.runner)
-    (g.K.Sink.held c.args.sink.now) (g.K.Sink.held c.run_plan.new.sink) p (status_of_ran ran) leaves c.in-Ok.plan c.take_in.ensures.moments
+    (g.K.Sink.held c.args.sink.now) (g.K.Sink.held c.run_plan.new.sink) p (status_of_ran ran) leaves (idle_device c.args.idle) c.in-Ok.plan
+    c.take_in.ensures.moments
     (λ holds records. taken_whole g.met.D.Disk.laws g.J.Journal.files g.J.Journal.entries c.requires.apart g.met.J.Journal.laws c.args.idle.log
     c.args.disk.now c.take_in.new.disk (idle_device c.args.idle) p opens.stands.device_is c.requires.held.0 c.take_in.ensures.moments
     c.take_in.ensures.safe holds records)
@@ -173,6 +175,7 @@ returns-in-Ok-ready_for-clause-call g c = λ p opens taking.
       t.2,
       (λ failed. absurd failed),
       (λ failed. absurd failed),
+      t.3,
     )
 
 pub returns-in-Ok-ready_for-clause-others : goal.returns-in-Ok-ready_for-clause-others
@@ -254,6 +257,7 @@ returns-in-Err-ready_for-clause-call g c = λ p opens taking.
       (λ fails. absurd (fed_fails (sym call.1 ∙ fails))),
       (λ failed. absurd failed),
       (λ failed. absurd failed),
+      inl call.2,
     )
 
 pub returns-in-Err-ready_for-clause-drives : goal.returns-in-Err-ready_for-clause-drives

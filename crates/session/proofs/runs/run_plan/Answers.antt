@@ -2,6 +2,7 @@ use Rattle.std.proofs.Common.{◌≡◌, ◌⊎◌, ℕ, List, [], ◌∷◌, fa
 use Rattle.std.specs.Prelude.{Bool, Option, Err, IsErrOf}
 use Rattle.disk_model.specs.Disk.{Image, Leaves}
 use Rattle.disk_model.specs.Listing.{artifacts, IsBelow}
+use Rattle.disk_model.specs.Moments.{at_start}
 use Rattle.nuc_base.specs.Faults.{Rose}
 use Rattle.nuc_base.specs.declared.status.Status.TheVariants as statuses
 use Rattle.records.specs.Stored.{Accepted, plan_view}
@@ -29,11 +30,12 @@ use Rattle.session_rollout.proofs.Leaving.{driven_on}
 use Rattle.nuc_base.specs.declared.status.Status.{Status}
 use Rattle.session.specs.Calls.{AllHoldBoth, IsOrEdge, SaysLine}
 use Rattle.session.specs.Declines.{disk_line}
-use Rattle.session.specs.Documents.{Begins, FitsFrom, IsPutOff}
+use Rattle.session.specs.Documents.{AcceptsFrom, Begins, FitsFrom, IsPutOff}
 use Rattle.session.specs.Parts.{IsReturned, Part, RanLeft, status_of_ran}
 use Rattle.session.specs.declared.ran.Standing.TheVariants as standings
 use Rattle.session.specs.Endings.{Ending, Breaks, Fails, Full, Starves, full_line, is_failing}
-use Rattle.session.proofs.Distinct.{breaks_fails, differs, full_fails, full_starves, starves_fails}
+use Rattle.session.proofs.Distinct.{breaks_fails, differs, edge_other, full_fails, full_starves, starves_fails}
+use Rattle.session.proofs.Accepted.{any_moment, any_on}
 use Rattle.session.proofs.Ending.{HasFiles, begins_by, doubt_left, doubt_parted, first_of, joined_on, nothing_parted, parted, placed_at, quits_left}
 use Rattle.session.proofs.Ending.{starved_parted, still_files}
 use Rattle.session.proofs.Returning.{back_driven, came_ends, came_held, edge_ends, once_open, over_ends, over_never, over_status, status_came}
@@ -146,6 +148,13 @@ returns-in-Ok-Accepted-clause-call g c = λ p opens taking.
           rose_on (g.D.Disk.faults c.args.disk.now) (g.D.Disk.faults c.accept_plan.new.disk) (g.D.Disk.faults c.end_call.new.disk) c.accept_plan.ensures.later.0
           (rose_by c.begin-driven.result over.Disk (g.D.Disk.faults c.accept_plan.new.disk) (g.D.Disk.faults c.begin-driven.new.disk)
           (g.D.Disk.faults c.end_call.new.disk) c.begin-driven.ensures.disk c.begin-driven.ensures.quiet_disk c.end_call.ensures.later.0 (call.4 fails))),
+      inr (inr (record {
+        at = c.accept_plan.new.disk;
+        from = any_moment g.J.Journal.entries g.met.D.Disk.laws c.args.disk.now c.accept_plan.new.disk _ c.accept_plan.ensures.moments;
+        on = any_on g.J.Journal.entries g.met.D.Disk.laws c.accept_plan.new.disk c.begin-driven.new.disk c.end_call.new.disk _ _ course.trace.course
+            c.end_call.ensures.spared;
+        each = c.in-Ok-Accepted.ensures.site (has_taken x s c.in-Ok-Accepted.field-0-is) (λ is. cc);
+      })),
     )
 
 pub returns-in-Ok-Accepted-clause-drives : goal.returns-in-Ok-Accepted-clause-drives
@@ -245,7 +254,9 @@ returns-in-Ok-Full-clause-call g c = λ p opens taking.
     last p (status_of_ran ran) leaves) × Begins start plan part.ending (records_of part.history))
     × (AllHoldBoth (g.D.Disk.may_leave c.args.disk.now) p.device plan.items → HasFiles g.J.Journal.entries g.J.Journal.files g.D.Disk.may_leave
     g.D.Disk.moment g.D.Disk.left_since c.args.disk.now z told.list end.list held last p (status_of_ran ran) leaves t.0)
-    × (t.0.ending ≡ Fails → Rose (g.D.Disk.faults c.args.disk.now) (g.D.Disk.faults z)) in
+    × (t.0.ending ≡ Fails → Rose (g.D.Disk.faults c.args.disk.now) (g.D.Disk.faults z))
+    × AcceptsFrom g.J.Journal.entries g.D.Disk.may_leave g.D.Disk.moment g.D.Disk.left_since c.args.disk.now z d start plan t.0.ending
+    (records_of t.0.history) in
     let call = nothing_parted g.J.Journal.entries g.J.Journal.files g.met.D.Disk.laws c.args.disk.now c.args.disk.now told.list end.list held last p
     (status_of_ran ran) status is leaves (Full c.in-Ok-Full.at) k.0
     (start_spares g.met.D.Disk.laws (IsBelow artifacts) c.args.disk.now)
@@ -260,6 +271,7 @@ returns-in-Ok-Full-clause-call g c = λ p opens taking.
       (λ both. still_files g.J.Journal.entries g.J.Journal.files g.met.D.Disk.laws c.args.disk.now p (records_of call.0.history) call.2 stands
           (λ i left. (both i left).0)),
       (λ fails. absurd (differs call.0.ending (Full c.in-Ok-Full.at) Fails call.1 (full_fails c.in-Ok-Full.at) fails)),
+      inl call.2,
     )
 
 pub returns-in-Ok-Full-clause-own : goal.returns-in-Ok-Full-clause-own
@@ -341,7 +353,8 @@ returns-in-Ok-NoMemory-clause-call g c = λ p opens taking.
     let start = start_of g.J.Journal.end g.J.Journal.number g.J.Journal.turns (idle_log c.args.idle) (idle_device c.args.idle) in (
       (call.0, inl (subst (λ (e : Ending). IsPutOff start plan e) (sym call.1) tt, call.2)),
       call.3,
-      λ fails. absurd (differs call.0.ending Starves Fails call.1 starves_fails fails),
+      (λ fails. absurd (differs call.0.ending Starves Fails call.1 starves_fails fails)),
+      inl call.2,
     )
 
 -- ---- the disk failed
@@ -390,7 +403,7 @@ returns-in-Err-Disk-clause-call g c = λ p opens taking.
     (subst (λ (s : Status). IsOrEdge s statuses.Disk) (sym is) c.say_disk-status.ensures.answers)
     (λ behind. doubt_left g.J.Journal.entries g.D.Disk.may_leave over.Disk c.accept_plan.new.disk p k.0 plan p.generation world end lives status ran
     c.give_up-in-Err-Disk.ensures.over k.4 behind c.say_disk-status.ensures.answers) in
-    (r.0, r.1, λ fails. c.in-Err-Disk.ensures.disk (ap Err c.in-Err-Disk.field-0-is))
+    (r.0, r.1, (λ fails. c.in-Err-Disk.ensures.disk (ap Err c.in-Err-Disk.field-0-is)), inr (inl (r.2, r.3)))
 
 pub returns-in-Err-Disk-clause-own : goal.returns-in-Err-Disk-clause-own
 returns-in-Err-Disk-clause-own g c = λ is. two_never c.say_disk-status.result statuses.Disk statuses.Edge statuses.Library c.say_disk-status.ensures.answers
@@ -443,8 +456,18 @@ returns-in-Err-Edge-clause-call g c = λ p opens taking.
     k.1 k.2.0 k.3
     (says_none mid mid (status_of_ran ran) refl) (λ is. refl) is
     (λ behind. doubt_left g.J.Journal.entries g.D.Disk.may_leave over.Edge c.accept_plan.new.disk p k.0 plan p.generation world end lives statuses.Edge ran
-    c.give_up-in-Err-Edge.ensures.over k.4 behind refl) in
-    (r.0, r.1, λ fails. absurd (differs r.0.0.ending Breaks Fails r.2 breaks_fails fails))
+    c.give_up-in-Err-Edge.ensures.over k.4 behind refl) in (
+      r.0,
+      r.1,
+      (λ fails. absurd (differs r.0.0.ending Breaks Fails r.2 breaks_fails fails)),
+      inr (inr (record {
+        at = c.accept_plan.new.disk;
+        from = any_moment g.J.Journal.entries g.met.D.Disk.laws c.args.disk.now c.accept_plan.new.disk _ c.accept_plan.ensures.moments;
+        on = any_moment g.J.Journal.entries g.met.D.Disk.laws c.accept_plan.new.disk c.accept_plan.new.disk _
+            (at_start g.met.D.Disk.laws c.accept_plan.new.disk);
+        each = c.in-Err-Edge.ensures.site tt (λ is. edge_other c.in-Err-Edge.field-0 c.in-Err-Edge.field-0-is is);
+      })),
+    )
 
 pub returns-in-Err-Edge-clause-drives : goal.returns-in-Err-Edge-clause-drives
 returns-in-Err-Edge-clause-drives g c = λ back. absurd (over_never statuses.Edge c.give_up-in-Err-Edge.result c.give_up-in-Err-Edge.ensures.over back)

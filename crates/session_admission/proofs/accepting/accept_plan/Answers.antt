@@ -14,8 +14,8 @@ use Rattle.histories.specs.TraceEvents.{Recorded}
 use Rattle.session_boots.specs.Lines.{accepted_line}
 use Rattle.session_boots.proofs.Told.{stops_last}
 use Rattle.session_admission.specs.Accepts.{Answer, HasTaken, OwnsTaken, IsFullAt, IsFullOrShort, IsTakenOf}
-use Rattle.session_admission.proofs.Opening.{accept_went, line_is, opened_by, refusal_back, refusal_edge, refusal_fills, refusal_full, refusal_held}
-use Rattle.session_admission.proofs.Opening.{refusal_stops, refusal_taken, stopped_answer, stops_refusal}
+use Rattle.session_admission.proofs.Opening.{accept_went, line_is, opened_by, refusal_back, refusal_edge, refusal_fails, refusal_fills, refusal_full}
+use Rattle.session_admission.proofs.Opening.{refusal_held, refusal_stops, refusal_taken, sited_at, stopped_answer, stops_refusal}
 use Rattle.session_admission.proofs.accepting.accept_plan.Goals as goal
 
 -- ---- it is accepted and acknowledged
@@ -98,3 +98,19 @@ returns-in-Err-clause-quiet_disk g c = λ other. c.in-Err.ensures.quiet (λ stop
 pub returns-in-Err-clause-unmade : goal.returns-in-Err-clause-unmade
 returns-in-Err-clause-unmade g c = λ given. c.in-Err.ensures.unmade
     (refusal_back c.in-Err.refusal (λ has. given (subst HasTaken (sym c.answer_to.ensures) has)))
+
+-- ---- where its entry stands
+
+pub returns-in-Ok-acknowledge-clause-site : goal.returns-in-Ok-acknowledge-clause-site
+returns-in-Ok-acknowledge-clause-site g c = λ taken went image left.
+    sited_at g.met.D.Disk.laws g.met.J.Journal.laws c.in-Ok.accepted.0 c.accept.new.disk (idle_device c.args.idle) (plan_view c.args.plan) _
+    c.in-Ok.ensures.held c.in-Ok.ensures.taken c.in-Ok.ensures.end image left
+
+pub returns-in-Err-acknowledge-clause-site : goal.returns-in-Err-acknowledge-clause-site
+returns-in-Err-acknowledge-clause-site g c = λ taken went image left.
+    sited_at g.met.D.Disk.laws g.met.J.Journal.laws c.in-Ok.accepted.0 c.accept.new.disk (idle_device c.args.idle) (plan_view c.args.plan) _
+    c.in-Ok.ensures.held c.in-Ok.ensures.taken c.in-Ok.ensures.end image left
+
+pub returns-in-Err-clause-site : goal.returns-in-Err-clause-site
+returns-in-Err-clause-site g c = λ taken went image left.
+    absurd (went (c.answer_to.ensures ∙ refusal_fails c.in-Err.refusal (subst HasTaken c.answer_to.ensures taken)))

@@ -9,13 +9,13 @@ use Rattle.histories.specs.TraceEvents.{records_of}
 use Rattle.histories.specs.States.{state_after}
 use Rattle.law_termination.proofs.Comes.{none_drives}
 use Rattle.session.specs.Calls.{StandsWhole}
-use Rattle.session.specs.Documents.{Follows}
+use Rattle.session.specs.Documents.{AcceptsTaken, Follows}
 use Rattle.session.specs.Endings.{Ending, is_failing}
 use Rattle.session.specs.Sweeping.{LeavesNoStray}
 use Rattle.nuc_base.specs.declared.status.Status.{Status}
 use Rattle.session.proofs.Places.{none_stopped, orderly_none, run_standing_none, serves_on}
 use Rattle.session.proofs.Wholes.{whole}
-use Rattle.session.proofs.requests.run_made_to_end.Goals as goal
+use Rattle.session.proofs.whole.run_made_to_end.Goals as goal
 
 -- ---- the document is deployed
 
@@ -66,6 +66,10 @@ returns-clause-call g c = λ p opens serves.
       (λ fails. t.4 (sym w.1 ∙ fails)),
       t.5,
       t.6,
+      subst (λ (e : Ending). AcceptsTaken g.J.Journal.entries g.D.Disk.may_leave g.D.Disk.moment g.D.Disk.left_since c.args.disk.now c.run_made-ran.new.disk
+          (idle_device c.args.idle) start t.0 e (records_of w.0.history)) (sym w.1)
+          (subst (λ (l : List Record). AcceptsTaken g.J.Journal.entries g.D.Disk.may_leave g.D.Disk.moment g.D.Disk.left_since c.args.disk.now
+          c.run_made-ran.new.disk (idle_device c.args.idle) start t.0 part.ending l) (sym w.2) t.7),
     )
 
 pub returns-clause-disk : goal.returns-clause-disk
