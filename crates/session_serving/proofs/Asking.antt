@@ -14,7 +14,8 @@ use Rattle.law_serving.proofs.Records.{idle_phase, pending_idle}
 use Rattle.session_boots.specs.Traces.{Acts}
 use Rattle.session_boots.proofs.Acting.{acts_on, grows_none}
 use Rattle.session_shutdown.specs.Stops.{MayStop}
-use Rattle.session_steady.specs.Runs.{IsInTurn, IsSame}
+use Rattle.session_acts.specs.Runs.{IsInTurn}
+use Rattle.session_steady.specs.Runs.{IsSame}
 use Rattle.session_steady.specs.Serves.{IsAsking, IsSteady, IsWaiting}
 use Rattle.session_steady.proofs.Serving.{asking_serves}
 use Rattle.session_serving.specs.Places.{IsAsked}
@@ -58,16 +59,14 @@ steady_asked p x s = record {
   cut = s.cut;
 }
 
-turn_asked : (p : SessionState) (x : Answer) (world : Components) (told : Told) (living : List ℕ) → IsInTurn p p world told living →
-    IsInTurn (leaves p (InboxAsked x)) (leaves p (InboxAsked x)) world told living
+turn_asked : (p : SessionState) (x : Answer) (world : Components) (told : Told) (living : List ℕ) → IsInTurn p world told living →
+    IsInTurn (leaves p (InboxAsked x)) world told living
 turn_asked p x world told living r =
     let w = r.within in
     record {
       within = record {
         on = record { drives = w.on.drives; boot = w.on.boot; boot_end = w.on.boot_end; over = w.on.over; cut = w.on.cut };
-        same = record { device = refl; generation = refl; serves = refl; opened = refl; turns = refl; taken = refl };
-        answer = refl;
-        keeps = w.keeps;
+        orderly = w.orderly;
         answered = w.answered;
         moment = w.moment;
         asked = w.asked;

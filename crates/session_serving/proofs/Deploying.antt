@@ -42,7 +42,7 @@ use Rattle.session_boots.specs.Ends.{StopsAt}
 use Rattle.session_boots.specs.Lines.{lines_of}
 use Rattle.session_boots.specs.Stages.{Holds}
 use Rattle.session_steady.specs.Serves.{IsServing}
-use Rattle.session_steady.proofs.Entering.{comes_of}
+use Rattle.session_acts.proofs.Entering.{comes_of}
 use Rattle.session.specs.Calls.{IsOrEdge, StandsWhole, call_lines, opening_line}
 use Rattle.session.specs.Documents.{Follows, TakesRead}
 use Rattle.session.specs.Endings.{Ending, IsBegun, Starves, is_failing, line_of_ending, status_of_ending}
@@ -87,16 +87,7 @@ module _ (p : SessionState) (d : Device) (world : Components) (told : Told) (liv
   }
 
   asked_stands : Stands p d world told living
-  asked_stands =
-      let s = (comes_of p p world told living a.turn).stands in
-      record {
-        device_is = a.device_is;
-        world_is = s.world_is;
-        answered = s.answered;
-        not_before = s.not_before;
-        asked = s.asked;
-        children = s.children;
-      }
+  asked_stands = (comes_of p d world told living a.turn a.device_is).stands
 
   pub asked_open : IsOpen (alone p) d world told living
   asked_open =

@@ -11,7 +11,7 @@ use Rattle.histories.specs.States.{SessionState}
 use Rattle.histories.specs.TraceEvents.{Answer, is_document}
 use Rattle.law_termination.specs.Drives.{Drives}
 use Rattle.session_boots.specs.Stands.{IsAtBootStage}
-use Rattle.session_steady.specs.Runs.{IsInTurn}
+use Rattle.session_acts.specs.Runs.{IsInTurn}
 use Rattle.session_steady.specs.Serves.{IsSteady}
 use Rattle.session_transitions.specs.Enters.{RunOn}
 use Rattle.session.specs.Parts.{IsReturned}
@@ -35,7 +35,7 @@ pub record IsAsked (answer : Answer) (p : SessionState) (d : Device) (world : Co
   pub device_is : p.device ≡ d
   pub steady : IsSteady p
   pub answer_is : p.answer ≡ Some answer
-  pub turn : IsInTurn p p world told living
+  pub turn : IsInTurn p world told living
   pub quiet : IsQuiet p.world
 
 -- the call begins, and may ask its inbox so often

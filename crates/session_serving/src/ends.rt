@@ -33,6 +33,8 @@ use step_runner::Runner;
 /// Prints that the inbox failed, and answers the status of that.
 pub(crate) fn say_inbox<K: Sink>(sink: &mut K) -> Status
     ensures line { AppendsPrefix (K.held sink.old) (K.held sink.new) inbox_line }
+    // All of it, unless the sink fails.
+    ensures told { ¬ (Rose (K.faults sink.old) (K.faults sink.new)) → Appends (K.held sink.old) (K.held sink.new) inbox_line }
     ensures status { result ≡ statuses.Edge }
     ensures later { K.faults sink.old ≤ K.faults sink.new }
 {

@@ -23,7 +23,7 @@ run_document-requires-clause-drives g c = c.requires.up.drives
 pub run_document-requires-clause-orderly : goal.run_document-requires-clause-orderly
 run_document-requires-clause-orderly g c =
     let q = c.requires.placed in
-    orderly_world q.0 (g.S.Supervise.world c.args.supervisor.now) q.1.turn.world_is q.1.turn.within.keeps
+    orderly_world q.0 (g.S.Supervise.world c.args.supervisor.now) q.1.turn.world_is q.1.turn.within.orderly
 
 pub run_document-requires-clause-made : goal.run_document-requires-clause-made
 run_document-requires-clause-made g c = made_standing (idle_device c.args.idle) (g.S.Supervise.world c.args.supervisor.now) c.requires.up.made
