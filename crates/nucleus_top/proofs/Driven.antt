@@ -14,8 +14,9 @@ use Rattle.command_words.specs.declared.order.Order.{Order}
 use Rattle.command_words.specs.declared.order.Order.TheVariants as orders
 use Rattle.edges.specs.declared.source.ReadFault.{ReadFault}
 use Rattle.edges.specs.declared.source.ReadFault.TheVariants as reading
-use Rattle.disk_model.specs.Disk.{Image, DiskLaws, Leaves}
+use Rattle.disk_model.specs.Disk.{After, Image, DiskLaws, Leaves}
 use Rattle.disk_model.specs.Listing.{artifacts, IsBelow}
+use Rattle.disk_model.specs.Spares.{Spares}
 use Rattle.disk_model.specs.Moments.{at_start, none_spares, then_spares, weaker}
 use Rattle.gate_log.specs.Journal.{JournalLaws}
 use Rattle.checkpoint_log.specs.Beginnings.{FirstSays}
@@ -57,6 +58,7 @@ use Rattle.session.specs.Calls.{Call, IsOrEdge, ChangesArtifactsAlone, Stays}
 use Rattle.session.specs.Documents.{DrivesTaken}
 use Rattle.deployment_doc.specs.declared.document.Document.{Document}
 use Rattle.session.specs.Sweeping.{LeavesNoStray}
+use Rattle.session.proofs.Accepted.{takes_behind}
 use Rattle.session.proofs.Sweeping.{never_closes}
 use Rattle.nucleus_top.specs.Answers.{HasRisen, Input, IsUnchanged, Printed, Prints, Shelf, Store, Told, status_of}
 use Rattle.nucleus_top.specs.Asked.{AsksFor, asked_of}
@@ -411,6 +413,7 @@ module _ {D : Type 0} (may_leave : D → Image → Type 0) (moment : D → ℕ) 
     disk_cause = h.disk_cause;
     library_cause = h.library_cause;
     lasts = h.lasts;
+    accepts = h.accepts;
   }
 
 -- what is made is taken in so
@@ -603,6 +606,8 @@ module _ {D : Type 0} {is_modelled : Bool} {seen : D → Image} {may_leave : D �
       disk_cause = λ failed. rose_behind (faults old) (faults mid) (faults new) later (h.disk_cause failed);
       library_cause = h.library_cause;
       lasts = h.lasts;
+      accepts = takes_behind slots_entries laws old mid new (After (may_leave old) (Spares (IsBelow artifacts))) first d start h.taken h.call.0.ending
+          (records_of h.call.0.history) h.accepts;
     }
 
     pub resumed_on : IsResumedOn may_leave moment left_since faults mid new old_list new_list printed result d →

@@ -1,5 +1,8 @@
 mod AuditEnds
+mod Bounded
+mod Closing
 mod Comparing
+mod Completing
 mod Crashes
 mod DriveEnds
 mod Driven

@@ -30,10 +30,10 @@ use Rattle.nucleus_top.specs.Requested.{ChangesMoveOneItem, LocalsMoveOneGroup, 
 
 -- ---- the plan that was accepted
 
-record IsTakenAs (taken : Result code.Plan Declined) (p : Plan) : Type 0 where
-  plan : code.Plan
-  taken_is : taken ≡ Ok plan
-  plan_is : p ≡ plan_view plan
+pub record IsTakenAs (taken : Result code.Plan Declined) (p : Plan) : Type 0 where
+  pub plan : code.Plan
+  pub taken_is : taken ≡ Ok plan
+  pub plan_is : p ≡ plan_view plan
 
 first_same : (p q : Plan) (rest more : List Record) → ◌≡◌ {A = List Record} (Accepted p ∷ rest) (Accepted q ∷ more) → p ≡ q
 first_same p q rest more same = cc
@@ -43,7 +43,7 @@ module _ (start : ℕ → ℕ) (ending : Ending) (records rest : List Record) (p
   begun_as plan (inl off) = let wrong : [] ≡ Accepted p ∷ rest = sym off.1 ∙ is in cc
   begun_as plan (inr on) = first_same p (plan_view plan) rest on.2.0 (sym is ∙ on.2.1)
 
-  taken_as : (taken : Result code.Plan Declined) → Follows start taken ending records → IsTakenAs taken p
+  pub taken_as : (taken : Result code.Plan Declined) → Follows start taken ending records → IsTakenAs taken p
   taken_as (Ok plan) follows = record { plan = plan; taken_is = refl; plan_is = begun_as plan follows }
   taken_as (Err x) follows = let wrong : [] ≡ Accepted p ∷ rest = sym follows.1 ∙ is in absurd cc
 

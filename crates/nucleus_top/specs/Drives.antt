@@ -33,7 +33,7 @@ use Rattle.deployment_doc.specs.declared.document.Document.{Document}
 use Rattle.law_whole.specs.Taking.{StayWhole}
 use Rattle.library_core.specs.Nothing.{no_content}
 use Rattle.session.specs.Calls.{Call, Elsewhere, IsPendingAs, ChangesArtifactsAlone}
-use Rattle.session.specs.Documents.{DrivesTaken}
+use Rattle.session.specs.Documents.{AcceptsTaken, DrivesTaken}
 use Rattle.session.specs.Endings.{Fails, Resumes}
 use Rattle.session.specs.Sweeping.{LeavesNoStray}
 use Rattle.nucleus_top.specs.Answers.{Expects, HasRisen, Input, Printed, Prints, Shelf, Store, Told, damaged_line, none_line, pending_line}
@@ -228,6 +228,8 @@ module _ {D : Type 0} (may_leave : D → Image → Type 0) (moment : D → ℕ) 
     pub library_cause : HasLibraryFailed taken → Rose library.faults_before library.faults_after
     -- what was printed lasts
     pub lasts : Lasts (may_leave new) call.0.prints.told
+    -- the entry of an accepted plan begins there, and no live one stood behind it then
+    pub accepts : AcceptsTaken slots_entries may_leave moment left_since old new d start taken call.0.ending (records_of call.0.history)
 
   -- so it is with what the source has, which is of this kind
   abbrev pub DeploysOn : Ask → Device → (ℕ → ℕ) → Input → Shelf → Type 0

@@ -2,6 +2,8 @@ pub mod Answers
 pub mod Asked
 pub mod Audits
 pub mod Begun
+pub mod Bounded
+pub mod Completeness
 pub mod Crashes
 pub mod Drives
 pub mod Gets

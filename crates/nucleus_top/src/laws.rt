@@ -1,5 +1,7 @@
 ghost use Rattle.device.specs.Devices.{no_device};
 ghost use Rattle.device.specs.Met.{Met};
+ghost use Rattle.nucleus_top.specs.Bounded.{AcceptsWithin};
+ghost use Rattle.nucleus_top.specs.Completeness.{DeploysComplete, RestartsAreFew, ResumesGetOn};
 ghost use Rattle.nucleus_top.specs.Lasting.{RunsCloseMore, RunsLoseNothing, RunsTake};
 ghost use Rattle.nucleus_top.specs.Meeting.{BroughtStayMet};
 ghost use Rattle.nucleus_top.specs.Opening.{AreFound};
@@ -11,6 +13,7 @@ ghost use Rattle.nucleus_top.specs.Series.{InitsBegin, OthersGoOn, TurnedEnd, Tu
 use checkpoint_log::Slots;
 use device::revisions_rise;
 use disk_model::Disk;
+use law_histories::resumes_get_on;
 use law_reopening::starts_stand;
 use law_whole::requests_keep_the_rest;
 
@@ -77,3 +80,22 @@ pub fn calls_reopen<D: Disk>()
 {
     starts_stand::<Slots, D>();
 }
+
+/// A deployment that nothing prevents is accepted, and one in which nothing fails ends well or gets on. What `deploy`, `local` and `config-set` say,
+/// on a store that stands for a device with nothing pending, gives that the records begin with the plan and the status is 0, 10, 11, 12, 100 or 101,
+/// where the request comes to a document that passes each check and no count rises; and that it is 0, 100 or 101 where no end, no refused start and
+/// no passed limit at the runner is a failure. What `resume` says gives that it ends with 0 then, or leaves one more bootstrap of the plan ended,
+/// so that a plan needs no more restarts than it has bootstraps. Want of memory is free. It does nothing.
+pub fn calls_complete<D: Disk>()
+    ensures deploys { DeploysComplete D.is_modelled D.seen D.may_leave D.moment D.left_since D.faults }
+    ensures resumes { ResumesGetOn D.is_modelled D.seen D.may_leave D.moment D.left_since D.faults }
+    ensures restarts { RestartsAreFew }
+{
+    resumes_get_on();
+}
+
+/// Where the journal can turn, a plan that `deploy`, `local` or `config-set` accepts leaves its live entries within twice the front of the device and
+/// 1,048,576 bytes more, or within that front and the plan's own entry. So a store does not grow for ever. It does nothing.
+pub fn journals_stay_small<D: Disk>()
+    ensures accepts { AcceptsWithin D.may_leave D.moment D.left_since D.faults }
+{}

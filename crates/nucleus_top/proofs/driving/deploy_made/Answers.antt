@@ -74,6 +74,7 @@ returns-clause-driven g c =
       lasts = call_lasts g.D.Disk.may_leave g.D.Disk.moment g.D.Disk.left_since c.args.disk.now c.run_made_to_end.new.disk
           (g.R.Runner.list c.args.runner.now) (g.R.Runner.list c.run_made_to_end.new.runner) (g.K.Sink.held c.args.sink.now)
           (g.K.Sink.held c.run_made_to_end.new.sink) place c.run_made_to_end.result run.2.0;
+      accepts = run.7;
     }
 
 pub returns-clause-none : goal.returns-clause-none
