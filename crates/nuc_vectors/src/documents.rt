@@ -1,16 +1,18 @@
 // Documents, each with the fault that the first failing line names, or with what is read.
 use config_ops::Update;
 use deployment_doc::{DocFault, Document, Root};
-use nuc_base::{List, Pointer, Policy, Text};
+use nuc_base::Policy;
 use std::alloc::Global;
 use std::test::Fail;
+use test_support::{joined, push_resets, repeated, repeated_of};
 use tree_core::TreeFault;
 
 // Each line is what is answered, a bar and the document. An answer is the printed reason of the fault; or the id, the
 // group and the policy, the revision where it is not 0, and for each component its name and range, and for an update
 // the word `update`, its resets by their tokens and its merge. Written by hand from the format; the digests are those
 // of `sha256sum`.
-const WHOLE: &str = r#"NotJson|
+const WHOLE: &str = concat!(
+    r#"NotJson|
 NotJson|{
 NotJson|{"targetArn":"g",}
 NotJson|{"targetArn":1e400}
@@ -21,7 +23,8 @@ NotWhole|[-0]
 TooDeep|[[[[[[[[[[[[[[[[[[[[[[[[[[[[[[[[[[[[[[[[[[[[[[[[[[[[[[[[[[[[[[[[[]]]]]]]]]]]]]]]]]]]]]]]]]]]]]]]]]]]]]]]]]]]]]]]]]]]]]]]]]]]]]]]]]
 TooDeep|{"targetArn":[[[[[[[[[[[[[[[[[[[[[[[[[[[[[[[[[[[[[[[[[[[[[[[[[[[[[[[[[[[[[[[[]]]]]]]]]]]]]]]]]]]]]]]]]]]]]]]]]]]]]]]]]]]]]]]]]]]]]]]]]]]]]]]]}
 592dacb69dd8ed9efe93b5f3948642fc52915a6153e8a25a0d9d9115de0c41d1 g ROLLBACK|{"targetArn":"g"}
-31c9258c14450ce734e311a918f6efd18e83ef2a722997524086d48fb7f4d1e6 g ROLLBACK|{"targetArn":"g","other":[[[[[[[[[[[[[[[[[[[[[[[[[[[[[[[[[[[[[[[[[[[[[[[[[[[[[[[[[[[[[[[]]]]]]]]]]]]]]]]]]]]]]]]]]]]]]]]]]]]]]]]]]]]]]]]]]]]]]]]]]]]]]]}
+31c9258c14450ce734e311a918f6efd18e83ef2a722997524086d48fb7f4d1e6 g ROLLBACK|{"targetArn":"g","#,
+    r#""other":[[[[[[[[[[[[[[[[[[[[[[[[[[[[[[[[[[[[[[[[[[[[[[[[[[[[[[[[[[[[[[[]]]]]]]]]]]]]]]]]]]]]]]]]]]]]]]]]]]]]]]]]]]]]]]]]]]]]]]]]]]]]]]}
 c25937afc3a5dc146182eaef19a4a7f15598d01da7bd1ac7c7ab5dca7c73b93e g ROLLBACK|{"targetArn":1.5,"targetArn":"g"}
 WrongKind targetArn|{"targetArn":"g","targetArn":1}
 WrongKind document|null
@@ -42,8 +45,17 @@ WrongKind targetArn|{"targetArn":null}
 WrongKind targetArn|{"targetArn":{},"components":[]}
 BadName targetArn|{"targetArn":""}
 BadName targetArn|{"targetArn":"a\nb","deploymentPolicies":1}
-fd22ac9e7270bdcd93b5d411213d69aea9b397848d3709aaadd75a0ef36c7ad9 arn:aws:iot:us-west-2:123456789012:thinggroup/MyGreengrassCoreGroup ROLLBACK com.example.HelloWorld 1.0.0 update reset>network>useHttps reset>tags merge Fields([("tags", Items([Text("/boiler/1/temp"), Text("/boiler/1/pressure")]))])|{"targetArn":"arn:aws:iot:us-west-2:123456789012:thinggroup/MyGreengrassCoreGroup","deploymentName":"Deployment for MyGreengrassCoreGroup","components":{"com.example.HelloWorld":{"componentVersion":"1.0.0","configurationUpdate":{"reset":["/network/useHttps","/tags"],"merge":"{\"tags\":[\"/boiler/1/temp\",\"/boiler/1/pressure\"]}"},"runWith":{"posixUser":"ggc_user"}}},"deploymentPolicies":{"failureHandlingPolicy":"ROLLBACK","componentUpdatePolicy":{"timeoutInSeconds":60,"action":"NOTIFY_COMPONENTS"},"configurationValidationPolicy":{"timeoutInSeconds":60}},"iotJobConfiguration":{},"parentTargetArn":null}
-d1 arn:aws:iot:us-east-1:123456789012:thinggroup/g1 ROLLBACK com.example.HelloWorld 1.0.0|{"deploymentId":"d1","targetArn":"arn:aws:iot:us-east-1:123456789012:thinggroup/g1","deploymentName":"hello","components":{"com.example.HelloWorld":{"componentVersion":"1.0.0"}}}"#;
+fd22ac9e7270bdcd93b5d411213d69aea9b397848d3709aaadd75a0ef36c7ad9 arn:aws:iot:us-west-2:123456789012:thinggroup/MyGreengrassCoreGroup ROLLBACK "#,
+    r#"com.example.HelloWorld 1.0.0 update reset>network>useHttps reset>tags merge Fields([("tags", Items([Text("/boiler/1/temp"), "#,
+    r#"Text("/boiler/1/pressure")]))])|{"targetArn":"arn:aws:iot:us-west-2:123456789012:thinggroup/MyGreengrassCoreGroup","#,
+    r#""deploymentName":"Deployment for MyGreengrassCoreGroup","components":{"com.example.HelloWorld":{"componentVersion":"1.0.0","#,
+    r#""configurationUpdate":{"reset":["/network/useHttps","/tags"],"merge":"{\"tags\":[\"/boiler/1/temp\",\"/boiler/1/pressure\"]}"},"#,
+    r#""runWith":{"posixUser":"ggc_user"}}},"deploymentPolicies":{"failureHandlingPolicy":"ROLLBACK","componentUpdatePolicy":{"timeoutInSeconds":60,"#,
+    r#""action":"NOTIFY_COMPONENTS"},"configurationValidationPolicy":{"timeoutInSeconds":60}},"iotJobConfiguration":{},"parentTargetArn":null}
+d1 arn:aws:iot:us-east-1:123456789012:thinggroup/g1 ROLLBACK com.example.HelloWorld 1.0.0|"#,
+    r#"{"deploymentId":"d1","targetArn":"arn:aws:iot:us-east-1:123456789012:thinggroup/g1","#,
+    r#""deploymentName":"hello","components":{"com.example.HelloWorld":{"componentVersion":"1.0.0"}}}"#
+);
 
 const REVISION: &str = r#"{"deploymentId":"d","targetArn":"g","revision":"#;
 
@@ -77,7 +89,8 @@ d g DO_NOTHING|{"failureHandlingPolicy":"DO_NOTHING","componentUpdatePolicy":{"t
 
 const COMPONENT: &str = r#"{"deploymentId":"d","targetArn":"g","components":"#;
 
-const COMPONENTS: &str = r#"WrongKind components|[]
+const COMPONENTS: &str = concat!(
+    r#"WrongKind components|[]
 WrongKind components|"A"
 d g ROLLBACK|null
 d g ROLLBACK|{}
@@ -94,10 +107,12 @@ WrongKind componentVersion|{"A":{"componentVersion":null}}
 WrongKind componentVersion|{"A":{"componentVersion":1,"configurationUpdate":1}}
 BadRange A|{"A":{"componentVersion":"^^1"}}
 BadRange B.b|{"A":{"componentVersion":"1.0.0"},"B.b":{"componentVersion":"1.0.0.0","configurationUpdate":1}}
-BadRange A|{"A":{"componentVersion":">=1.0.0 >=1.0.0 >=1.0.0 >=1.0.0 >=1.0.0 >=1.0.0 >=1.0.0 >=1.0.0 >=1.0.0 >=1.0.0 >=1.0.0 >=1.0.0 >=1.0.0 >=1.0.0 >=1.0.0 >=1.0.0 >=1.0.0 >=1.0.0 >=1.0.0 >=1.0.0 >=1.0.0 >=1.0.0 >=1.0.0 >=1.0.0 >=1.0.0 >=1.0.0 >=1.0.0 >=1.0.0 >=1.0.0 >=1.0.0 >=1.0.0 >=1.0.0 >=1.0.0"}}
+BadRange A|{"A":{"componentVersion":">=1.0.0 >=1.0.0 >=1.0.0 >=1.0.0 >=1.0.0 >=1.0.0 >=1.0.0 >=1.0.0 >=1.0.0 >=1.0.0 >=1.0.0 >=1.0.0 >=1.0.0 >=1.0.0 >=1.0.0 "#,
+    r#">=1.0.0 >=1.0.0 >=1.0.0 >=1.0.0 >=1.0.0 >=1.0.0 >=1.0.0 >=1.0.0 >=1.0.0 >=1.0.0 >=1.0.0 >=1.0.0 >=1.0.0 >=1.0.0 >=1.0.0 >=1.0.0 >=1.0.0 >=1.0.0"}}
 d g ROLLBACK A >=1.0.0 <2.0.0 B ^1.2.0|{"B":{"componentVersion":"^1.2.0"},"A":{"componentVersion":">=1.0.0 <2.0.0"}}
 BadRange A|{"A":{"componentVersion":"^^1","configurationUpdate":"reset"}}
-BadMerge A|{"A":{"componentVersion":"1.0.0","configurationUpdate":{"merge":true}},"B":1}"#;
+BadMerge A|{"A":{"componentVersion":"1.0.0","configurationUpdate":{"merge":true}},"B":1}"#
+);
 
 const UPDATE: &str =
     r#"{"deploymentId":"d","targetArn":"g","components":{"A":{"componentVersion":"1.0.0","configurationUpdate":"#;
@@ -179,33 +194,15 @@ fn add_root(alloc: Global, text: &mut String, root: &Root) -> Result<(), Fail> {
 
 fn add_update(alloc: Global, text: &mut String, update: &Update) -> Result<(), Fail> {
     text.push_str(" update")?;
-    add_resets(text, &update.resets)?;
+    push_resets(text, &update.resets)?;
     if let Some(merge) = &update.merge {
         text.push_str(&format!(in alloc; " merge {merge:?}")?)?;
     }
     Ok(())
 }
 
-fn add_resets(text: &mut String, resets: &List<Pointer>) -> Result<(), Fail> {
-    for reset in resets.as_slice() {
-        text.push_str(" reset")?;
-        for token in reset.tokens().as_slice() {
-            text.push('>')?;
-            text.push_str(token.as_str())?;
-        }
-    }
-    Ok(())
-}
-
 fn is_answered(alloc: Global, text: &str, wanted: &str) -> Result<bool, Fail> {
     Ok(answer(alloc, text)?.as_str() == wanted)
-}
-
-fn joined(alloc: Global, front: &str, middle: &str, back: &str) -> Result<Text, Fail> {
-    let mut text = Text::from_str(alloc, front)?;
-    text.push_str(middle)?;
-    text.push_str(back)?;
-    Ok(text)
 }
 
 fn is_row(alloc: Global, front: &str, row: &str, back: &str) -> Result<bool, Fail> {
@@ -241,50 +238,14 @@ const MANY_RESETS: &str = r#"TooMany reset|257||
 WrongKind reset|256||
 BadPointer A|256|"|""#;
 
-fn add_part(alloc: Global, text: &mut String, part: (&str, &str), i: u32) -> Result<(), Fail> {
-    if i > 0 {
-        text.push(',')?;
-    }
-    text.push_str(&format!(in alloc; "{}{i}{}", part.0, part.1)?)?;
-    Ok(())
-}
-
-fn add_parts(alloc: Global, text: &mut String, part: (&str, &str), count: u32) -> Result<(), Fail> {
-    for i in 0..count {
-        add_part(alloc, text, part, i)?;
-    }
-    Ok(())
-}
-
-/// A document with so many parts of one form.
-fn repeated(
-    alloc: Global,
-    front: &str,
-    part: (&str, &str),
-    count: u32,
-    back: &str,
-) -> Result<String, Fail> {
-    let mut text = String::from_str(alloc, front)?;
-    add_parts(alloc, &mut text, part, count)?;
-    text.push_str(back)?;
-    Ok(text)
-}
-
 fn is_repeated_row(alloc: Global, front: &str, row: &str, back: &str) -> Result<bool, Fail> {
-    let Some((wanted, rest)) = row.split_once('|') else {
+    let Some((wanted, parts)) = row.split_once('|') else {
         return Ok(false);
     };
-    let Some((count, part)) = rest.split_once('|') else {
-        return Ok(false);
-    };
-    let Some(part) = part.split_once('|') else {
-        return Ok(false);
-    };
-    let Ok(count) = count.parse::<u32>() else {
-        return Ok(false);
-    };
-    let text = repeated(alloc, front, part, count, back)?;
-    is_answered(alloc, text.as_str(), wanted)
+    match repeated_of(alloc, front, parts, back)? {
+        Some(text) => is_answered(alloc, text.as_str(), wanted),
+        None => Ok(false),
+    }
 }
 
 fn first_wrong_repeated<'t>(

@@ -11,10 +11,6 @@ mod documents;
 #[cfg(test)]
 mod operations;
 #[cfg(test)]
-mod orders;
-#[cfg(test)]
-mod ranges;
-#[cfg(test)]
 mod recipes;
 #[cfg(test)]
 mod variables;

@@ -4,10 +4,11 @@ use nuc_base::{Step, Text};
 use recipe_reader::{Dependency, Platform, Recipe, RecipeFault, Skip, StepDef};
 use std::alloc::Global;
 use std::test::Fail;
-use test_support::linux;
+use test_support::{joined, linux};
 use tree_core::Tree;
 
-/// Whole recipes. Each line is what is answered, `Ok`, or `Back` where the bootstrap runs again on the way back, with the script of the run step, a bar and the text.
+/// Whole recipes. Each line is what is answered, `Ok`, or `Back` where the bootstrap runs again on the way back, with the script of
+/// the run step, a bar and the text.
 const WHOLE: &str = r#"NotJson|{
 NotJson|
 NotWhole|{"a":1.5}
@@ -32,7 +33,8 @@ BadVersion|{"RecipeFormatVersion":"2020-01-25","ComponentName":"A","ComponentVer
 Ok|{"RecipeFormatVersion":"2020-01-25","ComponentName":"A","ComponentVersion":"1.0.0-a.1+b"}"#;
 
 /// What stands behind the three keys that must be there. Each line is what is answered, `Ok` with the script of the run step, a bar and the text.
-const BODIES: &str = r#"WrongKind ComponentType|"ComponentType":1
+const BODIES: &str = concat!(
+    r#"WrongKind ComponentType|"ComponentType":1
 UnsupportedType|"ComponentType":"aws.greengrass.lambda","Lifecycle":1
 Ok|"ComponentType":"aws.greengrass.generic"
 Ok|"ComponentType":null
@@ -46,7 +48,11 @@ WrongKind DefaultConfiguration|"ComponentConfiguration":{"DefaultConfiguration":
 Ok|"ComponentConfiguration":{"DefaultConfiguration":null}
 Ok|"ComponentConfiguration":{"defaultconfiguration":1}
 WrongKind ComponentDependencies|"ComponentDependencies":[],"Manifests":1
-TooMany ComponentDependencies|"ComponentDependencies":{"a0":{},"a1":{},"a2":{},"a3":{},"a4":{},"a5":{},"a6":{},"a7":{},"a8":{},"a9":{},"a10":{},"a11":{},"a12":{},"a13":{},"a14":{},"a15":{},"a16":{},"a17":{},"a18":{},"a19":{},"a20":{},"a21":{},"a22":{},"a23":{},"a24":{},"a25":{},"a26":{},"a27":{},"a28":{},"a29":{},"a30":{},"a31":{},"a32":{},"a33":{},"a34":{},"a35":{},"a36":{},"a37":{},"a38":{},"a39":{},"a40":{},"a41":{},"a42":{},"a43":{},"a44":{},"a45":{},"a46":{},"a47":{},"a48":{},"a49":{},"a50":{},"a51":{},"a52":{},"a53":{},"a54":{},"a55":{},"a56":{},"a57":{},"a58":{},"a59":{},"a60":{},"a61":{},"a62":{},"a63":{},"a64":{}}
+TooMany ComponentDependencies|"ComponentDependencies":{"a0":{},"a1":{},"a2":{},"a3":{},"a4":{},"a5":{},"a6":{},"a7":{},"a8":{},"a9":{},"a10":{},"a11":{},"#,
+    r#""a12":{},"a13":{},"a14":{},"a15":{},"a16":{},"a17":{},"a18":{},"a19":{},"a20":{},"a21":{},"a22":{},"a23":{},"a24":{},"a25":{},"a26":{},"a27":{},"#,
+    r#""a28":{},"a29":{},"a30":{},"a31":{},"a32":{},"a33":{},"a34":{},"a35":{},"a36":{},"a37":{},"a38":{},"a39":{},"a40":{},"a41":{},"a42":{},"a43":{},"#,
+    r#""a44":{},"a45":{},"a46":{},"a47":{},"a48":{},"a49":{},"a50":{},"a51":{},"a52":{},"a53":{},"a54":{},"#,
+    r#""a55":{},"a56":{},"a57":{},"a58":{},"a59":{},"a60":{},"a61":{},"a62":{},"a63":{},"a64":{}}
 BadName ComponentDependencies|"ComponentDependencies":{"..":1},"Manifests":1
 WrongKind ComponentDependencies|"ComponentDependencies":{"A":null}
 WrongKind VersionRequirement|"ComponentDependencies":{"A":{"VersionRequirement":1,"DependencyType":"X"}}
@@ -56,9 +62,11 @@ WrongKind DependencyType|"ComponentDependencies":{"A":{"DependencyType":"X"},"B"
 WrongKind DependencyType|"ComponentDependencies":{"A":{"DependencyType":true}},"Manifests":1
 Ok|"ComponentDependencies":{"A":{},"B":{"VersionRequirement":null,"DependencyType":"soft"},"C":{"VersionRequirement":"^1"}}
 WrongKind Manifests|"Manifests":{}
-TooMany Manifests|"Manifests":[0,0,0,0,0,0,0,0,0,0,0,0,0,0,0,0,0,0,0,0,0,0,0,0,0,0,0,0,0,0,0,0,0,0,0,0,0,0,0,0,0,0,0,0,0,0,0,0,0,0,0,0,0,0,0,0,0,0,0,0,0,0,0,0,0]
+TooMany Manifests|"#,
+    r#""Manifests":[0,0,0,0,0,0,0,0,0,0,0,0,0,0,0,0,0,0,0,0,0,0,0,0,0,0,0,0,0,0,0,0,0,0,0,0,0,0,0,0,0,0,0,0,0,0,0,0,0,0,0,0,0,0,0,0,0,0,0,0,0,0,0,0,0]
 Ok|"Manifests":[]
-Ok|"Manifests":null"#;
+Ok|"Manifests":null"#
+);
 
 /// Manifests. Each line is what is answered, `Ok` with the script of the run step, a bar and the text.
 const MANIFESTS: &str = r#"WrongKind Manifests|1
@@ -171,7 +179,8 @@ Ok|{"BootstrapOnRollback":true,"bootstrap":{"Script":"b"}}
 Missing Script|{"bootstrap":{"BootstrapOnRollback":true}}"#;
 
 /// The artifacts of a manifest. Each line is what is answered, `Ok` with the script of the run step, a bar and the text.
-const ARTIFACTS: &str = r#"WrongKind Artifacts|{}
+const ARTIFACTS: &str = concat!(
+    r#"WrongKind Artifacts|{}
 TooMany Artifacts|[0,0,0,0,0,0,0,0,0,0,0,0,0,0,0,0,0,0,0,0,0,0,0,0,0,0,0,0,0,0,0,0,0,0,0,0,0,0,0,0,0,0,0,0,0,0,0,0,0,0,0,0,0,0,0,0,0,0,0,0,0,0,0,0,0]
 WrongKind Artifacts|[1]
 DuplicateKey URI|[{"URI":1,"Uri":1}]
@@ -187,7 +196,9 @@ UnsupportedUri|[{"Uri":"s3://b/..","Unarchive":"ZIP"}]
 UnsupportedUri|[{"Uri":"s3://b/.","Unarchive":"ZIP"}]
 UnsupportedUri|[{"Uri":"s3://b/a b","Unarchive":"ZIP"}]
 UnsupportedUri|[{"Uri":"S3://b/x","Unarchive":"ZIP"}]
-UnsupportedUri|[{"Uri":"s3://b/aaaaaaaaaaaaaaaaaaaaaaaaaaaaaaaaaaaaaaaaaaaaaaaaaaaaaaaaaaaaaaaaaaaaaaaaaaaaaaaaaaaaaaaaaaaaaaaaaaaaaaaaaaaaaaaaaaaaaaaaaaaaaaaaa","Unarchive":"ZIP"}]
+UnsupportedUri|"#,
+    r#"[{"Uri":"s3://b/aaaaaaaaaaaaaaaaaaaaaaaaaaaaaaaaaaaaaaaaaaaaaaaaaaaaaaaaaaaaaaaaaaaaaaaaaaaaaaaaaaaaaaaaaaaaaaaaaaaaaaaaaaaaaaaaaaaaaaaaaaaaaaaaa","#,
+    r#""Unarchive":"ZIP"}]
 Ok|[{"Uri":"s3://b/f"}]
 Ok|[{"Uri":"https://h/a/f.zip"}]
 Ok|[{"Uri":"greengrass:x/y"}]
@@ -211,7 +222,8 @@ Ok|[{"Uri":"s3://b/f","Digest":"ungWv48Bz+pBQUDeXa4iI7ADYaOWF3qctBD/YfIAFa0="}]
 Ok|[{"Uri":"s3://b/f","Digest":null}]
 DuplicateArtifact|[{"Uri":"s3://b/f"},{"Uri":"https://c/f"},{"Uri":1}]
 Missing URI|[{"Uri":"s3://b/f"},{},{"Uri":"s3://c/f"}]
-Ok|[{"Uri":"s3://b/f"},{"Uri":"s3://b/g"}]"#;
+Ok|[{"Uri":"s3://b/f"},{"Uri":"s3://b/g"}]"#
+);
 
 const HEAD: &str =
     r#"{"RecipeFormatVersion":"2020-01-25","ComponentName":"com.x","ComponentVersion":"1.0.0","#;
@@ -251,14 +263,6 @@ fn is_answered(
     let is_answer = is_answer(alloc, &read, wanted);
     drop(read);
     is_answer
-}
-
-/// A recipe of three parts.
-fn joined(alloc: Global, front: &str, middle: &str, back: &str) -> Result<Text, Fail> {
-    let mut text = Text::from_str(alloc, front)?;
-    text.push_str(middle)?;
-    text.push_str(back)?;
-    Ok(text)
 }
 
 fn is_row(

@@ -11,8 +11,10 @@ use std::alloc::Global;
 use std::test::Fail;
 use tree_core::Tree;
 
-const CONFIG: &str =
-    r#"{"a":"x","b":{"c":[1,true]},"d":[null,-5,"q",{"k":"v"}],"":"e","once":"{configuration:/a}","half":"{work","n":18446744073709551615,"t":false,"s/t~u":"s","q\"":"say \"hi\""}"#;
+const CONFIG: &str = concat!(
+    r#"{"a":"x","b":{"c":[1,true]},"d":[null,-5,"q",{"k":"v"}],"":"e","once":"{configuration:/a}","#,
+    r#""half":"{work","n":18446744073709551615,"t":false,"s/t~u":"s","q\"":"say \"hi\""}"#
+);
 
 /// A text, and what it becomes.
 const ROWS: &str =

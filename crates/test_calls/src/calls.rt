@@ -1,4 +1,4 @@
-// Calls of the top call over disks, libraries, documents and children in memory, which are written in a few words.
+// Calls of the top call over disks, libraries, documents, inboxes and children in memory, which are written in a few words.
 ghost use Rattle.std.specs.Prelude.{◌≡◌, [], true, IfOk};
 ghost use Rattle.std.specs.List.{list_all};
 ghost use Rattle.step_runner.specs.Scripted.{living_of};
@@ -29,11 +29,20 @@ fn step_of(alloc: Global, step: &str, script: &str) -> Result<String, AllocError
     }
 }
 
-/// The front of a recipe, up to its first step.
+/// The front of a recipe, up to its version.
 fn recipe_front(alloc: Global, name: &str, version: &str) -> Result<String, AllocError> {
     format!(in alloc;
-        r#"{{"RecipeFormatVersion":"2020-01-25","ComponentName":"{name}","ComponentVersion":"{version}","Manifests":[{{"Lifecycle":{{"#
+        r#"{{"RecipeFormatVersion":"2020-01-25","ComponentName":"{name}","ComponentVersion":"{version}""#
     )
+}
+
+/// Adds what a component needs, if anything, and all up to its first step.
+fn add_needs(recipe: &mut String, needs: &str) -> Result<(), AllocError> {
+    if !needs.is_empty() {
+        recipe.push_str(r#","ComponentDependencies":"#)?;
+        recipe.push_str(needs)?;
+    }
+    recipe.push_str(r#","Manifests":[{"Lifecycle":{"#)
 }
 
 /// Adds this text, and drops it.
@@ -57,27 +66,44 @@ fn add_step(
     add(recipe, step_of(alloc, step, script)?)
 }
 
-/// Adds the steps of these words, and what ends a recipe.
-fn add_steps(alloc: Global, recipe: &mut String, component: &str) -> Result<(), AllocError> {
-    let mut words = component.split(' ');
-    let _name = words.next();
-    let _version = words.next();
+/// Adds the steps of these words.
+fn add_steps(alloc: Global, recipe: &mut String, steps: &str) -> Result<(), AllocError> {
+    let mut words = steps.split_whitespace();
     let mut is_first = true;
     while let Some(step) = words.next() {
         let script = words.next().unwrap_or("");
         add_step(alloc, recipe, is_first, step, script)?;
         is_first = false;
     }
+    Ok(())
+}
+
+/// What a component needs, or nothing, and its steps.
+fn needs_and_steps(words: &str) -> (&str, &str) {
+    if words.starts_with("{") {
+        words.split_once(' ').unwrap_or((words, ""))
+    } else {
+        ("", words)
+    }
+}
+
+/// Adds what a component needs, its steps, and what ends a recipe.
+fn add_parts(alloc: Global, recipe: &mut String, words: &str) -> Result<(), AllocError> {
+    let (needs, steps) = needs_and_steps(words);
+    add_needs(recipe, needs)?;
+    add_steps(alloc, recipe, steps)?;
     recipe.push_str("}}]}")
 }
 
-/// A recipe of these words: a name, a version, and then a step and its script, any number of times.
+/// A recipe of these words: a name, a version, what it needs in JSON without blanks, or nothing, and then a step and its script,
+/// any number of times.
 fn recipe_of(alloc: Global, component: &str) -> Result<String, AllocError> {
-    let mut words = component.split(' ');
+    let mut words = component.splitn(3, ' ');
     let name = words.next().unwrap_or("");
     let version = words.next().unwrap_or("");
+    let parts = words.next().unwrap_or("");
     let mut recipe = recipe_front(alloc, name, version)?;
-    match add_steps(alloc, &mut recipe, component) {
+    match add_parts(alloc, &mut recipe, parts) {
         Ok(()) => Ok(recipe),
         Err(fault) => {
             drop(recipe);
@@ -97,12 +123,18 @@ fn recipe_bytes(alloc: Global, component: &str) -> Result<Bytes, Fail> {
     Ok(bytes?)
 }
 
-/// A library of recipes, each of which is written out or of the words of `recipe_of`, with `;` behind each.
-pub fn library_of(alloc: Global, components: &str) -> Result<MemoryLibrary, Fail> {
+/// Recipes, each of which is written out or of the words of `recipe_of`, with `;` behind each.
+pub fn recipes_of(alloc: Global, components: &str) -> Result<List<Bytes>, Fail> {
     let mut recipes = List::empty(alloc);
     for component in components.split_terminator(';') {
         recipes.push(recipe_bytes(alloc, component)?)?;
     }
+    Ok(recipes)
+}
+
+/// A library of these recipes and of no files.
+pub fn library_of(alloc: Global, components: &str) -> Result<MemoryLibrary, Fail> {
+    let recipes = recipes_of(alloc, components)?;
     Ok(MemoryLibrary::new(recipes, List::empty(alloc), List::empty(alloc)))
 }
 
@@ -138,14 +170,6 @@ pub fn files_of(alloc: Global, component: &[u8], file: &[u8]) -> Result<List<Sto
     files_with(alloc, component, file, bytes)
 }
 
-/// The recipes of a library that has this one alone.
-pub fn recipes_of(alloc: Global, recipe: &str) -> Result<List<Bytes>, Fail> {
-    let bytes = Bytes::from_slice(alloc, recipe.as_bytes())?;
-    let mut recipes = List::empty(alloc);
-    recipes.push(bytes)?;
-    Ok(recipes)
-}
-
 /// The front of a document, up to its first component: its id, with `@` and a revision behind it or without, and its policy.
 fn document_front(alloc: Global, named: &str, policy: &str) -> Result<String, AllocError> {
     let mut named = named.splitn(2, '@');
@@ -154,6 +178,16 @@ fn document_front(alloc: Global, named: &str, policy: &str) -> Result<String, Al
     format!(in alloc;
         r#"{{"deploymentId":"{id}","revision":{revision},"targetArn":"g","deploymentPolicies":{{"failureHandlingPolicy":"{policy}"}},"components":{{"#
     )
+}
+
+/// A component and its range, and what is merged into its configuration where that stands behind the range.
+fn component_of(alloc: Global, name: &str, range: &str) -> Result<String, AllocError> {
+    match range.split_once('{') {
+        Some((range, merged)) => format!(in alloc;
+            r#""{name}":{{"componentVersion":"{range}","configurationUpdate":{{"merge":{{{merged}}}}}"#
+        ),
+        None => format!(in alloc; r#""{name}":{{"componentVersion":"{range}"}}"#),
+    }
 }
 
 /// Adds a component and its range, behind a comma where it is not the first.
@@ -167,10 +201,7 @@ fn add_component(
     if !is_first {
         document.push_str(",")?;
     }
-    add(
-        document,
-        format!(in alloc; r#""{name}":{{"componentVersion":"{range}"}}"#)?,
-    )
+    add(document, component_of(alloc, name, range)?)
 }
 
 /// Adds the components of these words, and what ends a document.
@@ -188,8 +219,9 @@ fn add_components(alloc: Global, document: &mut String, words: &str) -> Result<(
 }
 
 /// The document of these words: an id, with `@` and a revision behind it or without; a policy; and then a component and its
-/// range, any number of times. One that begins with `{` or `[` is written out.
-fn document_of(alloc: Global, words: &str) -> Result<String, AllocError> {
+/// range, any number of times. Directly behind a range may stand what is merged into the component's configuration, in JSON
+/// without blanks, as in `A ^1{"k":2}`. One that begins with `{` or `[` is written out.
+pub fn document_of(alloc: Global, words: &str) -> Result<String, AllocError> {
     if words.starts_with("{") || words.starts_with("[") {
         return String::from_str(alloc, words);
     }
@@ -213,16 +245,16 @@ fn number_of(word: Option<&str>) -> u64 {
     }
 }
 
-/// The starts that are refused: those with the word `refuse` before their number.
-fn refused_of(alloc: Global, ends: &str) -> Result<List<u64>, Fail> {
-    let mut refused = List::empty(alloc);
-    for end in ends.split(',') {
-        let mut words = end.split_whitespace();
-        if words.next() == Some("refuse") {
-            refused.push(number_of(words.next()))?;
+/// The numbers that stand behind this word, each in a part of its own; commas part these.
+pub fn numbers_behind(alloc: Global, parts: &str, word: &str) -> Result<List<u64>, Fail> {
+    let mut numbers = List::empty(alloc);
+    for part in parts.split(',') {
+        let mut words = part.split_whitespace();
+        if words.next() == Some(word) {
+            numbers.push(number_of(words.next()))?;
         }
     }
-    Ok(refused)
+    Ok(numbers)
 }
 
 /// How a child ends: with this code, or lost.
@@ -245,35 +277,37 @@ fn add_end(played: &mut List<ScriptedEnd>, child: u64, exit: Exit, at: u64) -> R
     Ok(played.push(end)?)
 }
 
-/// The ends that are played: each the number of a child, its code or the word `lost`, and the moment.
-fn played_of(alloc: Global, ends: &str) -> Result<List<ScriptedEnd>, Fail>
+/// The ends that are played, of the parts that begin with a number: that of a child, its code or the word `lost`, and the
+/// moment.
+fn played_of(alloc: Global, parts: &str) -> Result<List<ScriptedEnd>, Fail>
     ensures { IfOk result (λ l. list_all (λ (e : ScriptedEnd). is_own e.exit) l ≡ true) }
 {
     let mut played = List::empty(alloc);
-    for end in ends.split(',') {
-        let mut words = end.split_whitespace();
-        let child = number_of(words.next());
+    for part in parts.split(',') {
+        let mut words = part.split_whitespace();
+        let child = words.next().unwrap_or("").parse::<u64>();
         let exit = exit_of(words.next());
         let at = number_of(words.next());
-        if !end.is_empty() && !end.starts_with("refuse") {
+        if let Ok(child) = child {
             add_end(&mut played, child, exit, at)?;
         }
     }
     Ok(played)
 }
 
-/// A runner that plays these ends, and has the file `/opt/x`.
+/// A runner that plays these ends, refuses the starts whose numbers stand behind the word `refuse`, and has the file `/opt/x`.
 pub fn runner_of(alloc: Global, ends: &str) -> Result<ScriptedRunner, Fail>
     ensures { IfOk result (λ r. living_of r ≡ []) }
 {
     let mut present = List::empty(alloc);
     present.push(Text::from_str(alloc, "/opt/x")?)?;
     let played = played_of(alloc, ends)?;
-    Ok(ScriptedRunner::new(alloc, played, refused_of(alloc, ends)?, present))
+    let refused = numbers_behind(alloc, ends, "refuse")?;
+    Ok(ScriptedRunner::new(alloc, played, refused, present))
 }
 
 /// The words of a line, which has one blank between two.
-fn split_words(alloc: Global, line: &str) -> Result<Vec<String>, AllocError> {
+pub fn split_words(alloc: Global, line: &str) -> Result<Vec<String>, AllocError> {
     let mut all = Vec::new(alloc);
     for word in line.split(' ') {
         all.push(String::from_str(alloc, word)?)?;
@@ -306,7 +340,7 @@ pub struct Failing<'a> {
 }
 
 /// The status, and behind it what is printed, with `;` for each line feed.
-fn told(alloc: Global, status: Status, printed: &[u8]) -> Result<String, AllocError> {
+pub fn told(alloc: Global, status: Status, printed: &[u8]) -> Result<String, AllocError> {
     let mut text = format!(in alloc; "{}|", status.number())?;
     for byte in printed {
         text.push(if *byte == b'\n' {
@@ -329,11 +363,12 @@ fn source_of(alloc: Global, document: &str, failing: &[u64]) -> Result<MemorySou
     Ok(MemorySource::new(bytes, failing))
 }
 
-/// What the call of these words prints over this source, to a sink that fails these calls.
+/// What the call of these words prints over this source and this inbox, to a sink that fails these calls.
 fn answer_from<D: Disk>(
     alloc: Global,
     disk: &mut D,
     library: &mut MemoryLibrary,
+    inbox: &mut MemoryInbox,
     runner: &mut ScriptedRunner,
     words: &Vec<String>,
     source: &mut MemorySource,
@@ -342,21 +377,21 @@ fn answer_from<D: Disk>(
     requires none { living_of runner.old ≡ [] }
 {
     let mut sink = MemorySink::new(alloc, numbers_of(alloc, failing)?);
-    let mut inbox = MemoryInbox::new(List::empty(alloc), true, List::empty(alloc));
     let status = nucleus(
-        alloc, words, disk, library, source, &mut inbox, &mut sink, runner,
+        alloc, words, disk, library, source, inbox, &mut sink, runner,
     );
-    drop(inbox);
     let text = told(alloc, status, sink.bytes());
     drop(sink);
     Ok(text?)
 }
 
-/// What the call of the words prints, with `;` for each line feed, behind the status. The document is these bytes.
-pub fn answer_failing<D: Disk>(
+/// What the call of the words prints over this inbox, with `;` for each line feed, behind the status. The document at the source
+/// is these bytes.
+pub fn answer_with_inbox<D: Disk>(
     alloc: Global,
     disk: &mut D,
     library: &mut MemoryLibrary,
+    inbox: &mut MemoryInbox,
     runner: &mut ScriptedRunner,
     command: &str,
     document: &str,
@@ -371,6 +406,7 @@ pub fn answer_failing<D: Disk>(
                 alloc,
                 disk,
                 library,
+                inbox,
                 runner,
                 &words,
                 &mut source,
@@ -385,6 +421,26 @@ pub fn answer_failing<D: Disk>(
             Err(fault.into())
         }
     }
+}
+
+/// The same over an inbox that is closed and has no document.
+pub fn answer_failing<D: Disk>(
+    alloc: Global,
+    disk: &mut D,
+    library: &mut MemoryLibrary,
+    runner: &mut ScriptedRunner,
+    command: &str,
+    document: &str,
+    failing: Failing<'_>,
+) -> Result<String, Fail>
+    requires none { living_of runner.old ≡ [] }
+{
+    let mut inbox = MemoryInbox::new(List::empty(alloc), true, List::empty(alloc));
+    let text = answer_with_inbox(
+        alloc, disk, library, &mut inbox, runner, command, document, failing,
+    );
+    drop(inbox);
+    text
 }
 
 /// The same where the sink alone fails these calls.

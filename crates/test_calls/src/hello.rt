@@ -6,12 +6,18 @@ use std::alloc::Global;
 use std::test::Fail;
 
 /// Its recipe.
-const RECIPE: &str =
-    r#"{"RecipeFormatVersion":"2020-01-25","ComponentName":"com.example.HelloWorld","ComponentVersion":"1.0.0","ComponentDescription":"My first component","ComponentPublisher":"Example","ComponentConfiguration":{"DefaultConfiguration":{"Message":"world"}},"Manifests":[{"Platform":{"os":"linux"},"Lifecycle":{"run":"python3 -u {artifacts:path}/hello_world.py \"{configuration:/Message}\""},"Artifacts":[{"URI":"s3://bucket/artifacts/hello_world.py"}]}]}"#;
+const RECIPE: &str = concat!(
+    r#"{"RecipeFormatVersion":"2020-01-25","ComponentName":"com.example.HelloWorld","ComponentVersion":"1.0.0","ComponentDescription":"My first component","#,
+    r#""ComponentPublisher":"Example","ComponentConfiguration":{"DefaultConfiguration":{"Message":"world"}},"Manifests":[{"Platform":{"os":"linux"},"#,
+    r#""Lifecycle":{"run":"python3 -u {artifacts:path}/hello_world.py \"{configuration:/Message}\""},"#,
+    r#""Artifacts":[{"URI":"s3://bucket/artifacts/hello_world.py"}]}]}"#
+);
 
 /// The document that wants it.
-pub const HELLO: &str =
-    r#"{"deploymentId":"d1","targetArn":"arn:aws:iot:us-east-1:123456789012:thinggroup/g1","deploymentName":"hello","components":{"com.example.HelloWorld":{"componentVersion":"1.0.0"}}}"#;
+pub const HELLO: &str = concat!(
+    r#"{"deploymentId":"d1","targetArn":"arn:aws:iot:us-east-1:123456789012:thinggroup/g1","#,
+    r#""deploymentName":"hello","components":{"com.example.HelloWorld":{"componentVersion":"1.0.0"}}}"#
+);
 
 /// A library of its recipe, with its file of the bytes `abc`, that fails these calls.
 pub fn hello_library(alloc: Global, failing: &[u64]) -> Result<MemoryLibrary, Fail> {

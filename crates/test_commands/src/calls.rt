@@ -7,14 +7,7 @@ use nucleus_top::nucleus;
 use std::alloc::{AllocError, Global};
 use std::test::Fail;
 use step_runner::ScriptedRunner;
-
-fn words_of(alloc: Global, words: &str) -> Result<Vec<String>, AllocError> {
-    let mut all = Vec::new(alloc);
-    for word in words.split(' ') {
-        all.push(String::from_str(alloc, word)?)?;
-    }
-    Ok(all)
-}
+use test_calls::{split_words, told};
 
 /// The status of the call of these words.
 pub(crate) fn call<D: Disk>(
@@ -25,7 +18,7 @@ pub(crate) fn call<D: Disk>(
     source: &mut MemorySource,
     sink: &mut MemorySink,
 ) -> Result<Status, AllocError> {
-    let words = words_of(alloc, words)?;
+    let words = split_words(alloc, words)?;
     let mut runner = ScriptedRunner::new(
         alloc,
         List::empty(alloc),
@@ -47,19 +40,6 @@ pub(crate) fn call<D: Disk>(
     drop(runner);
     drop(words);
     Ok(status)
-}
-
-/// The status, and behind it what is printed, with `;` for each line feed.
-fn told(alloc: Global, status: Status, printed: &[u8]) -> Result<String, AllocError> {
-    let mut text = format!(in alloc; "{}|", status.number())?;
-    for byte in printed {
-        text.push(if *byte == b'\n' {
-            ';'
-        } else {
-            char::from(*byte)
-        })?;
-    }
-    Ok(text)
 }
 
 /// What the call prints, with `;` for each line feed, behind the status.

@@ -4,9 +4,9 @@ use disk_model::{Disk, DiskFault, MemoryDisk};
 use edges::MemorySource;
 use library_core::MemoryLibrary;
 use nuc_base::{Bytes, List};
-use std::alloc::{AllocError, Global};
+use std::alloc::Global;
 use std::test::Fail;
-use test_support::journal_of;
+use test_support::{journal_of, recipes_of};
 
 const PLAN: &str = "nucleus --root /gg plan";
 
@@ -14,7 +14,8 @@ const WHY: &str = "nucleus --root /gg why";
 
 /// Records by names for the table below, each as the bytes that a journal holds of it: a start; a deployment `r5` of
 /// nothing to the group `g`, with revision 5; one to the group `ga`, which wants `X` from 1.0.0 on and before 2.0.0 and
-/// has it in 1.2.9; one to the group `gc`, which has `C` in 1.0.0 with a configuration; one `d5` to the group `g` whose bootstrap of `A` failed; and how a deployment goes on and ends.
+/// has it in 1.2.9; one to the group `gc`, which has `C` in 1.0.0 with a configuration; one `d5` to the group `g` whose
+/// bootstrap of `A` failed; and how a deployment goes on and ends.
 const RECORDS: &[(&str, &[u8])] = &[
     (
         "genesis",
@@ -51,11 +52,17 @@ const RECORDS: &[(&str, &[u8])] = &[
 /// Each line has the records of a journal, the recipes of a library, a document, the status of its plan, and what is
 /// printed, where `;` stands for the end of a line. A recipe is written out, or it is the component's name, its version,
 /// and a dependency with its range where it has one, or a length to which it is filled with blanks.
-const ROWS: &str =
-    r#"genesis|{"RecipeFormatVersion":"2020-01-25","ComponentName":"com.example.HelloWorld","ComponentVersion":"1.0.0","ComponentDescription":"My first component","ComponentPublisher":"Example","ComponentConfiguration":{"DefaultConfiguration":{"Message":"world"}},"Manifests":[{"Platform":{"os":"linux"},"Lifecycle":{"run":"python3 -u {artifacts:path}/hello_world.py \"{configuration:/Message}\""},"Artifacts":[{"URI":"s3://bucket/artifacts/hello_world.py"}]}]}|{"deploymentId":"d1","targetArn":"arn:aws:iot:us-east-1:123456789012:thinggroup/g1","deploymentName":"hello","components":{"com.example.HelloWorld":{"componentVersion":"1.0.0"}}}|0|plan com.example.HelloWorld 1.0.0;
+const ROWS: &str = concat!(
+    r#"genesis|{"RecipeFormatVersion":"2020-01-25","ComponentName":"com.example.HelloWorld","ComponentVersion":"1.0.0","#,
+    r#""ComponentDescription":"My first component","ComponentPublisher":"Example","ComponentConfiguration":{"DefaultConfiguration":{"Message":"world"}},"#,
+    r#""Manifests":[{"Platform":{"os":"linux"},"Lifecycle":{"run":"python3 -u {artifacts:path}/hello_world.py \"{configuration:/Message}\""},"#,
+    r#""Artifacts":[{"URI":"s3://bucket/artifacts/hello_world.py"}]}]}|{"deploymentId":"d1","targetArn":"arn:aws:iot:us-east-1:123456789012:thinggroup/g1","#,
+    r#""deploymentName":"hello","components":{"com.example.HelloWorld":{"componentVersion":"1.0.0"}}}|0|plan com.example.HelloWorld 1.0.0;
 genesis ga activate close|X 1.1.0;X 1.2.9;X 2.0.0|{"deploymentId":"d1","targetArn":"gb","components":{"X":{"componentVersion":"~1.2"}}}|0|plan X 1.2.9;
-genesis|A 2.0.0 C ^2;A 1.0.0 C ^1;B 1.0.0 C ^1;C 1.0.0;C 2.0.0|{"deploymentId":"d1","targetArn":"g","components":{"A":{"componentVersion":"*"},"B":{"componentVersion":"*"}}}|0|plan A 1.0.0;plan B 1.0.0;plan C 1.0.0;
-genesis|A 2.0.0 C ^2;B 1.0.0 C ^1;C 1.0.0;C 2.0.0|{"deploymentId":"d1","targetArn":"g","components":{"A":{"componentVersion":"*"},"B":{"componentVersion":"*"}}}|3|refused 3 NoVersion;
+genesis|A 2.0.0 C ^2;A 1.0.0 C ^1;B 1.0.0 C ^1;C 1.0.0;C 2.0.0|{"deploymentId":"d1","targetArn":"g","#,
+    r#""components":{"A":{"componentVersion":"*"},"B":{"componentVersion":"*"}}}|0|plan A 1.0.0;plan B 1.0.0;plan C 1.0.0;
+genesis|A 2.0.0 C ^2;B 1.0.0 C ^1;C 1.0.0;C 2.0.0|"#,
+    r#"{"deploymentId":"d1","targetArn":"g","components":{"A":{"componentVersion":"*"},"B":{"componentVersion":"*"}}}|3|refused 3 NoVersion;
 genesis r5 activate close|X 1.0.0|{"deploymentId":"r4","targetArn":"g","revision":4,"components":{}}|18|refused 18 Stale r4 5;
 genesis r5 activate close|X 1.0.0|{"deploymentId":"r0","targetArn":"g","components":{}}|0|
 genesis r5 activate close|X 1.0.0|{"deploymentId":"r5","targetArn":"g","revision":4,"components":{}}|0|closed r5 SUCCESSFUL;
@@ -65,61 +72,21 @@ genesis d5|X 1.0.0|no document|4|refused 4 pending d5;
 genesis|X 1.0.0|{"deploymentId":"d1","targetArn":"g","revision":0,"components":{}}|2|refused 2 document BadRevision;
 genesis|X 1.0.0|{"deploymentId":"d1","components":{}}|2|refused 2 document Missing targetArn;
 genesis|X 1.0.0||2|refused 2 document NotJson;
-genesis|{"RecipeFormatVersion":"2020-01-25","ComponentName":"A","ComponentVersion":"1.0.0","Manifests":[{"Artifacts":[{"URI":"s3://b/f","Unarchive":"ZIP"}]}]}|{"deploymentId":"d1","targetArn":"g","components":{}}|2|refused 2 recipe 0 ZipArtifact;
-genesis|{"RecipeFormatVersion":"2020-01-25","ComponentName":"A","ComponentVersion":"1.0.0","Manifests":[{"Artifacts":[{"URI":"s3://b/f","Unarchive":"NONE"}]}]}|{"deploymentId":"d1","targetArn":"g","components":{"A":{"componentVersion":"*"}}}|0|plan A 1.0.0;
-genesis|{"RecipeFormatVersion":"2020-01-25","ComponentName":"A","ComponentVersion":"1.0.0","Manifests":[{"Platform":{"os":"linux"}},{"Platform":{"os":"windows"},"Artifacts":[{"URI":"s3://b/f","Unarchive":"ZIP"}]}]}|{"deploymentId":"d1","targetArn":"g","components":{"A":{"componentVersion":"*"}}}|0|plan A 1.0.0;
+genesis|{"RecipeFormatVersion":"2020-01-25","ComponentName":"A","ComponentVersion":"1.0.0","Manifests":[{"Artifacts":[{"URI":"s3://b/f","#,
+    r#""Unarchive":"ZIP"}]}]}|{"deploymentId":"d1","targetArn":"g","components":{}}|2|refused 2 recipe 0 ZipArtifact;
+genesis|{"RecipeFormatVersion":"2020-01-25","ComponentName":"A","ComponentVersion":"1.0.0","Manifests":[{"Artifacts":[{"URI":"s3://b/f","#,
+    r#""Unarchive":"NONE"}]}]}|{"deploymentId":"d1","targetArn":"g","components":{"A":{"componentVersion":"*"}}}|0|plan A 1.0.0;
+genesis|{"RecipeFormatVersion":"2020-01-25","ComponentName":"A","ComponentVersion":"1.0.0","Manifests":[{"Platform":{"os":"linux"}},"#,
+    r#"{"Platform":{"os":"windows"},"Artifacts":[{"URI":"s3://b/f","Unarchive":"ZIP"}]}]}|"#,
+    r#"{"deploymentId":"d1","targetArn":"g","components":{"A":{"componentVersion":"*"}}}|0|plan A 1.0.0;
 genesis|A 1.0.0 65536|{"deploymentId":"d1","targetArn":"g","components":{"A":{"componentVersion":"*"}}}|0|plan A 1.0.0;
 genesis|A 1.0.0 65537|{"deploymentId":"d1","targetArn":"g","components":{"A":{"componentVersion":"*"}}}|2|refused 2 recipe 0 TooLarge;
 genesis ga activate close|X 1.2.9 Y *|{"deploymentId":"d1","targetArn":"g","components":{}}|2|refused 2 RecipeDiffers X 1.2.9;
-genesis|{"RecipeFormatVersion":"2020-01-25","ComponentName":"A","ComponentVersion":"1.0.0","ComponentDependencies":{"B":{"VersionRequirement":"*"}},"Manifests":[{"Lifecycle":{"bootstrap":"s"}}]};{"RecipeFormatVersion":"2020-01-25","ComponentName":"B","ComponentVersion":"1.0.0","Manifests":[{"Lifecycle":{"bootstrap":"s"}}]}|{"deploymentId":"d1","targetArn":"g","components":{"A":{"componentVersion":"*"}}}|0|plan A 1.0.0;plan B 1.0.0;boot B;boot A;"#;
-
-/// The end of a recipe: what it needs, or the blanks up to a length.
-fn recipe_with(alloc: Global, head: &str, needed: &str, range: &str) -> Result<String, AllocError> {
-    if let Ok(length) = needed.parse::<usize>() {
-        let mut recipe = format!(in alloc; "{head}}}")?;
-        for _ in recipe.len()..length {
-            recipe.push(' ')?;
-        }
-        return Ok(recipe);
-    }
-    format!(in alloc;
-        r#"{head},"ComponentDependencies":{{"{needed}":{{"VersionRequirement":"{range}"}}}}}}"#
-    )
-}
-
-/// The recipe that is written out or of these words.
-fn recipe_of(alloc: Global, component: &str) -> Result<String, AllocError> {
-    if component.starts_with("{") {
-        return String::from_str(alloc, component);
-    }
-    let mut words = component.split(' ');
-    let name = words.next().unwrap_or("");
-    let version = words.next().unwrap_or("");
-    let head = format!(in alloc;
-        r#"{{"RecipeFormatVersion":"2020-01-25","ComponentName":"{name}","ComponentVersion":"{version}""#
-    )?;
-    let Some(needed) = words.next() else {
-        return format!(in alloc; "{head}}}");
-    };
-    recipe_with(alloc, &head, needed, words.next().unwrap_or(""))
-}
-
-/// The bytes of that recipe.
-fn recipe_bytes(alloc: Global, component: &str) -> Result<Bytes, Fail> {
-    let recipe = recipe_of(alloc, component)?;
-    let bytes = Bytes::from_slice(alloc, recipe.as_bytes());
-    drop(recipe);
-    Ok(bytes?)
-}
-
-/// These recipes.
-fn recipes_of(alloc: Global, components: &str) -> Result<List<Bytes>, Fail> {
-    let mut recipes = List::empty(alloc);
-    for component in components.split(';') {
-        recipes.push(recipe_bytes(alloc, component)?)?;
-    }
-    Ok(recipes)
-}
+genesis|{"RecipeFormatVersion":"2020-01-25","ComponentName":"A","ComponentVersion":"1.0.0","ComponentDependencies":{"B":{"VersionRequirement":"*"}},"#,
+    r#""Manifests":[{"Lifecycle":{"bootstrap":"s"}}]};{"RecipeFormatVersion":"2020-01-25","ComponentName":"B","ComponentVersion":"1.0.0","#,
+    r#""Manifests":[{"Lifecycle":{"bootstrap":"s"}}]}|"#,
+    r#"{"deploymentId":"d1","targetArn":"g","components":{"A":{"componentVersion":"*"}}}|0|plan A 1.0.0;plan B 1.0.0;boot B;boot A;"#
+);
 
 /// What a call goes to, and which of the calls to it fail.
 #[derive(Clone, Copy, Drop)]

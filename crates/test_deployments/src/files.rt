@@ -9,17 +9,25 @@ use test_calls::{answer_alone, begin, files_of, recipes_of};
 
 /// A component with one file: without a digest, with the SHA-256 of `abc` in both spellings, and with that of no bytes (FIPS
 /// 180-4).
-const PLAIN: &str =
-    r#"{"RecipeFormatVersion":"2020-01-25","ComponentName":"com.x","ComponentVersion":"1.0.0","Manifests":[{"Lifecycle":{"run":"s"},"Artifacts":[{"URI":"s3://b/f"}]}]}"#;
+const PLAIN: &str = concat!(
+    r#"{"RecipeFormatVersion":"2020-01-25","ComponentName":"com.x","ComponentVersion":"1.0.0","#,
+    r#""Manifests":[{"Lifecycle":{"run":"s"},"Artifacts":[{"URI":"s3://b/f"}]}]}"#
+);
 
-const GIVEN: &str =
-    r#"{"RecipeFormatVersion":"2020-01-25","ComponentName":"com.x","ComponentVersion":"1.0.0","Manifests":[{"Lifecycle":{"run":"s"},"Artifacts":[{"URI":"s3://b/f","Digest":"ungWv48Bz+pBQUDeXa4iI7ADYaOWF3qctBD/YfIAFa0="}]}]}"#;
+const GIVEN: &str = concat!(
+    r#"{"RecipeFormatVersion":"2020-01-25","ComponentName":"com.x","ComponentVersion":"1.0.0","Manifests":[{"Lifecycle":{"run":"s"},"#,
+    r#""Artifacts":[{"URI":"s3://b/f","Digest":"ungWv48Bz+pBQUDeXa4iI7ADYaOWF3qctBD/YfIAFa0="}]}]}"#
+);
 
-const SPELLED: &str =
-    r#"{"RecipeFormatVersion":"2020-01-25","ComponentName":"com.x","ComponentVersion":"1.0.0","Manifests":[{"Lifecycle":{"run":"s"},"Artifacts":[{"URI":"s3://b/f","Digest":"ba7816bf8f01cfea414140de5dae2223b00361a396177a9cb410ff61f20015ad"}]}]}"#;
+const SPELLED: &str = concat!(
+    r#"{"RecipeFormatVersion":"2020-01-25","ComponentName":"com.x","ComponentVersion":"1.0.0","Manifests":[{"Lifecycle":{"run":"s"},"#,
+    r#""Artifacts":[{"URI":"s3://b/f","Digest":"ba7816bf8f01cfea414140de5dae2223b00361a396177a9cb410ff61f20015ad"}]}]}"#
+);
 
-const OTHER: &str =
-    r#"{"RecipeFormatVersion":"2020-01-25","ComponentName":"com.x","ComponentVersion":"1.0.0","Manifests":[{"Lifecycle":{"run":"s"},"Artifacts":[{"URI":"s3://b/f","Digest":"e3b0c44298fc1c149afbf4c8996fb92427ae41e4649b934ca495991b7852b855"}]}]}"#;
+const OTHER: &str = concat!(
+    r#"{"RecipeFormatVersion":"2020-01-25","ComponentName":"com.x","ComponentVersion":"1.0.0","Manifests":[{"Lifecycle":{"run":"s"},"#,
+    r#""Artifacts":[{"URI":"s3://b/f","Digest":"e3b0c44298fc1c149afbf4c8996fb92427ae41e4649b934ca495991b7852b855"}]}]}"#
+);
 
 const FILE: &str = "packages/artifacts/com.x/1.0.0/f";
 

@@ -3,18 +3,9 @@
 use crate::hello;
 use crate::stops::{ROLLBACK, Scene, asked_of, ends_of, first, goes_on, goes_on_over, scene_of};
 use disk_model::MemoryDisk;
-use std::alloc::{AllocError, Global};
+use std::alloc::Global;
 use std::test::Fail;
-use test_calls::{HELLO, answer_alone, begin, call, hello_library};
-
-/// So many bytes nothing else takes at once.
-const MARK: usize = 7_654_321;
-
-/// Asks for that many bytes and gives them back, so that who refuses allocations sees where the call begins and ends.
-fn mark(alloc: Global) {
-    let marked: Result<Vec<u8>, AllocError> = Vec::with_capacity(alloc, MARK);
-    drop(marked);
-}
+use test_calls::{HELLO, answer_alone, begin, call, hello_library, mark};
 
 /// Whether a call may answer so that answers this with ample memory: for want of memory, or because the disk or the sink found
 /// none.

@@ -14,29 +14,38 @@ use test_calls::{Asked, begin, call, call_with, runner_of};
 const SCENES: &str =
     "A 1.0.0 startup s1;A 2.0.0 startup s2 shutdown q2||A 1.0.0|d2 ROLLBACK A 2.0.0|require A 1.0.0;component A 1.0.0 {};closed d1 SUCCESSFUL;\
     |require A 2.0.0;component A 2.0.0 {};closed d1 SUCCESSFUL;closed d2 SUCCESSFUL;
-A 1.0.0;A 2.0.0 startup s2 recover r2|s2 0 1 0,1 0 0,2 1 0,3 0 0,4 1 0|A 1.0.0|d2 DO_NOTHING A 2.0.0|require A 1.0.0;component A 1.0.0 {};closed d1 SUCCESSFUL;|require A 2.0.0;component A 2.0.0 {};closed d1 SUCCESSFUL;closed d2 FAILED_ROLLBACK_NOT_REQUESTED;
+A 1.0.0;A 2.0.0 startup s2 recover r2|s2 0 1 0,1 0 0,2 1 0,3 0 0,4 1 0|A 1.0.0|d2 DO_NOTHING A 2.0.0|require A 1.0.0;component A 1.0.0 {};\
+    closed d1 SUCCESSFUL;|require A 2.0.0;component A 2.0.0 {};closed d1 SUCCESSFUL;closed d2 FAILED_ROLLBACK_NOT_REQUESTED;
 ";
 
 /// The same of one that fails three times and is rolled back.
 pub(crate) const ROLLBACK: &str =
-    "A 1.0.0 startup s1;A 2.0.0 startup s2 recover r2|s2 0 1 0,1 0 0,2 1 0,3 0 0,4 1 0,5 0 0|A 1.0.0|d2 ROLLBACK A 2.0.0|require A 1.0.0;component A 1.0.0 {};closed d1 SUCCESSFUL;|require A 1.0.0;component A 1.0.0 {};closed d1 SUCCESSFUL;closed d2 FAILED_ROLLBACK_COMPLETE;";
+    "A 1.0.0 startup s1;A 2.0.0 startup s2 recover r2|s2 0 1 0,1 0 0,2 1 0,3 0 0,4 1 0,5 0 0|A 1.0.0|d2 ROLLBACK A 2.0.0|\
+    require A 1.0.0;component A 1.0.0 {};closed d1 SUCCESSFUL;|require A 1.0.0;component A 1.0.0 {};closed d1 SUCCESSFUL;closed d2 FAILED_ROLLBACK_COMPLETE;";
 
 /// The same of one with two bootstraps, the first of which asks for a restart.
 const BOOTSTRAPS: &str =
-    "A 1.0.0;A 2.0.0 bootstrap a;B 1.0.0 bootstrap b|a 0 100 0|A 1.0.0|d2 ROLLBACK A 2.0.0 B 1.0.0|require A 1.0.0;component A 1.0.0 {};closed d1 SUCCESSFUL;|require A 2.0.0;require B 1.0.0;component A 2.0.0 {};component B 1.0.0 {};closed d1 SUCCESSFUL;closed d2 SUCCESSFUL;";
+    "A 1.0.0;A 2.0.0 bootstrap a;B 1.0.0 bootstrap b|a 0 100 0|A 1.0.0|d2 ROLLBACK A 2.0.0 B 1.0.0|require A 1.0.0;component A 1.0.0 {};closed d1 SUCCESSFUL;|\
+    require A 2.0.0;require B 1.0.0;component A 2.0.0 {};component B 1.0.0 {};closed d1 SUCCESSFUL;closed d2 SUCCESSFUL;";
 
 /// The same of those whose bootstrap fails, and the set's runs again on the way back.
 const BACKS: &str =
-    "A 1.0.0 startup s1 again b1;A 2.0.0 bootstrap b2|b2 0 7 0,1 0 0|A 1.0.0|d2 ROLLBACK A 2.0.0|require A 1.0.0;component A 1.0.0 {};closed d1 SUCCESSFUL;|require A 1.0.0;component A 1.0.0 {};closed d1 SUCCESSFUL;closed d2 FAILED_ROLLBACK_COMPLETE;
-A 1.0.0 again b1;A 2.0.0 bootstrap b2|* 0 7 0,1 7 0|A 1.0.0|d2 ROLLBACK A 2.0.0|require A 1.0.0;component A 1.0.0 {};closed d1 SUCCESSFUL;|require A 1.0.0;component A 1.0.0 {};closed d1 SUCCESSFUL;closed d2 FAILED_UNABLE_TO_ROLLBACK;
+    "A 1.0.0 startup s1 again b1;A 2.0.0 bootstrap b2|b2 0 7 0,1 0 0|A 1.0.0|d2 ROLLBACK A 2.0.0|require A 1.0.0;component A 1.0.0 {};closed d1 SUCCESSFUL;|\
+    require A 1.0.0;component A 1.0.0 {};closed d1 SUCCESSFUL;closed d2 FAILED_ROLLBACK_COMPLETE;
+A 1.0.0 again b1;A 2.0.0 bootstrap b2|* 0 7 0,1 7 0|A 1.0.0|d2 ROLLBACK A 2.0.0|require A 1.0.0;component A 1.0.0 {};closed d1 SUCCESSFUL;|\
+    require A 1.0.0;component A 1.0.0 {};closed d1 SUCCESSFUL;closed d2 FAILED_UNABLE_TO_ROLLBACK;
 ";
 
 /// The same of requests made at the device: the command, and then the request.
-const REQUEST_SCENES: &str =
-    r#"A 1.0.0 startup s1;B 1.0.0 startup s2||A 1.0.0|local {"deploymentId":"d2","merge":{"B":"1.0.0"}}|require A 1.0.0;component A 1.0.0 {};closed d1 SUCCESSFUL;|require A 1.0.0;group local;require B 1.0.0;component A 1.0.0 {};component B 1.0.0 {};closed d1 SUCCESSFUL;closed d2 SUCCESSFUL;
-A 1.0.0;B 1.0.0 startup s2|* 0 1 0,1 1 0,2 1 0|A 1.0.0|local {"deploymentId":"d2","merge":{"B":"1.0.0"}}|require A 1.0.0;component A 1.0.0 {};closed d1 SUCCESSFUL;|require A 1.0.0;component A 1.0.0 {};closed d1 SUCCESSFUL;closed d2 FAILED_ROLLBACK_COMPLETE;
-A 1.0.0 startup s1||A 1.0.0|config-set --component A {"deploymentId":"d2","merge":{"p":1}}|require A 1.0.0;component A 1.0.0 {};closed d1 SUCCESSFUL;|require A 1.0.0;component A 1.0.0 {"p":1};closed d1 SUCCESSFUL;closed d2 SUCCESSFUL;
-"#;
+const REQUEST_SCENES: &str = concat!(
+    r#"A 1.0.0 startup s1;B 1.0.0 startup s2||A 1.0.0|local {"deploymentId":"d2","merge":{"B":"1.0.0"}}|require A 1.0.0;component A 1.0.0 {};"#,
+    r#"closed d1 SUCCESSFUL;|require A 1.0.0;group local;require B 1.0.0;component A 1.0.0 {};component B 1.0.0 {};closed d1 SUCCESSFUL;closed d2 SUCCESSFUL;
+A 1.0.0;B 1.0.0 startup s2|* 0 1 0,1 1 0,2 1 0|A 1.0.0|local {"deploymentId":"d2","merge":{"B":"1.0.0"}}|require A 1.0.0;"#,
+    r#"component A 1.0.0 {};closed d1 SUCCESSFUL;|require A 1.0.0;component A 1.0.0 {};closed d1 SUCCESSFUL;closed d2 FAILED_ROLLBACK_COMPLETE;
+A 1.0.0 startup s1||A 1.0.0|config-set --component A {"deploymentId":"d2","merge":{"p":1}}|"#,
+    r#"require A 1.0.0;component A 1.0.0 {};closed d1 SUCCESSFUL;|require A 1.0.0;component A 1.0.0 {"p":1};closed d1 SUCCESSFUL;closed d2 SUCCESSFUL;
+"#
+);
 
 /// A deployment to be cut off.
 #[derive(Clone, Copy, Drop)]

@@ -31,7 +31,8 @@ fn library(alloc: Global) -> Result<MemoryLibrary, Fail> {
 /// The document of this number, which sets a configuration of its own.
 fn document(alloc: Global, number: u32) -> Result<String, AllocError> {
     format!(in alloc;
-        r#"{{"deploymentId":"c{number}","targetArn":"g","components":{{"a":{{"componentVersion":"1.0.0","configurationUpdate":{{"merge":{{"n":{number}}}}}}}}}}}"#
+        r#"{{"deploymentId":"c{}","targetArn":"g","components":{{"a":{{"componentVersion":"1.0.0","configurationUpdate":{{"merge":{{"n":{}}}}}}}}}}}"#,
+        number, number
     )
 }
 

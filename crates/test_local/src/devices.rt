@@ -2,12 +2,9 @@ ghost use Rattle.std.specs.Prelude.{IfOk};
 ghost use Rattle.device.specs.Devices.{device_view, IsRegularDevice};
 ghost use Rattle.device.specs.Sound.{IsSound};
 
-use device::{Device, replay};
-use disk_model::{Disk, MemoryDisk};
-use gate_log::{Journal, Log};
+use device::Device;
 use std::alloc::Global;
 use std::test::Fail;
-use test_support::journal_of;
 
 /// Records by names for the tables, each as the bytes that a journal holds of it: a start; a deployment `l1` to the group
 /// `local`, which requires `X` as `^1.0.0` and has it with the configuration `{"p":1}`; one `g1` to the group `g`, which
@@ -34,33 +31,10 @@ const RECORDS: &[(&str, &[u8])] = &[
     ("close", b"\x18\x01"),
 ];
 
-fn replayed(alloc: Global, disk: &mut MemoryDisk) -> Result<Device, Fail>
-    ensures regular { IfOk result (λ d. IsRegularDevice (device_view d)) }
-    ensures sound { IfOk result (λ d. IsSound (device_view d)) }
-{
-    let log = Log::find(disk)?;
-    Ok(replay(alloc, &log, disk)?)
-}
-
-/// The device whose journal has these bytes.
-fn device_from(alloc: Global, journal: &[u8]) -> Result<Device, Fail>
-    ensures regular { IfOk result (λ d. IsRegularDevice (device_view d)) }
-    ensures sound { IfOk result (λ d. IsSound (device_view d)) }
-{
-    let mut disk = MemoryDisk::new(alloc);
-    disk.write_at("journal", 0, journal)?;
-    let device = replayed(alloc, &mut disk);
-    drop(disk);
-    device
-}
-
 /// The device of a journal with these records.
 pub(crate) fn device_of(alloc: Global, history: &str) -> Result<Device, Fail>
     ensures regular { IfOk result (λ d. IsRegularDevice (device_view d)) }
     ensures sound { IfOk result (λ d. IsSound (device_view d)) }
 {
-    let journal = journal_of(alloc, RECORDS, history)?;
-    let device = device_from(alloc, &journal);
-    drop(journal);
-    device
+    test_replays::device_of(alloc, RECORDS, history)
 }

@@ -13,7 +13,7 @@ use std::test::Fail;
 
 // Each line has the records that left a device, a request, and what comes of it: the id, the group, the revision and the
 // policy of the document, and each root with its range and the merge of its update; or the refusal.
-const REQUESTS: &str =
+const REQUESTS: &str = concat!(
     r#"genesis|{"deploymentId":"l1","merge":{"X":"^1.0.0"},"updateConfig":{"X":{"merge":{"p":1}}}}|l1 local 0 ROLLBACK X ^1.0.0 merge Fields([("p", Whole(1))])
 genesis|{"deploymentId":"l1"}|l1 local 0 ROLLBACK
 genesis|{"deploymentId":"l1","failureHandlingPolicy":"DO_NOTHING","merge":{"B":"*","A":"1.x"}}|l1 local 0 DO_NOTHING A 1.x B *
@@ -23,10 +23,12 @@ genesis l1 activate close|{"deploymentId":"l2","remove":["X"]}|l2 local 0 ROLLBA
 genesis l1 activate close|{"deploymentId":"l2","remove":["X","X"],"merge":{"Y":"*"}}|l2 local 0 ROLLBACK Y *
 genesis l1 activate close|{"deploymentId":"l3","remove":["Z","X","Y"],"updateConfig":{"A":{}}}|NotLocal("Y")
 genesis l1 activate close|{"deploymentId":"l4","merge":{"X":"2.0.0","A":"*"}}|l4 local 0 ROLLBACK A * X 2.0.0
-genesis l1 activate close|{"deploymentId":"l5","merge":{"Y":"*","A":"*"},"updateConfig":{"X":{"merge":{}},"Y":{}}}|l5 local 0 ROLLBACK A * X ^1.0.0 merge Fields([]) Y * update
+genesis l1 activate close|{"deploymentId":"l5","merge":{"Y":"*","A":"*"},"updateConfig":{"X":{"merge":{}},"Y":{}}}|"#,
+    r#"l5 local 0 ROLLBACK A * X ^1.0.0 merge Fields([]) Y * update
 genesis l1 activate close|{"deploymentId":"l6","remove":["X"],"updateConfig":{"X":{}}}|Unlisted("X")
 genesis l1 activate close g1 activate close|{"deploymentId":"l7","remove":["Y"]}|NotLocal("Y")
-genesis l1 activate close g1 activate close|{"deploymentId":"l8","merge":{"Y":"1.0.0"}}|l8 local 0 ROLLBACK X ^1.0.0 Y 1.0.0"#;
+genesis l1 activate close g1 activate close|{"deploymentId":"l8","merge":{"Y":"1.0.0"}}|l8 local 0 ROLLBACK X ^1.0.0 Y 1.0.0"#
+);
 
 // Each line has the records that left a device, a component, a change, and what comes of it.
 const CHANGES: &str =

@@ -3,9 +3,10 @@ use config_cmd::Change;
 use config_ops::Update;
 use local_deploy::{LocalFault, LocalRequest};
 use npm_ranges::Range;
-use nuc_base::{List, Name, Pointer, Text};
+use nuc_base::Name;
 use std::alloc::Global;
 use std::test::Fail;
+use test_support::{joined, push_resets, repeated, repeated_of};
 
 // Each line is what is answered, a bar and the text. An answer is the printed reason of the fault; or the id and the policy
 // of a request, `+` and `-` before what it merges and removes, and `~` before what it updates, with its resets by their
@@ -147,20 +148,9 @@ fn add_updated(alloc: Global, text: &mut String, updates: &[(Name, Update)]) -> 
 }
 
 fn add_update(alloc: Global, text: &mut String, update: &Update) -> Result<(), Fail> {
-    add_resets(text, &update.resets)?;
+    push_resets(text, &update.resets)?;
     if let Some(merge) = &update.merge {
         text.push_str(&format!(in alloc; " merge {merge:?}")?)?;
-    }
-    Ok(())
-}
-
-fn add_resets(text: &mut String, resets: &List<Pointer>) -> Result<(), Fail> {
-    for reset in resets.as_slice() {
-        text.push_str(" reset")?;
-        for token in reset.tokens().as_slice() {
-            text.push('>')?;
-            text.push_str(token.as_str())?;
-        }
     }
     Ok(())
 }
@@ -181,13 +171,6 @@ fn change_text(alloc: Global, change: &Change) -> Result<String, Fail> {
 
 fn is_answered(alloc: Global, kind: Kind, text: &str, wanted: &str) -> Result<bool, Fail> {
     Ok(answer(alloc, kind, text)?.as_str() == wanted)
-}
-
-fn joined(alloc: Global, front: &str, middle: &str, back: &str) -> Result<Text, Fail> {
-    let mut text = Text::from_str(alloc, front)?;
-    text.push_str(middle)?;
-    text.push_str(back)?;
-    Ok(text)
 }
 
 fn is_row(alloc: Global, kind: Kind, front: &str, row: &str, back: &str) -> Result<bool, Fail> {
@@ -214,50 +197,14 @@ fn first_wrong<'t>(
     Ok("")
 }
 
-fn add_part(alloc: Global, text: &mut String, part: (&str, &str), i: u32) -> Result<(), Fail> {
-    if i > 0 {
-        text.push(',')?;
-    }
-    text.push_str(&format!(in alloc; "{}{i}{}", part.0, part.1)?)?;
-    Ok(())
-}
-
-fn add_parts(alloc: Global, text: &mut String, part: (&str, &str), count: u32) -> Result<(), Fail> {
-    for i in 0..count {
-        add_part(alloc, text, part, i)?;
-    }
-    Ok(())
-}
-
-/// A request with so many parts of one form.
-fn repeated(
-    alloc: Global,
-    front: &str,
-    part: (&str, &str),
-    count: u32,
-    back: &str,
-) -> Result<String, Fail> {
-    let mut text = String::from_str(alloc, front)?;
-    add_parts(alloc, &mut text, part, count)?;
-    text.push_str(back)?;
-    Ok(text)
-}
-
 fn is_repeated_row(alloc: Global, front: &str, row: &str, back: &str) -> Result<bool, Fail> {
-    let Some((wanted, rest)) = row.split_once('|') else {
+    let Some((wanted, parts)) = row.split_once('|') else {
         return Ok(false);
     };
-    let Some((count, part)) = rest.split_once('|') else {
-        return Ok(false);
-    };
-    let Some(part) = part.split_once('|') else {
-        return Ok(false);
-    };
-    let Ok(count) = count.parse::<u32>() else {
-        return Ok(false);
-    };
-    let text = repeated(alloc, front, part, count, back)?;
-    is_answered(alloc, Kind::Request, text.as_str(), wanted)
+    match repeated_of(alloc, front, parts, back)? {
+        Some(text) => is_answered(alloc, Kind::Request, text.as_str(), wanted),
+        None => Ok(false),
+    }
 }
 
 fn first_wrong_repeated<'t>(

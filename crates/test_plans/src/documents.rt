@@ -2,16 +2,14 @@ ghost use Rattle.std.specs.Prelude.{IfOk};
 ghost use Rattle.device.specs.Devices.{device_view, IsRegularDevice};
 ghost use Rattle.device.specs.Sound.{IsSound};
 
-use device::{Device, replay};
-use disk_model::{Disk, MemoryDisk};
-use gate_log::{Journal, Log};
+use device::Device;
 use library_core::MemoryLibrary;
-use nuc_base::{Bytes, List};
+use nuc_base::List;
 use plan_core::{Refusal, propose_read};
 use records::Draft;
 use std::alloc::Global;
 use std::test::Fail;
-use test_support::journal_of;
+use test_support::recipes_of;
 
 /// Records by names for the table below, each as the bytes that a journal holds of it: a start; a deployment `r5` of
 /// nothing to the group `g`, with revision 5; one to the group `ga`, which wants `X` from 1.0.0 on and before 2.0.0 and
@@ -37,86 +35,35 @@ const RECORDS: &[(&str, &[u8])] = &[
 /// Each line has the records that left a device, the recipes of a library, a document, and what comes of it: the
 /// components of the draft with their versions and those whose bootstraps run, or the refusal. A recipe is written out, or
 /// it is the component's name, its version, and a dependency with its range where it has one.
-const ROWS: &str =
-    r#"genesis|{"RecipeFormatVersion":"2020-01-25","ComponentName":"com.example.HelloWorld","ComponentVersion":"1.0.0","ComponentDescription":"My first component","ComponentPublisher":"Example","ComponentConfiguration":{"DefaultConfiguration":{"Message":"world"}},"Manifests":[{"Platform":{"os":"linux"},"Lifecycle":{"run":"python3 -u {artifacts:path}/hello_world.py \"{configuration:/Message}\""},"Artifacts":[{"URI":"s3://bucket/artifacts/hello_world.py"}]}]}|{"deploymentId":"d1","targetArn":"arn:aws:iot:us-east-1:123456789012:thinggroup/g1","deploymentName":"hello","components":{"com.example.HelloWorld":{"componentVersion":"1.0.0"}}}|com.example.HelloWorld 1.0.0
+const ROWS: &str = concat!(
+    r#"genesis|{"RecipeFormatVersion":"2020-01-25","ComponentName":"com.example.HelloWorld","ComponentVersion":"1.0.0","#,
+    r#""ComponentDescription":"My first component","ComponentPublisher":"Example","ComponentConfiguration":{"DefaultConfiguration":{"Message":"world"}},"#,
+    r#""Manifests":[{"Platform":{"os":"linux"},"Lifecycle":{"run":"python3 -u {artifacts:path}/hello_world.py \"{configuration:/Message}\""},"#,
+    r#""Artifacts":[{"URI":"s3://bucket/artifacts/hello_world.py"}]}]}|{"deploymentId":"d1","targetArn":"arn:aws:iot:us-east-1:123456789012:thinggroup/g1","#,
+    r#""deploymentName":"hello","components":{"com.example.HelloWorld":{"componentVersion":"1.0.0"}}}|com.example.HelloWorld 1.0.0
 genesis ga activate close|X 1.1.0;X 1.2.9;X 2.0.0|{"deploymentId":"d1","targetArn":"gb","components":{"X":{"componentVersion":"~1.2"}}}|X 1.2.9
-genesis|A 2.0.0 C ^2;A 1.0.0 C ^1;B 1.0.0 C ^1;C 1.0.0;C 2.0.0|{"deploymentId":"d1","targetArn":"g","components":{"A":{"componentVersion":"*"},"B":{"componentVersion":"*"}}}|A 1.0.0,B 1.0.0,C 1.0.0
-genesis|A 2.0.0 C ^2;B 1.0.0 C ^1;C 1.0.0;C 2.0.0|{"deploymentId":"d1","targetArn":"g","components":{"A":{"componentVersion":"*"},"B":{"componentVersion":"*"}}}|Plan(NoVersion)
+genesis|A 2.0.0 C ^2;A 1.0.0 C ^1;B 1.0.0 C ^1;C 1.0.0;C 2.0.0|"#,
+    r#"{"deploymentId":"d1","targetArn":"g","components":{"A":{"componentVersion":"*"},"B":{"componentVersion":"*"}}}|A 1.0.0,B 1.0.0,C 1.0.0
+genesis|A 2.0.0 C ^2;B 1.0.0 C ^1;C 1.0.0;C 2.0.0|"#,
+    r#"{"deploymentId":"d1","targetArn":"g","components":{"A":{"componentVersion":"*"},"B":{"componentVersion":"*"}}}|Plan(NoVersion)
 genesis r5 activate close|X 1.0.0|{"deploymentId":"r4","targetArn":"g","revision":4,"components":{}}|Stale("r4", 5)
 genesis r5 activate close|X 1.0.0|{"deploymentId":"r0","targetArn":"g","components":{}}|
 genesis r5 activate close|X 1.0.0|{"deploymentId":"r5","targetArn":"g","revision":4,"components":{}}|Repeated("r5", Successful)
 genesis|X 1.0.0|{"deploymentId":"d1","targetArn":"g","revision":0,"components":{}}|Document(BadRevision)
-genesis|{"RecipeFormatVersion":"2020-01-25","ComponentName":"A","ComponentVersion":"1.0.0","Manifests":[{"Artifacts":[{"URI":"s3://b/f","Unarchive":"ZIP"}]}]}|{"deploymentId":"d1","targetArn":"g","components":{}}|Candidates(Recipe(0, ZipArtifact))
-genesis|{"RecipeFormatVersion":"2020-01-25","ComponentName":"A","ComponentVersion":"1.0.0","ComponentDependencies":{"B":{"VersionRequirement":"*"}},"Manifests":[{"Lifecycle":{"bootstrap":"s"}}]};{"RecipeFormatVersion":"2020-01-25","ComponentName":"B","ComponentVersion":"1.0.0","Manifests":[{"Lifecycle":{"bootstrap":"s"}}]}|{"deploymentId":"d1","targetArn":"g","components":{"A":{"componentVersion":"*"}}}|A 1.0.0,B 1.0.0,boot B,boot A"#;
-
-fn replayed(alloc: Global, disk: &mut MemoryDisk) -> Result<Device, Fail>
-    ensures regular { IfOk result (λ d. IsRegularDevice (device_view d)) }
-    ensures sound { IfOk result (λ d. IsSound (device_view d)) }
-{
-    let log = Log::find(disk)?;
-    Ok(replay(alloc, &log, disk)?)
-}
-
-/// The device whose journal has these bytes.
-fn device_from(alloc: Global, journal: &[u8]) -> Result<Device, Fail>
-    ensures regular { IfOk result (λ d. IsRegularDevice (device_view d)) }
-    ensures sound { IfOk result (λ d. IsSound (device_view d)) }
-{
-    let mut disk = MemoryDisk::new(alloc);
-    disk.write_at("journal", 0, journal)?;
-    let device = replayed(alloc, &mut disk);
-    drop(disk);
-    device
-}
+genesis|{"RecipeFormatVersion":"2020-01-25","ComponentName":"A","ComponentVersion":"1.0.0","Manifests":[{"Artifacts":[{"URI":"s3://b/f","#,
+    r#""Unarchive":"ZIP"}]}]}|{"deploymentId":"d1","targetArn":"g","components":{}}|Candidates(Recipe(0, ZipArtifact))
+genesis|{"RecipeFormatVersion":"2020-01-25","ComponentName":"A","ComponentVersion":"1.0.0","ComponentDependencies":{"B":{"VersionRequirement":"*"}},"#,
+    r#""Manifests":[{"Lifecycle":{"bootstrap":"s"}}]};{"RecipeFormatVersion":"2020-01-25","ComponentName":"B","ComponentVersion":"1.0.0","#,
+    r#""Manifests":[{"Lifecycle":{"bootstrap":"s"}}]}|"#,
+    r#"{"deploymentId":"d1","targetArn":"g","components":{"A":{"componentVersion":"*"}}}|A 1.0.0,B 1.0.0,boot B,boot A"#
+);
 
 /// The device of a journal with these records.
 fn device_of(alloc: Global, history: &str) -> Result<Device, Fail>
     ensures regular { IfOk result (λ d. IsRegularDevice (device_view d)) }
     ensures sound { IfOk result (λ d. IsSound (device_view d)) }
 {
-    let journal = journal_of(alloc, RECORDS, history)?;
-    let device = device_from(alloc, &journal);
-    drop(journal);
-    device
-}
-
-/// The recipe that is written out or of these words.
-fn recipe_of(alloc: Global, component: &str) -> Result<String, Fail> {
-    if component.starts_with("{") {
-        return Ok(format!(in alloc; "{component}")?);
-    }
-    let mut words = component.split(' ');
-    let name = words.next().unwrap_or("");
-    let version = words.next().unwrap_or("");
-    let head = format!(in alloc;
-        r#"{{"RecipeFormatVersion":"2020-01-25","ComponentName":"{name}","ComponentVersion":"{version}""#
-    )?;
-    let Some(needed) = words.next() else {
-        return Ok(format!(in alloc; "{head}}}")?);
-    };
-    let range = words.next().unwrap_or("");
-    Ok(format!(in alloc;
-        r#"{head},"ComponentDependencies":{{"{needed}":{{"VersionRequirement":"{range}"}}}}}}"#
-    )?)
-}
-
-fn recipe_bytes(alloc: Global, component: &str) -> Result<Bytes, Fail> {
-    let recipe = recipe_of(alloc, component)?;
-    Ok(Bytes::from_slice(alloc, recipe.as_bytes())?)
-}
-
-fn push_recipe(alloc: Global, recipes: &mut List<Bytes>, component: &str) -> Result<(), Fail> {
-    let recipe = recipe_bytes(alloc, component)?;
-    recipes.push(recipe)?;
-    Ok(())
-}
-
-fn recipes_of(alloc: Global, components: &str) -> Result<List<Bytes>, Fail> {
-    let mut recipes = List::empty(alloc);
-    for component in components.split(';') {
-        push_recipe(alloc, &mut recipes, component)?;
-    }
-    Ok(recipes)
+    test_replays::device_of(alloc, RECORDS, history)
 }
 
 fn library_of(alloc: Global, components: &str) -> Result<MemoryLibrary, Fail> {

@@ -1,19 +1,15 @@
-// Calls of the top call over disks, libraries, inboxes and children in memory, which are written in a few words.
-ghost use Rattle.std.specs.Prelude.{◌≡◌, [], true, IfOk};
-ghost use Rattle.std.specs.List.{list_all};
+// Calls that serve over disks, libraries, inboxes and children in memory, which are written in a few words.
+ghost use Rattle.std.specs.Prelude.{◌≡◌, []};
 ghost use Rattle.step_runner.specs.Scripted.{living_of};
-ghost use Rattle.step_runner.specs.Waits.{is_own};
-ghost use Rattle.step_runner.specs.declared.ends.ScriptedEnd.{ScriptedEnd};
 
-use crate::words::{documents_of, number_of, numbers_behind, recipes_of};
-use disk_model::{Disk, MemoryDisk};
-use edges::{MemoryInbox, MemorySink, MemorySource};
+use disk_model::Disk;
+use edges::MemoryInbox;
 use library_core::MemoryLibrary;
-use nuc_base::{Bytes, Exit, List, NoMemory};
-use nucleus_top::nucleus;
+use nuc_base::{Bytes, List};
 use std::alloc::{AllocError, Global};
 use std::test::Fail;
-use step_runner::{RunnerEntry, ScriptedEnd, ScriptedRunner, Seen};
+use step_runner::{RunnerEntry, ScriptedRunner, Seen};
+use test_calls::{Failing, answer_with_inbox, document_of, numbers_behind, recipes_of, runner_of};
 
 /// A call over some disk.
 #[derive(Clone, Copy, Drop)]
@@ -27,71 +23,35 @@ pub(crate) struct Asked<'a> {
     pub(crate) outside: &'a str,
 }
 
-/// Adds the end of a child with this code.
-fn add_end(played: &mut List<ScriptedEnd>, child: u64, code: i32, at: u64) -> Result<(), NoMemory>
-    requires { list_all (λ (e : ScriptedEnd). is_own e.exit) played.old ≡ true }
-    ensures { list_all (λ (e : ScriptedEnd). is_own e.exit) played.new ≡ true }
-{
-    let end = ScriptedEnd {
-        child,
-        exit: Exit::Code(code),
-        at,
-    };
-    Ok(played.push(end)?)
+/// Adds the bytes of the text, and drops it.
+fn add(alloc: Global, all: &mut List<Bytes>, text: String) -> Result<(), Fail> {
+    let bytes = Bytes::from_slice(alloc, text.as_bytes());
+    drop(text);
+    Ok(all.push(bytes?)?)
 }
 
-/// The ends that are played: those parts that begin with a number.
-fn played_of(alloc: Global, parts: &str) -> Result<List<ScriptedEnd>, Fail>
-    ensures { IfOk result (λ l. list_all (λ (e : ScriptedEnd). is_own e.exit) l ≡ true) }
-{
-    let mut played = List::empty(alloc);
-    for part in parts.split(',') {
-        let mut words = part.split(' ');
-        let child = words.next().unwrap_or("").parse::<u64>();
-        let code = number_of(words.next()).min(255) as i32;
-        let at = number_of(words.next());
-        if let Ok(child) = child {
-            add_end(&mut played, child, code, at)?;
+/// Documents, with `&` between two. Behind them may stand the word `closed`, which is none.
+fn documents_of(alloc: Global, words: &str) -> Result<List<Bytes>, Fail> {
+    let mut all = List::empty(alloc);
+    for document in words.split_terminator('&') {
+        if document != "closed" {
+            add(alloc, &mut all, document_of(alloc, document)?)?;
         }
-    }
-    Ok(played)
-}
-
-fn runner_of(alloc: Global, outside: &str) -> Result<ScriptedRunner, Fail>
-    ensures { IfOk result (λ r. living_of r ≡ []) }
-{
-    let played = played_of(alloc, outside)?;
-    let refused = numbers_behind(alloc, outside, "refuse")?;
-    Ok(ScriptedRunner::new(alloc, played, refused, List::empty(alloc)))
-}
-
-/// The words of a line, which has one blank between two.
-fn split_words(alloc: Global, line: &str) -> Result<Vec<String>, AllocError> {
-    let mut all = Vec::new(alloc);
-    for word in line.split(' ') {
-        all.push(String::from_str(alloc, word)?)?;
     }
     Ok(all)
 }
 
-/// The words of a call.
-fn words_of(alloc: Global, command: &str) -> Result<Vec<String>, AllocError> {
-    let line = format!(in alloc; "nucleus --root /gg {command}")?;
-    let words = split_words(alloc, line.as_str());
-    drop(line);
-    words
+fn inbox_of(alloc: Global, asked: Asked<'_>) -> Result<MemoryInbox, Fail> {
+    let documents = documents_of(alloc, asked.documents)?;
+    let failing = numbers_behind(alloc, asked.outside, "inbox")?;
+    let is_closed = asked.documents.ends_with("closed");
+    Ok(MemoryInbox::new(documents, is_closed, failing))
 }
 
-/// Adds what is printed, with `;` for each line feed, and a bar.
-fn add_printed(said: &mut String, printed: &[u8]) -> Result<(), AllocError> {
-    for byte in printed {
-        said.push(if *byte == b'\n' {
-            ';'
-        } else {
-            char::from(*byte)
-        })?;
-    }
-    said.push_str("|")
+fn library_of(alloc: Global, asked: Asked<'_>) -> Result<MemoryLibrary, Fail> {
+    let recipes = recipes_of(alloc, asked.recipes)?;
+    let failing = numbers_behind(alloc, asked.outside, "library")?;
+    Ok(MemoryLibrary::new(recipes, List::empty(alloc), failing))
 }
 
 /// Adds what the runner did.
@@ -109,73 +69,35 @@ fn add_entry(said: &mut String, entry: &RunnerEntry) -> Result<(), AllocError> {
     }
 }
 
+/// Adds a bar, and what the runner did in turn.
 fn add_entries(said: &mut String, entries: &[RunnerEntry]) -> Result<(), AllocError> {
+    said.push_str("|")?;
     for entry in entries {
         add_entry(said, entry)?;
     }
     Ok(())
 }
 
-/// Adds the status and what the call of these words prints.
+/// The status of the call and what it prints, to a sink that fails the calls that are named.
 fn answer_to<D: Disk>(
     alloc: Global,
     disk: &mut D,
     library: &mut MemoryLibrary,
     inbox: &mut MemoryInbox,
     runner: &mut ScriptedRunner,
-    sink: &mut MemorySink,
-    words: &Vec<String>,
-    said: &mut String,
-) -> Result<(), AllocError>
-    requires none { living_of runner.old ≡ [] }
-{
-    let mut source = MemorySource::new(Bytes::empty(alloc), List::empty(alloc));
-    let status = nucleus(
-        alloc,
-        words,
-        disk,
-        library,
-        &mut source,
-        inbox,
-        sink,
-        runner,
-    );
-    drop(source);
-    write!(said, "{}|", status.number())?;
-    add_printed(said, sink.bytes())
-}
-
-/// The same of a command, with a sink that fails the calls that are named.
-fn answer_with<D: Disk>(
-    alloc: Global,
-    disk: &mut D,
-    library: &mut MemoryLibrary,
-    inbox: &mut MemoryInbox,
-    runner: &mut ScriptedRunner,
     asked: Asked<'_>,
-    said: &mut String,
-) -> Result<(), Fail>
+) -> Result<String, Fail>
     requires none { living_of runner.old ≡ [] }
 {
-    let failing = numbers_behind(alloc, asked.outside, "sink")?;
-    let mut sink = MemorySink::new(alloc, failing);
-    let done = match words_of(alloc, asked.command) {
-        Ok(words) => {
-            let done = answer_to(alloc, disk, library, inbox, runner, &mut sink, &words, said);
-            drop(words);
-            done
-        }
-        Err(fault) => Err(fault),
+    let sink = numbers_behind(alloc, asked.outside, "sink")?;
+    let failing = Failing {
+        source: &[],
+        sink: sink.as_slice(),
     };
+    let command = asked.command;
+    let said = answer_with_inbox(alloc, disk, library, inbox, runner, command, "", failing);
     drop(sink);
-    Ok(done?)
-}
-
-fn inbox_of(alloc: Global, asked: Asked<'_>) -> Result<MemoryInbox, Fail> {
-    let documents = documents_of(alloc, asked.documents)?;
-    let failing = numbers_behind(alloc, asked.outside, "inbox")?;
-    let is_closed = asked.documents.ends_with("closed");
-    Ok(MemoryInbox::new(documents, is_closed, failing))
+    said
 }
 
 /// The same with an inbox of the documents.
@@ -185,20 +107,13 @@ fn answer_from<D: Disk>(
     library: &mut MemoryLibrary,
     runner: &mut ScriptedRunner,
     asked: Asked<'_>,
-    said: &mut String,
-) -> Result<(), Fail>
+) -> Result<String, Fail>
     requires none { living_of runner.old ≡ [] }
 {
     let mut inbox = inbox_of(alloc, asked)?;
-    let done = answer_with(alloc, disk, library, &mut inbox, runner, asked, said);
+    let said = answer_to(alloc, disk, library, &mut inbox, runner, asked);
     drop(inbox);
-    done
-}
-
-fn library_of(alloc: Global, asked: Asked<'_>) -> Result<MemoryLibrary, Fail> {
-    let recipes = recipes_of(alloc, asked.recipes)?;
-    let failing = numbers_behind(alloc, asked.outside, "library")?;
-    Ok(MemoryLibrary::new(recipes, List::empty(alloc), failing))
+    said
 }
 
 /// The same with a library of the recipes.
@@ -207,64 +122,32 @@ fn answer_over<D: Disk>(
     disk: &mut D,
     runner: &mut ScriptedRunner,
     asked: Asked<'_>,
-    said: &mut String,
-) -> Result<(), Fail>
+) -> Result<String, Fail>
     requires none { living_of runner.old ≡ [] }
 {
     let mut library = library_of(alloc, asked)?;
-    let done = answer_from(alloc, disk, &mut library, runner, asked, said);
+    let said = answer_from(alloc, disk, &mut library, runner, asked);
     drop(library);
-    done
+    said
 }
 
-/// Adds the status of the call, what it prints, and what its runner did.
-fn say<D: Disk>(
-    alloc: Global,
-    disk: &mut D,
-    asked: Asked<'_>,
-    said: &mut String,
-) -> Result<(), Fail> {
-    let mut runner = runner_of(alloc, asked.outside)?;
-    let done = match answer_over(alloc, disk, &mut runner, asked, said) {
-        Ok(()) => add_entries(said, runner.entries().as_slice()).map_err(Fail::from),
-        Err(fault) => Err(fault),
-    };
-    drop(runner);
-    done
+/// What was said, and behind a bar what the runner did.
+fn followed(said: Result<String, Fail>, entries: &[RunnerEntry]) -> Result<String, Fail> {
+    let mut said = said?;
+    match add_entries(&mut said, entries) {
+        Ok(()) => Ok(said),
+        Err(fault) => {
+            drop(said);
+            Err(fault.into())
+        }
+    }
 }
 
 /// The status of the call, what it prints, with `;` for each line feed, and what its runner did, with bars between these.
 pub(crate) fn call<D: Disk>(alloc: Global, disk: &mut D, asked: Asked<'_>) -> Result<String, Fail> {
-    let mut said = String::new(alloc);
-    match say(alloc, disk, asked, &mut said) {
-        Ok(()) => Ok(said),
-        Err(fault) => {
-            drop(said);
-            Err(fault)
-        }
-    }
-}
-
-/// Makes a store.
-fn init(alloc: Global, disk: &mut MemoryDisk) -> Result<(), Fail> {
-    let asked = Asked {
-        recipes: "",
-        command: "init --thing t1 --nucleus 2.12.0 --os linux --arch amd64",
-        documents: "",
-        outside: "",
-    };
-    drop(call(alloc, disk, asked)?);
-    Ok(())
-}
-
-/// A disk with a new store.
-pub(crate) fn begin(alloc: Global) -> Result<MemoryDisk, Fail> {
-    let mut disk = MemoryDisk::new(alloc);
-    match init(alloc, &mut disk) {
-        Ok(()) => Ok(disk),
-        Err(fault) => {
-            drop(disk);
-            Err(fault)
-        }
-    }
+    let mut runner = runner_of(alloc, asked.outside)?;
+    let said = answer_over(alloc, disk, &mut runner, asked);
+    let said = followed(said, runner.entries().as_slice());
+    drop(runner);
+    said
 }

@@ -1,19 +1,18 @@
 // One failing call at a time of each device under a call that serves, and one that stops with the disk at each of its calls:
 // what it answers, and what `resume` makes of what is left.
-use crate::calls::{Asked, begin, call};
+use crate::calls::{Asked, call};
 use disk_model::{FusedDisk, MemoryDisk, Pick};
 use nuc_base::List;
 use std::alloc::{AllocError, Global};
 use std::test::Fail;
+use test_calls::begin;
 
 const RECIPES: &str =
-    r#"D 1.0.0 {} {"run":"d"};H 1.0.0 {"D":{}} {"run":"h"};S 1.0.0 {"D":{"DependencyType":"SOFT"}} {"run":"s"}"#;
+    r#"D 1.0.0 run d;H 1.0.0 {"D":{}} run h;S 1.0.0 {"D":{"DependencyType":"SOFT"}} run s"#;
 
-const FIRST: &str =
-    r#"d1 ROLLBACK {"D":{"componentVersion":"1.0.0"},"H":{"componentVersion":"1.0.0"},"S":{"componentVersion":"1.0.0"}}&closed"#;
+const FIRST: &str = "d1 ROLLBACK D 1.0.0 H 1.0.0 S 1.0.0&closed";
 
-const SECOND: &str =
-    r#"d2 ROLLBACK {"D":{"componentVersion":"1.0.0","configurationUpdate":{"merge":{"k":2}}},"H":{"componentVersion":"1.0.0"},"S":{"componentVersion":"1.0.0"}}&closed"#;
+const SECOND: &str = r#"d2 ROLLBACK D 1.0.0{"k":2} H 1.0.0 S 1.0.0&closed"#;
 
 /// More calls than a device gets in this one.
 const MOST_CALLS: u64 = 200;

@@ -1,6 +1,6 @@
 //! Whole calls that serve, against the top call: documents come, components fail and are tried again, calls end and go on.
 //!
-//! It promises nothing of its own: it holds tests. It stands on the top call and on the disks, libraries, inboxes, sinks and
+//! It promises nothing of its own: it holds tests. It stands on the calls of `test_calls`, and on the disks, libraries, inboxes and
 //! runners in memory.
 #![tactic(auto)]
 
@@ -12,5 +12,3 @@ mod faults;
 mod memory;
 #[cfg(test)]
 mod rows;
-#[cfg(test)]
-mod words;

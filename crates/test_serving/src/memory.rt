@@ -3,22 +3,13 @@
 use crate::calls::call;
 use crate::faults::{asked_of, begun};
 use disk_model::{MemoryDisk, Pick};
-use std::alloc::{AllocError, Global};
+use std::alloc::Global;
 use std::test::Fail;
+use test_calls::mark;
 
-const DOCUMENTS: &str =
-    r#"d2 ROLLBACK {"D":{"componentVersion":"1.0.0","configurationUpdate":{"merge":{"k":2}}},"H":{"componentVersion":"1.0.0"}}&d3 ROLLBACK {"D":{"componentVersion":"1.0.0"}}&closed"#;
+const DOCUMENTS: &str = r#"d2 ROLLBACK D 1.0.0{"k":2} H 1.0.0&d3 ROLLBACK D 1.0.0&closed"#;
 
 const SERVE: &str = "serve --turns 4";
-
-/// So many bytes nothing else takes at once.
-const MARK: usize = 7_654_321;
-
-/// Asks for that many bytes and gives them back, so that who refuses allocations sees where the call begins and ends.
-fn mark(alloc: Global) {
-    let marked: Result<Vec<u8>, AllocError> = Vec::with_capacity(alloc, MARK);
-    drop(marked);
-}
 
 /// Which documents were acknowledged.
 #[derive(Clone, Copy, Drop)]

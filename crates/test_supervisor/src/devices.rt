@@ -3,12 +3,11 @@ ghost use Rattle.std.specs.Prelude.{IfOk};
 ghost use Rattle.device.specs.Devices.{device_view, IsRegularDevice};
 ghost use Rattle.device.specs.Sound.{IsSound};
 
-use device::{Device, replay};
-use disk_model::{Disk, MemoryDisk};
-use gate_log::{Journal, Log};
+use device::Device;
 use nuc_base::NoMemory;
 use std::alloc::Global;
 use std::test::Fail;
+use test_replays::device_from;
 
 const GENESIS: &[u8] =
     b"\x11\0\0\0\x03/gg\0\0\0\x02t1\0\0\0\x062.12.0\0\0\0\x05linux\0\0\0\x05amd64";
@@ -193,26 +192,6 @@ fn journal_of(alloc: Global, set: &str, plan: &str) -> Result<Vec<u8>, NoMemory>
     let mut journal = Vec::new(alloc);
     put_entries(alloc, &mut journal, set, plan)?;
     Ok(journal)
-}
-
-fn replayed(alloc: Global, disk: &mut MemoryDisk) -> Result<Device, Fail>
-    ensures regular { IfOk result (λ d. IsRegularDevice (device_view d)) }
-    ensures sound { IfOk result (λ d. IsSound (device_view d)) }
-{
-    let log = Log::find(disk)?;
-    Ok(replay(alloc, &log, disk)?)
-}
-
-/// The device whose journal has these bytes.
-fn device_from(alloc: Global, journal: &[u8]) -> Result<Device, Fail>
-    ensures regular { IfOk result (λ d. IsRegularDevice (device_view d)) }
-    ensures sound { IfOk result (λ d. IsSound (device_view d)) }
-{
-    let mut disk = MemoryDisk::new(alloc);
-    disk.write_at("journal", 0, journal)?;
-    let device = replayed(alloc, &mut disk);
-    drop(disk);
-    device
 }
 
 /// A device that has the first components, and is to have the second ones. Each is a name, a version, a configuration, and
