@@ -9,7 +9,7 @@ ghost use Rattle.device.specs.Lawful.{Allowed, applied};
 ghost use Rattle.nuc_base.specs.declared.kinds.Outcome.TheVariants as outcomes;
 ghost use Rattle.deploy_state.specs.Fields.{CanBreakOff, IsBreak, broken_item};
 ghost use Rattle.deploy_state.specs.Owned.{LeavesEither};
-ghost use Rattle.deploy_state.specs.States.{OwnsActivating, InBrokeOff, OwnsIdle, activating_device, broken_device, idle_device};
+ghost use Rattle.deploy_state.specs.States.{OwnsActivating, OwnsBrokenOff, OwnsIdle, activating_device, broken_device, idle_device};
 
 use crate::names::broken_in;
 use crate::state::{Activating, BrokeOff, Idle, Stopped};
@@ -65,7 +65,7 @@ impl<J: Journal + Drop> Activating<J> {
             Leaves D.moment D.left_since disk.old disk.new (LeavesEither D.may_leave J.files J.entries disk.old (activating_device self)
             (applied (activating_device self) r)) }
         ensures taken { (r : Record) → IsBreak (activating_device self) r → IfOk result (λ s. broken_device s ≡ applied (activating_device self) r) }
-        ensures held { IfOk result (λ s. InBrokeOff D.is_modelled D.may_leave J.stands J.end s disk.new) }
+        ensures held { IfOk result (λ s. OwnsBrokenOff D.is_modelled D.may_leave J.stands J.end s disk.new) }
         ensures others { IsTrue D.is_modelled → (name : List ℕ) → ¬ (J.files name) → D.seen disk.new name ≡ D.seen disk.old name }
         ensures cause { HasCause (D.faults disk.old) (D.faults disk.new) result }
         ensures quiet { OnOk result (D.faults disk.new ≡ D.faults disk.old) }

@@ -11,7 +11,7 @@ ghost use Rattle.device.specs.declared.mark.Mark.TheVariants as marks;
 ghost use Rattle.nuc_base.specs.declared.kinds.Outcome.TheVariants as outcomes;
 ghost use Rattle.deploy_state.specs.Fields.{CanBegin, CanBreakOff, IsBegun, IsBreak, has_failed, next_name};
 ghost use Rattle.deploy_state.specs.Owned.{LeavesEither, MayMark};
-ghost use Rattle.deploy_state.specs.States.{OwnsActivating, OwnsBooting, InBrokeOff, OwnsIdle, activating_device, booting_device, broken_device, idle_device};
+ghost use Rattle.deploy_state.specs.States.{OwnsActivating, OwnsBooting, OwnsBrokenOff, OwnsIdle, activating_device, booting_device, broken_device, idle_device};
 
 use crate::names::{failed_in, next_in};
 use crate::state::{Activating, Booting, BrokeOff, Idle, Stopped};
@@ -108,7 +108,7 @@ impl<J: Journal + Drop> Booting<J> {
             Leaves D.moment D.left_since disk.old disk.new (LeavesEither D.may_leave J.files J.entries disk.old (booting_device self)
             (applied (booting_device self) r)) }
         ensures taken { (r : Record) → IsBreak (booting_device self) r → IfOk result (λ s. broken_device s ≡ applied (booting_device self) r) }
-        ensures held { IfOk result (λ s. InBrokeOff D.is_modelled D.may_leave J.stands J.end s disk.new) }
+        ensures held { IfOk result (λ s. OwnsBrokenOff D.is_modelled D.may_leave J.stands J.end s disk.new) }
         ensures others { IsTrue D.is_modelled → (name : List ℕ) → ¬ (J.files name) → D.seen disk.new name ≡ D.seen disk.old name }
         ensures cause { HasCause (D.faults disk.old) (D.faults disk.new) result }
         ensures quiet { OnOk result (D.faults disk.new ≡ D.faults disk.old) }

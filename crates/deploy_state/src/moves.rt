@@ -12,7 +12,7 @@ ghost use Rattle.device.specs.declared.mark.Mark.TheVariants as marks;
 ghost use Rattle.device.specs.declared.staged.Stage.TheVariants as stages;
 ghost use Rattle.deploy_state.specs.Fields.{CanBegin, CanBreakOff, IsBegun, IsBreak};
 ghost use Rattle.deploy_state.specs.Owned.{LeavesEither};
-ghost use Rattle.deploy_state.specs.States.{InBrokeOff, IsHeld, IsIn, broken_device, device_of};
+ghost use Rattle.deploy_state.specs.States.{OwnsBrokenOff, IsHeld, IsIn, broken_device, device_of};
 
 use crate::state::{Backing, BrokeOff, Hand, Rolling, Stopped};
 use device::{Mark, Stage, running_place};
@@ -104,7 +104,7 @@ impl<J: Journal + Drop> Hand<J> {
         ensures moments { (r : Record) → IsBreak (device_of self) r →
             Leaves D.moment D.left_since disk.old disk.new (LeavesEither D.may_leave J.files J.entries disk.old (device_of self) (applied (device_of self) r)) }
         ensures taken { (r : Record) → IsBreak (device_of self) r → IfOk result (λ s. broken_device s ≡ applied (device_of self) r) }
-        ensures held { IfOk result (λ s. InBrokeOff D.is_modelled D.may_leave J.stands J.end s disk.new) }
+        ensures held { IfOk result (λ s. OwnsBrokenOff D.is_modelled D.may_leave J.stands J.end s disk.new) }
         ensures others { IsTrue D.is_modelled → (name : List ℕ) → ¬ (J.files name) → D.seen disk.new name ≡ D.seen disk.old name }
         ensures cause { HasCause (D.faults disk.old) (D.faults disk.new) result }
         ensures quiet { OnOk result (D.faults disk.new ≡ D.faults disk.old) }

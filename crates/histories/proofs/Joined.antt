@@ -1,7 +1,7 @@
 -- Histories join: the newest event is the first.
 use Rattle.std.proofs.Common.{◌≡◌, ◌++◌, ◌∷◌, [], List, refl, ap, ◌∙◌, sym, append_assoc}
 use Rattle.std.proofs.lemmas.List.{append-nil}
-use Rattle.histories.specs.TraceEvents.{TraceEvent, Ran, Booted, WaitElapsed, KilledOnAbort, Recorded, Moved, Asked, Heard, InboxAsked, Changed, StopsAll}
+use Rattle.histories.specs.TraceEvents.{TraceEvent, Ran, Booted, WaitElapsed, KilledOnAbort, Recorded, Moved, ReadClock, Heard, InboxAsked, Changed, StopsAll}
 use Rattle.histories.specs.TraceEvents.{records_of, entries_of}
 use Rattle.histories.specs.States.{SessionState, leaves, state_after}
 use Rattle.histories.specs.Follows.{IsProper}
@@ -25,7 +25,7 @@ records-append (WaitElapsed e ∷ h) g = records-append h g
 records-append (KilledOnAbort e ∷ h) g = records-append h g
 records-append (Recorded r ∷ h) g = more (records_of g) (records_of h) r (records_of (h ++ g)) (records-append h g)
 records-append (Moved k e ∷ h) g = records-append h g
-records-append (Asked m ∷ h) g = records-append h g
+records-append (ReadClock m ∷ h) g = records-append h g
 records-append (Heard k ∷ h) g = records-append h g
 records-append (InboxAsked x ∷ h) g = records-append h g
 records-append (Changed f c b ∷ h) g = records-append h g
@@ -39,7 +39,7 @@ entries-append (WaitElapsed e ∷ h) g = more (entries_of g) (entries_of h) e (e
 entries-append (KilledOnAbort e ∷ h) g = more (entries_of g) (entries_of h) e (entries_of (h ++ g)) (entries-append h g)
 entries-append (Recorded r ∷ h) g = entries-append h g
 entries-append (Moved k e ∷ h) g = entries-append h g
-entries-append (Asked m ∷ h) g = entries-append h g
+entries-append (ReadClock m ∷ h) g = entries-append h g
 entries-append (Heard k ∷ h) g = entries-append h g
 entries-append (InboxAsked x ∷ h) g = entries-append h g
 entries-append (Changed f c b ∷ h) g = entries-append h g

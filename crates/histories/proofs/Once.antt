@@ -6,7 +6,7 @@ use Rattle.records.specs.Stored.{Record, Accepted}
 use Rattle.step_runner.specs.declared.entries.Seen.{Seen}
 use Rattle.step_runner.specs.declared.entries.Seen.TheVariants as seen
 use Rattle.components.specs.declared.kinds.Prepared.{Prepared}
-use Rattle.histories.specs.TraceEvents.{TraceEvent, Ran, Booted, WaitElapsed, KilledOnAbort, Recorded, Moved, Asked, Heard, InboxAsked, Changed, StopsAll}
+use Rattle.histories.specs.TraceEvents.{TraceEvent, Ran, Booted, WaitElapsed, KilledOnAbort, Recorded, Moved, ReadClock, Heard, InboxAsked, Changed, StopsAll}
 use Rattle.histories.specs.TraceEvents.{records_of}
 use Rattle.histories.specs.States.{SessionState, booted, cut_off, leaves, state_after, takes_document}
 use Rattle.histories.specs.Follows.{IsProper, MayFollow, MayTakeBy}
@@ -62,7 +62,7 @@ serves_on p (WaitElapsed e) = refl
 serves_on p (KilledOnAbort e) = (cut_counts e.seen p).serves
 serves_on p (Recorded r) = refl
 serves_on p (Moved k e) = refl
-serves_on p (Asked m) = refl
+serves_on p (ReadClock m) = refl
 serves_on p (Heard k) = refl
 serves_on p (InboxAsked a) = refl
 serves_on p (Changed f c b) = refl
@@ -76,7 +76,7 @@ taken_on b p (WaitElapsed e) h is = is
 taken_on b p (KilledOnAbort e) h is = (cut_counts e.seen p).taken ∙ is
 taken_on b p (Recorded r) h is = ap (λ (x : Bool). x || takes_document r) is ∙ sym (behind_more b (records_of h) r)
 taken_on b p (Moved k e) h is = is
-taken_on b p (Asked m) h is = is
+taken_on b p (ReadClock m) h is = is
 taken_on b p (Heard k) h is = is
 taken_on b p (InboxAsked a) h is = is
 taken_on b p (Changed f c d) h is = is
@@ -96,7 +96,7 @@ one_more b p (WaitElapsed e) h serves is may once = once
 one_more b p (KilledOnAbort e) h serves is may once = once
 one_more b p (Recorded r) h serves is may once = once_more b (records_of h) r (λ takes. sym is ∙ untaken_for p r (takes_document r) refl serves may takes) once
 one_more b p (Moved k e) h serves is may once = once
-one_more b p (Asked m) h serves is may once = once
+one_more b p (ReadClock m) h serves is may once = once
 one_more b p (Heard k) h serves is may once = once
 one_more b p (InboxAsked a) h serves is may once = once
 one_more b p (Changed f c d) h serves is may once = once

@@ -26,7 +26,7 @@ use Rattle.components.specs.Made.{AreFitted, IsStepAt}
 use Rattle.components.specs.declared.kinds.Prepared.{Prepared}
 use Rattle.histories.specs.Phases.{Phase, Duty, idle, booting, activating, backing, rolling, is_idle, has_boots, duty_of, Generation, previous, draining}
 use Rattle.histories.specs.Phases.{current, is_current, is_shutting_down}
-use Rattle.histories.specs.TraceEvents.{TraceEvent, Ran, Booted, WaitElapsed, KilledOnAbort, Recorded, Moved, Asked, Heard, InboxAsked, Changed, StopsAll}
+use Rattle.histories.specs.TraceEvents.{TraceEvent, Ran, Booted, WaitElapsed, KilledOnAbort, Recorded, Moved, ReadClock, Heard, InboxAsked, Changed, StopsAll}
 use Rattle.histories.specs.TraceEvents.{is_document}
 use Rattle.histories.specs.States.{SessionState, state_after}
 use Rattle.histories.specs.Waits.{MayWait, boot_deadline, has_three, has_ended, may_drive}
@@ -221,7 +221,7 @@ MayCome d p (WaitElapsed e) = MaySleep d p e.seen × IsEntry p e
 MayCome d p (KilledOnAbort e) = MayCut p e.seen × IsEntry p e
 MayCome d p (Recorded r) = MayKeep p r
 MayCome d p (Moved k e) = MayMove p.world k e × IsNext p.world k × (may_drive d.phase p.generation p.serves ≡ true)
-MayCome d p (Asked m) = p.world.moment ≤ m
+MayCome d p (ReadClock m) = p.world.moment ≤ m
 MayCome d p (Heard k) = (is_idle d.phase ≡ true) × At k (λ q. owes q ≡ true) p.world.parts
 MayCome d p (InboxAsked a) = MayQuestion d p
 MayCome d p (Changed f c b) = MayChange d p f c b
@@ -230,7 +230,7 @@ MayCome d p StopsAll = MayStopAll d d.phase p.generation p
 -- once the call has given up, children are killed and nothing else is done
 abbrev pub IsLast : TraceEvent → Type 0
 IsLast (KilledOnAbort e) = ⊤
-IsLast (Asked m) = ⊤
+IsLast (ReadClock m) = ⊤
 IsLast e = ⊥
 
 -- It may come here; and after a bootstrap that asks for a restart nothing does.

@@ -17,7 +17,7 @@ use Rattle.components.specs.Events.{started, refused, skipped, killed, ended, to
 use Rattle.components.specs.Changes.{changed_to, all_stopped, steadied}
 use Rattle.components.specs.declared.kinds.Prepared.{Prepared}
 use Rattle.histories.specs.Phases.{duty_of, is_idle, begins_stage, Generation, previous, draining, current, shutting_down}
-use Rattle.histories.specs.TraceEvents.{TraceEvent, Answer, Ran, Booted, WaitElapsed, KilledOnAbort, Recorded, Moved, Asked, Heard, InboxAsked, Changed}
+use Rattle.histories.specs.TraceEvents.{TraceEvent, Answer, Ran, Booted, WaitElapsed, KilledOnAbort, Recorded, Moved, ReadClock, Heard, InboxAsked, Changed}
 use Rattle.histories.specs.TraceEvents.{StopsAll}
 
 pub record SessionState : Type 0 where
@@ -162,7 +162,7 @@ leaves p (WaitElapsed e) = noted e.seen p
 leaves p (KilledOnAbort e) = noted e.seen (cut_off e.seen p)
 leaves p (Recorded r) = kept r p
 leaves p (Moved k e) = record p { world = lived_at k e p.world; probed = false }
-leaves p (Asked m) = record p { world = later m p.world; fresh = true; probed = false }
+leaves p (ReadClock m) = record p { world = later m p.world; fresh = true; probed = false }
 leaves p (Heard k) = record p { world = told_at k p.world; probed = false }
 leaves p (InboxAsked a) = record p { answer = Some a; turns = p.turns - 1; probed = false }
 leaves p (Changed f c b) = record p {

@@ -33,7 +33,7 @@ pub data TraceEvent : Type 0 where
   Recorded : (kept : Record) → TraceEvent  -- a record is stable
   -- what leaves no trace outside
   Moved : (who : ℕ) (what : LifeEvent) → TraceEvent  -- a component begins, tries again, or is stopped with nothing to kill
-  Asked : (moment : ℕ) → TraceEvent  -- the runner was asked for a moment
+  ReadClock : (moment : ℕ) → TraceEvent  -- the runner was asked for a moment
   Heard : (who : ℕ) → TraceEvent  -- a failure was handed out where nothing is pending: it is not recorded
   InboxAsked : (answer : Answer) → TraceEvent  -- the inbox was asked for a document
   Changed : (fitted : List Fitted) (counts : List ℕ) (steady : Bool) → TraceEvent  -- other items are to run
@@ -48,7 +48,7 @@ records_of (WaitElapsed e ∷ h) = records_of h
 records_of (KilledOnAbort e ∷ h) = records_of h
 records_of (Recorded r ∷ h) = records_of h ++ r ∷ []
 records_of (Moved k e ∷ h) = records_of h
-records_of (Asked m ∷ h) = records_of h
+records_of (ReadClock m ∷ h) = records_of h
 records_of (Heard k ∷ h) = records_of h
 records_of (InboxAsked a ∷ h) = records_of h
 records_of (Changed f c b ∷ h) = records_of h
@@ -63,7 +63,7 @@ entries_of (WaitElapsed e ∷ h) = entries_of h ++ e ∷ []
 entries_of (KilledOnAbort e ∷ h) = entries_of h ++ e ∷ []
 entries_of (Recorded r ∷ h) = entries_of h
 entries_of (Moved k e ∷ h) = entries_of h
-entries_of (Asked m ∷ h) = entries_of h
+entries_of (ReadClock m ∷ h) = entries_of h
 entries_of (Heard k ∷ h) = entries_of h
 entries_of (InboxAsked a ∷ h) = entries_of h
 entries_of (Changed f c b ∷ h) = entries_of h
@@ -84,7 +84,7 @@ answers_of a (WaitElapsed e ∷ h) = answers_of a h
 answers_of a (KilledOnAbort e ∷ h) = answers_of a h
 answers_of a (Recorded r ∷ h) = answers_of a h
 answers_of a (Moved k e ∷ h) = answers_of a h
-answers_of a (Asked m ∷ h) = answers_of a h
+answers_of a (ReadClock m ∷ h) = answers_of a h
 answers_of a (Heard k ∷ h) = answers_of a h
 answers_of a (InboxAsked b ∷ h) = answers_of a h + same_answer a b
 answers_of a (Changed f c b ∷ h) = answers_of a h

@@ -14,7 +14,7 @@ use Rattle.step_runner.specs.declared.entries.Seen.{Seen}
 use Rattle.device.specs.Lawful.{no_failures}
 use Rattle.device.specs.declared.staged.Stage.TheVariants as stages
 use Rattle.components.specs.Fitted.{Fitted}
-use Rattle.histories.specs.TraceEvents.{TraceEvent, Booted, Recorded, Moved, Asked, InboxAsked, Changed, StopsAll, document, nothing}
+use Rattle.histories.specs.TraceEvents.{TraceEvent, Booted, Recorded, Moved, ReadClock, InboxAsked, Changed, StopsAll, document, nothing}
 use Rattle.histories.specs.States.{SessionState, state_after}
 use Rattle.history_rows.specs.Rows.{item, runs, starts_up, script, boot_of, device_of, pending_in, plan_of, call_begins, serve_begins, asked, not_asked, ends}
 use Rattle.history_rows.specs.Rows.{good, bad, a, b, one, two}
@@ -55,7 +55,7 @@ abbrev pub after_boot_set : Origin → SessionState
 after_boot_set o = state_after (serves_b o) boot_set
 
 abbrev pub boot_runs : List TraceEvent
-boot_runs = Recorded (Accepted boots_both) ∷ InboxAsked document ∷ starts (asked 0) 0 0 step.Run (codes "r") ∷ Asked 0 ∷ begins 0 ∷ begins 0 ∷ []
+boot_runs = Recorded (Accepted boots_both) ∷ InboxAsked document ∷ starts (asked 0) 0 0 step.Run (codes "r") ∷ ReadClock 0 ∷ begins 0 ∷ begins 0 ∷ []
 
 abbrev pub after_boot_runs : Origin → SessionState
 after_boot_runs o = state_after (after_boot_set o) boot_runs
@@ -85,13 +85,13 @@ resumes_begun o = call_begins (device_of o [] (Some (record (pending_in stages.B
     { begun = true })))
 
 abbrev pub long : Command → List TraceEvent
-long command = boots_with command (asked 0) 0 ∷ Asked 0 ∷ []
+long command = boots_with command (asked 0) 0 ∷ ReadClock 0 ∷ []
 
 abbrev pub after_long : Origin → SessionState
 after_long o = state_after (resumes_begun o) (long (script (codes "b")))
 
 abbrev pub long_passes : List TraceEvent
-long_passes = Asked 120000 ∷ passes (not_asked 0) 120000 ∷ []
+long_passes = ReadClock 120000 ∷ passes (not_asked 0) 120000 ∷ []
 
 abbrev pub after_long_passes : Origin → SessionState
 after_long_passes o = state_after (after_long o) long_passes
@@ -117,7 +117,7 @@ abbrev pub after_bad_boot : Origin → SessionState
 after_bad_boot o = state_after (deploys_boot o) bad_boot
 
 abbrev pub bad_starts : Command → List TraceEvent
-bad_starts command = boots_with command (asked 0) 0 ∷ Asked 0 ∷ []
+bad_starts command = boots_with command (asked 0) 0 ∷ ReadClock 0 ∷ []
 
 abbrev pub after_bad_starts : Origin → SessionState
 after_bad_starts o = state_after (after_bad_boot o) (bad_starts (script (codes "b")))
@@ -157,7 +157,7 @@ after_left o = state_after (serves_up o) left
 abbrev pub left_stops : List TraceEvent
 left_stops =
     Recorded (BootBegun b) ∷ kills (not_asked 0) 0 0 step.Startup ∷ StopsAll ∷ Recorded (Accepted keeps_both) ∷ InboxAsked document
-    ∷ starts (asked 0) 0 0 step.Startup (codes "s") ∷ Asked 0 ∷ begins 0 ∷ begins 0 ∷ []
+    ∷ starts (asked 0) 0 0 step.Startup (codes "s") ∷ ReadClock 0 ∷ begins 0 ∷ begins 0 ∷ []
 
 abbrev pub after_left_stops : Origin → SessionState
 after_left_stops o = state_after (after_left o) left_stops
@@ -169,7 +169,7 @@ abbrev pub after_left_boots : Origin → SessionState
 after_left_boots o = state_after (after_left_stops o) (left_boots (script (codes "b")))
 
 abbrev pub left_fails : List TraceEvent
-left_fails = closes outcomes.RollbackNotRequested ∷ Recorded (BootEnded b bad) ∷ Asked 3 ∷ runs_boot (not_asked 0) (ends bad 1 120000) ∷ []
+left_fails = closes outcomes.RollbackNotRequested ∷ Recorded (BootEnded b bad) ∷ ReadClock 3 ∷ runs_boot (not_asked 0) (ends bad 1 120000) ∷ []
 
 abbrev pub after_left_fails : Origin → SessionState
 after_left_fails o = state_after (after_left_boots o) left_fails
@@ -182,7 +182,7 @@ after_left_changes o = state_after (after_left_fails o) left_changes
 
 abbrev pub left_comes : List TraceEvent
 left_comes =
-    kills (asked 4) 3 1 step.Startup ∷ Moved 0 (event.Stop after.Gone) ∷ StopsAll ∷ Asked 4
+    kills (asked 4) 3 1 step.Startup ∷ Moved 0 (event.Stop after.Gone) ∷ StopsAll ∷ ReadClock 4
     ∷ dies (not_asked 3) 2 0 step.Startup good 1000 ∷ InboxAsked nothing ∷ starts (not_asked 3) 3 1 step.Startup (codes "s")
     ∷ begins 1 ∷ begins 1 ∷ starts (asked 3) 2 0 step.Startup (codes "s") ∷ begins 0 ∷ begins 0 ∷ []
 
@@ -199,11 +199,11 @@ backing o = call_begins (device_of o (item_a ∷ []) (Some (record (pending_in s
     { reach = 1; backs = a ∷ [] })))
 
 abbrev pub back_begun : Origin → SessionState
-back_begun o = state_after (backing o) (Asked 0 ∷ Recorded (BootBegun a) ∷ [])
+back_begun o = state_after (backing o) (ReadClock 0 ∷ Recorded (BootBegun a) ∷ [])
 
 -- the second bootstrap of two
 abbrev pub second : Origin → SessionState
 second o = call_begins (device_of o [] (Some (record (pending_in stages.Booting (plan_of both (a ∷ b ∷ [])) no_failures) { ended = 1 })))
 
 abbrev pub second_begun : Origin → SessionState
-second_begun o = state_after (second o) (Asked 0 ∷ Recorded (BootBegun b) ∷ [])
+second_begun o = state_after (second o) (ReadClock 0 ∷ Recorded (BootBegun b) ∷ [])

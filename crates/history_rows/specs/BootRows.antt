@@ -17,7 +17,7 @@ use Rattle.step_runner.specs.declared.entries.Seen.TheVariants as seen
 use Rattle.device.specs.Devices.{Device}
 use Rattle.device.specs.Lawful.{no_failures, applied}
 use Rattle.device.specs.declared.staged.Stage.TheVariants as stages
-use Rattle.histories.specs.TraceEvents.{TraceEvent, Ran, Booted, WaitElapsed, Recorded, Moved, Asked, Changed}
+use Rattle.histories.specs.TraceEvents.{TraceEvent, Ran, Booted, WaitElapsed, Recorded, Moved, ReadClock, Changed}
 use Rattle.histories.specs.States.{SessionState, state_after}
 use Rattle.history_rows.specs.Rows.{item, runs, starts_up, script, boot_of, boots_up, device_of, pending_in, plan_of, before_change, call_begins, world_of}
 use Rattle.history_rows.specs.Rows.{running_part, asked, not_asked, ends, good, bad, a, b, one, two}
@@ -48,7 +48,7 @@ restart = exits.Code (pos 100)
 abbrev pub boots_by : Command → List ℕ → Exit → List TraceEvent
 boots_by command name e =
     Recorded (BootEnded name e) ∷ Booted (not_asked 0 (ends e 0 120000)) (boot_of command)
-    ∷ Booted (asked 0 (seen.Started 0 command)) (boot_of command) ∷ Asked 0 ∷ Recorded (BootBegun name) ∷ []
+    ∷ Booted (asked 0 (seen.Started 0 command)) (boot_of command) ∷ ReadClock 0 ∷ Recorded (BootBegun name) ∷ []
 
 abbrev pub boots : List ℕ → Exit → List TraceEvent
 boots name e = boots_by (script (codes "b")) name e
@@ -60,12 +60,12 @@ starts_boot is_modelled n command = Booted (is_modelled (seen.Started n command)
 -- it takes too long
 abbrev pub boots_long : Command → List TraceEvent
 boots_long command =
-    Recorded (BootEnded a exits.TimedOut) ∷ Booted (asked 120000 (seen.Killed 0)) (boot_of command) ∷ Asked 120000 ∷
+    Recorded (BootEnded a exits.TimedOut) ∷ Booted (asked 120000 (seen.Killed 0)) (boot_of command) ∷ ReadClock 120000 ∷
     WaitElapsed (not_asked 0 (seen.Elapsed 120000))
-    ∷ Booted (asked 0 (seen.Started 0 command)) (boot_of command) ∷ Asked 0 ∷ Recorded (BootBegun a) ∷ []
+    ∷ Booted (asked 0 (seen.Started 0 command)) (boot_of command) ∷ ReadClock 0 ∷ Recorded (BootBegun a) ∷ []
 
 abbrev pub boot_lives : Origin → SessionState
-boot_lives o = state_after (first_boot o) (Booted (asked 0 (seen.Started 0 (script (codes "b")))) boots_up ∷ Asked 0 ∷ Recorded (BootBegun a) ∷ [])
+boot_lives o = state_after (first_boot o) (Booted (asked 0 (seen.Started 0 (script (codes "b")))) boots_up ∷ ReadClock 0 ∷ Recorded (BootBegun a) ∷ [])
 
 -- it ended, and that is not recorded
 abbrev pub boot_over : Origin → SessionState
@@ -101,14 +101,14 @@ failed_before o = call_begins (failed_device o)
 abbrev pub boots_again : Command → List TraceEvent
 boots_again command =
     Recorded (BootEnded a good) ∷ Booted (not_asked 0 (ends good 0 120000)) (boot_of command)
-    ∷ Booted (asked 0 (seen.Started 0 command)) (boot_of command) ∷ Asked 0 ∷ []
+    ∷ Booted (asked 0 (seen.Started 0 command)) (boot_of command) ∷ ReadClock 0 ∷ []
 
 -- a bootstrap with a probe for this word
 abbrev pub boots_or_skips : List ℕ → Command → Prepared
 boots_or_skips word command = record (boot_of command) { skip = Some (skips.OnPath word) }
 
 abbrev pub boot_skips : List ℕ → Command → List TraceEvent
-boot_skips word command = Booted (asked 0 (seen.OnPath word true)) (boots_or_skips word command) ∷ Asked 0 ∷ Recorded (BootBegun a) ∷ []
+boot_skips word command = Booted (asked 0 (seen.OnPath word true)) (boots_or_skips word command) ∷ ReadClock 0 ∷ Recorded (BootBegun a) ∷ []
 
 abbrev pub boot_skipped : List ℕ → Command → List TraceEvent
 boot_skipped word command = Recorded (BootEnded a good) ∷ boot_skips word command
@@ -116,11 +116,11 @@ boot_skipped word command = Recorded (BootEnded a good) ∷ boot_skips word comm
 abbrev pub boot_probed : List ℕ → Command → List TraceEvent
 boot_probed word command =
     Booted (not_asked 0 (seen.Started 0 command)) (boots_or_skips word command) ∷ Booted (asked 0 (seen.OnPath word false)) (boots_or_skips word command)
-    ∷ Asked 0 ∷ Recorded (BootBegun a) ∷ []
+    ∷ ReadClock 0 ∷ Recorded (BootBegun a) ∷ []
 
 -- a start that is refused
 abbrev pub boot_refused : Command → List TraceEvent
-boot_refused command = Recorded (BootEnded a exits.NotStarted) ∷ Booted (asked 0 (seen.Refused command)) (boot_of command) ∷ Asked 0 ∷
+boot_refused command = Recorded (BootEnded a exits.NotStarted) ∷ Booted (asked 0 (seen.Refused command)) (boot_of command) ∷ ReadClock 0 ∷
     Recorded (BootBegun a) ∷ []
 
 -- ---- the set's bootstraps run again
@@ -174,7 +174,7 @@ old_up = starts_up item_a []
 abbrev pub comes_back : List TraceEvent
 comes_back =
     Recorded (Closed outcomes.RollbackComplete) ∷ Ran (not_asked 0 (ends good 0 120000)) 0 step.Startup
-    ∷ Ran (asked 0 (seen.Started 0 (script (codes "s")))) 0 step.Startup ∷ Moved 0 event.MayBegin ∷ Moved 0 event.MayBegin ∷ Asked 0 ∷ []
+    ∷ Ran (asked 0 (seen.Started 0 (script (codes "s")))) 0 step.Startup ∷ Moved 0 event.MayBegin ∷ Moved 0 event.MayBegin ∷ ReadClock 0 ∷ []
 
 abbrev pub rolls : Origin → SessionState
 rolls o = state_after (rolling_place o) (Changed (old_up ∷ []) no_failures false ∷ [])

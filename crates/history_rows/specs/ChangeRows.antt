@@ -19,7 +19,7 @@ use Rattle.components.specs.Lives.{lived_at}
 use Rattle.components.specs.Changes.{changed_to}
 use Rattle.components.specs.Events.{handed_at}
 use Rattle.components.specs.declared.kinds.Prepared.{Prepared}
-use Rattle.histories.specs.TraceEvents.{TraceEvent, Ran, Moved, Asked, Changed}
+use Rattle.histories.specs.TraceEvents.{TraceEvent, Ran, Moved, ReadClock, Changed}
 use Rattle.histories.specs.Phases.{draining}
 use Rattle.histories.specs.States.{SessionState, state_after}
 use Rattle.history_rows.specs.Rows.{item, made, bare, runs, device_of, pending_in, plan_of, place_at, before_change, world_of, idle_part, running_part}
@@ -62,7 +62,7 @@ shutting o = record (place_at (device_of o [] (Some (pending_in stages.Booting (
     { generation = draining }
 
 abbrev pub shut_down : Origin → SessionState
-shut_down o = state_after (shutting o) (Asked 5 ∷ Ran (asked 0 (ends good 2 15000)) 1 step.Shutdown ∷ [])
+shut_down o = state_after (shutting o) (ReadClock 5 ∷ Ran (asked 0 (ends good 2 15000)) 1 step.Shutdown ∷ [])
 
 -- the child that is left, and only then what it needed
 abbrev pub stops_rest : List TraceEvent

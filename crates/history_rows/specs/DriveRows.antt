@@ -14,7 +14,7 @@ use Rattle.device.specs.declared.staged.Stage.TheVariants as stages
 use Rattle.components.specs.Fitted.{Fitted}
 use Rattle.components.specs.Components.{ComponentState}
 use Rattle.device.specs.Devices.{Device}
-use Rattle.histories.specs.TraceEvents.{TraceEvent, Ran, Recorded, Moved, Asked, Changed, StopsAll}
+use Rattle.histories.specs.TraceEvents.{TraceEvent, Ran, Recorded, Moved, ReadClock, Changed, StopsAll}
 use Rattle.histories.specs.States.{SessionState, state_after}
 use Rattle.history_rows.specs.Rows.{item, starts_up, recovers, script, device_of, pending_in, plan_of, place_at, call_begins, world_of, idle_part}
 use Rattle.history_rows.specs.Rows.{running_part, starting_part, runs, asked, not_asked, ends, good, bad, a, b, one, two}
@@ -56,7 +56,7 @@ records_it = Recorded (StepFailed a step.Startup bad) ∷ []
 abbrev pub recovers_it : List TraceEvent
 recovers_it =
     Ran (not_asked 9 (ends good 8 60000)) 0 step.Recover
-    ∷ Ran (asked 9 (seen.Started 8 (script (codes "v")))) 0 step.Recover ∷ Moved 0 event.Retry ∷ Asked 9 ∷ []
+    ∷ Ran (asked 9 (seen.Started 8 (script (codes "v")))) 0 step.Recover ∷ Moved 0 event.Retry ∷ ReadClock 9 ∷ []
 
 abbrev pub failed_once : Origin → SessionState
 failed_once o = state_after (tried o 0) records_it
@@ -75,7 +75,7 @@ rolling o = state_after (broken o) (rolls_back (old_up ∷ []))
 abbrev pub comes_back : List TraceEvent
 comes_back =
     Recorded (Closed outcomes.RollbackComplete) ∷ Ran (not_asked 9 (ends good 9 120000)) 0 step.Startup
-    ∷ Ran (asked 9 (seen.Started 9 (script (codes "s")))) 0 step.Startup ∷ Moved 0 event.MayBegin ∷ Moved 0 event.MayBegin ∷ Asked 9 ∷ []
+    ∷ Ran (asked 9 (seen.Started 9 (script (codes "s")))) 0 step.Startup ∷ Moved 0 event.MayBegin ∷ Moved 0 event.MayBegin ∷ ReadClock 9 ∷ []
 
 abbrev pub is_back : Origin → SessionState
 is_back o = state_after (rolling o) comes_back

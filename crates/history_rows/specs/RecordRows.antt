@@ -11,7 +11,7 @@ use Rattle.records.specs.declared.record.Origin.{Origin}
 use Rattle.device.specs.Lawful.{no_failures}
 use Rattle.device.specs.declared.staged.Stage.TheVariants as stages
 use Rattle.components.specs.Fitted.{Fitted}
-use Rattle.histories.specs.TraceEvents.{TraceEvent, Recorded, Moved, Asked, Heard, InboxAsked, Changed, StopsAll, document, nothing}
+use Rattle.histories.specs.TraceEvents.{TraceEvent, Recorded, Moved, ReadClock, Heard, InboxAsked, Changed, StopsAll, document, nothing}
 use Rattle.histories.specs.States.{SessionState, state_after}
 use Rattle.history_rows.specs.Rows.{item, runs, starts_up, device_of, pending_in, plan_of, call_begins, serve_begins, asked, not_asked, good, bad, a, b, one}
 use Rattle.history_rows.specs.Words.{begins, starts, refuses, dies, kills, passes, gives_up, closes, fails, counts_of}
@@ -54,7 +54,7 @@ after_again o = state_after (after_again_taken o) again
 
 abbrev pub again_fails : List TraceEvent
 again_fails =
-    Asked 2 ∷ dies (not_asked 0) 0 0 step.Startup bad 120000 ∷ starts (asked 0) 0 0 step.Startup (codes "s") ∷ Asked 0 ∷ begins 0
+    ReadClock 2 ∷ dies (not_asked 0) 0 0 step.Startup bad 120000 ∷ starts (asked 0) 0 0 step.Startup (codes "s") ∷ ReadClock 0 ∷ begins 0
     ∷ begins 0 ∷ []
 
 abbrev pub after_again_fails : Origin → SessionState
@@ -91,13 +91,13 @@ after_giving o = state_after (after_giving_taken o) giving
 abbrev pub giving_fails : List TraceEvent
 giving_fails =
     dies (not_asked 0) 0 0 step.Startup bad 120000 ∷ starts (not_asked 0) 1 1 step.Startup (codes "s") ∷ begins 1 ∷ begins 1
-    ∷ starts (asked 0) 0 0 step.Startup (codes "s") ∷ Asked 0 ∷ begins 0 ∷ begins 0 ∷ []
+    ∷ starts (asked 0) 0 0 step.Startup (codes "s") ∷ ReadClock 0 ∷ begins 0 ∷ begins 0 ∷ []
 
 abbrev pub after_giving_fails : Origin → SessionState
 after_giving_fails o = state_after (after_giving o) giving_fails
 
 abbrev pub giving_cuts : List TraceEvent
-giving_cuts = gives_up (asked 2) 1 ∷ Asked 2 ∷ []
+giving_cuts = gives_up (asked 2) 1 ∷ ReadClock 2 ∷ []
 
 abbrev pub after_giving_cuts : Origin → SessionState
 after_giving_cuts o = state_after (after_giving_fails o) giving_cuts
@@ -116,8 +116,8 @@ after_late o = state_after (resumes o) late
 
 abbrev pub late_starts : List TraceEvent
 late_starts =
-    Asked 120000 ∷ passes (not_asked 0) 120000 ∷ starts (not_asked 0) 1 1 step.Startup (codes "s") ∷ begins 1 ∷ begins 1
-    ∷ starts (asked 0) 0 0 step.Startup (codes "s") ∷ Asked 0 ∷ begins 0 ∷ begins 0 ∷ []
+    ReadClock 120000 ∷ passes (not_asked 0) 120000 ∷ starts (not_asked 0) 1 1 step.Startup (codes "s") ∷ begins 1 ∷ begins 1
+    ∷ starts (asked 0) 0 0 step.Startup (codes "s") ∷ ReadClock 0 ∷ begins 0 ∷ begins 0 ∷ []
 
 abbrev pub after_late_starts : Origin → SessionState
 after_late_starts o = state_after (after_late o) late_starts
@@ -154,7 +154,7 @@ after_later_changes o = state_after (after_later o) later_changes
 abbrev pub later_refused : List TraceEvent
 later_refused =
     fails a step.Run exits.NotStarted ∷ refuses (not_asked 0) 0 step.Run (codes "r") ∷ begins 0 ∷ Moved 0 event.Retry
-    ∷ fails a step.Run exits.NotStarted ∷ refuses (asked 0) 0 step.Run (codes "r") ∷ Asked 0 ∷ begins 0 ∷ begins 0 ∷ []
+    ∷ fails a step.Run exits.NotStarted ∷ refuses (asked 0) 0 step.Run (codes "r") ∷ ReadClock 0 ∷ begins 0 ∷ begins 0 ∷ []
 
 abbrev pub after_later_refused : Origin → SessionState
 after_later_refused o = state_after (after_later_changes o) later_refused
@@ -166,14 +166,14 @@ abbrev pub after_later_runs : Origin → SessionState
 after_later_runs o = state_after (after_later_refused o) later_runs
 
 abbrev pub later_fails : List TraceEvent
-later_fails = Heard 0 ∷ Asked 7 ∷ dies (not_asked 0) 0 0 step.Run bad 1000 ∷ InboxAsked nothing ∷ []
+later_fails = Heard 0 ∷ ReadClock 7 ∷ dies (not_asked 0) 0 0 step.Run bad 1000 ∷ InboxAsked nothing ∷ []
 
 abbrev pub after_later_fails : Origin → SessionState
 after_later_fails o = state_after (after_later_runs o) later_fails
 
 abbrev pub later_again : List TraceEvent
 later_again =
-    kills (asked 1007) 1 0 step.Run ∷ StopsAll ∷ Asked 1007 ∷ passes (not_asked 7) 1000 ∷ InboxAsked nothing
+    kills (asked 1007) 1 0 step.Run ∷ StopsAll ∷ ReadClock 1007 ∷ passes (not_asked 7) 1000 ∷ InboxAsked nothing
     ∷ starts (asked 7) 1 0 step.Run (codes "r") ∷ begins 0 ∷ Moved 0 event.Retry ∷ []
 
 abbrev pub after_later_again : Origin → SessionState

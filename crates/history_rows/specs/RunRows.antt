@@ -13,7 +13,7 @@ use Rattle.step_runner.specs.declared.entries.Seen.TheVariants as seen
 use Rattle.device.specs.Lawful.{no_failures}
 use Rattle.device.specs.declared.staged.Stage.TheVariants as stages
 use Rattle.components.specs.Fitted.{Fitted}
-use Rattle.histories.specs.TraceEvents.{TraceEvent, Ran, WaitElapsed, Recorded, Moved, Asked, Changed, StopsAll}
+use Rattle.histories.specs.TraceEvents.{TraceEvent, Ran, WaitElapsed, Recorded, Moved, ReadClock, Changed, StopsAll}
 use Rattle.histories.specs.States.{SessionState, state_after}
 use Rattle.history_rows.specs.Rows.{item, made, bare, idle_part, runs, starts_up, skipping, script, device_of, pending_in, plan_of, place_at, call_begins}
 use Rattle.history_rows.specs.Rows.{world_of, starting_part, asked, not_asked, ends, good, a, one}
@@ -39,7 +39,7 @@ abbrev pub hello_begins : List TraceEvent
 hello_begins = hello_moves ++ activates (hello_up ∷ [])
 
 abbrev pub hello_starts : List TraceEvent
-hello_starts = Ran (asked 0 (seen.Started 0 (script (codes "r")))) 0 step.Run ∷ Asked 0 ∷ []
+hello_starts = Ran (asked 0 (seen.Started 0 (script (codes "r")))) 0 step.Run ∷ ReadClock 0 ∷ []
 
 abbrev pub hello_ends : List TraceEvent
 hello_ends = Ran (not_asked 0 (seen.Killed 0)) 0 step.Run ∷ StopsAll ∷ Recorded (Closed outcomes.Successful) ∷ []
@@ -62,11 +62,11 @@ abbrev pub skip_begun : Origin → SessionState
 skip_begun o = state_after (hello_accepted o) (Moved 0 event.MayBegin ∷ activates (skip_up ∷ []))
 
 abbrev pub skips_it : List TraceEvent
-skips_it = Recorded (Closed outcomes.Successful) ∷ Moved 0 event.MayBegin ∷ Ran (asked 0 (seen.Exists (codes "/opt/x") true)) 0 step.Install ∷ Asked 0 ∷ []
+skips_it = Recorded (Closed outcomes.Successful) ∷ Moved 0 event.MayBegin ∷ Ran (asked 0 (seen.Exists (codes "/opt/x") true)) 0 step.Install ∷ ReadClock 0 ∷ []
 
 abbrev pub installs_it : List TraceEvent
 installs_it = Ran (not_asked 0 (seen.Started 0 (script (codes "i")))) 0 step.Install ∷ Ran (asked 0 (seen.Exists (codes "/opt/x") false)) 0 step.Install ∷
-    Asked 0 ∷ []
+    ReadClock 0 ∷ []
 
 -- ---- the limit of a startup
 
@@ -81,17 +81,17 @@ abbrev pub in_time : List TraceEvent
 in_time = Recorded (Closed outcomes.Successful) ∷ Ran (asked 0 (ends good 0 120000)) 0 step.Startup ∷ []
 
 abbrev pub timed_out : List TraceEvent
-timed_out = Ran (asked 120000 (seen.Killed 0)) 0 step.Startup ∷ Asked 120000 ∷ WaitElapsed (asked 0 (seen.Elapsed 120000)) ∷ []
+timed_out = Ran (asked 120000 (seen.Killed 0)) 0 step.Startup ∷ ReadClock 120000 ∷ WaitElapsed (asked 0 (seen.Elapsed 120000)) ∷ []
 
 abbrev pub too_late : List TraceEvent
 too_late = Recorded (StepFailed a step.Startup exits.TimedOut) ∷ timed_out
 
 -- the probe answers no, or yes
 abbrev pub probed_no : List TraceEvent
-probed_no = Ran (asked 0 (seen.Exists (codes "/opt/x") false)) 0 step.Install ∷ Asked 0 ∷ []
+probed_no = Ran (asked 0 (seen.Exists (codes "/opt/x") false)) 0 step.Install ∷ ReadClock 0 ∷ []
 
 abbrev pub probed_yes : List TraceEvent
-probed_yes = Ran (asked 0 (seen.Exists (codes "/opt/x") true)) 0 step.Install ∷ Asked 0 ∷ []
+probed_yes = Ran (asked 0 (seen.Exists (codes "/opt/x") true)) 0 step.Install ∷ ReadClock 0 ∷ []
 
 -- ---- a runner that refuses every start
 

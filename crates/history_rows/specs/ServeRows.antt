@@ -12,7 +12,7 @@ use Rattle.device.specs.Lawful.{no_failures}
 use Rattle.device.specs.declared.staged.Stage.TheVariants as stages
 use Rattle.components.specs.Fitted.{Fitted}
 use Rattle.components.specs.Components.{Components, ComponentState}
-use Rattle.histories.specs.TraceEvents.{TraceEvent, Ran, WaitElapsed, Recorded, Moved, Asked, InboxAsked, Changed, StopsAll, document, nothing, closed}
+use Rattle.histories.specs.TraceEvents.{TraceEvent, Ran, WaitElapsed, Recorded, Moved, ReadClock, InboxAsked, Changed, StopsAll, document, nothing, closed}
 use Rattle.histories.specs.States.{SessionState, state_after}
 use Rattle.history_rows.specs.Rows.{item, set_up, runs, starts_up, script, device_of, pending_in, plan_of, place_at, call_begins, serve_begins, world_of}
 use Rattle.history_rows.specs.Rows.{idle_part, starting_part, owing_part, asked, not_asked, a, b, c, one}
@@ -63,7 +63,7 @@ abbrev pub begin_run : ℕ → ℕ → List TraceEvent
 begin_run n k = start_run n k ++ (Moved k event.MayBegin ∷ [])
 
 abbrev pub first_run : List TraceEvent
-first_run = Ran (asked 0 (seen.Started 0 (script (codes "r")))) 0 step.Run ∷ Moved 0 event.MayBegin ∷ Moved 0 event.MayBegin ∷ Asked 0 ∷ []
+first_run = Ran (asked 0 (seen.Started 0 (script (codes "r")))) 0 step.Run ∷ Moved 0 event.MayBegin ∷ Moved 0 event.MayBegin ∷ ReadClock 0 ∷ []
 
 abbrev pub set_opened : Origin → SessionState
 set_opened o = state_after (serve_three o) (brings_up old_fitted)
@@ -120,14 +120,14 @@ abbrev pub serve_none : ℕ → Origin → SessionState
 serve_none turns o = serve_begins turns (device_of o [] None)
 
 abbrev pub none_opened : ℕ → Origin → SessionState
-none_opened turns o = state_after (serve_none turns o) (Asked 0 ∷ Changed [] no_failures true ∷ [])
+none_opened turns o = state_after (serve_none turns o) (ReadClock 0 ∷ Changed [] no_failures true ∷ [])
 
 -- one turn
 abbrev pub turn_passes : List TraceEvent
-turn_passes = Asked 1000 ∷ WaitElapsed (asked 0 (seen.Elapsed 1000)) ∷ InboxAsked nothing ∷ []
+turn_passes = ReadClock 1000 ∷ WaitElapsed (asked 0 (seen.Elapsed 1000)) ∷ InboxAsked nothing ∷ []
 
 abbrev pub turn_more : List TraceEvent
-turn_more = Asked 2000 ∷ WaitElapsed (asked 1000 (seen.Elapsed 1000)) ∷ InboxAsked nothing ∷ []
+turn_more = ReadClock 2000 ∷ WaitElapsed (asked 1000 (seen.Elapsed 1000)) ∷ InboxAsked nothing ∷ []
 
 abbrev pub one_turn : Origin → SessionState
 one_turn o = state_after (none_opened 2 o) turn_passes

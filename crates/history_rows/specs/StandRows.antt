@@ -12,7 +12,7 @@ use Rattle.recipe_reader.specs.declared.recipe.Skip.TheVariants as skips
 use Rattle.step_runner.specs.declared.entries.Seen.TheVariants as seen
 use Rattle.device.specs.Lawful.{no_failures}
 use Rattle.components.specs.Fitted.{Fitted}
-use Rattle.histories.specs.TraceEvents.{TraceEvent, Ran, Recorded, Moved, Asked, Heard, InboxAsked, Changed, StopsAll, document, nothing}
+use Rattle.histories.specs.TraceEvents.{TraceEvent, Ran, Recorded, Moved, ReadClock, Heard, InboxAsked, Changed, StopsAll, document, nothing}
 use Rattle.histories.specs.States.{SessionState, state_after}
 use Rattle.history_rows.specs.Rows.{item, set_up, made, bare, runs, starts_up, device_of, plan_of, call_begins, serve_begins, asked, not_asked, good, bad, a}
 use Rattle.history_rows.specs.Rows.{b, one, two}
@@ -50,8 +50,8 @@ after_older o = state_after (serves_older o) older
 
 abbrev pub older_starts : List TraceEvent
 older_starts =
-    Asked 3 ∷ dies (not_asked 0) 0 0 step.Startup good 1000 ∷ InboxAsked nothing ∷ starts (asked 0) 0 0 step.Startup (codes "s")
-    ∷ Asked 0 ∷ begins 0 ∷ begins 0 ∷ []
+    ReadClock 3 ∷ dies (not_asked 0) 0 0 step.Startup good 1000 ∷ InboxAsked nothing ∷ starts (asked 0) 0 0 step.Startup (codes "s")
+    ∷ ReadClock 0 ∷ begins 0 ∷ begins 0 ∷ []
 
 abbrev pub after_older_starts : Origin → SessionState
 after_older_starts o = state_after (after_older o) older_starts
@@ -70,7 +70,7 @@ after_newer o = state_after (after_newer_taken o) newer
 
 abbrev pub newer_stops : List TraceEvent
 newer_stops =
-    Asked 9 ∷ dies (not_asked 3) 1 0 step.Shutdown good 15000 ∷ starts (asked 3) 1 0 step.Shutdown (codes "q")
+    ReadClock 9 ∷ dies (not_asked 3) 1 0 step.Shutdown good 15000 ∷ starts (asked 3) 1 0 step.Shutdown (codes "q")
     ∷ Moved 0 (event.Stop after.Again) ∷ []
 
 abbrev pub after_newer_stops : Origin → SessionState
@@ -78,7 +78,7 @@ after_newer_stops o = state_after (after_newer o) newer_stops
 
 abbrev pub newer_comes : List TraceEvent
 newer_comes =
-    closes outcomes.Successful ∷ Asked 12 ∷ dies (not_asked 9) 2 0 step.Startup good 120000
+    closes outcomes.Successful ∷ ReadClock 12 ∷ dies (not_asked 9) 2 0 step.Startup good 120000
     ∷ starts (asked 9) 2 0 step.Startup (codes "t") ∷ begins 0 ∷ begins 0 ∷ []
 
 abbrev pub after_newer_comes : Origin → SessionState
@@ -109,7 +109,7 @@ after_steady o = state_after (serves_hard o) steady
 abbrev pub steady_first : List TraceEvent
 steady_first =
     starts (not_asked 0) 1 0 step.Startup (codes "s") ∷ begins 0 ∷ Moved 0 event.Retry ∷ Heard 0
-    ∷ refuses (not_asked 0) 0 step.Startup (codes "s") ∷ begins 0 ∷ begins 0 ∷ starts (asked 0) 0 1 step.Run (codes "r") ∷ Asked 0
+    ∷ refuses (not_asked 0) 0 step.Startup (codes "s") ∷ begins 0 ∷ begins 0 ∷ starts (asked 0) 0 1 step.Run (codes "r") ∷ ReadClock 0
     ∷ begins 1 ∷ begins 1 ∷ []
 
 abbrev pub after_steady_first : Origin → SessionState
@@ -117,7 +117,7 @@ after_steady_first o = state_after (after_steady o) steady_first
 
 abbrev pub steady_fails : List TraceEvent
 steady_fails =
-    Heard 1 ∷ Asked 9 ∷ dies (asked 4) 0 1 step.Run bad 1000 ∷ InboxAsked nothing ∷ Asked 4
+    Heard 1 ∷ ReadClock 9 ∷ dies (asked 4) 0 1 step.Run bad 1000 ∷ InboxAsked nothing ∷ ReadClock 4
     ∷ dies (not_asked 0) 1 0 step.Startup good 1000 ∷ InboxAsked nothing ∷ []
 
 abbrev pub after_steady_fails : Origin → SessionState
@@ -134,7 +134,7 @@ after_steady_again o = state_after (after_steady_fails o) steady_again
 
 abbrev pub steady_third : List TraceEvent
 steady_third =
-    Asked 12 ∷ dies (not_asked 9) 3 0 step.Startup good 1000 ∷ InboxAsked nothing ∷ starts (not_asked 9) 3 0 step.Startup (codes "s")
+    ReadClock 12 ∷ dies (not_asked 9) 3 0 step.Startup good 1000 ∷ InboxAsked nothing ∷ starts (not_asked 9) 3 0 step.Startup (codes "s")
     ∷ begins 0 ∷ Moved 0 event.Retry ∷ []
 
 abbrev pub after_steady_third : Origin → SessionState
@@ -164,7 +164,7 @@ abbrev pub after_probes : Origin → SessionState
 after_probes o = state_after (after_probes_taken o) probes
 
 abbrev pub probes_begins : List TraceEvent
-probes_begins = Asked 0 ∷ begins 0 ∷ begins 0 ∷ []
+probes_begins = ReadClock 0 ∷ begins 0 ∷ begins 0 ∷ []
 
 abbrev pub after_probes_begins : Origin → SessionState
 after_probes_begins o = state_after (after_probes o) probes_begins
@@ -209,7 +209,7 @@ after_installs o = state_after (after_installs_taken o) installs
 abbrev pub installs_comes : List TraceEvent
 installs_comes =
     closes outcomes.Successful ∷ dies (not_asked 3) 1 0 step.Startup good 120000 ∷ starts (asked 3) 1 0 step.Startup (codes "s")
-    ∷ begins 0 ∷ Asked 3 ∷ dies (not_asked 0) 0 0 step.Install good 120000 ∷ starts (asked 0) 0 0 step.Install (codes "i") ∷ Asked 0
+    ∷ begins 0 ∷ ReadClock 3 ∷ dies (not_asked 0) 0 0 step.Install good 120000 ∷ starts (asked 0) 0 0 step.Install (codes "i") ∷ ReadClock 0
     ∷ begins 0 ∷ []
 
 abbrev pub after_installs_comes : Origin → SessionState
@@ -232,7 +232,7 @@ after_soft o = state_after (serves_soft o) soft
 abbrev pub soft_fails : List TraceEvent
 soft_fails =
     Heard 1 ∷ refuses (not_asked 0) 1 step.Startup (codes "s") ∷ begins 1 ∷ Moved 1 event.Retry ∷ Heard 1
-    ∷ refuses (asked 0) 1 step.Startup (codes "s") ∷ Asked 0 ∷ begins 1 ∷ begins 1 ∷ []
+    ∷ refuses (asked 0) 1 step.Startup (codes "s") ∷ ReadClock 0 ∷ begins 1 ∷ begins 1 ∷ []
 
 abbrev pub after_soft_fails : Origin → SessionState
 after_soft_fails o = state_after (after_soft o) soft_fails
@@ -285,8 +285,8 @@ after_text o = state_after (serves_texts o) text
 
 abbrev pub text_starts : List TraceEvent
 text_starts =
-    Asked 3 ∷ dies (not_asked 0) 0 0 step.Startup good 1000 ∷ InboxAsked nothing ∷ starts (asked 0) 0 0 step.Startup (codes "s")
-    ∷ Asked 0 ∷ begins 0 ∷ begins 0 ∷ begins 1 ∷ begins 1 ∷ []
+    ReadClock 3 ∷ dies (not_asked 0) 0 0 step.Startup good 1000 ∷ InboxAsked nothing ∷ starts (asked 0) 0 0 step.Startup (codes "s")
+    ∷ ReadClock 0 ∷ begins 0 ∷ begins 0 ∷ begins 1 ∷ begins 1 ∷ []
 
 abbrev pub after_text_starts : Origin → SessionState
 after_text_starts o = state_after (after_text o) text_starts
@@ -344,7 +344,7 @@ abbrev pub stays_fails : List TraceEvent
 stays_fails =
     fails a step.Startup exits.NotStarted ∷ refuses (not_asked 0) 0 step.Startup (codes "s") ∷ begins 0 ∷ Moved 0 event.Retry
     ∷ fails a step.Startup exits.NotStarted ∷ refuses (not_asked 0) 0 step.Startup (codes "s") ∷ begins 0 ∷ Moved 0 event.Retry
-    ∷ fails a step.Startup exits.NotStarted ∷ refuses (asked 0) 0 step.Startup (codes "s") ∷ Asked 0 ∷ begins 0 ∷ begins 0 ∷ []
+    ∷ fails a step.Startup exits.NotStarted ∷ refuses (asked 0) 0 step.Startup (codes "s") ∷ ReadClock 0 ∷ begins 0 ∷ begins 0 ∷ []
 
 abbrev pub after_stays_fails : Origin → SessionState
 after_stays_fails o = state_after (after_stays_changes o) stays_fails

@@ -8,7 +8,7 @@ use Rattle.records.specs.Stored.{Item, Accepted, Activating}
 use Rattle.records.specs.declared.record.Origin.{Origin}
 use Rattle.device.specs.Lawful.{no_failures}
 use Rattle.components.specs.Fitted.{Fitted}
-use Rattle.histories.specs.TraceEvents.{TraceEvent, Recorded, Moved, Asked, InboxAsked, Changed, StopsAll, document, nothing}
+use Rattle.histories.specs.TraceEvents.{TraceEvent, Recorded, Moved, ReadClock, InboxAsked, Changed, StopsAll, document, nothing}
 use Rattle.histories.specs.States.{SessionState, state_after}
 use Rattle.history_rows.specs.Rows.{item, made, bare, runs, starts_up, device_of, plan_of, call_begins, serve_begins, asked, not_asked, good, bad, a, b, one}
 use Rattle.history_rows.specs.Rows.{two}
@@ -48,15 +48,15 @@ abbrev pub after_chain : Origin → SessionState
 after_chain o = state_after (after_chain_taken o) chain
 
 abbrev pub chain_first : List TraceEvent
-chain_first = starts (asked 0) 0 1 step.Startup (codes "s") ∷ Asked 0 ∷ begins 1 ∷ begins 1 ∷ []
+chain_first = starts (asked 0) 0 1 step.Startup (codes "s") ∷ ReadClock 0 ∷ begins 1 ∷ begins 1 ∷ []
 
 abbrev pub after_chain_first : Origin → SessionState
 after_chain_first o = state_after (after_chain o) chain_first
 
 abbrev pub chain_second : List TraceEvent
 chain_second =
-    closes outcomes.Successful ∷ Asked 2 ∷ dies (not_asked 1) 1 0 step.Startup good 120000
-    ∷ starts (asked 1) 1 0 step.Startup (codes "s") ∷ begins 0 ∷ begins 0 ∷ Asked 1 ∷ dies (not_asked 0) 0 1 step.Startup good 120000
+    closes outcomes.Successful ∷ ReadClock 2 ∷ dies (not_asked 1) 1 0 step.Startup good 120000
+    ∷ starts (asked 1) 1 0 step.Startup (codes "s") ∷ begins 0 ∷ begins 0 ∷ ReadClock 1 ∷ dies (not_asked 0) 0 1 step.Startup good 120000
     ∷ []
 
 abbrev pub after_chain_second : Origin → SessionState
@@ -65,7 +65,7 @@ after_chain_second o = state_after (after_chain_first o) chain_second
 abbrev pub chain_stops : List TraceEvent
 chain_stops =
     dies (not_asked 3) 3 1 step.Shutdown good 15000 ∷ starts (asked 3) 3 1 step.Shutdown (codes "q") ∷ Moved 1 (event.Stop after.Gone)
-    ∷ Asked 3 ∷ dies (not_asked 2) 2 0 step.Shutdown good 15000 ∷ starts (asked 2) 2 0 step.Shutdown (codes "q")
+    ∷ ReadClock 3 ∷ dies (not_asked 2) 2 0 step.Shutdown good 15000 ∷ starts (asked 2) 2 0 step.Shutdown (codes "q")
     ∷ Moved 0 (event.Stop after.Gone) ∷ StopsAll ∷ []
 
 abbrev pub after_chain_stops : Origin → SessionState
@@ -93,21 +93,21 @@ after_hard o = state_after (after_hard_taken o) hard
 
 abbrev pub hard_starts : List TraceEvent
 hard_starts =
-    starts (not_asked 0) 1 0 step.Startup (codes "s") ∷ begins 0 ∷ begins 0 ∷ starts (asked 0) 0 1 step.Run (codes "r") ∷ Asked 0
+    starts (not_asked 0) 1 0 step.Startup (codes "s") ∷ begins 0 ∷ begins 0 ∷ starts (asked 0) 0 1 step.Run (codes "r") ∷ ReadClock 0
     ∷ begins 1 ∷ begins 1 ∷ []
 
 abbrev pub after_hard_starts : Origin → SessionState
 after_hard_starts o = state_after (after_hard o) hard_starts
 
 abbrev pub hard_fails : List TraceEvent
-hard_fails = fails b step.Run bad ∷ Asked 4 ∷ dies (not_asked 0) 0 1 step.Run bad 120000 ∷ []
+hard_fails = fails b step.Run bad ∷ ReadClock 4 ∷ dies (not_asked 0) 0 1 step.Run bad 120000 ∷ []
 
 abbrev pub after_hard_fails : Origin → SessionState
 after_hard_fails o = state_after (after_hard_starts o) hard_fails
 
 abbrev pub hard_restarts : List TraceEvent
 hard_restarts =
-    closes outcomes.Successful ∷ Asked 6 ∷ dies (not_asked 4) 3 0 step.Startup good 120000
+    closes outcomes.Successful ∷ ReadClock 6 ∷ dies (not_asked 4) 3 0 step.Startup good 120000
     ∷ starts (not_asked 4) 3 0 step.Startup (codes "s") ∷ begins 0 ∷ starts (not_asked 4) 2 1 step.Run (codes "r") ∷ begins 1
     ∷ Moved 1 event.Retry ∷ kills (asked 4) 1 0 step.Startup ∷ []
 
@@ -134,14 +134,14 @@ after_soft o = state_after (after_soft_taken o) soft
 
 abbrev pub soft_starts : List TraceEvent
 soft_starts =
-    starts (not_asked 0) 1 0 step.Startup (codes "s") ∷ begins 0 ∷ begins 0 ∷ starts (asked 0) 0 1 step.Run (codes "r") ∷ Asked 0
+    starts (not_asked 0) 1 0 step.Startup (codes "s") ∷ begins 0 ∷ begins 0 ∷ starts (asked 0) 0 1 step.Run (codes "r") ∷ ReadClock 0
     ∷ begins 1 ∷ begins 1 ∷ []
 
 abbrev pub after_soft_starts : Origin → SessionState
 after_soft_starts o = state_after (after_soft o) soft_starts
 
 abbrev pub soft_fails : List TraceEvent
-soft_fails = fails b step.Run bad ∷ Asked 4 ∷ dies (not_asked 0) 0 1 step.Run bad 120000 ∷ []
+soft_fails = fails b step.Run bad ∷ ReadClock 4 ∷ dies (not_asked 0) 0 1 step.Run bad 120000 ∷ []
 
 abbrev pub after_soft_fails : Origin → SessionState
 after_soft_fails o = state_after (after_soft_starts o) soft_fails
@@ -159,8 +159,8 @@ after_away o = state_after (serves_a o) away
 
 abbrev pub away_starts : List TraceEvent
 away_starts =
-    Asked 1 ∷ dies (not_asked 0) 0 0 step.Startup good 1000 ∷ InboxAsked nothing ∷ starts (asked 0) 0 0 step.Startup (codes "s")
-    ∷ Asked 0 ∷ begins 0 ∷ begins 0 ∷ []
+    ReadClock 1 ∷ dies (not_asked 0) 0 0 step.Startup good 1000 ∷ InboxAsked nothing ∷ starts (asked 0) 0 0 step.Startup (codes "s")
+    ∷ ReadClock 0 ∷ begins 0 ∷ begins 0 ∷ []
 
 abbrev pub after_away_starts : Origin → SessionState
 after_away_starts o = state_after (after_away o) away_starts
@@ -179,7 +179,7 @@ after_away_takes o = state_after (after_away_takes_taken o) away_takes
 
 abbrev pub away_stops : List TraceEvent
 away_stops =
-    Asked 2 ∷ dies (not_asked 1) 2 1 step.Startup good 15000 ∷ starts (not_asked 1) 2 1 step.Startup (codes "s") ∷ begins 1 ∷ begins 1
+    ReadClock 2 ∷ dies (not_asked 1) 2 1 step.Startup good 15000 ∷ starts (not_asked 1) 2 1 step.Startup (codes "s") ∷ begins 1 ∷ begins 1
     ∷ starts (asked 1) 1 0 step.Shutdown (codes "q") ∷ Moved 0 (event.Stop after.Gone) ∷ []
 
 abbrev pub after_away_stops : Origin → SessionState
@@ -216,8 +216,8 @@ after_dying o = state_after (serves_two o) dying
 
 abbrev pub dying_starts : List TraceEvent
 dying_starts =
-    Asked 3 ∷ dies (not_asked 0) 1 0 step.Startup good 1000 ∷ InboxAsked nothing ∷ starts (not_asked 0) 1 0 step.Startup (codes "s")
-    ∷ begins 0 ∷ begins 0 ∷ starts (asked 0) 0 1 step.Run (codes "r") ∷ Asked 0 ∷ begins 1 ∷ begins 1 ∷ []
+    ReadClock 3 ∷ dies (not_asked 0) 1 0 step.Startup good 1000 ∷ InboxAsked nothing ∷ starts (not_asked 0) 1 0 step.Startup (codes "s")
+    ∷ begins 0 ∷ begins 0 ∷ starts (asked 0) 0 1 step.Run (codes "r") ∷ ReadClock 0 ∷ begins 1 ∷ begins 1 ∷ []
 
 abbrev pub after_dying_starts : Origin → SessionState
 after_dying_starts o = state_after (after_dying o) dying_starts
@@ -236,21 +236,21 @@ after_dying_takes o = state_after (after_dying_takes_taken o) dying_takes
 
 abbrev pub dying_ends : List TraceEvent
 dying_ends =
-    Asked 4 ∷ dies (not_asked 3) 0 1 step.Run bad 15000 ∷ starts (asked 3) 2 0 step.Shutdown (codes "q")
+    ReadClock 4 ∷ dies (not_asked 3) 0 1 step.Run bad 15000 ∷ starts (asked 3) 2 0 step.Shutdown (codes "q")
     ∷ Moved 0 (event.Stop after.Restart) ∷ []
 
 abbrev pub after_dying_ends : Origin → SessionState
 after_dying_ends o = state_after (after_dying_takes o) dying_ends
 
 abbrev pub dying_stops : List TraceEvent
-dying_stops = Moved 1 (event.Stop after.Again) ∷ Asked 5 ∷ dies (asked 4) 2 0 step.Shutdown good 14999 ∷ []
+dying_stops = Moved 1 (event.Stop after.Again) ∷ ReadClock 5 ∷ dies (asked 4) 2 0 step.Shutdown good 14999 ∷ []
 
 abbrev pub after_dying_stops : Origin → SessionState
 after_dying_stops o = state_after (after_dying_ends o) dying_stops
 
 abbrev pub dying_comes : List TraceEvent
 dying_comes =
-    closes outcomes.Successful ∷ Asked 6 ∷ dies (not_asked 5) 4 0 step.Startup good 120000
+    closes outcomes.Successful ∷ ReadClock 6 ∷ dies (not_asked 5) 4 0 step.Startup good 120000
     ∷ starts (not_asked 5) 4 0 step.Startup (codes "s") ∷ begins 0 ∷ starts (asked 5) 3 1 step.Run (codes "n") ∷ begins 1 ∷ begins 1
     ∷ []
 
@@ -259,7 +259,7 @@ after_dying_comes o = state_after (after_dying_stops o) dying_comes
 
 abbrev pub dying_shuts : List TraceEvent
 dying_shuts =
-    kills (asked 7) 3 1 step.Run ∷ Asked 7 ∷ dies (not_asked 6) 5 0 step.Shutdown good 15000
+    kills (asked 7) 3 1 step.Run ∷ ReadClock 7 ∷ dies (not_asked 6) 5 0 step.Shutdown good 15000
     ∷ starts (asked 6) 5 0 step.Shutdown (codes "q") ∷ Moved 0 (event.Stop after.Gone) ∷ StopsAll ∷ []
 
 abbrev pub after_dying_shuts : Origin → SessionState
@@ -280,7 +280,7 @@ abbrev pub after_new : Origin → SessionState
 after_new o = state_after (serves_b o) new
 
 abbrev pub new_starts : List TraceEvent
-new_starts = starts (asked 0) 0 0 step.Run (codes "r") ∷ Asked 0 ∷ begins 0 ∷ begins 0 ∷ []
+new_starts = starts (asked 0) 0 0 step.Run (codes "r") ∷ ReadClock 0 ∷ begins 0 ∷ begins 0 ∷ []
 
 abbrev pub after_new_starts : Origin → SessionState
 after_new_starts o = state_after (after_new o) new_starts
@@ -299,7 +299,7 @@ after_new_takes o = state_after (after_new_takes_taken o) new_takes
 
 abbrev pub new_comes : List TraceEvent
 new_comes =
-    closes outcomes.Successful ∷ Asked 5 ∷ dies (not_asked 0) 2 0 step.Startup good 120000
+    closes outcomes.Successful ∷ ReadClock 5 ∷ dies (not_asked 0) 2 0 step.Startup good 120000
     ∷ starts (not_asked 0) 2 0 step.Startup (codes "s") ∷ begins 0 ∷ begins 0 ∷ starts (not_asked 0) 1 1 step.Run (codes "n")
     ∷ begins 1 ∷ begins 1 ∷ kills (not_asked 0) 0 1 step.Run ∷ []
 

@@ -10,7 +10,7 @@ use Rattle.records.specs.declared.record.Origin.{Origin}
 use Rattle.device.specs.Lawful.{no_failures}
 use Rattle.device.specs.declared.staged.Stage.TheVariants as stages
 use Rattle.components.specs.Fitted.{Fitted}
-use Rattle.histories.specs.TraceEvents.{TraceEvent, Recorded, Moved, Asked, InboxAsked, Changed, StopsAll, document, nothing}
+use Rattle.histories.specs.TraceEvents.{TraceEvent, Recorded, Moved, ReadClock, InboxAsked, Changed, StopsAll, document, nothing}
 use Rattle.histories.specs.States.{SessionState, state_after}
 use Rattle.history_rows.specs.Rows.{item, made, bare, runs, starts_up, device_of, pending_in, plan_of, call_begins, serve_begins, asked, not_asked, good, bad}
 use Rattle.history_rows.specs.Rows.{a, b, one}
@@ -53,7 +53,7 @@ abbrev pub after_single : Origin → SessionState
 after_single o = state_after (after_single_taken o) single
 
 abbrev pub single_starts : List TraceEvent
-single_starts = starts (asked 0) 0 0 step.Startup (codes "s") ∷ Asked 0 ∷ begins 0 ∷ begins 0 ∷ []
+single_starts = starts (asked 0) 0 0 step.Startup (codes "s") ∷ ReadClock 0 ∷ begins 0 ∷ begins 0 ∷ []
 
 abbrev pub after_single_starts : Origin → SessionState
 after_single_starts o = state_after (after_single o) single_starts
@@ -61,7 +61,7 @@ after_single_starts o = state_after (after_single o) single_starts
 abbrev pub single_stops : List TraceEvent
 single_stops =
     dies (not_asked 5) 1 0 step.Shutdown good 15000 ∷ starts (asked 5) 1 0 step.Shutdown (codes "q") ∷ Moved 0 (event.Stop after.Gone)
-    ∷ StopsAll ∷ closes outcomes.Successful ∷ Asked 5 ∷ dies (not_asked 0) 0 0 step.Startup good 120000 ∷ []
+    ∷ StopsAll ∷ closes outcomes.Successful ∷ ReadClock 5 ∷ dies (not_asked 0) 0 0 step.Startup good 120000 ∷ []
 
 abbrev pub after_single_stops : Origin → SessionState
 after_single_stops o = state_after (after_single_starts o) single_stops
@@ -82,14 +82,14 @@ after_pair o = state_after (after_pair_taken o) pair
 
 abbrev pub pair_starts : List TraceEvent
 pair_starts =
-    starts (not_asked 0) 1 1 step.Startup (codes "s") ∷ begins 1 ∷ begins 1 ∷ starts (asked 0) 0 0 step.Startup (codes "s") ∷ Asked 0
+    starts (not_asked 0) 1 1 step.Startup (codes "s") ∷ begins 1 ∷ begins 1 ∷ starts (asked 0) 0 0 step.Startup (codes "s") ∷ ReadClock 0
     ∷ begins 0 ∷ begins 0 ∷ []
 
 abbrev pub after_pair_starts : Origin → SessionState
 after_pair_starts o = state_after (after_pair o) pair_starts
 
 abbrev pub pair_ends : List TraceEvent
-pair_ends = closes outcomes.Successful ∷ dies (asked 2) 1 1 step.Startup good 119998 ∷ Asked 2 ∷ dies (not_asked 0) 0 0 step.Startup good 120000 ∷ []
+pair_ends = closes outcomes.Successful ∷ dies (asked 2) 1 1 step.Startup good 119998 ∷ ReadClock 2 ∷ dies (not_asked 0) 0 0 step.Startup good 120000 ∷ []
 
 abbrev pub after_pair_ends : Origin → SessionState
 after_pair_ends o = state_after (after_pair_starts o) pair_ends
@@ -98,7 +98,7 @@ abbrev pub pair_late : List TraceEvent
 pair_late =
     closes outcomes.Successful ∷ dies (not_asked 120000) 2 0 step.Startup good 120000
     ∷ starts (not_asked 120000) 2 0 step.Startup (codes "s") ∷ begins 0 ∷ Moved 0 event.Retry ∷ fails a step.Startup exits.TimedOut
-    ∷ kills (asked 120000) 0 0 step.Startup ∷ Asked 120000 ∷ dies (not_asked 0) 1 1 step.Startup good 120000 ∷ []
+    ∷ kills (asked 120000) 0 0 step.Startup ∷ ReadClock 120000 ∷ dies (not_asked 0) 1 1 step.Startup good 120000 ∷ []
 
 abbrev pub after_pair_late : Origin → SessionState
 after_pair_late o = state_after (after_pair_starts o) pair_late
@@ -117,14 +117,14 @@ after_third o = state_after (resumes o) third
 
 abbrev pub third_starts : List TraceEvent
 third_starts =
-    starts (not_asked 0) 1 1 step.Startup (codes "s") ∷ begins 1 ∷ begins 1 ∷ starts (asked 0) 0 0 step.Startup (codes "s") ∷ Asked 0
+    starts (not_asked 0) 1 1 step.Startup (codes "s") ∷ begins 1 ∷ begins 1 ∷ starts (asked 0) 0 0 step.Startup (codes "s") ∷ ReadClock 0
     ∷ begins 0 ∷ begins 0 ∷ []
 
 abbrev pub after_third_starts : Origin → SessionState
 after_third_starts o = state_after (after_third o) third_starts
 
 abbrev pub third_fails : List TraceEvent
-third_fails = fails a step.Startup bad ∷ Asked 2 ∷ dies (not_asked 0) 0 0 step.Startup bad 120000 ∷ []
+third_fails = fails a step.Startup bad ∷ ReadClock 2 ∷ dies (not_asked 0) 0 0 step.Startup bad 120000 ∷ []
 
 abbrev pub after_third_fails : Origin → SessionState
 after_third_fails o = state_after (after_third_starts o) third_fails
@@ -160,7 +160,7 @@ after_turns o = state_after (serves_pair o) turns
 
 abbrev pub turns_start : List TraceEvent
 turns_start =
-    starts (not_asked 0) 1 1 step.Startup (codes "s") ∷ begins 1 ∷ begins 1 ∷ starts (asked 0) 0 0 step.Startup (codes "s") ∷ Asked 0
+    starts (not_asked 0) 1 1 step.Startup (codes "s") ∷ begins 1 ∷ begins 1 ∷ starts (asked 0) 0 0 step.Startup (codes "s") ∷ ReadClock 0
     ∷ begins 0 ∷ begins 0 ∷ []
 
 abbrev pub after_turns_start : Origin → SessionState
@@ -168,7 +168,7 @@ after_turns_start o = state_after (after_turns o) turns_start
 
 abbrev pub turns_pass : List TraceEvent
 turns_pass =
-    dies (asked 400) 1 1 step.Startup good 600 ∷ InboxAsked nothing ∷ Asked 400 ∷ dies (not_asked 0) 0 0 step.Startup good 1000
+    dies (asked 400) 1 1 step.Startup good 600 ∷ InboxAsked nothing ∷ ReadClock 400 ∷ dies (not_asked 0) 0 0 step.Startup good 1000
     ∷ InboxAsked nothing ∷ []
 
 abbrev pub after_turns_pass : Origin → SessionState
@@ -192,7 +192,7 @@ abbrev pub after_adds : Origin → SessionState
 after_adds o = state_after (serves_a o) adds
 
 abbrev pub adds_starts : List TraceEvent
-adds_starts = starts (asked 0) 0 0 step.Startup (codes "s") ∷ Asked 0 ∷ begins 0 ∷ begins 0 ∷ []
+adds_starts = starts (asked 0) 0 0 step.Startup (codes "s") ∷ ReadClock 0 ∷ begins 0 ∷ begins 0 ∷ []
 
 abbrev pub after_adds_starts : Origin → SessionState
 after_adds_starts o = state_after (after_adds o) adds_starts
@@ -211,7 +211,7 @@ after_adds_takes o = state_after (after_adds_takes_taken o) adds_takes
 
 abbrev pub adds_comes : List TraceEvent
 adds_comes =
-    closes outcomes.Successful ∷ dies (asked 2) 1 1 step.Startup good 119998 ∷ Asked 2
+    closes outcomes.Successful ∷ dies (asked 2) 1 1 step.Startup good 119998 ∷ ReadClock 2
     ∷ dies (not_asked 0) 0 0 step.Startup good 120000 ∷ starts (not_asked 0) 1 1 step.Startup (codes "s") ∷ begins 1 ∷ begins 1 ∷ []
 
 abbrev pub after_adds_comes : Origin → SessionState
@@ -241,7 +241,7 @@ abbrev pub after_run : Origin → SessionState
 after_run o = state_after (after_run_taken o) run
 
 abbrev pub run_starts : List TraceEvent
-run_starts = starts (asked 0) 0 0 step.Run (codes "r") ∷ Asked 0 ∷ begins 0 ∷ begins 0 ∷ []
+run_starts = starts (asked 0) 0 0 step.Run (codes "r") ∷ ReadClock 0 ∷ begins 0 ∷ begins 0 ∷ []
 
 abbrev pub after_run_starts : Origin → SessionState
 after_run_starts o = state_after (after_run o) run_starts

@@ -12,7 +12,7 @@ ghost use Rattle.step_runner.specs.declared.entries.Seen.TheVariants as seen;
 ghost use Rattle.device.specs.Lawful.{no_failures};
 ghost use Rattle.components.specs.Fitted.{Fitted};
 ghost use Rattle.components.specs.Made.{AreFitted, IsStepAt};
-ghost use Rattle.histories.specs.TraceEvents.{Booted, Recorded, Asked, InboxAsked, StopsAll, nothing, Changed};
+ghost use Rattle.histories.specs.TraceEvents.{Booted, Recorded, ReadClock, InboxAsked, StopsAll, nothing, Changed};
 ghost use Rattle.histories.specs.States.{state_after};
 ghost use Rattle.histories.specs.Follows.{IsProper, MayFollow};
 ghost use Rattle.histories.specs.Courses.{IsEnd};
@@ -68,7 +68,7 @@ pub fn bad_boot_row()
     ensures ends { (o : Origin) → IsEnd (after_bad_closes o) statuses.NotRequested false }
     ensures as_other { (o : Origin) → MayFollow (after_bad_ends o) (Recorded (BootEnded a (exits.Code (pos 4)))) → ⊥ }
     ensures unrecorded { (o : Origin) → MayFollow (after_bad_ends o) (closes outcomes.RollbackNotRequested) → ⊥ }
-    ensures idles { (o : Origin) → MayFollow (state_after (after_bad_boot o) (Asked 0 ∷ [])) (passes (asked 0) 1000) → ⊥ }
+    ensures idles { (o : Origin) → MayFollow (state_after (after_bad_boot o) (ReadClock 0 ∷ [])) (passes (asked 0) 1000) → ⊥ }
     ensures disk { (o : Origin) → IsEnd (after_bad_ends o) statuses.Disk true }
     ensures sink { (o : Origin) → IsEnd (after_bad_ends o) statuses.Edge false → ⊥ }
     ensures as_closed { (o : Origin) → IsEnd (after_bad_ends o) statuses.NotRequested false → ⊥ }
@@ -100,9 +100,9 @@ pub fn boot_texts_row()
     ensures other_text { (o : Origin) (r : Recipes) (command other : Command) → (other ≡ command → ⊥) →
         MayFollow (with_recipes r (back_begun o)) (Booted (asked 0 (seen.Started 0 other)) (boot_of command)) → ⊥ }
     ensures out_of_turn { (o : Origin) → MayFollow (second o) (Recorded (BootEnded a good)) → ⊥ }
-    ensures refused_as { (o : Origin) → MayFollow (state_after (backing o) (runs_boot (asked 0) (seen.Refused (script (codes "b"))) ∷ Asked 0 ∷
+    ensures refused_as { (o : Origin) → MayFollow (state_after (backing o) (runs_boot (asked 0) (seen.Refused (script (codes "b"))) ∷ ReadClock 0 ∷
         Recorded (BootBegun a) ∷ [])) (Recorded (BootEnded a exits.Signal)) → ⊥ }
     ensures skipped_as { (o : Origin) → MayFollow (state_after (backing o)
-        (Booted (asked 0 (seen.OnPath (codes "x") true)) (record boots_up { skip = Some (skips.OnPath (codes "x")) }) ∷ Asked 0 ∷
+        (Booted (asked 0 (seen.OnPath (codes "x") true)) (record boots_up { skip = Some (skips.OnPath (codes "x")) }) ∷ ReadClock 0 ∷
         Recorded (BootBegun a) ∷ [])) (Recorded (BootEnded a (exits.Code (pos 100)))) → ⊥ }
 {}

@@ -9,7 +9,7 @@ ghost use Rattle.step_runner.specs.declared.command.Command.{Command};
 ghost use Rattle.step_runner.specs.declared.entries.Seen.TheVariants as seen;
 ghost use Rattle.components.specs.Fitted.{Fitted};
 ghost use Rattle.components.specs.Made.{IsStepAt, AreFitted};
-ghost use Rattle.histories.specs.TraceEvents.{Ran, Booted, WaitElapsed, Recorded, Moved, Asked, Changed, StopsAll};
+ghost use Rattle.histories.specs.TraceEvents.{Ran, Booted, WaitElapsed, Recorded, Moved, ReadClock, Changed, StopsAll};
 ghost use Rattle.histories.specs.States.{state_after};
 ghost use Rattle.histories.specs.Follows.{IsProper, MayFollow};
 ghost use Rattle.histories.specs.Phases.{duty_of, rolling};
@@ -43,13 +43,13 @@ pub fn two_bootstraps_row()
         IsProper (with_recipes r (first_boot o)) (boot_refused command) }
     ensures after_restart { (o : Origin) → MayFollow (restarted o) (Recorded (BootBegun b)) → ⊥ }
     ensures after_last { (o : Origin) → MayFollow (all_done o) (Recorded Activating) → ⊥ }
-    ensures asks_after { (o : Origin) → MayFollow (restarted o) (Asked 0) → ⊥ }
+    ensures asks_after { (o : Origin) → MayFollow (restarted o) (ReadClock 0) → ⊥ }
     ensures as_done { (o : Origin) → IsEnd (restarted o) statuses.Done false → ⊥ }
     ensures as_restart { (o : Origin) → IsEnd (one_done o) statuses.Restart false → ⊥ }
     ensures skipped_as { (o : Origin) (word : List ℕ) (command : Command) → MayFollow (state_after (first_boot o) (boot_skips word command))
         (Recorded (BootEnded a exits.NotStarted)) → ⊥ }
     ensures unprobed { (o : Origin) (r : Recipes) (word : List ℕ) (command : Command) →
-        MayFollow (with_recipes r (state_after (first_boot o) (Asked 0 ∷ Recorded (BootBegun a) ∷ [])))
+        MayFollow (with_recipes r (state_after (first_boot o) (ReadClock 0 ∷ Recorded (BootBegun a) ∷ [])))
         (Booted (asked 0 (seen.Started 0 command)) (boots_or_skips word command)) → ⊥ }
 {}
 
@@ -58,30 +58,30 @@ pub fn bootstrap_again_row()
     ensures again { (o : Origin) (r : Recipes) (command : Command) → IsStepAt o (read_as r items) 0 step.Bootstrap (Some (boot_of command)) →
         IsProper (with_recipes r (begun_before o)) (boots_again command) }
     ensures begun { (o : Origin) → begun_device o ≡ applied (booting_device o 0) (BootBegun a) }
-    ensures failed { (o : Origin) (r : Recipes) (command : Command) → MayFollow (with_recipes r (state_after (boot_failed o) (Asked 0 ∷ [])))
+    ensures failed { (o : Origin) (r : Recipes) (command : Command) → MayFollow (with_recipes r (state_after (boot_failed o) (ReadClock 0 ∷ [])))
         (starts_boot (asked 0) 1 command) → ⊥ }
-    ensures failed_before { (o : Origin) (r : Recipes) (command : Command) → MayFollow (with_recipes r (state_after (failed_before o) (Asked 0 ∷ [])))
+    ensures failed_before { (o : Origin) (r : Recipes) (command : Command) → MayFollow (with_recipes r (state_after (failed_before o) (ReadClock 0 ∷ [])))
         (starts_boot (asked 0) 0 command) → ⊥ }
     ensures unasked { (o : Origin) (r : Recipes) (command : Command) → MayFollow (with_recipes r (begun_before o)) (starts_boot (not_asked 0) 0 command) → ⊥ }
     ensures ended { (o : Origin) → MayFollow (begun_before o) (Recorded (BootEnded a good)) → ⊥ }
-    ensures waits { (o : Origin) → MayFollow (state_after (begun_before o) (Asked 0 ∷ [])) (WaitElapsed (asked 0 (seen.Elapsed 1000))) → ⊥ }
+    ensures waits { (o : Origin) → MayFollow (state_after (begun_before o) (ReadClock 0 ∷ [])) (WaitElapsed (asked 0 (seen.Elapsed 1000))) → ⊥ }
     ensures changes { (o : Origin) → MayFollow (begun_before o) (Changed [] no_failures false) → ⊥ }
 {}
 
 /// What must not come among bootstraps.
 pub fn bootstrap_before_its_record()
-    ensures unrecorded { (o : Origin) (r : Recipes) (command : Command) → MayFollow (with_recipes r (state_after (first_boot o) (Asked 0 ∷ [])))
+    ensures unrecorded { (o : Origin) (r : Recipes) (command : Command) → MayFollow (with_recipes r (state_after (first_boot o) (ReadClock 0 ∷ [])))
         (starts_boot (asked 0) 0 command) → ⊥ }
     ensures ended { (o : Origin) → MayFollow (boot_lives o) (Recorded (BootEnded a good)) → ⊥ }
     ensures other { (o : Origin) → MayFollow (boot_over o) (Recorded (BootEnded a good)) → ⊥ }
-    ensures again { (o : Origin) (r : Recipes) (command : Command) → MayFollow (with_recipes r (state_after (boot_over o) (Asked 0 ∷ [])))
+    ensures again { (o : Origin) (r : Recipes) (command : Command) → MayFollow (with_recipes r (state_after (boot_over o) (ReadClock 0 ∷ [])))
         (starts_boot (asked 0) 1 command) → ⊥ }
     ensures next { (o : Origin) → MayFollow (boot_over o) (Recorded (BootBegun b)) → ⊥ }
     ensures activates { (o : Origin) → MayFollow (boot_lives o) (Recorded Activating) → ⊥ }
-    ensures waits { (o : Origin) → MayFollow (state_after (boot_over o) (Asked 0 ∷ [])) (WaitElapsed (asked 0 (seen.Elapsed 1000))) → ⊥ }
-    ensures nothing { (o : Origin) → MayFollow (state_after (first_boot o) (Asked 0 ∷ [])) (WaitElapsed (asked 0 (seen.Elapsed 1000))) → ⊥ }
-    ensures early { (o : Origin) → MayFollow (state_after (boot_lives o) (Asked 119999 ∷ [])) (Booted (asked 119999 (seen.Killed 0)) boots_up) → ⊥ }
-    ensures late { (o : Origin) → MayFollow (state_after (boot_lives o) (Asked 120000 ∷ [])) (WaitElapsed (asked 120000 (seen.Elapsed 0))) → ⊥ }
+    ensures waits { (o : Origin) → MayFollow (state_after (boot_over o) (ReadClock 0 ∷ [])) (WaitElapsed (asked 0 (seen.Elapsed 1000))) → ⊥ }
+    ensures nothing { (o : Origin) → MayFollow (state_after (first_boot o) (ReadClock 0 ∷ [])) (WaitElapsed (asked 0 (seen.Elapsed 1000))) → ⊥ }
+    ensures early { (o : Origin) → MayFollow (state_after (boot_lives o) (ReadClock 119999 ∷ [])) (Booted (asked 119999 (seen.Killed 0)) boots_up) → ⊥ }
+    ensures late { (o : Origin) → MayFollow (state_after (boot_lives o) (ReadClock 120000 ∷ [])) (WaitElapsed (asked 120000 (seen.Elapsed 0))) → ⊥ }
     ensures bare { (o : Origin) → IsBare (boot_lives o) → ⊥ }
     ensures lost { (o : Origin) → IsEnd (boot_over o) statuses.Edge false → ⊥ }
     ensures disk { (o : Origin) → IsEnd (boot_over o) statuses.Edge true }
@@ -104,11 +104,11 @@ pub fn bootstraps_on_rollback_row()
     ensures stops { (o : Origin) → MayFollow (still_up o) StopsAll }
     ensures early { (o : Origin) (r : Recipes) (command : Command) → MayFollow (with_recipes r (begun_up o)) (starts_boot (asked 0) 0 command) → ⊥ }
     ensures early_record { (o : Origin) → MayFollow (still_up o) (Recorded (BootBegun a)) → ⊥ }
-    ensures unrecorded { (o : Origin) (r : Recipes) (command : Command) → MayFollow (with_recipes r (state_after (backed o) (Asked 0 ∷ [])))
+    ensures unrecorded { (o : Origin) (r : Recipes) (command : Command) → MayFollow (with_recipes r (state_after (backed o) (ReadClock 0 ∷ [])))
         (starts_boot (asked 0) 0 command) → ⊥ }
     ensures goes_on { (o : Origin) (r : Recipes) (made : List Fitted) → MayFollow (with_recipes r (back_done o)) (Changed made no_failures false) → ⊥ }
     ensures comes_early { (o : Origin) (r : Recipes) (made : List Fitted) → MayFollow (with_recipes r (backed o)) (Changed made no_failures false) → ⊥ }
-    ensures waits { (o : Origin) → MayFollow (state_after (back_begun o) (Asked 0 ∷ [])) (WaitElapsed (asked 0 (seen.Elapsed 1000))) → ⊥ }
+    ensures waits { (o : Origin) → MayFollow (state_after (back_begun o) (ReadClock 0 ∷ [])) (WaitElapsed (asked 0 (seen.Elapsed 1000))) → ⊥ }
     ensures plainly { (o : Origin) (r : Recipes) (command : Command) → is_back o.platform (r item_a) ≡ true →
         MayFollow (state_after (with_recipes r (newer_boots o)) (boots_by command a bad)) (Recorded (Failing a)) → ⊥ }
     ensures as_done { (o : Origin) → MayFollow (back_begun o) (Recorded (BootEnded a good)) → ⊥ }

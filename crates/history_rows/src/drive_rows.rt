@@ -11,7 +11,7 @@ ghost use Rattle.step_runner.specs.declared.entries.Seen.TheVariants as seen;
 ghost use Rattle.device.specs.Lawful.{no_failures};
 ghost use Rattle.components.specs.Fitted.{Fitted};
 ghost use Rattle.components.specs.Made.{AreFitted};
-ghost use Rattle.histories.specs.TraceEvents.{Ran, WaitElapsed, KilledOnAbort, Recorded, Moved, Asked, Changed, StopsAll};
+ghost use Rattle.histories.specs.TraceEvents.{Ran, WaitElapsed, KilledOnAbort, Recorded, Moved, ReadClock, Changed, StopsAll};
 ghost use Rattle.histories.specs.States.{state_after};
 ghost use Rattle.histories.specs.Follows.{IsProper, MayFollow};
 ghost use Rattle.histories.specs.Courses.{IsBare, IsBack, IsEnd, IsStart, IsStopping};
@@ -46,7 +46,7 @@ pub fn do_nothing_row()
     ensures closed { (o : Origin) → IsBack (state_after (broken o) closes_it) }
     ensures other_begins { (o : Origin) → MayFollow (broken_beside o) (Moved 1 event.MayBegin) }
     ensures starts { (o : Origin) → MayFollow (state_after (broken_beside o) closes_it) (Moved 1 event.MayBegin) → ⊥ }
-    ensures waits { (o : Origin) → MayFollow (state_after (broken o) (Asked 0 ∷ closes_it)) (WaitElapsed (asked 0 (seen.Elapsed 1000))) → ⊥ }
+    ensures waits { (o : Origin) → MayFollow (state_after (broken o) (ReadClock 0 ∷ closes_it)) (WaitElapsed (asked 0 (seen.Elapsed 1000))) → ⊥ }
     ensures changes { (o : Origin) (r : Recipes) (made : List Fitted) → MayFollow (with_recipes r (state_after (broken o) closes_it))
         (Changed made no_failures true) → ⊥ }
     ensures as_success { (o : Origin) → MayFollow (broken o) (Recorded (Closed outcomes.Successful)) → ⊥ }
@@ -66,20 +66,20 @@ pub fn resumes_with_failures()
 
 /// What must not follow a failure.
 pub fn late_records()
-    ensures waits { (o : Origin) → MayFollow (state_after (tried o 0) (Asked 0 ∷ [])) (WaitElapsed (asked 0 (seen.Elapsed 1000))) → ⊥ }
+    ensures waits { (o : Origin) → MayFollow (state_after (tried o 0) (ReadClock 0 ∷ [])) (WaitElapsed (asked 0 (seen.Elapsed 1000))) → ⊥ }
     ensures retries { (o : Origin) → MayFollow (tried o 0) (Moved 0 event.Retry) → ⊥ }
     ensures breaks_off { (o : Origin) → MayFollow (tried o 2) (Recorded (Failing a)) → ⊥ }
     ensures closes { (o : Origin) → MayFollow (tried o 2) (Recorded (Closed outcomes.RollbackNotRequested)) → ⊥ }
     ensures twice { (o : Origin) → MayFollow (failed_once o) (Recorded (StepFailed a step.Startup bad)) → ⊥ }
     ensures other { (o : Origin) → MayFollow (tried o 0) (Recorded (StepFailed a step.Startup exits.Signal)) → ⊥ }
-    ensures third { (o : Origin) → MayFollow (state_after (broken o) (Asked 0 ∷ [])) (WaitElapsed (asked 0 (seen.Elapsed 1000))) → ⊥ }
+    ensures third { (o : Origin) → MayFollow (state_after (broken o) (ReadClock 0 ∷ [])) (WaitElapsed (asked 0 (seen.Elapsed 1000))) → ⊥ }
 {}
 
 /// What must not follow where Rolling begins.
 pub fn rolls_early()
     ensures changes { (o : Origin) (r : Recipes) (made : List Fitted) → MayFollow (with_recipes r (state_after (broken o) (Recorded (Failing a) ∷ [])))
         (Changed made no_failures false) → ⊥ }
-    ensures waits { (o : Origin) → MayFollow (state_after (broken o) (Asked 0 ∷ Recorded (Failing a) ∷ [])) (WaitElapsed (asked 0 (seen.Elapsed 1000))) → ⊥ }
+    ensures waits { (o : Origin) → MayFollow (state_after (broken o) (ReadClock 0 ∷ Recorded (Failing a) ∷ [])) (WaitElapsed (asked 0 (seen.Elapsed 1000))) → ⊥ }
     ensures closes { (o : Origin) → MayFollow (rolling o) (Recorded (Closed outcomes.RollbackComplete)) → ⊥ }
     ensures stops { (o : Origin) → MayFollow (driven o state.Installed 0) StopsAll → ⊥ }
     ensures serves_on { (o : Origin) (r : Recipes) (made : List Fitted) → MayFollow (with_recipes r (state_after (is_back o) stops_it))

@@ -8,7 +8,7 @@ ghost use Rattle.records.specs.declared.record.Origin.{Origin};
 ghost use Rattle.device.specs.Lawful.{no_failures};
 ghost use Rattle.components.specs.Fitted.{Fitted};
 ghost use Rattle.components.specs.Made.{AreFitted};
-ghost use Rattle.histories.specs.TraceEvents.{Moved, Asked, Heard, InboxAsked, nothing, Changed};
+ghost use Rattle.histories.specs.TraceEvents.{Moved, ReadClock, Heard, InboxAsked, nothing, Changed};
 ghost use Rattle.histories.specs.States.{state_after};
 ghost use Rattle.histories.specs.Follows.{IsProper, MayFollow};
 ghost use Rattle.histories.specs.Courses.{IsEnd};
@@ -35,7 +35,7 @@ pub fn tries_again_row()
     ensures retries { (o : Origin) → MayFollow (after_again_fails o) (Moved 0 event.Retry) → ⊥ }
     ensures as_other { (o : Origin) → MayFollow (after_again_fails o) (fails a step.Startup (exits.Code (pos 2))) → ⊥ }
     ensures as_step { (o : Origin) → MayFollow (after_again_fails o) (fails a step.Run bad) → ⊥ }
-    ensures before { (o : Origin) → MayFollow (state_after (after_again o) (starts (asked 0) 0 0 step.Startup (codes "s") ∷ Asked 0 ∷ begins 0 ∷
+    ensures before { (o : Origin) → MayFollow (state_after (after_again o) (starts (asked 0) 0 0 step.Startup (codes "s") ∷ ReadClock 0 ∷ begins 0 ∷
         begins 0 ∷ [])) (fails a step.Startup bad) → ⊥ }
     ensures unrecorded { (o : Origin) → IsEnd (after_again_fails o) statuses.Done false → ⊥ }
 {}
@@ -50,11 +50,11 @@ pub fn gives_up_row()
     ensures cuts { (o : Origin) → IsProper (after_giving_fails o) giving_cuts }
     ensures ends { (o : Origin) → IsEnd (after_giving_cuts o) statuses.Disk true }
     ensures ends_edge { (o : Origin) → IsEnd (after_giving_cuts o) statuses.Edge true }
-    ensures starts { (o : Origin) → MayFollow (state_after (after_giving_fails o) (Asked 2 ∷ [])) (starts (asked 2) 2 0 step.Startup (codes "s")) → ⊥ }
-    ensures waits { (o : Origin) → MayFollow (state_after (after_giving_fails o) (Asked 2 ∷ [])) (dies (asked 2) 1 1 step.Startup good 119998) → ⊥ }
+    ensures starts { (o : Origin) → MayFollow (state_after (after_giving_fails o) (ReadClock 2 ∷ [])) (starts (asked 2) 2 0 step.Startup (codes "s")) → ⊥ }
+    ensures waits { (o : Origin) → MayFollow (state_after (after_giving_fails o) (ReadClock 2 ∷ [])) (dies (asked 2) 1 1 step.Startup good 119998) → ⊥ }
     ensures unasked { (o : Origin) → MayFollow (after_giving_fails o) (gives_up (not_asked 0) 1) → ⊥ }
     ensures after_cut { (o : Origin) → MayFollow (after_giving_cuts o) (fails a step.Startup bad) → ⊥ }
-    ensures living { (o : Origin) → IsEnd (state_after (after_giving_fails o) (Asked 2 ∷ [])) statuses.Disk true → ⊥ }
+    ensures living { (o : Origin) → IsEnd (state_after (after_giving_fails o) (ReadClock 2 ∷ [])) statuses.Disk true → ⊥ }
     ensures as_done { (o : Origin) → IsEnd (after_giving_cuts o) statuses.Done false → ⊥ }
 {}
 
@@ -84,6 +84,6 @@ pub fn forgets_at_close_row()
     ensures ends { (o : Origin) → IsEnd (after_later_again o) statuses.TurnsOver false }
     ensures idles { (o : Origin) → MayFollow (after_later_fails o) (InboxAsked nothing) → ⊥ }
     ensures waits { (o : Origin) → MayFollow (after_later_fails o) (passes (asked 7) 1000) → ⊥ }
-    ensures recorded { (o : Origin) → MayFollow (state_after (after_later_runs o) (Heard 0 ∷ Asked 7 ∷ dies (not_asked 0) 0 0 step.Run bad 1000 ∷
+    ensures recorded { (o : Origin) → MayFollow (state_after (after_later_runs o) (Heard 0 ∷ ReadClock 7 ∷ dies (not_asked 0) 0 0 step.Run bad 1000 ∷
         InboxAsked nothing ∷ [])) (fails a step.Run bad) → ⊥ }
 {}

@@ -11,7 +11,7 @@ ghost use Rattle.records.specs.declared.record.Origin.{Origin};
 ghost use Rattle.step_runner.specs.declared.entries.Seen.TheVariants as seen;
 ghost use Rattle.components.specs.Fitted.{Fitted};
 ghost use Rattle.components.specs.Made.{AreFitted};
-ghost use Rattle.histories.specs.TraceEvents.{Ran, WaitElapsed, Recorded, Moved, Asked, Changed, StopsAll};
+ghost use Rattle.histories.specs.TraceEvents.{Ran, WaitElapsed, Recorded, Moved, ReadClock, Changed, StopsAll};
 ghost use Rattle.histories.specs.States.{state_after};
 ghost use Rattle.histories.specs.Follows.{IsProper, MayFollow};
 ghost use Rattle.histories.specs.Courses.{IsBare};
@@ -37,9 +37,9 @@ pub fn starts_nothing()
     ensures unchanged { (o : Origin) → MayFollow (state_after (hello_accepted o) (Recorded Activating ∷ [])) (Recorded (Closed outcomes.Successful)) → ⊥ }
     ensures begun { (o : Origin) → MayFollow (hello_begun o) (Recorded (Closed outcomes.Successful)) → ⊥ }
     ensures twice { (o : Origin) (r : Recipes) (made : List Fitted) → MayFollow (with_recipes r (hello_changed o)) (Changed made no_failures false) → ⊥ }
-    ensures unanswered { (o : Origin) → MayFollow (state_after (hello_begun o) (Asked 0 ∷ [])) (WaitElapsed (asked 0 (seen.Elapsed 1000))) → ⊥ }
+    ensures unanswered { (o : Origin) → MayFollow (state_after (hello_begun o) (ReadClock 0 ∷ [])) (WaitElapsed (asked 0 (seen.Elapsed 1000))) → ⊥ }
     ensures unasked { (o : Origin) → MayFollow (hello_begun o) (Ran (not_asked 0 (seen.Started 0 (script (codes "r")))) 0 step.Run) → ⊥ }
-    ensures other { (o : Origin) → MayFollow (state_after (hello_begun o) (Asked 0 ∷ [])) (Ran (asked 0 (seen.Started 0 (script (codes "x")))) 0 step.Run) → ⊥ }
+    ensures other { (o : Origin) → MayFollow (state_after (hello_begun o) (ReadClock 0 ∷ [])) (Ran (asked 0 (seen.Started 0 (script (codes "x")))) 0 step.Run) → ⊥ }
     ensures before { (o : Origin) → MayFollow (state_after (hello_accepted o) (Recorded Activating ∷ [])) (Moved 0 event.MayBegin) → ⊥ }
     ensures stops { (o : Origin) → MayFollow (hello_accepted o) StopsAll → ⊥ }
 {}
@@ -49,15 +49,15 @@ pub fn skipif_row()
     ensures skips { (o : Origin) → IsProper (skip_begun o) skips_it }
     ensures installs { (o : Origin) → IsProper (skip_begun o) installs_it }
     ensures states { (o : Origin) → states_of (state_after (skip_begun o) skips_it).world.parts ≡ state.Finished ∷ [] }
-    ensures unprobed { (o : Origin) → MayFollow (state_after (skip_begun o) (Asked 0 ∷ []))
+    ensures unprobed { (o : Origin) → MayFollow (state_after (skip_begun o) (ReadClock 0 ∷ []))
         (Ran (asked 0 (seen.Started 0 (script (codes "i")))) 0 step.Install) → ⊥ }
     ensures after_yes { (o : Origin) → MayFollow (state_after (skip_begun o) probed_yes)
         (Ran (not_asked 0 (seen.Started 0 (script (codes "i")))) 0 step.Install) → ⊥ }
-    ensures other { (o : Origin) → MayFollow (state_after (skip_begun o) (Asked 0 ∷ [])) (Ran (asked 0 (seen.Exists (codes "/opt/y") true)) 0 step.Install) →
+    ensures other { (o : Origin) → MayFollow (state_after (skip_begun o) (ReadClock 0 ∷ [])) (Ran (asked 0 (seen.Exists (codes "/opt/y") true)) 0 step.Install) →
         ⊥ }
-    ensures kind { (o : Origin) → MayFollow (state_after (skip_begun o) (Asked 0 ∷ [])) (Ran (asked 0 (seen.OnPath (codes "/opt/x") true)) 0 step.Install) → ⊥ }
+    ensures kind { (o : Origin) → MayFollow (state_after (skip_begun o) (ReadClock 0 ∷ [])) (Ran (asked 0 (seen.OnPath (codes "/opt/x") true)) 0 step.Install) → ⊥ }
     ensures twice { (o : Origin) → MayFollow (state_after (skip_begun o) probed_no) (Ran (not_asked 0 (seen.Exists (codes "/opt/x") true)) 0 step.Install) → ⊥ }
-    ensures asked_between { (o : Origin) → MayFollow (state_after (skip_begun o) (Asked 0 ∷ probed_no))
+    ensures asked_between { (o : Origin) → MayFollow (state_after (skip_begun o) (ReadClock 0 ∷ probed_no))
         (Ran (asked 0 (seen.Started 0 (script (codes "i")))) 0 step.Install) → ⊥ }
     ensures goes_on { (o : Origin) → MayFollow (state_after (skip_begun o) probed_no) (Moved 0 event.MayBegin) → ⊥ }
     ensures closes { (o : Origin) → MayFollow (state_after (skip_begun o) probed_yes) (Recorded (Closed outcomes.Successful)) → ⊥ }
@@ -67,10 +67,10 @@ pub fn skipif_row()
 pub fn startup_limit_row()
     ensures in_time { (o : Origin) → IsProper (limited o) in_time }
     ensures late { (o : Origin) → IsProper (limited o) too_late }
-    ensures early { (o : Origin) → MayFollow (state_after (limited o) (Asked 119999 ∷ [])) (Ran (asked 119999 (seen.Killed 0)) 0 step.Startup) → ⊥ }
+    ensures early { (o : Origin) → MayFollow (state_after (limited o) (ReadClock 119999 ∷ [])) (Ran (asked 119999 (seen.Killed 0)) 0 step.Startup) → ⊥ }
     ensures long { (o : Origin) → MayFollow (limited o) (WaitElapsed (asked 0 (seen.Elapsed 120001))) → ⊥ }
     ensures short { (o : Origin) → MayFollow (limited o) (WaitElapsed (asked 0 (seen.Elapsed 1000))) → ⊥ }
-    ensures waits { (o : Origin) → MayFollow (state_after (limited o) (Asked 120000 ∷ [])) (WaitElapsed (asked 120000 (seen.Elapsed 0))) → ⊥ }
+    ensures waits { (o : Origin) → MayFollow (state_after (limited o) (ReadClock 120000 ∷ [])) (WaitElapsed (asked 120000 (seen.Elapsed 0))) → ⊥ }
     ensures unasked { (o : Origin) → MayFollow (state_after (limited o) (WaitElapsed (asked 0 (seen.Elapsed 120000)) ∷ []))
         (Ran (not_asked 120000 (seen.Killed 0)) 0 step.Startup) → ⊥ }
     ensures as_success { (o : Origin) → MayFollow (state_after (limited o) timed_out) (Recorded (Closed outcomes.Successful)) → ⊥ }
@@ -91,7 +91,7 @@ pub fn runner_refuses_row()
     ensures unrecorded { (o : Origin) → MayFollow (refused_once o) (Moved 0 event.Retry) → ⊥ }
     ensures as_code { (o : Origin) → MayFollow (refused_once o) (Recorded (StepFailed a step.Install bad)) → ⊥ }
     ensures as_success { (o : Origin) → MayFollow (refused_once o) (Recorded (Closed outcomes.Successful)) → ⊥ }
-    ensures waits { (o : Origin) → MayFollow (state_after (recorded_once o) (Asked 0 ∷ [])) (WaitElapsed (asked 0 (seen.Elapsed 1000))) → ⊥ }
+    ensures waits { (o : Origin) → MayFollow (state_after (recorded_once o) (ReadClock 0 ∷ [])) (WaitElapsed (asked 0 (seen.Elapsed 1000))) → ⊥ }
     ensures fourth { (o : Origin) → MayFollow (recorded_thrice o) (Moved 0 event.Retry) → ⊥ }
     ensures early { (o : Origin) → MayFollow (refused_thrice o) (Recorded (Failing a)) → ⊥ }
 {}

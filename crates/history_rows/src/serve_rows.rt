@@ -12,7 +12,7 @@ ghost use Rattle.step_runner.specs.declared.entries.Seen.TheVariants as seen;
 ghost use Rattle.device.specs.Lawful.{no_failures};
 ghost use Rattle.components.specs.Fitted.{Fitted};
 ghost use Rattle.components.specs.Made.{AreFitted};
-ghost use Rattle.histories.specs.TraceEvents.{Answer, Ran, WaitElapsed, Recorded, Moved, Asked, Heard, InboxAsked, Changed, StopsAll, document, nothing};
+ghost use Rattle.histories.specs.TraceEvents.{Answer, Ran, WaitElapsed, Recorded, Moved, ReadClock, Heard, InboxAsked, Changed, StopsAll, document, nothing};
 ghost use Rattle.histories.specs.TraceEvents.{closed, answers_of};
 ghost use Rattle.histories.specs.States.{state_after};
 ghost use Rattle.histories.specs.Follows.{IsProper, MayFollow};
@@ -82,7 +82,7 @@ pub fn one_at_a_time()
 pub fn serves_nothing()
     ensures changes { (o : Origin) (r : Recipes) (made : List Fitted) → AreFitted o (read_as r (item_d ∷ [])) made →
         IsProper (with_recipes r (serve_place o)) (brings_up made) }
-    ensures waits { (o : Origin) → MayFollow (state_after (serve_place o) (Asked 0 ∷ [])) (WaitElapsed (asked 0 (seen.Elapsed 1000))) → ⊥ }
+    ensures waits { (o : Origin) → MayFollow (state_after (serve_place o) (ReadClock 0 ∷ [])) (WaitElapsed (asked 0 (seen.Elapsed 1000))) → ⊥ }
     ensures accepts { (o : Origin) (p : Plan) → MayFollow (serve_place o) (Recorded (Accepted p)) → ⊥ }
     ensures asks { (o : Origin) (x : Answer) → MayFollow (serve_place o) (InboxAsked x) → ⊥ }
     ensures stops { (o : Origin) → MayFollow (serve_place o) StopsAll → ⊥ }
@@ -99,7 +99,7 @@ pub fn serves_nothing()
 
 /// With an empty set and an inbox that has nothing each turn has one wait, and after the last turn all is stopped.
 pub fn serve_nothing_row()
-    ensures opens { (o : Origin) → AreFitted o [] [] → IsProper (serve_none 2 o) (Asked 0 ∷ Changed [] no_failures true ∷ []) }
+    ensures opens { (o : Origin) → AreFitted o [] [] → IsProper (serve_none 2 o) (ReadClock 0 ∷ Changed [] no_failures true ∷ []) }
     ensures first { (o : Origin) → IsProper (none_opened 2 o) turn_passes }
     ensures second { (o : Origin) → IsProper (one_turn o) turn_more }
     ensures ends { (o : Origin) → IsProper (two_turns o) (StopsAll ∷ []) }

@@ -13,7 +13,7 @@ ghost use Rattle.step_runner.specs.declared.entries.Seen.TheVariants as seen;
 ghost use Rattle.device.specs.Lawful.{no_failures};
 ghost use Rattle.components.specs.Fitted.{Fitted};
 ghost use Rattle.components.specs.Made.{AreFitted};
-ghost use Rattle.histories.specs.TraceEvents.{Ran, Recorded, Moved, Asked, Heard, InboxAsked, Changed, StopsAll, nothing};
+ghost use Rattle.histories.specs.TraceEvents.{Ran, Recorded, Moved, ReadClock, Heard, InboxAsked, Changed, StopsAll, nothing};
 ghost use Rattle.histories.specs.States.{state_after};
 ghost use Rattle.histories.specs.Follows.{IsProper, MayFollow};
 ghost use Rattle.histories.specs.Courses.{IsEnd};
@@ -67,7 +67,7 @@ pub fn steady_failures_row()
     ensures waits { (o : Origin) → MayFollow (after_steady_again o) (passes (not_asked 9) 1000) → ⊥ }
     ensures sooner { (o : Origin) → MayFollow (after_steady_fails o) (Moved 1 event.Retry) → ⊥ }
     ensures recorded { (o : Origin) → MayFollow (state_after (after_steady o) (Heard 0 ∷ refuses (not_asked 0) 0 step.Startup (codes "s") ∷ begins 0 ∷
-        begins 0 ∷ starts (asked 0) 0 1 step.Run (codes "r") ∷ Asked 0 ∷ begins 1 ∷ begins 1 ∷ [])) (fails a step.Startup exits.NotStarted) → ⊥ }
+        begins 0 ∷ starts (asked 0) 0 1 step.Run (codes "r") ∷ ReadClock 0 ∷ begins 1 ∷ begins 1 ∷ [])) (fails a step.Startup exits.NotStarted) → ⊥ }
 {}
 
 /// A startup that is skipped leads to RUNNING without a child; without its probe it is not skipped, and after a yes it is not started.
@@ -87,7 +87,7 @@ pub fn skipped_startup_row()
         refuses (not_asked 0) 0 step.Startup (codes "s") ∷ Ran (asked 0 (seen.Exists (codes "/x") false)) 0 step.Startup ∷ []))
         (starts (not_asked 0) 0 0 step.Startup (codes "s")) → ⊥ }
     ensures waits { (o : Origin) → MayFollow (state_after (after_probes_begins o)
-        (Asked 0 ∷ Ran (asked 0 (seen.Exists (codes "/x") false)) 0 step.Startup ∷ [])) (passes (asked 0) 1000) → ⊥ }
+        (ReadClock 0 ∷ Ran (asked 0 (seen.Exists (codes "/x") false)) 0 step.Startup ∷ [])) (passes (asked 0) 1000) → ⊥ }
     ensures unprobed { (o : Origin) → MayFollow (after_probes_begins o) (closes outcomes.Successful) → ⊥ }
     ensures starts_unprobed { (o : Origin) → MayFollow (after_probes_begins o) (starts (asked 0) 0 0 step.Startup (codes "s")) → ⊥ }
 {}
@@ -98,7 +98,7 @@ pub fn installs_first_row()
     ensures opens_items { (o : Origin) (r : Recipes) (made : List Fitted) → AreFitted o (read_as r (item_a ∷ [])) made →
         IsProper (with_recipes r (after_installs_taken o)) (Changed made no_failures false ∷ []) }
     ensures comes { (o : Origin) → IsProper (after_installs o) installs_comes }
-    ensures startup { (o : Origin) → MayFollow (state_after (after_installs o) (Asked 0 ∷ begins 0 ∷ [])) (starts (asked 0) 0 0 step.Startup (codes "s")) → ⊥ }
+    ensures startup { (o : Origin) → MayFollow (state_after (after_installs o) (ReadClock 0 ∷ begins 0 ∷ [])) (starts (asked 0) 0 0 step.Startup (codes "s")) → ⊥ }
     ensures booting { (o : Origin) (r : Recipes) (made : List Fitted) →
         MayFollow (with_recipes r (state_after (fresh o) (Recorded (Accepted (plan_of (item_a ∷ []) [])) ∷ []))) (Changed made no_failures false) → ⊥ }
     ensures begins { (o : Origin) → MayFollow (state_after (fresh o) (Recorded (Accepted (plan_of (item_a ∷ []) [])) ∷ [])) (begins 0) → ⊥ }

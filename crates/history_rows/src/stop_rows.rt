@@ -9,7 +9,7 @@ ghost use Rattle.records.specs.declared.record.Origin.{Origin};
 ghost use Rattle.device.specs.Lawful.{no_failures};
 ghost use Rattle.components.specs.Fitted.{Fitted};
 ghost use Rattle.components.specs.Made.{AreFitted};
-ghost use Rattle.histories.specs.TraceEvents.{Moved, Asked, StopsAll, Changed};
+ghost use Rattle.histories.specs.TraceEvents.{Moved, ReadClock, StopsAll, Changed};
 ghost use Rattle.histories.specs.States.{state_after};
 ghost use Rattle.histories.specs.Follows.{IsProper, MayFollow};
 ghost use Rattle.histories.specs.Courses.{IsEnd};
@@ -45,7 +45,7 @@ pub fn needs_shut_row()
         Moved 0 (event.Stop after.Gone) ∷ StopsAll ∷ [])) (starts (not_asked 2) 3 1 step.Shutdown (codes "q")) → ⊥ }
     ensures unstopped { (o : Origin) → MayFollow (after_chain_second o) (Moved 0 (event.Stop after.Gone)) → ⊥ }
     ensures living { (o : Origin) → IsEnd (state_after (after_chain_second o) (starts (asked 3) 3 1 step.Shutdown (codes "q") ∷
-        Moved 1 (event.Stop after.Gone) ∷ Asked 3 ∷ dies (not_asked 2) 2 0 step.Shutdown good 15000 ∷ starts (asked 2) 2 0 step.Shutdown (codes "q") ∷
+        Moved 1 (event.Stop after.Gone) ∷ ReadClock 3 ∷ dies (not_asked 2) 2 0 step.Shutdown good 15000 ∷ starts (asked 2) 2 0 step.Shutdown (codes "q") ∷
         Moved 0 (event.Stop after.Gone) ∷ StopsAll ∷ [])) statuses.Done false → ⊥ }
 {}
 

@@ -11,7 +11,7 @@ ghost use Rattle.records.specs.declared.record.Origin.{Origin};
 ghost use Rattle.device.specs.Lawful.{no_failures};
 ghost use Rattle.components.specs.Fitted.{Fitted};
 ghost use Rattle.components.specs.Made.{AreFitted};
-ghost use Rattle.histories.specs.TraceEvents.{Recorded, Moved, Asked, InboxAsked, StopsAll, document, nothing, Changed};
+ghost use Rattle.histories.specs.TraceEvents.{Recorded, Moved, ReadClock, InboxAsked, StopsAll, document, nothing, Changed};
 ghost use Rattle.histories.specs.States.{state_after};
 ghost use Rattle.histories.specs.Follows.{IsProper, MayFollow};
 ghost use Rattle.histories.specs.Courses.{IsEnd};
@@ -39,7 +39,7 @@ pub fn shuts_down_row()
         dies (not_asked 0) 0 0 step.Startup good 120000 ∷ [])) (starts (not_asked 0) 1 0 step.Shutdown (codes "q")) → ⊥ }
     ensures as_up { (o : Origin) → MayFollow (after_single_starts o) (closes outcomes.Successful) → ⊥ }
     ensures longer { (o : Origin) → MayFollow (state_after (after_single_starts o) (starts (asked 5) 1 0 step.Shutdown (codes "q") ∷
-        Moved 0 (event.Stop after.Gone) ∷ StopsAll ∷ closes outcomes.Successful ∷ Asked 5 ∷ dies (not_asked 0) 0 0 step.Startup good 120000 ∷ []))
+        Moved 0 (event.Stop after.Gone) ∷ StopsAll ∷ closes outcomes.Successful ∷ ReadClock 5 ∷ dies (not_asked 0) 0 0 step.Startup good 120000 ∷ []))
         (dies (not_asked 5) 1 0 step.Shutdown good 15001) → ⊥ }
 {}
 
@@ -51,18 +51,18 @@ pub fn two_start_row()
         (Changed made no_failures false ∷ []) }
     ensures starts { (o : Origin) → IsProper (after_pair o) pair_starts }
     ensures ends { (o : Origin) → IsProper (after_pair_starts o) pair_ends }
-    ensures waits { (o : Origin) → MayFollow (state_after (after_pair o) (starts (asked 0) 0 0 step.Startup (codes "s") ∷ Asked 0 ∷ begins 0 ∷ begins 0 ∷ []))
+    ensures waits { (o : Origin) → MayFollow (state_after (after_pair o) (starts (asked 0) 0 0 step.Startup (codes "s") ∷ ReadClock 0 ∷ begins 0 ∷ begins 0 ∷ []))
         (dies (not_asked 0) 0 0 step.Startup good 120000) → ⊥ }
-    ensures longer { (o : Origin) → MayFollow (state_after (after_pair_starts o) (Asked 2 ∷ dies (not_asked 0) 0 0 step.Startup good 120000 ∷ []))
+    ensures longer { (o : Origin) → MayFollow (state_after (after_pair_starts o) (ReadClock 2 ∷ dies (not_asked 0) 0 0 step.Startup good 120000 ∷ []))
         (dies (asked 2) 1 1 step.Startup good 120000) → ⊥ }
     ensures late { (o : Origin) → IsProper (after_pair_starts o) pair_late }
-    ensures early { (o : Origin) → MayFollow (state_after (after_pair_starts o) (Asked 119999 ∷ dies (not_asked 0) 1 1 step.Startup good 120000 ∷ []))
+    ensures early { (o : Origin) → MayFollow (state_after (after_pair_starts o) (ReadClock 119999 ∷ dies (not_asked 0) 1 1 step.Startup good 120000 ∷ []))
         (kills (asked 119999) 0 0 step.Startup) → ⊥ }
-    ensures late_end { (o : Origin) → MayFollow (state_after (after_pair_starts o) (Asked 120000 ∷ dies (not_asked 0) 1 1 step.Startup good 120000 ∷ []))
+    ensures late_end { (o : Origin) → MayFollow (state_after (after_pair_starts o) (ReadClock 120000 ∷ dies (not_asked 0) 1 1 step.Startup good 120000 ∷ []))
         (dies (asked 120000) 0 0 step.Startup good 0) → ⊥ }
-    ensures late_wait { (o : Origin) → MayFollow (state_after (after_pair_starts o) (Asked 120000 ∷ dies (not_asked 0) 1 1 step.Startup good 120000 ∷ []))
+    ensures late_wait { (o : Origin) → MayFollow (state_after (after_pair_starts o) (ReadClock 120000 ∷ dies (not_asked 0) 1 1 step.Startup good 120000 ∷ []))
         (passes (asked 120000) 0) → ⊥ }
-    ensures late_close { (o : Origin) → MayFollow (state_after (after_pair_starts o) (kills (asked 120000) 0 0 step.Startup ∷ Asked 120000 ∷
+    ensures late_close { (o : Origin) → MayFollow (state_after (after_pair_starts o) (kills (asked 120000) 0 0 step.Startup ∷ ReadClock 120000 ∷
         dies (not_asked 0) 1 1 step.Startup good 120000 ∷ [])) (closes outcomes.Successful) → ⊥ }
 {}
 
@@ -93,7 +93,7 @@ pub fn turns_wait_row()
     ensures waits { (o : Origin) → IsProper (after_turns_start o) turns_pass }
     ensures stops { (o : Origin) → IsProper (after_turns_pass o) turns_stop }
     ensures ends { (o : Origin) → IsEnd (after_turns_stop o) statuses.TurnsOver false }
-    ensures second { (o : Origin) → MayFollow (state_after (after_turns_start o) (InboxAsked nothing ∷ Asked 400 ∷
+    ensures second { (o : Origin) → MayFollow (state_after (after_turns_start o) (InboxAsked nothing ∷ ReadClock 400 ∷
         dies (not_asked 0) 0 0 step.Startup good 1000 ∷ InboxAsked nothing ∷ [])) (dies (asked 400) 1 1 step.Startup good 1000) → ⊥ }
     ensures first { (o : Origin) → MayFollow (state_after (after_turns_start o) (InboxAsked nothing ∷ [])) (dies (not_asked 0) 0 0 step.Startup good 120000) →
         ⊥ }
@@ -112,7 +112,7 @@ pub fn document_comes_row()
     ensures stops { (o : Origin) → IsProper (after_adds_comes o) adds_stops }
     ensures ends { (o : Origin) → IsEnd (after_adds_stops o) statuses.TurnsOver false }
     ensures asks { (o : Origin) → MayFollow (after_adds o) (InboxAsked document) → ⊥ }
-    ensures accepts { (o : Origin) → MayFollow (state_after (after_adds_starts o) (Asked 120000 ∷ InboxAsked document ∷ []))
+    ensures accepts { (o : Origin) → MayFollow (state_after (after_adds_starts o) (ReadClock 120000 ∷ InboxAsked document ∷ []))
         (Recorded (Accepted (plan_of both []))) → ⊥ }
     ensures stays { (o : Origin) → MayFollow (after_adds_takes o) (kills (not_asked 0) 0 0 step.Startup) → ⊥ }
 {}

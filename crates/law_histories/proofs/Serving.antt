@@ -8,7 +8,7 @@ use Rattle.records.specs.Stored.{Record, Accepted}
 use Rattle.step_runner.specs.declared.entries.Seen.{Seen}
 use Rattle.step_runner.specs.declared.entries.Seen.TheVariants as seen
 use Rattle.components.specs.declared.kinds.Prepared.{Prepared}
-use Rattle.histories.specs.TraceEvents.{Answer, TraceEvent, Ran, Booted, WaitElapsed, KilledOnAbort, Recorded, Moved, Asked, Heard, InboxAsked, Changed}
+use Rattle.histories.specs.TraceEvents.{Answer, TraceEvent, Ran, Booted, WaitElapsed, KilledOnAbort, Recorded, Moved, ReadClock, Heard, InboxAsked, Changed}
 use Rattle.histories.specs.TraceEvents.{StopsAll, is_document, records_of}
 use Rattle.histories.specs.States.{SessionState, booted, cut_off, is_wait, leaves, state_after, takes_document}
 use Rattle.histories.specs.Follows.{IsProper, MayFollow, MayTakeBy}
@@ -68,7 +68,7 @@ serves_on p (WaitElapsed e) = refl
 serves_on p (KilledOnAbort e) = (cut_inbox e.seen p).serves
 serves_on p (Recorded r) = refl
 serves_on p (Moved k e) = refl
-serves_on p (Asked m) = refl
+serves_on p (ReadClock m) = refl
 serves_on p (Heard k) = refl
 serves_on p (InboxAsked a) = refl
 serves_on p (Changed f c b) = refl
@@ -83,7 +83,7 @@ turns_on p (WaitElapsed e) none may = none
 turns_on p (KilledOnAbort e) none may = (cut_inbox e.seen p).turns ∙ none
 turns_on p (Recorded r) none may = none
 turns_on p (Moved k e) none may = none
-turns_on p (Asked m) none may = none
+turns_on p (ReadClock m) none may = none
 turns_on p (Heard k) none may = none
 turns_on p (InboxAsked a) none may = absurd (omega (arith, may.0.left, none))
 turns_on p (Changed f c b) none may = none
@@ -97,7 +97,7 @@ unasked_by p (WaitElapsed e) none may = tt
 unasked_by p (KilledOnAbort e) none may = tt
 unasked_by p (Recorded r) none may = tt
 unasked_by p (Moved k e) none may = tt
-unasked_by p (Asked m) none may = tt
+unasked_by p (ReadClock m) none may = tt
 unasked_by p (Heard k) none may = tt
 unasked_by p (Changed f c b) none may = tt
 unasked_by p StopsAll none may = tt
@@ -140,7 +140,7 @@ opens_on b p (WaitElapsed e) h not opens = noted_opens e.seen b p p (records_of 
 opens_on b p (KilledOnAbort e) h not opens = noted_opens e.seen b p (cut_off e.seen p) (records_of h) (cut_inbox e.seen p).answer opens
 opens_on b p (Recorded r) h not opens = kept_opens b (takes_document r) p.answer (records_of h) r refl opens
 opens_on b p (Moved k e) h not opens = opens
-opens_on b p (Asked m) h not opens = opens
+opens_on b p (ReadClock m) h not opens = opens
 opens_on b p (Heard k) h not opens = opens
 opens_on b p (InboxAsked a) h not opens = absurd not
 opens_on b p (Changed f c d) h not opens = opens
@@ -165,7 +165,7 @@ one_more b p (WaitElapsed e) h serves opens may once = once
 one_more b p (KilledOnAbort e) h serves opens may once = once
 one_more b p (Recorded r) h serves opens may once = once_more b (records_of h) r (λ takes. opens (open_for p r (takes_document r) refl serves may takes)) once
 one_more b p (Moved k e) h serves opens may once = once
-one_more b p (Asked m) h serves opens may once = once
+one_more b p (ReadClock m) h serves opens may once = once
 one_more b p (Heard k) h serves opens may once = once
 one_more b p (InboxAsked a) h serves opens may once = once
 one_more b p (Changed f c d) h serves opens may once = once

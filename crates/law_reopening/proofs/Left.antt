@@ -9,7 +9,7 @@ use Rattle.device.specs.Standing.{StandsFor}
 use Rattle.step_runner.specs.declared.command.Command.{Command}
 use Rattle.step_runner.specs.declared.entries.Seen.{Seen}
 use Rattle.step_runner.specs.declared.entries.Seen.TheVariants as seen
-use Rattle.histories.specs.TraceEvents.{TraceEvent, Asked, Booted, KilledOnAbort, Recorded, records_of}
+use Rattle.histories.specs.TraceEvents.{TraceEvent, ReadClock, Booted, KilledOnAbort, Recorded, records_of}
 use Rattle.histories.specs.States.{SessionState, state_after}
 use Rattle.histories.specs.Follows.{IsLast}
 use Rattle.histories.proofs.Joined.{records-append}
@@ -25,7 +25,7 @@ use Rattle.law_reopening.proofs.Owed.{failures_told}
 
 no_last : (e : TraceEvent) → IsLast e → starts e ≡ true → ⊥
 no_last (KilledOnAbort e) last start = false≢true start
-no_last (Asked m) last start = false≢true start
+no_last (ReadClock m) last start = false≢true start
 no_last e last start = last
 
 head_is : (x y : TraceEvent) (xs ys : List TraceEvent) → x ∷ xs ≡ y ∷ ys → x ≡ y

@@ -21,7 +21,7 @@ use Rattle.components.specs.Events.{told_at}
 use Rattle.components.specs.Turns.{owes}
 use Rattle.components.specs.declared.kinds.Prepared.{Prepared}
 use Rattle.histories.specs.Phases.{Duty, duty_in, duty_of, is_idle}
-use Rattle.histories.specs.TraceEvents.{TraceEvent, Ran, Booted, WaitElapsed, KilledOnAbort, Recorded, Moved, Asked, Heard, InboxAsked, Changed, StopsAll}
+use Rattle.histories.specs.TraceEvents.{TraceEvent, Ran, Booted, WaitElapsed, KilledOnAbort, Recorded, Moved, ReadClock, Heard, InboxAsked, Changed, StopsAll}
 use Rattle.histories.specs.TraceEvents.{records_of}
 use Rattle.histories.specs.States.{SessionState, booted, cut_off, state_after}
 use Rattle.histories.specs.Follows.{IsProper, MayBooted, MayFollow, MayRun, OwesBy}
@@ -192,7 +192,7 @@ module _ (p : SessionState) (h : List TraceEvent) (k : ℕ) (name : List ℕ) (f
   next (Recorded (stored.Closed o)) may owed = never (Recorded (stored.Closed o)) may.0.0.told owed
   next (Recorded r) may owed = absurd may.0
   next (Moved j e) may owed = never (Moved j e) may.0.1.told owed
-  next (Asked m) may owed = still (Asked m) refl (λ is. is) owed
+  next (ReadClock m) may owed = still (ReadClock m) refl (λ is. is) owed
   next (Heard j) may owed = absurd (pending_busy (state_after p h).device owed.1 may.0.0)
   next (InboxAsked a) may owed = never (InboxAsked a) may.0.quiet.told owed
   next (Changed items counts steady) may owed = never (Changed items counts steady) may.0.told owed

@@ -18,7 +18,7 @@ use Rattle.histories.specs.Follows.{MayCut, MayStopAll, MayTake, MayTakeBy}
 use Rattle.histories.specs.Phases.{Duty, Generation, previous, draining, current, shutting_down, Phase, idle, booting, activating, backing, rolling}
 use Rattle.histories.specs.Phases.{duty_of, is_current, is_idle, is_shutting_down}
 use Rattle.histories.specs.States.{SessionState, booted, cut_off, is_wait, leaves, noted, ran, state_after, takes_document, waited_for}
-use Rattle.histories.specs.TraceEvents.{Answer, TraceEvent, Ran, Booted, WaitElapsed, KilledOnAbort, Recorded, Moved, Asked, Heard, InboxAsked, Changed}
+use Rattle.histories.specs.TraceEvents.{Answer, TraceEvent, Ran, Booted, WaitElapsed, KilledOnAbort, Recorded, Moved, ReadClock, Heard, InboxAsked, Changed}
 use Rattle.histories.specs.TraceEvents.{StopsAll, is_document}
 use Rattle.histories.specs.Waits.{MayWait, has_work, may_drive}
 use Rattle.law_histories.proofs.Histories.{Runs, run_less}
@@ -384,8 +384,8 @@ follow_on p q a t (Moved k e) tw may allowed up = (
   ((may.0.0, may.0.1, drive_on p a t q tw.serves (duty_of q.device).phase q.generation may.0.2), may.1, may.2),
   (a, t, refl, twin_on p q (leaves q (Moved k e)) a a tw refl refl refl refl tw.answered (λ u. u.given)),
 )
-follow_on p q a t (Asked m) tw may allowed up =
-    (may, (a, t, refl, twin_on p q (leaves q (Asked m)) a a tw refl refl refl refl tw.answered (λ u. u.given)))
+follow_on p q a t (ReadClock m) tw may allowed up =
+    (may, (a, t, refl, twin_on p q (leaves q (ReadClock m)) a a tw refl refl refl refl tw.answered (λ u. u.given)))
 follow_on p q a t (Heard k) tw may allowed up =
     (may, (a, t, refl, twin_on p q (leaves q (Heard k)) a a tw refl refl refl refl tw.answered (λ u. u.given)))
 follow_on p q a t (InboxAsked x) tw may allowed up = absurd (clash q.serves may.0.serves tw.serves)

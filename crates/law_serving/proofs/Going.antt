@@ -14,7 +14,7 @@ use Rattle.histories.specs.Follows.{IsLast, IsProper, MayChangeIn, MayFollow, Ma
 use Rattle.histories.specs.Phases.{Generation, previous, draining, current, shutting_down, Phase, idle, booting, activating, backing, rolling}
 use Rattle.histories.specs.Phases.{begins_stage, duty_of, is_idle, is_shutting_down}
 use Rattle.histories.specs.States.{SessionState, booted, cut_off, generation_after, leaves, state_after, takes_document}
-use Rattle.histories.specs.TraceEvents.{TraceEvent, Ran, Booted, WaitElapsed, KilledOnAbort, Recorded, Moved, Asked, Heard, InboxAsked, Changed, StopsAll}
+use Rattle.histories.specs.TraceEvents.{TraceEvent, Ran, Booted, WaitElapsed, KilledOnAbort, Recorded, Moved, ReadClock, Heard, InboxAsked, Changed, StopsAll}
 use Rattle.law_histories.proofs.Histories.{Runs, run_before, run_less, silent}
 use Rattle.law_serving.specs.Alike.{EndsOnCourse, StopsAtRecord}
 use Rattle.law_serving.proofs.Records.{Allows, allows, booted_device, cut_device, idle_takes, pending_idle}
@@ -40,7 +40,7 @@ cut_generation s p = refl
 
 last_generation : (q : SessionState) (e : TraceEvent) → IsLast e → (leaves q e).generation ≡ q.generation
 last_generation q (KilledOnAbort e) last = cut_generation e.seen q
-last_generation q (Asked m) last = refl
+last_generation q (ReadClock m) last = refl
 last_generation q e last = absurd last
 
 -- ---- once they were, they are
@@ -63,7 +63,7 @@ down_stays q (Recorded r) may down = kept_down r may.0
     kept_down (Closed o) keep = down
     kept_down r keep = absurd keep
 down_stays q (Moved k e) may down = down
-down_stays q (Asked m) may down = down
+down_stays q (ReadClock m) may down = down
 down_stays q (Heard k) may down = down
 down_stays q (InboxAsked a) may down = down
 down_stays q (Changed f c b) may down = absurd (no_change (duty_of q.device).phase q.generation down may.0.phase)
@@ -131,7 +131,7 @@ event_idle q (KilledOnAbort e) still may allowed = λ down. ap (λ (d : Device).
     ∙ still (sym (ap (λ (c : Generation). is_shutting_down c) (cut_generation e.seen q)) ∙ down)
 event_idle q (Recorded r) still may allowed = λ down. absurd (clash (IsDown (leaves q (Recorded r))) down (recorded_up q r still may.0 allowed))
 event_idle q (Moved k e) still may allowed = still
-event_idle q (Asked m) still may allowed = still
+event_idle q (ReadClock m) still may allowed = still
 event_idle q (Heard k) still may allowed = still
 event_idle q (InboxAsked a) still may allowed = still
 event_idle q (Changed f c b) still may allowed = λ down. absurd (false≢true down)

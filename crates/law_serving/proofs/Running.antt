@@ -27,7 +27,7 @@ use Rattle.law_supervisor.proofs.Lists.{changed_all}
 use Rattle.histories.specs.Follows.{IsProper, MayFollow, MayKeep}
 use Rattle.histories.specs.Phases.{duty_in, duty_of, is_idle}
 use Rattle.histories.specs.States.{SessionState, booted, cut_child, cut_off, kept_by, leaves, ran, state_after}
-use Rattle.histories.specs.TraceEvents.{TraceEvent, Ran, Booted, WaitElapsed, KilledOnAbort, Recorded, Moved, Asked, Heard, InboxAsked, Changed, StopsAll}
+use Rattle.histories.specs.TraceEvents.{TraceEvent, Ran, Booted, WaitElapsed, KilledOnAbort, Recorded, Moved, ReadClock, Heard, InboxAsked, Changed, StopsAll}
 use Rattle.law_histories.proofs.Histories.{Runs, run_less}
 use Rattle.law_serving.specs.Kept.{IsSteadyIdle}
 use Rattle.law_serving.proofs.Records.{Allows, allows, booted_device, cut_device, origin_on, stays_idle, taken_pends}
@@ -111,7 +111,7 @@ module _ (laws : KeepRecipes) (o : Origin) where
   event_runs q (Recorded r) is a may = kept_runs r q.world a
   event_runs q (Moved k e) is a may =
       laws.moves o.platform q.world (lived_at k e q.world) (record { who = k; what = e } ∷ []) (may.0.1, may.0.0, refl) a
-  event_runs q (Asked m) is a may = a
+  event_runs q (ReadClock m) is a may = a
   event_runs q (Heard k) is a may = laws.tellings o.platform k q.world a
   event_runs q (InboxAsked x) is a may = a
   event_runs q (Changed f c b) is a may =
@@ -218,7 +218,7 @@ event_steady q (KilledOnAbort e) steady may allowed = λ is.
     mode_cut e.seen q ∙ steady (subst (λ (d : Device). is_idle (duty_of d).phase ≡ true) (cut_device e.seen q) is)
 event_steady q (Recorded r) steady may allowed = λ is. steady_kept q r steady may.0 allowed is
 event_steady q (Moved k e) steady may allowed = λ is. steady is
-event_steady q (Asked m) steady may allowed = λ is. steady is
+event_steady q (ReadClock m) steady may allowed = λ is. steady is
 event_steady q (Heard k) steady may allowed = λ is. steady is
 event_steady q (InboxAsked x) steady may allowed = λ is. steady is
 event_steady q (Changed f c b) steady may allowed = λ is. may.0.mode ∙ is

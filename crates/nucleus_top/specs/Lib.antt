@@ -1,5 +1,5 @@
 pub mod Answers
-pub mod Asked
+pub mod ReadClock
 pub mod Audits
 pub mod Begun
 pub mod Bounded

@@ -19,7 +19,7 @@ ghost use Rattle.checkpoint_log.specs.Slots.{slots_files};
 ghost use Rattle.session_serving.specs.Causes.{IsCaused, watched};
 ghost use Rattle.session_serving.specs.Parts.{outside};
 
-use crate::asking::{Asked, read_asked};
+use crate::asking::{ReadClock, read_asked};
 use crate::driving::{deploy, resume};
 use crate::looking::look;
 use crate::serving::serve;
@@ -150,10 +150,10 @@ pub fn nucleus<D: Disk, L: Library, S: Source, I: Inbox, K: Sink, R: Runner>(
 {
     words_ask_one_thing();
     match read_asked(alloc, words) {
-        Asked::Deploy(what) => deploy(alloc, &what, disk, library, source, sink, runner),
-        Asked::Resume => resume(alloc, disk, sink, runner),
-        Asked::Serve(turns) => serve(alloc, turns, disk, library, inbox, sink, runner),
-        Asked::Other => look(alloc, words, disk, library, source, sink),
-        Asked::NoMemory => Status::Memory,
+        ReadClock::Deploy(what) => deploy(alloc, &what, disk, library, source, sink, runner),
+        ReadClock::Resume => resume(alloc, disk, sink, runner),
+        ReadClock::Serve(turns) => serve(alloc, turns, disk, library, inbox, sink, runner),
+        ReadClock::Other => look(alloc, words, disk, library, source, sink),
+        ReadClock::NoMemory => Status::Memory,
     }
 }

@@ -28,5 +28,5 @@ pub full_starves : (at : ℕ) → Full at ≡ Starves → ⊥
 full_starves at is = cc
 
 -- a fault of the sink is none of the disk
-pub edge_other : {A : Type 0} (e : SessionFault) → e ≡ over.Edge → ◌≡◌ {A = Result A SessionFault} (Err e) (Err over.Disk) → ⊥
+pub edge_other : {A : Type 0} (e : SessionFault) → e ≡ over.Output → ◌≡◌ {A = Result A SessionFault} (Err e) (Err over.Disk) → ⊥
 edge_other e edge disk = cc

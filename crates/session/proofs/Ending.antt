@@ -31,7 +31,7 @@ use Rattle.components.specs.Components.{Components}
 use Rattle.histories.specs.Courses.{IsBare, IsEnd, gives_up, leaves_open}
 use Rattle.histories.specs.Phases.{Generation}
 use Rattle.histories.specs.Follows.{IsLast, IsProper}
-use Rattle.histories.specs.TraceEvents.{TraceEvent, Ran as RanEntry, Booted as BootedEntry, WaitElapsed, KilledOnAbort, Recorded, Moved, Asked, Heard}
+use Rattle.histories.specs.TraceEvents.{TraceEvent, Ran as RanEntry, Booted as BootedEntry, WaitElapsed, KilledOnAbort, Recorded, Moved, ReadClock, Heard}
 use Rattle.histories.specs.TraceEvents.{InboxAsked, Changed, StopsAll, records_of}
 use Rattle.histories.specs.Once.{TakesOnce}
 use Rattle.histories.specs.States.{SessionState, booted as booted_by, cut_off, leaves as left_of, state_after}
@@ -136,24 +136,24 @@ module _ {J : Type 0} where
   begun_for (Ok (driven.Restart s)) ending is = subst IsBegun (sym is) tt
   begun_for (Ok (driven.Reboot s)) ending is = subst IsBegun (sym is) tt
   begun_for (Err over.Disk) ending is = subst IsBegun (sym is) tt
-  begun_for (Err over.Edge) ending is = subst IsBegun (sym is) tt
+  begun_for (Err over.Output) ending is = subst IsBegun (sym is) tt
 
 pub ending_is : (J : Type 0) (e : SessionFault) (ending : Ending) → EndsFor {J = J} (Err e) ending → ending ≡ ending_over e
 ending_is J over.Disk ending is = is
-ending_is J over.Edge ending is = is
+ending_is J over.Output ending is = is
 
 begun_fed : (ending : Ending) → IsBegun ending → ending ≢ Starves
 begun_fed ending begun is = subst IsBegun is begun
 
 over_ends : (p : SessionState) (e : SessionFault) (h : List TraceEvent) → EndsPart p (ending_over e) h
 over_ends p over.Disk h = tt
-over_ends p over.Edge h = tt
+over_ends p over.Output h = tt
 
 -- where it was given up nothing is done behind the last record
 over_stops : {D : Type 0} (entries : Image → List (List ℕ) → Type 0) (may_leave : D → Image → Type 0) (disk : D) (e : SessionFault) (p : SessionState)
     (h : List TraceEvent) → LeftAt entries may_leave disk p h e → StopsAt h
 over_stops entries may_leave disk over.Disk p h left = left.0
-over_stops entries may_leave disk over.Edge p h left = left.0
+over_stops entries may_leave disk over.Output p h left = left.0
 
 -- behind a record after which the call ends nothing happened
 seen_booted : (s : Seen) (m : Prepared) (p : SessionState) → (booted_by s m p).over ≡ p.over
@@ -183,7 +183,7 @@ over_at q (BootedEntry e m) h fresh is = absurd (false≢true (sym fresh ∙ sym
 over_at q (WaitElapsed e) h fresh is = absurd (false≢true (sym fresh ∙ is))
 over_at q (KilledOnAbort e) h fresh is = absurd (false≢true (sym fresh ∙ sym (seen_cut e.seen q) ∙ is))
 over_at q (Moved k e) h fresh is = absurd (false≢true (sym fresh ∙ is))
-over_at q (Asked m) h fresh is = absurd (false≢true (sym fresh ∙ is))
+over_at q (ReadClock m) h fresh is = absurd (false≢true (sym fresh ∙ is))
 over_at q (Heard k) h fresh is = absurd (false≢true (sym fresh ∙ is))
 over_at q (InboxAsked a) h fresh is = absurd (false≢true (sym fresh ∙ is))
 over_at q (Changed f c b) h fresh is = absurd (false≢true (sym fresh ∙ is))
@@ -236,14 +236,14 @@ open_end q status rose bare opens recorded =
 
 over_opens : (e : SessionFault) (status : Status) → AnswersOver e status → leaves_open status ≡ true
 over_opens over.Disk status answers = disk_opens status answers
-over_opens over.Edge status answers = ap leaves_open answers
+over_opens over.Output status answers = ap leaves_open answers
 
 over_end : {D : Type 0} (entries : Image → List (List ℕ) → Type 0) (may_leave : D → Image → Type 0) (disk : D) (e : SessionFault) (p : SessionState)
     (h : List TraceEvent) (status : Status) → IsBare (state_after p h) → LeftAt entries may_leave disk p h e → AnswersOver e status
     → IsEnd (state_after p h) status (is_failing (ending_over e))
 over_end entries may_leave disk over.Disk p h status bare left answers = open_end (state_after p h) status true bare (over_opens over.Disk status answers)
     (inr refl)
-over_end entries may_leave disk over.Edge p h status bare left answers = open_end (state_after p h) status false bare (over_opens over.Edge status answers)
+over_end entries may_leave disk over.Output p h status bare left answers = open_end (state_after p h) status false bare (over_opens over.Output status answers)
     (inl left.1)
 
 over_left : {J : Type 0} (before : Generation) (r : Ran J) (rose : Bool) (q : SessionState) (world : Components) (told : Told) (living : List ℕ) → IsOver r →
@@ -273,7 +273,7 @@ doubt_left entries may_leave e disk p k plan before world told living status r i
 
 pub over_answers : (e : SessionFault) (status : Status) → AnswersOver e status → IsOrEdge status (status_of_ending (ending_over e))
 over_answers over.Disk status answers = answers
-over_answers over.Edge status answers = inl answers
+over_answers over.Output status answers = inl answers
 
 -- behind the course of a deployment that went to an end
 module _ (p : SessionState) (h k : List TraceEvent) (q : SessionState) (none : records_of k ≡ []) (same : (state_after p (k ++ h)).device ≡ q.device)
@@ -324,19 +324,19 @@ module _ (entries : Image → List (List ℕ) → Type 0) {D : Type 0} (may_leav
   pub over_most : (e : SessionFault) (disk : D) (p : SessionState) (h : List TraceEvent) → Run p.device (records_of h) (state_after p h).device →
       LeftAt entries may_leave disk p h e → (c : Image) → may_leave disk c → StandsForMost entries p.device (records_of h) c
   over_most over.Disk disk p h run left = left.1
-  over_most over.Edge disk p h run left = most_of disk p h run left.2
+  over_most over.Output disk p h run left = most_of disk p h run left.2
 
-  pub edge_behind : (e : SessionFault) (disk : D) (p : SessionState) (h : List TraceEvent) → e ≡ over.Edge → LeftAt entries may_leave disk p h e →
+  pub edge_behind : (e : SessionFault) (disk : D) (p : SessionState) (h : List TraceEvent) → e ≡ over.Output → LeftAt entries may_leave disk p h e →
       StandsBehind entries may_leave disk p h
   edge_behind over.Disk disk p h is left = absurd cc
-  edge_behind over.Edge disk p h is left = left.2
+  edge_behind over.Output disk p h is left = left.2
 
   -- nothing is started behind a record that is in doubt
   over_doubt : (e : SessionFault) (disk : D) (p : SessionState) (h : List TraceEvent) (status : Status) → AnswersOver e status →
       LeftAt entries may_leave disk p h e →
       StandsBehind entries may_leave disk p h ⊎ ((gives_up status ≡ true) × StopsAt h)
   over_doubt over.Disk disk p h status answers left = inr ((opens_gives status (over_opens over.Disk status answers)).0, left.0)
-  over_doubt over.Edge disk p h status answers left = inl left.2
+  over_doubt over.Output disk p h status answers left = inl left.2
 
 module _ (entries : Image → List (List ℕ) → Type 0) (files : List ℕ → Type 0) {D : Type 0} (may_leave : D → Image → Type 0) (moment : D → ℕ)
     (left_since : D → ℕ → Image → Type 0) (old new : D) (a c : Option (List RunnerEntry)) (u x : Option (List ℕ)) (p : SessionState) (status : Status)
@@ -448,7 +448,7 @@ module _ {D J : Type 0} {is_modelled : Bool} {seen : D → Image} {may_leave : D
         Acts q k b c × IsUnbegun q k × ((rose : Bool) → RanLeft before ran rose (state_after q k) last now lives))
         → OnErr r (IsOver ran) → OnErr r (c ≡ b) → ChangesArtifactsAlone may_leave moment left_since to new →
         IfOk r (λ y. AllHoldDevice (may_leave to) (driven_device y) → Leaves moment left_since to new (λ i. HoldsDevice i (driven_device y))) →
-        OnErr r (new ≡ to) → SaysEnding w x (status_of_ran ran) (λ e. EndsFor r e × because e) → (IsErrOf r over.Edge → x ≡ w) →
+        OnErr r (new ≡ to) → SaysEnding w x (status_of_ran ran) (λ e. EndsFor r e × because e) → (IsErrOf r over.Output → x ≡ w) →
         AnswersFor r (status_of_ran ran)
         → PartFor entries files may_leave moment left_since old new a c u x p (status_of_ran ran)
         (λ ending q. RanLeft p.generation ran (is_failing ending) q last now lives) (records_of course.history) because
@@ -684,7 +684,7 @@ module _ {D : Type 0} (entries : Image → List (List ℕ) → Type 0) (files : 
         → d.pending ≡ None → records_of h ≡ Accepted plan ∷ [] → Run p.device (records_of h) (state_after p h).device → LinesAt u v p.device (records_of h) e
         → LeftAt entries may_leave new p h e → Acts (state_after p (Recorded (Accepted plan) ∷ [])) k list now → AllByRecursion IsLast k
         → KeepsRest (state_after p (Recorded (Accepted plan) ∷ [])) (state_after (state_after p (Recorded (Accepted plan) ∷ [])) k)
-        → SaysLine v w status (line_of_ending (ending_over e)) → (e ≡ over.Edge → w ≡ v) → AnswersOver e status
+        → SaysLine v w status (line_of_ending (ending_over e)) → (e ≡ over.Output → w ≡ v) → AnswersOver e status
         → ((LeftAt entries may_leave new p (k ++ Recorded (Accepted plan) ∷ []) e) → leaves (ending_over e)
         (state_after p (k ++ Recorded (Accepted plan) ∷ [])))
         → (t : (part : Part entries files may_leave moment left_since old new list now u w p status leaves) × Begins start plan part.ending
@@ -732,7 +732,7 @@ module _ {D : Type 0} (entries : Image → List (List ℕ) → Type 0) (files : 
       where
         over_begun : (e : SessionFault) → IsBegun (ending_over e)
         over_begun over.Disk = tt
-        over_begun over.Edge = tt
+        over_begun over.Output = tt
 
         left_as : (e : SessionFault) → (state_after p h).device ≡ applied p.device (Accepted plan) → records_of h ≡ Accepted plan ∷ [] →
             LeftAt entries may_leave new p h e → LeftAt entries may_leave new p (Recorded (Accepted plan) ∷ []) e
@@ -741,7 +741,7 @@ module _ {D : Type 0} (entries : Image → List (List ℕ) → Type 0) (files : 
           λ c may. subst (λ (l : List Record). StandsForMost entries p.device l c) records
               (left.1 c may),
         )
-        left_as over.Edge device records left = (
+        left_as over.Output device records left = (
           stops_last (Accepted plan),
           opens.boot_end,
           λ c may. subst (λ (x : Device). StandsFor entries c x) device (left.2 c may),

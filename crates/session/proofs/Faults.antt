@@ -28,9 +28,9 @@ rose_stays a b rose = omega (arith, rose)
 pub stays_by : {A : Type 0} (r : Result A SessionFault) (e : SessionFault) (a b : ℕ) → (IsErrOf r e → Rose a b) → ((IsErrOf r e → ⊥) → b ≡ a) → Stays a b
 stays_by (Ok x) e a b rose quiet = same_stays a b (quiet (λ is. cc))
 stays_by (Err over.Disk) over.Disk a b rose quiet = rose_stays a b (rose refl)
-stays_by (Err over.Disk) over.Edge a b rose quiet = same_stays a b (quiet (λ is. cc))
-stays_by (Err over.Edge) over.Disk a b rose quiet = same_stays a b (quiet (λ is. cc))
-stays_by (Err over.Edge) over.Edge a b rose quiet = rose_stays a b (rose refl)
+stays_by (Err over.Disk) over.Output a b rose quiet = same_stays a b (quiet (λ is. cc))
+stays_by (Err over.Output) over.Disk a b rose quiet = same_stays a b (quiet (λ is. cc))
+stays_by (Err over.Output) over.Output a b rose quiet = rose_stays a b (rose refl)
 
 -- it rose within, or behind
 pub rose_by : {A : Type 0} (r : Result A SessionFault) (e : SessionFault) (a b c : ℕ) → (IsErrOf r e → Rose a b) → ((IsErrOf r e → ⊥) → b ≡ a) → b ≤ c →
@@ -38,8 +38,8 @@ pub rose_by : {A : Type 0} (r : Result A SessionFault) (e : SessionFault) (a b c
 rose_by (Ok x) e a b c rose quiet later (inl is) = absurd cc
 rose_by (Ok x) e a b c rose quiet later (inr more) = subst (λ (n : ℕ). Rose n c) (quiet (λ is. cc)) more
 rose_by (Err over.Disk) over.Disk a b c rose quiet later more = rose_then a b c (rose refl) later
-rose_by (Err over.Disk) over.Edge a b c rose quiet later (inl is) = absurd cc
-rose_by (Err over.Disk) over.Edge a b c rose quiet later (inr more) = subst (λ (n : ℕ). Rose n c) (quiet (λ is. cc)) more
-rose_by (Err over.Edge) over.Disk a b c rose quiet later (inl is) = absurd cc
-rose_by (Err over.Edge) over.Disk a b c rose quiet later (inr more) = subst (λ (n : ℕ). Rose n c) (quiet (λ is. cc)) more
-rose_by (Err over.Edge) over.Edge a b c rose quiet later more = rose_then a b c (rose refl) later
+rose_by (Err over.Disk) over.Output a b c rose quiet later (inl is) = absurd cc
+rose_by (Err over.Disk) over.Output a b c rose quiet later (inr more) = subst (λ (n : ℕ). Rose n c) (quiet (λ is. cc)) more
+rose_by (Err over.Output) over.Disk a b c rose quiet later (inl is) = absurd cc
+rose_by (Err over.Output) over.Disk a b c rose quiet later (inr more) = subst (λ (n : ℕ). Rose n c) (quiet (λ is. cc)) more
+rose_by (Err over.Output) over.Output a b c rose quiet later more = rose_then a b c (rose refl) later

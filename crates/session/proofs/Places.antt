@@ -18,7 +18,7 @@ use Rattle.components.specs.Turns.{owes}
 use Rattle.components.specs.declared.kinds.Prepared.{Prepared}
 use Rattle.law_supervisor.specs.Sound.{AreSound, Differ, HaveOwnNames, IsOrderly}
 use Rattle.histories.specs.Phases.{Generation, Phase, duty_of, idle, is_shutting_down}
-use Rattle.histories.specs.TraceEvents.{TraceEvent, Ran, Booted, WaitElapsed, KilledOnAbort, Recorded, Moved, Asked, Heard, InboxAsked, Changed, StopsAll}
+use Rattle.histories.specs.TraceEvents.{TraceEvent, Ran, Booted, WaitElapsed, KilledOnAbort, Recorded, Moved, ReadClock, Heard, InboxAsked, Changed, StopsAll}
 use Rattle.histories.specs.States.{SessionState, booted, cut_off, leaves, state_after}
 use Rattle.histories.specs.Follows.{Lives, MayStopAll}
 use Rattle.histories.specs.Courses.{IsBare, IsEnd, Stands, gives_up, is_restart}
@@ -64,7 +64,7 @@ still_serves p (WaitElapsed e) = refl
 still_serves p (KilledOnAbort e) = cut_serves e.seen p
 still_serves p (Recorded r) = refl
 still_serves p (Moved k e) = refl
-still_serves p (Asked m) = refl
+still_serves p (ReadClock m) = refl
 still_serves p (Heard k) = refl
 still_serves p (InboxAsked a) = refl
 still_serves p (Changed f c b) = refl

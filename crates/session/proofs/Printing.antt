@@ -173,16 +173,16 @@ edge_prints sure a b c d records status stable before lines is = record {
 -- how a call ends whose deployment was given up
 abbrev pub ending_over : SessionFault → Ending
 ending_over over.Disk = Fails
-ending_over over.Edge = Breaks
+ending_over over.Output = Breaks
 
 -- a deployment that was given up
 pub over_prints : (sure : Type 0) (e : SessionFault) (a b c f : Option (List ℕ)) (d : Device) (records : List Record) (status : Status) →
-    (e ≡ over.Edge → sure) → Appends a b (opening_line d) → LinesAt b c d records e
-    → SaysLine c f status (line_of_ending (ending_over e)) → (e ≡ over.Edge → f ≡ c) → AnswersOver e status → Prints a f d records (ending_over e) status sure
+    (e ≡ over.Output → sure) → Appends a b (opening_line d) → LinesAt b c d records e
+    → SaysLine c f status (line_of_ending (ending_over e)) → (e ≡ over.Output → f ≡ c) → AnswersOver e status → Prints a f d records (ending_over e) status sure
 over_prints sure over.Disk a b c f d records status stable before lines says silent answers =
     told_prints sure a b c f d records lines.0 (lines.1 ∷ []) Fails status (λ none. cc) (λ is. cc) before lines.3 lines.2 (omega arith)
     (λ other. absurd (other refl)) says
-over_prints sure over.Edge a b c f d records status stable before lines says silent answers =
+over_prints sure over.Output a b c f d records status stable before lines says silent answers =
     subst (λ (x : Option (List ℕ)). Prints a x d records Breaks status sure) (sym (silent refl))
     (edge_prints sure a b c d records status (stable refl) before lines answers)
 

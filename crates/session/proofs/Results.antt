@@ -58,12 +58,12 @@ module _ {J : Type 0} (status : Status) where
         (subst (λ (z : SessionFault). SaysEnding old new status (EndsCaused R (Err z))) (sym same) says)
 
 -- it failed, and not at the sink
-pub not_edge : {A : Type 0} (r : Result A SessionFault) (e : SessionFault) → r ≡ Err e → e ≡ over.Disk → IsErrOf r over.Edge → ⊥
-not_edge {A} r e is disk edge = by e disk (subst (λ (z : Result A SessionFault). z ≡ Err over.Edge) is edge)
+pub not_edge : {A : Type 0} (r : Result A SessionFault) (e : SessionFault) → r ≡ Err e → e ≡ over.Disk → IsErrOf r over.Output → ⊥
+not_edge {A} r e is disk edge = by e disk (subst (λ (z : Result A SessionFault). z ≡ Err over.Output) is edge)
   where
-    by : (e : SessionFault) → e ≡ over.Disk → ◌≡◌ {A = Result A SessionFault} (Err e) (Err over.Edge) → ⊥
+    by : (e : SessionFault) → e ≡ over.Disk → ◌≡◌ {A = Result A SessionFault} (Err e) (Err over.Output) → ⊥
     by over.Disk same both = cc
-    by over.Edge same both = cc
+    by over.Output same both = cc
 
 -- ---- which statuses it has not
 
@@ -79,7 +79,7 @@ module _ {J : Type 0} (status : Status) where
   answers_own (Ok (driven.Reboot s)) (inr is) lib = cc
   answers_own (Err over.Disk) (inl is) lib = cc
   answers_own (Err over.Disk) (inr is) lib = cc
-  answers_own (Err over.Edge) is lib = cc
+  answers_own (Err over.Output) is lib = cc
 
   -- a failure of the disk is answered as one, unless the sink fails then
   pub answers_disk : (r : Result (Driven J) SessionFault) → AnswersFor r status → status ≢ statuses.Disk → status ≢ statuses.Edge → IsErrOf r over.Disk → ⊥

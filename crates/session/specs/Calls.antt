@@ -175,7 +175,7 @@ EndsFor (Ok (driven.Closed s o c)) ending = EndsClosed o ending
 EndsFor (Ok (driven.Restart s)) ending = ending ≡ Restarts (id_of (loaded_device s))
 EndsFor (Ok (driven.Reboot s)) ending = ending ≡ Reboots (id_of (loaded_device s))
 EndsFor (Err over.Disk) ending = ending ≡ Fails
-EndsFor (Err over.Edge) ending = ending ≡ Breaks
+EndsFor (Err over.Output) ending = ending ≡ Breaks
 
 -- by some ending its line is said with its status
 abbrev pub SaysEnding : Option (List ℕ) → Option (List ℕ) → Status → (Ending → Type 0) → Type 0

@@ -136,7 +136,7 @@ pub(crate) fn end_call<D: Disk, J: Journal + Drop, K: Sink, R: Runner, S: Superv
     ensures ends { SaysEnding (K.held sink.old) (K.held sink.new) (status_of_ran result)
         (λ e. EndsFor driven e × (e ≡ Fails → (IsErrOf driven SessionFault.Disk) ⊎ Rose (D.faults disk.old) (D.faults disk.new))) }
     ensures unswept { OnErr driven (disk.new ≡ disk.old) }
-    ensures silent { IsErrOf driven SessionFault.Edge → K.held sink.new ≡ K.held sink.old }
+    ensures silent { IsErrOf driven SessionFault.Output → K.held sink.new ≡ K.held sink.old }
     ensures answers { AnswersFor driven (status_of_ran result) }
     ensures disk { status_of_ran result ≡ statuses.Disk → (IsErrOf driven SessionFault.Disk) ⊎ Rose (D.faults disk.old) (D.faults disk.new) }
     ensures edge { status_of_ran result ≡ statuses.Edge → (IsErrOf driven SessionFault.Edge) ⊎ Rose (K.faults sink.old) (K.faults sink.new) }

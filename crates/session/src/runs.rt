@@ -149,7 +149,7 @@ where
             let status = say_disk(sink);
             give_up(status, runner, supervisor)
         }
-        Err(SessionFault::Edge) => {
+        Err(SessionFault::Output) => {
             drop(ready);
             give_up(Status::Edge, runner, supervisor)
         }

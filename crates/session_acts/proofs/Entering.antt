@@ -17,7 +17,7 @@ use Rattle.components.specs.Answers.{has_answered}
 use Rattle.components.specs.Events.{ended, gone_by, is_orphan_at, kill_event_at, killed, later, launched, started}
 use Rattle.components.specs.Acts.{Move, Quietly}
 use Rattle.histories.specs.Phases.{duty_of}
-use Rattle.histories.specs.TraceEvents.{TraceEvent, Asked, Moved, Ran}
+use Rattle.histories.specs.TraceEvents.{TraceEvent, ReadClock, Moved, Ran}
 use Rattle.histories.specs.States.{SessionState, is_wait, leaves, state_after, ran}
 use Rattle.histories.specs.Follows.{MayRun}
 use Rattle.histories.proofs.Joined.{left-append}
@@ -189,7 +189,7 @@ without_boot never (inr b) = absurd (never b)
 
 pub pass_runs : Laws → (p : SessionState) (d : Device) (world : Components) (old new : Told) (living next : List ℕ) (now : ℕ) →
     IsAtTurnStart p d world old living → new.moment ≡ now → new.asked ≡ true → next ≡ living
-    → IsInTurn (leaves p (Asked now)) (later now world) new next
+    → IsInTurn (leaves p (ReadClock now)) (later now world) new next
 pass_runs laws p d world old new living next now c moment asked same =
     let s = c.stands in
     record {
@@ -208,7 +208,7 @@ pass_runs laws p d world old new living next now c moment asked same =
     }
 
 pub pass_acts : (p : SessionState) (d : Device) (world : Components) (old : Told) (living : List ℕ) (now : ℕ) (list new : Option (List RunnerEntry)) →
-    IsAtTurnStart p d world old living → old.moment ≤ now → new ≡ list → ActsInTurn p (Asked now ∷ []) list new
+    IsAtTurnStart p d world old living → old.moment ≤ now → new ≡ list → ActsInTurn p (ReadClock now ∷ []) list new
 pass_acts p d world old living now list new c later_on same = record {
   acts = record {
     proper = ((subst (λ (w : Components). w.moment ≤ now) (sym c.stands.world_is) later_on, (λ cut. absurd (never p.cut c.on.cut cut)), c.on.over), tt);

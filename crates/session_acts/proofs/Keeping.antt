@@ -9,7 +9,7 @@ use Rattle.step_runner.specs.declared.entries.Seen.TheVariants as seen
 use Rattle.components.specs.Acts.{MayMove}
 use Rattle.components.specs.Turns.{IsNext}
 use Rattle.histories.specs.Phases.{duty_of}
-use Rattle.histories.specs.TraceEvents.{TraceEvent, Ran, Booted, WaitElapsed, KilledOnAbort, Recorded, Moved, Asked, Heard, InboxAsked, Changed, StopsAll}
+use Rattle.histories.specs.TraceEvents.{TraceEvent, Ran, Booted, WaitElapsed, KilledOnAbort, Recorded, Moved, ReadClock, Heard, InboxAsked, Changed, StopsAll}
 use Rattle.histories.specs.States.{SessionState, is_wait, leaves, says_no, state_after}
 use Rattle.histories.specs.Follows.{IsProper, MayFollow, MayRun}
 use Rattle.session_acts.specs.Traces.{AreActEvents, IsActEntry, IsActEvent}
@@ -17,7 +17,7 @@ use Rattle.session_acts.specs.Waits.{IsWaitEvent}
 
 -- what a stage keeps of the state of the session, by each event of a turn's acts
 pub record IsKept (stage : SessionState → Type 0) : Type 0 where
-  pub asked : (p : SessionState) (m : ℕ) → stage p → stage (leaves p (Asked m))
+  pub asked : (p : SessionState) (m : ℕ) → stage p → stage (leaves p (ReadClock m))
   pub moved : (p : SessionState) (k : ℕ) (e : LifeEvent) → IsNext p.world k → MayMove p.world k e → stage p → stage (leaves p (Moved k e))
   pub ran : (p : SessionState) (e : RunnerEntry) (k : ℕ) (t : Step) → MayRun (duty_of p.device) p e.seen k t → IsActEntry p e.seen → stage p →
       stage (leaves p (Ran e k t))
@@ -30,7 +30,7 @@ module _ (stage : SessionState → Type 0) (kept : IsKept stage) where
   kept_by p (KilledOnAbort e) may is here = absurd is
   kept_by p (Recorded r) may is here = absurd is
   kept_by p (Moved k e) may is here = kept.moved p k e may.0.1 may.0.0 here
-  kept_by p (Asked m) may is here = kept.asked p m here
+  kept_by p (ReadClock m) may is here = kept.asked p m here
   kept_by p (Heard k) may is here = absurd is
   kept_by p (InboxAsked a) may is here = absurd is
   kept_by p (Changed f c b) may is here = absurd is
@@ -54,7 +54,7 @@ kept_by_wait stage kept p (WaitElapsed e) may is here = kept.elapsed p e is here
 kept_by_wait stage kept p (KilledOnAbort e) may is here = absurd is
 kept_by_wait stage kept p (Recorded r) may is here = absurd is
 kept_by_wait stage kept p (Moved k e) may is here = absurd is
-kept_by_wait stage kept p (Asked m) may is here = absurd is
+kept_by_wait stage kept p (ReadClock m) may is here = absurd is
 kept_by_wait stage kept p (Heard k) may is here = absurd is
 kept_by_wait stage kept p (InboxAsked a) may is here = absurd is
 kept_by_wait stage kept p (Changed f c b) may is here = absurd is
@@ -77,7 +77,7 @@ wait_unprobed p (WaitElapsed e) is = says_nothing e.seen is
 wait_unprobed p (KilledOnAbort e) is = absurd is
 wait_unprobed p (Recorded r) is = absurd is
 wait_unprobed p (Moved k e) is = absurd is
-wait_unprobed p (Asked m) is = absurd is
+wait_unprobed p (ReadClock m) is = absurd is
 wait_unprobed p (Heard k) is = absurd is
 wait_unprobed p (InboxAsked a) is = absurd is
 wait_unprobed p (Changed f c b) is = absurd is

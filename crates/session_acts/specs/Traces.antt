@@ -4,7 +4,7 @@ use Rattle.step_runner.specs.declared.entries.RunnerEntry.{RunnerEntry}
 use Rattle.step_runner.specs.declared.entries.Seen.{Seen}
 use Rattle.step_runner.specs.declared.entries.Seen.TheVariants as seen
 use Rattle.components.specs.Components.{owner}
-use Rattle.histories.specs.TraceEvents.{TraceEvent, Ran, Moved, Asked}
+use Rattle.histories.specs.TraceEvents.{TraceEvent, Ran, Moved, ReadClock}
 use Rattle.histories.specs.States.{SessionState, state_after}
 use Rattle.session_boots.specs.Traces.{Acts}
 
@@ -19,7 +19,7 @@ IsActEntry p s = ⊤
 abbrev pub IsActEvent : SessionState → TraceEvent → Type 0
 IsActEvent p (Ran e k s) = IsActEntry p e.seen
 IsActEvent p (Moved k e) = ⊤
-IsActEvent p (Asked m) = ⊤
+IsActEvent p (ReadClock m) = ⊤
 IsActEvent p e = ⊥
 
 -- from a state of the session on each event is one of these

@@ -178,7 +178,7 @@ module _ {J : Type 0} where
   refusal_fails (refused.NoMemory s) taken = absurd taken
   refusal_fails (refused.Stopped s) taken = refl
 
-  pub refusal_edge : (refusal : AcceptRefusal J) → answer_of refusal ≡ Err over.Edge → ⊥
+  pub refusal_edge : (refusal : AcceptRefusal J) → answer_of refusal ≡ Err over.Output → ⊥
   refusal_edge (refused.Full s at) is = cc
   refusal_edge (refused.NoMemory s) is = cc
   refusal_edge (refused.Stopped s) is = cc

@@ -88,15 +88,15 @@ pub fn accept_plan<D: Disk, J: Journal + Drop, K: Sink>(
         (start_of J.end J.number J.turns (idle_log idle) (idle_device idle) (plan_bytes (plan_view plan)) + 5 + plan_bytes (plan_view plan)) image }
     ensures others { KeepsOthers D.Disk J.Journal disk.old disk.new }
     ensures disk { IsErrOf result SessionFault.Disk → Rose (D.faults disk.old) (D.faults disk.new) }
-    ensures edge { IsErrOf result SessionFault.Edge → Rose (K.faults sink.old) (K.faults sink.new) }
+    ensures edge { IsErrOf result SessionFault.Output → Rose (K.faults sink.old) (K.faults sink.new) }
     ensures quiet_disk { ¬ (IsErrOf result SessionFault.Disk) → D.faults disk.new ≡ D.faults disk.old }
-    ensures quiet_sink { ¬ (IsErrOf result SessionFault.Edge) → K.faults sink.new ≡ K.faults sink.old }
+    ensures quiet_sink { ¬ (IsErrOf result SessionFault.Output) → K.faults sink.new ≡ K.faults sink.old }
     ensures later { (D.faults disk.old ≤ D.faults disk.new) × (K.faults sink.old ≤ K.faults sink.new) }
 {
     match idle.accept(alloc, disk, plan) {
         Ok(accepted) => match acknowledge(sink, &accepted.1) {
             Ok(()) => Ok(Taken::Accepted(accepted.0)),
-            Err(_) => Err(SessionFault::Edge),
+            Err(_) => Err(SessionFault::Output),
         },
         Err(refusal) => answer_to(refusal),
     }

@@ -20,7 +20,7 @@ use Rattle.components.specs.Events.{later}
 use Rattle.components.specs.Turns.{IsQuiet, owes}
 use Rattle.components.specs.declared.kinds.Prepared.{Prepared}
 use Rattle.histories.specs.Phases.{Duty, duty_of}
-use Rattle.histories.specs.TraceEvents.{TraceEvent, Booted, WaitElapsed, Asked}
+use Rattle.histories.specs.TraceEvents.{TraceEvent, Booted, WaitElapsed, ReadClock}
 use Rattle.histories.specs.States.{SessionState, leaves, state_after, booted, noted, is_wait}
 use Rattle.histories.specs.Waits.{MayWait, boot_deadline}
 use Rattle.histories.specs.Follows.{IsEntry, IsBootChild, MayBoot, MayBooted}
@@ -81,7 +81,7 @@ still_later p q m world generation cut still = record {
 -- ---- the moment
 
 pub pass_acts : (p : SessionState) (m : Prepared) (told : Told) (now : ℕ) (old new : Option (List RunnerEntry)) → MayStep p m told → told.moment ≤ now →
-    new ≡ old → Acts p (Asked now ∷ []) old new
+    new ≡ old → Acts p (ReadClock now ∷ []) old new
 pass_acts p m told now old new may later same = record {
   proper = ((omega (arith, may.moment, later), (λ cut. absurd (never p.cut may.still.cut cut)), may.over), tt);
   none = refl;
@@ -90,7 +90,7 @@ pass_acts p m told now old new may later same = record {
 }
 
 pub pass_probe : (p : SessionState) (m : Prepared) (told new : Told) (now : ℕ) → MayStep p m told → new.moment ≡ now → new.asked ≡ true →
-    MayProbe (leaves p (Asked now)) m new
+    MayProbe (leaves p (ReadClock now)) m new
 pass_probe p m told new now may moment asked = record {
   may = record {
     phase = may.may.phase;
@@ -107,7 +107,7 @@ pass_probe p m told new now may moment asked = record {
     alone = may.may.alone;
     no_end = may.may.no_end;
   };
-  still = still_later p (leaves p (Asked now)) now refl refl may.still.cut may.still;
+  still = still_later p (leaves p (ReadClock now)) now refl refl may.still.cut may.still;
   probed = refl;
   is_told = record { moment = moment; asked = asked; due = λ d. refl; over = may.over; cut = may.still.cut };
 }
@@ -370,7 +370,7 @@ ended_on p g h old mid new exit k acts world generation e = record {
 -- the wait elapsed, and a moment was asked for
 pub slept_acts : (p : SessionState) (child deadline : ℕ) (old new : Told) (now : ℕ) (list : Option (List RunnerEntry)) → IsAlive p child deadline old →
     old.moment < deadline → Notes old new (seen.Elapsed (deadline - old.moment)) → old.moment ≤ now → list ≡ new.list
-    → Acts p (Asked now ∷ WaitElapsed (entry old (seen.Elapsed (deadline - old.moment))) ∷ []) old.list list
+    → Acts p (ReadClock now ∷ WaitElapsed (entry old (seen.Elapsed (deadline - old.moment))) ∷ []) old.list list
 slept_acts p child deadline old new now list alive lt notes le same =
     let e = entry old (seen.Elapsed (deadline - old.moment)) in
     let one : Acts p (WaitElapsed e ∷ []) old.list new.list = record {
@@ -386,21 +386,21 @@ slept_acts p child deadline old new now list alive lt notes le same =
       list = notes.entry;
       device = refl;
     } in
-    let two : Acts (leaves p (WaitElapsed e)) (Asked now ∷ []) new.list list = record {
+    let two : Acts (leaves p (WaitElapsed e)) (ReadClock now ∷ []) new.list list = record {
       proper = ((omega (arith, alive.is_told.moment, le), (λ cut. absurd (never p.cut alive.is_told.cut cut)), alive.is_told.over), tt);
       none = refl;
       list = grows_none new.list list same;
       device = refl;
     } in
-    acts_on p (WaitElapsed e ∷ []) (Asked now ∷ []) old.list new.list list one two
+    acts_on p (WaitElapsed e ∷ []) (ReadClock now ∷ []) old.list new.list list one two
 
 pub slept_alive : (p : SessionState) (child deadline : ℕ) (old new : Told) (now : ℕ) → IsAlive p child deadline old → new.moment ≡ now → new.asked ≡ true
-    → IsAlive (state_after p (Asked now ∷ WaitElapsed (entry old (seen.Elapsed (deadline - old.moment))) ∷ [])) child deadline new
+    → IsAlive (state_after p (ReadClock now ∷ WaitElapsed (entry old (seen.Elapsed (deadline - old.moment))) ∷ [])) child deadline new
 slept_alive p child deadline old new now alive moment asked = record {
   phase = alive.phase;
   boot = alive.boot;
   no_end = alive.no_end;
-  still = still_later p (state_after p (Asked now ∷ WaitElapsed (entry old (seen.Elapsed (deadline - old.moment))) ∷ [])) now refl refl alive.still.cut
+  still = still_later p (state_after p (ReadClock now ∷ WaitElapsed (entry old (seen.Elapsed (deadline - old.moment))) ∷ [])) now refl refl alive.still.cut
       alive.still;
   is_told = record { moment = moment; asked = asked; due = λ d. refl; over = alive.is_told.over; cut = alive.is_told.cut };
 }

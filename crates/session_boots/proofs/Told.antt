@@ -60,7 +60,7 @@ lines_at_joined a b c p w t over.Disk run one two = (
   subst (λ (l : List ℕ). Appends a c l) (sym (lines_on p.device (records_of w) (state_after p w).device two.0 run))
       (Appends-trans a b c (Printed p w) (lines_of (state_after p w).device two.0) one two.3),
 )
-lines_at_joined a b c p w t over.Edge run one two = front_told a b c p w t run one two
+lines_at_joined a b c p w t over.Output run one two = front_told a b c p w t run one two
 
 -- nothing was written of lines
 none_told : (a : Option (List ℕ)) (lines : List ℕ) → AppendsPrefix a a lines
@@ -73,7 +73,7 @@ nothing_told a lines none = subst (λ (l : List ℕ). Appends a a l) (sym none) 
 -- nothing was written of one record without a line
 pub none_at : (a : Option (List ℕ)) (d : Device) (records : List Record) (e : SessionFault) → IsOne records → LinesAt a a d records e
 none_at a d records over.Disk one = ([], one.0, one.1, Appends-nil a)
-none_at a d records over.Edge one = none_told a (lines_of d records)
+none_at a d records over.Output one = none_told a (lines_of d records)
 
 -- the line of a record that is in doubt was not written
 pub last_untold : (a : Option (List ℕ)) (d : Device) (r : Record) → LinesAt a a d (r ∷ []) over.Disk
@@ -104,7 +104,7 @@ left_joined entries may_leave disk p w t over.Disk run h = (
       subst (λ (l : List Record). StandsForMost entries p.device l c) (sym (records-append t w))
       (most_behind entries p.device (records_of w) (records_of t) (state_after p w).device c run (h.1 c left)),
 )
-left_joined entries may_leave disk p w t over.Edge run h = (
+left_joined entries may_leave disk p w t over.Output run h = (
   stops_behind w t h.0,
   subst (λ (x : SessionState). x.boot_end ≡ None) (sym (left-append p t w)) h.1,
   λ c left. subst (λ (x : SessionState). StandsFor entries c x.device) (sym (left-append p t w)) (h.2 c left),

@@ -23,7 +23,7 @@ IsOne records = (r : Record) × (records ≡ r ∷ [])
 -- line was not written there is a front of them.
 abbrev pub LinesAt : Option (List ℕ) → Option (List ℕ) → Device → List Record → SessionFault → Type 0
 LinesAt old new d records over.Disk = (told : List Record) × (last : Record) × (records ≡ told ++ last ∷ []) × Appends old new (lines_of d told)
-LinesAt old new d records over.Edge = AppendsPrefix old new (lines_of d records)
+LinesAt old new d records over.Output = AppendsPrefix old new (lines_of d records)
 
 -- where the session goes on, all of them are
 abbrev pub Lines : {A : Type 0} → Option (List ℕ) → Option (List ℕ) → Device → List Record → Result A SessionFault → Type 0
@@ -42,7 +42,7 @@ pub record StopsAt (h : List TraceEvent) : Type 0 where
 -- bootstrap is recorded, and each image stands for the device of all records.
 abbrev pub LeftAt : {D : Type 0} → (Image → List (List ℕ) → Type 0) → (D → Image → Type 0) → D → SessionState → List TraceEvent → SessionFault → Type 0
 LeftAt entries may_leave disk p h over.Disk = StopsAt h × ((c : Image) → may_leave disk c → StandsForMost entries p.device (records_of h) c)
-LeftAt entries may_leave disk p h over.Edge = StopsAt h × ((state_after p h).boot_end ≡ None) ×
+LeftAt entries may_leave disk p h over.Output = StopsAt h × ((state_after p h).boot_end ≡ None) ×
     ((c : Image) → may_leave disk c → StandsFor entries c (state_after p h).device)
 
 -- where the session goes on, the value is where the history leaves it

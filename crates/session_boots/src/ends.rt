@@ -6,7 +6,7 @@ pub enum SessionFault {
     /// The disk failed.
     Disk,
     /// A line could not be written.
-    Edge,
+    Output,
 }
 
 /// How the bootstrap steps of a stage ended.

@@ -52,7 +52,7 @@ fn begin<S: BootStage<J>, D: Disk, J: Journal + Drop>(
     ensures held { IfOk result (λ s. Holds D.Disk J.Journal (OwnsStage S.hand S.is_staged) s disk.new) }
     ensures others { KeepsOthers D.Disk J.Journal disk.old disk.new }
     ensures disk { IsErrOf result SessionFault.Disk → Rose (D.faults disk.old) (D.faults disk.new) }
-    ensures edge { IsErrOf result SessionFault.Edge → ⊥ }
+    ensures edge { IsErrOf result SessionFault.Output → ⊥ }
     ensures quiet { ¬ (IsErrOf result SessionFault.Disk) → D.faults disk.new ≡ D.faults disk.old }
     ensures later { D.faults disk.old ≤ D.faults disk.new }
 {
@@ -117,9 +117,9 @@ fn end<S: BootStage<J>, D: Disk, J: Journal + Drop, K: Sink>(
     ensures held { IfOk result (λ s. Holds D.Disk J.Journal (OwnsStage S.hand S.is_staged) s disk.new) }
     ensures others { KeepsOthers D.Disk J.Journal disk.old disk.new }
     ensures disk { IsErrOf result SessionFault.Disk → Rose (D.faults disk.old) (D.faults disk.new) }
-    ensures edge { IsErrOf result SessionFault.Edge → Rose (K.faults sink.old) (K.faults sink.new) }
+    ensures edge { IsErrOf result SessionFault.Output → Rose (K.faults sink.old) (K.faults sink.new) }
     ensures quiet_disk { ¬ (IsErrOf result SessionFault.Disk) → D.faults disk.new ≡ D.faults disk.old }
-    ensures quiet_sink { ¬ (IsErrOf result SessionFault.Edge) → K.faults sink.new ≡ K.faults sink.old }
+    ensures quiet_sink { ¬ (IsErrOf result SessionFault.Output) → K.faults sink.new ≡ K.faults sink.old }
     ensures later { (D.faults disk.old ≤ D.faults disk.new) × (K.faults sink.old ≤ K.faults sink.new) }
 {
     match state.ended(disk, exit) {
@@ -127,7 +127,7 @@ fn end<S: BootStage<J>, D: Disk, J: Journal + Drop, K: Sink>(
             Ok(()) => Ok(next),
             Err(_) => {
                 drop(next);
-                Err(SessionFault::Edge)
+                Err(SessionFault::Output)
             }
         },
         Err(_) => Err(SessionFault::Disk),
@@ -155,9 +155,9 @@ pub(crate) fn run_turn<S: BootStage<J>, D: Disk, J: Journal + Drop, K: Sink, R: 
     ensures held { IfOk result (λ x. Holds D.Disk J.Journal (OwnsStage S.hand S.is_staged) x.0 disk.new) }
     ensures others { KeepsOthers D.Disk J.Journal disk.old disk.new }
     ensures disk { IsErrOf result SessionFault.Disk → Rose (D.faults disk.old) (D.faults disk.new) }
-    ensures edge { IsErrOf result SessionFault.Edge → Rose (K.faults sink.old) (K.faults sink.new) }
+    ensures edge { IsErrOf result SessionFault.Output → Rose (K.faults sink.old) (K.faults sink.new) }
     ensures quiet_disk { ¬ (IsErrOf result SessionFault.Disk) → D.faults disk.new ≡ D.faults disk.old }
-    ensures quiet_sink { ¬ (IsErrOf result SessionFault.Edge) → K.faults sink.new ≡ K.faults sink.old }
+    ensures quiet_sink { ¬ (IsErrOf result SessionFault.Output) → K.faults sink.new ≡ K.faults sink.old }
     ensures later { (D.faults disk.old ≤ D.faults disk.new) × (K.faults sink.old ≤ K.faults sink.new) }
 {
     let begun = match begin(state, disk) {

@@ -13,7 +13,7 @@ use Rattle.step_runner.specs.declared.entries.Seen.TheVariants as seen
 use Rattle.components.specs.Fitted.{Fitted}
 use Rattle.components.specs.Components.{Components}
 use Rattle.components.specs.declared.kinds.Prepared.{Prepared}
-use Rattle.histories.specs.TraceEvents.{Answer, TraceEvent, Ran, Booted, WaitElapsed, KilledOnAbort, Recorded, Moved, Asked, Heard, InboxAsked, Changed}
+use Rattle.histories.specs.TraceEvents.{Answer, TraceEvent, Ran, Booted, WaitElapsed, KilledOnAbort, Recorded, Moved, ReadClock, Heard, InboxAsked, Changed}
 use Rattle.histories.specs.TraceEvents.{StopsAll, is_document, records_of}
 use Rattle.histories.specs.States.{SessionState, booted, cut_off, is_wait, leaves, state_after, noted, ran, takes_document}
 use Rattle.histories.specs.Follows.{IsProper, MayFollow, MayTakeBy}
@@ -110,7 +110,7 @@ takes_on p (WaitElapsed e) may t = noted_takes e.seen p p (untouched p) t
 takes_on p (KilledOnAbort e) may t = noted_takes e.seen p (cut_off e.seen p) (cut_inbox e.seen p) t
 takes_on p (Recorded r) may t = record { serves = t.serves; turns = t.turns; answer = none_or (takes_document r) p.answer t.answer }
 takes_on p (Moved k e) may t = record { serves = t.serves; turns = t.turns; answer = t.answer }
-takes_on p (Asked m) may t = record { serves = t.serves; turns = t.turns; answer = t.answer }
+takes_on p (ReadClock m) may t = record { serves = t.serves; turns = t.turns; answer = t.answer }
 takes_on p (Heard k) may t = record { serves = t.serves; turns = t.turns; answer = t.answer }
 takes_on p (InboxAsked a) may t = absurd (omega (arith, may.0.left, t.turns))
 takes_on p (Changed f c b) may t = record { serves = t.serves; turns = t.turns; answer = t.answer }
@@ -137,7 +137,7 @@ one_more p (WaitElapsed e) h may t none = none
 one_more p (KilledOnAbort e) h may t none = none
 one_more p (Recorded r) h may t none = more_none (records_of h) r none (no_acceptance p r (takes_document r) refl may t)
 one_more p (Moved k e) h may t none = none
-one_more p (Asked m) h may t none = none
+one_more p (ReadClock m) h may t none = none
 one_more p (Heard k) h may t none = none
 one_more p (InboxAsked a) h may t none = none
 one_more p (Changed f c b) h may t none = none

@@ -7,7 +7,7 @@ use Rattle.device.specs.Devices.{Device}
 use Rattle.device.specs.Standing.{StandsFor}
 use Rattle.deploy_state.proofs.Steps.{in_hand_stands}
 use Rattle.deploy_state.specs.Owned.{OwnsJournal}
-use Rattle.deploy_state.specs.States.{InBrokeOff, OwnsLoaded, broken_device, loaded_device}
+use Rattle.deploy_state.specs.States.{OwnsBrokenOff, OwnsLoaded, broken_device, loaded_device}
 use Rattle.deploy_state.specs.declared.state.BrokeOff.{BrokeOff}
 use Rattle.deploy_state.specs.declared.state.BrokeOff.TheVariants as broken
 use Rattle.step_runner.specs.declared.entries.RunnerEntry.{RunnerEntry}
@@ -29,7 +29,7 @@ acted_held {files} {entries} disk_laws laws log disk a b p d h is held acts =
 
 module _ {J D : Type 0} (is_modelled : Bool) (may_leave : D → Image → Type 0) (stands : J → Image → List (List ℕ) → Type 0) (end : J → ℕ) where
   -- where the way back has begun
-  pub broken_held : (b : BrokeOff J) (disk : D) → InBrokeOff is_modelled may_leave stands end b disk → (log : J) ×
+  pub broken_held : (b : BrokeOff J) (disk : D) → OwnsBrokenOff is_modelled may_leave stands end b disk → (log : J) ×
       OwnsJournal is_modelled may_leave stands end log disk (broken_device b)
   broken_held (broken.Backing s) disk h = (s.hand.log, h.0.0)
   broken_held (broken.Rolling s) disk h = (s.hand.log, h.0.0)

@@ -110,7 +110,7 @@ left_killed entries may_leave disk p h k over.Disk a b acts keeps kills left = (
   stops_killed h k kills left.0,
   λ c may. subst (λ (l : List Record). StandsForMost entries p.device l c) (sym (records_opened h k acts.none)) (left.1 c may),
 )
-left_killed entries may_leave disk p h k over.Edge a b acts keeps kills left = (
+left_killed entries may_leave disk p h k over.Output a b acts keeps kills left = (
   stops_killed h k kills left.0,
   ap (λ (q : SessionState). q.boot_end) (left-append p k h) ∙ keeps.boot_end ∙ left.1,
   λ c may. subst (λ (x : Device). StandsFor entries c x) (sym (ap (λ (q : SessionState). q.device) (left-append p k h) ∙ acts.device)) (left.2 c may),

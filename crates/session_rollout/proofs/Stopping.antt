@@ -7,7 +7,7 @@ use Rattle.disk_model.specs.Disk.{Image}
 use Rattle.device.specs.Devices.{Device, Pending}
 use Rattle.device.specs.declared.staged.Stage.{Stage}
 use Rattle.device.specs.declared.staged.Stage.TheVariants as stages
-use Rattle.deploy_state.specs.States.{InBrokeOff, IsIn, backing_device, broken_device, rolling_device}
+use Rattle.deploy_state.specs.States.{OwnsBrokenOff, IsIn, backing_device, broken_device, rolling_device}
 use Rattle.deploy_state.specs.declared.state.BrokeOff.{BrokeOff}
 use Rattle.deploy_state.specs.declared.state.BrokeOff.TheVariants as broken
 use Rattle.step_runner.specs.Entries.{Told}
@@ -42,7 +42,7 @@ busy_in s d is = by d.pending is
 
 -- the way back has begun
 pub broken_busy : {J D : Type 0} (is_modelled : Bool) (may_leave : D → Image → Type 0) (stands : J → Image → List (List ℕ) → Type 0) (end : J → ℕ)
-    (b : BrokeOff J) (disk : D) → InBrokeOff is_modelled may_leave stands end b disk
+    (b : BrokeOff J) (disk : D) → OwnsBrokenOff is_modelled may_leave stands end b disk
     → is_idle (duty_of (broken_device b)).phase ≡ false
 broken_busy is_modelled may_leave stands end (broken.Backing s) disk h = busy_in stages.Backing (backing_device s) h.1
 broken_busy is_modelled may_leave stands end (broken.Rolling s) disk h = busy_in stages.Rolling (rolling_device s) h.1

@@ -4,7 +4,7 @@ ghost use Rattle.std.specs.Prelude.{◌≡◌, [], IfOk, OnErr, IsErrOf, true};
 ghost use Rattle.nuc_base.specs.Faults.{Rose};
 ghost use Rattle.session_boots.specs.Staged.{IsStillBacking};
 ghost use Rattle.deploy_state.specs.Fields.{has_failed};
-ghost use Rattle.deploy_state.specs.States.{OwnsBacked, OwnsBacking, InBrokeOff, backed_device, backing_device, broken_device};
+ghost use Rattle.deploy_state.specs.States.{OwnsBacked, OwnsBacking, OwnsBrokenOff, backed_device, backing_device, broken_device};
 ghost use Rattle.session_rollout.specs.Backwards.{EndsBacks, HasWayBack, paused_of};
 ghost use Rattle.session_rollout.specs.Driven.{IsCourse, DrivenLeft, OwnsDriven};
 ghost use Rattle.session_boots.specs.Stands.{IsAtBootStage};
@@ -58,9 +58,9 @@ where
     ensures held { IfOk result (λ x. Holds D.Disk J.Journal OwnsDriven x disk.new) }
     ensures others { KeepsOthers D.Disk J.Journal disk.old disk.new }
     ensures disk { IsErrOf result SessionFault.Disk → Rose (D.faults disk.old) (D.faults disk.new) }
-    ensures edge { IsErrOf result SessionFault.Edge → Rose (K.faults sink.old) (K.faults sink.new) }
+    ensures edge { IsErrOf result SessionFault.Output → Rose (K.faults sink.old) (K.faults sink.new) }
     ensures quiet_disk { ¬ (IsErrOf result SessionFault.Disk) → D.faults disk.new ≡ D.faults disk.old }
-    ensures quiet_sink { ¬ (IsErrOf result SessionFault.Edge) → K.faults sink.new ≡ K.faults sink.old }
+    ensures quiet_sink { ¬ (IsErrOf result SessionFault.Output) → K.faults sink.new ≡ K.faults sink.old }
 {
     match backed {
         Backed::Rolling(state) => roll_on(state, ready, disk, sink, runner, supervisor),
@@ -99,9 +99,9 @@ where
     ensures held { IfOk result (λ x. Holds D.Disk J.Journal OwnsDriven x disk.new) }
     ensures others { KeepsOthers D.Disk J.Journal disk.old disk.new }
     ensures disk { IsErrOf result SessionFault.Disk → Rose (D.faults disk.old) (D.faults disk.new) }
-    ensures edge { IsErrOf result SessionFault.Edge → Rose (K.faults sink.old) (K.faults sink.new) }
+    ensures edge { IsErrOf result SessionFault.Output → Rose (K.faults sink.old) (K.faults sink.new) }
     ensures quiet_disk { ¬ (IsErrOf result SessionFault.Disk) → D.faults disk.new ≡ D.faults disk.old }
-    ensures quiet_sink { ¬ (IsErrOf result SessionFault.Edge) → K.faults sink.new ≡ K.faults sink.old }
+    ensures quiet_sink { ¬ (IsErrOf result SessionFault.Output) → K.faults sink.new ≡ K.faults sink.old }
 {
     match run_rollback_boots(state, backs, disk, sink, runner) {
         Ok((backed, booted)) => match booted {
@@ -126,7 +126,7 @@ pub(crate) fn roll_back<D: Disk, J: Journal + Drop, K: Sink, R: Runner, S: Super
 ) -> Result<Driven<J>, SessionFault>
 where
     S::Ready: Drop,
-    requires held { Holds D.Disk J.Journal InBrokeOff broke disk.old }
+    requires held { Holds D.Disk J.Journal OwnsBrokenOff broke disk.old }
     requires ready { HasWayBack (broken_device broke) backs.now (S.coming ready) }
     requires drives { Drives (S.world supervisor.old) }
     requires orderly { IsOrderly (S.world supervisor.old) }
@@ -139,9 +139,9 @@ where
     ensures held { IfOk result (λ x. Holds D.Disk J.Journal OwnsDriven x disk.new) }
     ensures others { KeepsOthers D.Disk J.Journal disk.old disk.new }
     ensures disk { IsErrOf result SessionFault.Disk → Rose (D.faults disk.old) (D.faults disk.new) }
-    ensures edge { IsErrOf result SessionFault.Edge → Rose (K.faults sink.old) (K.faults sink.new) }
+    ensures edge { IsErrOf result SessionFault.Output → Rose (K.faults sink.old) (K.faults sink.new) }
     ensures quiet_disk { ¬ (IsErrOf result SessionFault.Disk) → D.faults disk.new ≡ D.faults disk.old }
-    ensures quiet_sink { ¬ (IsErrOf result SessionFault.Edge) → K.faults sink.new ≡ K.faults sink.old }
+    ensures quiet_sink { ¬ (IsErrOf result SessionFault.Output) → K.faults sink.new ≡ K.faults sink.old }
 {
     match broke {
         BrokeOff::Backing(state) => back_on(state, backs, ready, disk, sink, runner, supervisor),

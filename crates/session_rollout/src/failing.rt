@@ -3,7 +3,7 @@ ghost use Rattle.law_termination.specs.Drives.{Drives};
 ghost use Rattle.std.specs.Prelude.{◌≡◌, [], IfOk, OnErr, IsErrOf, true, false};
 ghost use Rattle.nuc_base.specs.Faults.{Rose};
 ghost use Rattle.session_startup.specs.Ended.{HasBroken};
-ghost use Rattle.deploy_state.specs.States.{OwnsActivating, InBrokeOff, activating_device, broken_device};
+ghost use Rattle.deploy_state.specs.States.{OwnsActivating, OwnsBrokenOff, activating_device, broken_device};
 ghost use Rattle.session_rollout.specs.Backwards.{HasWayBack};
 ghost use Rattle.session_rollout.specs.Driven.{IsCourse, DrivenLeft, OwnsDriven};
 ghost use Rattle.session_boots.specs.Stands.{IsAtBootStage};
@@ -40,7 +40,7 @@ fn stop_and_go_back<D: Disk, J: Journal + Drop, K: Sink, R: Runner, S: Supervise
 where
     S::Ready: Drop,
     requires drives { Drives (S.world supervisor.old) }
-    requires held { Holds D.Disk J.Journal InBrokeOff broke disk.old }
+    requires held { Holds D.Disk J.Journal OwnsBrokenOff broke disk.old }
     requires ready { HasWayBack (broken_device broke) backs.now (S.coming ready) }
     requires placed { (p : SessionState) × AsTold R.Runner runner.old (IsTurned p (broken_device broke) (S.world supervisor.old)) }
     ensures course { (p : SessionState) → AsTold R.Runner runner.old (IsTurned p (broken_device broke) (S.world supervisor.old)) →
@@ -51,9 +51,9 @@ where
     ensures held { IfOk result (λ x. Holds D.Disk J.Journal OwnsDriven x disk.new) }
     ensures others { KeepsOthers D.Disk J.Journal disk.old disk.new }
     ensures disk { IsErrOf result SessionFault.Disk → Rose (D.faults disk.old) (D.faults disk.new) }
-    ensures edge { IsErrOf result SessionFault.Edge → Rose (K.faults sink.old) (K.faults sink.new) }
+    ensures edge { IsErrOf result SessionFault.Output → Rose (K.faults sink.old) (K.faults sink.new) }
     ensures quiet_disk { ¬ (IsErrOf result SessionFault.Disk) → D.faults disk.new ≡ D.faults disk.old }
-    ensures quiet_sink { ¬ (IsErrOf result SessionFault.Edge) → K.faults sink.new ≡ K.faults sink.old }
+    ensures quiet_sink { ¬ (IsErrOf result SessionFault.Output) → K.faults sink.new ≡ K.faults sink.old }
 {
     stop_components(runner, supervisor);
     roll_back(broke, backs, ready, disk, sink, runner, supervisor)
@@ -84,9 +84,9 @@ where
     ensures held { IfOk result (λ x. Holds D.Disk J.Journal OwnsDriven x disk.new) }
     ensures others { KeepsOthers D.Disk J.Journal disk.old disk.new }
     ensures disk { IsErrOf result SessionFault.Disk → Rose (D.faults disk.old) (D.faults disk.new) }
-    ensures edge { IsErrOf result SessionFault.Edge → Rose (K.faults sink.old) (K.faults sink.new) }
+    ensures edge { IsErrOf result SessionFault.Output → Rose (K.faults sink.old) (K.faults sink.new) }
     ensures quiet_disk { ¬ (IsErrOf result SessionFault.Disk) → D.faults disk.new ≡ D.faults disk.old }
-    ensures quiet_sink { ¬ (IsErrOf result SessionFault.Edge) → K.faults sink.new ≡ K.faults sink.old }
+    ensures quiet_sink { ¬ (IsErrOf result SessionFault.Output) → K.faults sink.new ≡ K.faults sink.old }
 {
     match begin_rollback(state, disk) {
         Ok(broke) => stop_and_go_back(broke, backs, ready, disk, sink, runner, supervisor),
@@ -119,9 +119,9 @@ where
     ensures held { IfOk result (λ x. Holds D.Disk J.Journal OwnsDriven x disk.new) }
     ensures others { KeepsOthers D.Disk J.Journal disk.old disk.new }
     ensures disk { IsErrOf result SessionFault.Disk → Rose (D.faults disk.old) (D.faults disk.new) }
-    ensures edge { IsErrOf result SessionFault.Edge → Rose (K.faults sink.old) (K.faults sink.new) }
+    ensures edge { IsErrOf result SessionFault.Output → Rose (K.faults sink.old) (K.faults sink.new) }
     ensures quiet_disk { ¬ (IsErrOf result SessionFault.Disk) → D.faults disk.new ≡ D.faults disk.old }
-    ensures quiet_sink { ¬ (IsErrOf result SessionFault.Edge) → K.faults sink.new ≡ K.faults sink.old }
+    ensures quiet_sink { ¬ (IsErrOf result SessionFault.Output) → K.faults sink.new ≡ K.faults sink.old }
 {
     match close_failed(state, disk, sink, supervisor) {
         Ok(idle) => Ok(Driven::Closed(idle, Outcome::RollbackNotRequested, Presence::Present)),
@@ -156,9 +156,9 @@ where
     ensures held { IfOk result (λ x. Holds D.Disk J.Journal OwnsDriven x disk.new) }
     ensures others { KeepsOthers D.Disk J.Journal disk.old disk.new }
     ensures disk { IsErrOf result SessionFault.Disk → Rose (D.faults disk.old) (D.faults disk.new) }
-    ensures edge { IsErrOf result SessionFault.Edge → Rose (K.faults sink.old) (K.faults sink.new) }
+    ensures edge { IsErrOf result SessionFault.Output → Rose (K.faults sink.old) (K.faults sink.new) }
     ensures quiet_disk { ¬ (IsErrOf result SessionFault.Disk) → D.faults disk.new ≡ D.faults disk.old }
-    ensures quiet_sink { ¬ (IsErrOf result SessionFault.Edge) → K.faults sink.new ≡ K.faults sink.old }
+    ensures quiet_sink { ¬ (IsErrOf result SessionFault.Output) → K.faults sink.new ≡ K.faults sink.old }
 {
     if is_to_roll_back(state.device()) {
         turn_back(state, backs, ready, disk, sink, runner, supervisor)
@@ -194,9 +194,9 @@ where
     ensures held { IfOk result (λ x. Holds D.Disk J.Journal OwnsDriven x disk.new) }
     ensures others { KeepsOthers D.Disk J.Journal disk.old disk.new }
     ensures disk { IsErrOf result SessionFault.Disk → Rose (D.faults disk.old) (D.faults disk.new) }
-    ensures edge { IsErrOf result SessionFault.Edge → Rose (K.faults sink.old) (K.faults sink.new) }
+    ensures edge { IsErrOf result SessionFault.Output → Rose (K.faults sink.old) (K.faults sink.new) }
     ensures quiet_disk { ¬ (IsErrOf result SessionFault.Disk) → D.faults disk.new ≡ D.faults disk.old }
-    ensures quiet_sink { ¬ (IsErrOf result SessionFault.Edge) → K.faults sink.new ≡ K.faults sink.old }
+    ensures quiet_sink { ¬ (IsErrOf result SessionFault.Output) → K.faults sink.new ≡ K.faults sink.old }
 {
     if is_to_roll_back(state.device()) {
         return match begin_rollback(state, disk) {

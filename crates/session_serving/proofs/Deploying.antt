@@ -34,7 +34,7 @@ use Rattle.histories.specs.Follows.{IsLast, MayChangeIn}
 use Rattle.histories.specs.Phases.{Generation, current, draining, idle, is_current, is_shutting_down}
 use Rattle.histories.specs.States.{SessionState, state_after}
 use Rattle.histories.specs.TraceEvents.{Answer, TraceEvent, document, is_document, records_of}
-use Rattle.histories.specs.TraceEvents.{Asked, Booted, Changed, Heard, InboxAsked, KilledOnAbort, Moved, Recorded, StopsAll, WaitElapsed, Ran as RanEvent}
+use Rattle.histories.specs.TraceEvents.{ReadClock, Booted, Changed, Heard, InboxAsked, KilledOnAbort, Moved, Recorded, StopsAll, WaitElapsed, Ran as RanEvent}
 use Rattle.law_serving.specs.Alike.{EndsOnCourse, MayDeploy, ServesAlike, StopsAtRecord, alone, beside}
 use Rattle.law_serving.proofs.Records.{idle_is, pending_idle}
 use Rattle.session_admission.specs.Accepts.{IsOpen}
@@ -278,7 +278,7 @@ end_beside q r a t p is status rose e = subst (λ (s : SessionState). IsEnd s st
 no_records : (h : List TraceEvent) → AllByRecursion IsLast h → records_of h ≡ []
 no_records [] all = refl
 no_records (KilledOnAbort e ∷ h) all = no_records h all.1
-no_records (Asked m ∷ h) all = no_records h all.1
+no_records (ReadClock m ∷ h) all = no_records h all.1
 no_records (RanEvent e k of ∷ h) all = absurd all.0
 no_records (Booted e m ∷ h) all = absurd all.0
 no_records (WaitElapsed e ∷ h) all = absurd all.0

@@ -7,7 +7,7 @@ use Rattle.step_runner.specs.declared.entries.Seen.TheVariants as seen
 use Rattle.components.specs.declared.kinds.Prepared.{Prepared}
 use Rattle.histories.specs.Follows.{IsProper}
 use Rattle.histories.specs.States.{SessionState, booted, cut_off, state_after}
-use Rattle.histories.specs.TraceEvents.{Answer, TraceEvent, Ran, Booted, WaitElapsed, KilledOnAbort, Recorded, Moved, Asked, Heard, InboxAsked}
+use Rattle.histories.specs.TraceEvents.{Answer, TraceEvent, Ran, Booted, WaitElapsed, KilledOnAbort, Recorded, Moved, ReadClock, Heard, InboxAsked}
 use Rattle.histories.specs.TraceEvents.{Changed, StopsAll}
 use Rattle.session_serving.specs.Rounds.{questions_of}
 
@@ -21,7 +21,7 @@ questions-append (WaitElapsed e ∷ g) h = questions-append g h
 questions-append (KilledOnAbort e ∷ g) h = questions-append g h
 questions-append (Recorded r ∷ g) h = questions-append g h
 questions-append (Moved k e ∷ g) h = questions-append g h
-questions-append (Asked m ∷ g) h = questions-append g h
+questions-append (ReadClock m ∷ g) h = questions-append g h
 questions-append (Heard k ∷ g) h = questions-append g h
 questions-append (Changed f c b ∷ g) h = questions-append g h
 questions-append (StopsAll ∷ g) h = questions-append g h
@@ -62,7 +62,7 @@ turns_fall p (KilledOnAbort e ∷ h) proper =
     ap (λ (n : ℕ). n + length (questions_of h)) (cut_turns e.seen (state_after p h)) ∙ turns_fall p h proper.1
 turns_fall p (Recorded r ∷ h) proper = turns_fall p h proper.1
 turns_fall p (Moved k e ∷ h) proper = turns_fall p h proper.1
-turns_fall p (Asked m ∷ h) proper = turns_fall p h proper.1
+turns_fall p (ReadClock m ∷ h) proper = turns_fall p h proper.1
 turns_fall p (Heard k ∷ h) proper = turns_fall p h proper.1
 turns_fall p (Changed f c b ∷ h) proper = turns_fall p h proper.1
 turns_fall p (StopsAll ∷ h) proper = turns_fall p h proper.1

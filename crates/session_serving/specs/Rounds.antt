@@ -11,7 +11,7 @@ use Rattle.device.specs.Devices.{Device}
 use Rattle.device.specs.Lawful.{Run}
 use Rattle.records.specs.Stored.{Record}
 use Rattle.histories.specs.Courses.{gives_up, is_restart}
-use Rattle.histories.specs.TraceEvents.{Answer, TraceEvent, Ran, Booted, WaitElapsed, KilledOnAbort, Recorded, Moved, Asked, Heard, InboxAsked}
+use Rattle.histories.specs.TraceEvents.{Answer, TraceEvent, Ran, Booted, WaitElapsed, KilledOnAbort, Recorded, Moved, ReadClock, Heard, InboxAsked}
 use Rattle.histories.specs.TraceEvents.{Changed, StopsAll}
 use Rattle.histories.specs.TraceEvents.{document, nothing}
 
@@ -61,7 +61,7 @@ questions_of (WaitElapsed e ∷ h) = questions_of h
 questions_of (KilledOnAbort e ∷ h) = questions_of h
 questions_of (Recorded r ∷ h) = questions_of h
 questions_of (Moved k e ∷ h) = questions_of h
-questions_of (Asked m ∷ h) = questions_of h
+questions_of (ReadClock m ∷ h) = questions_of h
 questions_of (Heard k ∷ h) = questions_of h
 questions_of (Changed f c b ∷ h) = questions_of h
 questions_of (StopsAll ∷ h) = questions_of h

@@ -1,7 +1,7 @@
 mod KeptLeaving
 mod Leaving
 mod Gone
-mod Asked
+mod ReadClock
 mod Entering
 mod Waiting
 mod Turning

@@ -49,9 +49,9 @@ pub fn activate<D: Disk, J: Journal + Drop, K: Sink, R: Runner, S: Supervise>(
     ensures same { IfOk result (λ x. ActivatedSame (activating_device state) x) }
     ensures others { KeepsOthers D.Disk J.Journal disk.old disk.new }
     ensures disk { IsErrOf result SessionFault.Disk → Rose (D.faults disk.old) (D.faults disk.new) }
-    ensures edge { IsErrOf result SessionFault.Edge → Rose (K.faults sink.old) (K.faults sink.new) }
+    ensures edge { IsErrOf result SessionFault.Output → Rose (K.faults sink.old) (K.faults sink.new) }
     ensures quiet_disk { ¬ (IsErrOf result SessionFault.Disk) → D.faults disk.new ≡ D.faults disk.old }
-    ensures quiet_sink { ¬ (IsErrOf result SessionFault.Edge) → K.faults sink.new ≡ K.faults sink.old }
+    ensures quiet_sink { ¬ (IsErrOf result SessionFault.Output) → K.faults sink.new ≡ K.faults sink.old }
 {
     match come_up(Coming::Plan(state), disk, sink, runner, supervisor) {
         Ok((coming, turned)) => {

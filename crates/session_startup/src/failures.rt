@@ -66,9 +66,9 @@ pub(crate) fn note_failure<D: Disk, J: Journal + Drop, K: Sink, S: Supervise>(
     ensures deployment { IfOk result (λ s. IsSameDeployment (coming_device state) (coming_device s)) }
     ensures others { KeepsOthers D.Disk J.Journal disk.old disk.new }
     ensures disk { IsErrOf result SessionFault.Disk → Rose (D.faults disk.old) (D.faults disk.new) }
-    ensures edge { IsErrOf result SessionFault.Edge → Rose (K.faults sink.old) (K.faults sink.new) }
+    ensures edge { IsErrOf result SessionFault.Output → Rose (K.faults sink.old) (K.faults sink.new) }
     ensures quiet_disk { ¬ (IsErrOf result SessionFault.Disk) → D.faults disk.new ≡ D.faults disk.old }
-    ensures quiet_sink { ¬ (IsErrOf result SessionFault.Edge) → K.faults sink.new ≡ K.faults sink.old }
+    ensures quiet_sink { ¬ (IsErrOf result SessionFault.Output) → K.faults sink.new ≡ K.faults sink.old }
     ensures later { (D.faults disk.old ≤ D.faults disk.new) × (K.faults sink.old ≤ K.faults sink.new) }
 {
     driving_laws();
@@ -78,7 +78,7 @@ pub(crate) fn note_failure<D: Disk, J: Journal + Drop, K: Sink, S: Supervise>(
             Ok(()) => Ok(next),
             Err(_) => {
                 drop(next);
-                Err(SessionFault::Edge)
+                Err(SessionFault::Output)
             }
         },
         Err(_) => Err(SessionFault::Disk),

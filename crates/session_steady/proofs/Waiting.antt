@@ -7,7 +7,7 @@ use Rattle.step_runner.specs.declared.entries.RunnerEntry.{RunnerEntry}
 use Rattle.components.specs.Components.{Components}
 use Rattle.components.specs.Deadlines.{least_deadline, until}
 use Rattle.histories.specs.Phases.{Phase, idle, booting, activating, backing, rolling, current, duty_of, is_idle}
-use Rattle.histories.specs.TraceEvents.{TraceEvent, Ran, Booted, WaitElapsed, KilledOnAbort, Recorded, Moved, Asked, Heard, InboxAsked, Changed, StopsAll}
+use Rattle.histories.specs.TraceEvents.{TraceEvent, Ran, Booted, WaitElapsed, KilledOnAbort, Recorded, Moved, ReadClock, Heard, InboxAsked, Changed, StopsAll}
 use Rattle.histories.specs.TraceEvents.{nothing}
 use Rattle.histories.specs.States.{SessionState, leaves, state_after}
 use Rattle.histories.specs.Waits.{MayWait, has_work, wait_limit}
@@ -71,7 +71,7 @@ waited_same p (Booted e m) is = absurd is
 waited_same p (KilledOnAbort e) is = absurd is
 waited_same p (Recorded r) is = absurd is
 waited_same p (Moved k e) is = absurd is
-waited_same p (Asked m) is = absurd is
+waited_same p (ReadClock m) is = absurd is
 waited_same p (Heard k) is = absurd is
 waited_same p (InboxAsked a) is = absurd is
 waited_same p (Changed f c b) is = absurd is

@@ -10,7 +10,7 @@ use Rattle.components.specs.Components.{Components, owner}
 use Rattle.components.specs.Answers.{IsNextLiving, living_numbers}
 use Rattle.components.specs.Numbers.{is_above}
 use Rattle.components.specs.Readied.{AreApart}
-use Rattle.histories.specs.TraceEvents.{Asked, KilledOnAbort}
+use Rattle.histories.specs.TraceEvents.{ReadClock, KilledOnAbort}
 use Rattle.histories.specs.States.{SessionState, cut_boot, leaves}
 use Rattle.histories.specs.Courses.{IsBare}
 use Rattle.session_boots.specs.Traces.{Acts}
@@ -42,7 +42,7 @@ back e = (e.1, e.0)
 -- ---- the moment before the first
 
 module _ (p : SessionState) (world : Components) (old : Told) (living : List ℕ) (g : IsGivenUp p world old living) (now : ℕ) where
-  pub ask_acts : (list new : Option (List RunnerEntry)) → old.moment ≤ now → new ≡ list → Acts p (Asked now ∷ []) list new
+  pub ask_acts : (list new : Option (List RunnerEntry)) → old.moment ≤ now → new ≡ list → Acts p (ReadClock now ∷ []) list new
   ask_acts list new later_on same = record {
     proper = ((omega (arith, g.moment, later_on), (λ cut. tt), g.over), tt);
     none = refl;
@@ -56,7 +56,7 @@ module _ (p : SessionState) (world : Components) (old : Told) (living : List ℕ
     (λ h. subst (λ (o : Option (ℕ × Step)). IsSome o) (g.owners n) h.0),
   )
 
-  pub ask_kills : (new : Told) (next : List ℕ) → new.moment ≡ now → new.asked ≡ true → next ≡ living → IsKilling (leaves p (Asked now)) None world new next
+  pub ask_kills : (new : Told) (next : List ℕ) → new.moment ≡ now → new.asked ≡ true → next ≡ living → IsKilling (leaves p (ReadClock now)) None world new next
   ask_kills new next moment asked same = record {
     moment = moment;
     asked = asked;
@@ -68,7 +68,7 @@ module _ (p : SessionState) (world : Components) (old : Told) (living : List ℕ
     children = λ n. subst (λ (l : List ℕ). Contains l n ↔ IsSome (owner n p.world.parts)) (sym same) (g.children n);
   }
 
-pub ask_keeps : (p : SessionState) (now : ℕ) → KeepsRest p (leaves p (Asked now))
+pub ask_keeps : (p : SessionState) (now : ℕ) → KeepsRest p (leaves p (ReadClock now))
 ask_keeps p now = record { owed = refl; boot_end = refl; over = refl }
 
 -- ---- one is killed

@@ -7,7 +7,7 @@ ghost use Rattle.device.specs.Lawful.{applied};
 ghost use Rattle.device.specs.Sound.{IsSound};
 ghost use Rattle.deploy_state.specs.Fields.{CanBreakOff, IsBreak};
 ghost use Rattle.deploy_state.specs.Owned.{LeavesEither};
-ghost use Rattle.deploy_state.specs.States.{InBrokeOff, broken_device};
+ghost use Rattle.deploy_state.specs.States.{OwnsBrokenOff, broken_device};
 ghost use Rattle.step_runner.specs.Entries.{Told};
 ghost use Rattle.components.specs.Components.{Components};
 ghost use Rattle.histories.specs.Courses.{IsBare};
@@ -36,7 +36,7 @@ pub trait BreakOff<J: Journal + Drop>: PendingState<J> {
             Leaves D.moment D.left_since disk.old disk.new (LeavesEither D.may_leave J.files J.entries disk.old (Self.device self)
             (applied (Self.device self) r)) }
         ensures taken { (r : Record) → IsBreak (Self.device self) r → IfOk result (λ s. broken_device s ≡ applied (Self.device self) r) }
-        ensures held { IfOk result (λ s. Holds D.Disk J.Journal InBrokeOff s disk.new) }
+        ensures held { IfOk result (λ s. Holds D.Disk J.Journal OwnsBrokenOff s disk.new) }
         ensures others { IsTrue D.is_modelled → (name : List ℕ) → ¬ (J.files name) → D.seen disk.new name ≡ D.seen disk.old name }
         ensures cause { HasCause (D.faults disk.old) (D.faults disk.new) result }
         ensures quiet { OnOk result (D.faults disk.new ≡ D.faults disk.old) };
@@ -76,10 +76,10 @@ pub fn begin_rollback<D: Disk, J: Journal + Drop, B: BreakOff<J>>(
         × LeftOver D.Disk J.Journal disk.new p h (λ s q. IsTurned q (broken_device s) world told living) result
         × OnErr result (IsGivenUp (state_after p h) world told living) × OnErr result (IsOne (records_of h)) }
     ensures breaks { IfOk result (λ s. Breaks (B.device state) (broken_device s)) }
-    ensures held { IfOk result (λ s. Holds D.Disk J.Journal InBrokeOff s disk.new) }
+    ensures held { IfOk result (λ s. Holds D.Disk J.Journal OwnsBrokenOff s disk.new) }
     ensures others { KeepsOthers D.Disk J.Journal disk.old disk.new }
     ensures disk { IsErrOf result SessionFault.Disk → Rose (D.faults disk.old) (D.faults disk.new) }
-    ensures edge { IsErrOf result SessionFault.Edge → ⊥ }
+    ensures edge { IsErrOf result SessionFault.Output → ⊥ }
     ensures quiet { ¬ (IsErrOf result SessionFault.Disk) → D.faults disk.new ≡ D.faults disk.old }
     ensures later { D.faults disk.old ≤ D.faults disk.new }
 {

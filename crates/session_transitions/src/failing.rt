@@ -68,9 +68,9 @@ pub fn close_failed<D: Disk, J: Journal + Drop, K: Sink, S: Supervise, C: Close<
     ensures held { IfOk result (λ s. Holds D.Disk J.Journal OwnsIdle s disk.new) }
     ensures others { KeepsOthers D.Disk J.Journal disk.old disk.new }
     ensures disk { IsErrOf result SessionFault.Disk → Rose (D.faults disk.old) (D.faults disk.new) }
-    ensures edge { IsErrOf result SessionFault.Edge → Rose (K.faults sink.old) (K.faults sink.new) }
+    ensures edge { IsErrOf result SessionFault.Output → Rose (K.faults sink.old) (K.faults sink.new) }
     ensures quiet_disk { ¬ (IsErrOf result SessionFault.Disk) → D.faults disk.new ≡ D.faults disk.old }
-    ensures quiet_sink { ¬ (IsErrOf result SessionFault.Edge) → K.faults sink.new ≡ K.faults sink.old }
+    ensures quiet_sink { ¬ (IsErrOf result SessionFault.Output) → K.faults sink.new ≡ K.faults sink.old }
     ensures later { (D.faults disk.old ≤ D.faults disk.new) × (K.faults sink.old ≤ K.faults sink.new) }
 {
     close_deployment(state, disk, sink, supervisor)

@@ -93,14 +93,14 @@ returns-in-Err-Disk-clause-unswept g c = err_on _ c.args.driven c.in-Err-Disk.fi
 
 -- ---- a line was not written
 
-pub returns-in-Err-Edge-clause-over : goal.returns-in-Err-Edge-clause-over
-returns-in-Err-Edge-clause-over g c = err_on _ c.args.driven c.in-Err-Edge.field-0 c.in-Err-Edge.is tt
+pub returns-in-Err-Output-clause-over : goal.returns-in-Err-Output-clause-over
+returns-in-Err-Output-clause-over g c = err_on _ c.args.driven c.in-Err-Output.field-0 c.in-Err-Output.is tt
 
-pub returns-in-Err-Edge-clause-none : goal.returns-in-Err-Edge-clause-none
-returns-in-Err-Edge-clause-none g c = λ over. on_err _ c.args.driven c.in-Err-Edge.field-0 c.in-Err-Edge.is c.requires.none
+pub returns-in-Err-Output-clause-none : goal.returns-in-Err-Output-clause-none
+returns-in-Err-Output-clause-none g c = λ over. on_err _ c.args.driven c.in-Err-Output.field-0 c.in-Err-Output.is c.requires.none
 
-pub returns-in-Err-Edge-clause-ends : goal.returns-in-Err-Edge-clause-ends
-returns-in-Err-Edge-clause-ends g c =
+pub returns-in-Err-Output-clause-ends : goal.returns-in-Err-Output-clause-ends
+returns-in-Err-Output-clause-ends g c =
     let held = g.K.Sink.held c.args.sink.now in
     ends_err statuses.Edge held held c.args.driven c.in-Err-Edge.field-0 over.Edge c.in-Err-Edge.is (rw c.in-Err-Edge.is at c.in-Err-Edge.field-0-is)
     (Breaks, (refl, λ fails. absurd cc), says_none held held statuses.Edge refl, inl refl)
@@ -113,13 +113,13 @@ returns-in-Ok-clause-swept g c = λ told. ok_if _ c.args.driven c.in-Ok.driven c
 pub returns-in-Err-Disk-clause-swept : goal.returns-in-Err-Disk-clause-swept
 returns-in-Err-Disk-clause-swept g c = λ told. err_if _ c.args.driven c.in-Err-Disk.field-0 c.in-Err-Disk.is
 
-pub returns-in-Err-Edge-clause-swept : goal.returns-in-Err-Edge-clause-swept
-returns-in-Err-Edge-clause-swept g c = λ told. err_if _ c.args.driven c.in-Err-Edge.field-0 c.in-Err-Edge.is
+pub returns-in-Err-Output-clause-swept : goal.returns-in-Err-Output-clause-swept
+returns-in-Err-Output-clause-swept g c = λ told. err_if _ c.args.driven c.in-Err-Output.field-0 c.in-Err-Output.is
 
 -- ---- with which status the call ends
 
 pub returns-in-Err-Disk-clause-ends_call : goal.returns-in-Err-Disk-clause-ends_call
 returns-in-Err-Disk-clause-ends_call g c = edge_ends c.say_disk.result statuses.Disk c.say_disk.ensures.answers (inl refl)
 
-pub returns-in-Err-Edge-clause-ends_call : goal.returns-in-Err-Edge-clause-ends_call
-returns-in-Err-Edge-clause-ends_call g c = inl refl
+pub returns-in-Err-Output-clause-ends_call : goal.returns-in-Err-Output-clause-ends_call
+returns-in-Err-Output-clause-ends_call g c = inl refl

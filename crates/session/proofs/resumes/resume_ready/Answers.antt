@@ -138,7 +138,7 @@ returns-in-Done-clause-disk g c = λ is.
 pub returns-in-Done-clause-edge : goal.returns-in-Done-clause-edge
 returns-in-Done-clause-edge g c = λ is.
     rose_on (g.K.Sink.faults c.args.sink.now) (g.K.Sink.faults c.say_resumed.new.sink) (g.K.Sink.faults c.end_call.new.sink) c.say_resumed.ensures.later
-    (rose_by c.drive-driven.result over.Edge (g.K.Sink.faults c.say_resumed.new.sink) (g.K.Sink.faults c.drive-driven.new.sink)
+    (rose_by c.drive-driven.result over.Output (g.K.Sink.faults c.say_resumed.new.sink) (g.K.Sink.faults c.drive-driven.new.sink)
     (g.K.Sink.faults c.end_call.new.sink) c.drive-driven.ensures.edge c.drive-driven.ensures.quiet_sink c.end_call.ensures.later.1
     (c.end_call.ensures.edge is))
 
@@ -161,7 +161,7 @@ returns-in-Done-clause-later g c = (
       c.drive-driven.ensures.quiet_disk) c.end_call.ensures.later.0,
   stays_on (g.K.Sink.faults c.args.sink.now) (g.K.Sink.faults c.say_resumed.new.sink) (g.K.Sink.faults c.drive-driven.new.sink)
       (g.K.Sink.faults c.end_call.new.sink) c.say_resumed.ensures.later
-      (stays_by c.drive-driven.result over.Edge (g.K.Sink.faults c.say_resumed.new.sink) (g.K.Sink.faults c.drive-driven.new.sink) c.drive-driven.ensures.edge
+      (stays_by c.drive-driven.result over.Output (g.K.Sink.faults c.say_resumed.new.sink) (g.K.Sink.faults c.drive-driven.new.sink) c.drive-driven.ensures.edge
       c.drive-driven.ensures.quiet_sink) c.end_call.ensures.later.1,
 )
 

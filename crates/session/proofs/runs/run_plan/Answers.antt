@@ -178,7 +178,7 @@ returns-in-Ok-Accepted-clause-disk g c = λ is.
 pub returns-in-Ok-Accepted-clause-edge : goal.returns-in-Ok-Accepted-clause-edge
 returns-in-Ok-Accepted-clause-edge g c = λ is.
     rose_on (g.K.Sink.faults c.args.sink.now) (g.K.Sink.faults c.accept_plan.new.sink) (g.K.Sink.faults c.end_call.new.sink) c.accept_plan.ensures.later.1
-    (rose_by c.begin-driven.result over.Edge (g.K.Sink.faults c.accept_plan.new.sink) (g.K.Sink.faults c.begin-driven.new.sink)
+    (rose_by c.begin-driven.result over.Output (g.K.Sink.faults c.accept_plan.new.sink) (g.K.Sink.faults c.begin-driven.new.sink)
     (g.K.Sink.faults c.end_call.new.sink) c.begin-driven.ensures.edge c.begin-driven.ensures.quiet_sink c.end_call.ensures.later.1
     (c.end_call.ensures.edge is))
 
@@ -200,7 +200,7 @@ returns-in-Ok-Accepted-clause-later g c = (
       c.begin-driven.ensures.quiet_disk) c.end_call.ensures.later.0,
   stays_on (g.K.Sink.faults c.args.sink.now) (g.K.Sink.faults c.accept_plan.new.sink) (g.K.Sink.faults c.begin-driven.new.sink)
       (g.K.Sink.faults c.end_call.new.sink) c.accept_plan.ensures.later.1
-      (stays_by c.begin-driven.result over.Edge (g.K.Sink.faults c.accept_plan.new.sink) (g.K.Sink.faults c.begin-driven.new.sink) c.begin-driven.ensures.edge
+      (stays_by c.begin-driven.result over.Output (g.K.Sink.faults c.accept_plan.new.sink) (g.K.Sink.faults c.begin-driven.new.sink) c.begin-driven.ensures.edge
       c.begin-driven.ensures.quiet_sink) c.end_call.ensures.later.1,
 )
 
@@ -415,8 +415,8 @@ returns-in-Err-Disk-clause-drives g c = λ back. absurd (over_never c.say_disk-s
 
 -- ---- its line was not printed
 
-pub give_up-requires-in-Err-Edge : goal.give_up-requires-in-Err-Edge
-give_up-requires-in-Err-Edge g c =
+pub give_up-requires-in-Err-Output : goal.give_up-requires-in-Err-Output
+give_up-requires-in-Err-Output g c =
     let q = c.requires.placed in
     let world = g.S.Supervise.world c.args.supervisor.now in
     let told = Listed g.R.Runner.list g.R.Runner.told g.R.Runner.asked c.args.runner.now in
@@ -429,34 +429,34 @@ give_up-requires-in-Err-Edge g c =
       );
     }
 
-pub returns-in-Err-Edge-clause-call : goal.returns-in-Err-Edge-clause-call
-returns-in-Err-Edge-clause-call g c = λ p opens taking.
+pub returns-in-Err-Output-clause-call : goal.returns-in-Err-Output-clause-call
+returns-in-Err-Output-clause-call g c = λ p opens taking.
     let d = idle_device c.args.idle in
     let world = g.S.Supervise.world c.args.supervisor.now in
     let told = Listed g.R.Runner.list g.R.Runner.told g.R.Runner.asked c.args.runner.now in
     let living = g.R.Runner.living c.args.runner.now in
     let plan = plan_view c.args.plan in
-    let ran = c.give_up-in-Err-Edge.result in
-    let end = Listed g.R.Runner.list g.R.Runner.told g.R.Runner.asked c.give_up-in-Err-Edge.new.runner in
-    let lives = g.R.Runner.living c.give_up-in-Err-Edge.new.runner in
+    let ran = c.give_up-in-Err-Output.result in
+    let end = Listed g.R.Runner.list g.R.Runner.told g.R.Runner.asked c.give_up-in-Err-Output.new.runner in
+    let lives = g.R.Runner.living c.give_up-in-Err-Output.new.runner in
     let leaves : Ending → SessionState → Type 0 = λ ending q. RanLeft p.generation ran (is_failing ending) q world end lives in
-    let t = c.in-Err-Edge.ensures.trace tt p world told living opens in
+    let t = c.in-Err-Output.ensures.trace tt p world told living opens in
     let held = g.K.Sink.held c.args.sink.now in
     let mid = g.K.Sink.held c.accept_plan.new.sink in
     let is = over_status statuses.Edge ran c.give_up-in-Err-Edge.ensures.over in
-    let k = c.give_up-in-Err-Edge.ensures.trace (state_after p (Recorded (Accepted plan) ∷ []))
+    let k = c.give_up-in-Err-Output.ensures.trace (state_after p (Recorded (Accepted plan) ∷ []))
     (accepted_may p d world told living plan opens c.requires.orderly) in
     let r = doubt_parted g.J.Journal.entries g.J.Journal.files g.met.D.Disk.laws c.requires.apart
-    (start_of g.J.Journal.end g.J.Journal.number g.J.Journal.turns (idle_log c.args.idle) (idle_device c.args.idle)) over.Edge c.args.disk.now
+    (start_of g.J.Journal.end g.J.Journal.number g.J.Journal.turns (idle_log c.args.idle) (idle_device c.args.idle)) over.Output c.args.disk.now
     c.accept_plan.new.disk told.list end.list held mid mid p d world told living plan t.0 k.0 (status_of_ran ran) leaves
-    (λ far. c.in-Err-Edge.ensures.fills far) opens c.requires.lawful
+    (λ far. c.in-Err-Output.ensures.fills far) opens c.requires.lawful
     c.accept_plan.ensures.moments c.requires.held.1 t.4 t.1.run
-    (subst (λ (e : SessionFault). LinesAt held mid p.device (records_of t.0) e) c.in-Err-Edge.field-0-is t.2)
-    (subst (λ (e : SessionFault). LeftAt g.J.Journal.entries g.D.Disk.may_leave c.accept_plan.new.disk p t.0 e) c.in-Err-Edge.field-0-is t.3)
+    (subst (λ (e : SessionFault). LinesAt held mid p.device (records_of t.0) e) c.in-Err-Output.field-0-is t.2)
+    (subst (λ (e : SessionFault). LeftAt g.J.Journal.entries g.D.Disk.may_leave c.accept_plan.new.disk p t.0 e) c.in-Err-Output.field-0-is t.3)
     k.1 k.2.0 k.3
     (says_none mid mid (status_of_ran ran) refl) (λ is. refl) is
     (λ behind. doubt_left g.J.Journal.entries g.D.Disk.may_leave over.Edge c.accept_plan.new.disk p k.0 plan p.generation world end lives statuses.Edge ran
-    c.give_up-in-Err-Edge.ensures.over k.4 behind refl) in (
+    c.give_up-in-Err-Output.ensures.over k.4 behind refl) in (
       r.0,
       r.1,
       (λ fails. absurd (differs r.0.0.ending Breaks Fails r.2 breaks_fails fails)),
@@ -465,11 +465,11 @@ returns-in-Err-Edge-clause-call g c = λ p opens taking.
         from = any_moment g.J.Journal.entries g.met.D.Disk.laws c.args.disk.now c.accept_plan.new.disk _ c.accept_plan.ensures.moments;
         on = any_moment g.J.Journal.entries g.met.D.Disk.laws c.accept_plan.new.disk c.accept_plan.new.disk _
             (at_start g.met.D.Disk.laws c.accept_plan.new.disk);
-        each = c.in-Err-Edge.ensures.site tt (λ is. edge_other c.in-Err-Edge.field-0 c.in-Err-Edge.field-0-is is);
+        each = c.in-Err-Output.ensures.site tt (λ is. edge_other c.in-Err-Output.field-0 c.in-Err-Output.field-0-is is);
       })),
     )
 
-pub returns-in-Err-Edge-clause-drives : goal.returns-in-Err-Edge-clause-drives
+pub returns-in-Err-Output-clause-drives : goal.returns-in-Err-Output-clause-drives
 returns-in-Err-Edge-clause-drives g c = λ back. absurd (over_never statuses.Edge c.give_up-in-Err-Edge.result c.give_up-in-Err-Edge.ensures.over back)
 
 -- ---- no stray file is left behind a close
@@ -497,7 +497,7 @@ returns-in-Err-Disk-clause-swept g c =
     (subst (λ (s : Status). IsOrEdge s statuses.Disk)
     (sym (over_status c.say_disk-status.result c.give_up-in-Err-Disk.result c.give_up-in-Err-Disk.ensures.over)) c.say_disk-status.ensures.answers)
 
-pub returns-in-Err-Edge-clause-swept : goal.returns-in-Err-Edge-clause-swept
+pub returns-in-Err-Output-clause-swept : goal.returns-in-Err-Output-clause-swept
 returns-in-Err-Edge-clause-swept g c = never_closes g.D.Disk.is_modelled g.J.Journal.entries (status_of_ran c.give_up-in-Err-Edge.result) statuses.Edge
     (g.D.Disk.seen c.accept_plan.new.disk) refl (inl (over_status statuses.Edge c.give_up-in-Err-Edge.result c.give_up-in-Err-Edge.ensures.over))
 
@@ -514,5 +514,5 @@ pub returns-in-Err-Disk-clause-ends_call : goal.returns-in-Err-Disk-clause-ends_
 returns-in-Err-Disk-clause-ends_call g c = over_ends c.say_disk-status.result c.give_up-in-Err-Disk.result c.give_up-in-Err-Disk.ensures.over
     (edge_ends c.say_disk-status.result statuses.Disk c.say_disk-status.ensures.answers (inl refl))
 
-pub returns-in-Err-Edge-clause-ends_call : goal.returns-in-Err-Edge-clause-ends_call
+pub returns-in-Err-Output-clause-ends_call : goal.returns-in-Err-Output-clause-ends_call
 returns-in-Err-Edge-clause-ends_call g c = over_ends statuses.Edge c.give_up-in-Err-Edge.result c.give_up-in-Err-Edge.ensures.over (inl refl)

@@ -1,7 +1,7 @@
 use Rattle.std.proofs.Common.{[], ◌∷◌, subst, sym, arith}
 use Rattle.step_runner.specs.Entries.{Listed}
 use Rattle.components.specs.Components.{Components}
-use Rattle.histories.specs.TraceEvents.{Asked}
+use Rattle.histories.specs.TraceEvents.{ReadClock}
 use Rattle.histories.specs.States.{leaves}
 use Rattle.session_acts.specs.Runs.{IsInTurn}
 use Rattle.session_acts.proofs.Entering.{pass_acts, pass_runs}
@@ -20,10 +20,10 @@ returns-clause-trace g c = λ p d q.
     let old = Listed g.R.Runner.list g.R.Runner.told g.R.Runner.asked c.args.runner.now in
     let new = Listed g.R.Runner.list g.R.Runner.told g.R.Runner.asked c.moment-now.new.self in
     let past = g.met.R.Runner.past c.args.runner.now in (
-      Asked now ∷ [],
+      ReadClock now ∷ [],
       pass_acts p d world old (g.R.Runner.living c.args.runner.now) now (g.R.Runner.list c.args.runner.now) (g.R.Runner.list c.moment-now.new.self) q
           (omega (arith, past, c.moment-now.ensures.later)) c.moment-now.ensures.list,
-      subst (λ (w : Components). IsInTurn (leaves p (Asked now)) w new (g.R.Runner.living c.moment-now.new.self)) (sym c.event.ensures)
+      subst (λ (w : Components). IsInTurn (leaves p (ReadClock now)) w new (g.R.Runner.living c.moment-now.new.self)) (sym c.event.ensures)
           (pass_runs c.orderly_laws.ensures p d world old new (g.R.Runner.living c.args.runner.now) (g.R.Runner.living c.moment-now.new.self) now q
           c.moment-now.ensures.told c.moment-now.ensures.asked c.moment-now.ensures.lives),
     )

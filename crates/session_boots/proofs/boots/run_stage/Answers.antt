@@ -68,7 +68,7 @@ steps-preserved g c = record {
       c.in-Ok.ensures.turns c.steps.invariant.made;
   others = λ is_modelled name other. c.run_turn.ensures.others is_modelled name other ∙ c.steps.invariant.others is_modelled name other;
   quiet_disk = c.in-Ok.ensures.quiet_disk (not_err c.in-Ok.turned over.Disk) ∙ c.steps.invariant.quiet_disk;
-  quiet_sink = c.in-Ok.ensures.quiet_sink (not_err c.in-Ok.turned over.Edge) ∙ c.steps.invariant.quiet_sink;
+  quiet_sink = c.in-Ok.ensures.quiet_sink (not_err c.in-Ok.turned over.Output) ∙ c.steps.invariant.quiet_sink;
   none = c.run_turn.ensures.none;
   trace = λ p world front.
       let w = c.steps.invariant.trace p world front in

@@ -4,7 +4,7 @@ use Rattle.step_runner.specs.Entries.{Listed, Notes, without}
 use Rattle.step_runner.specs.declared.entries.Seen.TheVariants as seen
 use Rattle.step_runner.specs.Waits.{WaitTime}
 use Rattle.step_runner.specs.declared.runner.Waited.TheVariants.{Elapsed}
-use Rattle.histories.specs.TraceEvents.{Asked, Booted, WaitElapsed}
+use Rattle.histories.specs.TraceEvents.{ReadClock, Booted, WaitElapsed}
 use Rattle.histories.specs.States.{state_after}
 use Rattle.session_boots.proofs.Entries.{ended_itself, ended_on, entry, killed, slept_acts, slept_alive}
 use Rattle.session_boots.proofs.Alone.{is_alone, late_after, none_after, the_only}
@@ -49,7 +49,7 @@ returns-in-Elapsed-clause-trace g c = λ p made alive.
     let late = late_after (2 ^ 62) old.moment (g.R.Runner.clock c.args.runner.now) (g.R.Runner.clock c.wait.new.self) now c.args.deadline past lt
     c.requires.in_time waited c.moment-now.ensures.later in
     let notes = subst (λ (n : ℕ). Notes old slept (seen.Elapsed (c.args.deadline - n))) (sym at) c.in-Elapsed.ensures.notes in
-    let first = Asked now ∷ WaitElapsed (entry old (seen.Elapsed (c.args.deadline - old.moment))) ∷ [] in
+    let first = ReadClock now ∷ WaitElapsed (entry old (seen.Elapsed (c.args.deadline - old.moment))) ∷ [] in
     let acts = slept_acts p c.args.child c.args.deadline old slept now mid.list alive lt notes
     (omega (arith, at, past, c.in-Elapsed.ensures.time.0, c.moment-now.ensures.later)) c.moment-now.ensures.list in
     let again = slept_alive p c.args.child c.args.deadline old mid now alive c.moment-now.ensures.told c.moment-now.ensures.asked in

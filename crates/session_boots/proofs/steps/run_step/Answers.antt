@@ -3,7 +3,7 @@ use Rattle.std.specs.Prelude.{pos}
 use Rattle.step_runner.specs.Entries.{Listed}
 use Rattle.components.specs.Deadlines.{deadline_after}
 use Rattle.step_runner.specs.declared.entries.Seen.TheVariants as seen
-use Rattle.histories.specs.TraceEvents.{Asked, Booted}
+use Rattle.histories.specs.TraceEvents.{ReadClock, Booted}
 use Rattle.histories.specs.States.{leaves, state_after}
 use Rattle.nuc_base.specs.declared.kinds.Exit.TheVariants as exits
 use Rattle.session_boots.proofs.Entries.{ended_on, entry, now_world, pass_acts, pass_probe, refused, started_acts, started_alive}
@@ -22,10 +22,10 @@ returns-then-is_skipped-clause-trace g c = λ p may.
     let now = c.moment-now.result in
     let past = g.met.R.Runner.past c.args.runner.now in
     let passes = pass_acts p m old now old.list mid.list may (omega (arith, past, c.moment-now.ensures.later)) c.moment-now.ensures.list in
-    let e = c.is_skipped.ensures.skipped c.if-is_skipped.true (leaves p (Asked now))
+    let e = c.is_skipped.ensures.skipped c.if-is_skipped.true (leaves p (ReadClock now))
     (pass_probe p m old mid now may c.moment-now.ensures.told c.moment-now.ensures.asked) in
-    let all = ended_on p (Asked now ∷ []) e.0 old mid new (exits.Code (pos 0)) now passes refl refl (record { acts = e.1; ended = e.2 }) in
-    (e.0 ++ Asked now ∷ [], all.acts, all.ended)
+    let all = ended_on p (ReadClock now ∷ []) e.0 old mid new (exits.Code (pos 0)) now passes refl refl (record { acts = e.1; ended = e.2 }) in
+    (e.0 ++ ReadClock now ∷ [], all.acts, all.ended)
 
 pub returns-in-Err-clause-trace : goal.returns-in-Err-clause-trace
 returns-in-Err-clause-trace g c = λ p may.
@@ -37,12 +37,12 @@ returns-in-Err-clause-trace g c = λ p may.
     let now = c.moment-now.result in
     let past = g.met.R.Runner.past c.args.runner.now in
     let passes = pass_acts p m old now old.list mid.list may (omega (arith, past, c.moment-now.ensures.later)) c.moment-now.ensures.list in
-    let q = leaves p (Asked now) in
+    let q = leaves p (ReadClock now) in
     let s = c.is_skipped.ensures.starts c.if-is_skipped.false q (pass_probe p m old mid now may c.moment-now.ensures.told c.moment-now.ensures.asked) in
     let e = refused (state_after q s.0) m asked new m.command s.2 refl c.in-Err.ensures.err in
     let one = ended_on q s.0 (Booted (entry asked (seen.Refused m.command)) m ∷ []) mid asked new exits.NotStarted now s.1 s.3.world s.3.generation e in
-    let all = ended_on p (Asked now ∷ []) (Booted (entry asked (seen.Refused m.command)) m ∷ s.0) old mid new exits.NotStarted now passes refl refl one in
-    ((Booted (entry asked (seen.Refused m.command)) m ∷ s.0) ++ Asked now ∷ [], all.acts, all.ended)
+    let all = ended_on p (ReadClock now ∷ []) (Booted (entry asked (seen.Refused m.command)) m ∷ s.0) old mid new exits.NotStarted now passes refl refl one in
+    ((Booted (entry asked (seen.Refused m.command)) m ∷ s.0) ++ ReadClock now ∷ [], all.acts, all.ended)
 
 pub returns-in-Ok-clause-trace : goal.returns-in-Ok-clause-trace
 returns-in-Ok-clause-trace g c = λ p may.
@@ -55,7 +55,7 @@ returns-in-Ok-clause-trace g c = λ p may.
     let now = c.moment-now.result in
     let past = g.met.R.Runner.past c.args.runner.now in
     let passes = pass_acts p m old now old.list mid.list may (omega (arith, past, c.moment-now.ensures.later)) c.moment-now.ensures.list in
-    let q = leaves p (Asked now) in
+    let q = leaves p (ReadClock now) in
     let s = c.is_skipped.ensures.starts c.if-is_skipped.false q (pass_probe p m old mid now may c.moment-now.ensures.told c.moment-now.ensures.asked) in
     let place = state_after q s.0 in
     let notes = c.in-Ok.ensures.ok in
@@ -68,5 +68,5 @@ returns-in-Ok-clause-trace g c = λ p may.
     let world = now_world place asked s.2.is_told in
     let first = ended_on place (entry_is ∷ []) w.0 asked begun new c.await_end.result asked.moment starts world refl (record { acts = w.1; ended = w.2 }) in
     let one = ended_on q s.0 (w.0 ++ entry_is ∷ []) mid asked new c.await_end.result now s.1 s.3.world s.3.generation first in
-    let all = ended_on p (Asked now ∷ []) ((w.0 ++ entry_is ∷ []) ++ s.0) old mid new c.await_end.result now passes refl refl one in
-    (((w.0 ++ entry_is ∷ []) ++ s.0) ++ Asked now ∷ [], all.acts, all.ended)
+    let all = ended_on p (ReadClock now ∷ []) ((w.0 ++ entry_is ∷ []) ++ s.0) old mid new c.await_end.result now passes refl refl one in
+    (((w.0 ++ entry_is ∷ []) ++ s.0) ++ ReadClock now ∷ [], all.acts, all.ended)

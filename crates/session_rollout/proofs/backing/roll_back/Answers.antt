@@ -1,5 +1,5 @@
 use Rattle.std.proofs.Common.{subst}
-use Rattle.deploy_state.specs.States.{InBrokeOff, broken_device, rolling_device}
+use Rattle.deploy_state.specs.States.{OwnsBrokenOff, broken_device, rolling_device}
 use Rattle.deploy_state.specs.declared.state.BrokeOff.{BrokeOff}
 use Rattle.step_runner.specs.Entries.{Listed}
 use Rattle.session_boots.specs.Stands.{IsAtBootStage}
@@ -10,7 +10,7 @@ use Rattle.session_rollout.proofs.backing.roll_back.Goals as goal
 -- ---- by the bootstraps of the set
 
 pub back_on-requires-clause-held : goal.back_on-requires-clause-held
-back_on-requires-clause-held g c = subst (λ (b : BrokeOff _). InBrokeOff g.D.Disk.is_modelled g.D.Disk.may_leave g.J.Journal.stands g.J.Journal.end b
+back_on-requires-clause-held g c = subst (λ (b : BrokeOff _). OwnsBrokenOff g.D.Disk.is_modelled g.D.Disk.may_leave g.J.Journal.stands g.J.Journal.end b
     c.args.disk.now) c.in-Backing.is c.requires.held
 
 pub back_on-requires-clause-ready : goal.back_on-requires-clause-ready
@@ -33,12 +33,12 @@ returns-in-Backing-clause-course g c = λ p front.
 -- ---- at once by its items
 
 pub roll_on-requires-clause-held : goal.roll_on-requires-clause-held
-roll_on-requires-clause-held g c = subst (λ (b : BrokeOff _). InBrokeOff g.D.Disk.is_modelled g.D.Disk.may_leave g.J.Journal.stands g.J.Journal.end b
+roll_on-requires-clause-held g c = subst (λ (b : BrokeOff _). OwnsBrokenOff g.D.Disk.is_modelled g.D.Disk.may_leave g.J.Journal.stands g.J.Journal.end b
     c.args.disk.now) c.in-Rolling.is c.requires.held
 
 pub roll_on-requires-clause-ready : goal.roll_on-requires-clause-ready
 roll_on-requires-clause-ready g c =
-    let held = subst (λ (b : BrokeOff _). InBrokeOff g.D.Disk.is_modelled g.D.Disk.may_leave g.J.Journal.stands g.J.Journal.end b c.args.disk.now)
+    let held = subst (λ (b : BrokeOff _). OwnsBrokenOff g.D.Disk.is_modelled g.D.Disk.may_leave g.J.Journal.stands g.J.Journal.end b c.args.disk.now)
     c.in-Rolling.is c.requires.held in
     set_ready c.args.backs.now (g.S.Supervise.coming c.args.ready) (rolling_device c.in-Rolling.state) held.1
     (subst (λ (b : BrokeOff _). HasWayBack (broken_device b) c.args.backs.now (g.S.Supervise.coming c.args.ready)) c.in-Rolling.is c.requires.ready)

@@ -56,7 +56,7 @@ turns-preserved g c = record {
       c.in-Ok.ensures.deployment;
   others = λ is_modelled name other. c.turn.ensures.others is_modelled name other ∙ c.turns.invariant.others is_modelled name other;
   quiet_disk = c.in-Ok.ensures.quiet_disk (not_err (c.in-Ok.next, c.in-Ok.turned) over.Disk) ∙ c.turns.invariant.quiet_disk;
-  quiet_sink = c.in-Ok.ensures.quiet_sink (not_err (c.in-Ok.next, c.in-Ok.turned) over.Edge) ∙ c.turns.invariant.quiet_sink;
+  quiet_sink = c.in-Ok.ensures.quiet_sink (not_err (c.in-Ok.next, c.in-Ok.turned) over.Output) ∙ c.turns.invariant.quiet_sink;
   drives = c.turn.ensures.drives;
   trace = λ p comes.
       let w = c.turns.invariant.trace p comes in
@@ -112,7 +112,7 @@ pub returns-in-Err-clause-disk : goal.returns-in-Err-clause-disk
 returns-in-Err-clause-disk g c = λ is. let r = c.in-Err.ensures.disk (same_err c.in-Err.over over.Disk is) in omega (arith, r, c.turns.invariant.quiet_disk)
 
 pub returns-in-Err-clause-edge : goal.returns-in-Err-clause-edge
-returns-in-Err-clause-edge g c = λ is. let r = c.in-Err.ensures.edge (same_err c.in-Err.over over.Edge is) in omega (arith, r, c.turns.invariant.quiet_sink)
+returns-in-Err-clause-edge g c = λ is. let r = c.in-Err.ensures.edge (same_err c.in-Err.over over.Output is) in omega (arith, r, c.turns.invariant.quiet_sink)
 
 pub turn-requires-clause-drives : goal.turn-requires-clause-drives
 turn-requires-clause-drives g c = c.turns.invariant.drives

@@ -62,7 +62,7 @@ acts-preserved g c = record {
       c.in-Ok.ensures.deployment;
   others = λ is_modelled name other. c.take_act.ensures.others is_modelled name other ∙ c.acts.invariant.others is_modelled name other;
   quiet_disk = c.in-Ok.ensures.quiet_disk (not_err (c.in-Ok.next, c.in-Ok.none) over.Disk) ∙ c.acts.invariant.quiet_disk;
-  quiet_sink = c.in-Ok.ensures.quiet_sink (not_err (c.in-Ok.next, c.in-Ok.none) over.Edge) ∙ c.acts.invariant.quiet_sink;
+  quiet_sink = c.in-Ok.ensures.quiet_sink (not_err (c.in-Ok.next, c.in-Ok.none) over.Output) ∙ c.acts.invariant.quiet_sink;
   not_above = not_above_on (g.S.Supervise.world c.args.supervisor.now) (g.S.Supervise.world c.acts.supervisor) (g.S.Supervise.world c.take_act.new.supervisor)
       c.acts.invariant.not_above c.take_act.ensures.not_above;
   trace = λ p runs device.
@@ -115,7 +115,7 @@ pub returns-in-Err-clause-disk : goal.returns-in-Err-clause-disk
 returns-in-Err-clause-disk g c = λ is. let r = c.in-Err.ensures.disk (same_err c.in-Err.over over.Disk is) in omega (arith, r, c.acts.invariant.quiet_disk)
 
 pub returns-in-Err-clause-edge : goal.returns-in-Err-clause-edge
-returns-in-Err-clause-edge g c = λ is. let r = c.in-Err.ensures.edge (same_err c.in-Err.over over.Edge is) in omega (arith, r, c.acts.invariant.quiet_sink)
+returns-in-Err-clause-edge g c = λ is. let r = c.in-Err.ensures.edge (same_err c.in-Err.over over.Output is) in omega (arith, r, c.acts.invariant.quiet_sink)
 
 pub take_act-requires-clause-drives : goal.take_act-requires-clause-drives
 take_act-requires-clause-drives g c = c.acts.invariant.not_above.on.drives

@@ -2,7 +2,7 @@ use Rattle.std.proofs.Common.{ℕ, [], ◌∷◌, Option, subst, arith}
 use Rattle.step_runner.specs.Entries.{Listed}
 use Rattle.step_runner.specs.declared.entries.Seen.TheVariants as seen
 use Rattle.components.specs.Answers.{IsNextLiving}
-use Rattle.histories.specs.TraceEvents.{Asked, KilledOnAbort}
+use Rattle.histories.specs.TraceEvents.{ReadClock, KilledOnAbort}
 use Rattle.histories.specs.States.{state_after}
 use Rattle.session_boots.proofs.Acting.{acts_on}
 use Rattle.session_boots.proofs.Restarts.{none_is}
@@ -19,7 +19,7 @@ kills-init g c = record {
       let new = Listed g.R.Runner.list g.R.Runner.told g.R.Runner.asked c.moment-now.new.self in
       let living = g.R.Runner.living c.args.runner.now in
       let past = g.met.R.Runner.past c.args.runner.now in (
-        Asked now ∷ [],
+        ReadClock now ∷ [],
         ask_acts p world old living given now (g.R.Runner.list c.args.runner.now) (g.R.Runner.list c.moment-now.new.self)
             (omega (arith, past, c.moment-now.ensures.later)) c.moment-now.ensures.list,
         ask_keeps p now,
