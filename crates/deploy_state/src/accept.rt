@@ -43,10 +43,13 @@ struct Kit {
 fn plan_in(entry: Record) -> Option<Plan>
     ensures { (plan : Plan) → entry ≡ Record.Accepted plan → result ≡ Some plan }
 {
-    let Record::Accepted(plan) = entry else {
-        return None;
-    };
-    Some(plan)
+    match entry {
+        Record::Accepted(plan) => Some(plan),
+        other => {
+            drop(other);
+            None
+        }
+    }
 }
 
 /// The plan, and the payload of its record.
@@ -55,10 +58,19 @@ fn spell(alloc: Global, plan: Plan) -> Result<(Plan, Bytes), NoMemory>
     ensures { IfOk result (λ r. (r.0 ≡ plan) × Spelled r.1 (stored.Accepted (plan_view plan))) }
 {
     let entry = Record::Accepted(plan);
-    let payload = entry.write(alloc)?;
+    let written = entry.write(alloc);
     match plan_in(entry) {
-        Some(plan) => Ok((plan, payload)),
-        None => Err(NoMemory),
+        Some(plan) => match written {
+            Ok(payload) => Ok((plan, payload)),
+            Err(_) => {
+                drop(plan);
+                Err(NoMemory)
+            }
+        },
+        None => {
+            drop(written);
+            Err(NoMemory)
+        }
     }
 }
 
@@ -102,20 +114,31 @@ impl<J: Journal + Drop> Idle<J> {
         ensures cause { HasCause (D.faults disk.old) (D.faults disk.new) result }
         ensures quiet { OnOk result (D.faults disk.new ≡ D.faults disk.old) }
     {
+        let Kit {
+            plan,
+            payload,
+            id,
+            spare,
+        } = kit;
         let mut log = self.log;
         let mut device = self.device;
-        match log.append(disk, kit.payload.as_slice()) {
+        let appended = log.append(disk, payload.as_slice());
+        drop(payload);
+        match appended {
             Ok(()) => {
-                device.take_plan(kit.plan);
-                let hand = Hand {
-                    log,
-                    device,
-                    spare: kit.spare,
-                };
-                Ok((Booting { hand }, Receipt { id: kit.id }))
+                device.take_plan(plan);
+                let hand = Hand { log, device, spare };
+                Ok((Booting { hand }, Receipt { id }))
             }
             // There is room, so the disk failed.
-            Err(_) => Err(Stopped { of: PhantomData }),
+            Err(_) => {
+                drop(plan);
+                drop(id);
+                drop(spare);
+                drop(device);
+                drop(log);
+                Err(Stopped { of: PhantomData })
+            }
         }
     }
 
@@ -155,8 +178,15 @@ impl<J: Journal + Drop> Idle<J> {
                 Ok(entered) => Ok(entered),
                 Err(stopped) => Err(AcceptRefusal::Stopped(stopped)),
             },
-            Err(TurnFault::NoMemory) => Err(AcceptRefusal::NoMemory(state)),
-            Err(TurnFault::Disk) => Err(AcceptRefusal::Stopped(Stopped { of: PhantomData })),
+            Err(TurnFault::NoMemory) => {
+                drop(kit);
+                Err(AcceptRefusal::NoMemory(state))
+            }
+            Err(TurnFault::Disk) => {
+                drop(kit);
+                drop(state);
+                Err(AcceptRefusal::Stopped(Stopped { of: PhantomData }))
+            }
         }
     }
 
@@ -251,9 +281,11 @@ impl<J: Journal + Drop> Idle<J> {
         };
         let size = kit.payload.len() as u64;
         let Ok(site) = site_of(alloc, &self.log, &self.device, size) else {
+            drop(kit);
             return Err(AcceptRefusal::NoMemory(self));
         };
         if site.start.saturating_add(6 + size + KEPT) > MOST_FILE {
+            drop(kit);
             return Err(AcceptRefusal::Full(self, site.start));
         }
         self.enter_at(alloc, disk, kit, site)

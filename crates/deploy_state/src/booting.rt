@@ -11,7 +11,8 @@ ghost use Rattle.device.specs.declared.mark.Mark.TheVariants as marks;
 ghost use Rattle.nuc_base.specs.declared.kinds.Outcome.TheVariants as outcomes;
 ghost use Rattle.deploy_state.specs.Fields.{CanBegin, CanBreakOff, IsBegun, IsBreak, has_failed, next_name};
 ghost use Rattle.deploy_state.specs.Owned.{LeavesEither, MayMark};
-ghost use Rattle.deploy_state.specs.States.{OwnsActivating, OwnsBooting, OwnsBrokenOff, OwnsIdle, activating_device, booting_device, broken_device, idle_device};
+ghost use Rattle.deploy_state.specs.States.{OwnsActivating, OwnsBooting, OwnsBrokenOff, OwnsIdle};
+ghost use Rattle.deploy_state.specs.States.{activating_device, booting_device, broken_device, idle_device};
 
 use crate::names::{failed_in, next_in};
 use crate::state::{Activating, Booting, BrokeOff, Idle, Stopped};

@@ -55,8 +55,14 @@ fn stated<J: Journal + Drop>(alloc: Global, log: J, device: Device) -> Result<Lo
         return Ok(Loaded::Idle(Idle { log, device }));
     };
     let stage = pending.stage;
-    let spare = device.spare(alloc, &pending.plan)?;
-    Ok(in_stage(stage, Hand { log, device, spare }))
+    match device.spare(alloc, &pending.plan) {
+        Ok(spare) => Ok(in_stage(stage, Hand { log, device, spare })),
+        Err(NoMemory) => {
+            drop(device);
+            drop(log);
+            Err(NoMemory)
+        }
+    }
 }
 
 /// Replays the entries behind which the journal stands. Those of a disk that does not keep what it holds may give a

@@ -17,8 +17,8 @@ returns-in-Ok-enter-clause-moments g c =
     (StandsForEither entries d e) (StandsForEither entries d e)
     c.turn.ensures.moments c.enter.ensures.moments (λ i h. inl h) (λ i h. h)
 
-pub returns-in-Ok-clause-moments : goal.returns-in-Ok-clause-moments
-returns-in-Ok-clause-moments g c =
+pub returns-in-Err-clause-moments : goal.returns-in-Err-clause-moments
+returns-in-Err-clause-moments g c =
     let d = idle_device c.args.self in
     let e = applied d (stored.Accepted (plan_view c.args.kit.plan)) in
     let entries = g.J.Journal.entries in
