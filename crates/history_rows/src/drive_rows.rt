@@ -79,7 +79,8 @@ pub fn late_records()
 pub fn rolls_early()
     ensures changes { (o : Origin) (r : Recipes) (made : List Fitted) → MayFollow (with_recipes r (state_after (broken o) (Recorded (Failing a) ∷ [])))
         (Changed made no_failures false) → ⊥ }
-    ensures waits { (o : Origin) → MayFollow (state_after (broken o) (ReadClock 0 ∷ Recorded (Failing a) ∷ [])) (WaitElapsed (asked 0 (seen.Elapsed 1000))) → ⊥ }
+    ensures waits { (o : Origin) → MayFollow (state_after (broken o) (ReadClock 0 ∷ Recorded (Failing a) ∷ []))
+        (WaitElapsed (asked 0 (seen.Elapsed 1000))) → ⊥ }
     ensures closes { (o : Origin) → MayFollow (rolling o) (Recorded (Closed outcomes.RollbackComplete)) → ⊥ }
     ensures stops { (o : Origin) → MayFollow (driven o state.Installed 0) StopsAll → ⊥ }
     ensures serves_on { (o : Origin) (r : Recipes) (made : List Fitted) → MayFollow (with_recipes r (state_after (is_back o) stops_it))

@@ -39,7 +39,8 @@ pub fn starts_nothing()
     ensures twice { (o : Origin) (r : Recipes) (made : List Fitted) → MayFollow (with_recipes r (hello_changed o)) (Changed made no_failures false) → ⊥ }
     ensures unanswered { (o : Origin) → MayFollow (state_after (hello_begun o) (ReadClock 0 ∷ [])) (WaitElapsed (asked 0 (seen.Elapsed 1000))) → ⊥ }
     ensures unasked { (o : Origin) → MayFollow (hello_begun o) (Ran (not_asked 0 (seen.Started 0 (script (codes "r")))) 0 step.Run) → ⊥ }
-    ensures other { (o : Origin) → MayFollow (state_after (hello_begun o) (ReadClock 0 ∷ [])) (Ran (asked 0 (seen.Started 0 (script (codes "x")))) 0 step.Run) → ⊥ }
+    ensures other { (o : Origin) → MayFollow (state_after (hello_begun o) (ReadClock 0 ∷ []))
+        (Ran (asked 0 (seen.Started 0 (script (codes "x")))) 0 step.Run) → ⊥ }
     ensures before { (o : Origin) → MayFollow (state_after (hello_accepted o) (Recorded Activating ∷ [])) (Moved 0 event.MayBegin) → ⊥ }
     ensures stops { (o : Origin) → MayFollow (hello_accepted o) StopsAll → ⊥ }
 {}
@@ -53,9 +54,10 @@ pub fn skipif_row()
         (Ran (asked 0 (seen.Started 0 (script (codes "i")))) 0 step.Install) → ⊥ }
     ensures after_yes { (o : Origin) → MayFollow (state_after (skip_begun o) probed_yes)
         (Ran (not_asked 0 (seen.Started 0 (script (codes "i")))) 0 step.Install) → ⊥ }
-    ensures other { (o : Origin) → MayFollow (state_after (skip_begun o) (ReadClock 0 ∷ [])) (Ran (asked 0 (seen.Exists (codes "/opt/y") true)) 0 step.Install) →
-        ⊥ }
-    ensures kind { (o : Origin) → MayFollow (state_after (skip_begun o) (ReadClock 0 ∷ [])) (Ran (asked 0 (seen.OnPath (codes "/opt/x") true)) 0 step.Install) → ⊥ }
+    ensures other { (o : Origin) → MayFollow (state_after (skip_begun o) (ReadClock 0 ∷ []))
+        (Ran (asked 0 (seen.Exists (codes "/opt/y") true)) 0 step.Install) → ⊥ }
+    ensures kind { (o : Origin) → MayFollow (state_after (skip_begun o) (ReadClock 0 ∷ []))
+        (Ran (asked 0 (seen.OnPath (codes "/opt/x") true)) 0 step.Install) → ⊥ }
     ensures twice { (o : Origin) → MayFollow (state_after (skip_begun o) probed_no) (Ran (not_asked 0 (seen.Exists (codes "/opt/x") true)) 0 step.Install) → ⊥ }
     ensures asked_between { (o : Origin) → MayFollow (state_after (skip_begun o) (ReadClock 0 ∷ probed_no))
         (Ran (asked 0 (seen.Started 0 (script (codes "i")))) 0 step.Install) → ⊥ }

@@ -98,7 +98,8 @@ pub fn installs_first_row()
     ensures opens_items { (o : Origin) (r : Recipes) (made : List Fitted) → AreFitted o (read_as r (item_a ∷ [])) made →
         IsProper (with_recipes r (after_installs_taken o)) (Changed made no_failures false ∷ []) }
     ensures comes { (o : Origin) → IsProper (after_installs o) installs_comes }
-    ensures startup { (o : Origin) → MayFollow (state_after (after_installs o) (ReadClock 0 ∷ begins 0 ∷ [])) (starts (asked 0) 0 0 step.Startup (codes "s")) → ⊥ }
+    ensures startup { (o : Origin) → MayFollow (state_after (after_installs o) (ReadClock 0 ∷ begins 0 ∷ []))
+        (starts (asked 0) 0 0 step.Startup (codes "s")) → ⊥ }
     ensures booting { (o : Origin) (r : Recipes) (made : List Fitted) →
         MayFollow (with_recipes r (state_after (fresh o) (Recorded (Accepted (plan_of (item_a ∷ []) [])) ∷ []))) (Changed made no_failures false) → ⊥ }
     ensures begins { (o : Origin) → MayFollow (state_after (fresh o) (Recorded (Accepted (plan_of (item_a ∷ []) [])) ∷ [])) (begins 0) → ⊥ }

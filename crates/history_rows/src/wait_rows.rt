@@ -51,7 +51,8 @@ pub fn two_start_row()
         (Changed made no_failures false ∷ []) }
     ensures starts { (o : Origin) → IsProper (after_pair o) pair_starts }
     ensures ends { (o : Origin) → IsProper (after_pair_starts o) pair_ends }
-    ensures waits { (o : Origin) → MayFollow (state_after (after_pair o) (starts (asked 0) 0 0 step.Startup (codes "s") ∷ ReadClock 0 ∷ begins 0 ∷ begins 0 ∷ []))
+    ensures waits { (o : Origin) → MayFollow (state_after (after_pair o)
+        (starts (asked 0) 0 0 step.Startup (codes "s") ∷ ReadClock 0 ∷ begins 0 ∷ begins 0 ∷ []))
         (dies (not_asked 0) 0 0 step.Startup good 120000) → ⊥ }
     ensures longer { (o : Origin) → MayFollow (state_after (after_pair_starts o) (ReadClock 2 ∷ dies (not_asked 0) 0 0 step.Startup good 120000 ∷ []))
         (dies (asked 2) 1 1 step.Startup good 120000) → ⊥ }

@@ -13,7 +13,7 @@ use Rattle.step_runner.specs.declared.entries.RunnerEntry.{RunnerEntry}
 use Rattle.step_runner.specs.declared.entries.Seen.{Seen}
 use Rattle.step_runner.specs.declared.entries.Seen.TheVariants as seen
 use Rattle.components.specs.declared.kinds.Prepared.{Prepared}
-use Rattle.histories.specs.Follows.{IsClear, IsEntry, IsProper, MayBoot, MayBooted, MayChange, MayChangeIn, MayClose, MayFollow, MayKeep, MayRun, MaySleep}
+use Rattle.histories.specs.Follows.{IsClear, IsEntry, IsProper, MayBoot, MayBooted, MayChangeIn, MayClose, MayFollow, MayKeep, MayRun, MaySleep}
 use Rattle.histories.specs.Follows.{MayCut, MayStopAll, MayTake, MayTakeBy}
 use Rattle.histories.specs.Phases.{Duty, Generation, previous, draining, current, shutting_down, Phase, idle, booting, activating, backing, rolling}
 use Rattle.histories.specs.Phases.{duty_of, is_current, is_idle, is_shutting_down}

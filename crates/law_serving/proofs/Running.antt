@@ -1,12 +1,8 @@
 -- What each event keeps of the components: they run their items, and no deployment is driven where nothing is pending.
-use Rattle.std.specs.Prelude.{ℕ, Bool, true, false, List, [], ◌∷◌, Option, Some, None, if◌then◌else◌}
+use Rattle.std.specs.Prelude.{ℕ, true, false, List, [], ◌∷◌, Option, Some, None}
 use Rattle.std.proofs.Common.{◌≡◌, ◌∙◌, refl, sym, ap, subst}
 use Rattle.nuc_base.specs.declared.kinds.Step.{Step}
-use Rattle.nuc_base.specs.declared.kinds.Step.TheVariants as step
-use Rattle.nuc_base.specs.declared.kinds.Exit.{Exit}
 use Rattle.nuc_base.specs.declared.platform.Platform.{Platform}
-use Rattle.lifecycle.specs.declared.kinds.LifeEvent.{LifeEvent}
-use Rattle.lifecycle.specs.declared.kinds.LifeEvent.TheVariants as life
 use Rattle.records.specs.Stored.{Record, Accepted, BootBegun, BootEnded, Activating, StepFailed, Failing, FailingBack, Closed}
 use Rattle.records.specs.declared.record.Origin.{Origin}
 use Rattle.device.specs.Devices.{Device, Pending}
@@ -17,12 +13,14 @@ use Rattle.step_runner.specs.declared.entries.Seen.{Seen}
 use Rattle.step_runner.specs.declared.entries.Seen.TheVariants as seen
 use Rattle.components.specs.Acts.{Move, Quietly}
 use Rattle.components.specs.Components.{Components, child_gone, owner, place_of, without_child}
-use Rattle.components.specs.Events.{ended, gone_by, is_orphan_at, kill_event_at, killed, launched, told_at, told_of}
+use Rattle.components.specs.Events.{killed, told_at, told_of}
 use Rattle.components.specs.Lives.{lived_at}
 use Rattle.components.specs.Platforms.{AllFor, AllRunFor, RunsFor}
 use Rattle.components.specs.declared.kinds.Event.TheVariants as events
 use Rattle.components.specs.declared.kinds.Prepared.{Prepared}
 use Rattle.components.proofs.Platforms.{ready_for, run_change, run_noticed, run_steadied, run_stopped}
+use Rattle.law_supervisor.proofs.Begun.{started_steady}
+use Rattle.law_supervisor.proofs.Gone.{ended_steady, killed_steady}
 use Rattle.law_supervisor.proofs.Lists.{changed_all}
 use Rattle.histories.specs.Follows.{IsProper, MayFollow, MayKeep}
 use Rattle.histories.specs.Phases.{duty_in, duty_of, is_idle}
@@ -140,42 +138,15 @@ all_run laws p h o is a proper run = both_run laws p h o is a proper
 
 -- ---- the mode
 
-mode_launched : (s : Step) (k : ℕ) (w : Components) → (launched s k w).steady ≡ w.steady
-mode_launched step.Run k w = refl
-mode_launched s k w = refl
-
-mode_gone : (o : Option LifeEvent) (k : ℕ) (s : Step) (n : ℕ) (w : Components) → (gone_by o k s n w).steady ≡ w.steady
-mode_gone None k s n w = refl
-mode_gone (Some e) k s n w = by (is_orphan_at k s w)
-  where
-    by : (b : Bool) → (let v : Components = (if b then child_gone k n w else lived_at k e (child_gone k n w)) in v.steady) ≡ w.steady
-    by true = refl
-    by false = refl
-
-mode_killed : (n : ℕ) (w : Components) → (killed n w).steady ≡ w.steady
-mode_killed n w = by (owner n w.parts)
-  where
-    by : (x : Option (ℕ × Step)) →
-        (let v : Components = (elim x [ None ↦ w | Some o ↦ gone_by (kill_event_at o.0 o.1 n w) o.0 o.1 n w ]) in v.steady) ≡ w.steady
-    by None = refl
-    by (Some o) = mode_gone (kill_event_at o.0 o.1 n w) o.0 o.1 n w
-
-mode_ended : (n : ℕ) (x : Exit) (w : Components) → (ended n x w).steady ≡ w.steady
-mode_ended n x w = by (owner n w.parts)
-  where
-    by : (y : Option (ℕ × Step)) → (let v : Components = (elim y [ None ↦ w | Some o ↦ gone_by (Some (life.Ended o.1 x)) o.0 o.1 n w ]) in v.steady) ≡ w.steady
-    by None = refl
-    by (Some o) = mode_gone (Some (life.Ended o.1 x)) o.0 o.1 n w
-
 mode_ran : (s : Seen) (k : ℕ) (t : Step) (w : Components) → (ran s k t w).steady ≡ w.steady
-mode_ran (seen.Started n c) k t w = mode_launched t k _
+mode_ran (seen.Started n c) k t w = started_steady k t n w
 mode_ran (seen.Refused c) k t w = refl
-mode_ran (seen.Killed n) k t w = mode_killed n w
+mode_ran (seen.Killed n) k t w = killed_steady n w
 mode_ran (seen.Exists x true) k t w = refl
 mode_ran (seen.Exists x false) k t w = refl
 mode_ran (seen.OnPath x true) k t w = refl
 mode_ran (seen.OnPath x false) k t w = refl
-mode_ran (seen.Ended n e l) k t w = mode_ended n e w
+mode_ran (seen.Ended n e l) k t w = ended_steady n e w
 mode_ran (seen.Elapsed l) k t w = refl
 
 mode_told : (name : List ℕ) (w : Components) → (told_of name w).steady ≡ w.steady

@@ -35,7 +35,7 @@ use Rattle.law_supervisor.proofs.KeptBroken.{broken_at}
 use Rattle.law_supervisor.proofs.KeptOwed.{owed_at}
 use Rattle.law_supervisor.proofs.KeptCounts.{counts_at}
 
-standing : (P : ComponentState → Type 0) (p : ComponentState) → p.life.gone ≡ false → P (record p { life = record p.life { gone = false } }) → P p
+pub standing : (P : ComponentState → Type 0) (p : ComponentState) → p.life.gone ≡ false → P (record p { life = record p.life { gone = false } }) → P p
 standing P p e x = subst (λ (g : Bool). P (record p { life = record p.life { gone = g } })) (sym e) x
 
 -- one that stands and owes nothing
@@ -43,6 +43,20 @@ untold : (P : ComponentState → Type 0) (p : ComponentState) → p.life.gone �
     P (record p { life = record p.life { gone = false }; owed = None }) → P p
 untold P p g o x = subst (λ (y : Option (Step × Exit)). P (record p { owed = y })) (sym o)
     (subst (λ (z : Bool). P (record p { life = record p.life { gone = z }; owed = None })) (sym g) x)
+
+-- what is left of one that is gone
+pub bare_of : (p : ComponentState) → (not p.life.gone || is_bare p) ≡ true → p.life.gone ≡ true → (p.stop ≡ None) × (is_stopping p.life.state ≡ false) ×
+    (p.life.busy ≡ None) × (p.life.runs ≡ false)
+bare_of p b g =
+    let x = second_true (not p.life.gone) (is_bare p) b (rw g refl) in
+    let y = and_parts (not (is_some p.stop) && not (is_stopping p.life.state)) (not (is_some p.life.busy) && not p.life.runs) x in
+    let a = and_parts (not (is_some p.stop)) (not (is_stopping p.life.state)) y.0 in
+    let c = and_parts (not (is_some p.life.busy)) (not p.life.runs) y.1 in (
+      none_of p.stop (not_so (is_some p.stop) a.0),
+      not_so (is_stopping p.life.state) a.1,
+      none_of p.life.busy (not_so (is_some p.life.busy) c.0),
+      not_so p.life.runs c.1,
+    )
 
 abbrev pub runs_in : List Child → Bool
 runs_in cs = list_any is_run cs
@@ -73,21 +87,22 @@ abbrev pub IsNamed : List ℕ → Fitted × ℕ → Type 0
 IsNamed own n = (name_of n.0 ≡ own) × (n.1 < 3)
 
 pub same_name : (b : Bool) (e : LifeEvent) (p : ComponentState) → IfSome p.next (IsNamed (component_name p)) → component_name (lived b e p) ≡ component_name p
-same_name b e p k = by_lived (λ f nx cs. name_of f ≡ component_name p) b e p
+same_name b e p k = by_lived (λ f nx st cs. name_of f ≡ component_name p) b e p
     (refl, (λ n q. (subst (λ (o : Option (Fitted × ℕ)). IfSome o (IsNamed (component_name p))) q k).0))
 
 coming_lived : (b : Bool) (e : LifeEvent) (p : ComponentState) → IfSome p.next (IsNamed (component_name p)) →
     IfSome (lived b e p).next (IsNamed (component_name (lived b e p)))
-coming_lived b e p k = by_lived (λ f nx cs. IfSome nx (IsNamed (name_of f))) b e p (k, (λ n q. tt))
+coming_lived b e p k = by_lived (λ f nx st cs. IfSome nx (IsNamed (name_of f))) b e p (k, (λ n q. tt))
 
-pub run_lived : (b : Bool) (e : LifeEvent) (p : ComponentState) (z : Bool) → IsSoundPart p → (is_busy_with step.Run p.life.busy && z) ≡ false →
-    (begins e && z) ≡ false → (is_busy_with step.Run (lived b e p).life.busy && z) ≡ false
-run_lived b e p z k h i = elim (either p.life.gone) [
+pub run_lived : (b : Bool) (e : LifeEvent) (p : ComponentState) (z : Bool) → may_be_busy p.life.state p.life.busy ≡ true →
+    may_run p.life.state p.life.runs ≡ true → (is_busy_with step.Run p.life.busy && z) ≡ false → (begins e && z) ≡ false →
+    (is_busy_with step.Run (lived b e p).life.busy && z) ≡ false
+run_lived b e p z k r h i = elim (either p.life.gone) [
   | inl g ↦ subst (λ (x : ComponentState). (is_busy_with step.Run x.life.busy && z) ≡ false) (sym (lived_gone b e p g)) h
   | inr g ↦ standing (λ x. may_be_busy x.life.state x.life.busy ≡ true → may_run x.life.state x.life.runs ≡ true → (is_busy_with step.Run x.life.busy && z)
       ≡ false → (begins e && z) ≡ false → (is_busy_with step.Run (lived b e x).life.busy && z) ≡ false) p g
       (run_at p.fitted p.life.steps p.life.failures p.life.busy p.life.runs p.life.install_failed p.life.stop p.children p.handed p.owed p.stop p.next z
-      p.life.state e b) k.busy k.runs h i
+      p.life.state e b) k r h i
 ]
 
 -- an event, where no run child lives while a run is begun after it
@@ -175,7 +190,7 @@ counted_lived d e p cs hd k i o m f = elim (either p.life.gone) [
             (lived false e (with_these cs hd p)).owed none u;
         gone = λ u. gone_none (is_spared (lived false e (with_these cs hd p))) (lived false e (with_these cs hd p)).life.gone
             (lived false e (with_these cs hd p)).owed none u;
-        next = by_lived (λ h nx ds. IfSome nx (IsCountedNext d (name_of h))) false e (with_these cs hd p) (i.next, (λ n q. tt));
+        next = by_lived (λ h nx st ds. IfSome nx (IsCountedNext d (name_of h))) false e (with_these cs hd p) (i.next, (λ n q. tt));
       })
 ]
 
@@ -222,8 +237,9 @@ still_no : (a x y : Bool) → (x ≡ false → y ≡ false) → (a && x) ≡ fal
 still_no true x y f e = f e
 still_no false x y f e = refl
 
-pub run_but : (n : ℕ) (p : ComponentState) → IsSoundPart p → (is_busy_with step.Run p.life.busy && runs_in (but n p.children)) ≡ false
-run_but n p k = still_no (is_busy_with step.Run p.life.busy) (runs_in p.children) (runs_in (but n p.children)) (runs_but n p.children) k.run
+pub run_but : (n : ℕ) (busy : Option Step) (cs : List Child) → (is_busy_with step.Run busy && runs_in cs) ≡ false →
+    (is_busy_with step.Run busy && runs_in (but n cs)) ≡ false
+run_but n busy cs h = still_no (is_busy_with step.Run busy) (runs_in cs) (runs_in (but n cs)) (runs_but n cs) h
 
 any_of : (test : Child → Bool) (cs : List Child) → list_any test cs ≡ false → ((c : Child) → is_run c ≡ true → test c ≡ true) → runs_in cs ≡ false
 any_of test [] h f = refl
@@ -231,10 +247,11 @@ any_of test (c ∷ cs) h f = let x = or_parts (test c) (list_any test cs) h in
     elim (either (is_run c)) [ inl y ↦ clash (test c) (f c y) x.0 | inr n ↦ rw n (any_of test cs x.1 f) ]
 
 -- one that begins has no run child
-pub begins_alone : (p : ComponentState) → IsSoundPart p → is_to_stop p ≡ false → is_awaited event.MayBegin p.life ≡ true → runs_in p.children ≡ false
-begins_alone p k s a =
+pub begins_alone : (p : ComponentState) → may_run p.life.state p.life.runs ≡ true → is_to_stop p ≡ false → is_awaited event.MayBegin p.life ≡ true →
+    runs_in p.children ≡ false
+begins_alone p r s a =
     let o = (or_parts (is_stopping p.life.state) (has_orphan p) (or_parts (is_some p.stop) (is_stopping p.life.state || has_orphan p) s).1).1 in
-    any_of (λ (c : Child). is_orphan p.life c.of) p.children o (λ c y. idle p.life c.of k.runs a)
+    any_of (λ (c : Child). is_orphan p.life c.of) p.children o (λ c y. idle p.life c.of r a)
   where
     idle : (c : Life) (t : Step) → may_run c.state c.runs ≡ true → is_awaited event.MayBegin c ≡ true → is_orphan c t ≡ true
     idle c t r a = grind (arith, r, a)
@@ -243,16 +260,10 @@ begins_alone p k s a =
 pub launch_lived : (b : Bool) (p : ComponentState) (cs : List Child) (hd : Bool) → IsSoundPart p →
     is_busy_with step.Run (lived b event.Launched (with_these cs hd p)).life.busy ≡ false
 launch_lived b p cs hd k = elim (either p.life.gone) [
-  | inl g ↦ (let y = bare_busy p k g in subst (λ (x : ComponentState). is_busy_with step.Run x.life.busy ≡ false)
+  | inl g ↦ (let y = (bare_of p k.bare g).2 in subst (λ (x : ComponentState). is_busy_with step.Run x.life.busy ≡ false)
       (sym (lived_gone b event.Launched (with_these cs hd p) g)) (rw y refl))
   | inr g ↦ standing (λ x. may_be_busy x.life.state x.life.busy ≡ true → is_busy_with step.Run (lived b event.Launched x).life.busy ≡ false)
       (with_these cs hd p) g
       (launch_at p.fitted p.life.steps p.life.failures p.life.busy p.life.runs p.life.install_failed p.life.stop cs hd p.owed p.stop p.next p.life.state b)
       k.busy
 ]
-  where
-    bare_busy : (p : ComponentState) → IsSoundPart p → p.life.gone ≡ true → p.life.busy ≡ None
-    bare_busy p k g =
-        let x = second_true (not p.life.gone) (is_bare p) k.bare (rw g refl) in
-        let y = and_parts (not (is_some p.stop) && not (is_stopping p.life.state)) (not (is_some p.life.busy) && not p.life.runs) x in
-        none_of p.life.busy (not_so (is_some p.life.busy) (and_parts (not (is_some p.life.busy)) (not p.life.runs) y.1).0)

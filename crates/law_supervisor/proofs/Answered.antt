@@ -1,6 +1,7 @@
 -- A start that is answered: it was refused, or skipped.
-use Rattle.std.proofs.Common.{◌≡◌, ℕ, map, Bool, true, false, refl, ◌∙◌}
-use Rattle.std.specs.Prelude.{◌||◌, ◌&&◌, not}
+use Rattle.std.proofs.Common.{◌≡◌, ℕ, map, true, false, refl, ◌∙◌}
+use Rattle.std.specs.Prelude.{◌&&◌, not}
+use Rattle.std.proofs.lemmas.Bool.{or_right}
 use Rattle.nuc_base.specs.declared.kinds.Step.{Step}
 use Rattle.nuc_base.specs.declared.kinds.Exit.TheVariants as exits
 use Rattle.nuc_base.specs.declared.kinds.Step.TheVariants as step
@@ -21,7 +22,7 @@ answered_children : (k : ℕ) (w : Components) → map (λ (p : ComponentState).
     w.parts
 answered_children k w = changed_same (λ p. p.children) k (λ p. record p { handed = false }) w.parts (λ p q. refl)
 
-answered_orderly : (k : ℕ) (w : Components) → IsOrderly w → IsOrderly (answered_at k w)
+pub answered_orderly : (k : ℕ) (w : Components) → IsOrderly w → IsOrderly (answered_at k w)
 answered_orderly k w i = orderly_same w (answered_at k w) i
     (changed_all IsSoundPart k (λ p. record p { handed = false }) w.parts (sound_of w i.sound) (λ p q x. sound_these p p.children false x x.run))
     (changed_same component_name k (λ p. record p { handed = false }) w.parts (λ p q. refl))
@@ -35,12 +36,8 @@ answered_keeps d k w i = keep_from d w (answered_at k w) i (answered_orderly k w
 answered_told : (k : ℕ) (w : Components) → IsTold w → IsTold (answered_at k w)
 answered_told k w t = any_same owes w.parts (answered_at k w).parts (changed_same owes k (λ p. record p { handed = false }) w.parts (λ p q. refl)) ∙ t
 
-or_true : (b : Bool) → (b || true) ≡ true
-or_true true = refl
-or_true false = refl
-
-refused_befalls : (k : ℕ) (s : Step) (w : Components) → BefallsAt k (event.Ended s exits.NotStarted) w
-refused_befalls k s w p q x = (tt, or_true (not (is_same_step s step.Run && is_busy_with step.Run p.life.busy)), refl)
+pub refused_befalls : (k : ℕ) (s : Step) (w : Components) → BefallsAt k (event.Ended s exits.NotStarted) w
+refused_befalls k s w p q x = (tt, or_right (not (is_same_step s step.Run && is_busy_with step.Run p.life.busy)) true refl, refl)
 
 pub refused_orderly : (k : ℕ) (s : Step) (w : Components) → IsOrderly w → IsOrderly (refused k s w)
 refused_orderly k s w i = plain_orderly k (event.Ended s exits.NotStarted) (answered_at k w) (answered_orderly k w i) (refused_befalls k s (answered_at k w))
@@ -52,7 +49,7 @@ refused_keeps d k s w t i = plain_keeps d k (event.Ended s exits.NotStarted) (an
 pub refused_owner : (k : ℕ) (s : Step) (m : ℕ) (w : Components) → owner m (refused k s w).parts ≡ owner m w.parts
 refused_owner k s m w = same_owner m w.parts (refused k s w).parts (event_children k (event.Ended s exits.NotStarted) (answered_at k w) ∙ answered_children k w)
 
-skipped_befalls : (k : ℕ) (w : Components) → BefallsAt k event.Skipped w
+pub skipped_befalls : (k : ℕ) (w : Components) → BefallsAt k event.Skipped w
 skipped_befalls k w p q x = (tt, refl, refl)
 
 pub skipped_orderly : (k : ℕ) (w : Components) → IsOrderly w → IsOrderly (skipped k w)

@@ -1,5 +1,5 @@
 -- A child that is started.
-use Rattle.std.proofs.Common.{◌≡◌, ◌≤◌, ◌+◌, ◌==◌, ℕ, suc, zero, List, [], ◌∷◌, Option, Some, None, Bool, true, false, refl, sym, ap, ◌∙◌, ◌⊎◌, inl, inr}
+use Rattle.std.proofs.Common.{◌≡◌, ◌≤◌, ◌+◌, ◌==◌, ℕ, List, ◌∷◌, Option, Some, None, Bool, true, false, refl, sym, ap, ◌∙◌, ◌⊎◌, inl, inr}
 use Rattle.std.proofs.Common.{arith, subst}
 use Rattle.std.specs.Prelude.{⊤, ◌↔◌, ◌&&◌, ◌||◌, slice_get, if◌then◌else◌}
 use Rattle.std.specs.Option.{IfSome, IsSomeAnd}
@@ -18,16 +18,16 @@ use Rattle.components.specs.Events.{with_child, started}
 use Rattle.components.specs.Answers.{living_numbers}
 use Rattle.law_supervisor.specs.Sound.{IsSoundPart, Differ, IsOrderly}
 use Rattle.law_supervisor.specs.Keeps.{Keeps, IsTold, Owns, IsCounted}
-use Rattle.law_supervisor.proofs.Lists.{either, no_some, from_places, at_places, changed_all, changed_same}
+use Rattle.law_supervisor.proofs.Lists.{either, from_places, at_places, changed_all, changed_same, changed_past}
 use Rattle.law_supervisor.proofs.Alone.{runs_in, with_these, sound_these, counted_these, same_name, sound_lived, counted_lived, launch_lived, IsNamed}
 use Rattle.law_supervisor.proofs.Alone.{mark_sound, mark_counted}
 use Rattle.law_supervisor.proofs.Counts.{count, differ_few, few_differ, count_changed, same_living, one_owns, owns_one, none_owns}
 use Rattle.law_supervisor.proofs.Together.{sound_of, counted_of, order_of, orderly_from, keep_from, event_all, event_same, event_children, told_each}
 
-abbrev child : ℕ → Step → ℕ → ComponentState → Child
+abbrev pub child : ℕ → Step → ℕ → ComponentState → Child
 child n s m p = record { number = n; of = s; deadline = deadline_after (limit_of (prepared_of p.fitted s)) m }
 
-abbrev begun : ℕ → Step → ℕ → ComponentState → ComponentState
+abbrev pub begun : ℕ → Step → ℕ → ComponentState → ComponentState
 begun n s m p = with_child n s m (record p { handed = false })
 
 -- ---- numbers
@@ -35,11 +35,6 @@ begun n s m p = with_child n s m (record p { handed = false })
 one_more : (m n k : ℕ) (s : Step) (t : ℕ) (ps : List ComponentState) (p : ComponentState) → slice_get ps k ≡ Some p
     → count m (living_numbers (changed_at k (begun n s t) ps)) ≡ count m (living_numbers ps) + (if n == m then 1 else 0)
 one_more m n k s t ps p e = let a = count_changed m k (begun n s t) ps p e in omega (arith, a)
-
-outside : (k : ℕ) (g : ComponentState → ComponentState) (ps : List ComponentState) → slice_get ps k ≡ None → changed_at k g ps ≡ ps
-outside k g [] e = refl
-outside zero g (p ∷ ps) e = no_some p (sym e)
-outside (suc k) g (p ∷ ps) e = ap (λ (qs : List ComponentState). p ∷ qs) (outside k g ps e)
 
 still_few : (a b n : ℕ) (y : Bool) → a ≡ b + (if y then 1 else 0) → b ≤ 1 → (y ≡ true → b ≡ 0) → a ≤ 1
 still_few a b n true e l f = let z = f refl in omega (arith, e, z)
@@ -49,7 +44,7 @@ differ_begun : (n k : ℕ) (s : Step) (t : ℕ) (ps : List ComponentState) → o
     Differ (living_numbers (changed_at k (begun n s t) ps))
 differ_begun n k s t ps o d = elim (slice_get ps k) as (λ (q : Option ComponentState). slice_get ps k ≡ q →
     Differ (living_numbers (changed_at k (begun n s t) ps))) [
-      | None ↦ λ e. subst (λ (qs : List ComponentState). Differ (living_numbers qs)) (sym (outside k (begun n s t) ps e)) d
+      | None ↦ λ e. subst (λ (qs : List ComponentState). Differ (living_numbers qs)) (sym (changed_past k (begun n s t) ps e)) d
       | Some p ↦ λ e. few_differ (living_numbers (changed_at k (begun n s t) ps)) (λ m. still_few (count m (living_numbers (changed_at k (begun n s t) ps)))
           (count m (living_numbers ps)) n (n == m)
           (one_more m n k s t ps p e) (differ_few (living_numbers ps) d m) (λ y. subst (λ (x : ℕ). count x (living_numbers ps) ≡ 0) (eqb-true n m y)
@@ -105,33 +100,33 @@ run_keeps d k n w o t i = keep_from d w (started k step.Run n w) i (run_orderly 
     (counted_lived d event.Launched p (child n step.Run w.moment p ∷ p.children) false (i.sound k p q) x (told_each w.parts t k p q) tt refl)))
     refl
 
+-- a run is launched as it starts, and each other child lives and nothing else
+pub started_by : (P : Step → Components → Type 0) (k : ℕ) (s : Step) (n : ℕ) (w : Components)
+    → ((t : Step) → is_same_step step.Run t ≡ false → P t (record w { parts = changed_at k (begun n t w.moment) w.parts })) → P step.Run
+    (started k step.Run n w) → P s (started k s n w)
+started_by P k step.Install n w f g = f step.Install refl
+started_by P k step.Run n w f g = g
+started_by P k step.Startup n w f g = f step.Startup refl
+started_by P k step.Shutdown n w f g = f step.Shutdown refl
+started_by P k step.Recover n w f g = f step.Recover refl
+started_by P k step.Bootstrap n w f g = f step.Bootstrap refl
+
 pub started_orderly : (k : ℕ) (s : Step) (n : ℕ) (w : Components) → owner n w.parts ≡ None → IsOrderly w → IsOrderly (started k s n w)
-started_orderly k step.Install n w o i = lives_orderly k step.Install n w refl o i
-started_orderly k step.Run n w o i = run_orderly k n w o i
-started_orderly k step.Startup n w o i = lives_orderly k step.Startup n w refl o i
-started_orderly k step.Shutdown n w o i = lives_orderly k step.Shutdown n w refl o i
-started_orderly k step.Recover n w o i = lives_orderly k step.Recover n w refl o i
-started_orderly k step.Bootstrap n w o i = lives_orderly k step.Bootstrap n w refl o i
+started_orderly k s n w o i = started_by (λ t. IsOrderly) k s n w (λ t r. lives_orderly k t n w r o i) (run_orderly k n w o i)
 
 pub started_keeps : (d : Device) (k : ℕ) (s : Step) (n : ℕ) (w : Components) → owner n w.parts ≡ None → IsTold w → Keeps d w → Keeps d (started k s n w)
-started_keeps d k step.Install n w o t i = lives_keeps d k step.Install n w refl o i
-started_keeps d k step.Run n w o t i = run_keeps d k n w o t i
-started_keeps d k step.Startup n w o t i = lives_keeps d k step.Startup n w refl o i
-started_keeps d k step.Shutdown n w o t i = lives_keeps d k step.Shutdown n w refl o i
-started_keeps d k step.Recover n w o t i = lives_keeps d k step.Recover n w refl o i
-started_keeps d k step.Bootstrap n w o t i = lives_keeps d k step.Bootstrap n w refl o i
+started_keeps d k s n w o t i = started_by (λ u. Keeps d) k s n w (λ u r. lives_keeps d k u n w r o i) (run_keeps d k n w o t i)
+
+pub started_steady : (k : ℕ) (s : Step) (n : ℕ) (w : Components) → (started k s n w).steady ≡ w.steady
+started_steady k s n w = started_by (λ t v. v.steady ≡ w.steady) k s n w (λ t r. refl) refl
 
 -- ---- who owns it
 
 living_started : (k : ℕ) (s : Step) (n : ℕ) (w : Components) → living_numbers (started k s n w).parts ≡ living_numbers
     (changed_at k (begun n s w.moment) w.parts)
-living_started k step.Install n w = refl
-living_started k step.Run n w = same_living (changed_at k (begun n step.Run w.moment) w.parts) (started k step.Run n w).parts
-    (event_children k event.Launched (record w { parts = changed_at k (begun n step.Run w.moment) w.parts }))
-living_started k step.Startup n w = refl
-living_started k step.Shutdown n w = refl
-living_started k step.Recover n w = refl
-living_started k step.Bootstrap n w = refl
+living_started k s n w = started_by (λ t v. living_numbers v.parts ≡ living_numbers (changed_at k (begun n t w.moment) w.parts)) k s n w (λ t r. refl)
+    (same_living (changed_at k (begun n step.Run w.moment) w.parts) (started k step.Run n w).parts
+    (event_children k event.Launched (record w { parts = changed_at k (begun n step.Run w.moment) w.parts })))
 
 at_some : (k : ℕ) (ps : List ComponentState) → At k (λ p. ⊤) ps → (p : ComponentState) × (slice_get ps k ≡ Some p)
 at_some k ps a = elim (slice_get ps k) as (λ (o : Option ComponentState). slice_get ps k ≡ o → IsSomeAnd o (λ p. ⊤) → (p : ComponentState) ×

@@ -4,11 +4,11 @@ use Rattle.std.specs.Prelude.{◌&&◌, ◌||◌, not, is_some, slice_get, get_o
 use Rattle.std.specs.Option.{IfSome}
 use Rattle.std.specs.List.{AllByRecursion, list_any}
 use Rattle.std.specs.Str.{bytes_eq}
-use Rattle.std.proofs.lemmas.Bool.{or_parts, and_parts}
+use Rattle.std.proofs.lemmas.Bool.{or_parts, or_right, and_parts}
 use Rattle.std.proofs.lemmas.Slice.Eq.{bytes_eq-Decides}
 use Rattle.nuc_base.specs.declared.kinds.Step.{Step}
 use Rattle.nuc_base.specs.declared.kinds.Exit.{Exit}
-use Rattle.lifecycle.specs.Life.{MayHave}
+use Rattle.lifecycle.specs.Life.{Life, MayHave}
 use Rattle.lifecycle.specs.Awaits.{is_stopping}
 use Rattle.lifecycle.specs.declared.kinds.State.{State}
 use Rattle.lifecycle.specs.declared.kinds.State.TheVariants as state
@@ -21,11 +21,11 @@ use Rattle.components.specs.Components.{stops_for_good}
 use Rattle.components.specs.Marks.{flagged, may_replan}
 use Rattle.components.specs.Changes.{Coming, counted, coming_for, fresh_part, leaving, is_replaced, with_texts, replacing, staying, coming_again, meeting}
 use Rattle.components.specs.Changes.{fate, standing, is_replacing, replanned, newcomers, placed, with_newcomers, changed_to}
-use Rattle.law_supervisor.specs.Sound.{IsSoundPart, IsOrderly, may_ask, is_waiting, is_to_begin_again, is_bare}
+use Rattle.law_supervisor.specs.Sound.{IsSoundPart, IsOrderly, may_ask, is_waiting, is_to_begin_again}
 use Rattle.law_supervisor.specs.Keeps.{AgreesBy, IsCounted, count_of, AreCounted, IsTold}
-use Rattle.law_supervisor.proofs.Lists.{either, clash, second_true, none_of, not_so, from_places, mapped_all}
+use Rattle.law_supervisor.proofs.Lists.{either, clash, second_true, none_of, from_places, mapped_all}
 use Rattle.law_supervisor.proofs.Reached.{Marks, firsts_flagged, restarted_all, same_may}
-use Rattle.law_supervisor.proofs.Alone.{IsCountedNext, mark_sound, mark_counted}
+use Rattle.law_supervisor.proofs.Alone.{IsCountedNext, bare_of, mark_sound, mark_counted}
 use Rattle.law_supervisor.proofs.Together.{sound_of, told_each}
 
 -- ---- one item that comes
@@ -38,7 +38,7 @@ IsFew n = n.1 < 3
 abbrev IsComing : Device → Coming → Type 0
 IsComing d n = count_of d (name_of n.0) ≡ Some n.1
 
-few_new : (s : State) (n : ℕ) → n < 3 → MayHave s n
+pub few_new : (s : State) (n : ℕ) → n < 3 → MayHave s n
 few_new state.New n l = l
 few_new state.Installed n l = l
 few_new state.Starting n l = l
@@ -56,24 +56,16 @@ again_counted d n cs c = record { own = λ s g. c; broken = λ s g b. absurd (cc
 
 -- ---- one that stands
 
-or_true : (b : Bool) → (b || true) ≡ true
-or_true true = refl
-or_true false = refl
-
 spared_or : (p : ComponentState) → (stops_for_good p.life ≡ true) → is_spared p ≡ true
-spared_or p e = rw e (or_true (is_again p.stop || is_gone p.stop))
+spared_or p e = or_right (is_again p.stop || is_gone p.stop) (stops_for_good p.life) e
 
 -- of one that is gone nothing waits
-gone_bare : (p : ComponentState) → IsSoundPart p → p.life.gone ≡ true → (p.stop ≡ None) × (is_stopping p.life.state ≡ false) × (p.next ≡ None)
+pub gone_bare : (p : ComponentState) → IsSoundPart p → p.life.gone ≡ true → (p.stop ≡ None) × (is_stopping p.life.state ≡ false) × (p.next ≡ None)
 gone_bare p k g =
-    let x = second_true (not p.life.gone) (is_bare p) k.bare (rw g refl) in
-    let y = and_parts (not (is_some p.stop) && not (is_stopping p.life.state)) (not (is_some p.life.busy) && not p.life.runs) x in
-    let z = and_parts (not (is_some p.stop)) (not (is_stopping p.life.state)) y.0 in
-    let a = none_of p.stop (not_so (is_some p.stop) z.0) in
-    let b = not_so (is_stopping p.life.state) z.1 in
-    let t : is_to_begin_again p ≡ false = rw a (rw b refl) in (
-      a,
-      b,
+    let b = bare_of p k.bare g in
+    let t : is_to_begin_again p ≡ false = rw b.0 (rw b.1 refl) in (
+      b.0,
+      b.1,
       none_of p.next (elim (either (is_some p.next)) [
         | inr n ↦ n
         | inl w ↦ clash (is_to_begin_again p)
@@ -82,8 +74,11 @@ gone_bare p k g =
     )
 
 -- what holds before
-abbrev Before : ComponentState → Type 0
+abbrev pub Before : ComponentState → Type 0
 Before p = IsSoundPart p × (p.owed ≡ None)
+
+pub before_of : (w : Components) → IsOrderly w → IsTold w → AllByRecursion Before w.parts
+before_of w i t = from_places Before w.parts (λ k p e. (i.sound k p e, told_each w.parts t k p e))
 
 -- none waits
 no_next : (d : Device) (own : List ℕ) (o : Option Coming) → o ≡ None → IfSome o (IsCountedNext d own)
@@ -110,19 +105,19 @@ spared_counted d p s o n = record {
 
 -- ---- one that is to go
 
-ask_gone : (way : Option After) → is_gone way ≡ false → may_ask way (Some after.Gone) ≡ true
+pub ask_gone : (way : Option After) → is_gone way ≡ false → may_ask way (Some after.Gone) ≡ true
 ask_gone way e = grind (arith, e)
 
-ask_none : (way : Option After) → may_ask way None ≡ true
+pub ask_none : (way : Option After) → may_ask way None ≡ true
 ask_none way = grind arith
 
 not_both : (o : Option After) → is_gone o ≡ true → is_again o ≡ false
 not_both o e = grind (arith, e)
 
 stops_gone : (p : ComponentState) → is_gone (under_way p.life) ≡ true → stops_for_good p.life ≡ true
-stops_gone p e = rw e (or_true (is_again (under_way p.life)))
+stops_gone p e = or_right (is_again (under_way p.life)) (is_gone (under_way p.life)) e
 
-abbrev left_as : Bool → Bool → ComponentState → ComponentState
+abbrev pub left_as : Bool → Bool → ComponentState → ComponentState
 left_as g u p = if g then p else (if u then record p { stop = None; next = None } else record p { stop = Some after.Gone; next = None })
 
 pub leaving_sound : (p : ComponentState) → IsSoundPart p → IsSoundPart (leaving p)
@@ -149,7 +144,7 @@ leaving_sound p k = go p.life.gone refl (is_gone (under_way p.life)) refl
       bare = rw e refl;
       asks = ask_gone (under_way p.life) f;
       waits = refl;
-      takes = or_true (not (is_again (under_way p.life)));
+      takes = or_right (not (is_again (under_way p.life))) true refl;
       coming = tt;
     }
 
@@ -206,17 +201,13 @@ texts_gone f p = texts_same (λ q. q.life.gone) (λ g q. refl) f p
 texts_before : (f : Fitted) (p : ComponentState) → Before p → name_of f ≡ component_name p → Before (with_texts f p)
 texts_before f p b e = (texts_sound f p b.0 e, texts_same (λ q. q.owed) (λ g q. refl) f p ∙ b.1)
 
-stopping_good : (p : ComponentState) → stops_for_good p.life ≡ true → is_stopping p.life.state ≡ true
-stopping_good p e = elim (either (is_stopping p.life.state)) [
-  | inl y ↦ y
-  | inr n ↦ (let z : stops_for_good p.life ≡ false = rw n refl in
-      clash (stops_for_good p.life) e z)
-]
+pub stopping_good : (c : Life) → stops_for_good c ≡ true → is_stopping c.state ≡ true
+stopping_good c e = elim (either (is_stopping c.state)) [ inl y ↦ y | inr n ↦ (let z : stops_for_good c ≡ false = rw n refl in clash (stops_for_good c) e z) ]
 
-ask_again : (way : Option After) → (is_again way || is_gone way) ≡ false → may_ask way (Some after.Again) ≡ true
+pub ask_again : (way : Option After) → (is_again way || is_gone way) ≡ false → may_ask way (Some after.Again) ≡ true
 ask_again way e = grind (arith, e)
 
-abbrev replaced_as : Bool → Coming → ComponentState → ComponentState
+abbrev pub replaced_as : Bool → Coming → ComponentState → ComponentState
 replaced_as y n p =
     if y then record p { life = record p.life { stop = Some after.Restart }; stop = Some after.Again; next = Some n }
     else record p { stop = Some after.Again; next = Some n }
@@ -232,7 +223,7 @@ replacing_sound n p k g c e = go (stops_for_good p.life) refl
       runs = k.runs;
       run = k.run;
       bare = rw g refl;
-      asks = rw (stopping_good p f) refl;
+      asks = rw (stopping_good p.life f) refl;
       waits = refl;
       takes = refl;
       coming = (e, c);
@@ -294,7 +285,7 @@ staying_counted d n p b c e s r =
       next = no_next d (component_name p) p.next x;
     }
 
-abbrev met_as : Bool → Bool → Coming → ComponentState → ComponentState
+abbrev pub met_as : Bool → Bool → Coming → ComponentState → ComponentState
 met_as g y n p = if g then coming_again n p else (if y then replacing n (with_texts n.0 p) else staying n (with_texts n.0 p))
 
 meeting_sound : (n : Coming) (p : ComponentState) → IsSoundPart p → IsFew n → name_of n.0 ≡ component_name p → IsSoundPart (meeting n p)
@@ -322,7 +313,7 @@ meeting_counted d n p b c e = go p.life.gone (is_replaced n.0 p) refl
 
 -- ---- which item comes
 
-found : (C : Coming → Type 0) (own : List ℕ) (ns : List Coming) → AllByRecursion C ns → IfSome (coming_for own ns) (λ n. C n × (name_of n.0 ≡ own))
+pub found : (C : Coming → Type 0) (own : List ℕ) (ns : List Coming) → AllByRecursion C ns → IfSome (coming_for own ns) (λ n. C n × (name_of n.0 ≡ own))
 found C own [] a = tt
 found C own (n ∷ ns) a = elim (bytes_eq own (name_of n.0)) as (λ (y : Bool). bytes_eq own (name_of n.0) ≡ y → IfSome (if y then Some n else coming_for own ns)
     (λ m. C m × (name_of m.0 ≡ own))) [
@@ -376,7 +367,7 @@ counted_all C j counts (f ∷ fs) h = (
 )
 
 -- what holds of each that stood before, by what comes
-changed_all_by : (C : Coming → Type 0) (B P : ComponentState → Type 0) → Marks P → ((n : Coming) → C n → P (fresh_part n)) →
+pub changed_all_by : (C : Coming → Type 0) (B P : ComponentState → Type 0) → Marks P → ((n : Coming) → C n → P (fresh_part n)) →
     ((p : ComponentState) → B p → P (leaving p)) → ((n : Coming) (p : ComponentState) → B p → C n → name_of n.0 ≡ component_name p → P (meeting n p)) →
     (items : List Fitted) (counts : List ℕ) (steady : Bool) (w : Components)
     → ((k : ℕ) (f : Fitted) → slice_get items k ≡ Some f → C (f, get_or counts k 0)) → AllByRecursion B w.parts →
@@ -401,4 +392,4 @@ pub changed_counted : (d : Device) (items : List Fitted) (counts : List ℕ) (st
     IsOrderly w → AllByRecursion (IsCounted d) (changed_to items counts steady w).parts
 changed_counted d items counts steady w c t i = changed_all_by (IsComing d) Before (IsCounted d) (mark_counted d) (λ n x. again_counted d n [] x)
     (leaving_counted d) (λ n p b x e. meeting_counted d n p b x e) items counts steady w (λ k f e. (c k f e).0)
-    (from_places Before w.parts (λ k p e. (i.sound k p e, told_each w.parts t k p e)))
+    (before_of w i t)

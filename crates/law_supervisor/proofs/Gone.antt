@@ -1,7 +1,7 @@
 -- A child that is gone: it ended, or was killed.
 use Rattle.std.proofs.Common.{◌≡◌, ◌≢◌, ◌≤◌, ◌+◌, ◌==◌, ℕ, suc, List, [], ◌∷◌, Option, Some, None, Bool, true, false, refl, sym, ap, ◌∙◌, inl, inr, arith}
 use Rattle.std.proofs.Common.{subst}
-use Rattle.std.specs.Prelude.{◌↔◌, ◌&&◌, ◌||◌, not, slice_get, if◌then◌else◌, option_map, option_and_then}
+use Rattle.std.specs.Prelude.{◌↔◌, ◌&&◌, not, slice_get, if◌then◌else◌, option_map, option_and_then}
 use Rattle.std.specs.Option.{IsSomeAnd}
 use Rattle.std.specs.List.{list_any}
 use Rattle.std.proofs.lemmas.Bool.{or_right, or_left, eqb-true, eq-eqb}
@@ -16,7 +16,7 @@ use Rattle.lifecycle.specs.declared.kinds.After.{After}
 use Rattle.device.specs.Devices.{Device}
 use Rattle.components.specs.Components.{Components, ComponentState, Child, At, child_of, child_gone, without_child, owner, owner_from}
 use Rattle.components.specs.Lives.{lived_at}
-use Rattle.components.specs.Events.{gone_by, is_orphan_at, ended, killed, kill_event, kill_event_at, is_late_child}
+use Rattle.components.specs.Events.{gone_by, ended, killed, kill_event, kill_event_at, is_late_child}
 use Rattle.components.specs.Answers.{living_numbers, child_numbers}
 use Rattle.law_supervisor.specs.Sound.{IsSoundPart, is_run, Differ, IsOrderly}
 use Rattle.law_supervisor.specs.Keeps.{Keeps, IsTold, Owns}
@@ -24,7 +24,7 @@ use Rattle.law_supervisor.proofs.Lists.{either, clash, some_same, no_some}
 use Rattle.law_supervisor.proofs.Made.{MayBefall, begins, ends_fairly}
 use Rattle.law_supervisor.proofs.Counts.{count, differ_few, count_changed, count_but_self, count_but_other, same_living, one_owns, owns_one, none_owns}
 use Rattle.law_supervisor.proofs.Counts.{child_counted}
-use Rattle.law_supervisor.proofs.Together.{GoesBy, event_children, gone_by_orderly, gone_by_keeps}
+use Rattle.law_supervisor.proofs.Together.{GoesBy, event_children, gone_by_each, gone_by_orderly, gone_by_keeps}
 
 -- ---- the owner of a child
 
@@ -39,7 +39,8 @@ owner_from_at j n (p ∷ ps) k s e = elim (child_of n p.children)
           (0, omega (arith, a), subst (λ o. IsSomeAnd o (λ d. d.of ≡ s)) (sym q) (ap (λ (o : Option (ℕ × Step)). elim o [ None ↦ s | Some x ↦ x.1 ]) y)))
     ] e refl
 
-owner_at : (n : ℕ) (ps : List ComponentState) (k : ℕ) (s : Step) → owner n ps ≡ Some (k, s) → At k (λ p. IsSomeAnd (child_of n p.children) (λ c. c.of ≡ s)) ps
+pub owner_at : (n : ℕ) (ps : List ComponentState) (k : ℕ) (s : Step) → owner n ps ≡ Some (k, s) →
+    At k (λ p. IsSomeAnd (child_of n p.children) (λ c. c.of ≡ s)) ps
 owner_at n ps k s e = let x = owner_from_at 0 n ps k s e in let a = x.1 in subst (λ j. At j (λ p. IsSomeAnd (child_of n p.children) (λ c. c.of ≡ s)) ps)
     (let z : x.0 ≡ k = omega (arith, a) in z) x.2
 
@@ -78,7 +79,7 @@ end_fair n s x p k h = elim (either (is_same_step s step.Run)) [
     idle true b e f = clash b f e
     idle false b e f = refl
 
-end_goes : (n : ℕ) (e : Exit) (w : Components) (o : ℕ × Step) → owner n w.parts ≡ Some o → GoesBy (Some (event.Ended o.1 e)) o.0 o.1 n w
+pub end_goes : (n : ℕ) (e : Exit) (w : Components) (o : ℕ × Step) → owner n w.parts ≡ Some o → GoesBy (Some (event.Ended o.1 e)) o.0 o.1 n w
 end_goes n e w o q v z =
     let h = owner_here n w.parts o.0 o.1 q in
     subst (λ (v : LifeEvent). (begins v ≡ false) ×
@@ -91,7 +92,7 @@ end_goes n e w o q v z =
       )),
     )
 
-ended_by : (P : Components → Type 0) (n : ℕ) (e : Exit) (w : Components) → P w
+pub ended_by : (P : Components → Type 0) (n : ℕ) (e : Exit) (w : Components) → P w
     → ((o : ℕ × Step) → owner n w.parts ≡ Some o → P (gone_by (Some (event.Ended o.1 e)) o.0 o.1 n w)) → P (ended n e w)
 ended_by P n e w i f = elim (owner n w.parts) as (λ (o : Option (ℕ × Step)). owner n w.parts ≡ o →
     P (elim o [ None ↦ w | Some o ↦ gone_by (Some (event.Ended o.1 e)) o.0 o.1 n w ])) [ None ↦ λ q. i | Some o ↦ λ q. f o q ] refl
@@ -104,17 +105,13 @@ ended_keeps d n e w y t i = ended_by (Keeps d) n e w i (λ o q. gone_by_keeps d 
 
 -- ---- a kill
 
-true_right : (b : Bool) → (b || true) ≡ true
-true_right true = refl
-true_right false = refl
-
 kill_may : (m n : ℕ) (s : Step) (p : ComponentState) (e : LifeEvent) → kill_event m n s p ≡ Some e → (begins e ≡ false) × MayBefall e (without_child n p) ×
     (ends_fairly e (without_child n p) ≡ true)
 kill_may m n s p e = elim (is_late_child m n p) as (λ (b : Bool). (if b then Some (event.Ended s exits.TimedOut) else option_map (λ a. event.Stop a) p.stop)
     ≡ Some e → (begins e ≡ false) × MayBefall e (without_child n p) × (ends_fairly e (without_child n p) ≡ true)) [
       | true ↦ λ y. subst (λ (v : LifeEvent). (begins v ≡ false) × MayBefall v (without_child n p) × (ends_fairly v (without_child n p) ≡ true))
           (some_same (event.Ended s exits.TimedOut) e y)
-          (refl, tt, true_right (not (is_same_step s step.Run && is_busy_with step.Run p.life.busy)))
+          (refl, tt, or_right (not (is_same_step s step.Run && is_busy_with step.Run p.life.busy)) true refl)
       | false ↦ λ y. by_stop p.stop refl y
     ]
   where
@@ -124,14 +121,14 @@ kill_may m n s p e = elim (is_late_child m n p) as (λ (b : Bool). (if b then So
     by_stop (Some a) q y = subst (λ (v : LifeEvent). (begins v ≡ false) × MayBefall v (without_child n p) × (ends_fairly v (without_child n p) ≡ true))
         (some_same (event.Stop a) e y) (refl, q, refl)
 
-kill_goes : (n : ℕ) (w : Components) (o : ℕ × Step) → owner n w.parts ≡ Some o → GoesBy (kill_event_at o.0 o.1 n w) o.0 o.1 n w
+pub kill_goes : (n : ℕ) (w : Components) (o : ℕ × Step) → owner n w.parts ≡ Some o → GoesBy (kill_event_at o.0 o.1 n w) o.0 o.1 n w
 kill_goes n w o q v z =
     let h = owner_here n w.parts o.0 o.1 q in
     let at = λ (p : ComponentState). λ (r : slice_get w.parts o.0 ≡ Some p). kill_may w.moment n o.1 p v
     (sym (ap (λ (y : Option ComponentState). option_and_then (kill_event w.moment n o.1) y) r) ∙ z) in
     ((at h.one h.here).0, (λ p r k. ((at p r).1, (at p r).2)))
 
-killed_by : (P : Components → Type 0) (n : ℕ) (w : Components) → P w
+pub killed_by : (P : Components → Type 0) (n : ℕ) (w : Components) → P w
     → ((o : ℕ × Step) → owner n w.parts ≡ Some o → P (gone_by (kill_event_at o.0 o.1 n w) o.0 o.1 n w)) → P (killed n w)
 killed_by P n w i f = elim (owner n w.parts) as (λ (o : Option (ℕ × Step)). owner n w.parts ≡ o →
     P (elim o [ None ↦ w | Some o ↦ gone_by (kill_event_at o.0 o.1 n w) o.0 o.1 n w ])) [ None ↦ λ q. i | Some o ↦ λ q. f o q ] refl
@@ -142,14 +139,23 @@ killed_orderly n w i = killed_by IsOrderly n w i (λ o q. gone_by_orderly (kill_
 pub killed_keeps : (d : Device) (n : ℕ) (w : Components) → IsTold w → Keeps d w → Keeps d (killed n w)
 killed_keeps d n w t i = killed_by (Keeps d) n w i (λ o q. gone_by_keeps d (kill_event_at o.0 o.1 n w) o.0 o.1 n w t i (kill_goes n w o q))
 
+-- ---- neither changes the mode
+
+gone_by_steady : (o : Option LifeEvent) (k : ℕ) (s : Step) (n : ℕ) (w : Components) → (gone_by o k s n w).steady ≡ w.steady
+gone_by_steady o k s n w = gone_by_each (λ v. v.steady ≡ w.steady) o k s n w refl (λ e y. refl)
+
+pub ended_steady : (n : ℕ) (e : Exit) (w : Components) → (ended n e w).steady ≡ w.steady
+ended_steady n e w = ended_by (λ v. v.steady ≡ w.steady) n e w refl (λ o q. gone_by_steady (Some (event.Ended o.1 e)) o.0 o.1 n w)
+
+pub killed_steady : (n : ℕ) (w : Components) → (killed n w).steady ≡ w.steady
+killed_steady n w = killed_by (λ v. v.steady ≡ w.steady) n w refl (λ o q. gone_by_steady (kill_event_at o.0 o.1 n w) o.0 o.1 n w)
+
 -- ---- whose child is gone, and whose is not
 
 gone_living : (o : Option LifeEvent) (k : ℕ) (s : Step) (n : ℕ) (w : Components) → living_numbers (gone_by o k s n w).parts ≡ living_numbers
     (child_gone k n w).parts
-gone_living None k s n w = refl
-gone_living (Some e) k s n w = elim (is_orphan_at k s w) as (λ (b : Bool). (let v : Components =
-    (if b then child_gone k n w else lived_at k e (child_gone k n w)) in living_numbers v.parts ≡ living_numbers (child_gone k n w).parts))
-    [ true ↦ refl | false ↦ same_living (child_gone k n w).parts (lived_at k e (child_gone k n w)).parts (event_children k e (child_gone k n w)) ]
+gone_living o k s n w = gone_by_each (λ v. living_numbers v.parts ≡ living_numbers (child_gone k n w).parts) o k s n w refl
+    (λ e y. same_living (child_gone k n w).parts (lived_at k e (child_gone k n w)).parts (event_children k e (child_gone k n w)))
 
 -- the one child of the number is gone, and no other
 record Takes (n : ℕ) (ps qs : List ComponentState) : Type 0 where

@@ -17,15 +17,15 @@ pub mod KeptLaunch
 pub mod Alone
 pub mod Counts
 pub mod Together
-mod Answered
-mod Gone
+pub mod Answered
+pub mod Gone
 pub mod Moved
-mod Begun
+pub mod Begun
 mod Told
 pub mod Steadied
-mod Changed
+pub mod Changed
 pub mod Placed
-mod Stopped
+pub mod Stopped
 mod Recipes
 mod Small
 mod Ready

@@ -66,6 +66,12 @@ changed_nothing k [] = refl
 changed_nothing zero (p ∷ ps) = refl
 changed_nothing (suc k) (p ∷ ps) = ap (λ (qs : List ComponentState). p ∷ qs) (changed_nothing k ps)
 
+-- where none stands none changes
+pub changed_past : (k : ℕ) (g : ComponentState → ComponentState) (ps : List ComponentState) → slice_get ps k ≡ None → changed_at k g ps ≡ ps
+changed_past k g [] e = refl
+changed_past zero g (p ∷ ps) e = no_some p (sym e)
+changed_past (suc k) g (p ∷ ps) e = ap (λ (qs : List ComponentState). p ∷ qs) (changed_past k g ps e)
+
 -- what one becomes was something
 pub changed_here : (k : ℕ) (g : ComponentState → ComponentState) (ps : List ComponentState) (q : ComponentState) → slice_get (changed_at k g ps) k ≡ Some q →
     (p : ComponentState) × (slice_get ps k ≡ Some p) × (g p ≡ q)

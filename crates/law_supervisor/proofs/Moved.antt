@@ -28,7 +28,7 @@ moves_befall w k event.MayBegin m p q s =
     list_all (is_met serves_softly w.parts) p.fitted.soft) (at_of (λ r. may_begin w r ≡ true) k w.parts p q m) in
     let z = and_parts (is_awaited event.MayBegin p.life) (not (is_to_stop p)) y.0 in
     let t = not_so (is_to_stop p) z.1 in
-    (t, refl, begins_alone p s t z.0)
+    (t, refl, begins_alone p s.runs t z.0)
 moves_befall w k event.Retry m p q s =
     let z = and_parts (is_awaited event.Retry p.life) (not (is_to_stop p)) (at_of (λ r. may_retry r ≡ true) k w.parts p q m) in
     (not_so (is_to_stop p) z.1, refl, refl)

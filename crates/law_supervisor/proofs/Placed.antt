@@ -23,7 +23,7 @@ use Rattle.law_supervisor.proofs.Lists.{clash, some_same, no_some, from_places, 
 use Rattle.law_supervisor.proofs.Reached.{firsts_flagged, restarted_all, restarted_same, same_may}
 use Rattle.law_supervisor.proofs.Counts.{count, same_living, one_owns, owns_one}
 use Rattle.law_supervisor.proofs.Together.{told_each}
-use Rattle.law_supervisor.proofs.Changed.{texts_named, texts_same, placed_all, newcomers_all, standing_all, changed_sound, changed_counted}
+use Rattle.law_supervisor.proofs.Changed.{left_as, texts_named, texts_same, placed_all, newcomers_all, standing_all, changed_sound, changed_counted}
 
 -- ---- what becomes of one
 
@@ -36,7 +36,7 @@ pub record Same (p q : ComponentState) : Type 0 where
 pub same_leaving : (p : ComponentState) → Same p (leaving p)
 same_leaving p = go p.life.gone (is_gone (under_way p.life))
   where
-    go : (g u : Bool) → Same p (if g then p else (if u then record p { stop = None; next = None } else record p { stop = Some after.Gone; next = None }))
+    go : (g u : Bool) → Same p (left_as g u p)
     go true u = record { name = refl; children = refl; owed = λ e. e }
     go false true = record { name = refl; children = refl; owed = λ e. e }
     go false false = record { name = refl; children = refl; owed = λ e. e }

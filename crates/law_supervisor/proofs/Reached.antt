@@ -17,7 +17,7 @@ firsts_grown : (all fs : Flagged) → firsts (grown all fs) ≡ firsts fs
 firsts_grown all [] = refl
 firsts_grown all (f ∷ fs) = ap (λ (ps : List ComponentState). f.0 ∷ ps) (firsts_grown all fs)
 
-firsts_reaching : (n : ℕ) (fs : Flagged) → firsts (reaching n fs) ≡ firsts fs
+pub firsts_reaching : (n : ℕ) (fs : Flagged) → firsts (reaching n fs) ≡ firsts fs
 firsts_reaching zero fs = refl
 firsts_reaching (suc n) fs = firsts_reaching n (grown fs fs) ∙ firsts_grown fs fs
 

@@ -1,27 +1,28 @@
 -- What a component runs, and what it is to take, is for one platform whatever befalls it.
-use Rattle.std.proofs.Common.{ℕ, List, [], ◌∷◌, Option, Some, None, Bool, true, false, sym, subst}
-use Rattle.std.specs.Prelude.{if◌then◌else◌}
+use Rattle.std.proofs.Common.{ℕ, List, [], ◌∷◌, Option, None, Bool, sym, subst}
 use Rattle.std.specs.Option.{IfSome}
 use Rattle.nuc_base.specs.declared.kinds.Step.{Step}
 use Rattle.nuc_base.specs.declared.platform.Platform.{Platform}
 use Rattle.lifecycle.specs.declared.kinds.LifeEvent.{LifeEvent}
 use Rattle.components.specs.Acts.{Move, Quietly}
-use Rattle.components.specs.Components.{Components, ComponentState, Child, owner, child_gone, without_child}
-use Rattle.components.specs.Events.{gone_by, is_orphan_at, kill_event_at, killed, told_at}
+use Rattle.components.specs.Components.{Components, ComponentState, Child, child_gone, without_child}
+use Rattle.components.specs.Events.{gone_by, kill_event_at, killed, told_at}
+use Rattle.lifecycle.specs.declared.kinds.StepSet.{StepSet}
 use Rattle.components.specs.Fitted.{Fitted}
 use Rattle.components.specs.Lives.{lived, lived_at}
 use Rattle.components.specs.Platforms.{AllRunFor, IsFor, RunsFor}
 use Rattle.law_supervisor.proofs.Lists.{changed_all}
 use Rattle.law_supervisor.proofs.Reached.{Marks}
 use Rattle.law_supervisor.proofs.Items.{by_lived}
-use Rattle.law_supervisor.proofs.Together.{plain_all}
+use Rattle.law_supervisor.proofs.Together.{plain_all, gone_by_each}
+use Rattle.law_supervisor.proofs.Gone.{killed_by}
 
 module _ (platform : Platform) where
   mark_runs : Marks (RunsFor platform)
   mark_runs p e h = h
 
-  abbrev RunsBy : Fitted → Option (Fitted × ℕ) → List Child → Type 0
-  RunsBy f nx cs = IsFor platform f × IfSome nx (λ n. IsFor platform n.0)
+  abbrev RunsBy : Fitted → Option (Fitted × ℕ) → StepSet → List Child → Type 0
+  RunsBy f nx st cs = IsFor platform f × IfSome nx (λ n. IsFor platform n.0)
 
   lived_runs : (b : Bool) (e : LifeEvent) (p : ComponentState) → RunsFor platform p → RunsFor platform (lived b e p)
   lived_runs b e p h = by_lived RunsBy b e p
@@ -38,15 +39,11 @@ module _ (platform : Platform) where
   gone_runs k n w a = changed_all (RunsFor platform) k (without_child n) w.parts a (λ p q h. h)
 
   gone_by_runs : (o : Option LifeEvent) (k : ℕ) (s : Step) (n : ℕ) (w : Components) → AllRunFor platform w.parts → AllRunFor platform (gone_by o k s n w).parts
-  gone_by_runs None k s n w a = gone_runs k n w a
-  gone_by_runs (Some e) k s n w a = elim (is_orphan_at k s w) as (λ (b : Bool). (let v : Components =
-      (if b then child_gone k n w else lived_at k e (child_gone k n w)) in AllRunFor platform v.parts))
-      [ true ↦ gone_runs k n w a | false ↦ lived_at_runs k e (child_gone k n w) (gone_runs k n w a) ]
+  gone_by_runs o k s n w a = gone_by_each (λ v. AllRunFor platform v.parts) o k s n w (gone_runs k n w a)
+      (λ e q. lived_at_runs k e (child_gone k n w) (gone_runs k n w a))
 
   pub killed_runs : (n : ℕ) (w : Components) → AllRunFor platform w.parts → AllRunFor platform (killed n w).parts
-  killed_runs n w a = elim (owner n w.parts) as (λ (o : Option (ℕ × Step)). (let v : Components =
-      (elim o [ None ↦ w | Some o ↦ gone_by (kill_event_at o.0 o.1 n w) o.0 o.1 n w ]) in AllRunFor platform v.parts))
-      [ None ↦ a | Some o ↦ gone_by_runs (kill_event_at o.0 o.1 n w) o.0 o.1 n w a ]
+  killed_runs n w a = killed_by (λ v. AllRunFor platform v.parts) n w a (λ o q. gone_by_runs (kill_event_at o.0 o.1 n w) o.0 o.1 n w a)
 
   pub told_runs : (k : ℕ) (w : Components) → AllRunFor platform w.parts → AllRunFor platform (told_at k w).parts
   told_runs k w a = changed_all (RunsFor platform) k (λ p. record p { owed = None }) w.parts a (λ p q h. h)

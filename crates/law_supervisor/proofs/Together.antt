@@ -16,7 +16,7 @@ use Rattle.components.specs.Turns.{owes}
 use Rattle.components.specs.Answers.{living_numbers}
 use Rattle.law_supervisor.specs.Sound.{IsSoundPart, AreSound, Differ, HaveOwnNames, IsOrderly}
 use Rattle.law_supervisor.specs.Keeps.{IsCounted, Keeps, IsTold}
-use Rattle.law_supervisor.proofs.Lists.{none_of, some_same, no_some, from_places, at_places, changed_all, changed_same, changed_here, twice}
+use Rattle.law_supervisor.proofs.Lists.{none_of, some_same, no_some, from_places, at_places, changed_all, changed_same, changed_here, changed_past, twice}
 use Rattle.law_supervisor.proofs.Lists.{changed_nothing, any_same}
 use Rattle.law_supervisor.proofs.Reached.{Marks, firsts_at, restarted_all, restarted_same, may_replan_of}
 use Rattle.law_supervisor.proofs.Items.{same_children}
@@ -132,7 +132,7 @@ BefallsAt k e w = (p : ComponentState) → slice_get w.parts k ≡ Some p → Is
 pub plain_orderly : (k : ℕ) (e : LifeEvent) (w : Components) → IsOrderly w → BefallsAt k e w → IsOrderly (lived_at k e w)
 plain_orderly k e w i f = orderly_same w (lived_at k e w) i
     (plain_all IsSoundPart mark_sound k e w (sound_of w i.sound) (λ p q x.
-    let m = f p q x in sound_lived w.steady e p p.children p.handed x m.0 (run_lived w.steady e p (runs_in p.children) x x.run m.2)))
+    let m = f p q x in sound_lived w.steady e p p.children p.handed x m.0 (run_lived w.steady e p (runs_in p.children) x.busy x.runs x.run m.2)))
     (event_names k e w (sound_of w i.sound))
     (event_children k e w)
 
@@ -152,18 +152,14 @@ differ_gone k n ps d = few_differ (living_numbers (changed_at k (without_child n
     fewer : (m k : ℕ) (ps : List ComponentState) → count m (living_numbers ps) ≤ 1 → count m (living_numbers (changed_at k (without_child n) ps)) ≤ 1
     fewer m k ps l = elim (slice_get ps k) as (λ (o : Option ComponentState). slice_get ps k ≡ o →
         count m (living_numbers (changed_at k (without_child n) ps)) ≤ 1) [
-          | None ↦ λ e. subst (λ (qs : List ComponentState). count m (living_numbers qs) ≤ 1) (sym (outside k ps e)) l
+          | None ↦ λ e. subst (λ (qs : List ComponentState). count m (living_numbers qs) ≤ 1) (sym (changed_past k (without_child n) ps e)) l
           | Some p ↦ λ e. (let a = count_changed m k (without_child n) ps p e in let b = count_but m n p.children in omega (arith, a, b, l))
         ] refl
-      where
-        outside : (k : ℕ) (ps : List ComponentState) → slice_get ps k ≡ None → changed_at k (without_child n) ps ≡ ps
-        outside k [] e = refl
-        outside zero (p ∷ ps) e = no_some p (sym e)
-        outside (suc k) (p ∷ ps) e = ap (λ (qs : List ComponentState). p ∷ qs) (outside k ps e)
 
-child_gone_orderly : (k n : ℕ) (w : Components) → IsOrderly w → IsOrderly (child_gone k n w)
+pub child_gone_orderly : (k n : ℕ) (w : Components) → IsOrderly w → IsOrderly (child_gone k n w)
 child_gone_orderly k n w i = orderly_from w (child_gone k n w) i
-    (changed_all IsSoundPart k (without_child n) w.parts (sound_of w i.sound) (λ p q x. sound_these p (but n p.children) p.handed x (run_but n p x)))
+    (changed_all IsSoundPart k (without_child n) w.parts (sound_of w i.sound) (λ p q x.
+    sound_these p (but n p.children) p.handed x (run_but n p.life.busy p.children x.run)))
     (changed_same component_name k (without_child n) w.parts (λ p q. refl))
     (differ_gone k n w.parts i.differ)
 
@@ -180,7 +176,7 @@ abbrev pub GoesBy : Option LifeEvent → ℕ → Step → ℕ → Components →
 GoesBy o k s n w = (e : LifeEvent) → o ≡ Some e → (begins e ≡ false) ×
     ((p : ComponentState) → slice_get w.parts k ≡ Some p → IsSoundPart p → MayBefall e (without_child n p) × (ends_fairly e (without_child n p) ≡ true))
 
-gone_befalls : (o : Option LifeEvent) (k : ℕ) (s : Step) (n : ℕ) (e : LifeEvent) (w : Components) → IsOrderly w → o ≡ Some e → GoesBy o k s n w →
+pub gone_befalls : (o : Option LifeEvent) (k : ℕ) (s : Step) (n : ℕ) (e : LifeEvent) (w : Components) → IsOrderly w → o ≡ Some e → GoesBy o k s n w →
     BefallsAt k e (child_gone k n w)
 gone_befalls o k s n e w i y f q a x =
     let h = changed_here k (without_child n) w.parts q a in
@@ -188,20 +184,18 @@ gone_befalls o k s n e w i y f q a x =
     let m = g.1 h.0 h.1 (i.sound k h.0 h.1) in
     subst (Befalls e) h.2 (m.0, m.1, rw g.0 refl)
 
+-- what holds once the child is gone, and behind each event that comes with its end
+pub gone_by_each : (P : Components → Type 0) (o : Option LifeEvent) (k : ℕ) (s : Step) (n : ℕ) (w : Components) → P (child_gone k n w)
+    → ((e : LifeEvent) → o ≡ Some e → P (lived_at k e (child_gone k n w))) → P (gone_by o k s n w)
+gone_by_each P None k s n w i f = i
+gone_by_each P (Some e) k s n w i f = elim (is_orphan_at k s w) as (λ (b : Bool). P (if b then child_gone k n w else lived_at k e (child_gone k n w)))
+    [ true ↦ i | false ↦ f e refl ]
+
 pub gone_by_orderly : (o : Option LifeEvent) (k : ℕ) (s : Step) (n : ℕ) (w : Components) → IsOrderly w → GoesBy o k s n w → IsOrderly (gone_by o k s n w)
-gone_by_orderly None k s n w i f = child_gone_orderly k n w i
-gone_by_orderly (Some e) k s n w i f = elim (is_orphan_at k s w)
-    as (λ (b : Bool). IsOrderly (if b then child_gone k n w else lived_at k e (child_gone k n w))) [
-      | true ↦ child_gone_orderly k n w i
-      | false ↦ plain_orderly k e (child_gone k n w) (child_gone_orderly k n w i) (gone_befalls (Some e) k s n e w i refl f)
-    ]
+gone_by_orderly o k s n w i f = gone_by_each IsOrderly o k s n w (child_gone_orderly k n w i)
+    (λ e y. plain_orderly k e (child_gone k n w) (child_gone_orderly k n w i) (gone_befalls o k s n e w i y f))
 
 pub gone_by_keeps : (d : Device) (o : Option LifeEvent) (k : ℕ) (s : Step) (n : ℕ) (w : Components) → IsTold w → Keeps d w → GoesBy o k s n w →
     Keeps d (gone_by o k s n w)
-gone_by_keeps d None k s n w t i f = child_gone_keeps d k n w i
-gone_by_keeps d (Some e) k s n w t i f = elim (is_orphan_at k s w)
-    as (λ (b : Bool). Keeps d (if b then child_gone k n w else lived_at k e (child_gone k n w))) [
-      | true ↦ child_gone_keeps d k n w i
-      | false ↦ plain_keeps d k e (child_gone k n w) (child_gone_told k n w t) (child_gone_keeps d k n w i)
-          (gone_befalls (Some e) k s n e w (order_of d w i) refl f)
-    ]
+gone_by_keeps d o k s n w t i f = gone_by_each (Keeps d) o k s n w (child_gone_keeps d k n w i)
+    (λ e y. plain_keeps d k e (child_gone k n w) (child_gone_told k n w t) (child_gone_keeps d k n w i) (gone_befalls o k s n e w (order_of d w i) y f))

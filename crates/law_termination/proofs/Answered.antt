@@ -5,6 +5,7 @@ use Rattle.nuc_base.specs.declared.kinds.Step.{Step}
 use Rattle.components.specs.Components.{Components, ComponentState, At, changed_at}
 use Rattle.components.specs.Events.{answered_at, launched, started, with_child}
 use Rattle.components.specs.Turns.{is_begun}
+use Rattle.law_supervisor.proofs.Lists.{twice}
 
 abbrev pub unhanded : ComponentState → ComponentState
 unhanded p = record p { handed = false }
@@ -12,11 +13,6 @@ unhanded p = record p { handed = false }
 -- a step that is started where no start was handed out
 abbrev pub plainly_started : ℕ → Step → ℕ → Components → Components
 plainly_started k s n w = launched s k (record w { parts = changed_at k (with_child n s w.moment) w.parts })
-
-twice : (k : ℕ) (g h : ComponentState → ComponentState) (ps : List ComponentState) → changed_at k g (changed_at k h ps) ≡ changed_at k (λ p. g (h p)) ps
-twice k g h [] = refl
-twice zero g h (p ∷ ps) = refl
-twice (suc k) g h (p ∷ ps) = ap (λ (qs : List ComponentState). p ∷ qs) (twice k g h ps)
 
 pub started_is : (k : ℕ) (s : Step) (n : ℕ) (w : Components) → plainly_started k s n (answered_at k w) ≡ started k s n w
 started_is k s n w = ap (λ (ps : List ComponentState). launched s k (record w { parts = ps })) (twice k (with_child n s w.moment) unhanded w.parts)

@@ -12,10 +12,11 @@ use Rattle.components.specs.Fitted.{Fitted}
 use Rattle.components.specs.Lives.{lived, lived_at, stop_in}
 use Rattle.components.specs.Turns.{is_held_far, hard_needs}
 use Rattle.law_supervisor.proofs.Made.{MayBefall}
+use Rattle.law_supervisor.proofs.Lists.{clash}
 use Rattle.law_termination.specs.Drives.{GoesOn, IsInTime, IsBelow, IsDriven, Drives}
 use Rattle.law_termination.specs.Kept.{IsKeptPart, IsOrderedPart, newest, AreKept}
 use Rattle.law_termination.proofs.Carried.{AreCarried, IsCarried, IsSource, carried_event, carried_still, carried_on, source_needs}
-use Rattle.law_termination.proofs.Lists.{Has, clash, each_has}
+use Rattle.law_termination.proofs.Lists.{Has, each_has}
 use Rattle.law_termination.proofs.Near.{all_front, all_more, all_of, at_from, at_some, has_at, same_bytes}
 use Rattle.law_termination.proofs.Reorder.{newest_below, newest_there, none_needs, order, re_served}
 use Rattle.law_termination.proofs.Still.{among, apart_lived, ends_lived, gone_lived, in_time_lived, needs_lived, next_hard, shown_lived, still_lived}

@@ -1,7 +1,7 @@
 -- What happens between two waits, where no deployment is driven, lowers a number.
 use Rattle.std.proofs.Common.{◌≡◌, ◌<◌, ◌≤◌, ◌+◌, ◌*◌, ◌-◌, ◌^◌, ◌==◌, ℕ, suc, zero, List, [], ◌∷◌, length, Option, Some, None, Bool, true, false, refl, sym}
 use Rattle.std.proofs.Common.{ap, ◌∙◌, inl, inr, arith, subst, is_some}
-use Rattle.std.specs.Prelude.{◌&&◌, ◌||◌, not, if◌then◌else◌, slice_get, IsSomeAnd, IfSome, filter, option_map, option_and_then, nat_le, min}
+use Rattle.std.specs.Prelude.{◌&&◌, ◌||◌, not, if◌then◌else◌, slice_get, IsSomeAnd, IfSome, option_map, option_and_then, nat_le, min}
 use Rattle.std.specs.List.{list_all, AllByRecursion}
 use Rattle.std.proofs.lemmas.Bool.{and_parts, cases_lt}
 use Rattle.nuc_base.specs.declared.kinds.Exit.{Exit}
@@ -25,20 +25,22 @@ use Rattle.components.specs.Lives.{lived, lived_at, drops}
 use Rattle.components.specs.Turns.{may_begin, may_retry, may_stop, is_begun, is_met, serves_softly}
 use Rattle.law_supervisor.specs.Sound.{may_ask}
 use Rattle.law_supervisor.proofs.Made.{MayBefall}
+use Rattle.law_supervisor.proofs.Gone.{owner_at}
+use Rattle.law_supervisor.proofs.Items.{same_children}
+use Rattle.law_supervisor.proofs.Lists.{either, clash, second_true, some_same, not_so, changed_nothing}
+use Rattle.law_supervisor.proofs.Alone.{but, standing}
 use Rattle.law_termination.specs.Kept.{IsKeptPart}
 use Rattle.law_termination.specs.Rank.{start_weight, times, sum_by}
 use Rattle.law_termination.specs.TurnRank.{core_steady, left_steady, late_count, weight_steady}
 use Rattle.law_termination.proofs.Answered.{plainly_started}
-use Rattle.law_termination.proofs.Children.{other_gone, owner_at, shorter}
+use Rattle.law_termination.proofs.Children.{other_gone, shorter}
 use Rattle.law_termination.proofs.Cores.{gain}
 use Rattle.law_termination.proofs.Held.{can_stop}
-use Rattle.law_termination.proofs.Items.{same_children}
-use Rattle.law_termination.proofs.Lists.{either, clash}
-use Rattle.law_termination.proofs.Options.{second_true, some_map, some_same, not_so, same_self}
+use Rattle.law_termination.proofs.Options.{some_map, same_self}
 use Rattle.law_termination.proofs.Parts.{orphan_at, stands_busy, begun_busy, table_row}
 use Rattle.law_termination.proofs.Priced.{state_small, owed_small, start_small, paid}
 use Rattle.law_termination.proofs.SteadyRows.{is_of_busy, steady_at, no_drop_at}
-use Rattle.law_termination.proofs.Sums.{at_self, at_two, Pays, at_map, at_both, changed_same, standing}
+use Rattle.law_termination.proofs.Sums.{at_self, at_two, Pays, at_map, at_both}
 use Rattle.law_termination.proofs.Weighed.{AreCheap, Lowers, event_falls, sum_changed, times_less}
 
 left_small : (p : ComponentState) → left_steady p ≤ 6
@@ -52,9 +54,6 @@ small_times zero = omega arith
 small_times (suc n) = let i = small_times n in omega (arith, i)
 
 -- ---- late children
-
-abbrev but : ℕ → List Child → List Child
-but n cs = filter (λ (c : Child). not (c.number == n)) cs
 
 late_but : (m n : ℕ) (cs : List Child) → late_count m (but n cs) ≤ late_count m cs
 late_but m n [] = omega arith
@@ -120,7 +119,7 @@ module _ (m c n : ℕ) (room : 3000 + 1400 * n ≤ c) where
       let q = lived true e (record p { children = ds }) in
       let f = falls e (record p { children = ds }) k a b t y in
       let i = paid e p.life.busy q.life.busy p.children ds z in
-      let v = same_children true e (record p { children = ds }) k in
+      let v = same_children true e (record p { children = ds }) in
       let j = less_times (late_count m ds) (late_count m p.children) c l in
       record {
         lower = subst (λ (cs : List Child). core_steady q + (start_weight q.life.busy cs + 3 * length cs) + times (late_count m cs) c + 1 ≤ weight_steady m c
@@ -138,7 +137,7 @@ module _ (m c n : ℕ) (room : 3000 + 1400 * n ≤ c) where
       late_count m ds + 1 ≤ late_count m p.children → Fall e (record p { children = ds }) p
   late_lowers e p ds k l d =
       let q = lived true e (record p { children = ds }) in
-      let v = same_children true e (record p { children = ds }) k in
+      let v = same_children true e (record p { children = ds }) in
       let z : core_steady q + (start_weight q.life.busy ds + 3 * length ds) + times (late_count m ds) c + (times n 1400 + 1) ≤ weight_steady m c p
       = late_pays (core_steady q) (core_steady p) (start_weight q.life.busy ds) (start_weight p.life.busy p.children) (length ds) (length p.children)
       (late_count m ds) (late_count m p.children) (core_small q) (start_small q.life.busy ds) l d in
@@ -170,7 +169,7 @@ module _ (w : Components) (kept : AllByRecursion IsKeptPart w.parts) (c : ℕ) (
 
   plainly : (k : ℕ) (e : LifeEvent) (P : ComponentState → Type 0) → ((p : ComponentState) → IsKeptPart p → P p → Falls e p p) → At k P w.parts →
       calm_total c (lived_at k e w) < calm_total c w
-  plainly k e P g a = subst (λ (qs : List ComponentState). calm_total c (lived_at k e (record w { parts = qs })) < calm_total c w) (changed_same k w.parts)
+  plainly k e P g a = subst (λ (qs : List ComponentState). calm_total c (lived_at k e (record w { parts = qs })) < calm_total c w) (changed_nothing k w.parts)
       (event_falls (weight_steady w.moment c) 1400 (cheap_steady w.moment c (length w.parts) room) k w.moment w.steady e (λ p. p) w.parts (at_map k w.parts
       (λ p. IsKeptPart p × P p) (λ p. Falls e p p) (λ p x. g p x.0 x.1) (known k P a)))
 

@@ -13,13 +13,14 @@ use Rattle.components.specs.Marks.{Flagged, flagged_at, marked, may_restart, rea
 use Rattle.components.specs.Turns.{is_met, hard_needs}
 use Rattle.law_supervisor.specs.Sound.{HaveOwnNames}
 use Rattle.law_supervisor.proofs.Together.{same_names}
+use Rattle.law_supervisor.proofs.Reached.{firsts, firsts_at, firsts_reaching}
+use Rattle.law_supervisor.proofs.Lists.{twice}
 use Rattle.law_termination.specs.Drives.{IsInTime, IsBelow, IsDriven, GoesOn, HasItemToTake, is_ending}
 use Rattle.law_termination.specs.Kept.{IsOrderedPart, AreKept}
 use Rattle.law_termination.proofs.Lists.{Has, each_has}
 use Rattle.law_termination.proofs.Near.{all_front, all_more, or_cases}
 use Rattle.law_termination.proofs.Orders.{Stands, View, still_ordered, view}
 use Rattle.law_termination.proofs.Still.{IsStill, still_mark}
-use Rattle.law_termination.proofs.Sums.{firsts, firsts_at, firsts_reaching, twice}
 
 module _ (Q : List ℕ → Type 0) (r : List ℕ → ℕ) (ps : List ComponentState) where
   pub record IsCarried (p q : ComponentState) : Type 0 where

@@ -9,7 +9,7 @@ use Rattle.std.proofs.lemmas.Slice.Eq.{bytes_eq-Decides}
 use Rattle.lifecycle.specs.Awaits.{is_stopping}
 use Rattle.lifecycle.specs.Life.{Life}
 use Rattle.lifecycle.specs.declared.kinds.After.TheVariants as after
-use Rattle.components.specs.Changes.{Coming, coming_again, coming_for, counted, fresh_part, is_replaced, is_replacing, leaving, newcomers, placed, replanned}
+use Rattle.components.specs.Changes.{Coming, coming_again, coming_for, counted, fresh_part, is_replaced, is_replacing, leaving, newcomers, replanned}
 use Rattle.components.specs.Changes.{standing, staying, with_newcomers, with_texts, changed_to, fate, meeting, replacing}
 use Rattle.components.specs.Components.{Child, ComponentState, Components, is_again, is_broken, is_gone, is_leaving, is_spared, component_name}
 use Rattle.components.specs.Components.{stops_for_good, under_way}
@@ -17,19 +17,19 @@ use Rattle.components.specs.Fitted.{Fitted, is_same_item, name_of}
 use Rattle.components.specs.Marks.{Flagged, flagged, may_replan, reaching}
 use Rattle.components.specs.Turns.{is_met, hard_needs, coming_needs}
 use Rattle.law_supervisor.specs.Sound.{HaveOwnNames, is_to_begin_again, is_waiting}
+use Rattle.law_supervisor.proofs.Changed.{found}
+use Rattle.law_supervisor.proofs.Reached.{idle_of, firsts_flagged, firsts, firsts_reaching}
+use Rattle.law_supervisor.proofs.Lists.{clash, either, none_of, not_so}
 use Rattle.law_termination.specs.Drives.{IsAmong, IsInTime, IsPlaced, IsBelow, IsDriven, MayTakeOver, Drives, HasItemToTake, is_ending}
 use Rattle.law_termination.specs.Kept.{IsKeptPart, IsOrderedPart, are_there, newest}
 use Rattle.law_termination.proofs.ChangedLists.{has_new, new_first, new_second, of_marked, to_marked, of_standing, to_standing, counted_has, has_counted}
 use Rattle.law_termination.proofs.ChangedLists.{comes_for, bound_all, in_bound_all, or_none, of_filter, to_filter, IsMarked}
-use Rattle.law_termination.proofs.Changes.{HasSameSteps, changed_alone, found}
-use Rattle.law_termination.proofs.Keeps.{idle_of}
-use Rattle.law_termination.proofs.Lists.{Has, any_has, clash, each_has, either, has_any, none_any, passing}
-use Rattle.law_termination.proofs.Near.{contains_one, firsts_flagged, all_front, all_joined, all_more, all_of, mapped, of_mapped, one_named, same_bytes}
+use Rattle.law_termination.proofs.Changes.{HasSameSteps, changed_alone}
+use Rattle.law_termination.proofs.Lists.{Has, any_has, each_has, has_any, none_any, passing}
+use Rattle.law_termination.proofs.Near.{contains_one, all_front, all_joined, all_more, all_of, mapped, of_mapped, one_named, same_bytes}
 use Rattle.law_termination.proofs.Near.{with_none}
-use Rattle.law_termination.proofs.Options.{none_of, not_so}
 use Rattle.law_termination.proofs.Stands.{gone_apart, left_is, left_leaves, left_takes}
 use Rattle.law_termination.proofs.Still.{next_hard}
-use Rattle.law_termination.proofs.Sums.{firsts, firsts_reaching}
 
 module _ (items : List Fitted) (counts : List ℕ) (w : Components) (i : Drives w) (m : MayTakeOver items w.parts) where
   abbrev ns : List Coming

@@ -1,23 +1,20 @@
--- Children that are fewer, and the owner of one.
-use Rattle.std.proofs.Common.{◌≡◌, ◌≤◌, ◌+◌, ◌*◌, ◌==◌, ℕ, suc, List, [], ◌∷◌, length, Option, Some, None, Bool, true, false, refl, sym, ap, inl, inr, arith}
-use Rattle.std.proofs.Common.{subst}
-use Rattle.std.specs.Prelude.{◌||◌, not, if◌then◌else◌, IsSomeAnd, filter}
+-- Children that are fewer.
+use Rattle.std.proofs.Common.{◌≡◌, ◌≤◌, ◌+◌, ◌*◌, ◌==◌, ℕ, suc, List, [], ◌∷◌, length, Option, Some, None, Bool, true, false, refl, inl, inr, arith}
+use Rattle.std.specs.Prelude.{◌||◌, not, if◌then◌else◌, IsSomeAnd}
 use Rattle.std.specs.List.{list_any}
 use Rattle.std.proofs.lemmas.Bool.{or_parts}
 use Rattle.nuc_base.specs.declared.kinds.Step.{Step}
 use Rattle.lifecycle.specs.Awaits.{is_same_step, is_busy_with}
-use Rattle.components.specs.Components.{At, Child, ComponentState, child_of, owner, owner_from}
+use Rattle.components.specs.Components.{Child, child_of}
+use Rattle.law_supervisor.proofs.Alone.{but}
+use Rattle.law_supervisor.proofs.Lists.{either}
 use Rattle.law_termination.specs.Rank.{start_weight}
-use Rattle.law_termination.proofs.Lists.{either}
 
 -- ---- children
 
 abbrev count : (Child → Bool) → List Child → ℕ
 count t [] = 0
 count t (c ∷ cs) = (if t c then 1 else 0) + count t cs
-
-abbrev pub but : ℕ → List Child → List Child
-but n cs = filter (λ (c : Child). not (c.number == n)) cs
 
 fewer : (t : Child → Bool) (n : ℕ) (cs : List Child) → count t (but n cs) ≤ count t cs
 fewer t n [] = omega arith
@@ -81,22 +78,3 @@ other_gone (Some s) n cs h =
     some_map : {X : Type 0} (o : Option X) (P Q : X → Type 0) → ((x : X) → P x → Q x) → IsSomeAnd o P → IsSomeAnd o Q
     some_map None P Q f h = absurd h
     some_map (Some x) P Q f h = f x h
-
--- ---- the owner of a child
-
-owner_from_at : (j n : ℕ) (ps : List ComponentState) (k : ℕ) (s : Step) → owner_from j n ps ≡ Some (k, s)
-    → (d : ℕ) × (k ≡ j + d) × At d (λ p. IsSomeAnd (child_of n p.children) (λ c. c.of ≡ s)) ps
-owner_from_at j n [] k s e = absurd (cc)
-owner_from_at j n (p ∷ ps) k s e = elim (child_of n p.children) as (λ o. (elim o [ None ↦ owner_from (j + 1) n ps | Some c ↦ Some (j, c.of) ]) ≡ Some (
-  k,
-  s,
-) → child_of n p.children ≡ o → (d : ℕ) × (k ≡ j + d) × At d (λ p. IsSomeAnd (child_of n p.children) (λ c. c.of ≡ s)) (p ∷ ps)) [
-  | None ↦ λ y q. (let i = owner_from_at (j + 1) n ps k s y in let a = i.1 in (suc i.0, omega (arith, a), i.2))
-  | Some c ↦ λ y q. (let a : j ≡ k = ap (λ (o : Option (ℕ × Step)). elim o [ None ↦ j | Some x ↦ x.0 ]) y in
-      (0, omega (arith, a), subst (λ o. IsSomeAnd o (λ d. d.of ≡ s)) (sym q) (ap (λ (o : Option (ℕ × Step)). elim o [ None ↦ s | Some x ↦ x.1 ]) y)))
-] e refl
-
-pub owner_at : (n : ℕ) (ps : List ComponentState) (k : ℕ) (s : Step) → owner n ps ≡ Some (k, s) →
-    At k (λ p. IsSomeAnd (child_of n p.children) (λ c. c.of ≡ s)) ps
-owner_at n ps k s e = let x = owner_from_at 0 n ps k s e in let a = x.1 in subst (λ j. At j (λ p. IsSomeAnd (child_of n p.children) (λ c. c.of ≡ s)) ps)
-    (let z : x.0 ≡ k = omega (arith, a) in z) x.2

@@ -24,19 +24,19 @@ use Rattle.components.specs.Lives.{lived_at}
 use Rattle.components.specs.Turns.{is_begun, is_met, may_begin, may_retry, serves_softly, may_stop, hard_needs}
 use Rattle.components.specs.declared.kinds.Act.{Act}
 use Rattle.components.specs.declared.kinds.Act.TheVariants as acts
+use Rattle.law_supervisor.proofs.Gone.{owner_at}
+use Rattle.law_supervisor.proofs.Lists.{second_true, some_same, not_so, changed_nothing}
 use Rattle.law_termination.specs.Drives.{GoesOn, IsInTime, Drives}
 use Rattle.law_termination.specs.Kept.{AreKept, IsKeptPart}
 use Rattle.law_termination.proofs.Answered.{handed_all}
 use Rattle.law_termination.proofs.Befalls.{IsReady, any, event_on, same_order, sources}
 use Rattle.law_termination.proofs.Carried.{IsCarried, IsSource, carried_changed, carried_still}
-use Rattle.law_termination.proofs.Children.{owner_at}
 use Rattle.law_termination.proofs.Held.{can_stop}
 use Rattle.law_termination.proofs.Lists.{Has}
 use Rattle.law_termination.proofs.Near.{all_of}
-use Rattle.law_termination.proofs.Options.{second_true, some_same, not_so}
 use Rattle.law_termination.proofs.Parts.{orphan_at, handed_kept}
 use Rattle.law_termination.proofs.Still.{IsStill, among}
-use Rattle.law_termination.proofs.Sums.{at_self, at_both, at_map, changed_same}
+use Rattle.law_termination.proofs.Sums.{at_self, at_both, at_map}
 use Rattle.law_termination.proofs.Whole.{end_keeps, kill_keeps, move_keeps, refuse_keeps, skip_keeps, start_keeps, told_keeps}
 
 -- ---- the children
@@ -74,7 +74,7 @@ module _ (w : Components) (i : Drives w) where
 
   alone_moves : (k : ℕ) (e : LifeEvent) → At k (IsReady w i e (λ p. p.children) (λ p. p.handed)) w.parts → AreKept (lived_at k e w) → GoesOn w (lived_at k e w)
   alone_moves k e a alone =
-      let same = changed_same k w.parts in
+      let same = changed_nothing k w.parts in
       subst (λ (ps : List ComponentState). GoesOn w (lived_at k e (record w { parts = ps }))) same
       (event_on w i k e (λ p. p.children) (λ p. p.handed) a (subst (λ (ps : List ComponentState). AreKept (lived_at k e (record w { parts = ps })))
       (sym same) alone))

@@ -8,8 +8,9 @@ use Rattle.std.proofs.lemmas.Slice.Eq.{bytes_eq-Decides}
 use Rattle.components.specs.Components.{ComponentState, is_to_stop, component_name}
 use Rattle.components.specs.Marks.{Flagged, flagged, grown, is_flagged, needs_flagged, reaching}
 use Rattle.components.specs.Turns.{with_hard_needs, is_held_far, direct_dependents, hard_needs, dependents}
+use Rattle.law_supervisor.proofs.Lists.{clash, either}
 use Rattle.law_termination.specs.Kept.{AllBelow}
-use Rattle.law_termination.proofs.Lists.{Has, clash, each_has, either, passing}
+use Rattle.law_termination.proofs.Lists.{Has, each_has, passing}
 use Rattle.law_termination.proofs.Near.{or_cases}
 
 -- Some are passed over: nobody that is not passed over needs the name of one that is.

@@ -23,14 +23,15 @@ use Rattle.components.specs.Turns.{hard_needs, may_begin, may_retry, is_late, is
 use Rattle.components.specs.Turns.{is_held_far, is_held_for, may_act, may_stop}
 use Rattle.components.proofs.Held.{none_for}
 use Rattle.law_supervisor.specs.Sound.{is_waiting}
+use Rattle.law_supervisor.proofs.Alone.{bare_of}
+use Rattle.law_supervisor.proofs.Lists.{either, clash, none_of, not_so, second_true}
 use Rattle.law_termination.specs.Drives.{Drives, IsBelow, IsDriven, has_failed, is_ending}
 use Rattle.law_termination.specs.Kept.{IsKeptPart, IsOrderedPart, AllBelow, are_there, newest, is_timed}
 use Rattle.law_termination.specs.Time.{HasTime}
 use Rattle.law_termination.proofs.Farther.{none_reaches}
-use Rattle.law_termination.proofs.Lists.{Has, either, clash, each_has, any_has, has_any, all_has, passing, none_any, Greatest, greatest, Least, least}
+use Rattle.law_termination.proofs.Lists.{Has, each_has, any_has, has_any, all_has, passing, none_any, Greatest, greatest, Least, least}
 use Rattle.law_termination.proofs.Near.{all_more, one_named}
-use Rattle.law_termination.proofs.Options.{none_of, not_so, of_some, same_self, second_true}
-use Rattle.law_termination.proofs.Parts.{bare_of}
+use Rattle.law_termination.proofs.Options.{of_some, same_self}
 
 -- ---- time
 
@@ -161,7 +162,7 @@ module _ (w : Components) (k : Drives w) (quiet : IsQuiet w) (answered : has_ans
 
   stands : (p : ComponentState) → Has p w.parts → is_to_stop p ≡ true → p.life.gone ≡ false
   stands p h e = elim (either p.life.gone) [
-    | inl g ↦ (let x = bare_of p (kept p h) g in
+    | inl g ↦ (let x = bare_of p (kept p h).gone g in
         let y : is_some p.stop ≡ false = rw x.0 refl in
         clash (is_some p.stop || (is_stopping p.life.state || has_orphan p)) e (rw y (rw x.1 (rests p h).kills)))
     | inr n ↦ n
@@ -214,7 +215,7 @@ module _ (w : Components) (k : Drives w) (quiet : IsQuiet w) (answered : has_ans
   ]
 
   no_children : (p : ComponentState) → Has p w.parts → p.life.gone ≡ true → is_over p ≡ true
-  no_children p h g = let x = bare_of p (kept p h) g in
+  no_children p h g = let x = bare_of p (kept p h).gone g in
       elim p.children as (λ (cs : List Child). list_any (λ (c : Child). is_orphan p.life c.of) cs ≡ false →
       (p.life.gone && elim cs [ [] ↦ true | ◌∷◌ c ds ↦ false ]) ≡ true) [
         | [] ↦ λ e. rw g refl

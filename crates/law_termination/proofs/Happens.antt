@@ -21,13 +21,14 @@ use Rattle.components.specs.Events.{with_child, told_at}
 use Rattle.components.specs.Lives.{lived_at}
 use Rattle.components.specs.Turns.{may_begin, may_retry, may_stop, is_begun, is_met, serves_softly}
 use Rattle.law_supervisor.proofs.Made.{MayBefall}
+use Rattle.law_supervisor.proofs.Gone.{owner_at}
+use Rattle.law_supervisor.proofs.Lists.{either, clash, some_same, second_true, not_so}
 use Rattle.law_termination.specs.Kept.{IsKeptPart, IsFalling}
 use Rattle.law_termination.specs.Rank.{start_weight, weight_by}
 use Rattle.law_termination.proofs.Answered.{unhanded, plainly_started, started_is, answered_all, answered_length, answered_begun}
-use Rattle.law_termination.proofs.Children.{other_gone, owner_at, shorter}
+use Rattle.law_termination.proofs.Children.{other_gone, shorter}
 use Rattle.law_termination.proofs.Held.{can_stop}
-use Rattle.law_termination.proofs.Lists.{either, clash}
-use Rattle.law_termination.proofs.Options.{some_same, second_true, some_map, not_so, same_self}
+use Rattle.law_termination.proofs.Options.{some_map, same_self}
 use Rattle.law_termination.proofs.Parts.{orphan_at, orphan_of_gone, stands_busy, begun_busy, table_row, unhanded_kept}
 use Rattle.law_termination.proofs.Priced.{total, lowers, cheap, plain_falls, answered_total}
 use Rattle.law_termination.proofs.Sums.{at_self, at_two, Pays, IsFallingPart, at_map, at_both}

@@ -7,7 +7,7 @@ use Rattle.lifecycle.specs.declared.kinds.After.{After}
 use Rattle.lifecycle.specs.declared.kinds.LifeEvent.TheVariants as event
 use Rattle.components.specs.Components.{ComponentState, Components, component_name, has_orphan}
 use Rattle.components.specs.Turns.{is_held_for, is_unstarted, may_stop}
-use Rattle.law_termination.proofs.Options.{not_so}
+use Rattle.law_supervisor.proofs.Lists.{not_so}
 
 pub can_stop : (w : Components) (p : ComponentState) (a : After) → p.stop ≡ Some a → may_stop w p ≡ true → (is_awaited (event.Stop a) p.life ≡ true) ×
     (is_held_for a (component_name p) w.parts ≡ false)

@@ -1,55 +1,40 @@
 -- What is kept of each component is kept by each event, and by marks.
-use Rattle.std.proofs.Common.{◌≡◌, ◌<◌, ◌==◌, ℕ, suc, zero, List, [], ◌∷◌, length, Option, Some, None, Bool, true, false, refl, sym, ap, ◌∙◌, inl, inr, arith}
-use Rattle.std.proofs.Common.{subst, is_some}
-use Rattle.std.specs.Prelude.{◌&&◌, ◌||◌, not, if◌then◌else◌, IfSome, filter}
-use Rattle.std.specs.List.{list_any, list_all, AllByRecursion}
-use Rattle.std.proofs.lemmas.Bool.{or_parts, and_parts}
-use Rattle.nuc_base.specs.declared.kinds.Step.{Step}
+use Rattle.std.proofs.Common.{◌≡◌, ◌<◌, ◌==◌, ℕ, List, [], ◌∷◌, Option, Some, None, Bool, true, false, refl, sym, ap, ◌∙◌, inl, inr}
+use Rattle.std.proofs.Common.{subst}
+use Rattle.std.specs.Prelude.{◌&&◌, ◌||◌, not, IfSome, filter}
+use Rattle.std.specs.List.{list_all, AllByRecursion}
+use Rattle.std.proofs.lemmas.Bool.{and_parts}
 use Rattle.nuc_base.specs.declared.kinds.Step.TheVariants as step
-use Rattle.lifecycle.specs.Awaits.{is_awaited, is_same_step, is_busy_with, is_stopping}
-use Rattle.lifecycle.specs.Life.{HasOneMain, Life, IsSound, MayHave, may_be_busy, may_run}
-use Rattle.lifecycle.specs.Table.{table}
+use Rattle.lifecycle.specs.Awaits.{is_same_step, is_busy_with}
+use Rattle.lifecycle.specs.Life.{HasOneMain, IsSound, MayHave, may_be_busy, may_run}
 use Rattle.lifecycle.specs.declared.kinds.After.TheVariants as after
-use Rattle.lifecycle.specs.declared.kinds.LifeAct.{LifeAct}
 use Rattle.lifecycle.specs.declared.kinds.LifeEvent.{LifeEvent}
 use Rattle.lifecycle.specs.declared.kinds.LifeEvent.TheVariants as event
 use Rattle.lifecycle.specs.declared.kinds.StepSet.{StepSet}
-use Rattle.components.specs.Components.{ComponentState, Child, At, changed_at, is_to_stop, is_leaving, has_orphan, is_orphan, under_way, component_name}
-use Rattle.components.specs.Components.{is_again, is_starting, is_up}
+use Rattle.components.specs.Components.{ComponentState, Child, At, changed_at, is_leaving, under_way, component_name}
+use Rattle.components.specs.Components.{is_again}
 use Rattle.components.specs.Fitted.{Fitted, name_of, steps_of}
-use Rattle.components.specs.Lives.{lived, lived_at, drops_at as drops_in, after_row, with_failures_forgotten, with_failure_owed, with_stop_given}
-use Rattle.components.specs.Lives.{with_new_item}
-use Rattle.components.specs.Marks.{Flagged, flagged_at, reaching, marked, restarted, may_restart, may_replan}
+use Rattle.components.specs.Lives.{lived, lived_at}
+use Rattle.components.specs.Marks.{may_replan}
 use Rattle.law_supervisor.specs.Sound.{may_ask, is_bare, is_to_begin_again, is_waiting}
 use Rattle.law_supervisor.proofs.KeptAsks.{asks_at}
 use Rattle.law_supervisor.proofs.KeptBare.{bare_at}
 use Rattle.law_supervisor.proofs.KeptBusy.{busy_at}
 use Rattle.law_supervisor.proofs.KeptFew.{few_at}
 use Rattle.law_supervisor.proofs.KeptLaunch.{launch_at}
-use Rattle.law_supervisor.proofs.KeptRun.{run_at}
 use Rattle.law_supervisor.proofs.KeptRuns.{runs_at}
 use Rattle.law_supervisor.proofs.KeptWaits.{waits_at}
 use Rattle.law_supervisor.proofs.Made.{MayBefall, begins}
+use Rattle.law_supervisor.proofs.Items.{by_lived, lived_gone}
+use Rattle.law_supervisor.proofs.Lists.{either, clash, second_true, changed_all}
+use Rattle.law_supervisor.proofs.Alone.{but, run_but, run_lived, runs_in, standing}
+use Rattle.law_supervisor.proofs.Moved.{at_of}
+use Rattle.law_supervisor.proofs.Reached.{Marks, idle_of}
+use Rattle.law_supervisor.proofs.Together.{event_all}
 use Rattle.law_termination.specs.Kept.{IsKeptPart, IsRunnable, IsComing, is_timed}
-use Rattle.law_termination.proofs.Items.{by_lived}
 use Rattle.law_termination.proofs.KeepsLeaving.{leaving_at}
 use Rattle.law_termination.proofs.Lives.{own_lived, stop_lived}
-use Rattle.law_termination.proofs.Lists.{either, clash, any_has, none_any}
-use Rattle.law_termination.proofs.Options.{none_of, not_so, second_true}
-use Rattle.law_termination.proofs.Sums.{standing, IsFallingPart, firsts, firsts_reaching, firsts_at, twice}
-
-table_none : (c : Life) (e : LifeEvent) → c.gone ≡ true → table c e ≡ None
-table_none c e g = rw g refl
-
-pub lived_gone : (b : Bool) (e : LifeEvent) (q : ComponentState) → q.life.gone ≡ true → lived b e q ≡ q
-lived_gone b e q g = ap (λ (o : Option (LifeAct × Life)). elim o [
-  | None ↦ q
-  | Some r ↦ with_new_item e q.life
-      (with_stop_given e (with_failure_owed r.0 (with_failures_forgotten b q.life (after_row r.1 q))))
-]) (table_none q.life e g)
-
-abbrev runs_in : List Child → Bool
-runs_in cs = list_any (λ (c : Child). is_same_step step.Run c.of) cs
+use Rattle.law_termination.proofs.Sums.{IsFallingPart}
 
 with_children : (p : ComponentState) (cs : List Child) → IsKeptPart p → list_all is_timed cs ≡ true → (is_busy_with step.Run p.life.busy && runs_in cs)
     ≡ false → IsKeptPart (record p { children = cs })
@@ -69,16 +54,6 @@ with_children p cs k t r = record {
 abbrev Fits : List ℕ → List Child → Fitted → Option (Fitted × ℕ) → StepSet → List Child → Type 0
 Fits own cs f nx st ds = (st ≡ steps_of f) × IsRunnable f × IfSome nx (IsComing (name_of f)) × (name_of f ≡ own) × (ds ≡ cs)
 
-pub run_keeps : (b : Bool) (e : LifeEvent) (q : ComponentState) (z : Bool) → IsSound q.life → (is_busy_with step.Run q.life.busy && z) ≡ false →
-    (begins e && z) ≡ false → (is_busy_with step.Run (lived b e q).life.busy && z) ≡ false
-run_keeps b e q z k h i = elim (either q.life.gone) [
-  | inl g ↦ subst (λ (x : ComponentState). (is_busy_with step.Run x.life.busy && z) ≡ false) (sym (lived_gone b e q g)) h
-  | inr g ↦ standing (λ x. may_be_busy x.life.state x.life.busy ≡ true → may_run x.life.state x.life.runs ≡ true →
-      (is_busy_with step.Run x.life.busy && z) ≡ false → (begins e && z) ≡ false → (is_busy_with step.Run (lived b e x).life.busy && z) ≡ false) q g
-      (run_at q.fitted q.life.steps q.life.failures q.life.busy q.life.runs q.life.install_failed q.life.stop q.children q.handed q.owed q.stop q.next z
-      q.life.state e b) k.busy k.runs h i
-]
-
 abbrev IsFew : List ℕ → Fitted × ℕ → Type 0
 IsFew own n = (name_of n.0 ≡ own) × (n.1 < 3)
 
@@ -92,7 +67,7 @@ pub lived_keeps : (b : Bool) (e : LifeEvent) (p : ComponentState) (cs : List Chi
 lived_keeps b e p cs k m t r = elim (either p.life.gone) [
   | inl g ↦ (let same = lived_gone b e (record p { children = cs }) g in
       subst IsKeptPart (sym same) (with_children p cs k t (subst (λ (x : ComponentState). (is_busy_with step.Run x.life.busy && runs_in cs) ≡ false) same r)))
-  | inr g ↦ (let items = by_lived (Fits (component_name p) cs) b e (record p { children = cs }) k.sound (
+  | inr g ↦ (let items = by_lived (Fits (component_name p) cs) b e (record p { children = cs }) (
     (k.steps, k.runnable, k.coming, refl, refl),
     λ n q. let c : IsComing (component_name p) n =
         subst (λ (o : Option (Fitted × ℕ)). IfSome o (IsComing (component_name p))) q k.coming in (refl, c.runnable, tt, c.name, refl),
@@ -144,25 +119,7 @@ lived_leaving b e q k a m = elim (either q.life.gone) [
       q.life.state e b) k a m
 ]
 
--- one that begins has no child
-pub begins_bare : (p : ComponentState) → IsSound p.life → is_to_stop p ≡ false → is_awaited event.MayBegin p.life ≡ true → runs_in p.children ≡ false
-begins_bare p k s a =
-    let o = (or_parts (is_stopping p.life.state) (has_orphan p) (or_parts (is_some p.stop) (is_stopping p.life.state || has_orphan p) s).1).1 in
-    none_any (λ (c : Child). is_same_step step.Run c.of) p.children (λ c h. elim (either (is_same_step step.Run c.of)) [
-      | inr n ↦ n
-      | inl y ↦ clash (is_orphan p.life c.of) (idle p.life c.of k a) (any_has (λ (d : Child). is_orphan p.life d.of) c p.children h o)
-    ])
-  where
-    idle : (c : Life) (t : Step) → IsSound c → is_awaited event.MayBegin c ≡ true → is_orphan c t ≡ true
-    idle c t k a = grind (arith, k.runs, a)
-
 -- ---- marks
-
-pub idle_of : (p : ComponentState) → may_replan p ≡ true → (p.stop ≡ None) × (is_stopping p.life.state ≡ false) × (p.life.gone ≡ false)
-idle_of p e =
-    let o = or_parts (is_to_stop p) p.life.gone (not_so (is_to_stop p || p.life.gone) e) in
-    let a = or_parts (is_some p.stop) (is_stopping p.life.state || has_orphan p) o.0 in
-    (none_of p.stop a.0, (or_parts (is_stopping p.life.state) (has_orphan p) a.1).0, o.1)
 
 pub mark_keeps : (p : ComponentState) → may_replan p ≡ true → IsKeptPart p → IsKeptPart (record p { stop = Some after.Restart })
 mark_keeps p e k =
@@ -188,83 +145,43 @@ mark_keeps p e k =
 abbrev pub Known : Bool → ComponentState → Type 0
 Known b p = IsKeptPart p × IsFallingPart b p
 
-mark_known : (b : Bool) (p : ComponentState) → may_replan p ≡ true → Known b p → Known b (record p { stop = Some after.Restart })
+mark_known : (b : Bool) → Marks (Known b)
 mark_known b p e k = (mark_keeps p e k.0, elim k.1 [ inl f ↦ inl f | inr l ↦ (let i = idle_of p e in clash (is_leaving p) l (rw i.0 (rw i.1 (rw i.2 refl)))) ])
-
-pub marked_known : (b : Bool) (may : ComponentState → Bool) → ((p : ComponentState) → may p ≡ true → may_replan p ≡ true) → (fs : Flagged) →
-    AllByRecursion (Known b) (firsts fs) → AllByRecursion (Known b) (marked may fs)
-marked_known b may f [] a = tt
-marked_known b may f (x ∷ fs) a = elim (x.1 && may x.0) as (λ y. x.1 && may x.0 ≡ y →
-    AllByRecursion (Known b) ((if y then record x.0 { stop = Some after.Restart } else x.0) ∷ marked may fs)) [
-      | true ↦ λ e. (mark_known b x.0 (f x.0 (and_parts x.1 (may x.0) e).1) a.0, marked_known b may f fs a.1)
-      | false ↦ λ e. (a.0, marked_known b may f fs a.1)
-    ] refl
 
 pub changed_known : (K : ComponentState → Type 0) (k : ℕ) (g : ComponentState → ComponentState) (ps : List ComponentState) → AllByRecursion K ps →
     At k (λ p. K (g p)) ps → AllByRecursion K (changed_at k g ps)
-changed_known K k g [] a h = tt
-changed_known K zero g (p ∷ ps) a h = (h, a.1)
-changed_known K (suc k) g (p ∷ ps) a h = (a.0, changed_known K k g ps a.1 h)
-
-pub may_replan_of : (p : ComponentState) → may_restart p ≡ true → may_replan p ≡ true
-may_replan_of p e = (and_parts (is_starting p.life.state || is_up p.life.state) (may_replan p) e).1
+changed_known K k g ps a h = changed_all K k g ps a (λ p q x. at_of (λ r. K (g r)) k ps p q h)
 
 pub event_known : (k m : ℕ) (d b : Bool) (e : LifeEvent) (h : ComponentState → ComponentState) (ps : List ComponentState) → AllByRecursion (Known d) ps →
     At k (λ p. Known d (lived b e (h p))) ps
     → AllByRecursion (Known d) (lived_at k e (record { parts = changed_at k h ps; moment = m; steady = b })).parts
-event_known k m d b e h ps a c =
-    let one = changed_known (Known d) k (λ p. lived b e (h p)) ps a c in
-    let both : AllByRecursion (Known d) (changed_at k (lived b e) (changed_at k h ps)) = subst (λ (qs : List ComponentState). AllByRecursion (Known d) qs)
-    (sym (twice k (lived b e) h ps)) one in
-    elim (drops_in k (record { parts = changed_at k h ps; moment = m; steady = b }) e)
-    as (λ (x : Bool). AllByRecursion (Known d) (if x then restarted may_restart (flagged_at k (changed_at k (lived b e) (changed_at k h ps)))
-    else changed_at k (lived b e) (changed_at k h ps))) [
-      | true ↦ marked_known d may_restart may_replan_of (reaching (length (flagged_at k (changed_at k (lived b e) (changed_at k h ps))))
-          (flagged_at k (changed_at k (lived b e) (changed_at k h ps))))
-          (subst (λ (qs : List ComponentState). AllByRecursion (Known d) qs)
-          (sym (firsts_reaching (length (flagged_at k (changed_at k (lived b e) (changed_at k h ps))))
-          (flagged_at k (changed_at k (lived b e) (changed_at k h ps))) ∙ firsts_at k (changed_at k (lived b e) (changed_at k h ps)))) both)
-      | false ↦ both
-    ]
+event_known k m d b e h ps a c = event_all (Known d) (mark_known d) k e h (record { parts = ps; moment = m; steady = b }) a
+    (λ p q x. at_of (λ r. Known d (lived b e (h r))) k ps p q c)
 
 -- ---- one component at each event
 
 pub stays_known : (d b : Bool) (e : LifeEvent) (p : ComponentState) → Known d p → MayBefall e p → (begins e && runs_in p.children) ≡ false →
     Known d (lived b e p)
 stays_known d b e p k m i = (
-  lived_keeps b e p p.children k.0 m k.0.timed (run_keeps b e p (runs_in p.children) k.0.sound k.0.run i),
+  lived_keeps b e p p.children k.0 m k.0.timed (run_lived b e p (runs_in p.children) k.0.sound.busy k.0.sound.runs k.0.run i),
   elim k.1 [ inl f ↦ inl f | inr l ↦ inr (lived_leaving b e p k.0.sound k.0.asks m ∙ l) ],
 )
-
-abbrev but : ℕ → List Child → List Child
-but n cs = filter (λ (c : Child). not (c.number == n)) cs
 
 timed_but : (n : ℕ) (cs : List Child) → list_all is_timed cs ≡ true → list_all is_timed (but n cs) ≡ true
 timed_but n [] h = refl
 timed_but n (c ∷ cs) h = let x = and_parts (is_timed c) (list_all is_timed cs) h in elim (either (c.number == n))
     [ inl e ↦ rw e (timed_but n cs x.1) | inr e ↦ rw e (rw x.0 (timed_but n cs x.1)) ]
 
-runs_but : (n : ℕ) (cs : List Child) → runs_in cs ≡ false → runs_in (but n cs) ≡ false
-runs_but n [] h = refl
-runs_but n (c ∷ cs) h = let x = or_parts (is_same_step step.Run c.of) (runs_in cs) h in elim (either (c.number == n))
-    [ inl e ↦ rw e (runs_but n cs x.1) | inr e ↦ rw e (rw x.0 (runs_but n cs x.1)) ]
-
-still_no : (a x y : Bool) → (x ≡ false → y ≡ false) → (a && x) ≡ false → (a && y) ≡ false
-still_no true x y f e = f e
-still_no false x y f e = refl
-
-run_but : (n : ℕ) (p : ComponentState) → IsKeptPart p → (is_busy_with step.Run p.life.busy && runs_in (but n p.children)) ≡ false
-run_but n p k = still_no (is_busy_with step.Run p.life.busy) (runs_in p.children) (runs_in (but n p.children)) (runs_but n p.children) k.run
-
 pub gone_known : (d : Bool) (n : ℕ) (p : ComponentState) → Known d p → Known d (record p { children = filter (λ (c : Child). not (c.number == n)) p.children })
-gone_known d n p k = (with_children p (but n p.children) k.0 (timed_but n p.children k.0.timed) (run_but n p k.0), k.1)
+gone_known d n p k = (with_children p (but n p.children) k.0 (timed_but n p.children k.0.timed) (run_but n p.life.busy p.children k.0.run), k.1)
 
 pub end_known : (d b : Bool) (e : LifeEvent) (n : ℕ) (p : ComponentState) → Known d p →
     MayBefall e (record p { children = filter (λ (c : Child). not (c.number == n)) p.children }) → begins e ≡ false
     → Known d (lived b e (record p { children = filter (λ (c : Child). not (c.number == n)) p.children }))
 end_known d b e n p k m i = (
   lived_keeps b e p (but n p.children) k.0 m (timed_but n p.children k.0.timed)
-      (run_keeps b e (record p { children = but n p.children }) (runs_in (but n p.children)) k.0.sound (run_but n p k.0) (rw i refl)),
+      (run_lived b e (record p { children = but n p.children }) (runs_in (but n p.children)) k.0.sound.busy k.0.sound.runs
+      (run_but n p.life.busy p.children k.0.run) (rw i refl)),
   elim k.1 [ inl f ↦ inl f | inr l ↦ inr (lived_leaving b e (record p { children = but n p.children }) k.0.sound k.0.asks m ∙ l) ],
 )
 

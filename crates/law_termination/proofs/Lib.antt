@@ -15,7 +15,6 @@ pub mod Farther
 pub mod Goes
 pub mod Happens
 pub mod Held
-pub mod Items
 pub mod Keeps
 pub mod KeepsLeaving
 pub mod Leaves

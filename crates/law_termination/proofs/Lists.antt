@@ -3,18 +3,11 @@ use Rattle.std.proofs.Common.{◌≡◌, ◌≤◌, ℕ, List, [], ◌∷◌, Bo
 use Rattle.std.specs.Prelude.{◌||◌}
 use Rattle.std.specs.List.{list_any, list_all, AllByRecursion}
 use Rattle.std.proofs.lemmas.Bool.{or_parts, or_left, or_right, and_parts, cases_lt}
+use Rattle.law_supervisor.proofs.Lists.{either, clash}
 
 abbrev pub Has : {X : Type 0} → X → List X → Type 0
 Has p [] = ⊥
 Has p (q ∷ qs) = (p ≡ q) ⊎ Has p qs
-
-pub either : (b : Bool) → (b ≡ true) ⊎ (b ≡ false)
-either true = inl refl
-either false = inr refl
-
-pub clash : {A : Type 0} (b : Bool) → b ≡ true → b ≡ false → A
-clash true e f = absurd (cc)
-clash false e f = absurd (cc)
 
 pub each_has : {X : Type 0} (P : X → Type 0) (p : X) (ps : List X) → Has p ps → AllByRecursion P ps → P p
 each_has P p [] h a = absurd h

@@ -9,9 +9,9 @@ use Rattle.std.proofs.lemmas.Slice.Eq.{bytes_eq-Decides}
 use Rattle.components.specs.Components.{At, ComponentState, component_name}
 use Rattle.components.specs.Marks.{Flagged, Within, flagged, grown, is_flagged, needs_flagged}
 use Rattle.law_supervisor.specs.Sound.{HaveOwnNames}
+use Rattle.law_supervisor.proofs.Lists.{some_same}
+use Rattle.law_supervisor.proofs.Reached.{firsts}
 use Rattle.law_termination.proofs.Lists.{Has}
-use Rattle.law_termination.proofs.Options.{some_same}
-use Rattle.law_termination.proofs.Sums.{firsts}
 
 pub same_bytes : (a : List ℕ) → bytes_eq a a ≡ true
 same_bytes a = (bytes_eq-Decides a a).1 refl
@@ -84,6 +84,7 @@ needs_has n [] fs h e = absurd h
 needs_has n (m ∷ ms) fs (inl q) e = or_left (is_flagged m fs) (needs_flagged ms fs) (subst (λ (z : List ℕ). is_flagged z fs ≡ true) q e)
 needs_has n (m ∷ ms) fs (inr h) e = or_right (is_flagged m fs) (needs_flagged ms fs) (needs_has n ms fs h e)
 
+-- in what is closed, whoever needs a flagged one has a flag
 pub closed_flags : (all fs : Flagged) (p : ComponentState) → grown all fs ≡ fs → HasFlag p fs → needs_flagged p.fitted.hard all ≡ true →
     is_flagged (component_name p) fs ≡ true
 closed_flags all [] p c h e = absurd h
@@ -126,10 +127,6 @@ flagged_so test (q ∷ ps) p (inl i) e = or_left (test q && bytes_eq (component_
     (rw (sym (ap test i) ∙ e) (subst (λ (z : ComponentState). bytes_eq (component_name z) (component_name p) ≡ true) i (same_bytes (component_name p))))
 flagged_so test (q ∷ ps) p (inr h) e = or_right (test q && bytes_eq (component_name q) (component_name p)) (is_flagged (component_name p) (flagged test ps))
     (flagged_so test ps p h e)
-
-pub firsts_flagged : (test : ComponentState → Bool) (ps : List ComponentState) → firsts (flagged test ps) ≡ ps
-firsts_flagged test [] = refl
-firsts_flagged test (p ∷ ps) = ap (λ (qs : List ComponentState). p ∷ qs) (firsts_flagged test ps)
 
 -- one with a flag and this name
 pub record OneFlag (t : ComponentState → Bool) (n : List ℕ) (fs : Flagged) : Type 0 where

@@ -1,26 +1,13 @@
 -- Tests, options and steps.
-use Rattle.std.proofs.Common.{◌≡◌, Option, Some, None, is_some, Bool, true, false, refl, ap}
-use Rattle.std.specs.Prelude.{◌||◌, not}
+use Rattle.std.proofs.Common.{◌≡◌, Option, Some, None, is_some, true, refl}
 use Rattle.std.specs.Option.{IsSomeAnd}
 use Rattle.nuc_base.specs.declared.kinds.Step.{Step}
 use Rattle.nuc_base.specs.declared.kinds.Step.TheVariants as step
 use Rattle.lifecycle.specs.Awaits.{is_same_step}
 
-pub not_so : (b : Bool) → not b ≡ true → b ≡ false
-not_so true e = absurd (cc)
-not_so false e = refl
-
-pub none_of : {X : Type 0} (o : Option X) → is_some o ≡ false → o ≡ None
-none_of None e = refl
-none_of (Some x) e = absurd (cc)
-
 pub of_some : {X : Type 0} (o : Option X) → is_some o ≡ true → (x : X) × (o ≡ Some x)
 of_some None e = absurd (cc)
 of_some (Some x) e = (x, refl)
-
-pub second_true : (a b : Bool) → (a || b) ≡ true → a ≡ false → b ≡ true
-second_true true b e f = absurd (cc)
-second_true false b e f = e
 
 pub same_self : (s : Step) → is_same_step s s ≡ true
 same_self step.Install = refl
@@ -29,9 +16,6 @@ same_self step.Startup = refl
 same_self step.Shutdown = refl
 same_self step.Recover = refl
 same_self step.Bootstrap = refl
-
-pub some_same : {X : Type 0} (x y : X) → Some x ≡ Some y → x ≡ y
-some_same x y e = ap (λ o. elim o [ None ↦ x | Some z ↦ z ]) e
 
 pub some_map : {X : Type 0} (o : Option X) {P R : X → Type 0} → IsSomeAnd o P → ((x : X) → P x → R x) → IsSomeAnd o R
 some_map None h f = absurd h

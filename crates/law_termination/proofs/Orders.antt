@@ -9,9 +9,9 @@ use Rattle.components.specs.Components.{ComponentState, component_name, is_leavi
 use Rattle.components.specs.Fitted.{Fitted, name_of}
 use Rattle.components.specs.Marks.{Flagged, marked, may_restart}
 use Rattle.components.specs.Turns.{is_met}
+use Rattle.law_supervisor.proofs.Lists.{either, clash}
+use Rattle.law_supervisor.proofs.Reached.{firsts}
 use Rattle.law_termination.specs.Kept.{IsOrderedPart, AllBelow, newest, are_there}
-use Rattle.law_termination.proofs.Lists.{either, clash}
-use Rattle.law_termination.proofs.Sums.{firsts}
 
 abbrev pub View : Type 0
 View = List ℕ × Bool × Fitted

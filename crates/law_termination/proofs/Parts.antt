@@ -1,41 +1,26 @@
 -- What is kept of one component, as it is read, and where nothing of it is changed but whether its start was handed out.
 use Rattle.std.proofs.Common.{◌≡◌, Option, Some, None, is_some, Bool, true, false, refl, arith, ℕ, inl, inr, subst, slice_get}
-use Rattle.std.specs.Prelude.{◌&&◌, not, if◌then◌else◌}
+use Rattle.std.specs.Prelude.{not}
 use Rattle.std.specs.List.{list_any}
 use Rattle.std.proofs.lemmas.Bool.{and_parts}
 use Rattle.nuc_base.specs.declared.kinds.Step.{Step}
-use Rattle.lifecycle.specs.Awaits.{is_awaited, is_stopping, is_busy_with, is_same_step}
+use Rattle.lifecycle.specs.Awaits.{is_awaited, is_busy_with, is_same_step}
 use Rattle.lifecycle.specs.Life.{Life, IsSound}
 use Rattle.lifecycle.specs.Table.{table}
-use Rattle.lifecycle.specs.declared.kinds.After.{After}
-use Rattle.lifecycle.specs.declared.kinds.After.TheVariants as after
 use Rattle.lifecycle.specs.declared.kinds.LifeEvent.{LifeEvent}
 use Rattle.components.specs.Changes.{leaving}
 use Rattle.components.specs.Components.{ComponentState, is_gone, under_way, Child, Components, is_orphan}
 use Rattle.components.specs.Events.{is_orphan_at}
 use Rattle.components.specs.Turns.{is_begun}
-use Rattle.law_supervisor.specs.Sound.{is_bare, may_ask}
+use Rattle.law_supervisor.proofs.Alone.{bare_of}
+use Rattle.law_supervisor.proofs.Changed.{ask_gone, ask_none, left_as}
+use Rattle.law_supervisor.proofs.Lists.{clash, either, not_so}
 use Rattle.law_termination.specs.Kept.{IsKeptPart}
 use Rattle.law_termination.specs.Rank.{start_weight}
 use Rattle.law_termination.proofs.Answered.{unhanded}
-use Rattle.law_termination.proofs.Lists.{clash, either}
-use Rattle.law_termination.proofs.Options.{none_of, not_so, second_true}
 
 pub table_row : (c : Life) (e : LifeEvent) → IsSound c → is_some (table c e) ≡ is_awaited e c
 table_row c e k = grind (arith, k)
-
-pub bare_of : (p : ComponentState) → IsKeptPart p → p.life.gone ≡ true → (p.stop ≡ None) × (is_stopping p.life.state ≡ false) × (p.life.busy ≡ None) ×
-    (p.life.runs ≡ false)
-bare_of p k g =
-    let x = second_true (not p.life.gone) (is_bare p) k.gone (rw g refl) in
-    let y = and_parts (not (is_some p.stop) && not (is_stopping p.life.state)) (not (is_some p.life.busy) && not p.life.runs) x in
-    let a = and_parts (not (is_some p.stop)) (not (is_stopping p.life.state)) y.0 in
-    let b = and_parts (not (is_some p.life.busy)) (not p.life.runs) y.1 in (
-      none_of p.stop (not_so (is_some p.stop) a.0),
-      not_so (is_stopping p.life.state) a.1,
-      none_of p.life.busy (not_so (is_some p.life.busy) b.0),
-      not_so p.life.runs b.1,
-    )
 
 pub begun_busy : (p : ComponentState) (t : Step) → is_begun t p ≡ true → (p.life.busy ≡ Some t) × (start_weight p.life.busy p.children ≡ 4)
 begun_busy p t e =
@@ -49,14 +34,14 @@ begun_busy p t e =
 pub stands_busy : (p : ComponentState) → IsKeptPart p → (s : Step) → p.life.busy ≡ Some s → p.life.gone ≡ false
 stands_busy p k s b = elim (either p.life.gone) [
   | inr g ↦ g
-  | inl g ↦ (let x = bare_of p k g in let y : is_some p.life.busy ≡ false = rw x.2 refl in
+  | inl g ↦ (let x = bare_of p k.gone g in let y : is_some p.life.busy ≡ false = rw x.2 refl in
       let z : is_some p.life.busy ≡ true = rw b refl in clash (is_some p.life.busy) z y)
 ]
 
 pub orphan_of_gone : (p : ComponentState) → IsKeptPart p → (s : Step) → is_orphan p.life s ≡ false → p.life.gone ≡ false
 orphan_of_gone p k s o = elim (either p.life.gone) [
   | inr g ↦ g
-  | inl g ↦ (let x = bare_of p k g in
+  | inl g ↦ (let x = bare_of p k.gone g in
       let y : is_orphan p.life s ≡ true = rw x.2 (rw x.3 (grind arith)) in clash (is_orphan p.life s) y o)
 ]
 
@@ -86,17 +71,11 @@ handed_kept = handed_as true
 
 -- ---- the stop of all
 
-ask_gone : (way : Option After) → is_gone way ≡ false → may_ask way (Some after.Gone) ≡ true
-ask_gone way e = grind (arith, e)
-
-ask_none : (way : Option After) → may_ask way None ≡ true
-ask_none way = grind arith
-
 pub left_keeps : (p : ComponentState) → IsKeptPart p → IsKeptPart (leaving p)
 left_keeps p k = go p.life.gone refl (is_gone (under_way p.life)) refl
   where
     go : (g : Bool) → p.life.gone ≡ g → (u : Bool) → is_gone (under_way p.life) ≡ u →
-        IsKeptPart (if g then p else (if u then record p { stop = None; next = None } else record p { stop = Some after.Gone; next = None }))
+        IsKeptPart (left_as g u p)
     go true e u f = k
     go false e true f = record {
       sound = k.sound;

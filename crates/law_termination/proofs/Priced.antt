@@ -16,17 +16,17 @@ use Rattle.components.specs.Lives.{lived, lived_at, drops}
 use Rattle.components.specs.Marks.{may_replan}
 use Rattle.law_supervisor.specs.Sound.{may_ask}
 use Rattle.law_supervisor.proofs.Made.{MayBefall}
+use Rattle.law_supervisor.proofs.Items.{same_children}
+use Rattle.law_supervisor.proofs.Lists.{either, clash, none_of, not_so, changed_nothing}
+use Rattle.law_supervisor.proofs.Alone.{standing}
 use Rattle.law_termination.specs.Rank.{left, owed_weight, start_weight, state_weight, times, sum_by, core_by, weight_by}
 use Rattle.law_termination.proofs.Answered.{unhanded}
 use Rattle.law_termination.proofs.Cores.{core, gain}
 use Rattle.law_termination.proofs.Drops.{drops_at}
 use Rattle.law_termination.proofs.Falls.{falls_at}
-use Rattle.law_termination.proofs.Items.{same_children}
 use Rattle.law_termination.proofs.Leaves.{leaves_at}
-use Rattle.law_termination.proofs.Lists.{either, clash}
 use Rattle.law_termination.proofs.NoDrops.{no_drop}
-use Rattle.law_termination.proofs.Options.{none_of, not_so}
-use Rattle.law_termination.proofs.Sums.{Pays, IsFallingPart, changed_same, standing}
+use Rattle.law_termination.proofs.Sums.{Pays, IsFallingPart}
 use Rattle.law_termination.proofs.Weighed.{AreCheap, Lowers, event_falls, times_less}
 
 abbrev pub total : ℕ → Components → ℕ
@@ -153,9 +153,6 @@ module _ (price n : ℕ) (room : 1000 + 200 * n ≤ price) where
   paid_by : (x y s k l : ℕ) (u : ℕ) → x + price ≤ y + 166 → s ≤ 4 → k ≤ l + 1 → x + (s + 3 * k) + (times n 165 + 1) ≤ y + (u + 3 * l)
   paid_by x y s k l u a b c = let i = small_times n in omega (arith, a, b, c, i, room)
 
-  with_children : (b : Bool) (e : LifeEvent) (p : ComponentState) (ds : List Child) → IsSound p.life → (lived b e (record p { children = ds })).children ≡ ds
-  with_children b e p ds k = same_children b e (record p { children = ds }) k
-
   abbrev Fall : Bool → LifeEvent → ComponentState → List Child → Type 0
   Fall b e p ds = Lowers (weight_by price) 165 n b e (record p { children = ds }) p
 
@@ -165,7 +162,7 @@ module _ (price n : ℕ) (room : 1000 + 200 * n ≤ price) where
       let q = lived false e (record p { children = ds }) in
       let c = core_falls q (record p { children = ds }) (gain e q.life.busy) (falls e (record p { children = ds }) k a m t) (gain_small e q.life.busy) in
       let z = paid e p.life.busy q.life.busy p.children ds y in
-      let v = with_children false e p ds k in
+      let v = same_children false e (record p { children = ds }) in
       record {
         lower = subst (λ (cs : List Child). core_by price q + (start_weight q.life.busy cs + 3 * length cs) + 1 ≤ weight_by price p) (sym v)
             (lower_by (core_by price q) (core_by price p) (start_weight q.life.busy ds) (3 * length ds) (start_weight p.life.busy p.children)
@@ -182,7 +179,7 @@ module _ (price n : ℕ) (room : 1000 + 200 * n ≤ price) where
       let q = lived true e (record p { children = ds }) in
       let c = core_falls q (record p { children = ds }) (gain e q.life.busy) (leaves e (record p { children = ds }) k a m t l) (gain_small e q.life.busy) in
       let z = paid e p.life.busy q.life.busy p.children ds y in
-      let v = with_children true e p ds k in
+      let v = same_children true e (record p { children = ds }) in
       record {
         lower = subst (λ (cs : List Child). core_by price q + (start_weight q.life.busy cs + 3 * length cs) + 1 ≤ weight_by price p) (sym v)
             (lower_by (core_by price q) (core_by price p) (start_weight q.life.busy ds) (3 * length ds) (start_weight p.life.busy p.children)
@@ -200,7 +197,7 @@ module _ (price n : ℕ) (room : 1000 + 200 * n ≤ price) where
 pub plain_falls : (price k : ℕ) (e : LifeEvent) (w : Components) → At k (λ p. Lowers (weight_by price) 165 (length w.parts) w.steady e p p) w.parts →
     total price (lived_at k e w) < total price w
 plain_falls price k e w a = subst (λ (qs : List ComponentState). total price (lived_at k e (record w { parts = qs })) < total price w)
-    (changed_same k w.parts) (event_falls (weight_by price) 165 (cheap price) k w.moment w.steady e (λ p. p) w.parts a)
+    (changed_nothing k w.parts) (event_falls (weight_by price) 165 (cheap price) k w.moment w.steady e (λ p. p) w.parts a)
 
 pub answered_total : (price k : ℕ) (ps : List ComponentState) → sum_by (weight_by price) (changed_at k unhanded ps) ≡ sum_by (weight_by price) ps
 answered_total price k [] = refl

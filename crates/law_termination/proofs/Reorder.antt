@@ -13,13 +13,13 @@ use Rattle.components.specs.Marks.{Flagged, grown, is_flagged}
 use Rattle.components.specs.Turns.{is_met, with_hard_needs, is_held_far, direct_dependents, hard_needs, dependents, coming_needs}
 use Rattle.components.proofs.Closes.{closes, most}
 use Rattle.law_supervisor.specs.Sound.{HaveOwnNames, is_waiting}
+use Rattle.law_supervisor.proofs.Lists.{clash, either, none_of, second_true}
+use Rattle.law_supervisor.proofs.Reached.{firsts_flagged, firsts, firsts_reaching}
 use Rattle.law_termination.specs.Drives.{IsBelow, IsDriven, is_ending}
 use Rattle.law_termination.specs.Kept.{AllBelow, IsKeptPart, IsOrderedPart, are_there, newest}
-use Rattle.law_termination.proofs.Lists.{Has, all_has, clash, each_has, either, has_any, passing}
-use Rattle.law_termination.proofs.Near.{all_of, any_name, closed_flags, firsts_flagged, flag_within, flagged_more, flagged_one, flagged_so, mapped, needs_has}
+use Rattle.law_termination.proofs.Lists.{Has, all_has, each_has, has_any, passing}
+use Rattle.law_termination.proofs.Near.{all_of, any_name, closed_flags, flag_within, flagged_more, flagged_one, flagged_so, mapped, needs_has}
 use Rattle.law_termination.proofs.Near.{of_mapped, one_flag, one_named, or_cases, same_bytes, with_none}
-use Rattle.law_termination.proofs.Options.{none_of, second_true}
-use Rattle.law_termination.proofs.Sums.{firsts, firsts_reaching}
 
 -- ---- one that is not to be stopped
 

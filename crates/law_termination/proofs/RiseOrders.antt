@@ -1,18 +1,20 @@
 -- Needs without a cycle have an order: of each name, how many of the items it reaches.
-use Rattle.std.proofs.Common.{◌≡◌, ◌<◌, ◌≤◌, ◌+◌, ◌⊎◌, ℕ, suc, zero, List, [], ◌∷◌, ◌++◌, length, map, Bool, true, false, refl, sym, ap, ◌∙◌, inl, inr, arith}
+use Rattle.std.proofs.Common.{◌≡◌, ◌<◌, ◌≤◌, ◌⊎◌, ℕ, suc, zero, List, [], ◌∷◌, ◌++◌, length, map, Bool, true, false, refl, sym, ap, ◌∙◌, inl, inr, arith}
 use Rattle.std.proofs.Common.{subst}
 use Rattle.std.specs.Prelude.{◌&&◌, ◌||◌, if◌then◌else◌}
 use Rattle.std.specs.List.{AllByRecursion}
 use Rattle.std.specs.Str.{bytes_eq}
-use Rattle.std.proofs.lemmas.Bool.{and_parts, or_left, or_right}
+use Rattle.std.proofs.lemmas.Bool.{and_parts, or_right}
 use Rattle.std.proofs.lemmas.Slice.Eq.{bytes_eq-Decides}
 use Rattle.nuc_base.specs.Leads.{Leads}
 use Rattle.components.specs.Changes.{fresh_part}
 use Rattle.components.specs.Components.{ComponentState, component_name}
 use Rattle.components.specs.Fitted.{Fitted, name_of}
-use Rattle.components.specs.Marks.{Flagged, Within, flagged, grown, is_flagged, needs_flagged, reaching}
+use Rattle.components.specs.Marks.{Flagged, flagged, grown, is_flagged, needs_flagged, reaching}
 use Rattle.components.proofs.Closes.{closes, most}
-use Rattle.law_termination.proofs.Lists.{Has, either}
+use Rattle.law_supervisor.proofs.Lists.{either}
+use Rattle.law_termination.proofs.Lists.{Has}
+use Rattle.law_termination.proofs.Near.{HasFlag, closed_flags, flag_within, flagged_more, needs_has, or_cases, same_bytes}
 
 -- what an item needs, hard or soft
 abbrev pub needs_of : Fitted → List (List ℕ)
@@ -41,13 +43,6 @@ reach_of t items = reaching (length (first_of t items)) (first_of t items)
 abbrev reaches : List Fitted → List ℕ → List ℕ → Bool
 reaches items a t = is_flagged a (reach_of t items)
 
-same_bytes : (a : List ℕ) → bytes_eq a a ≡ true
-same_bytes a = (bytes_eq-Decides a a).1 refl
-
-or_cases : (a b : Bool) → (a || b) ≡ true → (a ≡ true) ⊎ (b ≡ true)
-or_cases true b e = inl refl
-or_cases false b e = inr e
-
 -- ---- an item reaches itself
 
 flagged_has : (f : Fitted) (items : List Fitted) (t : List ℕ) → Has f items → name_of f ≡ t → is_flagged (name_of f) (first_of t items) ≡ true
@@ -58,51 +53,11 @@ flagged_has f (g ∷ gs) t (inl q) e = subst (λ (z : Fitted). ((bytes_eq (name_
 flagged_has f (g ∷ gs) t (inr h) e = or_right (bytes_eq (name_of g) t && bytes_eq (name_of g) (name_of f)) (is_flagged (name_of f) (first_of t gs))
     (flagged_has f gs t h e)
 
-flagged_more : (n : List ℕ) (fs hs : Flagged) → Within fs hs → is_flagged n fs ≡ true → is_flagged n hs ≡ true
-flagged_more n [] [] w e = e
-flagged_more n [] (h ∷ hs) w e = absurd w
-flagged_more n (f ∷ fs) [] w e = absurd w
-flagged_more n (f ∷ fs) (h ∷ hs) w e = elim (or_cases (f.1 && bytes_eq (component_name f.0) n) (is_flagged n fs) e) [
-  | inl a ↦ (let b = and_parts f.1 (bytes_eq (component_name f.0) n) a in
-      or_left (h.1 && bytes_eq (component_name h.0) n) (is_flagged n hs)
-      (rw (w.1 b.0) (sym (ap (λ (p : ComponentState). bytes_eq (component_name p) n) w.0) ∙ b.1)))
-  | inr a ↦ or_right (h.1 && bytes_eq (component_name h.0) n) (is_flagged n hs) (flagged_more n fs hs w.2 a)
-]
-
 reaches_self : (items : List Fitted) (f : Fitted) → Has f items → reaches items (name_of f) (name_of f) ≡ true
 reaches_self items f h = flagged_more (name_of f) (first_of (name_of f) items) (reach_of (name_of f) items)
     (most (length (first_of (name_of f) items)) (first_of (name_of f) items)) (flagged_has f items (name_of f) h refl)
 
 -- ---- who needs what reaches, reaches
-
-abbrev HasFlag : ComponentState → Flagged → Type 0
-HasFlag p [] = ⊥
-HasFlag p (f ∷ fs) = (p ≡ f.0) ⊎ HasFlag p fs
-
-needs_has : (n : List ℕ) (ns : List (List ℕ)) (fs : Flagged) → Has n ns → is_flagged n fs ≡ true → needs_flagged ns fs ≡ true
-needs_has n [] fs h e = absurd h
-needs_has n (m ∷ ms) fs (inl q) e = or_left (is_flagged m fs) (needs_flagged ms fs) (subst (λ (z : List ℕ). is_flagged z fs ≡ true) q e)
-needs_has n (m ∷ ms) fs (inr h) e = or_right (is_flagged m fs) (needs_flagged ms fs) (needs_has n ms fs h e)
-
--- in what is closed, whoever needs a flagged one has a flag
-closed_flags : (all fs : Flagged) (p : ComponentState) → grown all fs ≡ fs → HasFlag p fs → needs_flagged p.fitted.hard all ≡ true →
-    is_flagged (component_name p) fs ≡ true
-closed_flags all [] p c h e = absurd h
-closed_flags all (f ∷ fs) p c (inl q) e =
-    let one : (f.1 || needs_flagged f.0.fitted.hard all) ≡ f.1 = ap (λ (gs : Flagged). elim gs [ [] ↦ false | ◌∷◌ g gs ↦ g.1 ]) c in
-    let has : f.1 ≡ true = sym one ∙ or_right f.1 (needs_flagged f.0.fitted.hard all)
-    (subst (λ (z : ComponentState). needs_flagged z.fitted.hard all ≡ true) q e) in
-    or_left (f.1 && bytes_eq (component_name f.0) (component_name p)) (is_flagged (component_name p) fs)
-    (rw has (subst (λ (z : ComponentState). bytes_eq (component_name z) (component_name p) ≡ true) q (same_bytes (component_name p))))
-closed_flags all (f ∷ fs) p c (inr h) e = or_right (f.1 && bytes_eq (component_name f.0) (component_name p)) (is_flagged (component_name p) fs)
-    (closed_flags all fs p (ap (λ (gs : Flagged). elim gs [ [] ↦ [] | ◌∷◌ g gs ↦ gs ]) c) h e)
-
-flag_within : (p : ComponentState) (fs hs : Flagged) → Within fs hs → HasFlag p fs → HasFlag p hs
-flag_within p [] [] w h = h
-flag_within p [] (g ∷ hs) w h = absurd w
-flag_within p (f ∷ fs) [] w h = absurd w
-flag_within p (f ∷ fs) (g ∷ hs) w (inl q) = inl (q ∙ w.0)
-flag_within p (f ∷ fs) (g ∷ hs) w (inr h) = inr (flag_within p fs hs w.2 h)
 
 first_has : (f : Fitted) (items : List Fitted) (t : List ℕ) → Has f items → HasFlag (part_of f) (first_of t items)
 first_has f [] t h = absurd h

@@ -1,5 +1,5 @@
 -- What progress says of what is kept; the end of a deployment, and the stop of all.
-use Rattle.std.proofs.Common.{◌≡◌, ◌⊎◌, ◌<◌, ◌+◌, ◌-◌, ◌^◌, ℕ, List, [], ◌∷◌, Option, Some, None, Bool, true, false, refl, sym, inl, inr, arith, subst, ap}
+use Rattle.std.proofs.Common.{◌≡◌, ◌⊎◌, ◌<◌, ◌+◌, ◌^◌, ℕ, List, [], ◌∷◌, Option, Some, None, Bool, true, false, refl, sym, inl, inr, arith, subst, ap}
 use Rattle.std.proofs.Common.{◌∙◌, ◌++◌, map, is_some}
 use Rattle.std.specs.Prelude.{IfSome, ◌&&◌, not, if◌then◌else◌, ◌||◌, option_map}
 use Rattle.std.specs.List.{list_all, AllByRecursion}
@@ -16,18 +16,19 @@ use Rattle.components.specs.Deadlines.{child_deadline, earlier, least_deadline, 
 use Rattle.components.specs.Fitted.{Fitted, name_of}
 use Rattle.components.specs.Turns.{IsQuiet, hard_needs, coming_needs, is_met}
 use Rattle.law_supervisor.specs.Sound.{HaveOwnNames, is_to_begin_again, is_waiting}
+use Rattle.law_supervisor.proofs.Alone.{bare_of}
 use Rattle.law_supervisor.proofs.Together.{same_names}
+use Rattle.law_supervisor.proofs.Lists.{clash, either, second_true}
 use Rattle.law_termination.specs.Drives.{IsInTime, IsDriven, Drives, IsBelow, is_ending, HasItemToTake, GoesOn, has_failed}
 use Rattle.law_termination.specs.Kept.{IsKeptPart, IsComing}
 use Rattle.law_termination.specs.Time.{HasTime}
 use Rattle.law_termination.proofs.Befalls.{any, same_order, sources}
 use Rattle.law_termination.proofs.Carried.{AreCarried, IsSource, carried_still}
 use Rattle.law_termination.proofs.Goes.{begin_goes, stop_goes}
-use Rattle.law_termination.proofs.Lists.{Has, clash, either}
+use Rattle.law_termination.proofs.Lists.{Has}
 use Rattle.law_termination.proofs.Near.{all_more, all_joined, all_front, all_own}
-use Rattle.law_termination.proofs.Options.{second_true}
 use Rattle.law_termination.proofs.Orders.{left_ordered, view}
-use Rattle.law_termination.proofs.Parts.{bare_of, left_keeps}
+use Rattle.law_termination.proofs.Parts.{left_keeps}
 use Rattle.law_termination.proofs.Still.{IsStill, next_hard}
 
 earlier_in_time : (a b : Option ℕ) → IfSome a (λ d. d < 2 ^ 62) → IfSome b (λ d. d < 2 ^ 62) → IfSome (earlier a b) (λ d. d < 2 ^ 62)
@@ -166,7 +167,7 @@ met_left (p ∷ ps) n = let x = left_is p in
 -- one that is gone takes no item
 pub gone_apart : (p : ComponentState) → IsKeptPart p → p.life.gone ≡ true → is_some (leaving p).next ≡ false
 gone_apart p k g =
-    let b = bare_of p k g in
+    let b = bare_of p k.gone g in
     let n : is_some p.next ≡ false = elim (either (is_some p.next)) [
       | inl y ↦ clash (is_again p.stop || is_again (under_way p.life)) (second_true (not (is_waiting p)) (is_again p.stop
           || is_again (under_way p.life)) k.waits (rw y refl)) (rw b.0 (rw b.1 refl))

@@ -23,19 +23,20 @@ use Rattle.components.specs.Lives.{lived, lived_at, drops_at as drops_in}
 use Rattle.components.specs.Marks.{Flagged, flagged_at, reaching, marked, restarted, may_restart}
 use Rattle.components.specs.Turns.{may_begin, may_retry, may_stop, is_begun, is_met, serves_softly}
 use Rattle.law_supervisor.proofs.Made.{MayBefall, begins}
+use Rattle.law_supervisor.proofs.Gone.{owner_at}
+use Rattle.law_supervisor.proofs.Alone.{bare_of, begins_alone}
+use Rattle.law_supervisor.proofs.Lists.{either, clash, some_same, not_so, changed_nothing}
+use Rattle.law_supervisor.proofs.Reached.{firsts_reaching, firsts_at}
 use Rattle.law_termination.specs.Kept.{IsKeptPart}
 use Rattle.law_termination.proofs.Answered.{unhanded, plainly_started, started_is, answered_all, answered_length, answered_begun, handed_all}
-use Rattle.law_termination.proofs.Children.{owner_at}
-use Rattle.law_termination.proofs.Keeps.{Known, stays_known, begins_bare, event_known, changed_known, gone_known, end_known, launch_known, child_known}
-use Rattle.law_termination.proofs.Lists.{either, clash}
-use Rattle.law_termination.proofs.Options.{some_same, not_so}
-use Rattle.law_termination.proofs.Parts.{bare_of, unhanded_kept}
-use Rattle.law_termination.proofs.Sums.{at_self, at_map, at_both, changed_same, length_changed, length_firsts, firsts_reaching, firsts_at}
+use Rattle.law_termination.proofs.Keeps.{Known, stays_known, event_known, changed_known, gone_known, end_known, launch_known, child_known}
+use Rattle.law_termination.proofs.Parts.{unhanded_kept}
+use Rattle.law_termination.proofs.Sums.{at_self, at_map, at_both, length_changed, length_firsts}
 
 plain_known : (d : Bool) (k : ℕ) (e : LifeEvent) (w : Components) → AllByRecursion (Known d) w.parts → At k (λ p. Known d (lived w.steady e p)) w.parts →
     AllByRecursion (Known d) (lived_at k e w).parts
 plain_known d k e w a c = subst (λ (qs : List ComponentState). AllByRecursion (Known d) (lived_at k e (record w { parts = qs })).parts)
-    (changed_same k w.parts) (event_known k w.moment d w.steady e (λ p. p) w.parts a c)
+    (changed_nothing k w.parts) (event_known k w.moment d w.steady e (λ p. p) w.parts a c)
 
 module _ (d : Bool) (w : Components) (all : AllByRecursion (Known d) w.parts) where
   abbrev AllKnown : Components → Type 0
@@ -51,7 +52,7 @@ module _ (d : Bool) (w : Components) (all : AllByRecursion (Known d) w.parts) wh
       let y = and_parts (is_awaited event.MayBegin p.life && not (is_to_stop p)) (list_all (is_met stands_up w.parts) p.fitted.hard &&
       list_all (is_met serves_softly w.parts) p.fitted.soft) m in
       let z = and_parts (is_awaited event.MayBegin p.life) (not (is_to_stop p)) y.0 in
-      stays_known d w.steady event.MayBegin p x (not_so (is_to_stop p) z.1) (begins_bare p x.0.sound (not_so (is_to_stop p) z.1) z.0)) a)
+      stays_known d w.steady event.MayBegin p x (not_so (is_to_stop p) z.1) (begins_alone p x.0.sound.runs (not_so (is_to_stop p) z.1) z.0)) a)
   move_known k event.Retry a = plain_known d k event.Retry w all (known_at k (λ p. may_retry p ≡ true) (λ p. Known d (lived w.steady event.Retry p)) (λ p x m.
       let z = and_parts (is_awaited event.Retry p.life) (not (is_to_stop p)) m in
       stays_known d w.steady event.Retry p x (not_so (is_to_stop p) z.1) refl) a)
@@ -129,7 +130,7 @@ module _ (d : Bool) (w : Components) (all : AllByRecursion (Known d) w.parts) wh
   stands_begun : (p : ComponentState) (t : Step) → IsKeptPart p → is_begun t p ≡ true → p.life.gone ≡ false
   stands_begun p t k m = elim (either p.life.gone) [
     | inr g ↦ g
-    | inl g ↦ (let x = bare_of p k g in
+    | inl g ↦ (let x = bare_of p k.gone g in
         let y : is_busy_with t p.life.busy ≡ false = rw x.2 refl in
         clash (is_busy_with t p.life.busy) (and_parts (is_busy_with t p.life.busy) (not (list_any (λ (c : Child). is_same_step t c.of) p.children)) m).0 y)
   ]

@@ -21,14 +21,16 @@ use Rattle.components.specs.Turns.{hard_needs, coming_needs}
 use Rattle.law_supervisor.specs.Sound.{may_ask}
 use Rattle.law_supervisor.proofs.KeptTakes.{takes_at}
 use Rattle.law_supervisor.proofs.Made.{MayBefall}
+use Rattle.law_supervisor.proofs.Items.{by_lived, lived_gone}
+use Rattle.law_supervisor.proofs.Reached.{idle_of, may_replan_of}
+use Rattle.law_supervisor.proofs.Lists.{clash, either}
+use Rattle.law_supervisor.proofs.Alone.{standing}
 use Rattle.law_termination.specs.Drives.{IsInTime, HasItemToTake, is_ending}
 use Rattle.law_termination.specs.Kept.{IsComing, IsKeptPart, newest}
-use Rattle.law_termination.proofs.Items.{by_lived}
-use Rattle.law_termination.proofs.Keeps.{idle_of, lived_gone, lived_leaving, may_replan_of}
-use Rattle.law_termination.proofs.Lists.{Has, clash, either}
+use Rattle.law_termination.proofs.Keeps.{lived_leaving}
+use Rattle.law_termination.proofs.Lists.{Has}
 use Rattle.law_termination.proofs.Near.{all_back, all_front, all_joined, all_own}
 use Rattle.law_termination.proofs.Orders.{view}
-use Rattle.law_termination.proofs.Sums.{standing}
 
 -- ---- rows of the table
 
@@ -246,7 +248,7 @@ module _ (b : Bool) (e : LifeEvent) (p : ComponentState) (cs : List Child) (h : 
     pub shown_lived : view (lived b e (among cs h p)) ≡ view p
     shown_lived =
         let q = lived b e (among cs h p) in
-        let x = by_lived (λ f nx st ds. (name_of f ≡ component_name p) × ((elim nx [ None ↦ f | Some n ↦ n.0 ]) ≡ newest p)) b e (among cs h p) k.sound (
+        let x = by_lived (λ f nx st ds. (name_of f ≡ component_name p) × ((elim nx [ None ↦ f | Some n ↦ n.0 ]) ≡ newest p)) b e (among cs h p) (
           (refl, refl),
           λ n y. (
             (let c : IsComing (component_name p) n = subst (λ (o : Option (Fitted × ℕ)). IfSome o (IsComing (component_name p))) y
@@ -259,7 +261,7 @@ module _ (b : Bool) (e : LifeEvent) (p : ComponentState) (cs : List Child) (h : 
 
     pub apart_lived : (is_some p.next && is_leaving p) ≡ false → (is_some (lived b e (among cs h p)).next && is_leaving (lived b e (among cs h p))) ≡ false
     apart_lived a =
-        let x = by_lived (λ f nx st ds. (is_some nx && is_leaving p) ≡ false) b e (among cs h p) k.sound (a, λ n y. refl) in
+        let x = by_lived (λ f nx st ds. (is_some nx && is_leaving p) ≡ false) b e (among cs h p) (a, λ n y. refl) in
         ap (λ (l : Bool). is_some (lived b e (among cs h p)).next && l) leaving_lived ∙ x
 
     pub takes_lived : HasItemToTake p → HasItemToTake (lived b e (among cs h p))
@@ -272,7 +274,7 @@ module _ (b : Bool) (e : LifeEvent) (p : ComponentState) (cs : List Child) (h : 
 
     pub in_time_lived : (AllByRecursion IsInTime p.children → AllByRecursion IsInTime cs) → AllByRecursion IsInTime p.children →
         AllByRecursion IsInTime (lived b e (among cs h p)).children
-    in_time_lived f a = let x = by_lived (λ g nx st ds. ds ≡ cs) b e (among cs h p) k.sound (refl, λ n y. refl) in
+    in_time_lived f a = let x = by_lived (λ g nx st ds. ds ≡ cs) b e (among cs h p) (refl, λ n y. refl) in
         subst (λ (ds : List Child). AllByRecursion IsInTime ds) (sym x) (f a)
 
     -- any event but a stop with Again or Gone

@@ -1,34 +1,14 @@
 -- What falls in one component falls in all, with the marks that it brings.
-use Rattle.std.proofs.Common.{◌≡◌, ◌≤◌, ◌+◌, ◌*◌, ℕ, suc, zero, List, [], ◌∷◌, length, Option, Bool, true, false, refl, sym, ap, ◌∙◌, ◌⊎◌, arith, subst, Some}
+use Rattle.std.proofs.Common.{◌≡◌, ◌≤◌, ◌+◌, ◌*◌, ℕ, suc, zero, List, [], ◌∷◌, length, Option, Bool, true, false, refl, ap, ◌⊎◌, Some}
 use Rattle.std.proofs.Common.{slice_get}
 use Rattle.std.specs.List.{AllByRecursion}
 use Rattle.nuc_base.specs.declared.kinds.Step.{Step}
 use Rattle.lifecycle.specs.declared.kinds.LifeEvent.{LifeEvent}
 use Rattle.components.specs.Components.{ComponentState, Child, At, changed_at, is_leaving}
-use Rattle.components.specs.Marks.{Flagged, flagged, flagged_at, grown, reaching}
+use Rattle.components.specs.Marks.{Flagged}
+use Rattle.law_supervisor.proofs.Reached.{firsts}
 use Rattle.law_termination.specs.Rank.{start_weight}
 use Rattle.law_termination.proofs.Cores.{gain}
-
-abbrev pub firsts : Flagged → List ComponentState
-firsts [] = []
-firsts (f ∷ fs) = f.0 ∷ firsts fs
-
-firsts_grown : (all fs : Flagged) → firsts (grown all fs) ≡ firsts fs
-firsts_grown all [] = refl
-firsts_grown all (f ∷ fs) = ap (λ (ps : List ComponentState). f.0 ∷ ps) (firsts_grown all fs)
-
-pub firsts_reaching : (n : ℕ) (fs : Flagged) → firsts (reaching n fs) ≡ firsts fs
-firsts_reaching zero fs = refl
-firsts_reaching (suc n) fs = firsts_reaching n (grown fs fs) ∙ firsts_grown fs fs
-
-firsts_none : (ps : List ComponentState) → firsts (flagged (λ q. false) ps) ≡ ps
-firsts_none [] = refl
-firsts_none (p ∷ ps) = ap (λ (qs : List ComponentState). p ∷ qs) (firsts_none ps)
-
-pub firsts_at : (k : ℕ) (ps : List ComponentState) → firsts (flagged_at k ps) ≡ ps
-firsts_at k [] = refl
-firsts_at zero (p ∷ ps) = ap (λ (qs : List ComponentState). p ∷ qs) (firsts_none ps)
-firsts_at (suc k) (p ∷ ps) = ap (λ (qs : List ComponentState). p ∷ qs) (firsts_at k ps)
 
 pub length_firsts : (fs : Flagged) → length (firsts fs) ≡ length fs
 length_firsts [] = refl
@@ -58,19 +38,6 @@ pub at_self : (k : ℕ) (ps : List ComponentState) (P : ComponentState → Type 
 at_self k [] P a = absurd a
 at_self zero (p ∷ ps) P a = (a, refl)
 at_self (suc k) (p ∷ ps) P a = at_self k ps P a
-
-pub twice : (k : ℕ) (g h : ComponentState → ComponentState) (ps : List ComponentState) → changed_at k g (changed_at k h ps) ≡ changed_at k (λ p. g (h p)) ps
-twice k g h [] = refl
-twice zero g h (p ∷ ps) = refl
-twice (suc k) g h (p ∷ ps) = ap (λ (qs : List ComponentState). p ∷ qs) (twice k g h ps)
-
-pub changed_same : (k : ℕ) (ps : List ComponentState) → changed_at k (λ p. p) ps ≡ ps
-changed_same k [] = refl
-changed_same zero (p ∷ ps) = refl
-changed_same (suc k) (p ∷ ps) = ap (λ (qs : List ComponentState). p ∷ qs) (changed_same k ps)
-
-pub standing : (P : ComponentState → Type 0) (p : ComponentState) → p.life.gone ≡ false → P (record p { life = record p.life { gone = false } }) → P p
-standing P p e x = subst (λ (g : Bool). P (record p { life = record p.life { gone = g } })) (sym e) x
 
 -- what becomes of the children is paid: by the event, or by themselves
 abbrev pub Pays : LifeEvent → Option Step → List Child → List Child → Type 0

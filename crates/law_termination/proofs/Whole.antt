@@ -1,20 +1,19 @@
 -- What is kept of each, and what the next act makes of all, however many there are.
 use Rattle.std.proofs.Common.{◌≡◌, ◌<◌, ◌≤◌, ℕ, List, [], ◌∷◌, Option, Some, None, Bool, true, false, refl, sym, ◌∙◌, inl, inr, arith, subst}
-use Rattle.std.specs.Prelude.{if◌then◌else◌}
 use Rattle.std.specs.List.{list_all, AllByRecursion}
 use Rattle.std.proofs.lemmas.Bool.{and_parts}
 use Rattle.nuc_base.specs.declared.kinds.Exit.{Exit}
 use Rattle.nuc_base.specs.declared.kinds.Step.{Step}
-use Rattle.nuc_base.specs.declared.kinds.Step.TheVariants as step
 use Rattle.lifecycle.specs.declared.kinds.LifeEvent.{LifeEvent}
-use Rattle.lifecycle.specs.declared.kinds.LifeEvent.TheVariants as event
 use Rattle.components.specs.Acts.{MayMove, MayKill, OwesAt, NextAct, Quietly, HandsOut, Move}
-use Rattle.components.specs.Components.{Components, ComponentState, At, owner, is_leaving, child_gone}
-use Rattle.components.specs.Events.{handed_at, started, refused, skipped, ended, killed, gone_by, kill_event_at, is_orphan_at, told_at, later}
+use Rattle.components.specs.Components.{Components, ComponentState, At, owner, is_leaving}
+use Rattle.components.specs.Events.{handed_at, started, refused, skipped, ended, killed, told_at, later}
 use Rattle.components.specs.Lives.{lived_at}
 use Rattle.components.specs.Turns.{is_begun}
 use Rattle.components.specs.declared.kinds.Act.{Act}
 use Rattle.components.specs.declared.kinds.Act.TheVariants as acts
+use Rattle.law_supervisor.proofs.Begun.{started_steady}
+use Rattle.law_supervisor.proofs.Gone.{ended_steady, killed_steady}
 use Rattle.law_termination.specs.Kept.{IsKeptPart, IsFalling, is_done, AreKept, StaysKept}
 use Rattle.law_termination.specs.Rank.{rank}
 use Rattle.law_termination.proofs.Keeps.{Known}
@@ -44,41 +43,18 @@ keep_from w v s f a = record {
   falling = λ g. elim g [ inl y ↦ inl (s ∙ y) | inr y ↦ inr (all_leave v.parts (f true (leaving w.parts a y))) ];
 }
 
-steady_gone_by : (o : Option LifeEvent) (k : ℕ) (s : Step) (n : ℕ) (w : Components) → (gone_by o k s n w).steady ≡ w.steady
-steady_gone_by None k s n w = refl
-steady_gone_by (Some e) k s n w = elim (is_orphan_at k s w) as (λ (b : Bool). (let v : Components =
-    (if b then child_gone k n w else lived_at k e (child_gone k n w)) in v.steady ≡ w.steady)) [ true ↦ refl | false ↦ refl ]
-
-steady_ended : (n : ℕ) (x : Exit) (w : Components) → (ended n x w).steady ≡ w.steady
-steady_ended n x w = elim (owner n w.parts) as (λ (o : Option (ℕ × Step)). (let v : Components =
-    (elim o [ None ↦ w | Some y ↦ gone_by (Some (event.Ended y.1 x)) y.0 y.1 n w ]) in v.steady ≡ w.steady))
-    [ None ↦ refl | Some y ↦ steady_gone_by (Some (event.Ended y.1 x)) y.0 y.1 n w ]
-
-steady_killed : (n : ℕ) (w : Components) → (killed n w).steady ≡ w.steady
-steady_killed n w = elim (owner n w.parts) as (λ (o : Option (ℕ × Step)). (let v : Components =
-    (elim o [ None ↦ w | Some y ↦ gone_by (kill_event_at y.0 y.1 n w) y.0 y.1 n w ]) in v.steady ≡ w.steady))
-    [ None ↦ refl | Some y ↦ steady_gone_by (kill_event_at y.0 y.1 n w) y.0 y.1 n w ]
-
-steady_started : (k n : ℕ) (t : Step) (w : Components) → (started k t n w).steady ≡ w.steady
-steady_started k n step.Install w = refl
-steady_started k n step.Run w = refl
-steady_started k n step.Startup w = refl
-steady_started k n step.Shutdown w = refl
-steady_started k n step.Recover w = refl
-steady_started k n step.Bootstrap w = refl
-
 module _ (w : Components) (a : AreKept w) where
   pub move_keeps : (k : ℕ) (e : LifeEvent) → MayMove w k e → StaysKept w (lived_at k e w)
   move_keeps k e m = keep_from w (lived_at k e w) refl (λ d x. move_known d w x k e m) a
 
   pub kill_keeps : (n k : ℕ) (s : Step) → MayKill w n k s → StaysKept w (killed n w)
-  kill_keeps n k s m = keep_from w (killed n w) (steady_killed n w) (λ d x. killed_known d w x n k s m) a
+  kill_keeps n k s m = keep_from w (killed n w) (killed_steady n w) (λ d x. killed_known d w x n k s m) a
 
   pub told_keeps : (k : ℕ) (s : Step) (x : Exit) (b : Bool) → OwesAt w k s x b → StaysKept w (told_at k w)
   told_keeps k s x b m = keep_from w (told_at k w) refl (λ d y. told_known d w y k s x b m) a
 
   pub start_keeps : (k n : ℕ) (s : Step) → At k (λ p. is_begun s p ≡ true) w.parts → StaysKept w (started k s n w)
-  start_keeps k n s m = keep_from w (started k s n w) (steady_started k n s w) (λ d x. started_known d w x k n s m) a
+  start_keeps k n s m = keep_from w (started k s n w) (started_steady k s n w) (λ d x. started_known d w x k n s m) a
 
   pub refuse_keeps : (k : ℕ) (s : Step) → At k (λ p. is_begun s p ≡ true) w.parts → StaysKept w (refused k s w)
   refuse_keeps k s m = keep_from w (refused k s w) refl (λ d x. refused_known d w x k s m) a
@@ -87,7 +63,7 @@ module _ (w : Components) (a : AreKept w) where
   skip_keeps k s m = keep_from w (skipped k w) refl (λ d x. skipped_known d w x k s m) a
 
   pub end_keeps : (n : ℕ) (x : Exit) (k : ℕ) (s : Step) → owner n w.parts ≡ Some (k, s) → StaysKept w (ended n x w)
-  end_keeps n x k s m = keep_from w (ended n x w) (steady_ended n x w) (λ d y. ended_known d w y n x k s m) a
+  end_keeps n x k s m = keep_from w (ended n x w) (ended_steady n x w) (λ d y. ended_known d w y n x k s m) a
 
   pub later_keeps : (m : ℕ) → StaysKept w (later m w)
   later_keeps m = keep_from w (later m w) refl (λ d x. x) a

@@ -1,5 +1,5 @@
 -- Items of worked rows: their steps end, and components have names of their own.
-use Rattle.std.proofs.Common.{◌≡◌, ◌≤◌, ℕ, suc, zero, List, [], ◌∷◌, Option, Some, None, is_some, Bool, true, false, refl, sym, ap, ◌∙◌, arith, subst}
+use Rattle.std.proofs.Common.{◌≡◌, ◌≤◌, ℕ, suc, zero, List, [], ◌∷◌, Option, Some, None, is_some, Bool, true, false, refl, sym, ap, ◌∙◌, subst}
 use Rattle.std.proofs.Common.{slice_get}
 use Rattle.std.specs.Prelude.{◌&&◌, ◌||◌, not, IfSome, ⊤}
 use Rattle.std.specs.List.{list_any}
@@ -13,10 +13,10 @@ use Rattle.components.specs.Components.{ComponentState, component_name}
 use Rattle.components.specs.Fitted.{Fitted, limit_of, prepared_of, steps_of}
 use Rattle.components.specs.declared.kinds.Prepared.{Prepared}
 use Rattle.law_supervisor.specs.Sound.{HaveOwnNames}
+use Rattle.law_supervisor.proofs.Lists.{clash, some_same, not_so}
 use Rattle.law_termination.specs.Kept.{IsRunnable}
-use Rattle.law_termination.proofs.Lists.{any_has, clash}
+use Rattle.law_termination.proofs.Lists.{any_has}
 use Rattle.law_termination.proofs.Near.{has_at, same_bytes}
-use Rattle.law_termination.proofs.Options.{some_same, not_so}
 
 abbrev pub IsLater : Option ℕ → Type 0
 IsLater o = IfSome o (λ l. 1 ≤ l)

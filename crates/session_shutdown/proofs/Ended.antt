@@ -20,7 +20,8 @@ use Rattle.session_acts.proofs.Entering.{never}
 use Rattle.session_shutdown.specs.Leaves.{Leaves}
 use Rattle.session_shutdown.specs.Runs.{IsAtTurnStart, IsGoing}
 use Rattle.session_shutdown.specs.Stops.{MayStop}
-use Rattle.session_shutdown.proofs.ReadClock.{stopped_answered, stopped_owner}
+use Rattle.law_supervisor.proofs.Stopped.{stopped_owner}
+use Rattle.session_shutdown.proofs.Asked.{stopped_answered}
 
 goes : (d : Duty) (f : Phase) (c : Generation) (p : SessionState) → MayStopAll d f c p → IsGoing f (if is_idle f then shutting_down else draining)
 goes d idle c p may = refl

@@ -1,7 +1,6 @@
 mod KeptLeaving
 mod Leaving
-mod Gone
-mod ReadClock
+mod Asked
 mod Entering
 mod Waiting
 mod Turning

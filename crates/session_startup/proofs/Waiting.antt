@@ -81,7 +81,8 @@ wait_kept laws = record {
   ended = λ p e k t may is s. record { on = on_ran p e k t s.on; keeps = ended_keeps laws p e.seen k t may is s.keeps };
 }
 
-pub wait_left : Laws → (p : SessionState) (d : Device) → p.device ≡ d → IsOn p → Keeps p.device p.world → {old new : Option (List RunnerEntry)} {world : Components}
+pub wait_left : Laws → (p : SessionState) (d : Device) → p.device ≡ d → IsOn p → Keeps p.device p.world → {old new : Option (List RunnerEntry)}
+    {world : Components}
     {told : Told} {living : List ℕ} → ((e : TraceEvent) × WaitsOnce p e old new × turn.IsAtTurnStart (leaves p e) p.device world told living) →
     (h : List TraceEvent) × Acts p h old new × IsAtTurnStart (state_after p h) d world told living
 wait_left laws p d is on keeps {world = world} {told = told} {living = living} x =

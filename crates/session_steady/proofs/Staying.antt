@@ -1,21 +1,20 @@
 -- What a call that tells a supervisor what befell keeps, and what it makes of the number of a turn.
-use Rattle.std.proofs.Common.{◌≡◌, ◌<◌, ◌+◌, ◌^◌, ℕ, List, [], ◌∷◌, Option, Some, None, Bool, true, false, inl, inr, refl, sym, ap, ◌∙◌, arith, subst}
-use Rattle.std.specs.Prelude.{IsSome, if◌then◌else◌}
+use Rattle.std.proofs.Common.{◌≡◌, ◌<◌, ◌+◌, ◌^◌, ℕ, List, [], ◌∷◌, Option, Some, None, true, inl, inr, refl, sym, ap, ◌∙◌, arith, subst}
+use Rattle.std.specs.Prelude.{IsSome}
 use Rattle.nuc_base.specs.declared.kinds.Exit.{Exit}
 use Rattle.nuc_base.specs.declared.kinds.Step.{Step}
-use Rattle.nuc_base.specs.declared.kinds.Step.TheVariants as step
-use Rattle.lifecycle.specs.declared.kinds.LifeEvent.{LifeEvent}
-use Rattle.lifecycle.specs.declared.kinds.LifeEvent.TheVariants as event
 use Rattle.components.specs.Acts.{HandsOut, Move, NextAct, Quietly}
 use Rattle.components.specs.Answers.{HasHanded}
-use Rattle.components.specs.Components.{At, Components, child_gone, owner}
-use Rattle.components.specs.Events.{ended, gone_by, is_orphan_at, kill_event_at, killed, later, launched, refused, skipped, started}
+use Rattle.components.specs.Components.{At, Components, owner}
+use Rattle.components.specs.Events.{ended, later, refused, skipped, started}
 use Rattle.components.specs.Lives.{lived_at}
 use Rattle.components.specs.Turns.{is_begun}
 use Rattle.components.specs.declared.kinds.Act.{Act}
 use Rattle.components.specs.declared.kinds.Act.TheVariants as acts
 use Rattle.components.specs.declared.kinds.Event.TheVariants.{Started, Refused, Skipped, Ended}
 use Rattle.components.proofs.Platforms.{run_next, run_noticed}
+use Rattle.law_supervisor.proofs.Begun.{started_steady}
+use Rattle.law_supervisor.proofs.Gone.{ended_steady, killed_steady}
 use Rattle.law_termination.specs.Drives.{Drives}
 use Rattle.law_termination.specs.Kept.{is_done}
 use Rattle.law_termination.proofs.Events.{end_on, later_on, next_on, refuse_on, skip_on, start_on}
@@ -30,39 +29,6 @@ use Rattle.session_steady.specs.Stays.{Calms, IsNoWilder, Stays}
 
 -- ---- events leave the mode
 
-mode_launched : (s : Step) (k : ℕ) (w : Components) → (launched s k w).steady ≡ w.steady
-mode_launched step.Install k w = refl
-mode_launched step.Run k w = refl
-mode_launched step.Startup k w = refl
-mode_launched step.Shutdown k w = refl
-mode_launched step.Recover k w = refl
-mode_launched step.Bootstrap k w = refl
-
-mode_started : (k : ℕ) (s : Step) (n : ℕ) (w : Components) → (started k s n w).steady ≡ w.steady
-mode_started k s n w = mode_launched s k _
-
-mode_gone : (o : Option LifeEvent) (k : ℕ) (s : Step) (n : ℕ) (w : Components) → (gone_by o k s n w).steady ≡ w.steady
-mode_gone None k s n w = refl
-mode_gone (Some e) k s n w = by (is_orphan_at k s w)
-  where
-    by : (b : Bool) → (if b then child_gone k n w else lived_at k e (child_gone k n w)).steady ≡ w.steady
-    by true = refl
-    by false = refl
-
-mode_killed : (n : ℕ) (w : Components) → (killed n w).steady ≡ w.steady
-mode_killed n w = by (owner n w.parts)
-  where
-    by : (o : Option (ℕ × Step)) → (elim o as (λ x. Components) [ None ↦ w | Some o ↦ gone_by (kill_event_at o.0 o.1 n w) o.0 o.1 n w ]).steady ≡ w.steady
-    by None = refl
-    by (Some o) = mode_gone (kill_event_at o.0 o.1 n w) o.0 o.1 n w
-
-mode_ended : (n : ℕ) (x : Exit) (w : Components) → (ended n x w).steady ≡ w.steady
-mode_ended n x w = by (owner n w.parts)
-  where
-    by : (o : Option (ℕ × Step)) → (elim o as (λ x. Components) [ None ↦ w | Some o ↦ gone_by (Some (event.Ended o.1 x)) o.0 o.1 n w ]).steady ≡ w.steady
-    by None = refl
-    by (Some o) = mode_gone (Some (event.Ended o.1 x)) o.0 o.1 n w
-
 mode_moved : (w v : Components) (ms : List Move) → Quietly w ms v → v.steady ≡ w.steady
 mode_moved w v [] q = ap (λ (x : Components). x.steady) q
 mode_moved w v (m ∷ ms) q = mode_moved (lived_at m.who m.what w) v ms q.2
@@ -70,7 +36,7 @@ mode_moved w v (m ∷ ms) q = mode_moved (lived_at m.who m.what w) v ms q.2
 mode_handed : (w : Components) (act : Option Act) (v : Components) → HandsOut w act v → v.steady ≡ w.steady
 mode_handed w None v h = ap (λ (x : Components). x.steady) h.1
 mode_handed w (Some (acts.Start k t)) v h = ap (λ (x : Components). x.steady) h.2
-mode_handed w (Some (acts.Kill n)) v h = ap (λ (x : Components). x.steady) h.4 ∙ mode_killed n w
+mode_handed w (Some (acts.Kill n)) v h = ap (λ (x : Components). x.steady) h.4 ∙ killed_steady n w
 mode_handed w (Some (acts.Failed k t e)) v h = ap (λ (x : Components). x.steady) h.1
 mode_handed w (Some (acts.Broke k t e)) v h = ap (λ (x : Components). x.steady) h.1
 
@@ -110,7 +76,7 @@ module _ (w : Components) (now : ℕ) (moment : w.moment ≡ now) (d : Drives w)
       let o = owned (owner n w.parts) h in
       subst (Stays w) (sym (e ∙ ap (λ (y : Components). ended n x y) same)) (record {
         drives = (end_on w d n x o.0.0 o.0.1 o.1).drives;
-        mode = mode_ended n x w;
+        mode = ended_steady n x w;
         recipes = λ platform a. run_noticed platform (Ended n x) w a;
       })
 
@@ -121,7 +87,7 @@ module _ (w : Components) (now : ℕ) (moment : w.moment ≡ now) (d : Drives w)
         subst (Calms w) (sym (e ∙ ap (λ (y : Components). started k s n y) same)) (record {
           stays = record {
             drives = (start_on w d k n s b).drives;
-            mode = mode_started k s n w;
+            mode = started_steady k s n w;
             recipes = λ platform a. run_noticed platform (Started k s n) w a;
           };
           less = started_turn w d.alone steady (omega (arith, early, moment)) k n s b;

@@ -40,7 +40,7 @@ pub fn begin_items<D: Disk, J: Journal + Drop>(
     ensures held { IfOk result (λ s. Holds D.Disk J.Journal OwnsActivating s disk.new) }
     ensures others { KeepsOthers D.Disk J.Journal disk.old disk.new }
     ensures disk { IsErrOf result SessionFault.Disk → Rose (D.faults disk.old) (D.faults disk.new) }
-    ensures edge { IsErrOf result SessionFault.Edge → ⊥ }
+    ensures edge { IsErrOf result SessionFault.Output → ⊥ }
     ensures quiet { ¬ (IsErrOf result SessionFault.Disk) → D.faults disk.new ≡ D.faults disk.old }
     ensures later { D.faults disk.old ≤ D.faults disk.new }
 {

@@ -34,8 +34,8 @@ acts-preserved g c = record {
         t.0 ++ w.0,
         acts_on p w.0 t.0 (g.R.Runner.list c.args.runner.now) (g.R.Runner.list c.acts.runner) (g.R.Runner.list c.take_act.new.runner) w.1 t.1,
         subst (λ (x : SessionState). IsInTurn x (g.S.Supervise.world c.take_act.new.supervisor)
-            (Listed g.R.Runner.list g.R.Runner.told g.R.Runner.asked c.take_act.new.runner) (g.R.Runner.living c.take_act.new.runner)) (sym (left-append p t.0 w.0))
-            t.2.runs,
+            (Listed g.R.Runner.list g.R.Runner.told g.R.Runner.asked c.take_act.new.runner) (g.R.Runner.living c.take_act.new.runner))
+            (sym (left-append p t.0 w.0)) t.2.runs,
       );
 }
 
@@ -46,8 +46,8 @@ returns-then-take_act-clause-trace g c = λ p runs.
       t.0 ++ w.0,
       acts_on p w.0 t.0 (g.R.Runner.list c.args.runner.now) (g.R.Runner.list c.acts.runner) (g.R.Runner.list c.take_act.new.runner) w.1 t.1,
       subst (λ (x : SessionState). ActLeft x true (g.S.Supervise.world c.take_act.new.supervisor)
-          (Listed g.R.Runner.list g.R.Runner.told g.R.Runner.asked c.take_act.new.runner) (g.R.Runner.living c.take_act.new.runner)) (sym (left-append p t.0 w.0))
-          (record { runs = t.2.runs; quiet = λ none. t.2.quiet c.if-take_act.true }),
+          (Listed g.R.Runner.list g.R.Runner.told g.R.Runner.asked c.take_act.new.runner) (g.R.Runner.living c.take_act.new.runner))
+          (sym (left-append p t.0 w.0)) (record { runs = t.2.runs; quiet = λ none. t.2.quiet c.if-take_act.true }),
     )
 
 pub take_act-requires-clause-drives : goal.take_act-requires-clause-drives

@@ -80,7 +80,8 @@ returns-clause-trace g c = λ p d serving.
 
 pub returns-clause-stays : goal.returns-clause-stays
 returns-clause-stays g c = stays_on (g.S.Supervise.world c.args.supervisor.now) (g.S.Supervise.world c.pass-now.new.supervisor)
-    (g.S.Supervise.world c.take_acts.new.supervisor) (pass_stays (g.S.Supervise.world c.args.supervisor.now) (g.S.Supervise.world c.pass-now.new.supervisor) c.pass-now.result c.requires.drives.0
+    (g.S.Supervise.world c.take_acts.new.supervisor)
+    (pass_stays (g.S.Supervise.world c.args.supervisor.now) (g.S.Supervise.world c.pass-now.new.supervisor) c.pass-now.result c.requires.drives.0
     c.pass-now.ensures.passed) c.take_acts.ensures.no_wilder.stays
 
 pub returns-clause-clock : goal.returns-clause-clock
