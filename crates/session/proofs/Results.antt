@@ -89,5 +89,5 @@ module _ {J : Type 0} (status : Status) where
       by (inl e) = disk e
       by (inr e) = edge e
 
-  pub answers_edge : (r : Result (Driven J) SessionFault) → AnswersFor r status → status ≢ statuses.Edge → IsErrOf r over.Edge → ⊥
+  pub answers_edge : (r : Result (Driven J) SessionFault) → AnswersFor r status → status ≢ statuses.Edge → IsErrOf r over.Output → ⊥
   answers_edge r answers edge is = edge (subst (λ (z : Result (Driven J) SessionFault). AnswersFor z status) is answers)

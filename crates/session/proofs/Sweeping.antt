@@ -108,4 +108,4 @@ module _ {D J : Type 0} {is_modelled : Bool} {seen : D → Image} {may_leave : D
       may) told there in
       subst (λ (z : Device). IsSwept (items_of z) (seen new)) (sym same) (swept told o is)
   driven_sweeps apart (Err over.Disk) to new status held spared answers swept told o is e there = absurd (no_close o status statuses.Disk refl answers is)
-  driven_sweeps apart (Err over.Edge) to new status held spared answers swept told o is e there = absurd (no_outcome o statuses.Edge refl (sym is ∙ answers))
+  driven_sweeps apart (Err over.Output) to new status held spared answers swept told o is e there = absurd (no_outcome o statuses.Edge refl (sym is ∙ answers))

@@ -184,7 +184,7 @@ SaysEnding old new status is = (ending : Ending) × is ending × SaysLine old ne
 -- with which status a call ends whose deployment was given up
 abbrev pub AnswersOver : SessionFault → Status → Type 0
 AnswersOver over.Disk status = (status ≡ statuses.Disk) ⊎ (status ≡ statuses.Edge)
-AnswersOver over.Edge status = status ≡ statuses.Edge
+AnswersOver over.Output status = status ≡ statuses.Edge
 
 -- with which status a call ends whose deployment was driven so
 abbrev pub AnswersFor : {J : Type 0} → Result (Driven J) SessionFault → Status → Type 0

@@ -139,7 +139,7 @@ pub(crate) fn end_call<D: Disk, J: Journal + Drop, K: Sink, R: Runner, S: Superv
     ensures silent { IsErrOf driven SessionFault.Output → K.held sink.new ≡ K.held sink.old }
     ensures answers { AnswersFor driven (status_of_ran result) }
     ensures disk { status_of_ran result ≡ statuses.Disk → (IsErrOf driven SessionFault.Disk) ⊎ Rose (D.faults disk.old) (D.faults disk.new) }
-    ensures edge { status_of_ran result ≡ statuses.Edge → (IsErrOf driven SessionFault.Edge) ⊎ Rose (K.faults sink.old) (K.faults sink.new) }
+    ensures edge { status_of_ran result ≡ statuses.Edge → (IsErrOf driven SessionFault.Output) ⊎ Rose (K.faults sink.old) (K.faults sink.new) }
     ensures quiet_disk { status_of_ran result ≢ statuses.Disk → status_of_ran result ≢ statuses.Edge → D.faults disk.new ≡ D.faults disk.old }
     ensures quiet_sink { status_of_ran result ≢ statuses.Edge → K.faults sink.new ≡ K.faults sink.old }
     ensures later { (D.faults disk.old ≤ D.faults disk.new) × (K.faults sink.old ≤ K.faults sink.new) }
@@ -149,6 +149,6 @@ pub(crate) fn end_call<D: Disk, J: Journal + Drop, K: Sink, R: Runner, S: Superv
     match driven {
         Ok(driven) => end_driven(alloc, driven, disk, sink, runner, supervisor),
         Err(SessionFault::Disk) => Ran::Over(say_disk(sink)),
-        Err(SessionFault::Edge) => Ran::Over(Status::Edge),
+        Err(SessionFault::Output) => Ran::Over(Status::Edge),
     }
 }

@@ -6,9 +6,7 @@ ghost use Rattle.nuc_base.specs.Faults.{Rose};
 ghost use Rattle.nuc_base.specs.declared.status.Status.TheVariants as statuses;
 ghost use Rattle.records.specs.declared.record.Plan as code;
 ghost use Rattle.records.specs.declared.record.Origin.{Origin};
-ghost use Rattle.deploy_state.specs.Accepting.{idle_log};
 ghost use Rattle.deploy_state.specs.States.{OwnsIdle, idle_device};
-ghost use Rattle.deploy_state.specs.Turning.{start_of};
 ghost use Rattle.deployment_doc.specs.Sound.{AreSound};
 ghost use Rattle.histories.specs.States.{SessionState};
 ghost use Rattle.histories.specs.TraceEvents.{records_of};
@@ -16,17 +14,16 @@ ghost use Rattle.session_admission.specs.Accepts.{IsOpen};
 ghost use Rattle.admission.specs.Requests.{IsInside, TakesMade};
 ghost use Rattle.admission.specs.Takes.{HasDiskFailed, HasLibraryFailed, LieElsewhere};
 ghost use Rattle.admission.specs.declared.fault.Declined.{Declined};
+ghost use Rattle.session.specs.Objects.{AcceptsTakenOn, HasArtifactsOn, RunsTakenOn, entry_start};
 ghost use Rattle.session.specs.Calls.{Elsewhere, Stays};
-ghost use Rattle.session.specs.Documents.{AcceptsTaken};
 ghost use Rattle.session.specs.Endings.{Fails};
-ghost use Rattle.session.specs.Parts.{HasArtifacts, IsBack, IsOver, OwnsRan, RunsTaken, TakesLast, status_of_ran};
+ghost use Rattle.session.specs.Parts.{IsBack, IsOver, OwnsRan, TakesLast, status_of_ran};
 ghost use Rattle.session.specs.Sweeping.{LeavesNoStray};
 ghost use Rattle.session_boots.specs.Stages.{AsTold, Holds};
 ghost use Rattle.session_transitions.specs.Enters.{RunOn};
 ghost use Rattle.law_supervisor.specs.Sound.{IsOrderly};
 ghost use Rattle.law_termination.specs.Drives.{Drives};
 ghost use Rattle.components.specs.Changes.{standing};
-ghost use Rattle.step_runner.specs.Entries.{Listed};
 
 use crate::declines::say_declined;
 use crate::giving::back_or_over;
@@ -71,19 +68,17 @@ where
     // disk failed only where the disk's count rose, and its document is declined for the disk or for the library only where the
     // count of that rose.
     ensures call { (p : SessionState) → AsTold R.Runner runner.old (IsOpen p (idle_device idle) (S.world supervisor.old)) → TakesLast p →
-        (taken : Result code.Plan Declined) × ((o : Origin) → (idle_device idle).origin ≡ Some o → TakesMade (idle_device idle) o (L.content library.old)
-        (L.faults library.old) (L.faults library.new) made taken)
-        × (t : RunsTaken J.entries J.files D.may_leave D.moment D.left_since disk.old disk.new (R.list runner.old) (R.list runner.new) (K.held sink.old)
-        (K.held sink.new) p result (S.world supervisor.new) (Listed R.list R.told R.asked runner.new)
-        (R.living runner.new) (start_of J.end J.number J.turns (idle_log idle) (idle_device idle)) taken)
-        × (AllHoldDevice (D.may_leave disk.old) p.device → HasArtifacts J.entries J.files D.may_leave D.moment D.left_since disk.old disk.new
-        (R.list runner.old) (R.list runner.new) (K.held sink.old) (K.held sink.new) p result (S.world supervisor.new)
-        (Listed R.list R.told R.asked runner.new) (R.living runner.new) t.0)
+        (taken : Result code.Plan Declined)
+        × ((o : Origin) → (idle_device idle).origin ≡ Some o → TakesMade (idle_device idle) o (L.content library.old) (L.faults library.old)
+        (L.faults library.new) made taken)
+        × (t : RunsTakenOn D.Disk J.Journal K.Sink R.Runner disk.old disk.new sink.old sink.new runner.old runner.new p result (S.world supervisor.new)
+        (entry_start J.Journal idle) taken)
+        × (AllHoldDevice (D.may_leave disk.old) p.device → HasArtifactsOn D.Disk J.Journal K.Sink R.Runner disk.old disk.new sink.old sink.new runner.old
+        runner.new p result (S.world supervisor.new) t.0)
         × (t.0.ending ≡ Fails → Rose (D.faults disk.old) (D.faults disk.new))
         × (HasDiskFailed taken → Rose (D.faults disk.old) (D.faults disk.new))
         × (HasLibraryFailed taken → Rose (L.faults library.old) (L.faults library.new))
-        × AcceptsTaken J.entries D.may_leave D.moment D.left_since disk.old disk.new (idle_device idle)
-        (start_of J.end J.number J.turns (idle_log idle) (idle_device idle)) taken t.0.ending (records_of t.0.history) }
+        × AcceptsTakenOn D.Disk J.Journal disk.old disk.new idle taken t.0.ending (records_of t.0.history) }
     // Where it comes back the components are as the deployment left them, and else no child lives.
     ensures none { IsOver result → R.living runner.new ≡ [] }
     ensures drives { IsBack result → Drives (S.world supervisor.new) }

@@ -12,11 +12,11 @@ ghost use Rattle.session_boots.specs.Stands.{IsAtBootStage};
 ghost use Rattle.histories.specs.States.{SessionState};
 ghost use Rattle.session_admission.specs.Readied.{AreReadiedFor};
 ghost use Rattle.admission.specs.Takes.{LieElsewhere};
+ghost use Rattle.session.specs.Objects.{HasArtifactsOn, RunsPartOn};
 ghost use Rattle.session.specs.Calls.{Elsewhere, IsOrEdge, SaysLine, Stays, resumed_line};
-ghost use Rattle.session.specs.Parts.{EndsRan, HasArtifacts, IsBack, IsOver, OwnsRan, RunsPart, TakesNone, status_of_ran};
+ghost use Rattle.session.specs.Parts.{EndsRan, IsBack, IsOver, OwnsRan, TakesNone, status_of_ran};
 ghost use Rattle.law_supervisor.specs.Sound.{IsOrderly};
 ghost use Rattle.law_termination.specs.Drives.{Drives};
-ghost use Rattle.step_runner.specs.Entries.{Listed};
 ghost use Rattle.session.specs.Endings.{Fails, Resumes};
 ghost use Rattle.session.specs.Sweeping.{LeavesNoStray};
 ghost use Rattle.session_boots.specs.Stages.{AsTold, Holds};
@@ -90,12 +90,10 @@ where
     // Where the images at the start have the device's artifacts, each of each moment has those of the device for which it stands.
     // The call ends as one whose disk failed only where the disk's count rose.
     ensures call { (p : SessionState) → AsTold R.Runner runner.old (IsAtBootStage p (loaded_device state) (S.world supervisor.old)) → TakesNone p →
-        (c : RunsPart J.entries J.files D.may_leave D.moment D.left_since disk.old disk.new (R.list runner.old) (R.list runner.new) (K.held sink.old)
-        (K.held sink.new) p result (S.world supervisor.new) (Listed R.list R.told R.asked runner.new) (R.living runner.new)) ×
-        Resumes (loaded_device state) c.ending
-        × (AllHoldDevice (D.may_leave disk.old) p.device → HasArtifacts J.entries J.files D.may_leave D.moment D.left_since disk.old disk.new
-        (R.list runner.old) (R.list runner.new) (K.held sink.old) (K.held sink.new) p result (S.world supervisor.new)
-        (Listed R.list R.told R.asked runner.new) (R.living runner.new) c)
+        (c : RunsPartOn D.Disk J.Journal K.Sink R.Runner disk.old disk.new sink.old sink.new runner.old runner.new p result (S.world supervisor.new))
+        × Resumes (loaded_device state) c.ending
+        × (AllHoldDevice (D.may_leave disk.old) p.device → HasArtifactsOn D.Disk J.Journal K.Sink R.Runner disk.old disk.new sink.old sink.new runner.old
+        runner.new p result (S.world supervisor.new) c)
         × (c.ending ≡ Fails → Rose (D.faults disk.old) (D.faults disk.new)) }
     ensures own { status_of_ran result ≢ statuses.Library }
     // Where it comes back the components are as the deployment left them, and else no child lives.
@@ -148,12 +146,10 @@ where
     // Where the images at the start have the device's artifacts, each of each moment has those of the device for which it stands.
     // The call ends as one whose disk failed only where the disk's count rose.
     ensures call { (p : SessionState) → AsTold R.Runner runner.old (IsAtBootStage p (loaded_device state) (S.world supervisor.old)) → TakesNone p →
-        (c : RunsPart J.entries J.files D.may_leave D.moment D.left_since disk.old disk.new (R.list runner.old) (R.list runner.new) (K.held sink.old)
-        (K.held sink.new) p result (S.world supervisor.new) (Listed R.list R.told R.asked runner.new) (R.living runner.new)) ×
-        Resumes (loaded_device state) c.ending
-        × (AllHoldDevice (D.may_leave disk.old) p.device → HasArtifacts J.entries J.files D.may_leave D.moment D.left_since disk.old disk.new
-        (R.list runner.old) (R.list runner.new) (K.held sink.old) (K.held sink.new) p result (S.world supervisor.new)
-        (Listed R.list R.told R.asked runner.new) (R.living runner.new) c)
+        (c : RunsPartOn D.Disk J.Journal K.Sink R.Runner disk.old disk.new sink.old sink.new runner.old runner.new p result (S.world supervisor.new))
+        × Resumes (loaded_device state) c.ending
+        × (AllHoldDevice (D.may_leave disk.old) p.device → HasArtifactsOn D.Disk J.Journal K.Sink R.Runner disk.old disk.new sink.old sink.new runner.old
+        runner.new p result (S.world supervisor.new) c)
         × (c.ending ≡ Fails → Rose (D.faults disk.old) (D.faults disk.new)) }
     ensures own { status_of_ran result ≢ statuses.Library }
     // Where it comes back the components are as the deployment left them, and else no child lives.
@@ -204,12 +200,10 @@ where
     // Where the images at the start have the device's artifacts, each of each moment has those of the device for which it stands.
     // The call ends as one whose disk failed only where the disk's count rose.
     ensures call { (p : SessionState) → AsTold R.Runner runner.old (IsAtBootStage p (loaded_device state) (S.world supervisor.old)) → TakesNone p →
-        (c : RunsPart J.entries J.files D.may_leave D.moment D.left_since disk.old disk.new (R.list runner.old) (R.list runner.new) (K.held sink.old)
-        (K.held sink.new) p result (S.world supervisor.new) (Listed R.list R.told R.asked runner.new) (R.living runner.new)) ×
-        Resumes (loaded_device state) c.ending
-        × (AllHoldDevice (D.may_leave disk.old) p.device → HasArtifacts J.entries J.files D.may_leave D.moment D.left_since disk.old disk.new
-        (R.list runner.old) (R.list runner.new) (K.held sink.old) (K.held sink.new) p result (S.world supervisor.new)
-        (Listed R.list R.told R.asked runner.new) (R.living runner.new) c)
+        (c : RunsPartOn D.Disk J.Journal K.Sink R.Runner disk.old disk.new sink.old sink.new runner.old runner.new p result (S.world supervisor.new))
+        × Resumes (loaded_device state) c.ending
+        × (AllHoldDevice (D.may_leave disk.old) p.device → HasArtifactsOn D.Disk J.Journal K.Sink R.Runner disk.old disk.new sink.old sink.new runner.old
+        runner.new p result (S.world supervisor.new) c)
         × (c.ending ≡ Fails → Rose (D.faults disk.old) (D.faults disk.new)) }
     ensures own { status_of_ran result ≢ statuses.Library }
     // Where it comes back the components are as the deployment left them, and else no child lives.

@@ -12,24 +12,22 @@ ghost use Rattle.device.specs.Devices.{IsRegularDevice};
 ghost use Rattle.device.specs.Lawful.{Allowed};
 ghost use Rattle.device.specs.Regularity.{IsRegularRecord};
 ghost use Rattle.device.specs.Sound.{IsSound};
-ghost use Rattle.deploy_state.specs.Accepting.{idle_log};
 ghost use Rattle.deploy_state.specs.States.{OwnsIdle, idle_device};
-ghost use Rattle.deploy_state.specs.Turning.{start_of};
 ghost use Rattle.deployment_doc.specs.Sound.{AreSound};
 ghost use Rattle.histories.specs.States.{SessionState};
 ghost use Rattle.histories.specs.TraceEvents.{records_of};
 ghost use Rattle.session_admission.specs.Accepts.{IsOpen};
 ghost use Rattle.admission.specs.Takes.{HasDiskFailed, HasLibraryFailed, LieElsewhere, TakesIn};
 ghost use Rattle.admission.specs.declared.fault.Declined.{Declined};
+ghost use Rattle.session.specs.Objects.{AcceptsFromOn, AcceptsTakenOn, HasArtifactsOn, RunsPlanOn, RunsTakenOn, entry_start};
 ghost use Rattle.session.specs.Calls.{AllHoldBoth, Elsewhere, IsReadiedOn, Stays};
-ghost use Rattle.session.specs.Documents.{AcceptsFrom, AcceptsTaken, TakesRead};
-ghost use Rattle.session.specs.Parts.{EndsRan, HasArtifacts, IsBack, IsOver, OwnsRan, RunsPlan, RunsTaken, TakesLast, status_of_ran};
+ghost use Rattle.session.specs.Documents.{TakesRead};
+ghost use Rattle.session.specs.Parts.{EndsRan, IsBack, IsOver, OwnsRan, TakesLast, status_of_ran};
 ghost use Rattle.session_transitions.specs.Enters.{RunOn};
 ghost use Rattle.law_supervisor.specs.Sound.{IsOrderly};
 ghost use Rattle.law_termination.specs.Drives.{Drives};
 ghost use Rattle.components.specs.Answers.{standing_count};
 ghost use Rattle.components.specs.Changes.{standing};
-ghost use Rattle.step_runner.specs.Entries.{Listed};
 ghost use Rattle.session.specs.Endings.{Fails};
 ghost use Rattle.session.specs.Sweeping.{LeavesNoStray};
 ghost use Rattle.session_boots.specs.Stages.{AsTold, Holds};
@@ -106,15 +104,12 @@ where
     // Where the images at the start have the artifacts that are needed, so has each of each moment. The call ends as one whose
     // disk failed only where the disk's count rose.
     ensures call { (p : SessionState) → AsTold R.Runner runner.old (IsOpen p (idle_device idle) (S.world supervisor.old)) → TakesLast p →
-        (t : RunsPlan J.entries J.files D.may_leave D.moment D.left_since disk.old disk.new (R.list runner.old) (R.list runner.new) (K.held sink.old)
-        (K.held sink.new) p result (S.world supervisor.new) (Listed R.list R.told R.asked runner.new) (R.living runner.new)
-        (start_of J.end J.number J.turns (idle_log idle) (idle_device idle)) (plan_view plan))
-        × (AllHoldBoth (D.may_leave disk.old) p.device (plan_view plan).items → HasArtifacts J.entries J.files D.may_leave D.moment D.left_since disk.old
-        disk.new (R.list runner.old) (R.list runner.new) (K.held sink.old) (K.held sink.new) p result (S.world supervisor.new)
-        (Listed R.list R.told R.asked runner.new) (R.living runner.new) t.0)
+        (t : RunsPlanOn D.Disk J.Journal K.Sink R.Runner disk.old disk.new sink.old sink.new runner.old runner.new p result (S.world supervisor.new)
+        (entry_start J.Journal idle) (plan_view plan))
+        × (AllHoldBoth (D.may_leave disk.old) p.device (plan_view plan).items → HasArtifactsOn D.Disk J.Journal K.Sink R.Runner disk.old disk.new sink.old
+        sink.new runner.old runner.new p result (S.world supervisor.new) t.0)
         × (t.0.ending ≡ Fails → Rose (D.faults disk.old) (D.faults disk.new))
-        × AcceptsFrom J.entries D.may_leave D.moment D.left_since disk.old disk.new (idle_device idle)
-        (start_of J.end J.number J.turns (idle_log idle) (idle_device idle)) (plan_view plan) t.0.ending (records_of t.0.history) }
+        × AcceptsFromOn D.Disk J.Journal disk.old disk.new idle (plan_view plan) t.0.ending (records_of t.0.history) }
     ensures own { status_of_ran result ≢ statuses.Library }
     // Where it comes back the components are as the deployment left them, and else no child lives.
     ensures none { IsOver result → R.living runner.new ≡ [] }
@@ -184,19 +179,17 @@ where
     // disk failed only where the disk's count rose, and its document is declined for the disk or for the library only where the
     // count of that rose.
     ensures call { (p : SessionState) → AsTold R.Runner runner.old (IsOpen p (idle_device idle) (S.world supervisor.old)) → TakesLast p →
-        (taken : Result code.Plan Declined) × ((o : Origin) → (idle_device idle).origin ≡ Some o → TakesIn (idle_device idle) o (L.content library.old)
-        (L.faults library.old) (L.faults library.new) document.now taken)
-        × (t : RunsTaken J.entries J.files D.may_leave D.moment D.left_since disk.old disk.new (R.list runner.old) (R.list runner.new) (K.held sink.old)
-        (K.held sink.new) p result (S.world supervisor.new) (Listed R.list R.told R.asked runner.new) (R.living runner.new)
-        (start_of J.end J.number J.turns (idle_log idle) (idle_device idle)) taken)
-        × (AllHoldDevice (D.may_leave disk.old) p.device → HasArtifacts J.entries J.files D.may_leave D.moment D.left_since disk.old disk.new
-        (R.list runner.old) (R.list runner.new) (K.held sink.old) (K.held sink.new) p result (S.world supervisor.new)
-        (Listed R.list R.told R.asked runner.new) (R.living runner.new) t.0)
+        (taken : Result code.Plan Declined)
+        × ((o : Origin) → (idle_device idle).origin ≡ Some o → TakesIn (idle_device idle) o (L.content library.old) (L.faults library.old)
+        (L.faults library.new) document.now taken)
+        × (t : RunsTakenOn D.Disk J.Journal K.Sink R.Runner disk.old disk.new sink.old sink.new runner.old runner.new p result (S.world supervisor.new)
+        (entry_start J.Journal idle) taken)
+        × (AllHoldDevice (D.may_leave disk.old) p.device → HasArtifactsOn D.Disk J.Journal K.Sink R.Runner disk.old disk.new sink.old sink.new runner.old
+        runner.new p result (S.world supervisor.new) t.0)
         × (t.0.ending ≡ Fails → Rose (D.faults disk.old) (D.faults disk.new))
         × (HasDiskFailed taken → Rose (D.faults disk.old) (D.faults disk.new))
         × (HasLibraryFailed taken → Rose (L.faults library.old) (L.faults library.new))
-        × AcceptsTaken J.entries D.may_leave D.moment D.left_since disk.old disk.new (idle_device idle)
-        (start_of J.end J.number J.turns (idle_log idle) (idle_device idle)) taken t.0.ending (records_of t.0.history) }
+        × AcceptsTakenOn D.Disk J.Journal disk.old disk.new idle taken t.0.ending (records_of t.0.history) }
     // Where it comes back the components are as the deployment left them, and else no child lives.
     ensures none { IsOver result → R.living runner.new ≡ [] }
     ensures ends_call { EndsRan result }
@@ -259,17 +252,17 @@ where
     // disk failed only where the disk's count rose, and its document is declined for the disk or for the library only where the
     // count of that rose.
     ensures call { (p : SessionState) → AsTold R.Runner runner.old (IsOpen p (idle_device idle) (S.world supervisor.old)) → TakesLast p →
-        (taken : Result code.Plan Declined) × ((o : Origin) → (idle_device idle).origin ≡ Some o → TakesRead (idle_device idle) o (L.content library.old)
-        (L.faults library.old) (L.faults library.new) document.now taken)
-        × (t : RunsTaken J.entries J.files D.may_leave D.moment D.left_since disk.old disk.new (R.list runner.old) (R.list runner.new) (K.held sink.old)
-        (K.held sink.new) p result (S.world supervisor.new) (Listed R.list R.told R.asked runner.new) (R.living runner.new)
-        (start_of J.end J.number J.turns (idle_log idle) (idle_device idle)) taken)
-        × (AllHoldDevice (D.may_leave disk.old) p.device → HasArtifacts J.entries J.files D.may_leave D.moment D.left_since disk.old disk.new
-        (R.list runner.old) (R.list runner.new) (K.held sink.old) (K.held sink.new) p result (S.world supervisor.new)
-        (Listed R.list R.told R.asked runner.new) (R.living runner.new) t.0)
+        (taken : Result code.Plan Declined)
+        × ((o : Origin) → (idle_device idle).origin ≡ Some o → TakesRead (idle_device idle) o (L.content library.old) (L.faults library.old)
+        (L.faults library.new) document.now taken)
+        × (t : RunsTakenOn D.Disk J.Journal K.Sink R.Runner disk.old disk.new sink.old sink.new runner.old runner.new p result (S.world supervisor.new)
+        (entry_start J.Journal idle) taken)
+        × (AllHoldDevice (D.may_leave disk.old) p.device → HasArtifactsOn D.Disk J.Journal K.Sink R.Runner disk.old disk.new sink.old sink.new runner.old
+        runner.new p result (S.world supervisor.new) t.0)
         × (t.0.ending ≡ Fails → Rose (D.faults disk.old) (D.faults disk.new))
         × (HasDiskFailed taken → Rose (D.faults disk.old) (D.faults disk.new))
-        × (HasLibraryFailed taken → Rose (L.faults library.old) (L.faults library.new)) }
+        × (HasLibraryFailed taken → Rose (L.faults library.old) (L.faults library.new))
+        × AcceptsTakenOn D.Disk J.Journal disk.old disk.new idle taken t.0.ending (records_of t.0.history) }
     // Where it comes back the components are as the deployment left them, and else no child lives.
     ensures none { IsOver result → R.living runner.new ≡ [] }
     ensures ends_call { EndsRan result }

@@ -7,8 +7,8 @@ ghost use Rattle.device.specs.Devices.{Device};
 ghost use Rattle.deploy_state.specs.States.{OwnsLoaded, loaded_device, OwnsIdle, idle_device};
 ghost use Rattle.histories.specs.States.{SessionState, state_after};
 ghost use Rattle.admission.specs.Takes.{LieElsewhere, HasDiskFailed, HasLibraryFailed};
-ghost use Rattle.session.specs.Calls.{Elsewhere, Stays, Call};
-ghost use Rattle.session.specs.Documents.{AcceptsTaken, DrivesTaken, KeepsArtifacts};
+ghost use Rattle.session.specs.Objects.{AcceptsTakenOn, CallOn, DrivesTakenOn, KeepsArtifactsOn, entry_start};
+ghost use Rattle.session.specs.Calls.{Elsewhere, Stays};
 ghost use Rattle.session.specs.Endings.{Fails, Resumes};
 ghost use Rattle.session.specs.Sweeping.{LeavesNoStray};
 ghost use Rattle.session_boots.specs.Stages.{AsTold, Holds};
@@ -22,8 +22,6 @@ ghost use Rattle.session_boots.specs.Traces.{Acts};
 ghost use Rattle.session.specs.Parts.{IsBack, IsOver, IsReturned, IsShut, RanLeft, status_of_ran};
 ghost use Rattle.nuc_base.specs.declared.status.Status.TheVariants as statuses;
 ghost use Rattle.records.specs.declared.record.Origin.{Origin};
-ghost use Rattle.deploy_state.specs.Accepting.{idle_log};
-ghost use Rattle.deploy_state.specs.Turning.{start_of};
 ghost use Rattle.deployment_doc.specs.Sound.{AreSound};
 ghost use Rattle.session_admission.specs.Accepts.{IsOpen};
 ghost use Rattle.admission.specs.Requests.{IsInside, TakesMade};
@@ -111,10 +109,10 @@ where
     // The call ends as one whose disk failed only where the disk's count rose.
     ensures call { (p : SessionState) → AsTold R.Runner runner.old (IsAtBootStage p (loaded_device state) (S.world supervisor.old)) → (p.serves ≡ false) →
         (p.taken ≡ is_some p.device.pending) →
-        (c : Call J.entries J.files D.may_leave D.moment D.left_since disk.old disk.new (R.list runner.old) (R.list runner.new) (K.held sink.old)
-        (K.held sink.new) p result) × Resumes (loaded_device state) c.ending
-        × (AllHoldDevice (D.may_leave disk.old) p.device → KeepsArtifacts J.entries J.files D.may_leave D.moment D.left_since disk.old disk.new
-        (R.list runner.old) (R.list runner.new) (K.held sink.old) (K.held sink.new) p result c)
+        (c : CallOn D.Disk J.Journal K.Sink R.Runner disk.old disk.new sink.old sink.new runner.old runner.new p result)
+        × Resumes (loaded_device state) c.ending
+        × (AllHoldDevice (D.may_leave disk.old) p.device → KeepsArtifactsOn D.Disk J.Journal K.Sink R.Runner disk.old disk.new sink.old sink.new runner.old
+        runner.new p result c)
         × (c.ending ≡ Fails → Rose (D.faults disk.old) (D.faults disk.new)) }
     ensures own { result ≢ statuses.Library }
     ensures none { R.living runner.new ≡ [] }
@@ -157,17 +155,17 @@ where
     // disk failed only where the disk's count rose, and its document is declined for the disk or for the library only where the
     // count of that rose.
     ensures call { (p : SessionState) → AsTold R.Runner runner.old (IsOpen p (idle_device idle) (S.world supervisor.old)) → (p.serves ≡ false) →
-        (taken : Result code.Plan Declined) × ((o : Origin) → (idle_device idle).origin ≡ Some o → TakesMade (idle_device idle) o (L.content library.old)
-        (L.faults library.old) (L.faults library.new) made taken)
-        × (t : DrivesTaken J.entries J.files D.may_leave D.moment D.left_since disk.old disk.new (R.list runner.old) (R.list runner.new) (K.held sink.old)
-        (K.held sink.new) p result (start_of J.end J.number J.turns (idle_log idle) (idle_device idle)) taken)
-        × (AllHoldDevice (D.may_leave disk.old) p.device → KeepsArtifacts J.entries J.files D.may_leave D.moment D.left_since disk.old disk.new
-        (R.list runner.old) (R.list runner.new) (K.held sink.old) (K.held sink.new) p result t.0)
+        (taken : Result code.Plan Declined)
+        × ((o : Origin) → (idle_device idle).origin ≡ Some o → TakesMade (idle_device idle) o (L.content library.old) (L.faults library.old)
+        (L.faults library.new) made taken)
+        × (t : DrivesTakenOn D.Disk J.Journal K.Sink R.Runner disk.old disk.new sink.old sink.new runner.old runner.new p result (entry_start J.Journal idle)
+        taken)
+        × (AllHoldDevice (D.may_leave disk.old) p.device → KeepsArtifactsOn D.Disk J.Journal K.Sink R.Runner disk.old disk.new sink.old sink.new runner.old
+        runner.new p result t.0)
         × (t.0.ending ≡ Fails → Rose (D.faults disk.old) (D.faults disk.new))
         × (HasDiskFailed taken → Rose (D.faults disk.old) (D.faults disk.new))
         × (HasLibraryFailed taken → Rose (L.faults library.old) (L.faults library.new))
-        × AcceptsTaken J.entries D.may_leave D.moment D.left_since disk.old disk.new (idle_device idle)
-        (start_of J.end J.number J.turns (idle_log idle) (idle_device idle)) taken t.0.ending (records_of t.0.history) }
+        × AcceptsTakenOn D.Disk J.Journal disk.old disk.new idle taken t.0.ending (records_of t.0.history) }
     ensures none { R.living runner.new ≡ [] }
     ensures others { IsTrue D.is_modelled → Elsewhere J.files (D.seen disk.old) (D.seen disk.new) }
     ensures disk { result ≡ statuses.Disk → Rose (D.faults disk.old) (D.faults disk.new) }

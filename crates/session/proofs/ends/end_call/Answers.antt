@@ -102,7 +102,7 @@ returns-in-Err-Output-clause-none g c = λ over. on_err _ c.args.driven c.in-Err
 pub returns-in-Err-Output-clause-ends : goal.returns-in-Err-Output-clause-ends
 returns-in-Err-Output-clause-ends g c =
     let held = g.K.Sink.held c.args.sink.now in
-    ends_err statuses.Edge held held c.args.driven c.in-Err-Edge.field-0 over.Edge c.in-Err-Edge.is (rw c.in-Err-Edge.is at c.in-Err-Edge.field-0-is)
+    ends_err statuses.Edge held held c.args.driven c.in-Err-Output.field-0 over.Output c.in-Err-Output.is (rw c.in-Err-Output.is at c.in-Err-Output.field-0-is)
     (Breaks, (refl, λ fails. absurd cc), says_none held held statuses.Edge refl, inl refl)
 
 -- ---- no stray file is left behind a close

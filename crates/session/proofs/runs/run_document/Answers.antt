@@ -76,6 +76,7 @@ returns-in-Err-clause-call g c = λ p opens taking.
       (λ fails. absurd (t.3 fails)),
       (λ failed. absurd failed),
       (λ failed. absurd (unread_library c.in-Err.fault (ap status_of_refusal failed))),
+      tt,
     )
 
 pub returns-in-Err-clause-held : goal.returns-in-Err-clause-held
@@ -93,6 +94,7 @@ returns-in-Ok-clause-call g c = λ p opens taking.
       t.4,
       t.5,
       t.6,
+      t.7,
     )
 
 pub returns-in-Err-clause-disk : goal.returns-in-Err-clause-disk

@@ -443,7 +443,7 @@ returns-in-Err-Output-clause-call g c = λ p opens taking.
     let t = c.in-Err-Output.ensures.trace tt p world told living opens in
     let held = g.K.Sink.held c.args.sink.now in
     let mid = g.K.Sink.held c.accept_plan.new.sink in
-    let is = over_status statuses.Edge ran c.give_up-in-Err-Edge.ensures.over in
+    let is = over_status statuses.Edge ran c.give_up-in-Err-Output.ensures.over in
     let k = c.give_up-in-Err-Output.ensures.trace (state_after p (Recorded (Accepted plan) ∷ []))
     (accepted_may p d world told living plan opens c.requires.orderly) in
     let r = doubt_parted g.J.Journal.entries g.J.Journal.files g.met.D.Disk.laws c.requires.apart
@@ -455,7 +455,7 @@ returns-in-Err-Output-clause-call g c = λ p opens taking.
     (subst (λ (e : SessionFault). LeftAt g.J.Journal.entries g.D.Disk.may_leave c.accept_plan.new.disk p t.0 e) c.in-Err-Output.field-0-is t.3)
     k.1 k.2.0 k.3
     (says_none mid mid (status_of_ran ran) refl) (λ is. refl) is
-    (λ behind. doubt_left g.J.Journal.entries g.D.Disk.may_leave over.Edge c.accept_plan.new.disk p k.0 plan p.generation world end lives statuses.Edge ran
+    (λ behind. doubt_left g.J.Journal.entries g.D.Disk.may_leave over.Output c.accept_plan.new.disk p k.0 plan p.generation world end lives statuses.Edge ran
     c.give_up-in-Err-Output.ensures.over k.4 behind refl) in (
       r.0,
       r.1,
@@ -470,7 +470,7 @@ returns-in-Err-Output-clause-call g c = λ p opens taking.
     )
 
 pub returns-in-Err-Output-clause-drives : goal.returns-in-Err-Output-clause-drives
-returns-in-Err-Edge-clause-drives g c = λ back. absurd (over_never statuses.Edge c.give_up-in-Err-Edge.result c.give_up-in-Err-Edge.ensures.over back)
+returns-in-Err-Output-clause-drives g c = λ back. absurd (over_never statuses.Edge c.give_up-in-Err-Output.result c.give_up-in-Err-Output.ensures.over back)
 
 -- ---- no stray file is left behind a close
 
@@ -498,8 +498,8 @@ returns-in-Err-Disk-clause-swept g c =
     (sym (over_status c.say_disk-status.result c.give_up-in-Err-Disk.result c.give_up-in-Err-Disk.ensures.over)) c.say_disk-status.ensures.answers)
 
 pub returns-in-Err-Output-clause-swept : goal.returns-in-Err-Output-clause-swept
-returns-in-Err-Edge-clause-swept g c = never_closes g.D.Disk.is_modelled g.J.Journal.entries (status_of_ran c.give_up-in-Err-Edge.result) statuses.Edge
-    (g.D.Disk.seen c.accept_plan.new.disk) refl (inl (over_status statuses.Edge c.give_up-in-Err-Edge.result c.give_up-in-Err-Edge.ensures.over))
+returns-in-Err-Output-clause-swept g c = never_closes g.D.Disk.is_modelled g.J.Journal.entries (status_of_ran c.give_up-in-Err-Output.result) statuses.Edge
+    (g.D.Disk.seen c.accept_plan.new.disk) refl (inl (over_status statuses.Edge c.give_up-in-Err-Output.result c.give_up-in-Err-Output.ensures.over))
 
 -- ---- with which status the call ends
 
@@ -515,4 +515,4 @@ returns-in-Err-Disk-clause-ends_call g c = over_ends c.say_disk-status.result c.
     (edge_ends c.say_disk-status.result statuses.Disk c.say_disk-status.ensures.answers (inl refl))
 
 pub returns-in-Err-Output-clause-ends_call : goal.returns-in-Err-Output-clause-ends_call
-returns-in-Err-Edge-clause-ends_call g c = over_ends statuses.Edge c.give_up-in-Err-Edge.result c.give_up-in-Err-Edge.ensures.over (inl refl)
+returns-in-Err-Output-clause-ends_call g c = over_ends statuses.Edge c.give_up-in-Err-Output.result c.give_up-in-Err-Output.ensures.over (inl refl)
