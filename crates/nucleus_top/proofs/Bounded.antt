@@ -1,51 +1,72 @@
 -- How far a journal that can turn goes behind a plan that is accepted.
-use Rattle.std.proofs.Common.{◌≡◌, ◌⊎◌, ◌≤◌, ◌∙◌, inl, inr, ℕ, ◌+◌, IsTrue, List, [], ◌∷◌, Result, sym, ap, subst, arith}
+use Rattle.std.proofs.Common.{◌≡◌, ◌⊎◌, ◌≤◌, ◌++◌, inl, inr, ℕ, ◌+◌, Bool, IsTrue, List, Option, ap, arith}
 use Rattle.std.specs.Ordering.{is_lt, nat_cmp}
 use Rattle.disk_model.specs.Disk.{Image}
-use Rattle.checkpoint_log.specs.Slots.{slots_entries}
-use Rattle.records.specs.Stored.{Accepted, Plan, Record}
-use Rattle.records.specs.declared.record.Plan as code
-use Rattle.device.specs.Devices.{Device}
+use Rattle.disk_model.specs.declared.disk.Disk as a_disk
+use Rattle.nuc_base.specs.declared.status.Status.{Status}
+use Rattle.checkpoint_log.specs.Slots.{slots_entries, slots_turn}
+use Rattle.library_core.specs.Library.{Content}
 use Rattle.deploy_state.specs.Turning.{can_turn, front_bytes, plan_bytes, starts_at}
 use Rattle.deploy_state.proofs.Siting.{stays_bounded}
-use Rattle.histories.specs.TraceEvents.{records_of}
-use Rattle.law_histories.proofs.Growing.{tail_same}
-use Rattle.admission.specs.declared.fault.Declined.{Declined}
-use Rattle.session.specs.Documents.{AcceptsFrom, AcceptsTaken, HasAcceptedTo}
-use Rattle.session.specs.Endings.{Ending, Fails}
-use Rattle.nucleus_top.specs.Bounded.{AcceptsWithin, most_behind}
+use Rattle.histories.specs.States.{SessionState}
+use Rattle.histories.specs.TraceEvents.{TraceEvent, records_of}
+use Rattle.session.proofs.Accepted.{accepted_at}
+use Rattle.session_serving.specs.Parts.{IsStarted, Outside}
+use Rattle.session_serving.specs.Rounds.{Handled, round_of_last}
+use Rattle.session_serving.proofs.Rounding.{started_more}
+use Rattle.nucleus_top.specs.Bounded.{AcceptsWithin, AreWithin, IsWithin, ServesWithin, most_behind}
 use Rattle.nucleus_top.specs.Drives.{StartsFrom}
-use Rattle.nucleus_top.proofs.Requested.{taken_as}
+use Rattle.nucleus_top.specs.Serving.{Parts, on_disk, slots_ghosts}
 
-module _ {D : Type 0} (may_leave : D → Image → Type 0) (moment : D → ℕ) (left_since : D → ℕ → Image → Type 0) (old new : D) (d : Device) (image : Image)
-    (start : ℕ → ℕ) (s : StartsFrom image d start) (can : IsTrue (can_turn (is_lt (nat_cmp s.number 18446744073709551615)) s.number)) where
-  -- what is said of the end of a journal
-  abbrev Within : Plan → Type 0
-  Within plan = (end : ℕ) × (end ≤ most_behind (front_bytes (s.number + 1) d) (plan_bytes plan)) ×
-      HasAcceptedTo slots_entries may_leave moment left_since old new d plan end
-
-  bounded : (size : ℕ) → start size + 5 + size ≤ most_behind (front_bytes (s.number + 1) d) size
-  bounded size =
-      let same : start size ≡ starts_at (can_turn (is_lt (nat_cmp s.number 18446744073709551615)) s.number) s.end (front_bytes (s.number + 1) d) size =
-      ap (λ (f : ℕ → ℕ). f size) s.start_is in
-      let most = stays_bounded (can_turn (is_lt (nat_cmp s.number 18446744073709551615)) s.number) s.end (front_bytes (s.number + 1) d) size can in
-      omega (arith, same, most)
-
-  within_of : (plan : Plan) (rest : List Record) (ending : Ending) (records : List Record) → records ≡ Accepted plan ∷ rest
-      → AcceptsFrom slots_entries may_leave moment left_since old new d start plan ending records
-      → ((ending ≡ Fails) × (rest ≡ [])) ⊎ Within plan
-  within_of plan rest ending records is (inl none) = let no : [] ≡ Accepted plan ∷ rest = sym none ∙ is in absurd cc
-  within_of plan rest ending records is (inr (inl failed)) =
-      inl (failed.0, tail_same (Accepted plan) (Accepted plan) rest [] (sym is ∙ failed.1))
-  within_of plan rest ending records is (inr (inr accepted)) = inr (start (plan_bytes plan) + 5 + plan_bytes plan, bounded (plan_bytes plan), accepted)
+bounded : (can : Bool) (end front : ℕ) (start : ℕ → ℕ) → start ≡ starts_at can end front → IsTrue can → (size : ℕ) →
+    start size + 5 + size ≤ most_behind front size
+bounded can end front start is turns size =
+    let same : start size ≡ starts_at can end front size = ap (λ (f : ℕ → ℕ). f size) is in
+    let most = stays_bounded can end front size turns in
+    omega (arith, same, most)
 
 module _ {D : Type 0} (may_leave : D → Image → Type 0) (moment : D → ℕ) (left_since : D → ℕ → Image → Type 0) (faults : D → ℕ) where
   pub accepts_within : AcceptsWithin may_leave moment left_since faults
   accepts_within old new old_list new_list printed result d start library what bytes h image s can plan rest is =
-      let ending = h.call.0.ending in
-      let records = records_of h.call.0.history in
-      let t = taken_as start ending records rest plan is h.taken h.call.1 in
-      let accepts = subst (λ (r : Result code.Plan Declined). AcceptsTaken slots_entries may_leave moment left_since old new d start r ending records)
-      t.taken_is h.accepts in
-      within_of may_leave moment left_since old new d image start s can plan rest ending records is
-      (subst (λ (p : Plan). AcceptsFrom slots_entries may_leave moment left_since old new d start p ending records) (sym t.plan_is) accepts)
+      elim (accepted_at slots_entries may_leave moment left_since old new d start h.call.0.ending (records_of h.call.0.history) rest plan is h.taken h.call.1
+      h.accepts) [
+        | inl failed ↦ inl failed
+        | inr there ↦ inr (
+          start (plan_bytes plan) + 5 + plan_bytes plan,
+          bounded (can_turn (is_lt (nat_cmp s.number 18446744073709551615)) s.number) s.end (front_bytes (s.number + 1) d) start s.start_is can
+              (plan_bytes plan),
+          there,
+        )
+      ]
+
+-- ---- a call that serves
+
+module _ {D : Type 0} (disk : a_disk.Ghosts D) where
+  within_started : (old new : D) (x : Handled) → IsStarted disk slots_ghosts old new x → IsWithin disk old new x
+  within_started old new x s told =
+      let shown = s.0 told in
+      let log = shown.2.log in (
+        shown.0,
+        shown.1,
+        shown.2,
+        λ can plan rest is. elim (s.1 plan rest is) [
+          | inl failed ↦ inl failed
+          | inr there ↦ inr (
+            x.start (plan_bytes plan) + 5 + plan_bytes plan,
+            bounded (can_turn (slots_turn log) log.number) log.live.end (front_bytes (log.number + 1) x.device) x.start shown.2.start_is can
+                (plan_bytes plan),
+            there,
+          )
+        ],
+      )
+
+  parts_within : (content : Option Content) (most : ℕ) (old new : Outside D) (p : SessionState) (status : Status) (h : List TraceEvent)
+      (parts : Parts disk content most old new p status h) → AreWithin disk content most old new p status h parts
+  parts_within content most old new p status h (inl halted) = tt
+  parts_within content most old new p status h (inr served) =
+      started_more (IsStarted disk slots_ghosts served.2.disk new.disk) (IsWithin disk served.2.disk new.disk)
+      (within_started served.2.disk new.disk) (served.8.rounds ++ round_of_last served.8.last) served.8.starts
+
+  pub serves_within : ServesWithin disk
+  serves_within content old new result d turns s =
+      parts_within content turns (on_disk s.from old) new s.place result s.history s.call.parts

@@ -1,3 +1,4 @@
+mod Acknowledged
 mod AuditEnds
 mod Bounded
 mod Closing

@@ -22,30 +22,12 @@ use Rattle.admission.specs.declared.fault.Declined.{Declined}
 use Rattle.admission.specs.declared.fault.Declined.TheVariants.{Refused, Unstaged, Unasked}
 use Rattle.admission.specs.declared.unasked.Unasked.TheVariants as unasked
 use Rattle.law_whole.specs.Requested.{ChangesKeepAll, IsChangePlan, KeepsAll, LocalsMoveOneList}
+use Rattle.session.proofs.Accepted.{taken_as}
 use Rattle.session.specs.Calls.{IsOrEdge}
 use Rattle.session.specs.Declines.{status_of_declined}
-use Rattle.session.specs.Documents.{Begins, Follows, IsPutOff}
+use Rattle.session.specs.Documents.{Follows, IsPutOff}
 use Rattle.session.specs.Endings.{Ending, Closes, Restarts, Reboots, Fails, Breaks, Forgets, Starves, Declines, Full, Idle, IsBegun, status_of_ending}
 use Rattle.nucleus_top.specs.Requested.{ChangesMoveOneItem, LocalsMoveOneGroup, NeverAnswers}
-
--- ---- the plan that was accepted
-
-pub record IsTakenAs (taken : Result code.Plan Declined) (p : Plan) : Type 0 where
-  pub plan : code.Plan
-  pub taken_is : taken ≡ Ok plan
-  pub plan_is : p ≡ plan_view plan
-
-first_same : (p q : Plan) (rest more : List Record) → ◌≡◌ {A = List Record} (Accepted p ∷ rest) (Accepted q ∷ more) → p ≡ q
-first_same p q rest more same = cc
-
-module _ (start : ℕ → ℕ) (ending : Ending) (records rest : List Record) (p : Plan) (is : records ≡ Accepted p ∷ rest) where
-  begun_as : (plan : code.Plan) → Begins start (plan_view plan) ending records → p ≡ plan_view plan
-  begun_as plan (inl off) = let wrong : [] ≡ Accepted p ∷ rest = sym off.1 ∙ is in cc
-  begun_as plan (inr on) = first_same p (plan_view plan) rest on.2.0 (sym is ∙ on.2.1)
-
-  pub taken_as : (taken : Result code.Plan Declined) → Follows start taken ending records → IsTakenAs taken p
-  taken_as (Ok plan) follows = record { plan = plan; taken_is = refl; plan_is = begun_as plan follows }
-  taken_as (Err x) follows = let wrong : [] ≡ Accepted p ∷ rest = sym follows.1 ∙ is in absurd cc
 
 -- ---- which statuses never come
 

@@ -39,7 +39,7 @@ use Rattle.histories.specs.TraceEvents.{TraceEvent, records_of}
 use Rattle.session_serving.specs.Documents.{IsDeployedThere}
 use Rattle.session_serving.specs.Parts.{AreOfFiles, Outside}
 use Rattle.session_serving.specs.Places.{IsBegun}
-use Rattle.session_serving.specs.Served.{EndsAs, Finishes, IsServed as IsServedThere, IsWholeCall}
+use Rattle.session_serving.specs.Served.{EndsAs, Finishes, IsSetServed, IsWholeCall}
 use Rattle.nucleus_top.specs.Meeting.{StayMet}
 use Rattle.nucleus_top.specs.Serving.{slots_ghosts}
 use Rattle.nucleus_top.proofs.Crashes.{entries_stay}
@@ -100,7 +100,7 @@ module _ {D : Type 0} (content : Option Content) (most : ℕ) (rounds : List Rou
 module _ {D : Type 0} (disk : a_disk.Ghosts D) (content : Option Content) (most : ℕ) (old new : Outside D) (p : SessionState) (h : List TraceEvent)
     (result : Status) where
   served_brings : TakenAreMet → IsSound p.device → IsSome p.device.origin
-      → IsServedThere disk slots_ghosts (IsDeployedThere content) most old new p h result → BringMet p.device (records_of h)
+      → IsSetServed disk slots_ghosts (IsDeployedThere content) most old new p h result → BringMet p.device (records_of h)
   served_brings law sound some s =
       let r = rounds_bring law content s.rounds p.device old.library s.behind s.to.library sound some s.handled in
       let run = r.1 in
@@ -161,7 +161,7 @@ module _ {D : Type 0} (content : Option Content) (most : ℕ) (rounds : List Rou
 module _ {D : Type 0} (disk : a_disk.Ghosts D) (content : Option Content) (most : ℕ) (old new : Outside D) (p : SessionState) (h : List TraceEvent)
     (result : Status) where
   served_wholes : TreesAreRegular → TakenAreWhole → IsSound p.device → IsSome p.device.origin
-      → IsServedThere disk slots_ghosts (IsDeployedThere content) most old new p h result → BringWhole p.device (records_of h)
+      → IsSetServed disk slots_ghosts (IsDeployedThere content) most old new p h result → BringWhole p.device (records_of h)
   served_wholes trees law sound some s =
       let r = rounds_whole trees law content s.rounds p.device old.library s.behind s.to.library sound some s.handled in
       let run = r.1 in

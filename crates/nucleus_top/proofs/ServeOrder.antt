@@ -31,7 +31,7 @@ use Rattle.session_serving.specs.Documents.{EndsWith, IsDeployedThere}
 use Rattle.session_serving.specs.Parts.{Outside}
 use Rattle.session_serving.specs.Rounds.{AreHandled, Fails, Handled, Last, Round, Shut, Spent, Starves, Stops, Took, Waited}
 use Rattle.session_serving.specs.Rounds.{records_of_last, records_of_rounds, round_of_last, untold_of_last}
-use Rattle.session_serving.specs.Served.{EndsAs, IsHalted, IsServed as IsServedThere}
+use Rattle.session_serving.specs.Served.{EndsAs, IsHalted, IsSetServed}
 use Rattle.nucleus_top.proofs.Printed.{told_front}
 use Rattle.nucleus_top.specs.Lasting.{Lasts}
 use Rattle.nucleus_top.specs.Opening.{Stands}
@@ -168,7 +168,7 @@ module _ {D : Type 0} (content : Option Content) (most : ℕ) (rounds : List Rou
 
 module _ {D : Type 0} (disk : a_disk.Ghosts D) (content : Option Content) (most : ℕ) (old new : Outside D) (status : Status) where
   served_in_order : (p : SessionState) (h : List TraceEvent)
-      → (s : IsServedThere disk slots_ghosts (IsDeployedThere content) most old new p h status) → IsInOrder most s.rounds s.last status old.library new.library
+      → (s : IsSetServed disk slots_ghosts (IsDeployedThere content) most old new p h status) → IsInOrder most s.rounds s.last status old.library new.library
   served_in_order p h s = record {
     closed = done_shuts content most s.rounds status s.to new s.behind s.last s.ends;
     closes = shut_done content most s.rounds status s.to new s.behind s.last s.ends;
@@ -215,7 +215,7 @@ module _ {D : Type 0} (disk : a_disk.Ghosts D) (content : Option Content) (most 
   }
 
   served_written : (before g : List TraceEvent) (to : Outside D) → h ≡ g ++ before → Run p.device (records_of before) (state_after p before).device →
-      (s : IsServedThere disk slots_ghosts (IsDeployedThere content) most to new (state_after p before) g status) →
+      (s : IsSetServed disk slots_ghosts (IsDeployedThere content) most to new (state_after p before) g status) →
       Written disk new.disk p.device (records_of h) (untold_of_last s.last)
   served_written before g to same first s =
       let last = last_split content most s.rounds status s.to new s.behind s.last s.ends in

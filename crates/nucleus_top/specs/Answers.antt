@@ -3,11 +3,15 @@ use Rattle.std.specs.Prelude.{◌≡◌, ◌≢◌, ◌⊎◌, ℕ, List, ◌++�
 use Rattle.std.specs.declared.option.Option.{Option}
 use Rattle.std.specs.Io.KnownBytes.{Appends}
 use Rattle.disk_model.specs.Disk.{Image}
+use Rattle.disk_model.specs.declared.disk.Disk as a_disk
 use Rattle.nuc_base.specs.declared.status.Status.{Status}
 use Rattle.nuc_base.specs.declared.status.Status.TheVariants as status
 use Rattle.nuc_base.specs.Faults.{Rose}
 use Rattle.edges.specs.Pieces.{AppendsPrefix}
+use Rattle.edges.specs.declared.sink.Sink as a_sink
+use Rattle.edges.specs.declared.source.Source as a_source
 use Rattle.library_core.specs.Library.{Content}
+use Rattle.library_core.specs.declared.library.Library as a_library
 use Rattle.recipe_reader.specs.Members.{members}
 use Rattle.refusal_lines.specs.Statuses.{status_of_refusal}
 use Rattle.why_not.specs.Reasons.{seen}
@@ -107,6 +111,9 @@ store_of is_modelled seen faults old new = record {
       faults new;
 }
 
+abbrev pub store_over : {D : Type 0} → a_disk.Ghosts D → D → D → Store
+store_over disk old new = store_of disk.is_modelled disk.seen disk.faults old new
+
 -- What a call reads from: the bytes that it has left before and after. Untold bytes are None.
 pub record Input : Type 0 where
   pub document : Option (List ℕ)
@@ -117,6 +124,9 @@ pub record Input : Type 0 where
 abbrev pub input_of : {S : Type 0} → (S → Option (List ℕ)) → (S → ℕ) → S → S → Input
 input_of left faults old new = record { document = left old; rest = left new; faults_before = faults old; faults_after = faults new }
 
+abbrev pub input_over : {S : Type 0} → a_source.Ghosts S → S → S → Input
+input_over source old new = input_of source.left source.faults old new
+
 -- The library of a call: what it holds, where it tells that, and its counts of faults.
 pub record Shelf : Type 0 where
   pub content : Option Content
@@ -125,6 +135,9 @@ pub record Shelf : Type 0 where
 
 abbrev pub shelf_of : {L : Type 0} → (L → Option Content) → (L → ℕ) → L → L → Shelf
 shelf_of content faults old new = record { content = content old; faults_before = faults old; faults_after = faults new }
+
+abbrev pub shelf_over : {L : Type 0} → a_library.Ghosts L → L → L → Shelf
+shelf_over library old new = shelf_of library.content library.faults old new
 
 -- What a call prints to, before and after.
 pub record Printed : Type 0 where
@@ -135,6 +148,9 @@ pub record Printed : Type 0 where
 
 abbrev pub printed_of : {K : Type 0} → (K → Option (List ℕ)) → (K → ℕ) → K → K → Printed
 printed_of held faults old new = record { before = held old; after = held new; faults_before = faults old; faults_after = faults new }
+
+abbrev pub printed_over : {K : Type 0} → a_sink.Ghosts K → K → K → Printed
+printed_over sink old new = printed_of sink.held sink.faults old new
 
 -- what every file reads as is unchanged
 abbrev pub IsUnchanged : Store → Type 0

@@ -1,5 +1,6 @@
+pub mod Acknowledged
 pub mod Answers
-pub mod ReadClock
+pub mod Asked
 pub mod Audits
 pub mod Begun
 pub mod Bounded

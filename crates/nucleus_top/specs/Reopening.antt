@@ -1,9 +1,12 @@
--- What each image at the end of a call that drives one deployment has of what was recorded in it.
+-- What each image at the end of a call that drives deployments has of what was recorded in it.
 use Rattle.std.specs.Prelude.{◌≡◌, ℕ, true, List, Option}
 use Rattle.nuc_base.specs.declared.kinds.Exit.{Exit}
 use Rattle.nuc_base.specs.declared.kinds.Step.{Step}
 use Rattle.nuc_base.specs.declared.status.Status.{Status}
 use Rattle.disk_model.specs.Disk.{Image}
+use Rattle.disk_model.specs.declared.disk.Disk as a_disk
+use Rattle.library_core.specs.Library.{Content}
+use Rattle.device.specs.Devices.{Device}
 use Rattle.checkpoint_log.specs.Slots.{slots_entries, slots_files}
 use Rattle.records.specs.Stored.{StepFailed}
 use Rattle.step_runner.specs.declared.entries.RunnerEntry.{RunnerEntry}
@@ -16,6 +19,8 @@ use Rattle.law_reopening.specs.Failed.{HasBehind, HasFailed, is_start, starts}
 use Rattle.law_reopening.specs.Reopened.{AllKeep}
 use Rattle.session_boots.specs.Traces.{StandsForPrefix}
 use Rattle.session.specs.Calls.{Call}
+use Rattle.session_serving.specs.Parts.{Outside}
+use Rattle.nucleus_top.specs.Serving.{IsServedOn}
 
 module _ {D : Type 0} (may_leave : D → Image → Type 0) where
   -- Where a bootstrap starts its beginning is in each image, or it had begun as the call began. Where anything starts behind the failure of a
@@ -32,3 +37,8 @@ module _ {D : Type 0} (may_leave : D → Image → Type 0) where
   CallsReopen moment left_since = (old new : D) (old_list new_list : Option (List RunnerEntry)) (old_held new_held : Option (List ℕ)) (p : SessionState)
       (status : Status) (c : Call slots_entries slots_files may_leave moment left_since old new old_list new_list old_held new_held p status) →
       IsHistory p c.history → Reopens new p c.history
+
+-- and with each call that serves
+abbrev pub ServesReopen : {D : Type 0} → a_disk.Ghosts D → Type 0
+ServesReopen {D} disk = (content : Option Content) (old new : Outside D) (result : Status) (d : Device) (turns : ℕ)
+    (s : IsServedOn disk content old new result d turns) → Reopens disk.may_leave new.disk s.place s.history

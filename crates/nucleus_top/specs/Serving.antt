@@ -1,5 +1,5 @@
 -- The command that keeps a set up, and what such a call promises.
-use Rattle.std.specs.Prelude.{◌≡◌, ◌≤◌, ◌⊎◌, ℕ, ◌+◌, ◌-◌, ◌^◌, min, Bool, true, false, List, [], ◌∷◌, ◌++◌, length, Option}
+use Rattle.std.specs.Prelude.{◌≡◌, ◌≤◌, ◌⊎◌, ℕ, ◌+◌, ◌-◌, ◌^◌, min, Bool, true, false, IsTrue, List, [], ◌∷◌, ◌++◌, length, Option}
 use Rattle.std.specs.Prelude.{if◌then◌else◌}
 use Rattle.std.proofs.Common.{inl, inr}
 use Rattle.nuc_base.specs.declared.status.Status.{Status}
@@ -10,6 +10,7 @@ use Rattle.gate_log.specs.declared.journal.Journal as a_journal
 use Rattle.checkpoint_log.specs.Slots.{slots_damaged, slots_entries, slots_files, slots_none, slots_put, slots_stands, slots_turn}
 use Rattle.checkpoint_log.specs.declared.slots.Slots.{Slots}
 use Rattle.library_core.specs.Library.{Content}
+use Rattle.artifact_store.specs.Swept.{IsSwept, items_of}
 use Rattle.device.specs.Devices.{Device}
 use Rattle.records.specs.Stored.{Record}
 use Rattle.histories.specs.Courses.{gives_up, is_restart}
@@ -21,7 +22,7 @@ use Rattle.session.specs.Parts.{EndsCall}
 use Rattle.session_serving.specs.Documents.{IsDeployedThere}
 use Rattle.session_serving.specs.Parts.{Outside}
 use Rattle.session_serving.specs.Rounds.{Last, Round, Shut, Spent, Took, Waited, round_of_last, untold_of_last}
-use Rattle.session_serving.specs.Served.{IsFinished, IsHalted, IsServed as IsServedThere, IsWholeCall}
+use Rattle.session_serving.specs.Served.{IsFinished, IsHalted, IsSetServed, IsWholeCall}
 use Rattle.nucleus_top.specs.Answers.{Store}
 use Rattle.nucleus_top.specs.Drives.{IsDrivenOn}
 use Rattle.nucleus_top.specs.Lasting.{Lasts}
@@ -82,7 +83,7 @@ module _ {D : Type 0} (disk : a_disk.Ghosts D) (content : Option Content) (most 
   Parts h = (IsHalted disk slots_ghosts old new p h status × (new.answered ≡ old.answered) × (new.waiting ≡ old.waiting) × (new.library ≡ old.library))
       ⊎ ((before g : List TraceEvent) × (to : Outside D) × (h ≡ g ++ before) × (to.answered ≡ old.answered) × (to.waiting ≡ old.waiting)
       × (to.library ≡ old.library) × IsFinished disk slots_ghosts old to p before
-      × IsServedThere disk slots_ghosts (IsDeployedThere content) most to new (state_after p before) g status)
+      × IsSetServed disk slots_ghosts (IsDeployedThere content) most to new (state_after p before) g status)
 
   -- the records whose line is perhaps not written
   abbrev pub untold_of : (h : List TraceEvent) → Parts h → List Record
@@ -107,6 +108,8 @@ module _ {D : Type 0} (disk : a_disk.Ghosts D) (content : Option Content) (old n
     pub driven : IsDrivenOn disk.may_leave disk.moment disk.left_since old.disk new.disk d place history
     pub from : D
     pub before : ChangesArtifactsAlone disk.may_leave disk.moment disk.left_since old.disk from
+    -- no stray file is left then
+    pub swept : IsTrue disk.is_modelled → IsSwept (items_of d) (disk.seen from)
     -- at the end each image stands for the device of all records, or of all but the last
     pub most : (c : Image) → disk.may_leave new.disk c → StandsForMost slots_entries d (records_of history) c
     pub call : IsWholeCall disk slots_ghosts (IsDeployedThere content) turns (on_disk from old) new place history result

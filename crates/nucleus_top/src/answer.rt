@@ -1,7 +1,7 @@
 ghost use Rattle.std.specs.Prelude.{◌≡◌, ◌≤◌, OnOk};
 ghost use Rattle.nuc_base.specs.Faults.{HasCause};
 ghost use Rattle.edges.specs.Pieces.{Writes};
-ghost use Rattle.nucleus_top.specs.Answers.{status_of, lines_of, printed_of, Told};
+ghost use Rattle.nucleus_top.specs.Answers.{status_of, lines_of, printed_over, Told};
 
 use crate::explanation::Explanation;
 use edges::{EdgeFault, Sink, write_all, write_pieces};
@@ -119,7 +119,7 @@ impl Answer {
 
     /// Prints the lines, and answers the status: 6 where they could not be written.
     pub fn tell<K: Sink>(&self, sink: &mut K) -> Status
-        ensures told { Told (printed_of K.held K.faults sink.old sink.new) result self.now }
+        ensures told { Told (printed_over K.Sink sink.old sink.new) result self.now }
         ensures later { K.faults sink.old ≤ K.faults sink.new }
     {
         match self.print(sink) {

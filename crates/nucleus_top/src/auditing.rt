@@ -6,7 +6,7 @@ ghost use Rattle.nuc_base.specs.Faults.{Rose};
 ghost use Rattle.command_words.specs.declared.order.Order.TheVariants as order;
 ghost use Rattle.device.specs.Devices.{device_view};
 ghost use Rattle.status_text.specs.Status.{line};
-ghost use Rattle.nucleus_top.specs.Answers.{store_of};
+ghost use Rattle.nucleus_top.specs.Answers.{store_over};
 ghost use Rattle.nucleus_top.specs.Audits.{Audits, Compares, differs_line};
 ghost use Rattle.nucleus_top.specs.Leaving.{Keeps};
 
@@ -83,7 +83,7 @@ fn compare_stored<D: Disk, S: HasDevice + Drop>(alloc: Global, disk: &mut D, sta
 /// Compares the files of the artifacts of the device for which the journal stands, those of its set and of its pending
 /// plan, with the digests that are kept. It writes nothing to the disk.
 pub fn audit<D: Disk>(alloc: Global, disk: &mut D) -> Answer
-    ensures comes { Audits (store_of D.is_modelled D.seen D.faults disk.old disk.new) result }
+    ensures comes { Audits (store_over D.Disk disk.old disk.new) result }
     ensures moments { Leaves D.moment D.left_since disk.old disk.new (D.may_leave disk.old) }
     ensures keeps { Keeps order.Audit (D.may_leave disk.new) (D.seen disk.new) result }
     ensures seen { D.seen disk.new ≡ D.seen disk.old }

@@ -5,7 +5,7 @@ ghost use Rattle.command_words.specs.declared.order.Order.TheVariants as order;
 ghost use Rattle.deploy_state.specs.Loading.{IsReady};
 ghost use Rattle.device.specs.Devices.{device_view, IsRegularDevice};
 ghost use Rattle.status_text.specs.Status.{line};
-ghost use Rattle.nucleus_top.specs.Answers.{store_of};
+ghost use Rattle.nucleus_top.specs.Answers.{store_over};
 ghost use Rattle.nucleus_top.specs.Gets.{Gets, GetsOn, TellsAbsence, TellsNode, escaped, escaped_byte, pointer_text};
 ghost use Rattle.nucleus_top.specs.Leaving.{Keeps};
 
@@ -120,7 +120,7 @@ fn get_stored<S: HasDevice + Drop>(alloc: Global, name: &Name, at: &Pointer, sta
 /// Prints a node of the configuration of a component of the device for which the journal stands. It writes nothing to the
 /// disk.
 pub fn get<D: Disk>(alloc: Global, name: &Name, at: &Pointer, disk: &mut D) -> Answer
-    ensures comes { Gets name.now at.now (store_of D.is_modelled D.seen D.faults disk.old disk.new) result }
+    ensures comes { Gets name.now at.now (store_over D.Disk disk.old disk.new) result }
     ensures moments { Leaves D.moment D.left_since disk.old disk.new (D.may_leave disk.old) }
     ensures keeps { Keeps (order.ConfigGet name.now at.now) (D.may_leave disk.new) (D.seen disk.new) result }
     ensures seen { D.seen disk.new ≡ D.seen disk.old }

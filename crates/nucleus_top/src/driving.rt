@@ -17,7 +17,7 @@ ghost use Rattle.session.specs.Sweeping.{LeavesNoStray};
 ghost use Rattle.checkpoint_log.specs.declared.slots.Slots.{Slots as Journal};
 ghost use Rattle.deploy_state.specs.declared.state.Idle as idles;
 ghost use Rattle.edges.specs.Reading.{ReadsUpTo};
-ghost use Rattle.nucleus_top.specs.Answers.{input_of, printed_of, shelf_of, store_of};
+ghost use Rattle.nucleus_top.specs.Answers.{input_over, printed_over, shelf_over, store_over};
 ghost use Rattle.nucleus_top.specs.Crashes.{KeepsJournal, KeepsJournalOrFiles, KeepsSameWhole, LeavesSame};
 ghost use Rattle.nucleus_top.specs.Opening.{HasEntry, Stands};
 ghost use Rattle.nucleus_top.specs.Drives.{DeploysOn, IsDeployed, IsDeployedOn};
@@ -86,7 +86,7 @@ pub(crate) fn open_swept<D: Disk>(alloc: Global, disk: &mut D) -> Result<Loaded<
     ensures disk { IsErrOf result Answer.DiskFailed → Rose (D.faults disk.old) (D.faults disk.new) }
     ensures quiet { ¬ (IsErrOf result Answer.DiskFailed) → D.faults disk.new ≡ D.faults disk.old }
     ensures later { D.faults disk.old ≤ D.faults disk.new }
-    ensures answers { IfErr result (λ a. MayNotOpen (store_of D.is_modelled D.seen D.faults disk.old disk.new) a) }
+    ensures answers { IfErr result (λ a. MayNotOpen (store_over D.Disk disk.old disk.new) a) }
 {
     // The journal does not lie among the files of artifacts.
     needed_files_stay();
@@ -134,7 +134,7 @@ fn open_idle<D: Disk>(alloc: Global, disk: &mut D) -> Result<Idle<Slots>, Answer
     ensures disk { IsErrOf result Answer.DiskFailed → Rose (D.faults disk.old) (D.faults disk.new) }
     ensures quiet { ¬ (IsErrOf result Answer.DiskFailed) → D.faults disk.new ≡ D.faults disk.old }
     ensures later { D.faults disk.old ≤ D.faults disk.new }
-    ensures answers { IfErr result (λ a. MayNotOpenIdle (store_of D.is_modelled D.seen D.faults disk.old disk.new) a) }
+    ensures answers { IfErr result (λ a. MayNotOpenIdle (store_over D.Disk disk.old disk.new) a) }
 {
     match open_swept(alloc, disk) {
         Ok(state) => idle_of(alloc, state),
@@ -167,8 +167,8 @@ fn deploy_made<D: Disk, L: Library, K: Sink, R: Runner>(
     requires roots { IfOk made (λ document. AreSound document.roots) }
     requires inside { IfErr made (λ x. IsInside x) }
     ensures driven { IsDeployedOn D.may_leave D.moment D.left_since D.faults disk.old disk.new (R.list runner.old) (R.list runner.new)
-        (printed_of K.held K.faults sink.old sink.new) result
-        (idle_device idle) (slots_start (idle_log idle) (idle_device idle)) (shelf_of L.content L.faults library.old library.new)
+        (printed_over K.Sink sink.old sink.new) result
+        (idle_device idle) (slots_start (idle_log idle) (idle_device idle)) (shelf_over L.Library library.old library.new)
         (IsMade made) }
     ensures none { R.living runner.new ≡ [] }
     ensures others { IsTrue D.is_modelled → Elsewhere slots_files (D.seen disk.old) (D.seen disk.new) }
@@ -216,8 +216,8 @@ fn deploy_bytes<D: Disk, L: Library, K: Sink, R: Runner>(
     requires held { OwnsIdle D.is_modelled D.may_leave slots_stands (λ log. log.live.end) idle disk.old }
     requires none { R.living runner.old ≡ [] }
     ensures driven { IsDeployedOn D.may_leave D.moment D.left_since D.faults disk.old disk.new (R.list runner.old) (R.list runner.new)
-        (printed_of K.held K.faults sink.old sink.new) result
-        (idle_device idle) (slots_start (idle_log idle) (idle_device idle)) (shelf_for what.now (shelf_of L.content L.faults library.old library.new))
+        (printed_over K.Sink sink.old sink.new) result
+        (idle_device idle) (slots_start (idle_log idle) (idle_device idle)) (shelf_for what.now (shelf_over L.Library library.old library.new))
         (Requests what.now bytes.now) }
     ensures none { R.living runner.new ≡ [] }
     ensures others { IsTrue D.is_modelled → Elsewhere slots_files (D.seen disk.old) (D.seen disk.new) }
@@ -255,12 +255,12 @@ fn deploy_read<D: Disk, L: Library, S: Source, K: Sink, R: Runner>(
 ) -> Status
     requires held { OwnsIdle D.is_modelled D.may_leave slots_stands (λ log. log.live.end) idle disk.old }
     requires none { R.living runner.old ≡ [] }
-    ensures ran { (IsUnread disk.old disk.new (input_of S.left S.faults source.old source.new) (printed_of K.held K.faults sink.old sink.new) result ×
+    ensures ran { (IsUnread disk.old disk.new (input_over S.Source source.old source.new) (printed_over K.Sink sink.old sink.new) result ×
         (runner.new ≡ runner.old))
         ⊎ DeploysOn D.may_leave D.moment D.left_since D.faults disk.old disk.new (R.list runner.old) (R.list runner.new)
-        (printed_of K.held K.faults sink.old sink.new) result what.now
-        (idle_device idle) (slots_start (idle_log idle) (idle_device idle)) (input_of S.left S.faults source.old source.new)
-        (shelf_for what.now (shelf_of L.content L.faults library.old library.new)) }
+        (printed_over K.Sink sink.old sink.new) result what.now
+        (idle_device idle) (slots_start (idle_log idle) (idle_device idle)) (input_over S.Source source.old source.new)
+        (shelf_for what.now (shelf_over L.Library library.old library.new)) }
     ensures none { R.living runner.new ≡ [] }
     ensures others { IsTrue D.is_modelled → Elsewhere slots_files (D.seen disk.old) (D.seen disk.new) }
     ensures disk { result ≡ statuses.Disk → Rose (D.faults disk.old) (D.faults disk.new) }
@@ -312,12 +312,12 @@ pub(crate) fn deploy<D: Disk, L: Library, S: Source, K: Sink, R: Runner>(
     runner: &mut R,
 ) -> Status
     requires none { R.living runner.old ≡ [] }
-    ensures ran { (IsRefusedBefore D.seen D.may_leave D.moment D.left_since (λ a. TurnsAway (store_of D.is_modelled D.seen D.faults disk.old disk.new)
-        (input_of S.left S.faults source.old source.new) a) disk.old disk.new (printed_of K.held K.faults sink.old sink.new) result × (runner.new ≡ runner.old))
+    ensures ran { (IsRefusedBefore D.seen D.may_leave D.moment D.left_since (λ a. TurnsAway (store_over D.Disk disk.old disk.new)
+        (input_over S.Source source.old source.new) a) disk.old disk.new (printed_over K.Sink sink.old sink.new) result × (runner.new ≡ runner.old))
         ⊎ IsDeployed D.may_leave D.moment D.left_since D.faults disk.old disk.new (R.list runner.old) (R.list runner.new)
-        (printed_of K.held K.faults sink.old sink.new) result what.now
-        (store_of D.is_modelled D.seen D.faults disk.old disk.new) (input_of S.left S.faults source.old source.new)
-        (shelf_of L.content L.faults library.old library.new) }
+        (printed_over K.Sink sink.old sink.new) result what.now
+        (store_over D.Disk disk.old disk.new) (input_over S.Source source.old source.new)
+        (shelf_over L.Library library.old library.new) }
     ensures none { R.living runner.new ≡ [] }
     ensures others { IsTrue D.is_modelled → Elsewhere slots_files (D.seen disk.old) (D.seen disk.new) }
     ensures disk { result ≡ statuses.Disk → Rose (D.faults disk.old) (D.faults disk.new) }
@@ -353,11 +353,11 @@ pub(crate) fn resume<D: Disk, K: Sink, R: Runner>(
     runner: &mut R,
 ) -> Status
     requires none { R.living runner.old ≡ [] }
-    ensures ran { (IsRefusedBefore D.seen D.may_leave D.moment D.left_since (λ a. MayNotOpen (store_of D.is_modelled D.seen D.faults disk.old disk.new) a)
-        disk.old disk.new (printed_of K.held K.faults sink.old sink.new) result × (runner.new ≡ runner.old))
+    ensures ran { (IsRefusedBefore D.seen D.may_leave D.moment D.left_since (λ a. MayNotOpen (store_over D.Disk disk.old disk.new) a)
+        disk.old disk.new (printed_over K.Sink sink.old sink.new) result × (runner.new ≡ runner.old))
         ⊎ IsResumed D.may_leave D.moment D.left_since D.faults disk.old disk.new (R.list runner.old) (R.list runner.new)
-        (printed_of K.held K.faults sink.old sink.new) result
-        (store_of D.is_modelled D.seen D.faults disk.old disk.new) }
+        (printed_over K.Sink sink.old sink.new) result
+        (store_over D.Disk disk.old disk.new) }
     ensures none { R.living runner.new ≡ [] }
     ensures others { IsTrue D.is_modelled → Elsewhere slots_files (D.seen disk.old) (D.seen disk.new) }
     ensures disk { result ≡ statuses.Disk → Rose (D.faults disk.old) (D.faults disk.new) }

@@ -8,7 +8,7 @@ ghost use Rattle.records.specs.declared.record.Origin.{Origin};
 ghost use Rattle.command_words.specs.declared.order.Order.TheVariants as order;
 ghost use Rattle.deploy_state.specs.Loading.{IsReady};
 ghost use Rattle.device.specs.Devices.{device_view};
-ghost use Rattle.nucleus_top.specs.Answers.{store_of};
+ghost use Rattle.nucleus_top.specs.Answers.{store_over};
 ghost use Rattle.nucleus_top.specs.Inits.{Inits, NamesThing};
 ghost use Rattle.nucleus_top.specs.Leaving.{Keeps, LeavesOf};
 
@@ -27,7 +27,7 @@ fn begin<D: Disk>(alloc: Global, origin: Origin, disk: &mut D) -> Answer
     requires none { IsTrue D.is_modelled → slots_none (D.seen disk.old) }
     requires settled { AreSettled D.seen D.may_leave slots_files disk.old }
     requires short { length origin.root ≤ 1024 }
-    ensures comes { Inits origin (store_of D.is_modelled D.seen D.faults disk.old disk.new) result }
+    ensures comes { Inits origin (store_over D.Disk disk.old disk.new) result }
     ensures moments { Leaves D.moment D.left_since disk.old disk.new (LeavesOf (order.Init origin) (D.may_leave disk.old)) }
     ensures keeps { Keeps (order.Init origin) (D.may_leave disk.new) (D.seen disk.new) result }
     ensures others { IsTrue D.is_modelled → (name : List ℕ) → ¬ (slots_files name) → D.seen disk.new name ≡ D.seen disk.old name }
@@ -72,7 +72,7 @@ fn initialised_stored<S: HasDevice + Drop>(alloc: Global, state: S) -> Answer
 /// Makes the store of this origin, unless there is one.
 pub fn init<D: Disk>(alloc: Global, origin: Origin, disk: &mut D) -> Answer
     requires { length origin.root ≤ 1024 }
-    ensures comes { Inits origin (store_of D.is_modelled D.seen D.faults disk.old disk.new) result }
+    ensures comes { Inits origin (store_over D.Disk disk.old disk.new) result }
     ensures moments { Leaves D.moment D.left_since disk.old disk.new (LeavesOf (order.Init origin) (D.may_leave disk.old)) }
     ensures keeps { Keeps (order.Init origin) (D.may_leave disk.new) (D.seen disk.new) result }
     ensures others { IsTrue D.is_modelled → (name : List ℕ) → ¬ (slots_files name) → D.seen disk.new name ≡ D.seen disk.old name }

@@ -1,21 +1,25 @@
+ghost use Rattle.std.specs.Prelude.{[]};
 ghost use Rattle.device.specs.Devices.{no_device};
 ghost use Rattle.device.specs.Met.{Met};
-ghost use Rattle.nucleus_top.specs.Bounded.{AcceptsWithin};
+ghost use Rattle.disk_model.specs.Memory.{left_by};
+ghost use Rattle.nucleus_top.specs.Acknowledged.{DeployedStay, ServedStay};
+ghost use Rattle.nucleus_top.specs.Bounded.{AcceptsWithin, ServesWithin};
 ghost use Rattle.nucleus_top.specs.Completeness.{DeploysComplete, RestartsAreFew, ResumesGetOn};
 ghost use Rattle.nucleus_top.specs.Lasting.{RunsCloseMore, RunsLoseNothing, RunsTake};
 ghost use Rattle.nucleus_top.specs.Meeting.{BroughtStayMet};
 ghost use Rattle.nucleus_top.specs.Opening.{AreFound};
-ghost use Rattle.nucleus_top.specs.Reopening.{CallsReopen};
+ghost use Rattle.nucleus_top.specs.Reopening.{CallsReopen, ServesReopen};
 ghost use Rattle.nucleus_top.specs.Requested.{ChangesMoveOneItem, LocalsMoveOneGroup};
-ghost use Rattle.nucleus_top.specs.Series.{AcknowledgedLast, CallsRaise, CallsReach, DrivesEnd, DrivesGoOn, FirstBegins};
+ghost use Rattle.nucleus_top.specs.Series.{AcknowledgedLast, BeginsBehind, CallsRaise, CallsReach, DrivesEnd, DrivesGoOn, FirstBegins};
 ghost use Rattle.nucleus_top.specs.Series.{InitsBegin, OthersGoOn, TurnedEnd, TurnedGoOn};
 
 use checkpoint_log::Slots;
 use device::revisions_rise;
-use disk_model::Disk;
+use disk_model::{Disk, MemoryDisk};
 use law_histories::resumes_get_on;
 use law_reopening::starts_stand;
 use law_whole::requests_keep_the_rest;
+use std::alloc::Global;
 
 /// Along a run the closed list only grows, at its end, and a deployment that was accepted is pending or closed afterwards.
 /// Where the run ends with a close it did grow. It does nothing.
@@ -50,8 +54,8 @@ pub fn calls_run_on()
 /// have left each image at their start, a call that drives a deployment is one more, which begins with the device for which
 /// one of these images stands and keeps its records, and one that is turned away keeps none. So is each that came to its end,
 /// by what it says of the images that a crash may leave then. And there is a first one: on a disk that holds no entry a call begins behind
-/// none, so what is asked here can be met. What a call printed as accepted is pending or closed in each image that later calls leave. It does
-/// nothing.
+/// none, so what is asked here can be met. What a call printed as accepted is pending or closed in each image that later calls leave, stopped
+/// or at their end (`deployed`, `served`, by `acknowledged`). It does nothing.
 pub fn calls_go_on<D: Disk>()
     ensures begins { FirstBegins D.may_leave D.is_modelled D.seen }
     ensures drives { DrivesGoOn D.may_leave D.moment D.left_since }
@@ -59,7 +63,18 @@ pub fn calls_go_on<D: Disk>()
     ensures drives_end { DrivesEnd D.may_leave }
     ensures turned_end { TurnedEnd D.may_leave D.is_modelled D.seen }
     ensures acknowledged { AcknowledgedLast D.may_leave }
+    ensures deployed { DeployedStay D.may_leave D.moment D.left_since D.faults }
+    ensures served { ServedStay D.Disk }
 {}
+
+/// On a disk in memory that was just made a first call begins, behind none and without a device. So there are such series of calls, and
+/// what is said of them does not speak of nothing.
+pub fn a_first_call_begins(alloc: Global) -> MemoryDisk
+    ensures begins { BeginsBehind left_by no_device [] no_device result }
+{
+    calls_go_on::<MemoryDisk>();
+    MemoryDisk::new(alloc)
+}
 
 /// What requests made at the device add to what is said of each deployment (`IsDeployedOn`). One of the group of the device itself
 /// accepts the plan of the document of its list, and behind its close, in that call or a later one, the group has that list or the one
@@ -72,11 +87,12 @@ pub fn requests_move_what_they_name<D: Disk>()
     requests_keep_the_rest();
 }
 
-/// What `deploy` and `resume` say of the images at their end gives what is found when one of these is opened again: each bootstrap that started has
+/// What `deploy`, `resume` and `serve` say of the images at their end gives what is found when one of these is opened again: each bootstrap that started has
 /// its beginning there, and each failure behind which anything started its record (`law_reopening`). So no bootstrap that ended is begun again, and
 /// a component is not started anew over a failure that was forgotten. It does nothing.
 pub fn calls_reopen<D: Disk>()
     ensures calls { CallsReopen D.may_leave D.moment D.left_since }
+    ensures serves { ServesReopen D.Disk }
 {
     starts_stand::<Slots, D>();
 }
@@ -95,7 +111,9 @@ pub fn calls_complete<D: Disk>()
 }
 
 /// Where the journal can turn, a plan that `deploy`, `local` or `config-set` accepts leaves its live entries within twice the front of the device and
-/// 1,048,576 bytes more, or within that front and the plan's own entry. So a store does not grow for ever. It does nothing.
+/// 1,048,576 bytes more, or within that front and the plan's own entry. So does the plan of each document that `serve` handles. So a store does not
+/// grow for ever. It does nothing.
 pub fn journals_stay_small<D: Disk>()
     ensures accepts { AcceptsWithin D.may_leave D.moment D.left_since D.faults }
+    ensures serves { ServesWithin D.Disk }
 {}

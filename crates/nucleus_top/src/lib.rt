@@ -27,7 +27,7 @@ mod why;
 mod workload_run;
 
 pub use laws::{
-    calls_complete, calls_go_on, calls_reopen, calls_run_on, journals_stay_small, nothing_is_lost,
-    requests_move_what_they_name,
+    a_first_call_begins, calls_complete, calls_go_on, calls_reopen, calls_run_on,
+    journals_stay_small, nothing_is_lost, requests_move_what_they_name,
 };
 pub use top::nucleus;

@@ -6,7 +6,7 @@ ghost use Rattle.command_words.specs.declared.order.Order.{Order};
 ghost use Rattle.command_words.specs.declared.order.Order.TheVariants as order;
 ghost use Rattle.edges.specs.Reading.{ReadsUpTo};
 ghost use Rattle.nucleus_top.specs.Words.{Asks};
-ghost use Rattle.nucleus_top.specs.Answers.{store_of, input_of, shelf_of, printed_of, IsQuiet, IsStill};
+ghost use Rattle.nucleus_top.specs.Answers.{store_over, input_over, shelf_over, printed_over, IsQuiet, IsStill};
 ghost use Rattle.nucleus_top.specs.Leaving.{IsDurable, Keeps, MayLeave, files_of};
 ghost use Rattle.nucleus_top.specs.Parts.{Comes, Parts};
 
@@ -34,10 +34,10 @@ fn answer<D: Disk, L: Library, S: Source>(
     library: &mut L,
     source: &mut S,
 ) -> Answer
-    ensures comes { Comes (map string_bytes words.now.items) (store_of D.is_modelled D.seen D.faults disk.old disk.new)
-        (input_of S.left S.faults source.old source.new) (shelf_of L.content L.faults library.old library.new) result }
-    ensures quiet { IsQuiet (store_of D.is_modelled D.seen D.faults disk.old disk.new) (input_of S.left S.faults source.old source.new) result }
-    ensures still { IsStill (shelf_of L.content L.faults library.old library.new) result }
+    ensures comes { Comes (map string_bytes words.now.items) (store_over D.Disk disk.old disk.new)
+        (input_over S.Source source.old source.new) (shelf_over L.Library library.old library.new) result }
+    ensures quiet { IsQuiet (store_over D.Disk disk.old disk.new) (input_over S.Source source.old source.new) result }
+    ensures still { IsStill (shelf_over L.Library library.old library.new) result }
     ensures unread { (Asks (map string_bytes words.now.items) order.Plan → ⊥) → (Asks (map string_bytes words.now.items) order.Why → ⊥)
         → source.new ≡ source.old }
     ensures unasked { (Asks (map string_bytes words.now.items) order.Plan → ⊥) → (Asks (map string_bytes words.now.items) order.Why → ⊥)
@@ -84,9 +84,9 @@ pub(crate) fn look<D: Disk, L: Library, S: Source, K: Sink>(
     source: &mut S,
     sink: &mut K,
 ) -> Status
-    ensures parts { Parts (map string_bytes words.now.items) (store_of D.is_modelled D.seen D.faults disk.old disk.new)
-        (input_of S.left S.faults source.old source.new) (shelf_of L.content L.faults library.old library.new)
-        (printed_of K.held K.faults sink.old sink.new) result }
+    ensures parts { Parts (map string_bytes words.now.items) (store_over D.Disk disk.old disk.new)
+        (input_over S.Source source.old source.new) (shelf_over L.Library library.old library.new)
+        (printed_over K.Sink sink.old sink.new) result }
     // `plan` and `why` alone read from the source and ask the library.
     ensures unread { (Asks (map string_bytes words.now.items) order.Plan → ⊥) → (Asks (map string_bytes words.now.items) order.Why → ⊥)
         → source.new ≡ source.old }

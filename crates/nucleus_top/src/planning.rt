@@ -7,7 +7,7 @@ ghost use Rattle.deploy_state.specs.Loading.{IsReady};
 ghost use Rattle.device.specs.Devices.{device_view, IsRegularDevice};
 ghost use Rattle.device.specs.Sound.{IsSound};
 ghost use Rattle.edges.specs.Reading.{ReadsUpTo};
-ghost use Rattle.nucleus_top.specs.Answers.{store_of, input_of, shelf_of, IsQuiet, IsStill};
+ghost use Rattle.nucleus_top.specs.Answers.{store_over, input_over, shelf_over, IsQuiet, IsStill};
 ghost use Rattle.nucleus_top.specs.Leaving.{Keeps};
 ghost use Rattle.nucleus_top.specs.Planning.{TellsDraft, TellsRefusal, Tells, NamesPending, PlansOn, Plans};
 
@@ -71,9 +71,9 @@ fn plan_idle<L: Library, S: Source>(
     requires idle { device.now.pending ≡ None }
     requires sound { IsSound (device_view device.now) }
     requires regular { IsRegularDevice (device_view device.now) }
-    ensures comes { PlansOn (device_view device.now) (input_of S.left S.faults source.old source.new) (shelf_of L.content L.faults library.old library.new)
+    ensures comes { PlansOn (device_view device.now) (input_over S.Source source.old source.new) (shelf_over L.Library library.old library.new)
         result }
-    ensures still { IsStill (shelf_of L.content L.faults library.old library.new) result }
+    ensures still { IsStill (shelf_over L.Library library.old library.new) result }
     ensures kept { L.content library.new ≡ L.content library.old }
     ensures quiet { result ≢ Answer.SourceFailed → S.faults source.new ≡ S.faults source.old }
     ensures library_later { L.faults library.old ≤ L.faults library.new }
@@ -109,9 +109,9 @@ fn plan_on<L: Library, S: Source>(
     requires origin { IsSome device.now.origin }
     requires sound { IsSound (device_view device.now) }
     requires regular { IsRegularDevice (device_view device.now) }
-    ensures comes { PlansOn (device_view device.now) (input_of S.left S.faults source.old source.new) (shelf_of L.content L.faults library.old library.new)
+    ensures comes { PlansOn (device_view device.now) (input_over S.Source source.old source.new) (shelf_over L.Library library.old library.new)
         result }
-    ensures still { IsStill (shelf_of L.content L.faults library.old library.new) result }
+    ensures still { IsStill (shelf_over L.Library library.old library.new) result }
     ensures kept { L.content library.new ≡ L.content library.old }
     ensures quiet { result ≢ Answer.SourceFailed → S.faults source.new ≡ S.faults source.old }
     ensures library_later { L.faults library.old ≤ L.faults library.new }
@@ -132,8 +132,8 @@ fn plan_stored<T: HasDevice + Drop, L: Library, S: Source>(
     source: &mut S,
 ) -> Answer
     requires ready { IsReady (T.stands_for state) }
-    ensures comes { PlansOn (T.stands_for state) (input_of S.left S.faults source.old source.new) (shelf_of L.content L.faults library.old library.new) result }
-    ensures still { IsStill (shelf_of L.content L.faults library.old library.new) result }
+    ensures comes { PlansOn (T.stands_for state) (input_over S.Source source.old source.new) (shelf_over L.Library library.old library.new) result }
+    ensures still { IsStill (shelf_over L.Library library.old library.new) result }
     ensures kept { L.content library.new ≡ L.content library.old }
     ensures quiet { result ≢ Answer.SourceFailed → S.faults source.new ≡ S.faults source.old }
     ensures library_later { L.faults library.old ≤ L.faults library.new }
@@ -152,10 +152,10 @@ pub fn plan<D: Disk, L: Library, S: Source>(
     library: &mut L,
     source: &mut S,
 ) -> Answer
-    ensures comes { Plans (store_of D.is_modelled D.seen D.faults disk.old disk.new) (input_of S.left S.faults source.old source.new)
-        (shelf_of L.content L.faults library.old library.new) result }
-    ensures quiet { IsQuiet (store_of D.is_modelled D.seen D.faults disk.old disk.new) (input_of S.left S.faults source.old source.new) result }
-    ensures still { IsStill (shelf_of L.content L.faults library.old library.new) result }
+    ensures comes { Plans (store_over D.Disk disk.old disk.new) (input_over S.Source source.old source.new)
+        (shelf_over L.Library library.old library.new) result }
+    ensures quiet { IsQuiet (store_over D.Disk disk.old disk.new) (input_over S.Source source.old source.new) result }
+    ensures still { IsStill (shelf_over L.Library library.old library.new) result }
     ensures kept { L.content library.new ≡ L.content library.old }
     ensures moments { Leaves D.moment D.left_since disk.old disk.new (D.may_leave disk.old) }
     ensures keeps { Keeps order.Plan (D.may_leave disk.new) (D.seen disk.new) result }

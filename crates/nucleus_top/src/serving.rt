@@ -1,7 +1,7 @@
 // The command that keeps a set up, and deploys what an inbox has.
 ghost use Rattle.std.specs.Prelude.{◌≡◌, ◌⊎◌, [], ℕ};
 ghost use Rattle.checkpoint_log.specs.Slots.{slots_files};
-ghost use Rattle.nucleus_top.specs.Answers.{printed_of, store_of};
+ghost use Rattle.nucleus_top.specs.Answers.{printed_over, store_over};
 ghost use Rattle.nucleus_top.specs.Drives.{IsRefusedBefore, MayNotOpen};
 ghost use Rattle.nucleus_top.specs.Serving.{IsServed};
 ghost use Rattle.session_serving.specs.Causes.{IsCaused, watched};
@@ -32,13 +32,13 @@ pub(crate) fn serve<D: Disk, L: Library, I: Inbox, K: Sink, R: Runner>(
     runner: &mut R,
 ) -> Status
     requires none { R.living runner.old ≡ [] }
-    ensures ran { (IsRefusedBefore D.seen D.may_leave D.moment D.left_since (λ a. MayNotOpen (store_of D.is_modelled D.seen D.faults disk.old disk.new) a)
-        disk.old disk.new (printed_of K.held K.faults sink.old sink.new) result
+    ensures ran { (IsRefusedBefore D.seen D.may_leave D.moment D.left_since (λ a. MayNotOpen (store_over D.Disk disk.old disk.new) a)
+        disk.old disk.new (printed_over K.Sink sink.old sink.new) result
         × (runner.new ≡ runner.old) × (library.new ≡ library.old) × (inbox.new ≡ inbox.old))
         ⊎ IsServed D.Disk (L.content library.old)
         (outside D.Disk K.Sink R.Runner L.Library I.Inbox disk.old sink.old runner.old library.old inbox.old)
         (outside D.Disk K.Sink R.Runner L.Library I.Inbox disk.new sink.new runner.new library.new inbox.new)
-        result (store_of D.is_modelled D.seen D.faults disk.old disk.new) turns }
+        result (store_over D.Disk disk.old disk.new) turns }
     ensures none { R.living runner.new ≡ [] }
     ensures kept { L.content library.new ≡ L.content library.old }
     ensures caused { IsCaused D.is_modelled slots_files result

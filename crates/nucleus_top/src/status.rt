@@ -5,7 +5,7 @@ ghost use Rattle.disk_model.specs.Disk.{Leaves};
 ghost use Rattle.command_words.specs.declared.order.Order.TheVariants as order;
 ghost use Rattle.deploy_state.specs.Loading.{IsReady};
 ghost use Rattle.device.specs.Devices.{device_view, IsRegularDevice};
-ghost use Rattle.nucleus_top.specs.Answers.{store_of};
+ghost use Rattle.nucleus_top.specs.Answers.{store_over};
 ghost use Rattle.nucleus_top.specs.Shows.{Shows, ShowsDevice, shown};
 ghost use Rattle.nucleus_top.specs.Leaving.{Keeps};
 
@@ -43,7 +43,7 @@ fn show<S: HasDevice + Drop>(alloc: Global, json: bool, state: S) -> Answer
 
 /// Shows the device for which the journal stands. It writes nothing to the disk.
 pub fn status<D: Disk>(alloc: Global, json: bool, disk: &mut D) -> Answer
-    ensures comes { Shows json (store_of D.is_modelled D.seen D.faults disk.old disk.new) result }
+    ensures comes { Shows json (store_over D.Disk disk.old disk.new) result }
     ensures moments { Leaves D.moment D.left_since disk.old disk.new (D.may_leave disk.old) }
     ensures keeps { Keeps (order.Status json) (D.may_leave disk.new) (D.seen disk.new) result }
     ensures seen { D.seen disk.new ≡ D.seen disk.old }

@@ -11,7 +11,7 @@ ghost use Rattle.nucleus_top.specs.Drives.{AsksTo, AsksToServe, Deploys, Deploys
 ghost use Rattle.nucleus_top.specs.Drives.{IsDeployed, IsResumed, IsRefusedBefore, PendingParts, RefusedParts, TurnsAway};
 ghost use Rattle.nucleus_top.specs.Drives.{MayNotOpen};
 ghost use Rattle.nucleus_top.specs.Words.{Asks};
-ghost use Rattle.nucleus_top.specs.Answers.{store_of, input_of, shelf_of, printed_of};
+ghost use Rattle.nucleus_top.specs.Answers.{store_over, input_over, shelf_over, printed_over};
 ghost use Rattle.nucleus_top.specs.Leaving.{IsDurable, MayLeave, files_of};
 ghost use Rattle.nucleus_top.specs.Parts.{Parts};
 ghost use Rattle.nucleus_top.specs.Serving.{IsServed};
@@ -19,7 +19,7 @@ ghost use Rattle.checkpoint_log.specs.Slots.{slots_files};
 ghost use Rattle.session_serving.specs.Causes.{IsCaused, watched};
 ghost use Rattle.session_serving.specs.Parts.{outside};
 
-use crate::asking::{ReadClock, read_asked};
+use crate::asking::{Asked, read_asked};
 use crate::driving::{deploy, resume};
 use crate::looking::look;
 use crate::serving::serve;
@@ -73,9 +73,9 @@ pub fn nucleus<D: Disk, L: Library, S: Source, I: Inbox, K: Sink, R: Runner>(
     // No child lives yet.
     requires none { R.living runner.old ≡ [] }
     ensures parts { (Drives (map string_bytes words.now.items) → ⊥) →
-        Parts (map string_bytes words.now.items) (store_of D.is_modelled D.seen D.faults disk.old disk.new)
-        (input_of S.left S.faults source.old source.new) (shelf_of L.content L.faults library.old library.new)
-        (printed_of K.held K.faults sink.old sink.new) result }
+        Parts (map string_bytes words.now.items) (store_over D.Disk disk.old disk.new)
+        (input_over S.Source source.old source.new) (shelf_over L.Library library.old library.new)
+        (printed_over K.Sink sink.old sink.new) result }
     // The commands that deploy what the source has, `plan` and `why` alone read from it. They and `serve` ask the library, but for a
     // change of a configuration. `serve` alone asks the inbox.
     ensures unread { (Deploys (map string_bytes words.now.items) → ⊥) → (Asks (map string_bytes words.now.items) order.Plan → ⊥)
@@ -99,42 +99,42 @@ pub fn nucleus<D: Disk, L: Library, S: Source, I: Inbox, K: Sink, R: Runner>(
     // a crash comes during it, it leaves an image that the start allowed, or one whose journal stands for what the call's
     // records, up to one of them, make of the device: with none of them where the call is turned away.
     ensures deploys { (what : Ask) → AsksTo (map string_bytes words.now.items) what →
-        (IsRefusedBefore D.seen D.may_leave D.moment D.left_since (λ a. TurnsAway (store_of D.is_modelled D.seen D.faults disk.old disk.new)
-        (input_of S.left S.faults source.old source.new) a)
-        disk.old disk.new (printed_of K.held K.faults sink.old sink.new) result × (runner.new ≡ runner.old))
+        (IsRefusedBefore D.seen D.may_leave D.moment D.left_since (λ a. TurnsAway (store_over D.Disk disk.old disk.new)
+        (input_over S.Source source.old source.new) a)
+        disk.old disk.new (printed_over K.Sink sink.old sink.new) result × (runner.new ≡ runner.old))
         ⊎ IsDeployed D.may_leave D.moment D.left_since D.faults disk.old disk.new (R.list runner.old) (R.list runner.new)
-        (printed_of K.held K.faults sink.old sink.new) result what
-        (store_of D.is_modelled D.seen D.faults disk.old disk.new) (input_of S.left S.faults source.old source.new)
-        (shelf_of L.content L.faults library.old library.new) }
+        (printed_over K.Sink sink.old sink.new) result what
+        (store_over D.Disk disk.old disk.new) (input_over S.Source source.old source.new)
+        (shelf_over L.Library library.old library.new) }
     // `resume`: so it is with the pending deployment, which goes on where there is one.
     ensures resumes { (root : List ℕ) → IsOrder (map string_bytes words.now.items) root order.Resume →
-        (IsRefusedBefore D.seen D.may_leave D.moment D.left_since (λ a. MayNotOpen (store_of D.is_modelled D.seen D.faults disk.old disk.new) a)
-        disk.old disk.new (printed_of K.held K.faults sink.old sink.new) result × (runner.new ≡ runner.old))
+        (IsRefusedBefore D.seen D.may_leave D.moment D.left_since (λ a. MayNotOpen (store_over D.Disk disk.old disk.new) a)
+        disk.old disk.new (printed_over K.Sink sink.old sink.new) result × (runner.new ≡ runner.old))
         ⊎ IsResumed D.may_leave D.moment D.left_since D.faults disk.old disk.new (R.list runner.old) (R.list runner.new)
-        (printed_of K.held K.faults sink.old sink.new) result
-        (store_of D.is_modelled D.seen D.faults disk.old disk.new) }
+        (printed_over K.Sink sink.old sink.new) result
+        (store_over D.Disk disk.old disk.new) }
     // `serve`: so it is with the pending deployment, where there is one, and then with the set and the documents of the inbox.
     ensures serves { (turns : ℕ) → Serves (map string_bytes words.now.items) turns →
-        (IsRefusedBefore D.seen D.may_leave D.moment D.left_since (λ a. MayNotOpen (store_of D.is_modelled D.seen D.faults disk.old disk.new) a)
-        disk.old disk.new (printed_of K.held K.faults sink.old sink.new) result
+        (IsRefusedBefore D.seen D.may_leave D.moment D.left_since (λ a. MayNotOpen (store_over D.Disk disk.old disk.new) a)
+        disk.old disk.new (printed_over K.Sink sink.old sink.new) result
         × (runner.new ≡ runner.old) × (library.new ≡ library.old) × (inbox.new ≡ inbox.old))
         ⊎ IsServed D.Disk (L.content library.old)
         (outside D.Disk K.Sink R.Runner L.Library I.Inbox disk.old sink.old runner.old library.old inbox.old)
         (outside D.Disk K.Sink R.Runner L.Library I.Inbox disk.new sink.new runner.new library.new inbox.new)
-        result (store_of D.is_modelled D.seen D.faults disk.old disk.new) turns }
+        result (store_over D.Disk disk.old disk.new) turns }
     // Of all: when the refusals of a journal that gives no device come, and of those that deploy that of a pending deployment.
-    ensures refused { Drives (map string_bytes words.now.items) → RefusedParts (store_of D.is_modelled D.seen D.faults disk.old disk.new)
-        (printed_of K.held K.faults sink.old sink.new) result }
+    ensures refused { Drives (map string_bytes words.now.items) → RefusedParts (store_over D.Disk disk.old disk.new)
+        (printed_over K.Sink sink.old sink.new) result }
     ensures pending { Deploys (map string_bytes words.now.items) →
-        PendingParts (store_of D.is_modelled D.seen D.faults disk.old disk.new) (input_of S.left S.faults source.old source.new)
-        (printed_of K.held K.faults sink.old sink.new) result }
+        PendingParts (store_over D.Disk disk.old disk.new) (input_over S.Source source.old source.new)
+        (printed_over K.Sink sink.old sink.new) result }
     // When 5, 6 and 7 come, and which files change.
     ensures causes { AsksToServe (map string_bytes words.now.items) → IsCaused D.is_modelled slots_files result
         (watched D.Disk K.Sink L.Library I.Inbox disk.old sink.old library.old inbox.old)
         (watched D.Disk K.Sink L.Library I.Inbox disk.new sink.new library.new inbox.new) }
-    ensures driven { DrivesOne (map string_bytes words.now.items) → DriveParts (store_of D.is_modelled D.seen D.faults disk.old disk.new)
-        (input_of S.left S.faults source.old source.new) (shelf_of L.content L.faults library.old library.new)
-        (printed_of K.held K.faults sink.old sink.new) result }
+    ensures driven { DrivesOne (map string_bytes words.now.items) → DriveParts (store_over D.Disk disk.old disk.new)
+        (input_over S.Source source.old source.new) (shelf_over L.Library library.old library.new)
+        (printed_over K.Sink sink.old sink.new) result }
     // No other command runs a child, and none lives at the end.
     ensures still { (Drives (map string_bytes words.now.items) → ⊥) → runner.new ≡ runner.old }
     ensures none { R.living runner.new ≡ [] }
@@ -150,10 +150,10 @@ pub fn nucleus<D: Disk, L: Library, S: Source, I: Inbox, K: Sink, R: Runner>(
 {
     words_ask_one_thing();
     match read_asked(alloc, words) {
-        ReadClock::Deploy(what) => deploy(alloc, &what, disk, library, source, sink, runner),
-        ReadClock::Resume => resume(alloc, disk, sink, runner),
-        ReadClock::Serve(turns) => serve(alloc, turns, disk, library, inbox, sink, runner),
-        ReadClock::Other => look(alloc, words, disk, library, source, sink),
-        ReadClock::NoMemory => Status::Memory,
+        Asked::Deploy(what) => deploy(alloc, &what, disk, library, source, sink, runner),
+        Asked::Resume => resume(alloc, disk, sink, runner),
+        Asked::Serve(turns) => serve(alloc, turns, disk, library, inbox, sink, runner),
+        Asked::Other => look(alloc, words, disk, library, source, sink),
+        Asked::NoMemory => Status::Memory,
     }
 }

@@ -7,7 +7,7 @@ ghost use Rattle.deploy_state.specs.Loading.{IsReady};
 ghost use Rattle.device.specs.Devices.{device_view};
 ghost use Rattle.device.specs.Sound.{IsSound};
 ghost use Rattle.edges.specs.Reading.{ReadsUpTo};
-ghost use Rattle.nucleus_top.specs.Answers.{store_of, input_of, shelf_of, IsQuiet, IsStill};
+ghost use Rattle.nucleus_top.specs.Answers.{store_over, input_over, shelf_over, IsQuiet, IsStill};
 ghost use Rattle.nucleus_top.specs.Leaving.{Keeps};
 ghost use Rattle.nucleus_top.specs.Why.{TellsAsked, TellsWhy, WhysOn, Whys};
 
@@ -57,9 +57,9 @@ fn why_idle<L: Library, S: Source>(
     requires origin { IsSome device.now.origin }
     requires idle { device.now.pending ≡ None }
     requires sound { IsSound (device_view device.now) }
-    ensures comes { WhysOn (device_view device.now) (input_of S.left S.faults source.old source.new) (shelf_of L.content L.faults library.old library.new)
+    ensures comes { WhysOn (device_view device.now) (input_over S.Source source.old source.new) (shelf_over L.Library library.old library.new)
         result }
-    ensures still { IsStill (shelf_of L.content L.faults library.old library.new) result }
+    ensures still { IsStill (shelf_over L.Library library.old library.new) result }
     ensures kept { L.content library.new ≡ L.content library.old }
     ensures quiet { result ≢ Answer.SourceFailed → S.faults source.new ≡ S.faults source.old }
     ensures library_later { L.faults library.old ≤ L.faults library.new }
@@ -84,9 +84,9 @@ fn why_on<L: Library, S: Source>(
 ) -> Answer
     requires origin { IsSome device.now.origin }
     requires sound { IsSound (device_view device.now) }
-    ensures comes { WhysOn (device_view device.now) (input_of S.left S.faults source.old source.new) (shelf_of L.content L.faults library.old library.new)
+    ensures comes { WhysOn (device_view device.now) (input_over S.Source source.old source.new) (shelf_over L.Library library.old library.new)
         result }
-    ensures still { IsStill (shelf_of L.content L.faults library.old library.new) result }
+    ensures still { IsStill (shelf_over L.Library library.old library.new) result }
     ensures kept { L.content library.new ≡ L.content library.old }
     ensures quiet { result ≢ Answer.SourceFailed → S.faults source.new ≡ S.faults source.old }
     ensures library_later { L.faults library.old ≤ L.faults library.new }
@@ -107,9 +107,9 @@ fn why_stored<T: HasDevice + Drop, L: Library, S: Source>(
     source: &mut S,
 ) -> Answer
     requires ready { IsReady (T.stands_for state) }
-    ensures comes { WhysOn (T.stands_for state) (input_of S.left S.faults source.old source.new) (shelf_of L.content L.faults library.old library.new)
+    ensures comes { WhysOn (T.stands_for state) (input_over S.Source source.old source.new) (shelf_over L.Library library.old library.new)
         result }
-    ensures still { IsStill (shelf_of L.content L.faults library.old library.new) result }
+    ensures still { IsStill (shelf_over L.Library library.old library.new) result }
     ensures kept { L.content library.new ≡ L.content library.old }
     ensures quiet { result ≢ Answer.SourceFailed → S.faults source.new ≡ S.faults source.old }
     ensures library_later { L.faults library.old ≤ L.faults library.new }
@@ -129,10 +129,10 @@ pub fn why<D: Disk, L: Library, S: Source>(
     library: &mut L,
     source: &mut S,
 ) -> Answer
-    ensures comes { Whys (store_of D.is_modelled D.seen D.faults disk.old disk.new) (input_of S.left S.faults source.old source.new)
-        (shelf_of L.content L.faults library.old library.new) result }
-    ensures quiet { IsQuiet (store_of D.is_modelled D.seen D.faults disk.old disk.new) (input_of S.left S.faults source.old source.new) result }
-    ensures still { IsStill (shelf_of L.content L.faults library.old library.new) result }
+    ensures comes { Whys (store_over D.Disk disk.old disk.new) (input_over S.Source source.old source.new)
+        (shelf_over L.Library library.old library.new) result }
+    ensures quiet { IsQuiet (store_over D.Disk disk.old disk.new) (input_over S.Source source.old source.new) result }
+    ensures still { IsStill (shelf_over L.Library library.old library.new) result }
     ensures kept { L.content library.new ≡ L.content library.old }
     ensures moments { Leaves D.moment D.left_since disk.old disk.new (D.may_leave disk.old) }
     ensures keeps { Keeps order.Why (D.may_leave disk.new) (D.seen disk.new) result }

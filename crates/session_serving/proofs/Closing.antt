@@ -18,7 +18,7 @@ use Rattle.session_serving.specs.Documents.{EndsWith, IsDeployedThere, RecordsEn
 use Rattle.session_serving.specs.Parts.{Outside}
 use Rattle.session_serving.specs.Rounds.{AreHandled, Handled, Last, Round, Shut, Spent, Stops, Took, Waited, Fails as CannotAsk, Starves as HasNoMemory}
 use Rattle.session_serving.specs.Rounds.{records_of_last, records_of_rounds}
-use Rattle.session_serving.specs.Served.{AreClosed, EndsAs, Finishes, IsFinished, IsHalted, IsServed}
+use Rattle.session_serving.specs.Served.{AreClosed, EndsAs, Finishes, IsFinished, IsHalted, IsSetServed}
 
 -- ---- one deployment
 
@@ -86,15 +86,15 @@ module _ (content : Option Content) where
 
   module _ {D J : Type 0} (disk : a_disk.Ghosts D) (journal : a_journal.Ghosts J) where
     served_closed : (most : ℕ) (old new : Outside D) (p : SessionState) (h : List TraceEvent) →
-        IsServed disk journal (IsDeployedThere content) most old new p h statuses.Memory → AreClosed (records_of h)
+        IsSetServed disk journal (IsDeployedThere content) most old new p h statuses.Memory → AreClosed (records_of h)
     served_closed most old new p h s = subst AreClosed (sym s.records)
         (closed_both (records_of_rounds s.rounds) (records_of_last s.last) (rounds_closed s.rounds p.device old.library s.behind s.to.library s.handled)
         (last_closed most s.rounds s.last s.to new s.behind s.ends))
 
     pub served_memory : (most : ℕ) (old new : Outside D) (p : SessionState) (h : List TraceEvent) (status : Status) →
-        IsServed disk journal (IsDeployedThere content) most old new p h status → status ≡ statuses.Memory → AreClosed (records_of h)
+        IsSetServed disk journal (IsDeployedThere content) most old new p h status → status ≡ statuses.Memory → AreClosed (records_of h)
     served_memory most old new p h status s is =
-        served_closed most old new p h (subst (λ (z : Status). IsServed disk journal (IsDeployedThere content) most old new p h z) is s)
+        served_closed most old new p h (subst (λ (z : Status). IsSetServed disk journal (IsDeployedThere content) most old new p h z) is s)
 
 module _ {D J : Type 0} (disk : a_disk.Ghosts D) (journal : a_journal.Ghosts J) where
   -- behind a pending deployment that was finished

@@ -44,7 +44,8 @@ use Rattle.session_boots.specs.Stages.{Holds}
 use Rattle.session_steady.specs.Serves.{IsServing}
 use Rattle.session_acts.proofs.Entering.{comes_of}
 use Rattle.session.specs.Calls.{IsOrEdge, StandsWhole, call_lines, opening_line}
-use Rattle.session.specs.Documents.{Follows, TakesRead}
+use Rattle.session.proofs.Accepted.{accepted_at}
+use Rattle.session.specs.Documents.{AcceptsTaken, Follows, TakesRead}
 use Rattle.session.specs.Endings.{Ending, IsBegun, Starves, is_failing, line_of_ending, status_of_ending}
 use Rattle.session.specs.Endings.{Breaks, Closes, Declines, Fails, Forgets, Full, Idle as NothingPending, Reboots, Restarts}
 use Rattle.session.specs.Parts.{EndsCall, EndsPart, EndsRan, IsGeneration, IsReturned, Part, QuitsPart, RanLeft, status_of_ran}
@@ -53,7 +54,7 @@ use Rattle.session.specs.declared.ran.Ran.TheVariants as ran
 use Rattle.session.specs.declared.ran.Standing.{Standing}
 use Rattle.session.specs.declared.ran.Standing.TheVariants as standings
 use Rattle.session_serving.specs.Documents.{EndsWith, IsDeployedThere, IsEnded, IsHandled, IsOf, RecordsEnd}
-use Rattle.session_serving.specs.Parts.{AllStandFor, AreOfFiles, Goes, Outside, Shows}
+use Rattle.session_serving.specs.Parts.{AllStandFor, AreOfFiles, Goes, IsStarted, Outside, Shows}
 use Rattle.session_serving.specs.Places.{IsAsked, IsUnopened}
 use Rattle.session_serving.specs.Rounds.{Handled}
 use Rattle.session_serving.specs.Turns.{DocumentLeft, IsReady, StaysRan}
@@ -351,7 +352,9 @@ module _ {D J : Type 0} (disk : a_disk.Ghosts D) (journal : a_journal.Ghosts J)
       (failed : part.ending ≡ Fails → Rose old.faults new.faults) (disk_cause : HasDiskFailed taken → Rose old.faults new.faults)
       (library_cause : HasLibraryFailed taken → Rose old.library new.library) (library_later : old.library ≤ new.library)
       (whole : AllHoldDevice (disk.may_leave old.disk) p.device → Leaves disk.moment disk.left_since old.disk new.disk
-      (StandsWhole journal.entries p.device (records_of part.history))) where
+      (StandsWhole journal.entries p.device (records_of part.history)))
+      (accepts : AcceptsTaken journal.entries disk.may_leave disk.moment disk.left_since old.disk new.disk (idle_device idle) Start taken part.ending
+      (records_of part.history)) where
     abbrev H : List TraceEvent
     H = part.history
 
@@ -410,10 +413,15 @@ module _ {D J : Type 0} (disk : a_disk.Ghosts D) (journal : a_journal.Ghosts J)
         ∙ lines_at (idle_device idle) part.prints.told part.ending held.1
         (λ is. front_none part.prints.told part.prints.rest (records_of H) part.prints.split (starves_none Start taken part.ending (records_of H) follows is))
 
-    starts : Shows disk journal old.disk new.disk (idle_device idle) Start
-    starts told_is =
-        let s = starts_here told_is in
-        (s.0, goes.images.keeps (disk.moment old.disk) s.0 (omega arith) s.1, s.2)
+    starts : IsStarted disk journal old.disk new.disk X
+    starts = (
+      (λ told_is. let s = starts_here told_is in (s.0, goes.images.keeps (disk.moment old.disk) s.0 (omega arith) s.1, s.2)),
+      (λ plan rest is. elim (accepted_at journal.entries disk.may_leave disk.moment disk.left_since old.disk new.disk (idle_device idle) Start part.ending
+          (records_of H) rest plan is taken follows accepts) [
+            | inl fails ↦ inl (fails.1, failed fails.0)
+            | inr there ↦ inr there
+          ]),
+    )
 
     is_of : IsOf disk journal (IsDeployedThere content) old new p H X
     is_of = record {
@@ -479,7 +487,9 @@ module _ {D J : Type 0} (disk : a_disk.Ghosts D) (journal : a_journal.Ghosts J)
       (failed : part.ending ≡ Fails → Rose old.faults new.faults) (disk_cause : HasDiskFailed taken → Rose old.faults new.faults)
       (library_cause : HasLibraryFailed taken → Rose old.library new.library) (library_later : old.library ≤ new.library)
       (whole : AllHoldDevice (disk.may_leave old.disk) p.device → Leaves disk.moment disk.left_since old.disk new.disk
-      (StandsWhole journal.entries p.device (records_of part.history))) where
+      (StandsWhole journal.entries p.device (records_of part.history)))
+      (accepts : AcceptsTaken journal.entries disk.may_leave disk.moment disk.left_since old.disk new.disk (idle_device idle) Start taken part.ending
+      (records_of part.history)) where
     pub document_left : (gives_up (status_of_ran r) ≡ false → new.faults ≡ old.faults) → ((s : Idle J) → (st : Status) → (standing : Standing) →
         r ≡ ran.Back s st standing →
         AllStandFor disk journal new.disk (idle_device s)) →
@@ -493,11 +503,11 @@ module _ {D J : Type 0} (disk : a_disk.Ghosts D) (journal : a_journal.Ghosts J)
             let status_is : status_of_ran r ≡ st = ap status_of_ran is in
             let q = state_after (alone p) part.history in (
               X (status_of_ran r) (λ ending q. RanLeft p.generation r (is_failing ending) q later now lives) part alike taken takes follows failed
-                  disk_cause library_cause library_later whole,
+                  disk_cause library_cause library_later whole accepts,
               refl,
               handled_at (status_of_ran r) (λ ending q. RanLeft p.generation r (is_failing ending) q later now lives) part alike taken takes follows failed
                   disk_cause
-                  library_cause library_later whole (ap gives_up status_is ∙ left.2) (ap is_restart status_is ∙ left.3)
+                  library_cause library_later whole accepts (ap gives_up status_is ∙ left.2) (ap is_restart status_is ∙ left.3)
                   (quiet (ap gives_up status_is ∙ left.2))
                   (subst (λ (x : Device). AllStandFor disk journal new.disk x)
                   (sym (device_same p part.history alike ∙ left.0.stands.device_is)) (there s st standing is)),
@@ -510,15 +520,15 @@ module _ {D J : Type 0} (disk : a_disk.Ghosts D) (journal : a_journal.Ghosts J)
             let status_is : status_of_ran r ≡ st = ap status_of_ran is in
             let e = ended_at (status_of_ran r) (λ ending q. RanLeft p.generation r (is_failing ending) q later now lives) part alike taken takes follows
             failed disk_cause
-            library_cause library_later whole (subst EndsCall (sym status_is) end) (is_failing part.ending)
+            library_cause library_later whole accepts (subst EndsCall (sym status_is) end) (is_failing part.ending)
             (λ on. failed (failing_is part.ending on))
             (subst (λ (z : Status). IsEnd (state_after (alone p) part.history) z (is_failing part.ending)) (sym status_is) left) in (
               X (status_of_ran r) (λ ending q. RanLeft p.generation r (is_failing ending) q later now lives) part alike taken takes follows failed
-                  disk_cause library_cause library_later whole,
+                  disk_cause library_cause library_later whole accepts,
               is_failing part.ending,
               refl,
               subst (λ (z : Status). IsEnded disk journal (IsDeployedThere content) old new p part.history
                   (X (status_of_ran r) (λ ending q. RanLeft p.generation r (is_failing ending) q later now lives) part alike taken takes follows failed
-                  disk_cause library_cause library_later whole)
+                  disk_cause library_cause library_later whole accepts)
                   z (is_failing part.ending)) status_is e,
             )

@@ -19,12 +19,12 @@ use Rattle.histories.specs.Courses.{IsEnd, is_restart}
 use Rattle.histories.specs.States.{SessionState, state_after}
 use Rattle.histories.specs.TraceEvents.{Answer, TraceEvent, records_of}
 use Rattle.histories.proofs.Joined.{left-append, records-append}
-use Rattle.session_boots.specs.Traces.{Acts}
+use Rattle.session_boots.specs.Traces.{Acts, StandsForPrefix}
 use Rattle.session.specs.Calls.{IsOrEdge}
-use Rattle.session_serving.specs.Parts.{Ends, Goes, IsSure, Outside, Shows, Turns}
+use Rattle.session_serving.specs.Parts.{Ends, Goes, IsStarted, IsSure, Outside, Turns}
 use Rattle.session_serving.specs.Rounds.{AreHandled, AreStarted, Fails, Handled, Last, Round, Shut, Spent, Starves, Stops, lines_of_rounds, records_of_last}
 use Rattle.session_serving.specs.Rounds.{SaysLast, asked_of_last, questions_of, records_of_rounds, round_of_last, untold_of_last}
-use Rattle.session_serving.specs.Served.{EndsAs, IsServed, ended_line}
+use Rattle.session_serving.specs.Served.{EndsAs, IsSetServed, ended_line}
 use Rattle.session_serving.specs.Turns.{EndsBy, Shuts}
 use Rattle.session_serving.proofs.Questions.{not_asked, questions-append}
 use Rattle.session_serving.proofs.Joining.{Stood, goes_acts, goes_both, holds_acts, kept_held, prefix_behind, stands_acts, started_on, sure_behind, sure_run}
@@ -60,9 +60,9 @@ module _ {D J : Type 0} (disk : a_disk.Ghosts D) (journal : a_journal.Ghosts J)
       (status ≢ statuses.Edge → Appends to.held new.held lines) → (last ≡ Spent → lines ≡ ended_line most) →
       SaysLast last status lines →
       (untold_of_last last ≡ [] → Stood disk journal laws new.disk (state_after (state_after p h) g).device) →
-      AreStarted (Shows disk journal to.disk new.disk) (round_of_last last) → (rose ≡ true → Rose to.faults new.faults) →
+      AreStarted (IsStarted disk journal to.disk new.disk) (round_of_last last) → (rose ≡ true → Rose to.faults new.faults) →
       IsEnd (state_after (state_after p h) g) status rose →
-      IsServed disk journal Clause most old new p (g ++ h) status
+      IsSetServed disk journal Clause most old new p (g ++ h) status
   ended most old to new p h g rounds last status rose lines turns few tail sure records ends front whole spent says stable shown cause end =
       let left = left-append p g h in
       record {
@@ -78,8 +78,9 @@ module _ {D J : Type 0} (disk : a_disk.Ghosts D) (journal : a_journal.Ghosts J)
         handled = turns.handled;
         answered = turns.answered;
         given = turns.given;
-        starts = started_on disk journal laws old.disk to.disk new.disk turns.goes.images.later (tail.images.keeps (disk.moment old.disk)) rounds
-            (round_of_last last) turns.starts shown;
+        starts = started_on disk journal laws old.disk to.disk new.disk (StandsForPrefix journal.entries p.device (records_of h))
+            (StandsForPrefix journal.entries (state_after p h).device (records_of g)) turns.goes.images tail.images rounds (round_of_last last)
+            turns.starts shown;
         records = records-append g h ∙ ap (λ (l : List Record). l ++ records_of g) turns.records ∙
             ap (λ (l : List Record). records_of_rounds rounds ++ l) records;
         ends = ends;
@@ -98,7 +99,7 @@ module _ {D J : Type 0} (disk : a_disk.Ghosts D) (journal : a_journal.Ghosts J)
   -- behind what brought the set up
   pub served_behind : (most : ℕ) (old new : Outside D) (p : SessionState) (k h : List TraceEvent) (status : Status) →
       Stood disk journal laws old.disk p.device → Acts p k old.list old.list → (state_after p k).turns ≡ p.turns →
-      IsServed disk journal Clause most old new (state_after p k) h status → IsServed disk journal Clause most old new p (h ++ k) status
+      IsSetServed disk journal Clause most old new (state_after p k) h status → IsSetServed disk journal Clause most old new p (h ++ k) status
   served_behind most old new p k h status stands acts turns s =
       let tail = goes_acts disk journal laws old.disk old.list old.list p k stands acts in
       record {
@@ -136,7 +137,7 @@ module _ {D J : Type 0} (disk : a_disk.Ghosts D) (journal : a_journal.Ghosts J)
       h ≡ g ++ before → Turns disk journal Clause old to p before rounds → Shuts disk journal Clause to mid (state_after p before) g →
       length rounds + 1 ≤ most →
       Acts (state_after p h) k mid.list list → (state_after p h).device.pending ≡ None → IsEnd (state_after (state_after p h) k) statuses.Done false →
-      (j : List TraceEvent) × IsServed disk journal Clause most old (record mid { list = list }) p j statuses.Done
+      (j : List TraceEvent) × IsSetServed disk journal Clause most old (record mid { list = list }) p j statuses.Done
   served_shut most old to mid p h before g k rounds list split turns shuts few acts idle end =
       let q = state_after p before in
       let same : state_after p h ≡ state_after q g = ap (λ (l : List TraceEvent). state_after p l) split ∙ left-append p g before in
@@ -171,7 +172,7 @@ module _ {D J : Type 0} (disk : a_disk.Ghosts D) (journal : a_journal.Ghosts J)
   pub served_over : (most : ℕ) (old to new : Outside D) (p : SessionState) (h before g : List TraceEvent) (rounds : List Round) (last : Last) (status : Status)
       (rose : Bool) → h ≡ g ++ before → Turns disk journal Clause old to p before rounds →
       Ends disk journal (EndsBy Clause) to new (state_after p before) g last status rose →
-      length rounds + asked_of_last last ≤ most → (j : List TraceEvent) × IsServed disk journal Clause most old new p j status
+      length rounds + asked_of_last last ≤ most → (j : List TraceEvent) × IsSetServed disk journal Clause most old new p j status
   served_over most old to new p h before g rounds last status rose split turns e few = (
     g ++ before,
     ended most old to new p before g rounds last status rose e.lines turns few e.goes e.sure e.records

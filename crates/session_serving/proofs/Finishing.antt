@@ -41,7 +41,7 @@ use Rattle.session.proofs.Places.{front_returned}
 use Rattle.session_serving.specs.Parts.{AllStandFor, AreOfFiles, Goes, Outside}
 use Rattle.session_serving.specs.Places.{IsBegun, IsUnopened}
 use Rattle.session_serving.specs.Documents.{RecordsEnd}
-use Rattle.session_serving.specs.Served.{FinishLeft, IsResumed}
+use Rattle.session_serving.specs.Served.{FinishLeft, IsPendingResumed}
 use Rattle.session_serving.proofs.Deploying.{device_same, drained, end_beside, not_edge, own_status, over_status, records_end, turns_same}
 use Rattle.session_serving.proofs.Deploying.{unopened_beside}
 use Rattle.session_serving.proofs.Images.{part_images, whole_now}
@@ -199,7 +199,8 @@ module _ {D J : Type 0} (disk : a_disk.Ghosts D) (journal : a_journal.Ghosts J)
     own_some : is_some p.device.pending ≡ true
     own_some = ap (λ (x : Device). is_some x.pending) same_device ∙ some
 
-    resumed : IsResumed p.device (records_of part.history) (state_after p part.history).device (call_lines p.device part.prints.told part.ending) part.ending
+    resumed : IsPendingResumed p.device (records_of part.history) (state_after p part.history).device
+        (call_lines p.device part.prints.told part.ending) part.ending
     resumed = record {
       resumes = own_resumes;
       ends = subst (λ (x : Device). RecordsEnd part.ending (records_of part.history) x) (sym (device_same p part.history alike))
@@ -277,4 +278,8 @@ module _ {D J : Type 0} (disk : a_disk.Ghosts D) (journal : a_journal.Ghosts J)
               };
               end = end_beside (state_after (alone p) part.history) (state_after p part.history) alike.answer alike.taken p alike.state_is st
                   (is_failing part.ending) left;
+              quits = λ gives. elim (part.quits (ap gives_up status_is ∙ gives)) [
+                | inl unbegun ↦ inl (unbegun.1 b.stage.between.still.stopped)
+                | inr stops ↦ inr stops
+              ];
             }

@@ -1,5 +1,5 @@
 -- Parts of a call that serves join.
-use Rattle.std.specs.Prelude.{ℕ, List, [], ◌++◌, Option}
+use Rattle.std.specs.Prelude.{ℕ, ◌+◌, List, [], ◌++◌, Option, ⊤}
 use Rattle.std.specs.Io.KnownBytes.{Appends}
 use Rattle.std.proofs.Common.{◌≡◌, ◌≤◌, ◌∙◌, inl, inr, refl, sym, ap, subst, append_assoc, arith}
 use Rattle.std.proofs.KnownBytes.{Appends-nil, Appends-trans}
@@ -13,6 +13,7 @@ use Rattle.edges.specs.declared.answered.Answered.{Answered}
 use Rattle.records.specs.Stored.{Record}
 use Rattle.device.specs.Devices.{Device}
 use Rattle.device.specs.Lawful.{Run}
+use Rattle.deploy_state.specs.Turning.{plan_bytes}
 use Rattle.artifact_store.specs.Holding.{AllHoldDevice}
 use Rattle.step_runner.specs.Entries.{Grows}
 use Rattle.step_runner.specs.declared.entries.RunnerEntry.{RunnerEntry}
@@ -24,7 +25,8 @@ use Rattle.session_boots.proofs.Acting.{grows_none, grows_on}
 use Rattle.session_boots.proofs.Prefixes.{front_behind, front_more, most_behind, run_on}
 use Rattle.session_boots.proofs.Told.{stops_behind}
 use Rattle.session.specs.Calls.{StandsWhole}
-use Rattle.session_serving.specs.Parts.{AllStandFor, Goes, HoldsOn, IsSure, Outside, Shows, Turns}
+use Rattle.session.proofs.Accepted.{any_on, has_behind}
+use Rattle.session_serving.specs.Parts.{AllStandFor, Goes, HoldsOn, IsStarted, IsSure, Outside, Turns}
 use Rattle.session_serving.specs.Rounds.{AreHandled, AreStarted, Handled, Round, answered_by, lines_of_rounds, questions_of, questions_of_rounds}
 use Rattle.session_serving.specs.Rounds.{records_of_rounds}
 use Rattle.session_serving.proofs.Questions.{not_asked, questions-append}
@@ -168,17 +170,33 @@ module _ {D J : Type 0} (disk : a_disk.Ghosts D) (journal : a_journal.Ghosts J)
 
   -- ---- turns
 
-  -- what was shown of a journal in the first part, or in the second, is shown in both
-  pub started_on : (old mid new : D) → disk.moment old ≤ disk.moment mid →
-      ((c : Image) → disk.moment old ≤ disk.moment mid → disk.left_since mid (disk.moment old) c → disk.left_since new (disk.moment old) c) →
-      (a b : List Round) → AreStarted (Shows disk journal old mid) a → AreStarted (Shows disk journal mid new) b →
-      AreStarted (Shows disk journal old new) (a ++ b)
-  started_on old mid new le keeps a b one two =
-      let W = Shows disk journal old new in
-      started_both W a b
-      (started_more (Shows disk journal old mid) W (λ d start shown. λ told. let c = shown told in (c.0, keeps c.0 le c.1, c.2)) a one)
-      (started_more (Shows disk journal mid new) W (λ d start shown. λ told.
-      let c = shown told in (c.0, laws.earlier new (disk.moment old) (disk.moment mid) c.0 le c.1, c.2)) b two)
+  -- how documents began in the first part, or in the second, they began in both
+  module _ (old mid new : D) (P Q : Image → Type 0) (first : Leaves disk.moment disk.left_since old mid P)
+      (second : Leaves disk.moment disk.left_since mid new Q) where
+    started_first : (x : Handled) → IsStarted disk journal old mid x → IsStarted disk journal old new x
+    started_first x s = (
+      (λ told. let c = s.0 told in (c.0, second.keeps (disk.moment old) c.0 first.later c.1, c.2)),
+      (λ plan rest is. elim (s.1 plan rest is) [
+        | inl failed ↦ inl failed
+        | inr h ↦ inr (record { at = h.at; from = h.from; on = any_on journal.entries laws h.at mid new (λ c. ⊤) Q h.on second; each = h.each })
+      ]),
+    )
+
+    started_second : (x : Handled) → IsStarted disk journal mid new x → IsStarted disk journal old new x
+    started_second x s = (
+      (λ told. let c = s.0 told in (c.0, laws.earlier new (disk.moment old) (disk.moment mid) c.0 first.later c.1, c.2)),
+      (λ plan rest is. elim (s.1 plan rest is) [
+        | inl failed ↦ inl failed
+        | inr h ↦ inr (has_behind journal.entries laws old mid new P first x.device plan (x.start (plan_bytes plan) + 5 + plan_bytes plan) h)
+      ]),
+    )
+
+    pub started_on : (a b : List Round) → AreStarted (IsStarted disk journal old mid) a → AreStarted (IsStarted disk journal mid new) b →
+        AreStarted (IsStarted disk journal old new) (a ++ b)
+    started_on a b one two =
+        let W = IsStarted disk journal old new in
+        started_both W a b (started_more (IsStarted disk journal old mid) W started_first a one)
+        (started_more (IsStarted disk journal mid new) W started_second b two)
 
   pub turns_both : (Clause : Handled → Type 0) (old mid new : Outside D) (p : SessionState) (h g : List TraceEvent) (a b : List Round) →
       Turns disk journal Clause old mid p h a → Turns disk journal Clause mid new (state_after p h) g b → Turns disk journal Clause old new p (g ++ h) (a ++ b)
@@ -206,7 +224,8 @@ module _ {D J : Type 0} (disk : a_disk.Ghosts D) (journal : a_journal.Ghosts J)
             let y = two.turns in
             omega (arith, t, l, x, y);
         faults = two.faults ∙ one.faults;
-        starts = started_on old.disk mid.disk new.disk one.goes.images.later (two.goes.images.keeps (disk.moment old.disk)) a b one.starts two.starts;
+        starts = started_on old.disk mid.disk new.disk (StandsForPrefix journal.entries p.device (records_of h))
+            (StandsForPrefix journal.entries (state_after p h).device (records_of g)) one.goes.images two.goes.images a b one.starts two.starts;
       }
 
   -- a part without a record is one without a round

@@ -64,13 +64,12 @@ pub length_both : (a b : List Round) → length (a ++ b) ≡ length a + length b
 length_both [] b = omega arith
 length_both (r ∷ a) b = let e = length_both a b in omega (arith, e)
 
-pub started_more : (S T : Device → (ℕ → ℕ) → Type 0) → ((d : Device) (start : ℕ → ℕ) → S d start → T d start) → (a : List Round) → AreStarted S a →
-    AreStarted T a
+pub started_more : (S T : Handled → Type 0) → ((x : Handled) → S x → T x) → (a : List Round) → AreStarted S a → AreStarted T a
 started_more S T more [] h = tt
 started_more S T more (Waited ∷ a) h = started_more S T more a h
-started_more S T more (Took x ∷ a) h = (more x.device x.start h.0, started_more S T more a h.1)
+started_more S T more (Took x ∷ a) h = (more x h.0, started_more S T more a h.1)
 
-pub started_both : (S : Device → (ℕ → ℕ) → Type 0) (a b : List Round) → AreStarted S a → AreStarted S b → AreStarted S (a ++ b)
+pub started_both : (S : Handled → Type 0) (a b : List Round) → AreStarted S a → AreStarted S b → AreStarted S (a ++ b)
 started_both S [] b one two = two
 started_both S (Waited ∷ a) b one two = started_both S a b one two
 started_both S (Took x ∷ a) b one two = (one.0, started_both S a b one.1 two)

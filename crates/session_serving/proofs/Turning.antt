@@ -33,7 +33,7 @@ use Rattle.session_boots.specs.Traces.{Acts}
 use Rattle.session_shutdown.specs.Stops.{MayStop}
 use Rattle.session_steady.specs.Serves.{IsServing}
 use Rattle.session_serving.specs.Documents.{IsDone, IsLastDone}
-use Rattle.session_serving.specs.Parts.{Ends, Goes, IsSure, Outside, Shows, Turns}
+use Rattle.session_serving.specs.Parts.{Ends, Goes, IsStarted, IsSure, Outside, Turns}
 use Rattle.session_serving.specs.Rounds.{SaysLast, Shut, Spent, asked_of_last}
 use Rattle.session_serving.specs.Rounds.{AreStarted, Fails, Gives, Handled, Last, Round, Starves, Stops, Took, Waited, questions_of, records_of_last}
 use Rattle.session_serving.specs.Rounds.{round_of_last}
@@ -215,7 +215,7 @@ module _ {D J : Type 0} (disk : a_disk.Ghosts D) (journal : a_journal.Ghosts J)
       writes = record { front = front; all = whole };
       records = acts.none ∙ sym none;
       why = why;
-      starts = subst (λ (l : List Round). AreStarted (Shows disk journal old.disk new.disk) l) (sym no_round) tt;
+      starts = subst (λ (l : List Round). AreStarted (IsStarted disk journal old.disk new.disk) l) (sym no_round) tt;
       cause = λ on. absurd (false≢true on);
       end = end;
     }

@@ -29,7 +29,7 @@ use Rattle.session.specs.Documents.{Follows, TakesRead}
 use Rattle.session.specs.Endings.{Ending, Breaks, Closes, Declines, Fails, Forgets, Full, Idle, Reboots, Restarts, Starves}
 use Rattle.session.specs.Endings.{line_of_ending, status_of_ending}
 use Rattle.session.specs.Parts.{EndsCall}
-use Rattle.session_serving.specs.Parts.{AllStandFor, Goes, HoldsOn, IsSure, Outside, Shows, Writes}
+use Rattle.session_serving.specs.Parts.{AllStandFor, Goes, HoldsOn, IsStarted, IsSure, Outside, Writes}
 use Rattle.session_serving.specs.Rounds.{Handled, SaysStopped}
 
 -- ---- what is promised of one document
@@ -86,7 +86,7 @@ module _ {D J : Type 0} (disk : a_disk.Ghosts D) (journal : a_journal.Ghosts J) 
     pub disk_before : x.disk_before ≡ old.faults
     pub disk_after : x.disk_after ≡ new.faults
     pub clause : Clause x
-    pub starts : Shows disk journal old.disk new.disk x.device x.start
+    pub starts : IsStarted disk journal old.disk new.disk x
 
   -- It was handled, and the call goes on: `old` and `new` agree on the inbox.
   pub record IsHandled (old new : Outside D) (p : SessionState) (h : List TraceEvent) (x : Handled) : Type 0 where

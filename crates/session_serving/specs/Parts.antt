@@ -1,5 +1,5 @@
 -- A part of a call that serves: what happened, what a crash leaves at each moment, and what is seen outside.
-use Rattle.std.specs.Prelude.{◌≡◌, ◌≢◌, ◌⊎◌, ℕ, ◌+◌, Bool, true, IsTrue, List, [], length, Option}
+use Rattle.std.specs.Prelude.{◌≡◌, ◌≢◌, ◌⊎◌, ℕ, ◌+◌, Bool, true, IsTrue, List, [], ◌∷◌, length, Option}
 use Rattle.std.specs.Io.KnownBytes.{Appends}
 use Rattle.nuc_base.specs.Faults.{Rose}
 use Rattle.nuc_base.specs.declared.status.Status.{Status}
@@ -16,7 +16,8 @@ use Rattle.library_core.specs.declared.library.Library as a_library
 use Rattle.device.specs.Devices.{Device}
 use Rattle.device.specs.Lawful.{Run}
 use Rattle.device.specs.Standing.{StandsFor}
-use Rattle.deploy_state.specs.Turning.{start_of}
+use Rattle.deploy_state.specs.Turning.{plan_bytes, start_of}
+use Rattle.records.specs.Stored.{Accepted, Plan, Record}
 use Rattle.artifact_store.specs.Holding.{AllHoldDevice}
 use Rattle.step_runner.specs.Entries.{Grows}
 use Rattle.step_runner.specs.declared.entries.RunnerEntry.{RunnerEntry}
@@ -28,6 +29,7 @@ use Rattle.histories.specs.TraceEvents.{TraceEvent, entries_of, records_of}
 use Rattle.session_boots.specs.Ends.{StopsAt}
 use Rattle.session_boots.specs.Traces.{StandsForMost, StandsForPrefix}
 use Rattle.session.specs.Calls.{StandsWhole}
+use Rattle.session.specs.Documents.{HasAcceptedTo}
 use Rattle.session_serving.specs.Rounds.{AreHandled, AreStarted, Gives, Handled, Last, Round, answered_by, lines_of_rounds, records_of_last, records_of_rounds}
 use Rattle.session_serving.specs.Rounds.{SaysLast, questions_of, questions_of_rounds, round_of_last, untold_of_last}
 
@@ -87,6 +89,17 @@ module _ {D J : Type 0} (disk : a_disk.Ghosts D) (journal : a_journal.Ghosts J) 
   abbrev pub Shows : D → D → Device → (ℕ → ℕ) → Type 0
   Shows old new d start = IsTrue disk.is_modelled → (c : Image) × disk.left_since new (disk.moment old) c × StartsIn c d start
 
+  -- A plan that its records accept has its entry from there: at some moment between these two the live entries end behind it, unless the disk
+  -- failed as that was added.
+  abbrev pub HasEntryThere : D → D → Handled → Type 0
+  HasEntryThere old new x = (plan : Plan) (rest : List Record) → x.records ≡ Accepted plan ∷ rest
+      → ((rest ≡ []) × Rose x.disk_before x.disk_after)
+      ⊎ HasAcceptedTo journal.entries disk.may_leave disk.moment disk.left_since old new x.device plan (x.start (plan_bytes plan) + 5 + plan_bytes plan)
+
+  -- The journal from which this document went on is shown, and from there the entry of its plan.
+  abbrev pub IsStarted : D → D → Handled → Type 0
+  IsStarted old new x = Shows old new x.device x.start × HasEntryThere old new x
+
   -- So many turns went by: one round each. All their lines are written, and the disk did not fail.
   pub record Turns (Clause : Handled → Type 0) (old new : Outside D) (p : SessionState) (h : List TraceEvent) (rounds : List Round) : Type 0 where
     pub goes : Goes old.disk new.disk old.list new.list p h
@@ -100,7 +113,7 @@ module _ {D J : Type 0} (disk : a_disk.Ghosts D) (journal : a_journal.Ghosts J) 
     pub given : Gives old.waiting new.waiting rounds
     pub turns : (state_after p h).turns + length rounds ≡ p.turns
     pub faults : new.faults ≡ old.faults
-    pub starts : AreStarted (Shows old.disk new.disk) rounds
+    pub starts : AreStarted (IsStarted old.disk new.disk) rounds
 
   -- What may be known of the disk at the end: at most the last record is in doubt, and then nothing was done behind it but that
   -- children were killed.
@@ -125,6 +138,6 @@ module _ {D J : Type 0} (disk : a_disk.Ghosts D) (journal : a_journal.Ghosts J) 
     pub writes : Writes old.held new.held status lines
     pub records : records_of h ≡ records_of_last last
     pub why : Why last status old new p.device
-    pub starts : AreStarted (Shows old.disk new.disk) (round_of_last last)
+    pub starts : AreStarted (IsStarted old.disk new.disk) (round_of_last last)
     pub cause : rose ≡ true → Rose old.faults new.faults
     pub end : IsEnd (state_after p h) status rose

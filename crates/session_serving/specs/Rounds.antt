@@ -104,11 +104,11 @@ module _ (Clause : Handled → Type 0) where
       (x.device ≡ d) × (x.before ≡ n) × (gives_up x.status ≡ false) × (is_restart x.status ≡ false) × Clause x × Run d x.records x.behind
       × AreHandled x.behind x.after rounds e m
 
--- each of these functions is shown for the device of its document
-abbrev pub AreStarted : (Device → (ℕ → ℕ) → Type 0) → List Round → Type 0
-AreStarted Shown [] = ⊤
-AreStarted Shown (Waited ∷ rounds) = AreStarted Shown rounds
-AreStarted Shown (Took x ∷ rounds) = Shown x.device x.start × AreStarted Shown rounds
+-- each document began so
+abbrev pub AreStarted : (Handled → Type 0) → List Round → Type 0
+AreStarted Started [] = ⊤
+AreStarted Started (Waited ∷ rounds) = AreStarted Started rounds
+AreStarted Started (Took x ∷ rounds) = Started x × AreStarted Started rounds
 
 -- ---- the last round
 

@@ -12,17 +12,17 @@ use Rattle.deploy_state.specs.States.{idle_device}
 use Rattle.records.specs.Stored.{Record}
 use Rattle.step_runner.specs.Entries.{Told}
 use Rattle.components.specs.Components.{Components}
-use Rattle.histories.specs.Courses.{IsEnd}
+use Rattle.histories.specs.Courses.{IsEnd, gives_up}
 use Rattle.histories.specs.Once.{TakesOnce}
 use Rattle.histories.specs.States.{SessionState, state_after}
 use Rattle.histories.specs.TraceEvents.{Answer, TraceEvent, records_of}
 use Rattle.session_startup.specs.Ended.{ClosesAs}
-use Rattle.session.specs.Calls.{call_lines}
+use Rattle.session.specs.Calls.{QuitsAt, call_lines}
 use Rattle.session.specs.Endings.{Ending, Fails as DiskFails, Resumes, Starves, is_failing, status_of_ending}
 use Rattle.session.specs.declared.ran.Ran.{Ran}
 use Rattle.session.specs.declared.ran.Ran.TheVariants as ran
 use Rattle.session_serving.specs.Documents.{EndsWith, RecordsEnd}
-use Rattle.session_serving.specs.Parts.{AllStandFor, Goes, HoldsOn, IsSure, Outside, Shows, Writes}
+use Rattle.session_serving.specs.Parts.{AllStandFor, Goes, HoldsOn, IsStarted, IsSure, Outside, Writes}
 use Rattle.session_serving.specs.Places.{IsUnopened}
 use Rattle.session_serving.specs.Rounds.{AreHandled, AreStarted, Gives, Handled, Last, Round, Spent, Shut, answered_by, lines_of_rounds}
 use Rattle.session_serving.specs.Rounds.{SaysLast, asked_of_last, questions_of, questions_of_rounds, records_of_last, records_of_rounds}
@@ -44,7 +44,7 @@ EndsAs Clause most rounds last status old new d = EndsBy Clause last status old 
 module _ {D J : Type 0} (disk : a_disk.Ghosts D) (journal : a_journal.Ghosts J) (Clause : Handled → Type 0) where
   -- From a state on, in which the set is to be brought up, to the end of the call. `to` is what is seen outside behind the last round
   -- that went by, and `behind` the device then.
-  pub record IsServed (most : ℕ) (old new : Outside D) (p : SessionState) (h : List TraceEvent) (status : Status) : Type 0 where
+  pub record IsSetServed (most : ℕ) (old new : Outside D) (p : SessionState) (h : List TraceEvent) (status : Status) : Type 0 where
     pub goes : Goes disk journal old.disk new.disk old.list new.list p h
     pub sure : IsSure disk journal new.disk p h
     pub rounds : List Round
@@ -57,7 +57,7 @@ module _ {D J : Type 0} (disk : a_disk.Ghosts D) (journal : a_journal.Ghosts J) 
     pub handled : AreHandled Clause p.device old.library rounds behind to.library
     pub answered : to.answered ≡ answered_by rounds old.answered
     pub given : Gives old.waiting to.waiting rounds
-    pub starts : AreStarted (Shows disk journal old.disk new.disk) (rounds ++ round_of_last last)
+    pub starts : AreStarted (IsStarted disk journal old.disk new.disk) (rounds ++ round_of_last last)
     pub records : records_of h ≡ records_of_rounds rounds ++ records_of_last last
     pub ends : EndsAs Clause most rounds last status to new behind
     pub lines : List ℕ
@@ -76,7 +76,7 @@ AreClosed records = (records ≡ []) ⊎ ((o : Outcome) × ClosesAs o records)
 
 -- The pending deployment went on to this ending and left this device, and no plan was accepted. These are its lines, where the disk failed perhaps without the
 -- last record's.
-pub record IsResumed (d : Device) (records : List Record) (behind : Device) (lines : List ℕ) (ending : Ending) : Type 0 where
+pub record IsPendingResumed (d : Device) (records : List Record) (behind : Device) (lines : List ℕ) (ending : Ending) : Type 0 where
   pub resumes : Resumes d ending
   pub ends : RecordsEnd ending records behind
   pub once : TakesOnce true records
@@ -90,7 +90,7 @@ pub record IsResumed (d : Device) (records : List Record) (behind : Device) (lin
 -- it did, or nothing was pending and nothing was done
 abbrev pub Finishes : Device → List Record → Device → List ℕ → Ending → Type 0
 Finishes d records behind lines ending =
-    (d.pending ≢ None × IsResumed d records behind lines ending) ⊎ ((d.pending ≡ None) × (records ≡ []) × (lines ≡ []))
+    (d.pending ≢ None × IsPendingResumed d records behind lines ending) ⊎ ((d.pending ≡ None) × (records ≡ []) × (lines ≡ []))
 
 module _ {D J : Type 0} (disk : a_disk.Ghosts D) (journal : a_journal.Ghosts J) where
   -- and the call goes on, with the deployment closed
@@ -106,19 +106,21 @@ module _ {D J : Type 0} (disk : a_disk.Ghosts D) (journal : a_journal.Ghosts J) 
     pub turns : (state_after p h).turns ≡ p.turns
     pub faults : new.faults ≡ old.faults
 
-  -- Or it ends the call. For want of memory nothing of it is begun; and it ends for the disk only where the disk's count rose.
+  -- Or it ends the call. For want of memory nothing of it is begun; and it ends for the disk only where the disk's count rose. Where the call gives
+  -- up nothing is done behind the last record but that its children are killed.
   pub record IsHalted (old new : Outside D) (p : SessionState) (h : List TraceEvent) (status : Status) : Type 0 where
     pub goes : Goes disk journal old.disk new.disk old.list new.list p h
     pub sure : IsSure disk journal new.disk p h
     pub lines : List ℕ
     pub ending : Ending
-    pub first : IsResumed p.device (records_of h) (state_after p h).device lines ending
+    pub first : IsPendingResumed p.device (records_of h) (state_after p h).device lines ending
     pub stable : first.rest ≡ [] → AllStandFor disk journal new.disk (state_after p h).device
     pub failed : ending ≡ DiskFails → Rose old.faults new.faults
     pub unbegun : ending ≡ Starves → h ≡ []
     pub with_status : EndsWith (status_of_ending ending) status
     pub writes : Writes disk journal old.held new.held status lines
     pub end : IsEnd (state_after p h) status (is_failing ending)
+    pub quits : gives_up status ≡ true → QuitsAt h
 
   abbrev pub FinishLeft : Ran J → Outside D → Outside D → SessionState → List TraceEvent → Components → Told → List ℕ → Type 0
   FinishLeft (ran.Back s status standing) old new p h world told living =
@@ -132,4 +134,4 @@ module _ {D J : Type 0} (disk : a_disk.Ghosts D) (journal : a_journal.Ghosts J) 
     pub memory : status ≡ statuses.Memory → AreClosed (records_of h)
     pub parts : (IsHalted old new p h status × (new.answered ≡ old.answered) × (new.waiting ≡ old.waiting) × (new.library ≡ old.library))
         ⊎ ((before g : List TraceEvent) × (to : Outside D) × (h ≡ g ++ before) × (to.answered ≡ old.answered) × (to.waiting ≡ old.waiting)
-        × (to.library ≡ old.library) × IsFinished old to p before × IsServed disk journal Clause most to new (state_after p before) g status)
+        × (to.library ≡ old.library) × IsFinished old to p before × IsSetServed disk journal Clause most to new (state_after p before) g status)

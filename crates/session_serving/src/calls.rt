@@ -10,7 +10,7 @@ ghost use Rattle.session_serving.specs.Causes.{IsCaused, watched};
 ghost use Rattle.session_serving.specs.Documents.{IsDeployedThere};
 ghost use Rattle.session_serving.specs.Parts.{AreOfFiles, outside};
 ghost use Rattle.session_serving.specs.Places.{AreUp, IsBegun, IsUnopened};
-ghost use Rattle.session_serving.specs.Served.{IsServed, IsWholeCall};
+ghost use Rattle.session_serving.specs.Served.{IsSetServed, IsWholeCall};
 
 use crate::ends::{give_up, say_ended, stop_all, stop_spent};
 use crate::opening::open_set;
@@ -48,7 +48,7 @@ where
     requires up { AreUp (idle_device idle) (S.world supervisor.old) }
     requires placed { (p : SessionState) × AsTold R.Runner runner.old (IsServing p (idle_device idle) (S.world supervisor.old)) × (p.turns ≡ turns) }
     ensures served { (p : SessionState) → AsTold R.Runner runner.old (IsServing p (idle_device idle) (S.world supervisor.old)) → p.turns ≡ turns →
-        (h : List TraceEvent) × IsServed D.Disk J.Journal (IsDeployedThere (L.content library.old)) turns
+        (h : List TraceEvent) × IsSetServed D.Disk J.Journal (IsDeployedThere (L.content library.old)) turns
         (outside D.Disk K.Sink R.Runner L.Library I.Inbox disk.old sink.old runner.old library.old inbox.old)
         (outside D.Disk K.Sink R.Runner L.Library I.Inbox disk.new sink.new runner.new library.new inbox.new)
         p h result }
@@ -97,7 +97,7 @@ where
     requires up { AreUp (idle_device idle) (S.world supervisor.old) }
     requires placed { (p : SessionState) × AsTold R.Runner runner.old (IsUnopened p (idle_device idle) (S.world supervisor.old)) × (p.turns ≡ turns) }
     ensures served { (p : SessionState) → AsTold R.Runner runner.old (IsUnopened p (idle_device idle) (S.world supervisor.old)) → p.turns ≡ turns →
-        (h : List TraceEvent) × IsServed D.Disk J.Journal (IsDeployedThere (L.content library.old)) turns
+        (h : List TraceEvent) × IsSetServed D.Disk J.Journal (IsDeployedThere (L.content library.old)) turns
         (outside D.Disk K.Sink R.Runner L.Library I.Inbox disk.old sink.old runner.old library.old inbox.old)
         (outside D.Disk K.Sink R.Runner L.Library I.Inbox disk.new sink.new runner.new library.new inbox.new)
         p h result }

@@ -5,7 +5,7 @@ use disk_model::{Disk, DiskFault, FusedDisk, MemoryDisk, Pick};
 use edges::{MemorySink, MemorySource};
 use library_core::MemoryLibrary;
 use nuc_base::{Bytes, List, Status};
-use nucleus_top::calls_go_on;
+use nucleus_top::{a_first_call_begins, calls_go_on};
 use std::alloc::{AllocError, Global};
 use std::process::Abort;
 use std::test::Fail;
@@ -510,8 +510,13 @@ fn lines_that_cannot_be_written_are_status_6(rt: HostRuntime) -> Result<(), Fail
     Ok(())
 }
 
-/// The law of the calls of a disk holds of a disk in memory.
+/// The law of the calls of a disk holds of a disk in memory, and a first one begins on a disk that was just made, which has no file.
 #[test]
-fn calls_of_a_disk_in_memory_go_on() {
+fn calls_of_a_disk_in_memory_go_on(rt: HostRuntime) -> Result<(), Fail> {
     calls_go_on::<MemoryDisk>();
+    let mut disk = a_first_call_begins(rt.alloc());
+    let length = disk.length("journal");
+    drop(disk);
+    assert!(rt; length == Ok(0));
+    Ok(())
 }

@@ -1,3 +1,4 @@
+use Rattle.nucleus_top.proofs.Acknowledged.{deployed_stay, served_stay}
 use Rattle.nucleus_top.proofs.Series.{acknowledged_last, drives_end, drives_go_on, first_begins, turned_end, turned_go_on}
 use Rattle.nucleus_top.proofs.laws.calls_go_on.Goals as goal
 
@@ -18,3 +19,9 @@ returns-clause-begins g c = first_begins g.met.D.Disk.laws
 
 pub returns-clause-acknowledged : goal.returns-clause-acknowledged
 returns-clause-acknowledged g c = acknowledged_last g.D.Disk.may_leave
+
+pub returns-clause-deployed : goal.returns-clause-deployed
+returns-clause-deployed g c = deployed_stay g.D.Disk.may_leave g.D.Disk.moment g.D.Disk.left_since g.D.Disk.faults
+
+pub returns-clause-served : goal.returns-clause-served
+returns-clause-served g c = served_stay g.D.Disk

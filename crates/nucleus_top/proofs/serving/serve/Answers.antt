@@ -92,6 +92,7 @@ returns-in-Ok-clause-ran g c =
             });
         from = c.open_swept.new.disk;
         before = c.open_swept.ensures.spared;
+        swept = c.in-Ok.ensures.clean;
         most = most;
         call = served;
         in_order = ends_in_order g.D.Disk content c.args.turns start new place call.0 c.serve.result served.parts;

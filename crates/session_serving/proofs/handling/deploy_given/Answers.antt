@@ -56,7 +56,7 @@ returns-clause-left g c = λ p asked.
       document_left g.D.Disk g.J.Journal g.met.D.Disk.laws g.met.J.Journal.laws c.requires.apart c.requires.own (g.L.Library.content c.args.library.now)
           c.args.idle c.args.document.now old new c.requires.held p world told living asked r later now lives c.run_document.ensures.ends_call part alike t.0
           t.1
-          t.2.1 t.4 t.5 t.6 c.run_document.ensures.library_later t.3
+          t.2.1 t.4 t.5 t.6 c.run_document.ensures.library_later t.3 t.7
           (stays_quiet (status_of_ran r) old.faults new.faults c.run_document.ensures.quiet_disk)
           (λ s status standing is. idle_stands g.D.Disk g.J.Journal g.met.D.Disk.laws g.met.J.Journal.laws s c.run_document.new.disk
           (subst (λ (x : Ran _). Holds g.D.Disk g.J.Journal OwnsRan x c.run_document.new.disk) is c.run_document.ensures.held) (idle_device s) refl),
