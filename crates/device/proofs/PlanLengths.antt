@@ -72,7 +72,7 @@ flat_short f n (x ∷ xs) h =
     let both = length-append (f x) (flat_map f xs) in
     omega (arith, rest, first, both)
 
-list_short : {A : Type 0} (f : A → List ℕ) (n m : ℕ) (xs : List A) → AllByRecursion (λ x. length (f x) ≤ n) xs → length xs ≤ m →
+pub list_short : {A : Type 0} (f : A → List ℕ) (n m : ℕ) (xs : List A) → AllByRecursion (λ x. length (f x) ≤ n) xs → length xs ≤ m →
     length (to_be_bytes w32 (length xs) ++ flat_map f xs) ≤ 4 + n * m
 list_short f n m xs h few =
     let flat = flat_short f n xs h in
@@ -81,13 +81,13 @@ list_short f n m xs h few =
     let head = four (length xs) in
     omega (arith, flat, most, both, head)
 
-text_short : (t : List ℕ) (n : ℕ) → length t ≤ n → length (to_be_bytes w32 (length t) ++ t) ≤ 4 + n
+pub text_short : (t : List ℕ) (n : ℕ) → length t ≤ n → length (to_be_bytes w32 (length t) ++ t) ≤ 4 + n
 text_short t n h =
     let both = length-append (to_be_bytes w32 (length t)) t in
     let head = four (length t) in
     omega (arith, both, head, h)
 
-both_short : (a b : List ℕ) (n m : ℕ) → length a ≤ n → length b ≤ m → length (a ++ b) ≤ n + m
+pub both_short : (a b : List ℕ) (n m : ℕ) → length a ≤ n → length b ≤ m → length (a ++ b) ≤ n + m
 both_short a b n m h k = let both = length-append a b in omega (arith, both, h, k)
 
 -- ---- the parts of a plan
@@ -98,7 +98,7 @@ held_short (h ∷ held) f =
     let digest = f.0.1 in
     (both_short (layout.label.spell h.file) h.digest 260 32 (text_short h.file 256 f.0.0.0.short) (omega (arith, digest)), held_short held f.1)
 
-item_short : (platform : Platform) (item : Item) → layout.item.Fits item → HasRecipe platform item → HasConfig item → length (layout.item.spell item) ≤ 150036
+pub item_short : (platform : Platform) (item : Item) → layout.item.Fits item → HasRecipe platform item → HasConfig item → length (layout.item.spell item) ≤ 150036
 item_short platform item fits has config =
     let recipe = has.1.reads in
     let files = few_files item.recipe platform has.0 recipe in
@@ -115,7 +115,7 @@ items_short : (platform : Platform) (items : List Item) → AllByRecursion layou
 items_short platform [] fits has configs = tt
 items_short platform (i ∷ items) fits has configs = (item_short platform i fits.0 has.0 configs.0, items_short platform items fits.1 has.1 configs.1)
 
-requirements_short : (requirements : List Requirement) → AllByRecursion layout.requirement.Fits requirements →
+pub requirements_short : (requirements : List Requirement) → AllByRecursion layout.requirement.Fits requirements →
     AllByRecursion (λ r. length (layout.requirement.spell r) ≤ 4232) requirements
 requirements_short [] f = tt
 requirements_short (r ∷ requirements) f = (
