@@ -17,7 +17,7 @@ use Rattle.device.specs.Devices.{Device, Group}
 use Rattle.device.specs.Grouped.{group_after, with_group}
 use Rattle.device.specs.Met.{GroupsAreMet, IsAnswered}
 use Rattle.device.specs.Sound.{IsSound}
-use Rattle.artifact_store.specs.Filled.{Fills, FillsItem}
+use Rattle.device.specs.Filled.{Fills, FillsItem}
 use Rattle.plan_core.specs.Plans.{IsPlanned}
 use Rattle.plan_core.specs.Requests.{root_requirement, wanted_of}
 use Rattle.plan_core.specs.Set.{chosen, item_of, items_of, with_candidate}

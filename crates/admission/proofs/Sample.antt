@@ -8,7 +8,7 @@ use Rattle.recipe_reader.specs.Sound.{artifact_file}
 use Rattle.records.specs.Stored.{Item, DraftItem, Draft, Plan}
 use Rattle.records.specs.declared.record.Held.{Held}
 use Rattle.device.specs.Plans.{IsHeldFor, item_name}
-use Rattle.plan_core.specs.Filled.{Fills, FillsItem}
+use Rattle.device.specs.Filled.{Fills, FillsItem}
 use Rattle.artifact_store.specs.Staged.{draft_name}
 
 abbrev given_or_none : Option (List ℕ) → List ℕ

@@ -23,7 +23,6 @@ use Rattle.device.specs.declared.staged.Pending as code_pending
 use Rattle.device.specs.Plans.{AreRegularItems}
 use Rattle.device.specs.Sound.{IsSound}
 use Rattle.plan_core.specs.Checks.{PassesAll, Proposes, facts, plan_checks}
-use Rattle.plan_core.specs.Filled as planned_filled
 use Rattle.plan_core.specs.Laws.{FilledIsAllowed}
 use Rattle.plan_core.specs.Plans.{IsPlanned}
 use Rattle.plan_core.specs.Ready.{GatheredMayPlan, MayPlan}
@@ -31,7 +30,7 @@ use Rattle.plan_core.specs.Set.{bare}
 use Rattle.plan_core.specs.declared.fault.Refusal.{Refusal}
 use Rattle.plan_core.specs.declared.fault.Refusal.TheVariants.{Candidates}
 use Rattle.library_core.specs.declared.fault.CandidatesFault.TheVariants as gather
-use Rattle.artifact_store.specs.Filled as staged_filled
+use Rattle.device.specs.Filled.{FillsItem}
 use Rattle.artifact_store.specs.Filled.{Filled}
 use Rattle.artifact_store.specs.Staged.{IsOutside, draft_lines}
 use Rattle.artifact_store.specs.declared.fault.StageFault.{StageFault}
@@ -96,27 +95,7 @@ module _ (d : Device) (o : Origin) (content : Option Content) (before mid after 
 
 -- ---- what may be accepted
 
-one_filled : (i : DraftItem) (j : Item) → staged_filled.FillsItem i j → planned_filled.FillsItem i j
-one_filled i j f = record { name = f.name; version = f.version; recipe = f.recipe; config = f.config; files = f.files }
-
-items_filled : (is : List DraftItem) (js : List Item) → AllZip staged_filled.FillsItem is js → AllZip planned_filled.FillsItem is js
-items_filled [] [] z = tt
-items_filled [] (j ∷ js) z = absurd z
-items_filled (i ∷ is) [] z = absurd z
-items_filled (i ∷ is) (j ∷ js) z = (one_filled i j z.0, items_filled is js z.1)
-
-as_planned : (draft : Draft) (plan : Plan) → staged_filled.Fills draft plan → planned_filled.Fills draft plan
-as_planned draft plan f = record {
-  id = f.id;
-  group = f.group;
-  revision = f.revision;
-  policy = f.policy;
-  requirements = f.requirements;
-  items = items_filled draft.items plan.items f.items;
-  boots = f.boots;
-}
-
-regular_items : (is : List DraftItem) (js : List Item) → AllZip staged_filled.FillsItem is js → AreRegularItems (map bare is) → AreRegularItems js
+regular_items : (is : List DraftItem) (js : List Item) → AllZip FillsItem is js → AreRegularItems (map bare is) → AreRegularItems js
 regular_items [] [] z regular = All-nil (λ (j : Item). IsRegular j.config)
 regular_items [] (j ∷ js) z regular = absurd z
 regular_items (i ∷ is) [] z regular = absurd z
@@ -162,7 +141,7 @@ module _ (one : IsOneRecipe) (reads_sound : ReadsSound) (allowed : FilledIsAllow
   may_take : MayTakeFilled d (draft_view draft)
   may_take plan fills = record {
     allowed = allowed made.of d made.candidates document (draft_view draft) plan made.has made.rising made.may made.planned
-        (as_planned (draft_view draft) plan fills);
+        fills;
     regular = regular_items (draft_view draft).items plan.items fills.items made.planned.regular;
   }
 

@@ -5,7 +5,7 @@ use Rattle.records.specs.Stored.{Accepted, Draft, DraftItem, Item, Plan}
 use Rattle.device.specs.Devices.{Device}
 use Rattle.device.specs.Lawful.{Allowed}
 use Rattle.device.specs.Plans.{AreRegularItems, Rise}
-use Rattle.artifact_store.specs.Filled.{Fills}
+use Rattle.device.specs.Filled.{Fills}
 use Rattle.artifact_store.specs.Paths.{IsNamed, IsNamedDraft}
 use Rattle.artifact_store.specs.Staged.{HasItsFiles, KeepsFiles, draft_name}
 

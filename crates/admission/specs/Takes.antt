@@ -12,7 +12,8 @@ use Rattle.device.specs.Devices.{Device}
 use Rattle.deployment_doc.specs.declared.document.Document.{Document}
 use Rattle.plan_core.specs.Checks.{Facts, PassesAll, Stops, facts, plan_checks}
 use Rattle.plan_core.specs.declared.fault.Refusal.TheVariants as refusal
-use Rattle.artifact_store.specs.Filled.{Fills, Filled}
+use Rattle.device.specs.Filled.{Fills}
+use Rattle.artifact_store.specs.Filled.{Filled}
 use Rattle.artifact_store.specs.Staged.{IsOutside, draft_lines}
 use Rattle.artifact_store.specs.declared.fault.StageFault.{StageFault}
 use Rattle.artifact_store.specs.declared.fault.StageFault.TheVariants as stage

@@ -15,6 +15,7 @@ ghost use Rattle.library_core.specs.declared.fault.CandidatesFault.TheVariants.{
 ghost use Rattle.plan_core.specs.Checks.{Proposes};
 ghost use Rattle.deployment_doc.specs.Sound.{AreSound};
 ghost use Rattle.artifact_store.specs.Holding.{AllHoldDevice, AllHoldItems, HoldsDevice};
+ghost use Rattle.deploy_state.specs.Objects.{Holds};
 ghost use Rattle.deploy_state.specs.States.{OwnsIdle, idle_device};
 ghost use Rattle.admission.specs.Drafts.{MayStage, MayTakeFilled};
 ghost use Rattle.admission.specs.Takes.{HasDiskFailed, HasLibraryFailed, IsRefused, LieElsewhere, TakesIn};
@@ -70,7 +71,7 @@ pub fn take_in<D: Disk, J: Journal + Drop, L: Library>(
     disk: &mut D,
     library: &mut L,
 ) -> Result<Plan, Declined>
-    requires held { OwnsIdle D.is_modelled D.may_leave J.stands J.end idle.now disk.old }
+    requires held { Holds D.Disk J.Journal OwnsIdle idle.now disk.old }
     // The journal does not lie among the files of artifacts.
     requires apart { LieElsewhere J.files }
     requires roots { AreSound document.now.roots }
@@ -79,7 +80,7 @@ pub fn take_in<D: Disk, J: Journal + Drop, L: Library>(
     // The plan may be accepted.
     ensures lawful { IfOk result (λ plan. Allowed (idle_device idle.now) (stored.Accepted (plan_view plan))) }
     ensures regular { IfOk result (λ plan. IsRegularRecord (stored.Accepted (plan_view plan))) }
-    ensures held { OwnsIdle D.is_modelled D.may_leave J.stands J.end idle.now disk.new }
+    ensures held { Holds D.Disk J.Journal OwnsIdle idle.now disk.new }
     // A crash at any moment of the call changes files of artifacts alone.
     ensures moments { Leaves D.moment D.left_since disk.old disk.new (After (D.may_leave disk.old) (Spares (IsBelow artifacts))) }
     ensures others { IsTrue D.is_modelled → Spares (IsBelow artifacts) (D.seen disk.old) (D.seen disk.new) }

@@ -20,7 +20,8 @@ use Rattle.library_core.specs.Library.{Content}
 use Rattle.records.specs.Stored.{Item, DraftItem}
 use Rattle.records.specs.declared.record.Held.{Held}
 use Rattle.device.specs.Plans.{IsHeldFor}
-use Rattle.artifact_store.specs.Filled.{FillsFile, FillsItem, IsDigestOf}
+use Rattle.device.specs.Filled.{FillsItem}
+use Rattle.artifact_store.specs.Filled.{FillsFile, IsDigestOf}
 use Rattle.recipe_reader.specs.Sound.{artifact_file}
 use Rattle.artifact_store.specs.Staged.{KeepsFiles, is_same, is_kept, IsNew, HasKeptFile, IsGiven, IsStagedOf, StagesBy, item_lines}
 use Rattle.artifact_store.specs.Holding.{AllHoldItems, HoldsFiles, HoldsItem, HoldsItems}

@@ -5,3 +5,4 @@ pub mod Loading
 pub mod Turning
 pub mod Accepting
 pub mod Mute
+pub mod Objects

@@ -1,7 +1,6 @@
 // A plan is accepted.
-ghost use Rattle.std.specs.Prelude.{◌≡◌, ◌≤◌, ◌+◌, ◌*◌, Some, ℕ, max, List, IsTrue, IfOk, OnOk, length};
+ghost use Rattle.std.specs.Prelude.{◌≡◌, ◌≤◌, ◌+◌, ◌*◌, Some, ℕ, max, IsTrue, IfOk, OnOk, length};
 ghost use Rattle.nuc_base.specs.Faults.{HasCause, Rose};
-ghost use Rattle.disk_model.specs.Disk.{Leaves};
 ghost use Rattle.gate_log.specs.Entries.{most_file};
 ghost use Rattle.records.specs.Layout.{IsWritable, Spelled};
 ghost use Rattle.records.specs.Stored as stored;
@@ -12,9 +11,9 @@ ghost use Rattle.device.specs.Regularity.{IsRegularRecord};
 ghost use Rattle.device.specs.Sound.{IsSound};
 ghost use Rattle.device.specs.Spares.{IsSpareFor};
 ghost use Rattle.deploy_state.specs.Accepting.{HandsBack, HasStopped, IsFullAt, IsFullOrShort, IsHandedBack, booting_log, idle_log, receipt_id};
-ghost use Rattle.deploy_state.specs.Owned.{LeavesEither, LeavesSame};
+ghost use Rattle.deploy_state.specs.Objects.{Holds, KeepsOthers, LeavesDevice, LeavesOneOf, entry_start};
 ghost use Rattle.deploy_state.specs.States.{OwnsBooting, OwnsIdle, booting_device, idle_device};
-ghost use Rattle.deploy_state.specs.Turning.{IsTooFar, can_turn, is_turning, next_front, plan_bytes, start_of};
+ghost use Rattle.deploy_state.specs.Turning.{IsTooFar, can_turn, is_turning, next_front, plan_bytes};
 
 use crate::fault::AcceptRefusal;
 use crate::measure::{Site, site_of};
@@ -97,20 +96,20 @@ fn prepare(alloc: Global, device: &Device, plan: Plan) -> Result<Kit, NoMemory>
 impl<J: Journal + Drop> Idle<J> {
     /// Adds the entry of the plan, and lets the device take it.
     fn enter<D: Disk>(self, disk: &mut D, kit: Kit) -> Result<(Booting<J>, Receipt), Stopped<J>>
-        requires held { OwnsIdle D.is_modelled D.may_leave J.stands J.end self disk.old }
+        requires held { Holds D.Disk J.Journal OwnsIdle self disk.old }
         requires lawful { Allowed (idle_device self) (stored.Accepted (plan_view kit.plan)) }
         requires regular { IsRegularRecord (stored.Accepted (plan_view kit.plan)) }
         requires payload { Spelled kit.payload (stored.Accepted (plan_view kit.plan)) }
         requires spare { IsSpareFor kit.spare (idle_device self) (plan_view kit.plan) }
         requires room { J.end (idle_log self) + 6 + length kit.payload + 2097152 ≤ most_file }
-        ensures moments { Leaves D.moment D.left_since disk.old disk.new
-            (LeavesEither D.may_leave J.files J.entries disk.old (idle_device self) (applied (idle_device self) (stored.Accepted (plan_view kit.plan)))) }
+        ensures moments { LeavesOneOf D.Disk J.Journal disk.old disk.new (idle_device self)
+            (applied (idle_device self) (stored.Accepted (plan_view kit.plan))) }
         ensures taken { IfOk result (λ r. booting_device r.0 ≡ applied (idle_device self) (stored.Accepted (plan_view kit.plan))) }
-        ensures held { IfOk result (λ r. OwnsBooting D.is_modelled D.may_leave J.stands J.end r.0 disk.new) }
+        ensures held { IfOk result (λ r. Holds D.Disk J.Journal OwnsBooting r.0 disk.new) }
         ensures receipt { IfOk result (λ r. receipt_id r.1 ≡ kit.id) }
         ensures end { IfOk result (λ r. J.end (booting_log r.0) ≡ J.end (idle_log self) + 5 + length kit.payload) }
         ensures number { IfOk result (λ r. J.number (booting_log r.0) ≡ J.number (idle_log self)) }
-        ensures others { IsTrue D.is_modelled → (name : List ℕ) → ¬ (J.files name) → D.seen disk.new name ≡ D.seen disk.old name }
+        ensures others { KeepsOthers D.Disk J.Journal disk.old disk.new }
         ensures cause { HasCause (D.faults disk.old) (D.faults disk.new) result }
         ensures quiet { OnOk result (D.faults disk.new ≡ D.faults disk.old) }
     {
@@ -149,25 +148,24 @@ impl<J: Journal + Drop> Idle<J> {
         disk: &mut D,
         kit: Kit,
     ) -> Result<(Booting<J>, Receipt), AcceptRefusal<J>>
-        requires held { OwnsIdle D.is_modelled D.may_leave J.stands J.end self disk.old }
+        requires held { Holds D.Disk J.Journal OwnsIdle self disk.old }
         requires lawful { Allowed (idle_device self) (stored.Accepted (plan_view kit.plan)) }
         requires regular { IsRegularRecord (stored.Accepted (plan_view kit.plan)) }
         requires payload { Spelled kit.payload (stored.Accepted (plan_view kit.plan)) }
         requires spare { IsSpareFor kit.spare (idle_device self) (plan_view kit.plan) }
         requires can { IsTrue (can_turn (J.turns (idle_log self)) (J.number (idle_log self))) }
         requires room { next_front J.number (idle_log self) (idle_device self) + 6 + length kit.payload + 2097152 ≤ most_file }
-        ensures moments { Leaves D.moment D.left_since disk.old disk.new
-            (LeavesEither D.may_leave J.files J.entries disk.old (idle_device self) (applied (idle_device self) (stored.Accepted (plan_view kit.plan)))) }
-        ensures unmade { IsHandedBack result → Leaves D.moment D.left_since disk.old disk.new
-            (LeavesSame D.may_leave J.files J.entries disk.old (idle_device self)) }
+        ensures moments { LeavesOneOf D.Disk J.Journal disk.old disk.new (idle_device self)
+            (applied (idle_device self) (stored.Accepted (plan_view kit.plan))) }
+        ensures unmade { IsHandedBack result → LeavesDevice D.Disk J.Journal disk.old disk.new (idle_device self) }
         ensures taken { IfOk result (λ r. booting_device r.0 ≡ applied (idle_device self) (stored.Accepted (plan_view kit.plan))) }
-        ensures held { IfOk result (λ r. OwnsBooting D.is_modelled D.may_leave J.stands J.end r.0 disk.new) }
+        ensures held { IfOk result (λ r. Holds D.Disk J.Journal OwnsBooting r.0 disk.new) }
         ensures receipt { IfOk result (λ r. receipt_id r.1 ≡ kit.id) }
         ensures end { IfOk result (λ r. J.end (booting_log r.0) ≡ next_front J.number (idle_log self) (idle_device self) + 5 + length kit.payload) }
         ensures number { IfOk result (λ r. J.number (booting_log r.0) ≡ J.number (idle_log self) + 1) }
-        ensures back { HandsBack (λ s. OwnsIdle D.is_modelled D.may_leave J.stands J.end s disk.new × (idle_device s ≡ idle_device self)) result }
+        ensures back { HandsBack (λ s. Holds D.Disk J.Journal OwnsIdle s disk.new × (idle_device s ≡ idle_device self)) result }
         ensures fits { (at : ℕ) → IsFullAt result at → ⊥ }
-        ensures others { IsTrue D.is_modelled → (name : List ℕ) → ¬ (J.files name) → D.seen disk.new name ≡ D.seen disk.old name }
+        ensures others { KeepsOthers D.Disk J.Journal disk.old disk.new }
         ensures cause { HasStopped result → Rose (D.faults disk.old) (D.faults disk.new) }
         ensures quiet { ¬ (HasStopped result) → D.faults disk.new ≡ D.faults disk.old }
         ensures later { D.faults disk.old ≤ D.faults disk.new }
@@ -198,25 +196,24 @@ impl<J: Journal + Drop> Idle<J> {
         kit: Kit,
         site: Site,
     ) -> Result<(Booting<J>, Receipt), AcceptRefusal<J>>
-        requires held { OwnsIdle D.is_modelled D.may_leave J.stands J.end self disk.old }
+        requires held { Holds D.Disk J.Journal OwnsIdle self disk.old }
         requires lawful { Allowed (idle_device self) (stored.Accepted (plan_view kit.plan)) }
         requires regular { IsRegularRecord (stored.Accepted (plan_view kit.plan)) }
         requires payload { Spelled kit.payload (stored.Accepted (plan_view kit.plan)) }
         requires spare { IsSpareFor kit.spare (idle_device self) (plan_view kit.plan) }
         requires turns { site.turns ≡ is_turning J.end J.number J.turns (idle_log self) (idle_device self) (length kit.payload) }
-        requires start { site.start ≡ start_of J.end J.number J.turns (idle_log self) (idle_device self) (length kit.payload) }
+        requires start { site.start ≡ entry_start J.Journal self (length kit.payload) }
         requires room { site.start + 6 + length kit.payload + 2097152 ≤ most_file }
-        ensures moments { Leaves D.moment D.left_since disk.old disk.new
-            (LeavesEither D.may_leave J.files J.entries disk.old (idle_device self) (applied (idle_device self) (stored.Accepted (plan_view kit.plan)))) }
-        ensures unmade { IsHandedBack result → Leaves D.moment D.left_since disk.old disk.new
-            (LeavesSame D.may_leave J.files J.entries disk.old (idle_device self)) }
+        ensures moments { LeavesOneOf D.Disk J.Journal disk.old disk.new (idle_device self)
+            (applied (idle_device self) (stored.Accepted (plan_view kit.plan))) }
+        ensures unmade { IsHandedBack result → LeavesDevice D.Disk J.Journal disk.old disk.new (idle_device self) }
         ensures taken { IfOk result (λ r. booting_device r.0 ≡ applied (idle_device self) (stored.Accepted (plan_view kit.plan))) }
-        ensures held { IfOk result (λ r. OwnsBooting D.is_modelled D.may_leave J.stands J.end r.0 disk.new) }
+        ensures held { IfOk result (λ r. Holds D.Disk J.Journal OwnsBooting r.0 disk.new) }
         ensures receipt { IfOk result (λ r. receipt_id r.1 ≡ kit.id) }
         ensures end { IfOk result (λ r. J.end (booting_log r.0) ≡ site.start + 5 + length kit.payload) }
-        ensures back { HandsBack (λ s. OwnsIdle D.is_modelled D.may_leave J.stands J.end s disk.new × (idle_device s ≡ idle_device self)) result }
+        ensures back { HandsBack (λ s. Holds D.Disk J.Journal OwnsIdle s disk.new × (idle_device s ≡ idle_device self)) result }
         ensures fits { (at : ℕ) → IsFullAt result at → ⊥ }
-        ensures others { IsTrue D.is_modelled → (name : List ℕ) → ¬ (J.files name) → D.seen disk.new name ≡ D.seen disk.old name }
+        ensures others { KeepsOthers D.Disk J.Journal disk.old disk.new }
         ensures cause { HasStopped result → Rose (D.faults disk.old) (D.faults disk.new) }
         ensures quiet { ¬ (HasStopped result) → D.faults disk.new ≡ D.faults disk.old }
         ensures later { D.faults disk.old ≤ D.faults disk.new }
@@ -246,32 +243,30 @@ impl<J: Journal + Drop> Idle<J> {
         disk: &mut D,
         plan: Plan,
     ) -> Result<(Booting<J>, Receipt), AcceptRefusal<J>>
-        requires held { OwnsIdle D.is_modelled D.may_leave J.stands J.end self disk.old }
+        requires held { Holds D.Disk J.Journal OwnsIdle self disk.old }
         requires lawful { Allowed (idle_device self) (stored.Accepted (plan_view plan)) }
         requires regular { IsRegularRecord (stored.Accepted (plan_view plan)) }
-        ensures moments { Leaves D.moment D.left_since disk.old disk.new
-            (LeavesEither D.may_leave J.files J.entries disk.old (idle_device self) (applied (idle_device self) (stored.Accepted (plan_view plan)))) }
+        ensures moments { LeavesOneOf D.Disk J.Journal disk.old disk.new (idle_device self) (applied (idle_device self) (stored.Accepted (plan_view plan))) }
         // Where the plan is handed back a crash at any moment leaves the device without it.
-        ensures unmade { IsHandedBack result → Leaves D.moment D.left_since disk.old disk.new
-            (LeavesSame D.may_leave J.files J.entries disk.old (idle_device self)) }
+        ensures unmade { IsHandedBack result → LeavesDevice D.Disk J.Journal disk.old disk.new (idle_device self) }
         ensures taken { IfOk result (λ r. booting_device r.0 ≡ applied (idle_device self) (stored.Accepted (plan_view plan))) }
-        ensures held { IfOk result (λ r. OwnsBooting D.is_modelled D.may_leave J.stands J.end r.0 disk.new) }
+        ensures held { IfOk result (λ r. Holds D.Disk J.Journal OwnsBooting r.0 disk.new) }
         ensures receipt { IfOk result (λ r. receipt_id r.1 ≡ plan.id) }
-        ensures back { HandsBack (λ s. OwnsIdle D.is_modelled D.may_leave J.stands J.end s disk.new × (idle_device s ≡ idle_device self)) result }
+        ensures back { HandsBack (λ s. Holds D.Disk J.Journal OwnsIdle s disk.new × (idle_device s ≡ idle_device self)) result }
         // Full, with nothing written, exactly where the plan does not fit with what may follow it, want of memory aside.
-        ensures full { (at : ℕ) → IsFullAt result at → (at ≡ start_of J.end J.number J.turns (idle_log self) (idle_device self) (plan_bytes (plan_view plan)))
+        ensures full { (at : ℕ) → IsFullAt result at → (at ≡ entry_start J.Journal self (plan_bytes (plan_view plan)))
             × IsTooFar at (plan_bytes (plan_view plan)) × (disk.new ≡ disk.old) }
-        ensures fills { IsTooFar (start_of J.end J.number J.turns (idle_log self) (idle_device self) (plan_bytes (plan_view plan)))
+        ensures fills { IsTooFar (entry_start J.Journal self (plan_bytes (plan_view plan)))
             (plan_bytes (plan_view plan))
-            → IsFullOrShort result (start_of J.end J.number J.turns (idle_log self) (idle_device self) (plan_bytes (plan_view plan))) }
+            → IsFullOrShort result (entry_start J.Journal self (plan_bytes (plan_view plan))) }
         // The plan's entry stands at this place.
-        ensures end { IfOk result (λ r. J.end (booting_log r.0) ≡ start_of J.end J.number J.turns (idle_log self) (idle_device self)
+        ensures end { IfOk result (λ r. J.end (booting_log r.0) ≡ entry_start J.Journal self
             (plan_bytes (plan_view plan)) + 5 + plan_bytes (plan_view plan)) }
         // A journal that turns does not grow for ever.
         ensures bound { IsTrue (can_turn (J.turns (idle_log self)) (J.number (idle_log self))) → IfOk result (λ r. J.end (booting_log r.0)
             ≤ max (2 * next_front J.number (idle_log self) (idle_device self) + 1048576)
             (next_front J.number (idle_log self) (idle_device self) + 6 + plan_bytes (plan_view plan))) }
-        ensures others { IsTrue D.is_modelled → (name : List ℕ) → ¬ (J.files name) → D.seen disk.new name ≡ D.seen disk.old name }
+        ensures others { KeepsOthers D.Disk J.Journal disk.old disk.new }
         ensures cause { HasStopped result → Rose (D.faults disk.old) (D.faults disk.new) }
         ensures quiet { ¬ (HasStopped result) → D.faults disk.new ≡ D.faults disk.old }
         ensures later { D.faults disk.old ≤ D.faults disk.new }

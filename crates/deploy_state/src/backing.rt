@@ -1,7 +1,6 @@
 // The bootstrap steps that run again on the way back.
-ghost use Rattle.std.specs.Prelude.{◌≡◌, ℕ, List, IsTrue, OnOk, IfOk, IsOkAnd, option_map};
+ghost use Rattle.std.specs.Prelude.{◌≡◌, OnOk, IfOk, IsOkAnd, option_map};
 ghost use Rattle.nuc_base.specs.Faults.{HasCause};
-ghost use Rattle.disk_model.specs.Disk.{Leaves};
 ghost use Rattle.records.specs.Stored as stored;
 ghost use Rattle.records.specs.Stored.{Record};
 ghost use Rattle.device.specs.Devices.{device_view};
@@ -10,7 +9,8 @@ ghost use Rattle.device.specs.Marks.{IsMark};
 ghost use Rattle.device.specs.declared.mark.Mark.TheVariants as marks;
 ghost use Rattle.nuc_base.specs.declared.kinds.Outcome.TheVariants as outcomes;
 ghost use Rattle.deploy_state.specs.Fields.{CanBegin, IsBegun, has_failed, next_name};
-ghost use Rattle.deploy_state.specs.Owned.{LeavesEither, MayMark};
+ghost use Rattle.deploy_state.specs.Objects.{Holds, KeepsOthers, LeavesOneOf};
+ghost use Rattle.deploy_state.specs.Owned.{MayMark};
 ghost use Rattle.deploy_state.specs.States.{OwnsBacked, OwnsBacking, OwnsIdle, backed_device, backing_device, idle_device};
 
 use crate::names::{failed_in, next_in};
@@ -44,15 +44,15 @@ impl<J: Journal + Drop> Backing<J> {
 
     /// Records that the next back begins, unless that is recorded.
     pub fn begin<D: Disk>(self, disk: &mut D) -> Result<Backing<J>, Stopped<J>>
-        requires held { OwnsBacking D.is_modelled D.may_leave J.stands J.end self disk.old }
+        requires held { Holds D.Disk J.Journal OwnsBacking self disk.old }
         requires may { CanBegin (backing_device self) }
         ensures moments { (r : Record) → IsMark (backing_device self) marks.BootBegun r →
-            Leaves D.moment D.left_since disk.old disk.new (LeavesEither D.may_leave J.files J.entries disk.old (backing_device self)
-            (applied (backing_device self) r)) }
+            LeavesOneOf D.Disk J.Journal disk.old disk.new (backing_device self)
+            (applied (backing_device self) r) }
         ensures taken { (r : Record) → IsMark (backing_device self) marks.BootBegun r → IfOk result (λ s. backing_device s ≡ applied (backing_device self) r) }
-        ensures held { IfOk result (λ s. OwnsBacking D.is_modelled D.may_leave J.stands J.end s disk.new) }
+        ensures held { IfOk result (λ s. Holds D.Disk J.Journal OwnsBacking s disk.new) }
         ensures silent { IsBegun (backing_device self) → (disk.new ≡ disk.old) × IsOkAnd result (λ s. s ≡ self) }
-        ensures others { IsTrue D.is_modelled → (name : List ℕ) → ¬ (J.files name) → D.seen disk.new name ≡ D.seen disk.old name }
+        ensures others { KeepsOthers D.Disk J.Journal disk.old disk.new }
         ensures cause { HasCause (D.faults disk.old) (D.faults disk.new) result }
         ensures quiet { OnOk result (D.faults disk.new ≡ D.faults disk.old) }
     {
@@ -64,15 +64,15 @@ impl<J: Journal + Drop> Backing<J> {
 
     /// Records how the back that was begun ended. Behind the last of them the items of the set are brought up.
     pub fn ended<D: Disk>(self, disk: &mut D, exit: Exit) -> Result<Backed<J>, Stopped<J>>
-        requires held { OwnsBacking D.is_modelled D.may_leave J.stands J.end self disk.old }
+        requires held { Holds D.Disk J.Journal OwnsBacking self disk.old }
         requires may { MayMark (backing_device self) (marks.BootEnded exit) }
         ensures moments { (r : Record) → IsMark (backing_device self) (marks.BootEnded exit) r →
-            Leaves D.moment D.left_since disk.old disk.new (LeavesEither D.may_leave J.files J.entries disk.old (backing_device self)
-            (applied (backing_device self) r)) }
+            LeavesOneOf D.Disk J.Journal disk.old disk.new (backing_device self)
+            (applied (backing_device self) r) }
         ensures taken { (r : Record) → IsMark (backing_device self) (marks.BootEnded exit) r →
             IfOk result (λ s. backed_device s ≡ applied (backing_device self) r) }
-        ensures held { IfOk result (λ s. OwnsBacked D.is_modelled D.may_leave J.stands J.end s disk.new) }
-        ensures others { IsTrue D.is_modelled → (name : List ℕ) → ¬ (J.files name) → D.seen disk.new name ≡ D.seen disk.old name }
+        ensures held { IfOk result (λ s. Holds D.Disk J.Journal OwnsBacked s disk.new) }
+        ensures others { KeepsOthers D.Disk J.Journal disk.old disk.new }
         ensures cause { HasCause (D.faults disk.old) (D.faults disk.new) result }
         ensures quiet { OnOk result (D.faults disk.new ≡ D.faults disk.old) }
     {
@@ -90,13 +90,13 @@ impl<J: Journal + Drop> Backing<J> {
 
     /// A back failed, and the deployment closes.
     pub fn close<D: Disk>(self, disk: &mut D) -> Result<Idle<J>, Stopped<J>>
-        requires held { OwnsBacking D.is_modelled D.may_leave J.stands J.end self disk.old }
+        requires held { Holds D.Disk J.Journal OwnsBacking self disk.old }
         requires may { Allowed (backing_device self) (stored.Closed outcomes.UnableToRollback) }
-        ensures moments { Leaves D.moment D.left_since disk.old disk.new (LeavesEither D.may_leave J.files J.entries disk.old (backing_device self)
-            (applied (backing_device self) (stored.Closed outcomes.UnableToRollback))) }
+        ensures moments { LeavesOneOf D.Disk J.Journal disk.old disk.new (backing_device self)
+            (applied (backing_device self) (stored.Closed outcomes.UnableToRollback)) }
         ensures taken { IfOk result (λ s. idle_device s ≡ applied (backing_device self) (stored.Closed outcomes.UnableToRollback)) }
-        ensures held { IfOk result (λ s. OwnsIdle D.is_modelled D.may_leave J.stands J.end s disk.new) }
-        ensures others { IsTrue D.is_modelled → (name : List ℕ) → ¬ (J.files name) → D.seen disk.new name ≡ D.seen disk.old name }
+        ensures held { IfOk result (λ s. Holds D.Disk J.Journal OwnsIdle s disk.new) }
+        ensures others { KeepsOthers D.Disk J.Journal disk.old disk.new }
         ensures cause { HasCause (D.faults disk.old) (D.faults disk.new) result }
         ensures quiet { OnOk result (D.faults disk.new ≡ D.faults disk.old) }
     {

@@ -1,14 +1,13 @@
 // A new store.
-ghost use Rattle.std.specs.Prelude.{◌≡◌, ◌≤◌, ℕ, List, IsTrue, IsErrOf, IfOk, OnOk, length};
+ghost use Rattle.std.specs.Prelude.{◌≡◌, ◌≤◌, IsTrue, IsErrOf, IfOk, OnOk, length};
 ghost use Rattle.nuc_base.specs.Faults.{HasCause, Rose};
-ghost use Rattle.disk_model.specs.Disk.{Leaves};
 ghost use Rattle.gate_log.specs.Journal.{AreSettled};
 ghost use Rattle.records.specs.Layout.{Spelled};
 ghost use Rattle.records.specs.Stored as stored;
 ghost use Rattle.records.specs.declared.record.Origin.{Origin as Shown};
 ghost use Rattle.device.specs.Devices.{device_view, no_device};
 ghost use Rattle.device.specs.Lawful.{Allowed, applied};
-ghost use Rattle.deploy_state.specs.Owned.{OwnsJournal, LeavesEither};
+ghost use Rattle.deploy_state.specs.Objects.{Holds, KeepsOthers, LeavesOneOf, OwnsJournalOn};
 ghost use Rattle.deploy_state.specs.States.{OwnsIdle, idle_device};
 
 use crate::fault::CreateFault;
@@ -38,10 +37,10 @@ fn make<D: Disk, J: Journal + Drop>(disk: &mut D, payload: &[u8]) -> Result<J, D
     requires settled { AreSettled D.seen D.may_leave J.files disk.old }
     requires first { (o : Shown) × Spelled payload.now (stored.Genesis o) × Allowed no_device (stored.Genesis o) }
     ensures moments { (o : Shown) → Spelled payload.now (stored.Genesis o) →
-        Leaves D.moment D.left_since disk.old disk.new (LeavesEither D.may_leave J.files J.entries disk.old no_device (applied no_device (stored.Genesis o))) }
+        LeavesOneOf D.Disk J.Journal disk.old disk.new no_device (applied no_device (stored.Genesis o)) }
     ensures hand { (o : Shown) → Spelled payload.now (stored.Genesis o) →
-        IfOk result (λ log. OwnsJournal D.is_modelled D.may_leave J.stands J.end log disk.new (applied no_device (stored.Genesis o))) }
-    ensures others { IsTrue D.is_modelled → (name : List ℕ) → ¬ (J.files name) → D.seen disk.new name ≡ D.seen disk.old name }
+        IfOk result (λ log. OwnsJournalOn D.Disk J.Journal log disk.new (applied no_device (stored.Genesis o))) }
+    ensures others { KeepsOthers D.Disk J.Journal disk.old disk.new }
     ensures cause { HasCause (D.faults disk.old) (D.faults disk.new) result }
     ensures quiet { OnOk result (D.faults disk.new ≡ D.faults disk.old) }
 {
@@ -64,12 +63,12 @@ impl<J: Journal + Drop> Idle<J> {
         requires settled { AreSettled D.seen D.may_leave J.files disk.old }
         requires short { length origin.root ≤ 1024 }
         ensures made { IfOk result (λ s. idle_device s ≡ applied no_device (stored.Genesis origin)) }
-        ensures held { IfOk result (λ s. OwnsIdle D.is_modelled D.may_leave J.stands J.end s disk.new) }
+        ensures held { IfOk result (λ s. Holds D.Disk J.Journal OwnsIdle s disk.new) }
         // An image that holds no entry stands for the device before its first record.
         ensures moments { ¬ (IsErrOf result CreateFault.NoMemory) →
-            Leaves D.moment D.left_since disk.old disk.new (LeavesEither D.may_leave J.files J.entries disk.old no_device
-            (applied no_device (stored.Genesis origin))) }
-        ensures others { IsTrue D.is_modelled → (name : List ℕ) → ¬ (J.files name) → D.seen disk.new name ≡ D.seen disk.old name }
+            LeavesOneOf D.Disk J.Journal disk.old disk.new no_device
+            (applied no_device (stored.Genesis origin)) }
+        ensures others { KeepsOthers D.Disk J.Journal disk.old disk.new }
         // Without memory nothing was written.
         ensures memory { IsErrOf result CreateFault.NoMemory → disk.new ≡ disk.old }
         ensures cause { IsErrOf result CreateFault.Disk → Rose (D.faults disk.old) (D.faults disk.new) }

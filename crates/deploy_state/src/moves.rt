@@ -1,17 +1,15 @@
 // Moves that several states share.
-ghost use Rattle.std.specs.Prelude.{◌≡◌, ◌↔◌, ℕ, List, IsTrue, OnOk, IfOk, IsOkAnd, Some, length};
+ghost use Rattle.std.specs.Prelude.{◌≡◌, ◌↔◌, IsTrue, OnOk, IfOk, IsOkAnd, Some, length};
 ghost use Rattle.nuc_base.specs.Faults.{HasCause};
-ghost use Rattle.disk_model.specs.Disk.{Leaves};
 ghost use Rattle.records.specs.Stored as stored;
 ghost use Rattle.records.specs.Stored.{Record};
-ghost use Rattle.device.specs.Devices.{device_view};
 ghost use Rattle.std.specs.Option.{IfSome, IsSomeAnd};
 ghost use Rattle.device.specs.Lawful.{Allowed, MayCount, applied, failing_place};
 ghost use Rattle.device.specs.Marks.{IsMark};
 ghost use Rattle.device.specs.declared.mark.Mark.TheVariants as marks;
 ghost use Rattle.device.specs.declared.staged.Stage.TheVariants as stages;
 ghost use Rattle.deploy_state.specs.Fields.{CanBegin, CanBreakOff, IsBegun, IsBreak};
-ghost use Rattle.deploy_state.specs.Owned.{LeavesEither};
+ghost use Rattle.deploy_state.specs.Objects.{Holds, KeepsOthers, LeavesOneOf};
 ghost use Rattle.deploy_state.specs.States.{OwnsBrokenOff, IsHeld, IsIn, broken_device, device_of};
 
 use crate::state::{Backing, BrokeOff, Hand, Rolling, Stopped};
@@ -42,14 +40,14 @@ impl<J: Journal + Drop> Hand<J> {
 
     /// Records that the next bootstrap step begins, unless that is recorded.
     pub(crate) fn begin<D: Disk>(self, disk: &mut D) -> Result<Hand<J>, Stopped<J>>
-        requires held { IsHeld D.is_modelled D.may_leave J.stands J.end self disk.old }
+        requires held { Holds D.Disk J.Journal IsHeld self disk.old }
         requires may { CanBegin (device_of self) }
         ensures moments { (r : Record) → IsMark (device_of self) marks.BootBegun r →
-            Leaves D.moment D.left_since disk.old disk.new (LeavesEither D.may_leave J.files J.entries disk.old (device_of self) (applied (device_of self) r)) }
+            LeavesOneOf D.Disk J.Journal disk.old disk.new (device_of self) (applied (device_of self) r) }
         ensures taken { (r : Record) → IsMark (device_of self) marks.BootBegun r → IfOk result (λ s. device_of s ≡ applied (device_of self) r) }
-        ensures held { IfOk result (λ s. IsHeld D.is_modelled D.may_leave J.stands J.end s disk.new) }
+        ensures held { IfOk result (λ s. Holds D.Disk J.Journal IsHeld s disk.new) }
         ensures silent { IsBegun (device_of self) → (disk.new ≡ disk.old) × IsOkAnd result (λ h. h ≡ self) }
-        ensures others { IsTrue D.is_modelled → (name : List ℕ) → ¬ (J.files name) → D.seen disk.new name ≡ D.seen disk.old name }
+        ensures others { KeepsOthers D.Disk J.Journal disk.old disk.new }
         ensures cause { HasCause (D.faults disk.old) (D.faults disk.new) result }
         ensures quiet { OnOk result (D.faults disk.new ≡ D.faults disk.old) }
     {
@@ -82,13 +80,12 @@ impl<J: Journal + Drop> Hand<J> {
         step: Step,
         exit: Exit,
     ) -> Result<Hand<J>, Stopped<J>>
-        requires held { IsHeld D.is_modelled D.may_leave J.stands J.end self disk.old }
+        requires held { Holds D.Disk J.Journal IsHeld self disk.old }
         requires may { Allowed (device_of self) (stored.StepFailed name.now step exit) }
-        ensures moments { Leaves D.moment D.left_since disk.old disk.new
-            (LeavesEither D.may_leave J.files J.entries disk.old (device_of self) (applied (device_of self) (stored.StepFailed name.now step exit))) }
+        ensures moments { LeavesOneOf D.Disk J.Journal disk.old disk.new (device_of self) (applied (device_of self) (stored.StepFailed name.now step exit)) }
         ensures taken { IfOk result (λ s. device_of s ≡ applied (device_of self) (stored.StepFailed name.now step exit)) }
-        ensures held { IfOk result (λ s. IsHeld D.is_modelled D.may_leave J.stands J.end s disk.new) }
-        ensures others { IsTrue D.is_modelled → (name : List ℕ) → ¬ (J.files name) → D.seen disk.new name ≡ D.seen disk.old name }
+        ensures held { IfOk result (λ s. Holds D.Disk J.Journal IsHeld s disk.new) }
+        ensures others { KeepsOthers D.Disk J.Journal disk.old disk.new }
         ensures cause { HasCause (D.faults disk.old) (D.faults disk.new) result }
         ensures quiet { OnOk result (D.faults disk.new ≡ D.faults disk.old) }
     {
@@ -99,13 +96,13 @@ impl<J: Journal + Drop> Hand<J> {
     /// Records that the deployment failed. Bootstrap steps of the set run again where one of them is to, and otherwise its
     /// items are brought up again.
     pub(crate) fn break_off<D: Disk>(self, disk: &mut D) -> Result<BrokeOff<J>, Stopped<J>>
-        requires held { IsHeld D.is_modelled D.may_leave J.stands J.end self disk.old }
+        requires held { Holds D.Disk J.Journal IsHeld self disk.old }
         requires may { CanBreakOff (device_of self) }
         ensures moments { (r : Record) → IsBreak (device_of self) r →
-            Leaves D.moment D.left_since disk.old disk.new (LeavesEither D.may_leave J.files J.entries disk.old (device_of self) (applied (device_of self) r)) }
+            LeavesOneOf D.Disk J.Journal disk.old disk.new (device_of self) (applied (device_of self) r) }
         ensures taken { (r : Record) → IsBreak (device_of self) r → IfOk result (λ s. broken_device s ≡ applied (device_of self) r) }
-        ensures held { IfOk result (λ s. OwnsBrokenOff D.is_modelled D.may_leave J.stands J.end s disk.new) }
-        ensures others { IsTrue D.is_modelled → (name : List ℕ) → ¬ (J.files name) → D.seen disk.new name ≡ D.seen disk.old name }
+        ensures held { IfOk result (λ s. Holds D.Disk J.Journal OwnsBrokenOff s disk.new) }
+        ensures others { KeepsOthers D.Disk J.Journal disk.old disk.new }
         ensures cause { HasCause (D.faults disk.old) (D.faults disk.new) result }
         ensures quiet { OnOk result (D.faults disk.new ≡ D.faults disk.old) }
     {

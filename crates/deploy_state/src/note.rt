@@ -1,13 +1,13 @@
 // A record is noted in the journal and taken by the device.
-ghost use Rattle.std.specs.Prelude.{◌≡◌, ℕ, List, IsTrue, OnOk, IfOk};
+ghost use Rattle.std.specs.Prelude.{◌≡◌, OnOk, IfOk};
 ghost use Rattle.nuc_base.specs.Faults.{HasCause};
-ghost use Rattle.disk_model.specs.Disk.{Leaves};
 ghost use Rattle.records.specs.Stored as stored;
 ghost use Rattle.records.specs.Stored.{Record};
 ghost use Rattle.device.specs.Lawful.{Allowed, applied};
 ghost use Rattle.device.specs.Marks.{IsMark, IsClosing};
 ghost use Rattle.device.specs.Spares.{IsSpareOf};
-ghost use Rattle.deploy_state.specs.Owned.{OwnsJournal, LeavesEither, MayMark};
+ghost use Rattle.deploy_state.specs.Objects.{Holds, KeepsOthers, LeavesOneOf, OwnsJournalOn};
+ghost use Rattle.deploy_state.specs.Owned.{MayMark};
 ghost use Rattle.deploy_state.specs.States.{IsHeld, OwnsIdle, device_of, idle_device};
 
 use crate::state::{Hand, Idle, Stopped};
@@ -20,16 +20,16 @@ use std::marker::PhantomData;
 impl<J: Journal + Drop> Hand<J> {
     /// Adds the record to the journal, and lets the device take it.
     fn note<D: Disk>(&mut self, disk: &mut D, mark: Mark) -> Result<(), DiskFault>
-        requires hand { OwnsJournal D.is_modelled D.may_leave J.stands J.end self.old.log disk.old (device_of self.old) }
+        requires hand { OwnsJournalOn D.Disk J.Journal self.old.log disk.old (device_of self.old) }
         requires spare { IsSpareOf self.old.spare (device_of self.old) }
         requires may { MayMark (device_of self.old) mark }
         ensures moments { (r : Record) → IsMark (device_of self.old) mark r →
-            Leaves D.moment D.left_since disk.old disk.new (LeavesEither D.may_leave J.files J.entries disk.old (device_of self.old)
-            (applied (device_of self.old) r)) }
+            LeavesOneOf D.Disk J.Journal disk.old disk.new (device_of self.old)
+            (applied (device_of self.old) r) }
         ensures taken { (r : Record) → IsMark (device_of self.old) mark r → OnOk result (device_of self.new ≡ applied (device_of self.old) r) }
-        ensures hand { OnOk result (OwnsJournal D.is_modelled D.may_leave J.stands J.end self.new.log disk.new (device_of self.new)) }
+        ensures hand { OnOk result (OwnsJournalOn D.Disk J.Journal self.new.log disk.new (device_of self.new)) }
         ensures spare { OnOk result (¬ (IsClosing mark) → IsSpareOf self.new.spare (device_of self.new)) }
-        ensures others { IsTrue D.is_modelled → (name : List ℕ) → ¬ (J.files name) → D.seen disk.new name ≡ D.seen disk.old name }
+        ensures others { KeepsOthers D.Disk J.Journal disk.old disk.new }
         ensures cause { HasCause (D.faults disk.old) (D.faults disk.new) result }
         ensures quiet { OnOk result (D.faults disk.new ≡ D.faults disk.old) }
     {
@@ -49,14 +49,14 @@ impl<J: Journal + Drop> Hand<J> {
 impl<J: Journal + Drop> Hand<J> {
     /// The hand behind the record of a mark other than a close.
     pub(crate) fn step<D: Disk>(self, disk: &mut D, mark: Mark) -> Result<Hand<J>, Stopped<J>>
-        requires held { IsHeld D.is_modelled D.may_leave J.stands J.end self disk.old }
+        requires held { Holds D.Disk J.Journal IsHeld self disk.old }
         requires may { MayMark (device_of self) mark }
         requires going { ¬ (IsClosing mark) }
         ensures moments { (r : Record) → IsMark (device_of self) mark r →
-            Leaves D.moment D.left_since disk.old disk.new (LeavesEither D.may_leave J.files J.entries disk.old (device_of self) (applied (device_of self) r)) }
+            LeavesOneOf D.Disk J.Journal disk.old disk.new (device_of self) (applied (device_of self) r) }
         ensures taken { (r : Record) → IsMark (device_of self) mark r → IfOk result (λ h. device_of h ≡ applied (device_of self) r) }
-        ensures held { IfOk result (λ h. IsHeld D.is_modelled D.may_leave J.stands J.end h disk.new) }
-        ensures others { IsTrue D.is_modelled → (name : List ℕ) → ¬ (J.files name) → D.seen disk.new name ≡ D.seen disk.old name }
+        ensures held { IfOk result (λ h. Holds D.Disk J.Journal IsHeld h disk.new) }
+        ensures others { KeepsOthers D.Disk J.Journal disk.old disk.new }
         ensures cause { HasCause (D.faults disk.old) (D.faults disk.new) result }
         ensures quiet { OnOk result (D.faults disk.new ≡ D.faults disk.old) }
     {
@@ -73,13 +73,12 @@ impl<J: Journal + Drop> Hand<J> {
         disk: &mut D,
         outcome: Outcome,
     ) -> Result<Idle<J>, Stopped<J>>
-        requires held { IsHeld D.is_modelled D.may_leave J.stands J.end self disk.old }
+        requires held { Holds D.Disk J.Journal IsHeld self disk.old }
         requires may { Allowed (device_of self) (stored.Closed outcome) }
-        ensures moments { Leaves D.moment D.left_since disk.old disk.new
-            (LeavesEither D.may_leave J.files J.entries disk.old (device_of self) (applied (device_of self) (stored.Closed outcome))) }
+        ensures moments { LeavesOneOf D.Disk J.Journal disk.old disk.new (device_of self) (applied (device_of self) (stored.Closed outcome)) }
         ensures taken { IfOk result (λ s. idle_device s ≡ applied (device_of self) (stored.Closed outcome)) }
-        ensures idle { IfOk result (λ s. OwnsIdle D.is_modelled D.may_leave J.stands J.end s disk.new) }
-        ensures others { IsTrue D.is_modelled → (name : List ℕ) → ¬ (J.files name) → D.seen disk.new name ≡ D.seen disk.old name }
+        ensures idle { IfOk result (λ s. Holds D.Disk J.Journal OwnsIdle s disk.new) }
+        ensures others { KeepsOthers D.Disk J.Journal disk.old disk.new }
         ensures cause { HasCause (D.faults disk.old) (D.faults disk.new) result }
         ensures quiet { OnOk result (D.faults disk.new ≡ D.faults disk.old) }
     {

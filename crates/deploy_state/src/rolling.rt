@@ -1,12 +1,11 @@
 // The items of the set are brought up again.
-ghost use Rattle.std.specs.Prelude.{◌≡◌, ℕ, List, IsTrue, OnOk, IfOk, option_map};
+ghost use Rattle.std.specs.Prelude.{◌≡◌, OnOk, IfOk, option_map};
 ghost use Rattle.nuc_base.specs.Faults.{HasCause};
-ghost use Rattle.disk_model.specs.Disk.{Leaves};
 ghost use Rattle.records.specs.Stored as stored;
 ghost use Rattle.device.specs.Devices.{device_view};
 ghost use Rattle.device.specs.Lawful.{Allowed, applied};
 ghost use Rattle.deploy_state.specs.Fields.{broken_item, rolled_outcome};
-ghost use Rattle.deploy_state.specs.Owned.{LeavesEither};
+ghost use Rattle.deploy_state.specs.Objects.{Holds, KeepsOthers, LeavesOneOf};
 ghost use Rattle.deploy_state.specs.States.{OwnsIdle, OwnsRolling, idle_device, rolling_device};
 
 use crate::names::{broken_in, outcome_in};
@@ -39,13 +38,13 @@ impl<J: Journal + Drop> Rolling<J> {
         step: Step,
         exit: Exit,
     ) -> Result<Rolling<J>, Stopped<J>>
-        requires held { OwnsRolling D.is_modelled D.may_leave J.stands J.end self disk.old }
+        requires held { Holds D.Disk J.Journal OwnsRolling self disk.old }
         requires may { Allowed (rolling_device self) (stored.StepFailed name.now step exit) }
-        ensures moments { Leaves D.moment D.left_since disk.old disk.new (LeavesEither D.may_leave J.files J.entries disk.old (rolling_device self)
-            (applied (rolling_device self) (stored.StepFailed name.now step exit))) }
+        ensures moments { LeavesOneOf D.Disk J.Journal disk.old disk.new (rolling_device self)
+            (applied (rolling_device self) (stored.StepFailed name.now step exit)) }
         ensures taken { IfOk result (λ s. rolling_device s ≡ applied (rolling_device self) (stored.StepFailed name.now step exit)) }
-        ensures held { IfOk result (λ s. OwnsRolling D.is_modelled D.may_leave J.stands J.end s disk.new) }
-        ensures others { IsTrue D.is_modelled → (name : List ℕ) → ¬ (J.files name) → D.seen disk.new name ≡ D.seen disk.old name }
+        ensures held { IfOk result (λ s. Holds D.Disk J.Journal OwnsRolling s disk.new) }
+        ensures others { KeepsOthers D.Disk J.Journal disk.old disk.new }
         ensures cause { HasCause (D.faults disk.old) (D.faults disk.new) result }
         ensures quiet { OnOk result (D.faults disk.new ≡ D.faults disk.old) }
     {
@@ -57,12 +56,12 @@ impl<J: Journal + Drop> Rolling<J> {
 
     /// The deployment closes: rolled back, or not able to where an item has three failures.
     pub fn close<D: Disk>(self, disk: &mut D) -> Result<Idle<J>, Stopped<J>>
-        requires held { OwnsRolling D.is_modelled D.may_leave J.stands J.end self disk.old }
-        ensures moments { Leaves D.moment D.left_since disk.old disk.new (LeavesEither D.may_leave J.files J.entries disk.old (rolling_device self)
-            (applied (rolling_device self) (stored.Closed (rolled_outcome (rolling_device self))))) }
+        requires held { Holds D.Disk J.Journal OwnsRolling self disk.old }
+        ensures moments { LeavesOneOf D.Disk J.Journal disk.old disk.new (rolling_device self)
+            (applied (rolling_device self) (stored.Closed (rolled_outcome (rolling_device self)))) }
         ensures taken { IfOk result (λ s. idle_device s ≡ applied (rolling_device self) (stored.Closed (rolled_outcome (rolling_device self)))) }
-        ensures held { IfOk result (λ s. OwnsIdle D.is_modelled D.may_leave J.stands J.end s disk.new) }
-        ensures others { IsTrue D.is_modelled → (name : List ℕ) → ¬ (J.files name) → D.seen disk.new name ≡ D.seen disk.old name }
+        ensures held { IfOk result (λ s. Holds D.Disk J.Journal OwnsIdle s disk.new) }
+        ensures others { KeepsOthers D.Disk J.Journal disk.old disk.new }
         ensures cause { HasCause (D.faults disk.old) (D.faults disk.new) result }
         ensures quiet { OnOk result (D.faults disk.new ≡ D.faults disk.old) }
     {

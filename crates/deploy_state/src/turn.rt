@@ -11,7 +11,7 @@ ghost use Rattle.records.specs.Layout.{Spelled};
 ghost use Rattle.device.specs.Devices.{device_view, IsRegularDevice};
 ghost use Rattle.device.specs.Fronts.{Front, HasFront};
 ghost use Rattle.device.specs.Standing.{StandsFor};
-ghost use Rattle.deploy_state.specs.Owned.{OwnsJournal};
+ghost use Rattle.deploy_state.specs.Objects.{KeepsOthers, OwnsJournalOn};
 ghost use Rattle.deploy_state.specs.Turning.{AreSpelled, can_turn, front_bytes, front_payloads};
 
 use device::Device;
@@ -75,7 +75,7 @@ fn put_next<J: Journal, D: Disk>(
     ensures stays { ¬ (IsErrOf result TurnFault.Disk) → (payloads : List (List ℕ)) → IsBehind D.may_leave J.stands log.old disk.old payloads →
         IsBehind D.may_leave J.stands log.new disk.new payloads }
     ensures same { (J.end log.new ≡ J.end log.old) × (J.number log.new ≡ J.number log.old) × (J.turns log.new ≡ J.turns log.old) }
-    ensures others { IsTrue D.is_modelled → (name : List ℕ) → ¬ (J.files name) → D.seen disk.new name ≡ D.seen disk.old name }
+    ensures others { KeepsOthers D.Disk J.Journal disk.old disk.new }
     ensures cause { IsErrOf result TurnFault.Disk → Rose (D.faults disk.old) (D.faults disk.new) }
     ensures quiet { ¬ (IsErrOf result TurnFault.Disk) → D.faults disk.new ≡ D.faults disk.old }
     ensures later { D.faults disk.old ≤ D.faults disk.new }
@@ -112,7 +112,7 @@ fn put_front<J: Journal, D: Disk>(
     ensures stays { ¬ (IsErrOf result TurnFault.Disk) → (payloads : List (List ℕ)) → IsBehind D.may_leave J.stands log.old disk.old payloads →
         IsBehind D.may_leave J.stands log.new disk.new payloads }
     ensures same { (J.end log.new ≡ J.end log.old) × (J.number log.new ≡ J.number log.old) × (J.turns log.new ≡ J.turns log.old) }
-    ensures others { IsTrue D.is_modelled → (name : List ℕ) → ¬ (J.files name) → D.seen disk.new name ≡ D.seen disk.old name }
+    ensures others { KeepsOthers D.Disk J.Journal disk.old disk.new }
     ensures cause { IsErrOf result TurnFault.Disk → Rose (D.faults disk.old) (D.faults disk.new) }
     ensures quiet { ¬ (IsErrOf result TurnFault.Disk) → D.faults disk.new ≡ D.faults disk.old }
     ensures later { D.faults disk.old ≤ D.faults disk.new }
@@ -132,16 +132,16 @@ pub(crate) fn turn<J: Journal, D: Disk>(
     device: &Device,
     disk: &mut D,
 ) -> Result<(), TurnFault>
-    requires hand { OwnsJournal D.is_modelled D.may_leave J.stands J.end log.old disk.old (device_view device.now) }
+    requires hand { OwnsJournalOn D.Disk J.Journal log.old disk.old (device_view device.now) }
     requires idle { (device_view device.now).pending ≡ None }
     requires can { IsTrue (can_turn (J.turns log.old) (J.number log.old)) }
     requires room { front_bytes (J.number log.old + 1) (device_view device.now) < most_file }
-    ensures hand { ¬ (IsErrOf result TurnFault.Disk) → OwnsJournal D.is_modelled D.may_leave J.stands J.end log.new disk.new (device_view device.now) }
+    ensures hand { ¬ (IsErrOf result TurnFault.Disk) → OwnsJournalOn D.Disk J.Journal log.new disk.new (device_view device.now) }
     ensures end { OnOk result (J.end log.new ≡ front_bytes (J.number log.old + 1) (device_view device.now)) }
     ensures number { OnOk result (J.number log.new ≡ J.number log.old + 1) }
     ensures moments { Leaves D.moment D.left_since disk.old disk.new
         (After (D.may_leave disk.old) (Within J.files (λ c. StandsFor J.entries c (device_view device.now)))) }
-    ensures others { IsTrue D.is_modelled → (name : List ℕ) → ¬ (J.files name) → D.seen disk.new name ≡ D.seen disk.old name }
+    ensures others { KeepsOthers D.Disk J.Journal disk.old disk.new }
     ensures cause { IsErrOf result TurnFault.Disk → Rose (D.faults disk.old) (D.faults disk.new) }
     ensures quiet { ¬ (IsErrOf result TurnFault.Disk) → D.faults disk.new ≡ D.faults disk.old }
     ensures later { D.faults disk.old ≤ D.faults disk.new }

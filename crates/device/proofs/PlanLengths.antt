@@ -98,7 +98,8 @@ held_short (h ∷ held) f =
     let digest = f.0.1 in
     (both_short (layout.label.spell h.file) h.digest 260 32 (text_short h.file 256 f.0.0.0.short) (omega (arith, digest)), held_short held f.1)
 
-pub item_short : (platform : Platform) (item : Item) → layout.item.Fits item → HasRecipe platform item → HasConfig item → length (layout.item.spell item) ≤ 150036
+pub item_short : (platform : Platform) (item : Item) → layout.item.Fits item → HasRecipe platform item → HasConfig item
+    → length (layout.item.spell item) ≤ 150036
 item_short platform item fits has config =
     let recipe = has.1.reads in
     let files = few_files item.recipe platform has.0 recipe in

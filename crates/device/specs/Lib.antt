@@ -3,6 +3,7 @@ pub mod Grouped
 pub mod Closings
 pub mod Regularity
 pub mod Plans
+pub mod Filled
 pub mod PlanSizes
 pub mod Scopes
 pub mod PlanNeeds

@@ -29,7 +29,7 @@ use Rattle.device.specs.Devices.{Device, IsRegularDevice}
 use Rattle.device.specs.Grouped.{with_group}
 use Rattle.device.specs.Plans.{AreRegularItems}
 use Rattle.device.specs.Sound.{IsSound}
-use Rattle.artifact_store.specs.Filled.{Fills, FillsItem}
+use Rattle.device.specs.Filled.{Fills, FillsItem}
 use Rattle.plan_core.specs.Plans.{IsPlanned}
 use Rattle.plan_core.specs.Requests.{root_requirement, wanted_of}
 use Rattle.plan_core.specs.Set.{change_in, chosen, config_of, item_named, item_of, items_of, root_named}

@@ -20,7 +20,7 @@ use Rattle.recipe_reader.specs.declared.candidate.Candidate.{Candidate}
 use Rattle.records.specs.Stored.{DraftItem, Item}
 use Rattle.records.specs.declared.record.Held.{Held}
 use Rattle.records.specs.declared.record.Origin.{Origin}
-use Rattle.artifact_store.specs.Filled.{FillsItem}
+use Rattle.device.specs.Filled.{FillsItem}
 use Rattle.device.specs.Devices.{Device}
 use Rattle.device.specs.Plans.{HasRecipe, IsHeldFor}
 use Rattle.device.specs.Sound.{AreItemsFor, IsSound}

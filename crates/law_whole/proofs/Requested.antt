@@ -53,7 +53,7 @@ use Rattle.plan_core.specs.declared.fault.PlanFault.TheVariants as planning
 use Rattle.plan_core.specs.declared.fault.Refusal.{Refusal}
 use Rattle.plan_core.specs.declared.fault.Refusal.TheVariants as refusal
 use Rattle.nuc_base.specs.Tables.{AllHold, IsFirst, Table, each}
-use Rattle.artifact_store.specs.Filled.{Fills}
+use Rattle.device.specs.Filled.{Fills}
 use Rattle.artifact_store.specs.Staged.{IsOutside, draft_lines}
 use Rattle.artifact_store.specs.declared.fault.StageFault.{StageFault}
 use Rattle.admission.specs.Requests.{AsksChange, AsksLocal, IsChangeOn, TakesBy, unset}

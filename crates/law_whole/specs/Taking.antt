@@ -28,7 +28,7 @@ use Rattle.library_core.specs.Gathered.{AreGathered, IsGatheredOf}
 use Rattle.library_core.specs.Faults.{Gathered}
 use Rattle.library_core.specs.declared.fault.CandidatesFault.{CandidatesFault}
 use Rattle.library_core.specs.declared.fault.CandidatesFault.TheVariants.{Library, NoMemory}
-use Rattle.artifact_store.specs.Filled.{Fills}
+use Rattle.device.specs.Filled.{Fills}
 use Rattle.artifact_store.specs.Staged.{draft_lines}
 use Rattle.deployment_doc.specs.Sound.{AreSound}
 use Rattle.deployment_doc.specs.declared.document.Document.{Document}

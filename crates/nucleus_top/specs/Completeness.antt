@@ -18,7 +18,7 @@ use Rattle.records.specs.Stored.{Accepted, Draft, Plan, Record, plan_view}
 use Rattle.records.specs.declared.record.Plan as code
 use Rattle.records.specs.declared.record.Origin.{Origin}
 use Rattle.deployment_doc.specs.declared.document.Document.{Document}
-use Rattle.artifact_store.specs.Filled.{Fills}
+use Rattle.device.specs.Filled.{Fills}
 use Rattle.artifact_store.specs.Staged.{draft_lines}
 use Rattle.plan_core.specs.Plans.{IsChoice, IsPlanned, room_lines, size_lines}
 use Rattle.plan_core.specs.Ready.{IsFresh, IsOpen}

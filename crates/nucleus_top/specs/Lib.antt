@@ -13,6 +13,7 @@ pub mod Lasting
 pub mod Leaving
 pub mod Looks
 pub mod Meeting
+pub mod Objects
 pub mod Opening
 pub mod Parts
 pub mod Planning

@@ -8,10 +8,9 @@ ghost use Rattle.artifact_store.specs.Swept.{IsSwept, items_of};
 ghost use Rattle.disk_model.specs.Disk.{Leaves};
 ghost use Rattle.nuc_base.specs.Faults.{Rose};
 ghost use Rattle.nuc_base.specs.declared.status.Status.TheVariants as statuses;
-ghost use Rattle.checkpoint_log.specs.Slots.{slots_entries, slots_files, slots_stands};
+ghost use Rattle.checkpoint_log.specs.Slots.{slots_entries, slots_files};
 ghost use Rattle.deploy_state.specs.Accepting.{idle_log};
 ghost use Rattle.deploy_state.specs.States.{OwnsIdle, OwnsLoaded, idle_device, loaded_device};
-ghost use Rattle.device.specs.Devices.{Device};
 ghost use Rattle.session.specs.Calls.{Elsewhere, ChangesArtifactsAlone, Stays};
 ghost use Rattle.session.specs.Sweeping.{LeavesNoStray};
 ghost use Rattle.checkpoint_log.specs.declared.slots.Slots.{Slots as Journal};
@@ -19,9 +18,9 @@ ghost use Rattle.deploy_state.specs.declared.state.Idle as idles;
 ghost use Rattle.edges.specs.Reading.{ReadsUpTo};
 ghost use Rattle.nucleus_top.specs.Answers.{input_over, printed_over, shelf_over, store_over};
 ghost use Rattle.nucleus_top.specs.Crashes.{KeepsJournal, KeepsJournalOrFiles, KeepsSameWhole, LeavesSame};
+ghost use Rattle.nucleus_top.specs.Objects.{HoldsSlots, IsDeployedFrom, IsDeployedOver, IsInputDeployedOver, IsRefusedOver, IsResumedOver};
 ghost use Rattle.nucleus_top.specs.Opening.{HasEntry, Stands};
-ghost use Rattle.nucleus_top.specs.Drives.{DeploysOn, IsDeployed, IsDeployedOn};
-ghost use Rattle.nucleus_top.specs.Drives.{IsResumed, IsRefusedBefore, IsMade, IsUnread, IsUnswept, NamesPendingOf, StartsFrom};
+ghost use Rattle.nucleus_top.specs.Drives.{IsMade, IsUnread, IsUnswept, NamesPendingOf, StartsFrom};
 ghost use Rattle.nucleus_top.specs.Drives.{TellsSweep, TellsUnread, TurnsAway, MayNotOpen, MayNotOpenIdle, shelf_for, slots_start};
 
 use crate::answer::Answer;
@@ -75,7 +74,7 @@ pub(crate) fn open_swept<D: Disk>(alloc: Global, disk: &mut D) -> Result<Loaded<
     ensures opened { IsTrue D.is_modelled → IfOk result (λ s. HasEntry (D.seen disk.old) × Stands (D.seen disk.old) (loaded_device s)) }
     ensures start { IsTrue D.is_modelled → IfOk result (λ s. (idle : idles.Idle Journal) → s ≡ Loaded.Idle idle →
         StartsFrom (D.seen disk.old) (idle_device idle) (slots_start (idle_log idle) (idle_device idle))) }
-    ensures held { IfOk result (λ s. OwnsLoaded D.is_modelled D.may_leave slots_stands (λ log. log.live.end) s disk.new) }
+    ensures held { IfOk result (λ s. HoldsSlots D.Disk OwnsLoaded s disk.new) }
     ensures images { LeavesSame D.may_leave D.moment D.left_since D.seen disk.old disk.new }
     ensures whole { KeepsSameWhole D.may_leave D.moment D.left_since D.seen disk.old disk.new }
     ensures ends { ¬ (IsErrOf result Answer.DiskFailed) → KeepsJournal D.may_leave D.seen disk.old disk.new }
@@ -123,7 +122,7 @@ fn idle_of(alloc: Global, state: Loaded<Slots>) -> Result<Idle<Slots>, Answer>
 fn open_idle<D: Disk>(alloc: Global, disk: &mut D) -> Result<Idle<Slots>, Answer>
     ensures opened { IsTrue D.is_modelled → IfOk result (λ s. HasEntry (D.seen disk.old) × Stands (D.seen disk.old) (idle_device s)) }
     ensures start { IsTrue D.is_modelled → IfOk result (λ s. StartsFrom (D.seen disk.old) (idle_device s) (slots_start (idle_log s) (idle_device s))) }
-    ensures held { IfOk result (λ s. OwnsIdle D.is_modelled D.may_leave slots_stands (λ log. log.live.end) s disk.new) }
+    ensures held { IfOk result (λ s. HoldsSlots D.Disk OwnsIdle s disk.new) }
     ensures images { LeavesSame D.may_leave D.moment D.left_since D.seen disk.old disk.new }
     ensures whole { KeepsSameWhole D.may_leave D.moment D.left_since D.seen disk.old disk.new }
     ensures ends { ¬ (IsErrOf result Answer.DiskFailed) → KeepsJournal D.may_leave D.seen disk.old disk.new }
@@ -162,12 +161,11 @@ fn deploy_made<D: Disk, L: Library, K: Sink, R: Runner>(
     sink: &mut K,
     runner: &mut R,
 ) -> Status
-    requires held { OwnsIdle D.is_modelled D.may_leave slots_stands (λ log. log.live.end) idle disk.old }
+    requires held { HoldsSlots D.Disk OwnsIdle idle disk.old }
     requires none { R.living runner.old ≡ [] }
     requires roots { IfOk made (λ document. AreSound document.roots) }
     requires inside { IfErr made (λ x. IsInside x) }
-    ensures driven { IsDeployedOn D.may_leave D.moment D.left_since D.faults disk.old disk.new (R.list runner.old) (R.list runner.new)
-        (printed_over K.Sink sink.old sink.new) result
+    ensures driven { IsDeployedOver D.Disk K.Sink R.Runner disk.old disk.new sink.old sink.new runner.old runner.new result
         (idle_device idle) (slots_start (idle_log idle) (idle_device idle)) (shelf_over L.Library library.old library.new)
         (IsMade made) }
     ensures none { R.living runner.new ≡ [] }
@@ -213,10 +211,9 @@ fn deploy_bytes<D: Disk, L: Library, K: Sink, R: Runner>(
     sink: &mut K,
     runner: &mut R,
 ) -> Status
-    requires held { OwnsIdle D.is_modelled D.may_leave slots_stands (λ log. log.live.end) idle disk.old }
+    requires held { HoldsSlots D.Disk OwnsIdle idle disk.old }
     requires none { R.living runner.old ≡ [] }
-    ensures driven { IsDeployedOn D.may_leave D.moment D.left_since D.faults disk.old disk.new (R.list runner.old) (R.list runner.new)
-        (printed_over K.Sink sink.old sink.new) result
+    ensures driven { IsDeployedOver D.Disk K.Sink R.Runner disk.old disk.new sink.old sink.new runner.old runner.new result
         (idle_device idle) (slots_start (idle_log idle) (idle_device idle)) (shelf_for what.now (shelf_over L.Library library.old library.new))
         (Requests what.now bytes.now) }
     ensures none { R.living runner.new ≡ [] }
@@ -253,12 +250,11 @@ fn deploy_read<D: Disk, L: Library, S: Source, K: Sink, R: Runner>(
     sink: &mut K,
     runner: &mut R,
 ) -> Status
-    requires held { OwnsIdle D.is_modelled D.may_leave slots_stands (λ log. log.live.end) idle disk.old }
+    requires held { HoldsSlots D.Disk OwnsIdle idle disk.old }
     requires none { R.living runner.old ≡ [] }
     ensures ran { (IsUnread disk.old disk.new (input_over S.Source source.old source.new) (printed_over K.Sink sink.old sink.new) result ×
         (runner.new ≡ runner.old))
-        ⊎ DeploysOn D.may_leave D.moment D.left_since D.faults disk.old disk.new (R.list runner.old) (R.list runner.new)
-        (printed_over K.Sink sink.old sink.new) result what.now
+        ⊎ IsInputDeployedOver D.Disk K.Sink R.Runner disk.old disk.new sink.old sink.new runner.old runner.new result what.now
         (idle_device idle) (slots_start (idle_log idle) (idle_device idle)) (input_over S.Source source.old source.new)
         (shelf_for what.now (shelf_over L.Library library.old library.new)) }
     ensures none { R.living runner.new ≡ [] }
@@ -312,11 +308,10 @@ pub(crate) fn deploy<D: Disk, L: Library, S: Source, K: Sink, R: Runner>(
     runner: &mut R,
 ) -> Status
     requires none { R.living runner.old ≡ [] }
-    ensures ran { (IsRefusedBefore D.seen D.may_leave D.moment D.left_since (λ a. TurnsAway (store_over D.Disk disk.old disk.new)
-        (input_over S.Source source.old source.new) a) disk.old disk.new (printed_over K.Sink sink.old sink.new) result × (runner.new ≡ runner.old))
-        ⊎ IsDeployed D.may_leave D.moment D.left_since D.faults disk.old disk.new (R.list runner.old) (R.list runner.new)
-        (printed_over K.Sink sink.old sink.new) result what.now
-        (store_over D.Disk disk.old disk.new) (input_over S.Source source.old source.new)
+    ensures ran { (IsRefusedOver D.Disk K.Sink disk.old disk.new sink.old sink.new result
+        (λ store answer. TurnsAway store (input_over S.Source source.old source.new) answer) × (runner.new ≡ runner.old))
+        ⊎ IsDeployedFrom D.Disk K.Sink R.Runner disk.old disk.new sink.old sink.new runner.old runner.new result what.now
+        (input_over S.Source source.old source.new)
         (shelf_over L.Library library.old library.new) }
     ensures none { R.living runner.new ≡ [] }
     ensures others { IsTrue D.is_modelled → Elsewhere slots_files (D.seen disk.old) (D.seen disk.new) }
@@ -353,11 +348,8 @@ pub(crate) fn resume<D: Disk, K: Sink, R: Runner>(
     runner: &mut R,
 ) -> Status
     requires none { R.living runner.old ≡ [] }
-    ensures ran { (IsRefusedBefore D.seen D.may_leave D.moment D.left_since (λ a. MayNotOpen (store_over D.Disk disk.old disk.new) a)
-        disk.old disk.new (printed_over K.Sink sink.old sink.new) result × (runner.new ≡ runner.old))
-        ⊎ IsResumed D.may_leave D.moment D.left_since D.faults disk.old disk.new (R.list runner.old) (R.list runner.new)
-        (printed_over K.Sink sink.old sink.new) result
-        (store_over D.Disk disk.old disk.new) }
+    ensures ran { (IsRefusedOver D.Disk K.Sink disk.old disk.new sink.old sink.new result (λ store answer. MayNotOpen store answer) × (runner.new ≡ runner.old))
+        ⊎ IsResumedOver D.Disk K.Sink R.Runner disk.old disk.new sink.old sink.new runner.old runner.new result }
     ensures none { R.living runner.new ≡ [] }
     ensures others { IsTrue D.is_modelled → Elsewhere slots_files (D.seen disk.old) (D.seen disk.new) }
     ensures disk { result ≡ statuses.Disk → Rose (D.faults disk.old) (D.faults disk.new) }

@@ -1,10 +1,11 @@
 // The command that keeps a set up, and deploys what an inbox has.
-ghost use Rattle.std.specs.Prelude.{◌≡◌, ◌⊎◌, [], ℕ};
+ghost use Rattle.std.specs.Prelude.{◌≡◌, ◌⊎◌, []};
 ghost use Rattle.checkpoint_log.specs.Slots.{slots_files};
-ghost use Rattle.nucleus_top.specs.Answers.{printed_over, store_over};
-ghost use Rattle.nucleus_top.specs.Drives.{IsRefusedBefore, MayNotOpen};
+ghost use Rattle.nucleus_top.specs.Answers.{store_over};
+ghost use Rattle.nucleus_top.specs.Drives.{MayNotOpen};
 ghost use Rattle.nucleus_top.specs.Serving.{IsServed};
 ghost use Rattle.session_serving.specs.Causes.{IsCaused, watched};
+ghost use Rattle.nucleus_top.specs.Objects.{IsRefusedOver};
 ghost use Rattle.session_serving.specs.Parts.{outside};
 
 use crate::driving::open_swept;
@@ -32,8 +33,7 @@ pub(crate) fn serve<D: Disk, L: Library, I: Inbox, K: Sink, R: Runner>(
     runner: &mut R,
 ) -> Status
     requires none { R.living runner.old ≡ [] }
-    ensures ran { (IsRefusedBefore D.seen D.may_leave D.moment D.left_since (λ a. MayNotOpen (store_over D.Disk disk.old disk.new) a)
-        disk.old disk.new (printed_over K.Sink sink.old sink.new) result
+    ensures ran { (IsRefusedOver D.Disk K.Sink disk.old disk.new sink.old sink.new result (λ store answer. MayNotOpen store answer)
         × (runner.new ≡ runner.old) × (library.new ≡ library.old) × (inbox.new ≡ inbox.old))
         ⊎ IsServed D.Disk (L.content library.old)
         (outside D.Disk K.Sink R.Runner L.Library I.Inbox disk.old sink.old runner.old library.old inbox.old)

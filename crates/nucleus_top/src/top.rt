@@ -8,7 +8,7 @@ ghost use Rattle.command_words.specs.declared.order.Order.TheVariants as order;
 ghost use Rattle.session.specs.Calls.{Stays};
 ghost use Rattle.edges.specs.Reading.{ReadsUpTo};
 ghost use Rattle.nucleus_top.specs.Drives.{AsksTo, AsksToServe, Deploys, DeploysOver, DriveParts, Drives, DrivesOne, Serves};
-ghost use Rattle.nucleus_top.specs.Drives.{IsDeployed, IsResumed, IsRefusedBefore, PendingParts, RefusedParts, TurnsAway};
+ghost use Rattle.nucleus_top.specs.Drives.{PendingParts, RefusedParts, TurnsAway};
 ghost use Rattle.nucleus_top.specs.Drives.{MayNotOpen};
 ghost use Rattle.nucleus_top.specs.Words.{Asks};
 ghost use Rattle.nucleus_top.specs.Answers.{store_over, input_over, shelf_over, printed_over};
@@ -17,6 +17,7 @@ ghost use Rattle.nucleus_top.specs.Parts.{Parts};
 ghost use Rattle.nucleus_top.specs.Serving.{IsServed};
 ghost use Rattle.checkpoint_log.specs.Slots.{slots_files};
 ghost use Rattle.session_serving.specs.Causes.{IsCaused, watched};
+ghost use Rattle.nucleus_top.specs.Objects.{IsDeployedFrom, IsRefusedOver, IsResumedOver};
 ghost use Rattle.session_serving.specs.Parts.{outside};
 
 use crate::asking::{Asked, read_asked};
@@ -99,24 +100,18 @@ pub fn nucleus<D: Disk, L: Library, S: Source, I: Inbox, K: Sink, R: Runner>(
     // a crash comes during it, it leaves an image that the start allowed, or one whose journal stands for what the call's
     // records, up to one of them, make of the device: with none of them where the call is turned away.
     ensures deploys { (what : Ask) → AsksTo (map string_bytes words.now.items) what →
-        (IsRefusedBefore D.seen D.may_leave D.moment D.left_since (λ a. TurnsAway (store_over D.Disk disk.old disk.new)
-        (input_over S.Source source.old source.new) a)
-        disk.old disk.new (printed_over K.Sink sink.old sink.new) result × (runner.new ≡ runner.old))
-        ⊎ IsDeployed D.may_leave D.moment D.left_since D.faults disk.old disk.new (R.list runner.old) (R.list runner.new)
-        (printed_over K.Sink sink.old sink.new) result what
-        (store_over D.Disk disk.old disk.new) (input_over S.Source source.old source.new)
+        (IsRefusedOver D.Disk K.Sink disk.old disk.new sink.old sink.new result
+        (λ store answer. TurnsAway store (input_over S.Source source.old source.new) answer) × (runner.new ≡ runner.old))
+        ⊎ IsDeployedFrom D.Disk K.Sink R.Runner disk.old disk.new sink.old sink.new runner.old runner.new result what
+        (input_over S.Source source.old source.new)
         (shelf_over L.Library library.old library.new) }
     // `resume`: so it is with the pending deployment, which goes on where there is one.
     ensures resumes { (root : List ℕ) → IsOrder (map string_bytes words.now.items) root order.Resume →
-        (IsRefusedBefore D.seen D.may_leave D.moment D.left_since (λ a. MayNotOpen (store_over D.Disk disk.old disk.new) a)
-        disk.old disk.new (printed_over K.Sink sink.old sink.new) result × (runner.new ≡ runner.old))
-        ⊎ IsResumed D.may_leave D.moment D.left_since D.faults disk.old disk.new (R.list runner.old) (R.list runner.new)
-        (printed_over K.Sink sink.old sink.new) result
-        (store_over D.Disk disk.old disk.new) }
+        (IsRefusedOver D.Disk K.Sink disk.old disk.new sink.old sink.new result (λ store answer. MayNotOpen store answer) × (runner.new ≡ runner.old))
+        ⊎ IsResumedOver D.Disk K.Sink R.Runner disk.old disk.new sink.old sink.new runner.old runner.new result }
     // `serve`: so it is with the pending deployment, where there is one, and then with the set and the documents of the inbox.
     ensures serves { (turns : ℕ) → Serves (map string_bytes words.now.items) turns →
-        (IsRefusedBefore D.seen D.may_leave D.moment D.left_since (λ a. MayNotOpen (store_over D.Disk disk.old disk.new) a)
-        disk.old disk.new (printed_over K.Sink sink.old sink.new) result
+        (IsRefusedOver D.Disk K.Sink disk.old disk.new sink.old sink.new result (λ store answer. MayNotOpen store answer)
         × (runner.new ≡ runner.old) × (library.new ≡ library.old) × (inbox.new ≡ inbox.old))
         ⊎ IsServed D.Disk (L.content library.old)
         (outside D.Disk K.Sink R.Runner L.Library I.Inbox disk.old sink.old runner.old library.old inbox.old)

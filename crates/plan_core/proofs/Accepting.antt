@@ -28,7 +28,7 @@ use Rattle.deployment_doc.specs.Sound.{AreSound, root_name}
 use Rattle.deployment_doc.specs.declared.document.Document.{Document}
 use Rattle.deployment_doc.specs.declared.document.Root.{Root}
 use Rattle.plan_core.specs.Boots.{AreBoots}
-use Rattle.plan_core.specs.Filled.{FillsItem}
+use Rattle.device.specs.Filled.{FillsItem}
 use Rattle.plan_core.specs.Laws.{FilledIsAllowed}
 use Rattle.plan_core.specs.Plans.{config_lines, size_lines}
 use Rattle.plan_core.specs.Ready.{MayPlan}

@@ -28,7 +28,7 @@ use Rattle.device.specs.Limits.{most_config}
 use Rattle.device.specs.Plans.{AreItems, HasRecipe, HasConfig, IsConfig, IsHeldFor}
 use Rattle.deployment_doc.specs.Sound.{AreSound, UpdatesByObject, MergesObject}
 use Rattle.deployment_doc.specs.declared.document.Root.{Root}
-use Rattle.plan_core.specs.Filled.{FillsItem}
+use Rattle.device.specs.Filled.{FillsItem}
 use Rattle.plan_core.specs.Plans.{config_lines}
 use Rattle.plan_core.specs.Set.{item_named, item_in, root_named, change_in, config_of, item_of, items_of, bare}
 use Rattle.plan_core.proofs.Files.{KeepsFiles, files_differ, held_all}

@@ -10,7 +10,7 @@ use Rattle.device.specs.Grouped.{has_group}
 use Rattle.deployment_doc.specs.declared.document.Document.{Document}
 use Rattle.device.specs.Lawful.{Allowed}
 use Rattle.device.specs.Limits.{most_closed, most_groups}
-use Rattle.plan_core.specs.Filled.{Fills}
+use Rattle.device.specs.Filled.{Fills}
 use Rattle.plan_core.specs.Ready.{MayPlan}
 use Rattle.plan_core.specs.Plans.{room_lines, IsPlanned, IsRefused, HasNoSet}
 use Rattle.plan_core.specs.declared.fault.PlanFault.{PlanFault}

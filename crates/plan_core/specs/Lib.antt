@@ -1,6 +1,5 @@
 pub mod Boots
 pub mod Checks
-pub mod Filled
 pub mod Laws
 pub mod Looks
 pub mod Parts

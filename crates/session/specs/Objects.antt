@@ -6,9 +6,8 @@ use Rattle.edges.specs.declared.sink.Sink as a_sink
 use Rattle.nuc_base.specs.declared.status.Status.{Status}
 use Rattle.records.specs.Stored.{Plan, Record}
 use Rattle.records.specs.declared.record.Plan as code
-use Rattle.deploy_state.specs.Accepting.{idle_log}
+use Rattle.deploy_state.specs.Objects.{entry_start}
 use Rattle.deploy_state.specs.States.{idle_device}
-use Rattle.deploy_state.specs.Turning.{start_of}
 use Rattle.deploy_state.specs.declared.state.Idle.{Idle as IdleState}
 use Rattle.step_runner.specs.Entries.{Listed}
 use Rattle.step_runner.specs.declared.runner.Runner as a_runner
@@ -20,10 +19,6 @@ use Rattle.session.specs.Documents.{AcceptsFrom, AcceptsTaken, DrivesTaken, Keep
 use Rattle.session.specs.Endings.{Ending}
 use Rattle.session.specs.Parts.{HasArtifacts, RunsPart, RunsPlan, RunsTaken}
 use Rattle.session.specs.declared.ran.Ran.{Ran}
-
--- from where an entry of so many bytes would be written
-abbrev pub entry_start : {J : Type 0} → a_journal.Ghosts J → IdleState J → ℕ → ℕ
-entry_start journal idle = start_of journal.end journal.number journal.turns (idle_log idle) (idle_device idle)
 
 module _ {D J K R : Type 0} (disk : a_disk.Ghosts D) (journal : a_journal.Ghosts J) (sink : a_sink.Ghosts K) (runner : a_runner.Ghosts R) (d e : D)
     (k l : K) (r s : R) (p : SessionState) where

@@ -19,7 +19,8 @@ ghost use Rattle.session_startup.specs.Ended.{HasClosed};
 ghost use Rattle.refusal_lines.specs.Statuses.{status_of_outcome};
 ghost use Rattle.session.specs.Calls.{EndsClosed, SaysEnding, ChangesArtifactsAlone};
 ghost use Rattle.session.specs.Endings.{Fails};
-ghost use Rattle.session_boots.specs.Stages.{AsTold, Holds};
+ghost use Rattle.deploy_state.specs.Objects.{Holds};
+ghost use Rattle.session_boots.specs.Stages.{AsTold};
 
 use crate::giving::back_or_over;
 use crate::lines::say_disk;

@@ -20,7 +20,8 @@ ghost use Rattle.session.specs.Parts.{EndsRan, IsOver, IsUnbegun, OwnsRan, RanLe
 ghost use Rattle.session.specs.Calls.{AnswersFor, EndsFor, IsOrEdge, SaysEnding, SaysLine, ChangesArtifactsAlone};
 ghost use Rattle.session.specs.Endings.{Fails};
 ghost use Rattle.refusal_lines.specs.Statuses.{status_of_outcome};
-ghost use Rattle.session_boots.specs.Stages.{AsTold, Holds};
+ghost use Rattle.deploy_state.specs.Objects.{Holds};
+ghost use Rattle.session_boots.specs.Stages.{AsTold};
 
 use crate::closes::end_closed;
 use crate::lines::{pending_id, say, say_disk};

@@ -19,7 +19,8 @@ ghost use Rattle.law_supervisor.specs.Sound.{IsOrderly};
 ghost use Rattle.law_termination.specs.Drives.{Drives};
 ghost use Rattle.session.specs.Endings.{Fails, Resumes};
 ghost use Rattle.session.specs.Sweeping.{LeavesNoStray};
-ghost use Rattle.session_boots.specs.Stages.{AsTold, Holds};
+ghost use Rattle.deploy_state.specs.Objects.{Holds};
+ghost use Rattle.session_boots.specs.Stages.{AsTold};
 
 use crate::ends::end_call;
 use crate::giving::back_or_over;

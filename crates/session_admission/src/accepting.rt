@@ -16,7 +16,8 @@ ghost use Rattle.histories.specs.TraceEvents.{TraceEvent, records_of};
 ghost use Rattle.histories.specs.States.{SessionState};
 ghost use Rattle.session_boots.specs.Ends.{Lines};
 ghost use Rattle.session_admission.specs.Accepts.{HasTaken, OwnsTaken, IsAcceptedAt, IsFullAt, IsFullOrShort, IsOpen, IsTakenOf, Opened, answer_of};
-ghost use Rattle.session_boots.specs.Stages.{Holds, IsTraceOver, KeepsOthers, LeftOver};
+ghost use Rattle.deploy_state.specs.Objects.{Holds, KeepsOthers};
+ghost use Rattle.session_boots.specs.Stages.{IsTraceOver, LeftOver};
 
 use deploy_state::{AcceptRefusal, Booting, Idle};
 use disk_model::Disk;

@@ -1,6 +1,5 @@
 -- What a call does to the devices that it drives, each passed with all that its trait tells.
-use Rattle.std.specs.Prelude.{◌≡◌, ℕ, Bool, List, Option, Result, IsTrue, OnErr}
-use Rattle.disk_model.specs.Disk.{Image}
+use Rattle.std.specs.Prelude.{ℕ, List, Option, Result, OnErr}
 use Rattle.disk_model.specs.declared.disk.Disk as a_disk
 use Rattle.gate_log.specs.declared.journal.Journal as a_journal
 use Rattle.edges.specs.declared.sink.Sink as a_sink
@@ -18,14 +17,6 @@ abbrev pub AsTold : {R : Type 0} → a_runner.Ghosts R → R → (Told → List 
 AsTold runner r is = is (Listed runner.list runner.told runner.asked r) (runner.living r)
 
 module _ {D J : Type 0} (disk : a_disk.Ghosts D) (journal : a_journal.Ghosts J) where
-  -- the state owns its journal over the disk: which state, the definition says that is passed
-  abbrev pub Holds : {A : Type 0} → (Bool → (D → Image → Type 0) → (J → Image → List (List ℕ) → Type 0) → (J → ℕ) → A → D → Type 0) → A → D → Type 0
-  Holds owns state d = owns disk.is_modelled disk.may_leave journal.stands journal.end state d
-
-  -- the files that are not the journal's read as before
-  abbrev pub KeepsOthers : D → D → Type 0
-  KeepsOthers d e = IsTrue disk.is_modelled → (name : List ℕ) → ¬ (journal.files name) → disk.seen e name ≡ disk.seen d name
-
   -- this happened from a state of the session on, as the disk and the runner's list show
   abbrev pub IsTraceOver : D → D → Option (List RunnerEntry) → Option (List RunnerEntry) → SessionState → List TraceEvent → Type 0
   IsTraceOver d e list now p h = IsTrace journal.entries journal.files disk.may_leave disk.moment disk.left_since d e list now p h

@@ -11,7 +11,8 @@ ghost use Rattle.session_boots.specs.Booted.{BootsLeft, restart_of};
 ghost use Rattle.session_boots.specs.Made.{AreMade, AreMadeAgain, AreStageBoots, IsTurn};
 ghost use Rattle.session_boots.specs.Staged.{OwnsStage};
 ghost use Rattle.session_boots.specs.Stands.{IsAtBootStage};
-ghost use Rattle.session_boots.specs.Stages.{AsTold, HasTrace, Holds, KeepsOthers};
+ghost use Rattle.deploy_state.specs.Objects.{Holds, KeepsOthers};
+ghost use Rattle.session_boots.specs.Stages.{AsTold, HasTrace};
 
 use crate::ends::{Booted, SessionFault};
 use crate::stage::BootStage;

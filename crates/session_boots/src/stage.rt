@@ -1,5 +1,5 @@
 //! The states of a deployment in which bootstrap steps run.
-ghost use Rattle.std.specs.Prelude.{◌≡◌, ℕ, List, IsTrue, OnOk, IfOk, IsOkAnd, option_map};
+ghost use Rattle.std.specs.Prelude.{◌≡◌, OnOk, IfOk, IsOkAnd, option_map};
 ghost use Rattle.nuc_base.specs.Faults.{HasCause};
 ghost use Rattle.disk_model.specs.Disk.{Leaves};
 ghost use Rattle.records.specs.Stored.{Record};
@@ -7,6 +7,7 @@ ghost use Rattle.device.specs.Devices.{device_view};
 ghost use Rattle.device.specs.Lawful.{applied};
 ghost use Rattle.device.specs.Marks.{IsMark};
 ghost use Rattle.device.specs.declared.mark.Mark.TheVariants as marks;
+ghost use Rattle.deploy_state.specs.Objects.{Holds, KeepsOthers};
 ghost use Rattle.deploy_state.specs.Fields.{CanBegin, IsBegun, has_failed, next_name};
 ghost use Rattle.deploy_state.specs.Owned.{LeavesEither, MayMark};
 ghost use Rattle.deploy_state.specs.States.{device_of};
@@ -42,30 +43,30 @@ pub(crate) trait BootStage<J: Journal + Drop>: Drop + Sized {
 
     /// Records that the next bootstrap step begins, unless that is recorded.
     fn begin<D: Disk>(self, disk: &mut D) -> Result<Self, Stopped<J>>
-        requires held { OwnsStage hand is_staged D.is_modelled D.may_leave J.stands J.end self disk.old }
+        requires held { Holds D.Disk J.Journal (OwnsStage hand is_staged) self disk.old }
         requires may { CanBegin (device_of (hand self)) }
         ensures moments { (r : Record) → IsMark (device_of (hand self)) marks.BootBegun r →
             Leaves D.moment D.left_since disk.old disk.new (LeavesEither D.may_leave J.files J.entries disk.old (device_of (hand self))
             (applied (device_of (hand self)) r)) }
         ensures taken { (r : Record) → IsMark (device_of (hand self)) marks.BootBegun r →
             IfOk result (λ s. device_of (hand s) ≡ applied (device_of (hand self)) r) }
-        ensures held { IfOk result (λ s. OwnsStage hand is_staged D.is_modelled D.may_leave J.stands J.end s disk.new) }
+        ensures held { IfOk result (λ s. Holds D.Disk J.Journal (OwnsStage hand is_staged) s disk.new) }
         ensures silent { IsBegun (device_of (hand self)) → (disk.new ≡ disk.old) × IsOkAnd result (λ s. s ≡ self) }
-        ensures others { IsTrue D.is_modelled → (name : List ℕ) → ¬ (J.files name) → D.seen disk.new name ≡ D.seen disk.old name }
+        ensures others { KeepsOthers D.Disk J.Journal disk.old disk.new }
         ensures cause { HasCause (D.faults disk.old) (D.faults disk.new) result }
         ensures quiet { OnOk result (D.faults disk.new ≡ D.faults disk.old) };
 
     /// Records how the bootstrap step that was begun ended.
     fn ended<D: Disk>(self, disk: &mut D, exit: Exit) -> Result<Self, Stopped<J>>
-        requires held { OwnsStage hand is_staged D.is_modelled D.may_leave J.stands J.end self disk.old }
+        requires held { Holds D.Disk J.Journal (OwnsStage hand is_staged) self disk.old }
         requires may { MayMark (device_of (hand self)) (marks.BootEnded exit) }
         ensures moments { (r : Record) → IsMark (device_of (hand self)) (marks.BootEnded exit) r →
             Leaves D.moment D.left_since disk.old disk.new (LeavesEither D.may_leave J.files J.entries disk.old (device_of (hand self))
             (applied (device_of (hand self)) r)) }
         ensures taken { (r : Record) → IsMark (device_of (hand self)) (marks.BootEnded exit) r →
             IfOk result (λ s. device_of (hand s) ≡ applied (device_of (hand self)) r) }
-        ensures held { IfOk result (λ s. OwnsStage hand is_staged D.is_modelled D.may_leave J.stands J.end s disk.new) }
-        ensures others { IsTrue D.is_modelled → (name : List ℕ) → ¬ (J.files name) → D.seen disk.new name ≡ D.seen disk.old name }
+        ensures held { IfOk result (λ s. Holds D.Disk J.Journal (OwnsStage hand is_staged) s disk.new) }
+        ensures others { KeepsOthers D.Disk J.Journal disk.old disk.new }
         ensures cause { HasCause (D.faults disk.old) (D.faults disk.new) result }
         ensures quiet { OnOk result (D.faults disk.new ≡ D.faults disk.old) };
 }

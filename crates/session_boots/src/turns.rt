@@ -20,7 +20,8 @@ ghost use Rattle.session_boots.specs.Ends.{IsOne, Lines};
 ghost use Rattle.session_boots.specs.Stands.{IsAtBootStage};
 ghost use Rattle.session_boots.specs.Steps.{HasEnd};
 ghost use Rattle.session_boots.specs.Turns.{Begins, Ends, Turns};
-ghost use Rattle.session_boots.specs.Stages.{AsTold, HasTrace, Holds, IsTraceOver, KeepsOthers, LeftOver};
+ghost use Rattle.deploy_state.specs.Objects.{Holds, KeepsOthers};
+ghost use Rattle.session_boots.specs.Stages.{AsTold, HasTrace, IsTraceOver, LeftOver};
 
 use crate::ends::SessionFault;
 use crate::lines::tell_failed_boot;

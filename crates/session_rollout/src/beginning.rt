@@ -13,7 +13,8 @@ ghost use Rattle.histories.specs.Phases.{duty_of};
 ghost use Rattle.histories.specs.States.{SessionState};
 ghost use Rattle.session_transitions.specs.Enters.{RunOn};
 ghost use Rattle.law_supervisor.specs.Sound.{IsOrderly};
-ghost use Rattle.session_boots.specs.Stages.{AsTold, Holds, KeepsOthers};
+ghost use Rattle.deploy_state.specs.Objects.{Holds, KeepsOthers};
+ghost use Rattle.session_boots.specs.Stages.{AsTold};
 
 use crate::boots::{boot, end_boots};
 use crate::driven::Driven;

@@ -17,7 +17,8 @@ ghost use Rattle.histories.specs.States.{SessionState};
 ghost use Rattle.session_transitions.specs.Enters.{AreReady, RunOn};
 ghost use Rattle.session_transitions.specs.Fails.{is_to_roll_back};
 ghost use Rattle.law_supervisor.specs.Sound.{IsOrderly};
-ghost use Rattle.session_boots.specs.Stages.{AsTold, Holds, KeepsOthers};
+ghost use Rattle.deploy_state.specs.Objects.{Holds, KeepsOthers};
+ghost use Rattle.session_boots.specs.Stages.{AsTold};
 
 use crate::backing::roll_back;
 use crate::driven::{Driven, Presence};

@@ -8,7 +8,8 @@ ghost use Rattle.session_boots.specs.Stands.{IsAtBootStage};
 ghost use Rattle.session_admission.specs.Readied.{AreReadiedFor};
 ghost use Rattle.histories.specs.States.{SessionState};
 ghost use Rattle.law_supervisor.specs.Sound.{IsOrderly};
-ghost use Rattle.session_boots.specs.Stages.{AsTold, Holds, KeepsOthers};
+ghost use Rattle.deploy_state.specs.Objects.{Holds, KeepsOthers};
+ghost use Rattle.session_boots.specs.Stages.{AsTold};
 
 use crate::backing::back_on;
 use crate::boots::boot;

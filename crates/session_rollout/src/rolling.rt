@@ -10,7 +10,8 @@ ghost use Rattle.histories.specs.States.{SessionState};
 ghost use Rattle.histories.specs.Waits.{has_three};
 ghost use Rattle.session_transitions.specs.Enters.{AreReady};
 ghost use Rattle.law_supervisor.specs.Sound.{IsOrderly};
-ghost use Rattle.session_boots.specs.Stages.{AsTold, Holds, KeepsOthers};
+ghost use Rattle.deploy_state.specs.Objects.{Holds, KeepsOthers};
+ghost use Rattle.session_boots.specs.Stages.{AsTold};
 
 use crate::driven::{Driven, Presence};
 use components::Supervise;

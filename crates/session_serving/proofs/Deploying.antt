@@ -40,7 +40,7 @@ use Rattle.law_serving.proofs.Records.{idle_is, pending_idle}
 use Rattle.session_admission.specs.Accepts.{IsOpen}
 use Rattle.session_boots.specs.Ends.{StopsAt}
 use Rattle.session_boots.specs.Lines.{lines_of}
-use Rattle.session_boots.specs.Stages.{Holds}
+use Rattle.deploy_state.specs.Objects.{Holds}
 use Rattle.session_steady.specs.Serves.{IsServing}
 use Rattle.session_acts.proofs.Entering.{comes_of}
 use Rattle.session.specs.Calls.{IsOrEdge, StandsWhole, call_lines, opening_line}

@@ -11,7 +11,7 @@ use Rattle.deploy_state.specs.States.{OwnsIdle, idle_device}
 use Rattle.deploy_state.specs.declared.state.Idle.{Idle}
 use Rattle.deploy_state.proofs.Steps.{in_hand_stands}
 use Rattle.components.specs.Components.{Components}
-use Rattle.session_boots.specs.Stages.{Holds}
+use Rattle.deploy_state.specs.Objects.{Holds}
 use Rattle.session_serving.specs.Parts.{AllStandFor}
 use Rattle.session_serving.specs.Places.{AreUp}
 use Rattle.session_serving.specs.Turns.{OwnsTurned, UpTurned}

@@ -4,7 +4,8 @@ ghost use Rattle.deploy_state.specs.States.{OwnsIdle, OwnsLoaded, idle_device, l
 ghost use Rattle.admission.specs.Takes.{LieElsewhere};
 ghost use Rattle.histories.specs.States.{SessionState};
 ghost use Rattle.histories.specs.TraceEvents.{TraceEvent};
-ghost use Rattle.session_boots.specs.Stages.{AsTold, Holds};
+ghost use Rattle.deploy_state.specs.Objects.{Holds};
+ghost use Rattle.session_boots.specs.Stages.{AsTold};
 ghost use Rattle.session_steady.specs.Serves.{IsServing};
 ghost use Rattle.session_serving.specs.Causes.{IsCaused, watched};
 ghost use Rattle.session_serving.specs.Documents.{IsDeployedThere};

@@ -6,7 +6,8 @@ ghost use Rattle.histories.specs.States.{SessionState};
 ghost use Rattle.law_termination.specs.Drives.{Drives};
 ghost use Rattle.session_startup.specs.Ended.{ActivatedLeft, ActivatedSame, OwnsActivated};
 ghost use Rattle.session_startup.specs.Runs.{IsAtTurnStart, MayAbort};
-ghost use Rattle.session_boots.specs.Stages.{AsTold, HasTrace, Holds, KeepsOthers};
+ghost use Rattle.deploy_state.specs.Objects.{Holds, KeepsOthers};
+ghost use Rattle.session_boots.specs.Stages.{AsTold, HasTrace};
 
 use crate::closing::close_plan;
 use crate::coming::Coming;

@@ -18,7 +18,8 @@ ghost use Rattle.law_termination.specs.Drives.{Drives};
 ghost use Rattle.session_startup.specs.Closing.{MayCloseNow, just_closed};
 ghost use Rattle.session_startup.specs.Ended.{HasClosed};
 ghost use Rattle.session_startup.specs.Runs.{MayAbort, HasNoActLeft};
-ghost use Rattle.session_boots.specs.Stages.{Holds, IsTraceOver, KeepsOthers, LeftOver};
+ghost use Rattle.deploy_state.specs.Objects.{Holds, KeepsOthers};
+ghost use Rattle.session_boots.specs.Stages.{IsTraceOver, LeftOver};
 
 use crate::lines::tell_close;
 use crate::pending::{Close, Settled};

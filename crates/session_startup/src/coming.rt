@@ -9,7 +9,7 @@ ghost use Rattle.deploy_state.specs.Owned.{LeavesEither};
 ghost use Rattle.histories.specs.Phases.{duty_of};
 ghost use Rattle.histories.specs.Waits.{has_three};
 ghost use Rattle.session_startup.specs.Coming.{OwnsComing, coming_device, is_plan};
-ghost use Rattle.session_boots.specs.Stages.{Holds, KeepsOthers};
+ghost use Rattle.deploy_state.specs.Objects.{Holds, KeepsOthers};
 
 use deploy_state::{Activating, Rolling, Stopped};
 use device::Device;

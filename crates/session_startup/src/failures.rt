@@ -11,7 +11,8 @@ ghost use Rattle.session_boots.specs.Ends.{Lines};
 ghost use Rattle.session_boots.specs.Same.{IsSameDeployment};
 ghost use Rattle.session_startup.specs.Coming.{OwnsComing, coming_device, is_plan};
 ghost use Rattle.session_startup.specs.Runs.{HasFailed, MayAbort, IsInTurn};
-ghost use Rattle.session_boots.specs.Stages.{Holds, IsTraceOver, KeepsOthers, LeftOver};
+ghost use Rattle.deploy_state.specs.Objects.{Holds, KeepsOthers};
+ghost use Rattle.session_boots.specs.Stages.{IsTraceOver, LeftOver};
 
 use crate::coming::Coming;
 use crate::laws::driving_laws;

@@ -1,5 +1,5 @@
 //! The states of a pending deployment, by what the session does alike in each of them.
-ghost use Rattle.std.specs.Prelude.{◌≡◌, ℕ, Bool, List, IsTrue, IfOk, OnOk};
+ghost use Rattle.std.specs.Prelude.{◌≡◌, ℕ, Bool, List, IfOk, OnOk};
 ghost use Rattle.nuc_base.specs.Faults.{HasCause};
 ghost use Rattle.nuc_base.specs.declared.kinds.Outcome.{Outcome};
 ghost use Rattle.disk_model.specs.Disk.{Image, Leaves};
@@ -8,7 +8,7 @@ ghost use Rattle.device.specs.Devices.{Device};
 ghost use Rattle.device.specs.Lawful.{Allowed, applied};
 ghost use Rattle.deploy_state.specs.Owned.{LeavesEither};
 ghost use Rattle.deploy_state.specs.States.{OwnsIdle, idle_device};
-ghost use Rattle.session_boots.specs.Stages.{Holds};
+ghost use Rattle.deploy_state.specs.Objects.{Holds, KeepsOthers};
 
 use deploy_state::{Activating, Backing, Booting, Idle, Rolling, Stopped};
 use disk_model::Disk;
@@ -36,7 +36,7 @@ pub trait Close<J: Journal + Drop>: PendingState<J> {
             (applied (Self.device self) (stored.Closed (outcome self)))) }
         ensures taken { IfOk result (λ s. idle_device s ≡ applied (Self.device self) (stored.Closed (outcome self))) }
         ensures held { IfOk result (λ s. Holds D.Disk J.Journal OwnsIdle s disk.new) }
-        ensures others { IsTrue D.is_modelled → (name : List ℕ) → ¬ (J.files name) → D.seen disk.new name ≡ D.seen disk.old name }
+        ensures others { KeepsOthers D.Disk J.Journal disk.old disk.new }
         ensures cause { HasCause (D.faults disk.old) (D.faults disk.new) result }
         ensures quiet { OnOk result (D.faults disk.new ≡ D.faults disk.old) };
 }

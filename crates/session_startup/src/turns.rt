@@ -10,7 +10,8 @@ ghost use Rattle.session_startup.specs.Coming.{OwnsComing, coming_device, is_pla
 ghost use Rattle.session_startup.specs.Did.{ActLeft};
 ghost use Rattle.session_startup.specs.Runs.{IsAtTurnStart, MayAbort, IsInTurn};
 ghost use Rattle.session_startup.specs.Turns.{TurnLeft};
-ghost use Rattle.session_boots.specs.Stages.{AsTold, HasTrace, Holds, KeepsOthers};
+ghost use Rattle.deploy_state.specs.Objects.{Holds, KeepsOthers};
+ghost use Rattle.session_boots.specs.Stages.{AsTold, HasTrace};
 
 use crate::coming::Coming;
 use crate::failures::note_failure;

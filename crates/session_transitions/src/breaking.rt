@@ -1,5 +1,5 @@
 //! A deployment fails and is rolled back: the way back begins.
-ghost use Rattle.std.specs.Prelude.{◌≡◌, ◌≤◌, [], ℕ, List, IsTrue, IfOk, IsErrOf, OnErr, OnOk};
+ghost use Rattle.std.specs.Prelude.{◌≡◌, ◌≤◌, [], ℕ, List, IfOk, IsErrOf, OnErr, OnOk};
 ghost use Rattle.nuc_base.specs.Faults.{HasCause, Rose};
 ghost use Rattle.disk_model.specs.Disk.{Leaves};
 ghost use Rattle.records.specs.Stored.{Record};
@@ -18,7 +18,8 @@ ghost use Rattle.session_boots.specs.Ends.{IsOne};
 ghost use Rattle.session_boots.specs.Stands.{IsAtBootStage};
 ghost use Rattle.session_startup.specs.Ended.{HasBroken};
 ghost use Rattle.session_transitions.specs.Fails.{Breaks, IsGivenUp, IsTurned};
-ghost use Rattle.session_boots.specs.Stages.{Holds, IsTraceOver, KeepsOthers, LeftOver};
+ghost use Rattle.deploy_state.specs.Objects.{Holds, KeepsOthers};
+ghost use Rattle.session_boots.specs.Stages.{IsTraceOver, LeftOver};
 
 use deploy_state::{Activating, Booting, BrokeOff, Stopped};
 use disk_model::Disk;
@@ -37,7 +38,7 @@ pub trait BreakOff<J: Journal + Drop>: PendingState<J> {
             (applied (Self.device self) r)) }
         ensures taken { (r : Record) → IsBreak (Self.device self) r → IfOk result (λ s. broken_device s ≡ applied (Self.device self) r) }
         ensures held { IfOk result (λ s. Holds D.Disk J.Journal OwnsBrokenOff s disk.new) }
-        ensures others { IsTrue D.is_modelled → (name : List ℕ) → ¬ (J.files name) → D.seen disk.new name ≡ D.seen disk.old name }
+        ensures others { KeepsOthers D.Disk J.Journal disk.old disk.new }
         ensures cause { HasCause (D.faults disk.old) (D.faults disk.new) result }
         ensures quiet { OnOk result (D.faults disk.new ≡ D.faults disk.old) };
 }

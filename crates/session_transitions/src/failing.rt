@@ -16,7 +16,8 @@ ghost use Rattle.session_boots.specs.Stands.{IsAtBootStage};
 ghost use Rattle.law_termination.specs.Drives.{Drives};
 ghost use Rattle.session_startup.specs.Ended.{HasBroken, HasClosed};
 ghost use Rattle.session_transitions.specs.Fails.{IsFailure, IsGivenUp, is_to_roll_back};
-ghost use Rattle.session_boots.specs.Stages.{Holds, IsTraceOver, KeepsOthers, LeftOver};
+ghost use Rattle.deploy_state.specs.Objects.{Holds, KeepsOthers};
+ghost use Rattle.session_boots.specs.Stages.{IsTraceOver, LeftOver};
 
 use components::Supervise;
 use deploy_state::Idle;

@@ -15,7 +15,8 @@ ghost use Rattle.session_boots.specs.Lines.{lines_of};
 ghost use Rattle.session_boots.specs.Ends.{IsOne};
 ghost use Rattle.session_boots.specs.Stands.{IsOpened};
 ghost use Rattle.session_transitions.specs.Fails.{IsGivenUp};
-ghost use Rattle.session_boots.specs.Stages.{Holds, IsTraceOver, KeepsOthers, LeftOver};
+ghost use Rattle.deploy_state.specs.Objects.{Holds, KeepsOthers};
+ghost use Rattle.session_boots.specs.Stages.{IsTraceOver, LeftOver};
 
 use deploy_state::{Activating, Booting};
 use disk_model::Disk;

@@ -6,7 +6,8 @@ use Rattle.nuc_base.proofs.Lists.{in_here, in_there}
 use Rattle.nuc_base.proofs.Tables.{passes_start, passes_more, passes_end}
 use Rattle.records.specs.Stored.{Item, DraftItem, item_view, draft_item_view}
 use Rattle.records.specs.declared.record.Item as code
-use Rattle.artifact_store.specs.Filled.{FillsItem, FillsFiles}
+use Rattle.device.specs.Filled.{FillsItem}
+use Rattle.artifact_store.specs.Filled.{FillsFiles}
 use Rattle.artifact_store.specs.Holding.{AllHoldItems, HoldsItems}
 use Rattle.artifact_store.specs.Paths.{IsNamed, IsNamedDraft}
 use Rattle.artifact_store.specs.Staged.{IsStagedOf, IsStagedAmong, HasItsFiles, KeepsFiles, draft_name, item_lines}

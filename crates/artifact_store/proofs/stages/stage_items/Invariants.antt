@@ -6,7 +6,8 @@ use Rattle.disk_model.specs.Spares.{Spares}
 use Rattle.nuc_base.specs.Tables.{Passes}
 use Rattle.library_core.specs.Library.{Content}
 use Rattle.records.specs.Stored.{DraftItem, item_view, draft_item_view}
-use Rattle.artifact_store.specs.Filled.{FillsItem, FillsFiles}
+use Rattle.device.specs.Filled.{FillsItem}
+use Rattle.artifact_store.specs.Filled.{FillsFiles}
 use Rattle.artifact_store.specs.Holding.{AllHoldItems}
 use Rattle.artifact_store.specs.Paths.{IsNamed, IsNamedDraft}
 use Rattle.artifact_store.specs.Staged.{IsStagedAmong, HasItsFiles, KeepsFiles, draft_name, item_lines}

@@ -3,7 +3,7 @@ use Rattle.step_runner.specs.Entries.{Listed}
 use Rattle.histories.specs.States.{state_after}
 use Rattle.histories.specs.TraceEvents.{records_of}
 use Rattle.histories.proofs.Joined.{records-append}
-use Rattle.session_boots.specs.Stages.{Holds}
+use Rattle.deploy_state.specs.Objects.{Holds}
 use Rattle.session.specs.Parts.{IsBack, IsOver, OwnsRan, status_of_ran}
 use Rattle.session.specs.declared.ran.Ran.{Ran}
 use Rattle.session_serving.specs.Causes.{IsCaused, watched}

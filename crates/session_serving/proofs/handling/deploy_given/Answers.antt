@@ -6,7 +6,7 @@ use Rattle.components.specs.Platforms.{AllRunFor}
 use Rattle.step_runner.specs.Entries.{Listed}
 use Rattle.histories.specs.States.{state_after}
 use Rattle.law_serving.specs.Alike.{alone}
-use Rattle.session_boots.specs.Stages.{Holds}
+use Rattle.deploy_state.specs.Objects.{Holds}
 use Rattle.session.specs.Endings.{is_failing}
 use Rattle.session.specs.Parts.{OwnsRan, status_of_ran}
 use Rattle.session.specs.declared.ran.Ran.{Ran}

@@ -6,7 +6,7 @@ use Rattle.nuc_base.specs.declared.status.Status.TheVariants as statuses
 use Rattle.deploy_state.specs.States.{idle_device}
 use Rattle.step_runner.specs.Entries.{Listed}
 use Rattle.histories.specs.States.{state_after}
-use Rattle.session_boots.specs.Stages.{Holds}
+use Rattle.deploy_state.specs.Objects.{Holds}
 use Rattle.session.specs.Parts.{IsBack, OwnsRan, status_of_ran}
 use Rattle.session.specs.declared.ran.Ran.{Ran}
 use Rattle.session_serving.specs.Causes.{IsCaused, watched}

@@ -9,7 +9,7 @@ use Rattle.components.specs.Components.{Components}
 use Rattle.histories.specs.States.{SessionState, state_after}
 use Rattle.law_serving.specs.Alike.{alone}
 use Rattle.law_termination.proofs.Comes.{none_drives}
-use Rattle.session_boots.specs.Stages.{Holds}
+use Rattle.deploy_state.specs.Objects.{Holds}
 use Rattle.session.specs.Endings.{is_failing}
 use Rattle.session.specs.Parts.{OwnsRan, status_of_ran}
 use Rattle.session.specs.declared.ran.Ran.{Ran}

@@ -4,7 +4,7 @@ use Rattle.deploy_state.specs.States.{OwnsIdle, idle_device}
 use Rattle.step_runner.specs.Entries.{Listed}
 use Rattle.histories.specs.States.{SessionState, state_after}
 use Rattle.histories.specs.TraceEvents.{TraceEvent}
-use Rattle.session_boots.specs.Stages.{Holds}
+use Rattle.deploy_state.specs.Objects.{Holds}
 use Rattle.session_steady.specs.Serves.{IsServing}
 use Rattle.session_serving.specs.Causes.{IsCaused, watched}
 use Rattle.session_serving.specs.Documents.{IsDeployedThere}

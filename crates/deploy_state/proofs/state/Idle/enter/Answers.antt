@@ -25,7 +25,8 @@ pub append-appended-requires-clause-some : goal.append-appended-requires-clause-
 append-appended-requires-clause-some g c = rw c.as_slice.ensures (plan_some c.args.kit.payload (plan_view c.args.kit.plan) c.requires.payload)
 
 pub append-appended-requires-clause-fits : goal.append-appended-requires-clause-fits
-append-appended-requires-clause-fits g c = rw c.as_slice.ensures (plan_short (idle_device c.args.self) c.args.kit.payload (plan_view c.args.kit.plan) c.requires.lawful
+append-appended-requires-clause-fits g c = rw c.as_slice.ensures (plan_short (idle_device c.args.self) c.args.kit.payload
+    (plan_view c.args.kit.plan) c.requires.lawful
     c.requires.payload)
 
 pub returns-in-Ok-clause-moments : goal.returns-in-Ok-clause-moments
@@ -34,7 +35,8 @@ returns-in-Ok-clause-moments g c =
     let d = idle_device c.args.self in
     let p = c.args.kit.payload in
     let plan = plan_view c.args.kit.plan in
-    of_entry g.met.D.Disk.laws g.J.Journal.files g.J.Journal.entries c.args.disk.now c.append-appended.new.disk h.payloads p d (applied d (stored.Accepted plan)) h.means
+    of_entry g.met.D.Disk.laws g.J.Journal.files g.J.Journal.entries c.args.disk.now c.append-appended.new.disk h.payloads p d
+    (applied d (stored.Accepted plan)) h.means
     (λ told.
     let behind = reads_behind g.met.D.Disk.laws g.J.Journal.stands c.args.self.log c.args.disk.now h.payloads h.behind told in
     let ends = g.met.J.Journal.laws.ends c.args.self.log (g.D.Disk.seen c.args.disk.now) h.payloads behind in
@@ -48,7 +50,8 @@ returns-in-Err-clause-moments g c =
     let d = idle_device c.args.self in
     let p = c.args.kit.payload in
     let plan = plan_view c.args.kit.plan in
-    of_entry g.met.D.Disk.laws g.J.Journal.files g.J.Journal.entries c.args.disk.now c.append-appended.new.disk h.payloads p d (applied d (stored.Accepted plan)) h.means
+    of_entry g.met.D.Disk.laws g.J.Journal.files g.J.Journal.entries c.args.disk.now c.append-appended.new.disk h.payloads p d
+    (applied d (stored.Accepted plan)) h.means
     (λ told.
     let behind = reads_behind g.met.D.Disk.laws g.J.Journal.stands c.args.self.log c.args.disk.now h.payloads h.behind told in
     let ends = g.met.J.Journal.laws.ends c.args.self.log (g.D.Disk.seen c.args.disk.now) h.payloads behind in
@@ -65,9 +68,11 @@ returns-in-Ok-clause-held g c =
     let is = c.take_plan.ensures in
     let place = c.in-Ok.ensures.place in
     let same = ap length c.as_slice.ensures in
-    let behind = subst (λ (b : List ℕ). IsBehind g.D.Disk.may_leave g.J.Journal.stands c.append-appended.new.self c.append-appended.new.disk (h.payloads ++ b ∷ []))
+    let behind = subst (λ (b : List ℕ). IsBehind g.D.Disk.may_leave g.J.Journal.stands c.append-appended.new.self c.append-appended.new.disk
+    (h.payloads ++ b ∷ []))
     c.as_slice.ensures (c.in-Ok.ensures.added h.payloads h.behind) in
-    let hand = plan_in_hand g.D.Disk.is_modelled g.D.Disk.may_leave g.J.Journal.stands g.J.Journal.end c.args.self.log c.append-appended.new.self c.args.disk.now
+    let hand = plan_in_hand g.D.Disk.is_modelled g.D.Disk.may_leave g.J.Journal.stands g.J.Journal.end c.args.self.log c.append-appended.new.self
+    c.args.disk.now
     c.append-appended.new.disk d (device_view c.take_plan.new.self) plan p h
     c.requires.held.1 c.requires.lawful c.requires.regular c.requires.payload is behind
     (λ told.

@@ -12,6 +12,7 @@ pub record FillsItem (draft : DraftItem) (item : Item) : Type 0 where
   pub config : item.config ≡ draft.config
   pub files : AllZip IsHeldFor draft.artifacts item.artifacts
 
+-- the same plan, with a digest for each file
 pub record Fills (draft : Draft) (plan : Plan) : Type 0 where
   pub id : plan.id ≡ draft.id
   pub group : plan.group ≡ draft.group
